@@ -1,0 +1,4 @@
+pub mod ByteOrder
+pub mod Faults
+pub mod Numbers
+pub mod Reads

@@ -1,0 +1,180 @@
+ghost use Rattle.std.specs.Prelude.{◌≡◌, ℕ, ◌+◌, ◌%◌, ◌^◌, ◌<◌, ◌≤◌};
+ghost use Rattle.dwarf_base.specs.Faults.{Answers};
+ghost use Rattle.dwarf_base.specs.Numbers.{residue, offset_of};
+
+use crate::errors::{Error, Result};
+use std::fmt::Debug;
+
+/// A number of bytes, as wide as a reader's texts are long.
+pub trait ReaderOffset: Debug + Copy + Eq {
+    ghost BITS: { ℕ };
+
+    // The number that it stands for.
+    ghost number: { Self → ℕ };
+
+    /// How many bits it has.
+    const BITS: u32;
+
+    /// The same number.
+    fn from_u8(offset: u8) -> Self
+        ensures { number result ≡ offset };
+
+    /// The same number.
+    fn from_u16(offset: u16) -> Self
+        ensures { number result ≡ offset };
+
+    /// The number modulo two to the bits.
+    fn from_i16(offset: i16) -> Self
+        ensures { number result ≡ residue BITS offset };
+
+    /// The same number.
+    fn from_u32(offset: u32) -> Self
+        ensures { number result ≡ offset };
+
+    /// The same number; `UnsupportedOffset` exactly where it doesn't fit.
+    fn from_u64(offset: u64) -> Result<Self>
+        ensures { Answers number result (offset_of BITS offset) };
+
+    /// The same number.
+    fn into_u64(self) -> u64
+        ensures value { result ≡ number self }
+        ensures fits { number self < 2 ^ BITS }
+        ensures low { 32 ≤ BITS }
+        ensures high { BITS ≤ 64 };
+
+    /// The sum modulo two to the bits.
+    fn wrapping_add(self, other: Self) -> Self
+        ensures { number result ≡ (number self + number other) % 2 ^ BITS };
+}
+
+impl ReaderOffset for u32 {
+    ghost BITS = { 32 };
+
+    ghost number = { λ x. x };
+
+    const BITS: u32 = 32;
+
+    #[inline]
+    fn from_u8(offset: u8) -> Self {
+        u32::from(offset)
+    }
+
+    #[inline]
+    fn from_u16(offset: u16) -> Self {
+        u32::from(offset)
+    }
+
+    #[inline]
+    fn from_i16(offset: i16) -> Self {
+        i32::from(offset).cast_unsigned()
+    }
+
+    #[inline]
+    fn from_u32(offset: u32) -> Self {
+        offset
+    }
+
+    #[inline]
+    fn from_u64(offset: u64) -> Result<Self> {
+        match u32::try_from(offset) {
+            Ok(number) => Ok(number),
+            Err(_) => Err(Error::UnsupportedOffset),
+        }
+    }
+
+    #[inline]
+    fn into_u64(self) -> u64 {
+        u64::from(self)
+    }
+
+    #[inline]
+    fn wrapping_add(self, other: Self) -> Self {
+        self.wrapping_add(other)
+    }
+}
+
+impl ReaderOffset for u64 {
+    ghost BITS = { 64 };
+
+    ghost number = { λ x. x };
+
+    const BITS: u32 = 64;
+
+    #[inline]
+    fn from_u8(offset: u8) -> Self {
+        u64::from(offset)
+    }
+
+    #[inline]
+    fn from_u16(offset: u16) -> Self {
+        u64::from(offset)
+    }
+
+    #[inline]
+    fn from_i16(offset: i16) -> Self {
+        i64::from(offset).cast_unsigned()
+    }
+
+    #[inline]
+    fn from_u32(offset: u32) -> Self {
+        u64::from(offset)
+    }
+
+    #[inline]
+    fn from_u64(offset: u64) -> Result<Self> {
+        Ok(offset)
+    }
+
+    #[inline]
+    fn into_u64(self) -> u64 {
+        self
+    }
+
+    #[inline]
+    fn wrapping_add(self, other: Self) -> Self {
+        self.wrapping_add(other)
+    }
+}
+
+impl ReaderOffset for usize {
+    ghost BITS = { 64 };
+
+    ghost number = { λ x. x };
+
+    const BITS: u32 = 64;
+
+    #[inline]
+    fn from_u8(offset: u8) -> Self {
+        usize::from(offset)
+    }
+
+    #[inline]
+    fn from_u16(offset: u16) -> Self {
+        usize::from(offset)
+    }
+
+    #[inline]
+    fn from_i16(offset: i16) -> Self {
+        isize::from(offset).cast_unsigned()
+    }
+
+    #[inline]
+    fn from_u32(offset: u32) -> Self {
+        offset as usize
+    }
+
+    #[inline]
+    fn from_u64(offset: u64) -> Result<Self> {
+        Ok(offset as usize)
+    }
+
+    #[inline]
+    fn into_u64(self) -> u64 {
+        self as u64
+    }
+
+    #[inline]
+    fn wrapping_add(self, other: Self) -> Self {
+        self.wrapping_add(other)
+    }
+}

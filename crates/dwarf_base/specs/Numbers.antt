@@ -1,5 +1,5 @@
--- Integers modulo a power of two, and numbers that have to fit.
-use Rattle.std.specs.Prelude.{ℕ, ◌-◌, ◌%◌, ◌^◌, ℤ, pos, negsuc, Result, Ok, Err, nat_lt, if◌then◌else◌}
+-- Integers modulo a power of two, the numbers of bytes, and numbers that have to fit.
+use Rattle.std.specs.Prelude.{ℕ, ◌+◌, ◌-◌, ◌*◌, ◌%◌, ◌^◌, ℤ, pos, negsuc, ◌-ℤ◌, Bool, List, [], ◌∷◌, Result, Ok, Err, length, nat_lt, if◌then◌else◌}
 use Rattle.dwarf_base.specs.Faults.{Fault, UnsupportedOffset, UnsupportedRegister}
 
 -- the remainder of an integer, from 0 up, by two to the bits
@@ -14,3 +14,21 @@ offset_of bits number = if nat_lt number (2 ^ bits) then Ok number else Err Unsu
 -- a number as a register's
 abbrev pub register_of : ℕ → Result ℕ Fault
 register_of number = if nat_lt number 65536 then Ok number else Err (UnsupportedRegister number)
+
+-- two's complement: the integer of so many bits whose remainder by two to the bits is the number
+abbrev pub signed_of : (bits number : ℕ) → ℤ
+signed_of bits number = if nat_lt number (2 ^ (bits - 1)) then pos number else pos number -ℤ pos (2 ^ bits)
+
+-- the number of some bytes, the lowest first
+abbrev pub little_of : List ℕ → ℕ
+little_of [] = 0
+little_of (byte ∷ bytes) = byte + 256 * little_of bytes
+
+-- the number of some bytes, the highest first
+abbrev pub big_of : List ℕ → ℕ
+big_of [] = 0
+big_of (byte ∷ bytes) = byte * 256 ^ length bytes + big_of bytes
+
+-- the number of some bytes in a byte order (DWARF 5, section 7.1)
+abbrev pub number_of : (big : Bool) → List ℕ → ℕ
+number_of big bytes = if big then big_of bytes else little_of bytes

@@ -1,7 +1,10 @@
 -- What is read from the front of a list of bytes: a value and the bytes behind it, or a fault.
-use Rattle.std.specs.Prelude.{ℕ, ◌-◌, ◌≤◌, ◌≡◌, List, [], ◌∷◌, Result, Ok, Err, length, take, drop, nat_lt, if◌then◌else◌}
+use Rattle.std.specs.Prelude.{ℕ, ◌-◌, ◌*◌, ◌≤◌, ◌≡◌, ◌==◌, ◌||◌, ℤ, Bool, List, [], ◌∷◌, Result, Ok, Err, length, take, drop, nat_lt, if◌then◌else◌}
+use Rattle.dwarf_base.specs.declared.common.Format.{Format}
+use Rattle.dwarf_base.specs.declared.common.Format.TheVariants.{Dwarf32, Dwarf64}
 use Rattle.dwarf_base.specs.declared.errors.Error.{Error}
-use Rattle.dwarf_base.specs.Faults.{Fault, UnexpectedEof, fault_of}
+use Rattle.dwarf_base.specs.Faults.{Fault, UnexpectedEof, UnsupportedAddressSize, fault_of, ◌>>=◌}
+use Rattle.dwarf_base.specs.Numbers.{number_of, signed_of, offset_of}
 
 -- what a call gives, seen through `view`, with the bytes that it leaves, is what is read, or its fault
 abbrev pub Gives : {X Y : Type 0} → (X → Y) → Result X Error → List ℕ → Result (Y × List ℕ) Fault → Type 0
@@ -24,3 +27,29 @@ skip_at n bytes = if nat_lt (length bytes) n then Err UnexpectedEof else Ok (tt,
 abbrev pub u8_at : List ℕ → Result (ℕ × List ℕ) Fault
 u8_at [] = Err UnexpectedEof
 u8_at (byte ∷ rest) = Ok (byte, rest)
+
+-- an unsigned number of n bytes
+unfoldable pub fixed_at : (big : Bool) (n : ℕ) → List ℕ → Result (ℕ × List ℕ) Fault
+fixed_at big n bytes = split_at n bytes >>= λ front. Ok (number_of big front.0, front.1)
+
+-- a signed number of n bytes
+abbrev pub signed_at : (big : Bool) (n : ℕ) → List ℕ → Result (ℤ × List ℕ) Fault
+signed_at big n bytes = fixed_at big n bytes >>= λ number. Ok (signed_of (8 * n) number.0, number.1)
+
+-- the sizes in bytes that a number of fixed size may have
+abbrev pub is_fixed_size : ℕ → Bool
+is_fixed_size n = n == 1 || n == 2 || n == 4 || n == 8
+
+-- an address of so many bytes (DWARF 5, section 7.5.1)
+abbrev pub address_at : (big : Bool) (size : ℕ) → List ℕ → Result (ℕ × List ℕ) Fault
+address_at big size bytes = if is_fixed_size size then fixed_at big size bytes else Err (UnsupportedAddressSize size)
+
+-- how many bytes an offset has in a format (DWARF 5, section 7.4)
+abbrev pub offset_size : Format → ℕ
+offset_size Dwarf32 = 4
+offset_size Dwarf64 = 8
+
+-- an offset in a format, which has to fit so many bits
+abbrev pub format_at : (big : Bool) → Format → (bits : ℕ) → List ℕ → Result (ℕ × List ℕ) Fault
+format_at big format bits bytes =
+    fixed_at big (offset_size format) bytes >>= λ number. offset_of bits number.0 >>= λ offset. Ok (offset, number.1)

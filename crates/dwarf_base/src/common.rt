@@ -1,3 +1,8 @@
+ghost use Rattle.dwarf_base.specs.Faults.{Answers};
+ghost use Rattle.dwarf_base.specs.Numbers.{register_of};
+
+use crate::errors::{Error, Result};
+
 /// Whether an object is in the 32-bit or the 64-bit DWARF format (DWARF 5, section 7.4).
 #[derive(Clone, Copy, Debug, PartialEq, Eq)]
 pub enum Format {
@@ -17,6 +22,35 @@ pub struct Encoding {
     /// The version of DWARF.
     pub version: u16,
 }
+
+/// The number of a register, as the architecture assigns it (DWARF 5, section 2.6.1.1.3).
+#[derive(Clone, Copy, Debug, PartialEq, Eq)]
+pub struct Register(pub u16);
+
+impl Register {
+    /// The register of this number; `UnsupportedRegister` exactly where the number is above 65535.
+    #[inline]
+    pub fn from_u64(register: u64) -> Result<Register>
+        ensures { Answers (λ r. r.0) result (register_of register) }
+    {
+        match u16::try_from(register) {
+            Ok(number) => Ok(Register(number)),
+            Err(_) => Err(Error::UnsupportedRegister(register)),
+        }
+    }
+}
+
+/// An offset in bytes from the start of a unit.
+#[derive(Clone, Copy, Debug, PartialEq, Eq)]
+pub struct UnitOffset<T>(pub T);
+
+/// An offset in bytes from the start of the section `.debug_info`.
+#[derive(Clone, Copy, Debug, PartialEq, Eq)]
+pub struct DebugInfoOffset<T>(pub T);
+
+/// An index into a unit's addresses in the section `.debug_addr`.
+#[derive(Clone, Copy, Debug, PartialEq, Eq)]
+pub struct DebugAddrIndex<T>(pub T);
 
 /// Where a read went past the end. It is left open, and nothing depends on it.
 #[derive(Clone, Copy, Debug, PartialEq, Eq)]

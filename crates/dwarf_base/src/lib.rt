@@ -3,16 +3,22 @@
 
 mod byte_order;
 mod common;
-mod constants;
+pub mod constants;
 mod errors;
+mod laws;
 mod offsets;
 mod reading;
 mod slices;
+#[cfg(test)]
+mod tests;
 
 pub use byte_order::{BigEndian, Endianity, LittleEndian, RunTimeEndian};
-pub use common::{Encoding, Format, ReaderOffsetId};
-pub use constants::DwOp;
+pub use common::{
+    DebugAddrIndex, DebugInfoOffset, Encoding, Format, ReaderOffsetId, Register, UnitOffset,
+};
+pub use constants::{DwAte, DwOp};
 pub use errors::{Error, Result};
+pub use laws::reader_laws;
 pub use offsets::ReaderOffset;
 pub use reading::Reader;
 pub use slices::EndianSlice;

@@ -89,7 +89,7 @@ impl ReaderOffset for u32 {
 
     #[inline]
     fn wrapping_add(self, other: Self) -> Self {
-        self.wrapping_add(other)
+        u32::wrapping_add(self, other)
     }
 }
 
@@ -132,7 +132,7 @@ impl ReaderOffset for u64 {
 
     #[inline]
     fn wrapping_add(self, other: Self) -> Self {
-        self.wrapping_add(other)
+        u64::wrapping_add(self, other)
     }
 }
 
@@ -175,6 +175,6 @@ impl ReaderOffset for usize {
 
     #[inline]
     fn wrapping_add(self, other: Self) -> Self {
-        self.wrapping_add(other)
+        usize::wrapping_add(self, other)
     }
 }

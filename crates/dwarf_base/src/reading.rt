@@ -1,7 +1,9 @@
-ghost use Rattle.std.specs.Prelude.{◌≡◌, ℕ, Bool, List, [], length, ◌-◌, ◌==◌, IfOk};
-ghost use Rattle.dwarf_base.specs.Reads.{Gives, IsSuffix, u8_at, split_at, skip_at};
+ghost use Rattle.std.specs.Prelude.{◌≡◌, ℕ, Bool, List, [], length, ◌-◌, ◌%◌, ◌^◌, ◌<◌, ◌==◌, IfOk, IsTrue};
+ghost use Rattle.dwarf_base.specs.Leb.{uleb_at, uleb_u32_at, sleb_at, leb_from, unsigned_leb, signed_leb};
+ghost use Rattle.dwarf_base.specs.Reads.{Gives, IsSuffix, u8_at, split_at, skip_at, fixed_at, signed_at, address_at, format_at, is_fixed_size};
 
-use crate::errors::Result;
+use crate::common::Format;
+use crate::errors::{Error, Result};
 use crate::offsets::ReaderOffset;
 use std::fmt::Debug;
 
@@ -56,4 +58,216 @@ pub trait Reader: Debug {
         ensures value { Gives (λ n. n) result (bytes self.new) (u8_at (bytes self.old)) }
         ensures rest { IsSuffix (bytes self.new) (bytes self.old) }
         ensures order { is_big self.new ≡ is_big self.old };
+
+    /// Reads an unsigned number of `n` bytes, which are 1, 2, 4 or 8. `UnexpectedEof` where there are fewer.
+    fn read_fixed(&mut self, n: u8) -> Result<u64>
+        requires { IsTrue (is_fixed_size n) }
+        ensures value { Gives (λ x. x) result (bytes self.new) (fixed_at (is_big self.old) n (bytes self.old)) }
+        ensures fits { IfOk result (λ number. number < 256 ^ n) }
+        ensures rest { IsSuffix (bytes self.new) (bytes self.old) }
+        ensures order { is_big self.new ≡ is_big self.old };
+
+    /// Reads an unsigned number of 2 bytes. `UnexpectedEof` where there are fewer.
+    #[inline]
+    fn read_u16(&mut self) -> Result<u16>
+        ensures value { Gives (λ x. x) result (bytes self.new) (fixed_at (is_big self.old) 2 (bytes self.old)) }
+        ensures rest { IsSuffix (bytes self.new) (bytes self.old) }
+        ensures order { is_big self.new ≡ is_big self.old }
+    {
+        let number = self.read_fixed(2)?;
+        Ok(number as u16)
+    }
+
+    /// Reads an unsigned number of 4 bytes. `UnexpectedEof` where there are fewer.
+    #[inline]
+    fn read_u32(&mut self) -> Result<u32>
+        ensures value { Gives (λ x. x) result (bytes self.new) (fixed_at (is_big self.old) 4 (bytes self.old)) }
+        ensures rest { IsSuffix (bytes self.new) (bytes self.old) }
+        ensures order { is_big self.new ≡ is_big self.old }
+    {
+        let number = self.read_fixed(4)?;
+        Ok(number as u32)
+    }
+
+    /// Reads an unsigned number of 8 bytes. `UnexpectedEof` where there are fewer.
+    #[inline]
+    fn read_u64(&mut self) -> Result<u64>
+        ensures value { Gives (λ x. x) result (bytes self.new) (fixed_at (is_big self.old) 8 (bytes self.old)) }
+        ensures rest { IsSuffix (bytes self.new) (bytes self.old) }
+        ensures order { is_big self.new ≡ is_big self.old }
+    {
+        self.read_fixed(8)
+    }
+
+    /// Reads a signed number of 1 byte, in two's complement. `UnexpectedEof` where there is none.
+    #[inline]
+    fn read_i8(&mut self) -> Result<i8>
+        ensures value { Gives (λ x. x) result (bytes self.new) (signed_at (is_big self.old) 1 (bytes self.old)) }
+        ensures rest { IsSuffix (bytes self.new) (bytes self.old) }
+        ensures order { is_big self.new ≡ is_big self.old }
+    {
+        let number = self.read_fixed(1)?;
+        Ok((number as u8).cast_signed())
+    }
+
+    /// Reads a signed number of 2 bytes, in two's complement. `UnexpectedEof` where there are fewer.
+    #[inline]
+    fn read_i16(&mut self) -> Result<i16>
+        ensures value { Gives (λ x. x) result (bytes self.new) (signed_at (is_big self.old) 2 (bytes self.old)) }
+        ensures rest { IsSuffix (bytes self.new) (bytes self.old) }
+        ensures order { is_big self.new ≡ is_big self.old }
+    {
+        let number = self.read_u16()?;
+        Ok(number.cast_signed())
+    }
+
+    /// Reads a signed number of 4 bytes, in two's complement. `UnexpectedEof` where there are fewer.
+    #[inline]
+    fn read_i32(&mut self) -> Result<i32>
+        ensures value { Gives (λ x. x) result (bytes self.new) (signed_at (is_big self.old) 4 (bytes self.old)) }
+        ensures rest { IsSuffix (bytes self.new) (bytes self.old) }
+        ensures order { is_big self.new ≡ is_big self.old }
+    {
+        let number = self.read_u32()?;
+        Ok(number.cast_signed())
+    }
+
+    /// Reads a signed number of 8 bytes, in two's complement. `UnexpectedEof` where there are fewer.
+    #[inline]
+    fn read_i64(&mut self) -> Result<i64>
+        ensures value { Gives (λ x. x) result (bytes self.new) (signed_at (is_big self.old) 8 (bytes self.old)) }
+        ensures rest { IsSuffix (bytes self.new) (bytes self.old) }
+        ensures order { is_big self.new ≡ is_big self.old }
+    {
+        let number = self.read_u64()?;
+        Ok(number.cast_signed())
+    }
+
+    /// Reads an address of `size` bytes (DWARF 5, section 7.5.1). `UnsupportedAddressSize`, before a byte is
+    /// read, where that is none of 1, 2, 4 and 8. `UnexpectedEof` where there are fewer bytes.
+    #[inline]
+    fn read_address(&mut self, size: u8) -> Result<u64>
+        ensures value { Gives (λ x. x) result (bytes self.new) (address_at (is_big self.old) size (bytes self.old)) }
+        ensures rest { IsSuffix (bytes self.new) (bytes self.old) }
+        ensures order { is_big self.new ≡ is_big self.old }
+    {
+        if !matches!(size, 1 | 2 | 4 | 8) {
+            return Err(Error::UnsupportedAddressSize(size));
+        }
+        self.read_fixed(size)
+    }
+
+    /// Reads an offset, of 4 bytes in the 32-bit format and 8 in the 64-bit one (DWARF 5, section 7.4).
+    /// `UnexpectedEof` where there are fewer bytes, then `UnsupportedOffset` where it doesn't fit.
+    #[inline]
+    fn read_offset(&mut self, format: Format) -> Result<Self::Offset>
+        ensures value { Gives Self.Offset.number result (bytes self.new) (format_at (is_big self.old) format Self.Offset.BITS (bytes self.old)) }
+        ensures rest { IsSuffix (bytes self.new) (bytes self.old) }
+        ensures order { is_big self.new ≡ is_big self.old }
+    {
+        let number = match format {
+            Format::Dwarf32 => self.read_fixed(4)?,
+            Format::Dwarf64 => self.read_fixed(8)?,
+        };
+        Self::Offset::from_u64(number)
+    }
+
+    /// Reads an unsigned LEB128 number (DWARF 5, section 7.6). `BadUnsignedLeb128` where its tenth byte leaves
+    /// 64 bits. `UnexpectedEof` where the bytes end before.
+    #[inline(always)]
+    final fn read_uleb128(&mut self) -> Result<u64>
+        ensures value { Gives (λ x. x) result (bytes self.new) (uleb_at (bytes self.old)) }
+        ensures rest { IsSuffix (bytes self.new) (bytes self.old) }
+        ensures order { is_big self.new ≡ is_big self.old }
+    {
+        let first = self.read_u8()?;
+        if first < 128 {
+            return Ok(u64::from(first));
+        }
+        rest_of_uleb128(self, first)
+    }
+
+    /// Reads an unsigned LEB128 number of 32 bits. The errors of `read_uleb128`, and `BadUnsignedLeb128` where
+    /// the number is above 4294967295.
+    #[inline(always)]
+    final fn read_uleb128_u32(&mut self) -> Result<u32>
+        ensures value { Gives (λ x. x) result (bytes self.new) (uleb_u32_at (bytes self.old)) }
+        ensures rest { IsSuffix (bytes self.new) (bytes self.old) }
+        ensures order { is_big self.new ≡ is_big self.old }
+    {
+        let number = self.read_uleb128()?;
+        match u32::try_from(number) {
+            Ok(small) => Ok(small),
+            Err(_) => Err(Error::BadUnsignedLeb128),
+        }
+    }
+
+    /// Reads a signed LEB128 number (DWARF 5, section 7.6). `BadSignedLeb128` where its tenth byte leaves
+    /// 64 bits. `UnexpectedEof` where the bytes end before.
+    #[inline(always)]
+    final fn read_sleb128(&mut self) -> Result<i64>
+        ensures value { Gives (λ x. x) result (bytes self.new) (sleb_at (bytes self.old)) }
+        ensures rest { IsSuffix (bytes self.new) (bytes self.old) }
+        ensures order { is_big self.new ≡ is_big self.old }
+    {
+        let first = self.read_u8()?;
+        if first < 64 {
+            return Ok(i64::from(first));
+        }
+        if first < 128 {
+            return Ok(i64::from(first) - 128);
+        }
+        rest_of_sleb128(self, first)
+    }
+}
+
+// The number of a first byte that goes on, and the bytes behind it. Apart, so that one byte is read in line.
+#[inline(never)]
+fn rest_of_uleb128<R: Reader>(reader: &mut R, first: u8) -> Result<u64>
+    ensures value { Gives (λ x. x) result (R.bytes reader.new) (leb_from unsigned_leb 1 (first % 128) (R.bytes reader.old)) }
+    ensures rest { IsSuffix (R.bytes reader.new) (R.bytes reader.old) }
+    ensures order { R.is_big reader.new ≡ R.is_big reader.old }
+{
+    let mut number = u64::from(first % 128);
+    for place in 1..9u32 {
+        let byte = reader.read_u8()?;
+        let bits = u64::from(byte % 128) << (7 * place);
+        number += bits;
+        if byte < 128 {
+            return Ok(number);
+        }
+    }
+    let tenth = reader.read_u8()?;
+    if tenth < 2 {
+        Ok(number + (u64::from(tenth) << 63))
+    } else {
+        Err(Error::BadUnsignedLeb128)
+    }
+}
+
+// The number of a first byte that goes on, and the bytes behind it. Apart, so that one byte is read in line.
+#[inline(never)]
+fn rest_of_sleb128<R: Reader>(reader: &mut R, first: u8) -> Result<i64>
+    ensures value { Gives (λ x. x) result (R.bytes reader.new) (leb_from signed_leb 1 (first % 128) (R.bytes reader.old)) }
+    ensures rest { IsSuffix (R.bytes reader.new) (R.bytes reader.old) }
+    ensures order { R.is_big reader.new ≡ R.is_big reader.old }
+{
+    let mut number = u64::from(first % 128);
+    for place in 1..9u32 {
+        let byte = reader.read_u8()?;
+        let bits = u64::from(byte % 128) << (7 * place);
+        number += bits;
+        if byte < 64 {
+            return Ok(number.cast_signed());
+        }
+        if byte < 128 {
+            let whole = 128u64 << (7 * place);
+            return Ok(-(whole - number).cast_signed());
+        }
+    }
+    match reader.read_u8()? {
+        0 => Ok(number.cast_signed()),
+        127 => Ok(i64::MIN + number.cast_signed()),
+        _ => Err(Error::BadSignedLeb128),
+    }
 }

@@ -1,4 +1,6 @@
 ghost use Rattle.std.specs.Prelude.{◌≡◌, []};
+ghost use Rattle.dwarf_base.specs.EndianSlice.{slice_bytes, slice_order};
+ghost use Rattle.dwarf_base.specs.Reads.{Gives, IsSuffix, split_at, fixed_at};
 
 use crate::byte_order::Endianity;
 use crate::common::ReaderOffsetId;
@@ -21,14 +23,72 @@ impl<'input, E: Endianity> EndianSlice<'input, E> {
     /// The bytes of the slice, in this order.
     #[inline]
     pub fn new(slice: &'input [u8], endian: E) -> Self
-        ensures bytes { result.slice.now ≡ slice.now }
-        ensures order { result.endian ≡ endian }
+        ensures bytes { slice_bytes result ≡ slice.now }
+        ensures order { slice_order result ≡ endian }
     {
         EndianSlice { slice, endian }
+    }
+
+    // Takes the first `N` bytes.
+    #[inline]
+    fn take_front<const N: usize>(&mut self) -> Result<[u8; N]>
+        ensures value { Gives (λ front. front) result self.new.slice.now (split_at N self.old.slice.now) }
+        ensures rest { IsSuffix self.new.slice.now self.old.slice.now }
+        ensures order { self.new.endian ≡ self.old.endian }
+    {
+        let Some((front, rest)) = self.slice.split_first_chunk::<N>() else {
+            return Err(Error::UnexpectedEof(NOWHERE));
+        };
+        self.slice = rest;
+        Ok(*front)
+    }
+
+    #[inline]
+    fn read_two(&mut self) -> Result<u16>
+        ensures value { Gives (λ x. x) result self.new.slice.now (fixed_at (E.is_big self.old.endian) 2 self.old.slice.now) }
+        ensures rest { IsSuffix self.new.slice.now self.old.slice.now }
+        ensures order { self.new.endian ≡ self.old.endian }
+    {
+        let bytes = self.take_front()?;
+        Ok(if self.endian.is_big_endian() {
+            u16::from_be_bytes(bytes)
+        } else {
+            u16::from_le_bytes(bytes)
+        })
+    }
+
+    #[inline]
+    fn read_four(&mut self) -> Result<u32>
+        ensures value { Gives (λ x. x) result self.new.slice.now (fixed_at (E.is_big self.old.endian) 4 self.old.slice.now) }
+        ensures rest { IsSuffix self.new.slice.now self.old.slice.now }
+        ensures order { self.new.endian ≡ self.old.endian }
+    {
+        let bytes = self.take_front()?;
+        Ok(if self.endian.is_big_endian() {
+            u32::from_be_bytes(bytes)
+        } else {
+            u32::from_le_bytes(bytes)
+        })
+    }
+
+    #[inline]
+    fn read_eight(&mut self) -> Result<u64>
+        ensures value { Gives (λ x. x) result self.new.slice.now (fixed_at (E.is_big self.old.endian) 8 self.old.slice.now) }
+        ensures rest { IsSuffix self.new.slice.now self.old.slice.now }
+        ensures order { self.new.endian ≡ self.old.endian }
+    {
+        let bytes = self.take_front()?;
+        Ok(if self.endian.is_big_endian() {
+            u64::from_be_bytes(bytes)
+        } else {
+            u64::from_le_bytes(bytes)
+        })
     }
 }
 
 impl<'input, E: Endianity + Default> Default for EndianSlice<'input, E> {
+    ghost is_default = { λ reader. (slice_bytes reader ≡ []) × E.is_default (slice_order reader) };
+
     fn default() -> Self {
         EndianSlice {
             slice: &[],
@@ -40,9 +100,9 @@ impl<'input, E: Endianity + Default> Default for EndianSlice<'input, E> {
 impl<'input, E: Endianity> Reader for EndianSlice<'input, E> {
     type Offset = usize;
 
-    ghost bytes = { λ r. r.slice.now };
+    ghost bytes = { slice_bytes };
 
-    ghost is_big = { λ r. E.is_big r.endian };
+    ghost is_big = { λ reader. E.is_big (slice_order reader) };
 
     #[inline]
     fn len(&self) -> usize {
@@ -93,5 +153,15 @@ impl<'input, E: Endianity> Reader for EndianSlice<'input, E> {
         };
         self.slice = rest;
         Ok(*first)
+    }
+
+    #[inline]
+    fn read_fixed(&mut self, n: u8) -> Result<u64> {
+        match n {
+            1 => Ok(u64::from(self.read_u8()?)),
+            2 => Ok(u64::from(self.read_two()?)),
+            4 => Ok(u64::from(self.read_four()?)),
+            _ => self.read_eight(),
+        }
     }
 }

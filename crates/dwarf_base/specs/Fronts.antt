@@ -1,0 +1,39 @@
+-- Reads see nothing but the front that they take.
+use Rattle.std.specs.Prelude.{ℕ, ◌≡◌, ◌<◌, ◌↔◌, Bool, List, ◌∷◌, ◌++◌, Result, Ok, Err, length}
+use Rattle.dwarf_base.specs.Faults.{Fault, UnexpectedEof}
+use Rattle.dwarf_base.specs.Numbers.{number_of}
+
+-- some front of the bytes spells the value, and the rest follows it
+pub record Begins {A : Type 0} (Spells : List ℕ → A → Type 0) (bytes : List ℕ) (value : A) (rest : List ℕ) : Type 0 where
+  pub front : List ℕ
+  pub whole : front ++ rest ≡ bytes
+  pub spells : Spells front value
+
+-- a read gives a value exactly where a front spells it, and a fault exactly where the bytes are refused by it
+pub record ReadsExactly {A : Type 0} (Spells : List ℕ → A → Type 0) (Refused : List ℕ → Fault → Type 0) (read : List ℕ → Result (A × List ℕ) Fault) : Type 0 where
+  pub ok : (bytes : List ℕ) (value : A) (rest : List ℕ) → (read bytes ≡ Ok (value, rest)) ↔ Begins Spells bytes value rest
+  pub err : (bytes : List ℕ) (fault : Fault) → (read bytes ≡ Err fault) ↔ Refused bytes fault
+
+-- the read takes this front for the value, whatever follows it, and is cut off by the end of any shorter one
+pub record TakesFront {A : Type 0} (read : List ℕ → Result (A × List ℕ) Fault) (front : List ℕ) (value : A) : Type 0 where
+  pub whatever_follows : (more : List ℕ) → read (front ++ more) ≡ Ok (value, more)
+  pub cut_off : (shorter : List ℕ) (byte : ℕ) (lost : List ℕ) → shorter ++ (byte ∷ lost) ≡ front → read shorter ≡ Err UnexpectedEof
+
+-- whatever the read gives, it takes some front for it
+pub record ReadsFronts {A : Type 0} (read : List ℕ → Result (A × List ℕ) Fault) : Type 0 where
+  pub taken : (bytes : List ℕ) (value : A) (rest : List ℕ) → read bytes ≡ Ok (value, rest) → Begins (TakesFront read) bytes value rest
+
+-- a block of n bytes spells itself
+pub record SpellsBlock (n : ℕ) (bytes block : List ℕ) : Type 0 where
+  pub length_is : length bytes ≡ n
+  pub block_is : block ≡ bytes
+
+-- n bytes spell a number by their places in the byte order
+pub record SpellsFixed (big : Bool) (n : ℕ) (bytes : List ℕ) (value : ℕ) : Type 0 where
+  pub length_is : length bytes ≡ n
+  pub value_is : value ≡ number_of big bytes
+
+-- fewer than n bytes are cut off
+pub record RefusedBlock (n : ℕ) (bytes : List ℕ) (fault : Fault) : Type 0 where
+  pub shorter : length bytes < n
+  pub fault_is : fault ≡ UnexpectedEof

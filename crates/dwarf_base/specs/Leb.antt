@@ -1,0 +1,94 @@
+-- LEB128 numbers (DWARF 5, section 7.6): seven bits a byte, the lowest first; each byte but the last has the high bit.
+-- A number has at most ten bytes and 64 bits, and may be padded.
+use Rattle.std.specs.Prelude.{ℕ, ◌+◌, ◌*◌, ◌%◌, ◌^◌, ◌≤◌, ◌<◌, Bool, true, false, List, [], ◌∷◌, ◌++◌, Result, Ok, Err, length, nat_lt, ◌==◌, ◌||◌, if◌then◌else◌, ℤ, pos, ◌-ℤ◌, ◌≡◌, ◌⊎◌}
+use Rattle.dwarf_base.specs.Faults.{Fault, UnexpectedEof, BadUnsignedLeb128, BadSignedLeb128, ◌>>=◌}
+
+-- what tells unsigned numbers from signed ones: the tenth bytes that keep to 64 bits, the fault of the others, and
+-- the number that is made of the sum of the low bits, the count of the bytes and the last of them
+pub record LebForm (A : Type 0) : Type 0 where
+  pub allows_tenth : ℕ → Bool
+  pub too_long : Fault
+  pub number : (sum count last : ℕ) → A
+
+abbrev pub unsigned_leb : LebForm ℕ
+unsigned_leb = record { allows_tenth = λ byte. nat_lt byte 2; too_long = BadUnsignedLeb128; number = λ sum count last. sum }
+
+-- the bit 0x40 of the last byte is the sign's
+abbrev pub sign_extended : (sum count last : ℕ) → ℤ
+sign_extended sum count last = if nat_lt last 64 then pos sum else pos sum -ℤ pos (128 ^ count)
+
+abbrev pub signed_leb : LebForm ℤ
+signed_leb = record { allows_tenth = λ byte. byte == 0 || byte == 127; too_long = BadSignedLeb128; number = sign_extended }
+
+-- ---- which bytes spell a number
+
+-- the low seven bits of each byte, times 128 to its place; `place` bytes come before
+abbrev pub low_sum : (place : ℕ) → List ℕ → ℕ
+low_sum place [] = 0
+low_sum place (byte ∷ bytes) = byte % 128 * 128 ^ place + low_sum (place + 1) bytes
+
+-- each byte but the last has the high bit, and the last hasn't
+abbrev pub IsEnded : List ℕ → Type 0
+IsEnded [] = ⊥
+IsEnded (byte ∷ []) = byte < 128
+IsEnded (byte ∷ next ∷ bytes) = (128 ≤ byte) × IsEnded (next ∷ bytes)
+
+abbrev pub last_of : List ℕ → ℕ
+last_of [] = 0
+last_of (byte ∷ []) = byte
+last_of (byte ∷ next ∷ bytes) = last_of (next ∷ bytes)
+
+-- the bytes, all of them, are a spelling of the value
+pub record SpellsLeb {A : Type 0} (form : LebForm A) (bytes : List ℕ) (value : A) : Type 0 where
+  pub ended : IsEnded bytes
+  pub at_most_ten : length bytes ≤ 10
+  pub tenth : length bytes ≡ 10 → form.allows_tenth (last_of bytes) ≡ true
+  pub value_is : value ≡ form.number (low_sum 0 bytes) (length bytes) (last_of bytes)
+
+-- ---- which bytes are refused
+
+-- each byte has the high bit
+abbrev pub GoesOn : List ℕ → Type 0
+GoesOn [] = Unit {0}
+GoesOn (byte ∷ bytes) = (128 ≤ byte) × GoesOn bytes
+
+-- they end before a last byte, and before a tenth one
+pub record IsCutOff (bytes : List ℕ) : Type 0 where
+  pub goes_on : GoesOn bytes
+  pub at_most_nine : length bytes ≤ 9
+
+-- nine bytes that go on, and then one that leaves 64 bits
+pub record IsTooLong {A : Type 0} (form : LebForm A) (bytes : List ℕ) : Type 0 where
+  pub nine : List ℕ
+  pub tenth : ℕ
+  pub rest : List ℕ
+  pub whole : nine ++ (tenth ∷ rest) ≡ bytes
+  pub goes_on : GoesOn nine
+  pub are_nine : length nine ≡ 9
+  pub refused : form.allows_tenth tenth ≡ false
+
+abbrev pub RefusedLeb : {A : Type 0} → LebForm A → List ℕ → Fault → Type 0
+RefusedLeb form bytes fault = (IsCutOff bytes × (fault ≡ UnexpectedEof)) ⊎ (IsTooLong form bytes × (fault ≡ form.too_long))
+
+-- ---- reading one
+
+-- a number at the front, where `place` bytes came before, whose low bits sum up to `sum`
+abbrev pub leb_from : {A : Type 0} → LebForm A → (place sum : ℕ) → List ℕ → Result (A × List ℕ) Fault
+leb_from form place sum [] = Err UnexpectedEof
+leb_from form place sum (byte ∷ rest) =
+    if place == 9 then (if form.allows_tenth byte then Ok (form.number (sum + byte * 128 ^ 9) 10 byte, rest) else Err form.too_long)
+    else (if nat_lt byte 128 then Ok (form.number (sum + byte * 128 ^ place) (place + 1) byte, rest)
+    else leb_from form (place + 1) (sum + byte % 128 * 128 ^ place) rest)
+
+unfoldable pub uleb_at : List ℕ → Result (ℕ × List ℕ) Fault
+uleb_at bytes = leb_from unsigned_leb 0 0 bytes
+
+unfoldable pub sleb_at : List ℕ → Result (ℤ × List ℕ) Fault
+sleb_at bytes = leb_from signed_leb 0 0 bytes
+
+-- a number as one of 32 bits
+abbrev pub within_u32 : ℕ → Result ℕ Fault
+within_u32 number = if nat_lt number (2 ^ 32) then Ok number else Err BadUnsignedLeb128
+
+abbrev pub uleb_u32_at : List ℕ → Result (ℕ × List ℕ) Fault
+uleb_u32_at bytes = uleb_at bytes >>= λ number. within_u32 number.0 >>= λ small. Ok (small, number.1)

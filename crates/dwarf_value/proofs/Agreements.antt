@@ -1,0 +1,180 @@
+-- Agreeing values have the same answers.
+use Rattle.std.proofs.Common.{◌≡◌, ℕ, ◌%◌, ◌^◌, ◌≤◌, ℤ, pos, ◌+ℤ◌, true, refl, sym, ap, ◌∙◌, subst, arith, pow_mono, Ok}
+use Rattle.std.specs.Prelude.{unsigned_abs}
+use Rattle.std.proofs.lemmas.Nat.{pow_pos, mod_below}
+use native.Mathlib.Nat.{mod-eq_of_lt}
+use Rattle.dwarf_base.specs.Numbers.{residue}
+use Rattle.dwarf_value.specs.declared.types.Value.{Value}
+use Rattle.dwarf_value.specs.declared.types.Value.TheVariants.{Generic, I8, U8, I16, U16, I32, U32, I64, U64}
+use Rattle.dwarf_value.specs.declared.types.ValueType.{ValueType}
+use Rattle.dwarf_value.specs.declared.types.ValueType.TheVariants as kind
+use Rattle.dwarf_value.specs.Values.{type_of, word_integer, integer_of, unsigned_integer, signed_integer, Agree, to_u64_of, from_u64_of, convert_of, add_of, sub_of, mul_of, div_of, rem_of, abs_of, neg_of, not_of, and_of, or_of, xor_of, shl_of, shr_of, shra_of, eq_of, ge_of, gt_of, le_of, lt_of, ne_of}
+use Rattle.dwarf_value.specs.Laws.{SameForOne, SameForTwo}
+use Rattle.dwarf_value.proofs.Congruences.{Congruent, Congruent-sym, Congruent-trans, Congruent-add, Congruent-residue, residue-Congruent, residue-lower}
+
+-- ---- agreement itself
+
+pub Agree-refl : (w : ℕ) (x : Value) → Agree w x x
+Agree-refl w x = record { types = refl; integers = refl }
+
+pub Agree-sym : (w : ℕ) (x y : Value) → Agree w x y → Agree w y x
+Agree-sym w x y a = record { types = sym a.types; integers = sym a.integers }
+
+pub Agree-trans : (w : ℕ) (x y z : Value) → Agree w x y → Agree w y z → Agree w x z
+Agree-trans w x y z a b = record { types = a.types ∙ b.types; integers = a.integers ∙ b.integers }
+
+-- generic values agree where their contents are congruent
+pub Agree-Generic : (w m n : ℕ) → m % 2 ^ w ≡ n % 2 ^ w → Agree w (Generic m) (Generic n)
+unfolding type_of integer_of word_integer
+Agree-Generic w m n e = record { types = refl; integers = ap pos e }
+
+pub Generic-Agree : (w m n : ℕ) → Agree w (Generic m) (Generic n) → m % 2 ^ w ≡ n % 2 ^ w
+unfolding integer_of word_integer
+Generic-Agree w m n a = let e = a.integers in cc
+
+-- integers that are congruent modulo 2 ^ w, as generic values
+pub Agree-residues : (w : ℕ) (a b : ℤ) → w ≤ 64 → Congruent (2 ^ w) a b → Agree w (Generic (residue 64 a)) (Generic (residue 64 b))
+Agree-residues w a b h c =
+    Agree-Generic w _ _ (residue-lower w 64 a h ∙ (residue-Congruent w a b c ∙ sym (residue-lower w 64 b h)))
+
+-- a number is added to numbers that agree
+pub Agree-sums : (w m n : ℕ) (z : ℤ) → w ≤ 64 → m % 2 ^ w ≡ n % 2 ^ w → Agree w (Generic (residue 64 (pos m +ℤ z))) (Generic (residue 64 (pos n +ℤ z)))
+Agree-sums w m n z h e =
+    let same : Congruent (2 ^ w) (pos (m % 2 ^ w)) (pos n) = subst (λ k. Congruent (2 ^ w) (pos k) (pos n)) (sym e) (Congruent-residue w (pos n)) in
+    let c = Congruent-trans (2 ^ w) (pos m) (pos (m % 2 ^ w)) (pos n) (Congruent-sym (2 ^ w) _ _ (Congruent-residue w (pos m))) same in
+    Agree-residues w _ _ h (Congruent-add (2 ^ w) (pos m) (pos n) z z c (record { left = 0; right = 0; same = refl }))
+
+-- a generic value as a number
+pub to_u64_of-Generic : (w n : ℕ) → w ≤ 64 → to_u64_of w (Generic n) ≡ n % 2 ^ w
+unfolding integer_of word_integer
+to_u64_of-Generic w n h =
+    let below = mod_below n (2 ^ w) (pow_pos w) in
+    let most : 2 ^ w ≤ 2 ^ 64 = pow_mono {i = w} {j = 64} h in
+    mod-eq_of_lt (omega arith)
+
+-- ---- integers with a sign
+
+with_sign : (w : ℕ) → ValueType → ℤ → ℤ
+with_sign w kind.Generic z = word_integer true w (unsigned_abs z)
+with_sign w _ z = z
+
+signed_from_unsigned : (w : ℕ) (x : Value) → signed_integer w x ≡ with_sign w (type_of x) (unsigned_integer w x)
+unfolding integer_of word_integer type_of with_sign
+signed_from_unsigned w (Generic n) = refl
+signed_from_unsigned w (I8 x) = refl
+signed_from_unsigned w (U8 n) = refl
+signed_from_unsigned w (I16 x) = refl
+signed_from_unsigned w (U16 n) = refl
+signed_from_unsigned w (I32 x) = refl
+signed_from_unsigned w (U32 n) = refl
+signed_from_unsigned w (I64 x) = refl
+signed_from_unsigned w (U64 n) = refl
+
+pub signed_integer-Agree : (w : ℕ) (x y : Value) → Agree w x y → signed_integer w x ≡ signed_integer w y
+signed_integer-Agree w x y a =
+    let p = a.types in let q = a.integers in let s = signed_from_unsigned w x in let t = signed_from_unsigned w y in cc
+
+-- ---- each call
+
+pub to_u64_of-Agree : (w : ℕ) (x x' : Value) → Agree w x x' → to_u64_of w x ≡ to_u64_of w x'
+to_u64_of-Agree w x x' a = ap (residue 64) a.integers
+
+pub convert_of-Agree : (t : ValueType) → SameForOne (λ w. convert_of w t)
+convert_of-Agree t w x x' a = ap (λ n. Ok (from_u64_of t n)) (to_u64_of-Agree w x x' a)
+
+pub add_of_constant-Agree : (w n : ℕ) (x x' : Value) → Agree w x x' → add_of w x (from_u64_of (type_of x) n) ≡ add_of w x' (from_u64_of (type_of x') n)
+add_of_constant-Agree w n x x' a = let p = a.types in let q = a.integers in cc
+
+pub abs_of-Agree : SameForOne abs_of
+abs_of-Agree w x x' a = let p = a.types in let q = a.integers in let s = signed_integer-Agree w x x' a in cc
+
+pub neg_of-Agree : SameForOne neg_of
+neg_of-Agree w x x' a = let p = a.types in let q = a.integers in let s = signed_integer-Agree w x x' a in cc
+
+pub not_of-Agree : SameForOne not_of
+not_of-Agree w x x' a = let p = a.types in let q = a.integers in cc
+
+pub add_of-Agree : SameForTwo add_of
+add_of-Agree w x x' y y' a b =
+    let p = a.types in let q = b.types in let i = a.integers in let j = b.integers in
+    cc
+
+pub sub_of-Agree : SameForTwo sub_of
+sub_of-Agree w x x' y y' a b =
+    let p = a.types in let q = b.types in let i = a.integers in let j = b.integers in
+    cc
+
+pub mul_of-Agree : SameForTwo mul_of
+mul_of-Agree w x x' y y' a b =
+    let p = a.types in let q = b.types in let i = a.integers in let j = b.integers in
+    cc
+
+pub div_of-Agree : SameForTwo div_of
+div_of-Agree w x x' y y' a b =
+    let p = a.types in let q = b.types in let i = a.integers in let j = b.integers in
+    let s = signed_integer-Agree w x x' a in let t = signed_integer-Agree w y y' b in cc
+
+pub rem_of-Agree : SameForTwo rem_of
+rem_of-Agree w x x' y y' a b =
+    let p = a.types in let q = b.types in let i = a.integers in let j = b.integers in
+    cc
+
+pub and_of-Agree : SameForTwo and_of
+and_of-Agree w x x' y y' a b =
+    let p = a.types in let q = b.types in let i = a.integers in let j = b.integers in
+    cc
+
+pub or_of-Agree : SameForTwo or_of
+or_of-Agree w x x' y y' a b =
+    let p = a.types in let q = b.types in let i = a.integers in let j = b.integers in
+    cc
+
+pub xor_of-Agree : SameForTwo xor_of
+xor_of-Agree w x x' y y' a b =
+    let p = a.types in let q = b.types in let i = a.integers in let j = b.integers in
+    cc
+
+pub shl_of-Agree : SameForTwo shl_of
+shl_of-Agree w x x' y y' a b =
+    let p = a.types in let q = b.types in let i = a.integers in let j = b.integers in
+    cc
+
+pub shr_of-Agree : SameForTwo shr_of
+shr_of-Agree w x x' y y' a b =
+    let p = a.types in let q = b.types in let i = a.integers in let j = b.integers in
+    cc
+
+pub shra_of-Agree : SameForTwo shra_of
+shra_of-Agree w x x' y y' a b =
+    let p = a.types in let q = b.types in let i = a.integers in let j = b.integers in
+    let s = signed_integer-Agree w x x' a in let t = signed_integer-Agree w y y' b in cc
+
+pub eq_of-Agree : SameForTwo eq_of
+eq_of-Agree w x x' y y' a b =
+    let p = a.types in let q = b.types in let i = a.integers in let j = b.integers in
+    let s = signed_integer-Agree w x x' a in let t = signed_integer-Agree w y y' b in cc
+
+pub ge_of-Agree : SameForTwo ge_of
+ge_of-Agree w x x' y y' a b =
+    let p = a.types in let q = b.types in let i = a.integers in let j = b.integers in
+    let s = signed_integer-Agree w x x' a in let t = signed_integer-Agree w y y' b in cc
+
+pub gt_of-Agree : SameForTwo gt_of
+gt_of-Agree w x x' y y' a b =
+    let p = a.types in let q = b.types in let i = a.integers in let j = b.integers in
+    let s = signed_integer-Agree w x x' a in let t = signed_integer-Agree w y y' b in cc
+
+pub le_of-Agree : SameForTwo le_of
+le_of-Agree w x x' y y' a b =
+    let p = a.types in let q = b.types in let i = a.integers in let j = b.integers in
+    let s = signed_integer-Agree w x x' a in let t = signed_integer-Agree w y y' b in cc
+
+pub lt_of-Agree : SameForTwo lt_of
+lt_of-Agree w x x' y y' a b =
+    let p = a.types in let q = b.types in let i = a.integers in let j = b.integers in
+    let s = signed_integer-Agree w x x' a in let t = signed_integer-Agree w y y' b in cc
+
+pub ne_of-Agree : SameForTwo ne_of
+ne_of-Agree w x x' y y' a b =
+    let p = a.types in let q = b.types in let i = a.integers in let j = b.integers in
+    let s = signed_integer-Agree w x x' a in let t = signed_integer-Agree w y y' b in cc

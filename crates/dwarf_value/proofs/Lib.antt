@@ -1,0 +1,7 @@
+pub mod Agreements
+pub mod Congruences
+pub mod RoundTrips
+pub mod Integers
+pub mod Masks
+pub mod ValueLaws
+pub mod Wraps

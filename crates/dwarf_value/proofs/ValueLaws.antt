@@ -1,0 +1,247 @@
+-- The laws of values.
+use Rattle.std.proofs.Common.{◌≡◌, ◌≢◌, ℕ, ◌^◌, ◌≤◌, ℤ, pos, negsuc, neg_ℤ, ◌+ℤ◌, ◌*ℤ◌, Bool, true, false, Ok, refl, sym, ap, ◌∙◌, subst, arith, inl, inr}
+use Rattle.std.specs.Prelude.{int_lt, int_le, ◌==◌}
+use Rattle.std.specs.Ordering.{int_eq}
+use Rattle.std.specs.Int.RustNames.{int_div, int_rem}
+use Rattle.std.proofs.lemmas.Int.{quot-rem}
+use Rattle.std.proofs.lemmas.Bool.{cases_lt}
+use Rattle.std.proofs.lemmas.Bool.Decides.{nat_tests}
+use lib.IntN.{neg_ℤ-neg_ℤ}
+use Rattle.dwarf_base.specs.Numbers.{residue}
+use Rattle.dwarf_value.specs.declared.types.Value.{Value}
+use Rattle.dwarf_value.specs.declared.types.Value.TheVariants.{Generic}
+use Rattle.dwarf_value.specs.declared.types.ValueType.{ValueType}
+use Rattle.dwarf_value.specs.declared.types.ValueType.TheVariants as kind
+use Rattle.dwarf_value.specs.Values.{type_of, bit_size_of, is_same, is_signed, unsigned_integer, signed_integer, value_of, Agree, to_u64_of, from_u64_of, reinterpret_of}
+use Rattle.dwarf_value.specs.Laws.{IsWidth, Trichotomy, Opposites, QuotientAndRemainder, NegateTwice, NegateTwiceGeneric, ReinterpretTwice, AgreeingAnswers, values, refusals, AgreementIsKept}
+use Rattle.dwarf_value.proofs.Congruences.{Congruent, Congruent-sym, Congruent-trans, Congruent-add, Congruent-neg, Congruent-mul, Congruent-lower, Congruent-residue}
+use Rattle.dwarf_value.proofs.Integers.{int_eq-false}
+use Rattle.dwarf_value.proofs.RoundTrips.{type_of-value_of, integer_of-value_of, Congruent-Generic, Agree-content, value_of-Congruent, Agree-value_of, value_of-unsigned_integer, integer_of-typed, Congruent-all_bits, bit_size_of-le, bit_size_of-below}
+use Rattle.dwarf_value.proofs.Agreements.{to_u64_of-Agree, convert_of-Agree, add_of_constant-Agree, abs_of-Agree, neg_of-Agree, not_of-Agree, add_of-Agree, sub_of-Agree, mul_of-Agree, div_of-Agree, rem_of-Agree, and_of-Agree, or_of-Agree, xor_of-Agree, shl_of-Agree, shr_of-Agree, shra_of-Agree, eq_of-Agree, ge_of-Agree, gt_of-Agree, le_of-Agree, lt_of-Agree, ne_of-Agree}
+
+-- ---- comparisons
+
+is_same-equal : (s t : ValueType) → s ≡ t → is_same s t ≡ true
+unfolding is_same
+is_same-equal s t e = rw e (grind (arith, nat_tests))
+
+-- how two integers compare
+data Compared (a b : ℤ) : Type 0 where
+  below : int_lt a b ≡ true → int_lt b a ≡ false → int_le a b ≡ true → int_le b a ≡ false → Compared a b
+  equal : int_lt a b ≡ false → int_lt b a ≡ false → int_le a b ≡ true → int_le b a ≡ true → Compared a b
+  above : int_lt a b ≡ false → int_lt b a ≡ true → int_le a b ≡ false → int_le b a ≡ true → Compared a b
+
+compare_integers : (a b : ℤ) → Compared a b
+compare_integers (pos a) (pos b) =
+    elim (cases_lt a b) [
+      | inl l ↦ below (grind (arith, nat_tests)) (grind (arith, nat_tests)) (grind (arith, nat_tests)) (grind (arith, nat_tests))
+      | inr g ↦ elim (cases_lt b a) [
+        | inl l ↦ above (grind (arith, nat_tests)) (grind (arith, nat_tests)) (grind (arith, nat_tests)) (grind (arith, nat_tests))
+        | inr h ↦ equal (grind (arith, nat_tests)) (grind (arith, nat_tests)) (grind (arith, nat_tests)) (grind (arith, nat_tests))
+      ]
+    ]
+compare_integers (negsuc a) (negsuc b) =
+    elim (cases_lt b a) [
+      | inl l ↦ below (grind (arith, nat_tests)) (grind (arith, nat_tests)) (grind (arith, nat_tests)) (grind (arith, nat_tests))
+      | inr g ↦ elim (cases_lt a b) [
+        | inl l ↦ above (grind (arith, nat_tests)) (grind (arith, nat_tests)) (grind (arith, nat_tests)) (grind (arith, nat_tests))
+        | inr h ↦ equal (grind (arith, nat_tests)) (grind (arith, nat_tests)) (grind (arith, nat_tests)) (grind (arith, nat_tests))
+      ]
+    ]
+compare_integers (pos a) (negsuc b) = above refl refl refl refl
+compare_integers (negsuc a) (pos b) = below refl refl refl refl
+
+pub trichotomy : Trichotomy
+trichotomy w x y v e =
+    let s : is_same (type_of x) (type_of y) ≡ true = is_same-equal _ _ e in
+    elim (compare_integers (signed_integer w x) (signed_integer w y)) [
+      | below lt gt le ge ↦ inl (rw (s, lt), rw (s, lt), rw (s, gt))
+      | equal lt gt le ge ↦ inr (inl (rw (s, lt), rw (s, lt, gt), rw (s, gt)))
+      | above lt gt le ge ↦ inr (inr (rw (s, lt), rw (s, lt, gt), rw (s, gt)))
+    ]
+
+pub opposites : Opposites
+opposites w x y v e =
+    let s : is_same (type_of x) (type_of y) ≡ true = is_same-equal _ _ e in
+    elim (compare_integers (signed_integer w x) (signed_integer w y)) [
+      | below lt gt le ge ↦ (inl (rw (s, lt), rw (s, lt)), inr (rw (s, ge), rw (s, lt)), inl (rw (s, le), rw (s, gt)))
+      | equal lt gt le ge ↦ (inr (rw (s, lt, gt), rw (s, lt, gt)), inl (rw (s, ge), rw (s, lt)), inl (rw (s, le), rw (s, gt)))
+      | above lt gt le ge ↦ (inl (rw (s, lt, gt), rw (s, lt, gt)), inl (rw (s, ge), rw (s, lt)), inr (rw (s, le), rw (s, gt)))
+    ]
+
+-- ---- quotient and remainder
+
+pub quotient_and_remainder : QuotientAndRemainder
+quotient_and_remainder w x y v r h e z =
+    let t = type_of x in
+    let X = unsigned_integer w x in
+    let Y = unsigned_integer w y in
+    let q = value_of 64 t (int_div X Y) in
+    let m = value_of 64 t (int_rem X Y) in
+    let p = value_of w t (unsigned_integer w q *ℤ Y) in
+    let M = 2 ^ bit_size_of w t in
+    let nonzero : int_eq Y (pos 0) ≡ false = int_eq-false Y (pos 0) z in
+    let s : is_same t (type_of y) ≡ true = is_same-equal _ _ e in
+    let X-signed : signed_integer w x ≡ X = integer_of-typed true w x h ∙ sym (integer_of-typed false w x h) in
+    let ty : type_of y ≢ kind.Generic = λ g. h (e ∙ g) in
+    let Y-signed : signed_integer w y ≡ Y = integer_of-typed true w y ty ∙ sym (integer_of-typed false w y ty) in
+    let quotient : Congruent M (unsigned_integer w q) (int_div X Y) = integer_of-value_of false 64 w t (int_div X Y) v.within_64 in
+    let remainder : Congruent M (unsigned_integer w m) (int_rem X Y) = integer_of-value_of false 64 w t (int_rem X Y) v.within_64 in
+    let product : Congruent M (unsigned_integer w p) (int_div X Y *ℤ Y) =
+    Congruent-trans M _ _ _ (integer_of-value_of false w w t (unsigned_integer w q *ℤ Y) (omega arith)) (Congruent-mul M _ _ Y quotient) in
+    let whole : Congruent M (unsigned_integer w p +ℤ unsigned_integer w m) X =
+    subst (λ n. Congruent M (unsigned_integer w p +ℤ unsigned_integer w m) n) (quot-rem X Y) (Congruent-add M _ _ _ _ product remainder) in
+    let again : value_of w t (unsigned_integer w p +ℤ unsigned_integer w m) ≡ x =
+    value_of-Congruent w 64 w t _ _ h whole ∙ (ap (value_of 64 t) (integer_of-typed false w x h) ∙ value_of-unsigned_integer x r) in (
+      q,
+      m,
+      p,
+      rw (nonzero, s, X-signed, Y-signed),
+      rw (nonzero, s),
+      rw (type_of-value_of 64 t (int_div X Y), s),
+      rw (type_of-value_of w t (unsigned_integer w q *ℤ Y), type_of-value_of 64 t (int_rem X Y), is_same-equal t t refl) (ap Ok again),
+    )
+
+generic_unsigned : is_signed false kind.Generic ≡ false
+unfolding is_signed
+generic_unsigned = refl
+
+-- the integers of a signed type have a sign however generic ones are read
+signed_at_any : (t : ValueType) → is_signed false t ≡ true → is_signed true t ≡ true
+unfolding is_signed
+signed_at_any kind.Generic e = refl
+signed_at_any kind.I8 e = e
+signed_at_any kind.U8 e = e
+signed_at_any kind.I16 e = e
+signed_at_any kind.U16 e = e
+signed_at_any kind.I32 e = e
+signed_at_any kind.U32 e = e
+signed_at_any kind.I64 e = e
+signed_at_any kind.U64 e = e
+
+pub negate_twice : NegateTwice
+negate_twice w x v r e =
+    let t = type_of x in
+    let h : t ≢ kind.Generic = λ g. let u = generic_unsigned in cc in
+    let s : is_signed true t ≡ true = signed_at_any t e in
+    let X = signed_integer w x in
+    let y = value_of 64 t (neg_ℤ X) in
+    let M = 2 ^ bit_size_of w t in
+    let a : Congruent M (signed_integer w y) (neg_ℤ X) = integer_of-value_of true 64 w t (neg_ℤ X) v.within_64 in
+    let b : Congruent M (neg_ℤ (signed_integer w y)) X = subst (λ z. Congruent M (neg_ℤ (signed_integer w y)) z) (neg_ℤ-neg_ℤ X) (Congruent-neg M _ _ a) in
+    let again : value_of 64 t (neg_ℤ (signed_integer w y)) ≡ x =
+    value_of-Congruent 64 64 w t _ _ h b ∙ (ap (value_of 64 t) (integer_of-typed true w x h) ∙ value_of-unsigned_integer x r) in
+    (y, rw s, rw (type_of-value_of 64 t (neg_ℤ X), s) (ap Ok again))
+
+generic_signed : is_signed true kind.Generic ≡ true
+unfolding is_signed
+generic_signed = refl
+
+generic_size : (w : ℕ) → bit_size_of w kind.Generic ≡ w
+unfolding bit_size_of
+generic_size w = refl
+
+generic_type : (n : ℕ) → type_of (Generic n) ≡ kind.Generic
+unfolding type_of
+generic_type n = refl
+
+pub negate_twice_generic : NegateTwiceGeneric
+negate_twice_generic w n v =
+    let S = signed_integer w (Generic n) in
+    let y = value_of 64 kind.Generic (neg_ℤ S) in
+    let Z = neg_ℤ (signed_integer w y) in
+    let g : type_of (Generic n) ≡ kind.Generic = generic_type n in
+    let s : is_signed true kind.Generic ≡ true = generic_signed in
+    let a : Congruent (2 ^ w) (signed_integer w y) (neg_ℤ S) =
+    subst (λ k. Congruent (2 ^ k) (signed_integer w y) (neg_ℤ S)) (generic_size w) (integer_of-value_of true 64 w kind.Generic (neg_ℤ S) v.within_64) in
+    let b : Congruent (2 ^ w) Z S = subst (λ z. Congruent (2 ^ w) Z z) (neg_ℤ-neg_ℤ S) (Congruent-neg _ _ _ a) in
+    let c : Congruent (2 ^ w) (pos n) Z = Congruent-sym _ _ _ (Congruent-trans _ _ _ _ b (Congruent-Generic true w n)) in
+    (y, value_of 64 kind.Generic Z, rw (g, s), rw (type_of-value_of 64 kind.Generic (neg_ℤ S), s), Agree-content w n Z v.within_64 c)
+
+-- ---- other types
+
+test_sizes : (a b : ℕ) → a ≡ b → (a == b) ≡ true
+test_sizes a b e = grind (arith, nat_tests)
+
+sizes_tested : (a b : ℕ) → (a == b) ≡ true → a ≡ b
+sizes_tested a b e = grind (arith, nat_tests)
+
+-- the integer that comes out of a reinterpretation
+round_bits : (w : ℕ) (t : ValueType) (x : Value) → w ≤ 64 → Congruent (2 ^ bit_size_of w t) (pos (to_u64_of 64 (from_u64_of t (to_u64_of 64 x)))) (unsigned_integer 64 x)
+round_bits w t x h =
+    let M = 2 ^ bit_size_of w t in
+    let X = unsigned_integer 64 x in
+    let y = from_u64_of t (residue 64 X) in
+    let low : (z : ℤ) → Congruent M (pos (residue 64 z)) z = λ z. Congruent-lower _ 64 _ _ (bit_size_of-le w t h) (Congruent-residue 64 z) in
+    let made : Congruent M (unsigned_integer 64 y) (pos (residue 64 X)) =
+    Congruent-lower _ _ _ _ (bit_size_of-below w t h) (integer_of-value_of false 64 64 t (pos (residue 64 X)) (omega arith)) in
+    Congruent-trans M _ _ _ (low (unsigned_integer 64 y)) (Congruent-trans M _ _ _ made (low X))
+
+pub reinterpret_twice : ReinterpretTwice
+reinterpret_twice w t x v r e =
+    let X = unsigned_integer 64 x in
+    let y = from_u64_of t (to_u64_of 64 x) in
+    let n = to_u64_of 64 y in
+    let same : Congruent (2 ^ bit_size_of w (type_of x)) (pos n) X = subst (λ k. Congruent (2 ^ k) (pos n) X) (sym e) (round_bits w t x v.within_64) in
+    let agree : Agree w (value_of 64 (type_of x) X) (value_of 64 (type_of x) (pos n)) = Agree-value_of w (type_of x) X (pos n) v.within_64 (Congruent-sym _ _ _ same) in
+    let back : (bit_size_of w (type_of y) == bit_size_of w (type_of x)) ≡ true = rw (type_of-value_of 64 t (pos (to_u64_of 64 x))) (test_sizes _ _ (sym e)) in (
+      y,
+      from_u64_of (type_of x) n,
+      answers w t x (test_sizes _ _ e),
+      answers w (type_of x) y back,
+      subst (λ z. Agree w z (from_u64_of (type_of x) n)) (value_of-unsigned_integer x r) agree,
+    )
+  where
+    answers : (w : ℕ) (t : ValueType) (x : Value) → (bit_size_of w (type_of x) == bit_size_of w t) ≡ true → reinterpret_of w t x ≡ Ok (from_u64_of t (to_u64_of 64 x))
+    answers w t x e = rw e
+
+pub reinterpret_of-Agree : (w : ℕ) (t : ValueType) (x x' : Value) → IsWidth w → Agree w x x' → AgreeingAnswers w (reinterpret_of w t x) (reinterpret_of w t x')
+reinterpret_of-Agree w t x x' v a = by_test (bit_size_of w (type_of x) == bit_size_of w t) refl
+  where
+    by_test : (b : Bool) → (bit_size_of w (type_of x) == bit_size_of w t) ≡ b → AgreeingAnswers w (reinterpret_of w t x) (reinterpret_of w t x')
+    by_test true e =
+        let X = unsigned_integer 64 x in
+        let X' = unsigned_integer 64 x' in
+        let s = bit_size_of w (type_of x) in
+        let k : s ≡ bit_size_of w t = sizes_tested _ _ e in
+        let k' : bit_size_of w (type_of x') ≡ s = ap (bit_size_of w) (sym a.types) in
+        let e' : (bit_size_of w (type_of x') == bit_size_of w t) ≡ true = test_sizes _ _ (k' ∙ k) in
+        let low : (z : ℤ) → Congruent (2 ^ s) (pos (residue 64 z)) z = λ z. Congruent-lower s 64 _ _ (bit_size_of-le w (type_of x) v.within_64) (Congruent-residue 64 z) in
+        let first : Congruent (2 ^ s) X (unsigned_integer w x) = Congruent-all_bits w x v.within_64 in
+        let second : Congruent (2 ^ s) X' (unsigned_integer w x') = subst (λ n. Congruent (2 ^ n) X' (unsigned_integer w x')) k' (Congruent-all_bits w x' v.within_64) in
+        let middle : Congruent (2 ^ s) X X' = Congruent-trans _ _ _ _ (subst (λ z. Congruent (2 ^ s) X z) a.integers first) (Congruent-sym _ _ _ second) in
+        let whole : Congruent (2 ^ s) (pos (residue 64 X)) (pos (residue 64 X')) = Congruent-trans _ _ _ _ (low X) (Congruent-trans _ _ _ _ middle (Congruent-sym _ _ _ (low X'))) in
+        let agree : Agree w (from_u64_of t (residue 64 X)) (from_u64_of t (residue 64 X')) =
+        Agree-value_of w t _ _ v.within_64 (subst (λ n. Congruent (2 ^ n) (pos (residue 64 X)) (pos (residue 64 X'))) k whole) in
+        rw (e, e') (values agree)
+    by_test false e =
+        let e' : (bit_size_of w (type_of x') == bit_size_of w t) ≡ false = ap (λ n. bit_size_of w n == bit_size_of w t) (sym a.types) ∙ e in
+        rw (e, e') refusals
+
+pub agreement_is_kept : AgreementIsKept
+agreement_is_kept = record {
+  to_u64 = to_u64_of-Agree;
+  convert = convert_of-Agree;
+  reinterpret = reinterpret_of-Agree;
+  add_constant = add_of_constant-Agree;
+  abs = abs_of-Agree;
+  neg = neg_of-Agree;
+  not = not_of-Agree;
+  add = add_of-Agree;
+  sub = sub_of-Agree;
+  mul = mul_of-Agree;
+  div = div_of-Agree;
+  rem = rem_of-Agree;
+  and = and_of-Agree;
+  or = or_of-Agree;
+  xor = xor_of-Agree;
+  shl = shl_of-Agree;
+  shr = shr_of-Agree;
+  shra = shra_of-Agree;
+  eq = eq_of-Agree;
+  ge = ge_of-Agree;
+  gt = gt_of-Agree;
+  le = le_of-Agree;
+  lt = lt_of-Agree;
+  ne = ne_of-Agree;
+}

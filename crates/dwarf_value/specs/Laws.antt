@@ -1,0 +1,122 @@
+-- Laws of values, over what the calls on them answer.
+use Rattle.std.specs.Prelude.{ℕ, ◌^◌, ◌<◌, ◌≤◌, pos, ◌≡◌, ◌≢◌, ◌⊎◌, true, false, FitsSigned, Result, Ok, Err}
+use Rattle.std.specs.Int.{w8, w16, w32, w64}
+use Rattle.dwarf_base.specs.declared.errors.Error.{Error}
+use Rattle.dwarf_value.specs.declared.types.Value.{Value}
+use Rattle.dwarf_value.specs.declared.types.Value.TheVariants.{Generic, I8, U8, I16, U16, I32, U32, I64, U64}
+use Rattle.dwarf_value.specs.declared.types.ValueType.{ValueType}
+use Rattle.dwarf_value.specs.declared.types.ValueType.TheVariants as kind
+use Rattle.dwarf_value.specs.Values.{type_of, bit_size_of, is_signed, unsigned_integer, Agree, to_u64_of, from_u64_of, convert_of, reinterpret_of, add_of, sub_of, mul_of, div_of, rem_of, abs_of, neg_of, not_of, and_of, or_of, xor_of, shl_of, shr_of, shra_of, eq_of, ge_of, gt_of, le_of, lt_of, ne_of}
+
+-- the width of an address mask
+pub record IsWidth (w : ℕ) : Type 0 where
+  pub some_bit : 0 < w
+  pub within_64 : w ≤ 64
+
+-- a value's number is in the range of its type, as that of each value in a program is
+unfoldable pub InRange : Value → Type 0
+InRange (Generic n) = n < 2 ^ 64
+InRange (I8 x) = FitsSigned w8 x
+InRange (U8 n) = n < 2 ^ 8
+InRange (I16 x) = FitsSigned w16 x
+InRange (U16 n) = n < 2 ^ 16
+InRange (I32 x) = FitsSigned w32 x
+InRange (U32 n) = n < 2 ^ 32
+InRange (I64 x) = FitsSigned w64 x
+InRange (U64 n) = n < 2 ^ 64
+
+-- ---- comparisons
+
+-- a comparison answers 1
+abbrev pub Holds : Result Value Error → Type 0
+Holds answer = answer ≡ Ok (Generic 1)
+
+-- a comparison answers 0
+abbrev pub Fails : Result Value Error → Type 0
+Fails answer = answer ≡ Ok (Generic 0)
+
+-- exactly one of three answers is 1
+abbrev pub OneHolds : (first second third : Result Value Error) → Type 0
+OneHolds a b c = (Holds a × Fails b × Fails c) ⊎ (Fails a × Holds b × Fails c) ⊎ (Fails a × Fails b × Holds c)
+
+-- of two values of one type, the first is below, equal to or above the second
+abbrev pub Trichotomy : Type 0
+Trichotomy = (w : ℕ) (x y : Value) → IsWidth w → type_of x ≡ type_of y → OneHolds (lt_of w x y) (eq_of w x y) (gt_of w x y)
+
+-- one of two answers is 1, and the other 0
+abbrev pub AreOpposite : (first second : Result Value Error) → Type 0
+AreOpposite a b = (Holds a × Fails b) ⊎ (Fails a × Holds b)
+
+-- each comparison has an opposite
+abbrev pub Opposites : Type 0
+Opposites =
+    (w : ℕ) (x y : Value) → IsWidth w → type_of x ≡ type_of y
+    → AreOpposite (ne_of w x y) (eq_of w x y) × AreOpposite (ge_of w x y) (lt_of w x y) × AreOpposite (le_of w x y) (gt_of w x y)
+
+-- ---- arithmetic
+
+-- the quotient times the divisor, plus the remainder, is the dividend, at each type but the generic one
+abbrev pub QuotientAndRemainder : Type 0
+QuotientAndRemainder =
+    (w : ℕ) (x y : Value) → IsWidth w → InRange x → type_of x ≢ kind.Generic → type_of x ≡ type_of y → unsigned_integer w y ≢ pos 0
+    → (quotient remainder product : Value) × (div_of w x y ≡ Ok quotient) × (rem_of w x y ≡ Ok remainder) × (mul_of w quotient y ≡ Ok product) × (add_of w product remainder ≡ Ok x)
+
+-- to negate twice, at a signed type
+abbrev pub NegateTwice : Type 0
+NegateTwice =
+    (w : ℕ) (x : Value) → IsWidth w → InRange x → is_signed false (type_of x) ≡ true
+    → (negated : Value) × (neg_of w x ≡ Ok negated) × (neg_of w negated ≡ Ok x)
+
+-- to negate a generic value twice
+abbrev pub NegateTwiceGeneric : Type 0
+NegateTwiceGeneric =
+    (w n : ℕ) → IsWidth w
+    → (negated again : Value) × (neg_of w (Generic n) ≡ Ok negated) × (neg_of w negated ≡ Ok again) × Agree w (Generic n) again
+
+-- to a type of the same size, and back
+abbrev pub ReinterpretTwice : Type 0
+ReinterpretTwice =
+    (w : ℕ) (t : ValueType) (x : Value) → IsWidth w → InRange x → bit_size_of w (type_of x) ≡ bit_size_of w t
+    → (there back : Value) × (reinterpret_of w t x ≡ Ok there) × (reinterpret_of w (type_of x) there ≡ Ok back) × Agree w x back
+
+-- ---- agreement
+
+-- agreeing values, or the same refusal
+pub data AgreeingAnswers (w : ℕ) : Result Value Error → Result Value Error → Type 0 where
+  values : {x y : Value} → Agree w x y → AgreeingAnswers w (Ok x) (Ok y)
+  refusals : {e : Error} → AgreeingAnswers w (Err e) (Err e)
+
+-- a call on one value has the same answer or refusal for agreeing ones
+abbrev pub SameForOne : (ℕ → Value → Result Value Error) → Type 0
+SameForOne answer = (w : ℕ) (x x' : Value) → Agree w x x' → answer w x ≡ answer w x'
+
+-- a call on two values has the same answer or refusal for agreeing ones
+abbrev pub SameForTwo : (ℕ → Value → Value → Result Value Error) → Type 0
+SameForTwo answer = (w : ℕ) (x x' y y' : Value) → Agree w x x' → Agree w y y' → answer w x y ≡ answer w x' y'
+
+-- agreeing arguments give agreeing answers, and equal ones but for `reinterpret`, which reads all bits of a generic value
+pub record AgreementIsKept : Type 0 where
+  pub to_u64 : (w : ℕ) (x x' : Value) → Agree w x x' → to_u64_of w x ≡ to_u64_of w x'
+  pub convert : (t : ValueType) → SameForOne (λ w. convert_of w t)
+  pub reinterpret : (w : ℕ) (t : ValueType) (x x' : Value) → IsWidth w → Agree w x x' → AgreeingAnswers w (reinterpret_of w t x) (reinterpret_of w t x')
+  pub add_constant : (w n : ℕ) (x x' : Value) → Agree w x x' → add_of w x (from_u64_of (type_of x) n) ≡ add_of w x' (from_u64_of (type_of x') n)
+  pub abs : SameForOne abs_of
+  pub neg : SameForOne neg_of
+  pub not : SameForOne not_of
+  pub add : SameForTwo add_of
+  pub sub : SameForTwo sub_of
+  pub mul : SameForTwo mul_of
+  pub div : SameForTwo div_of
+  pub rem : SameForTwo rem_of
+  pub and : SameForTwo and_of
+  pub or : SameForTwo or_of
+  pub xor : SameForTwo xor_of
+  pub shl : SameForTwo shl_of
+  pub shr : SameForTwo shr_of
+  pub shra : SameForTwo shra_of
+  pub eq : SameForTwo eq_of
+  pub ge : SameForTwo ge_of
+  pub gt : SameForTwo gt_of
+  pub le : SameForTwo le_of
+  pub lt : SameForTwo lt_of
+  pub ne : SameForTwo ne_of

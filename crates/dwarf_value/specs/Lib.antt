@@ -1,0 +1,3 @@
+pub mod Laws
+pub mod Operands
+pub mod Values

@@ -1,0 +1,47 @@
+-- What the operators on two values of one type begin with.
+use Rattle.std.specs.Prelude.{◌≡◌, ◌≢◌, ◌⊎◌, ℕ, ◌^◌, ℤ, pos, neg_ℤ, ◌≤ℤ◌, ◌<ℤ◌, Bool, true, false, unsigned_abs}
+use Rattle.std.specs.Int.{is_negative}
+use Rattle.std.specs.Ordering.{int_eq}
+use Rattle.dwarf_base.specs.declared.errors.Error.{Error}
+use Rattle.dwarf_base.specs.declared.errors.Error.TheVariants.{TypeMismatch, DivisionByZero, InvalidShiftExpression}
+use Rattle.dwarf_value.specs.declared.types.Value.{Value}
+use Rattle.dwarf_value.specs.declared.types.ValueType.{ValueType}
+use Rattle.dwarf_value.specs.Values.{type_of, is_same, integer_of, unsigned_integer}
+
+-- t is the type of both values, and a and b are their integers, in the range of the types
+pub record AreOperands (signed : Bool) (w : ℕ) (x y : Value) (t : ValueType) (a b : ℤ) : Type 0 where
+  pub same : is_same (type_of x) (type_of y) ≡ true
+  pub value_type : t ≡ type_of x
+  pub first : a ≡ integer_of signed w x
+  pub second : b ≡ integer_of signed w y
+  pub first_least : neg_ℤ (pos (2 ^ 63)) ≤ℤ a
+  pub first_most : a <ℤ pos (2 ^ 64)
+  pub second_least : neg_ℤ (pos (2 ^ 63)) ≤ℤ b
+  pub second_most : b <ℤ pos (2 ^ 64)
+
+-- the types differ, and the fault says so
+pub record RefusesOperands (x y : Value) (e : Error) : Type 0 where
+  pub differ : is_same (type_of x) (type_of y) ≡ false
+  pub fault : e ≡ TypeMismatch
+
+-- the same of a dividend and a divisor
+pub record AreDivided (signed : Bool) (w : ℕ) (x y : Value) (t : ValueType) (a b : ℤ) : Type 0 where
+  pub operands : AreOperands signed w x y t a b
+  pub nonzero : int_eq (unsigned_integer w y) (pos 0) ≡ false
+  pub divisor : b ≢ pos 0
+
+-- the divisor is zero, or the types differ
+abbrev pub RefusesDivision : (w : ℕ) → Value → Value → Error → Type 0
+RefusesDivision w x y e =
+    ((int_eq (unsigned_integer w y) (pos 0) ≡ true) × (e ≡ DivisionByZero))
+    ⊎ ((int_eq (unsigned_integer w y) (pos 0) ≡ false) × RefusesOperands x y e)
+
+-- n is the length of a shift by y
+pub record IsLength (w : ℕ) (y : Value) (n : ℕ) : Type 0 where
+  pub accepted : is_negative (unsigned_integer w y) ≡ false
+  pub length : n ≡ unsigned_abs (unsigned_integer w y)
+
+-- the length of a shift by y is negative
+pub record RefusesLength (w : ℕ) (y : Value) (e : Error) : Type 0 where
+  pub negative : is_negative (unsigned_integer w y) ≡ true
+  pub fault : e ≡ InvalidShiftExpression

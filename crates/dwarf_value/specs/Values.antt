@@ -1,0 +1,284 @@
+-- Values as types and integers, and what each call on values answers (DWARF 5, section 2.5).
+use Rattle.std.specs.Prelude.{ℕ, ◌-◌, ◌/◌, ◌%◌, ◌^◌, ◌<◌, ◌≡◌, ℤ, pos, negsuc, neg_ℤ, ◌+ℤ◌, ◌-ℤ◌, ◌*ℤ◌, Bool, true, false, not, if◌then◌else◌, nat_le, ◌==◌, unsigned_abs, int_lt, int_le, int_div, int_rem, bit_and, bit_or, bit_xor, List, Option, Some, None, Result, Ok, Err}
+use Rattle.std.specs.Int.{is_negative}
+use Rattle.std.specs.Int.RustNames.{count_ones}
+use Rattle.std.specs.Ordering.{int_eq}
+use Rattle.dwarf_base.specs.Faults.{Fault, ◌>>=◌}
+use Rattle.dwarf_base.specs.Faults as fault
+use Rattle.dwarf_base.specs.Reads.{fixed_at}
+use Rattle.dwarf_base.specs.declared.constants.TheConstants.{DW_ATE_signed, DW_ATE_unsigned}
+use Rattle.dwarf_base.specs.Numbers.{residue, signed_of}
+use Rattle.dwarf_base.specs.declared.errors.Error.{Error}
+use Rattle.dwarf_base.specs.declared.errors.Error.TheVariants.{UnsupportedTypeOperation, TypeMismatch, DivisionByZero, InvalidShiftExpression}
+use Rattle.dwarf_value.specs.declared.types.Value.{Value}
+use Rattle.dwarf_value.specs.declared.types.Value.TheVariants.{Generic, I8, U8, I16, U16, I32, U32, I64, U64}
+use Rattle.dwarf_value.specs.declared.types.ValueType.{ValueType}
+use Rattle.dwarf_value.specs.declared.types.ValueType.TheVariants as kind
+
+-- how many bits an address has: the one bits of its mask
+unfoldable pub width_of : ℕ → ℕ
+width_of mask = count_ones mask
+
+-- the mask of an address: 2 ^ w - 1 for a width w from 1 up
+pub record IsAddressMask (mask : ℕ) : Type 0 where
+  pub some_bit : 0 < width_of mask
+  pub low_ones : mask ≡ 2 ^ width_of mask - 1
+
+-- ---- types and integers
+
+-- the type of a value
+unfoldable pub type_of : Value → ValueType
+type_of (Generic n) = kind.Generic
+type_of (I8 x) = kind.I8
+type_of (U8 n) = kind.U8
+type_of (I16 x) = kind.I16
+type_of (U16 n) = kind.U16
+type_of (I32 x) = kind.I32
+type_of (U32 n) = kind.U32
+type_of (I64 x) = kind.I64
+type_of (U64 n) = kind.U64
+
+-- how many bits a value of the type has, where an address has w
+unfoldable pub bit_size_of : (w : ℕ) → ValueType → ℕ
+bit_size_of w kind.Generic = w
+bit_size_of w kind.I8 = 8
+bit_size_of w kind.U8 = 8
+bit_size_of w kind.I16 = 16
+bit_size_of w kind.U16 = 16
+bit_size_of w kind.I32 = 32
+bit_size_of w kind.U32 = 32
+bit_size_of w kind.I64 = 64
+bit_size_of w kind.U64 = 64
+
+-- whether the integers of a type have a sign; those of the generic type have none of their own
+unfoldable pub is_signed : (generic : Bool) → ValueType → Bool
+is_signed generic kind.Generic = generic
+is_signed generic kind.I8 = true
+is_signed generic kind.U8 = false
+is_signed generic kind.I16 = true
+is_signed generic kind.U16 = false
+is_signed generic kind.I32 = true
+is_signed generic kind.U32 = false
+is_signed generic kind.I64 = true
+is_signed generic kind.U64 = false
+
+-- the place of a type among the nine
+abbrev pub index_of : ValueType → ℕ
+index_of kind.Generic = 0
+index_of kind.I8 = 1
+index_of kind.U8 = 2
+index_of kind.I16 = 3
+index_of kind.U16 = 4
+index_of kind.I32 = 5
+index_of kind.U32 = 6
+index_of kind.I64 = 7
+index_of kind.U64 = 8
+
+-- whether two types are the same
+unfoldable pub is_same : ValueType → ValueType → Bool
+is_same s t = index_of s == index_of t
+
+-- the integer of k bits: in two's complement, or from 0 up
+unfoldable pub word_integer : (signed : Bool) (k : ℕ) → ℕ → ℤ
+word_integer true k n = signed_of k n
+word_integer false k n = pos n
+
+-- the integer that a value stands for; of a generic one, that of its lowest w bits, with a sign or without
+unfoldable pub integer_of : (signed : Bool) (w : ℕ) → Value → ℤ
+integer_of signed w (Generic n) = word_integer signed w (n % 2 ^ w)
+integer_of signed w (I8 x) = x
+integer_of signed w (U8 n) = pos n
+integer_of signed w (I16 x) = x
+integer_of signed w (U16 n) = pos n
+integer_of signed w (I32 x) = x
+integer_of signed w (U32 n) = pos n
+integer_of signed w (I64 x) = x
+integer_of signed w (U64 n) = pos n
+
+-- the integer, from 0 up where the value is generic
+abbrev pub unsigned_integer : (w : ℕ) → Value → ℤ
+unsigned_integer = integer_of false
+
+-- the integer, in two's complement where the value is generic
+abbrev pub signed_integer : (w : ℕ) → Value → ℤ
+signed_integer = integer_of true
+
+-- equal types and equal integers, which for generic values says that the contents are congruent modulo 2 ^ w
+pub record Agree (w : ℕ) (x y : Value) : Type 0 where
+  pub types : type_of x ≡ type_of y
+  pub integers : unsigned_integer w x ≡ unsigned_integer w y
+
+-- the value of a type that an integer wraps to, modulo two to the type's size; a generic one keeps the lowest g bits
+unfoldable pub value_of : (g : ℕ) → ValueType → ℤ → Value
+value_of g kind.Generic z = Generic (residue g z)
+value_of g kind.I8 z = I8 (signed_of 8 (residue 8 z))
+value_of g kind.U8 z = U8 (residue 8 z)
+value_of g kind.I16 z = I16 (signed_of 16 (residue 16 z))
+value_of g kind.U16 z = U16 (residue 16 z)
+value_of g kind.I32 z = I32 (signed_of 32 (residue 32 z))
+value_of g kind.U32 z = U32 (residue 32 z)
+value_of g kind.I64 z = I64 (signed_of 64 (residue 64 z))
+value_of g kind.U64 z = U64 (residue 64 z)
+
+-- ---- numbers of 64 bits, and other types
+
+-- the integer modulo 2 ^ 64
+abbrev pub to_u64_of : (w : ℕ) → Value → ℕ
+to_u64_of w x = residue 64 (unsigned_integer w x)
+
+-- the value that a number wraps to
+abbrev pub from_u64_of : ValueType → ℕ → Value
+from_u64_of t n = value_of 64 t (pos n)
+
+-- one of four types, by its size in bytes
+abbrev pub type_of_size : (t8 t16 t32 t64 : ValueType) (byte_size : ℕ) → Option ValueType
+type_of_size t8 t16 t32 t64 byte_size =
+    if byte_size == 1 then Some t8
+    else if byte_size == 2 then Some t16
+    else if byte_size == 4 then Some t32
+    else if byte_size == 8 then Some t64
+    else None
+
+-- the type of an integer by its encoding and its size in bytes (DWARF 5, section 7.8)
+abbrev pub from_encoding_of : (encoding byte_size : ℕ) → Option ValueType
+from_encoding_of encoding byte_size =
+    if encoding == DW_ATE_signed.0 then type_of_size kind.I8 kind.I16 kind.I32 kind.I64 byte_size
+    else if encoding == DW_ATE_unsigned.0 then type_of_size kind.U8 kind.U16 kind.U32 kind.U64 byte_size
+    else None
+
+-- the number at the front of the bytes; the generic type has no size of its own
+abbrev pub parse_of : ValueType → (big : Bool) (bytes : List ℕ) → Result Value Fault
+parse_of t big bytes =
+    if is_same t kind.Generic then Err fault.UnsupportedTypeOperation
+    else fixed_at big (bit_size_of 64 t / 8) bytes >>= λ number. Ok (from_u64_of t number.0)
+
+-- by the number of 64 bits
+abbrev pub convert_of : (w : ℕ) → ValueType → Value → Result Value Error
+convert_of w t x = Ok (from_u64_of t (to_u64_of w x))
+
+-- between types of one size, with all 64 bits of a generic value
+abbrev pub reinterpret_of : (w : ℕ) → ValueType → Value → Result Value Error
+reinterpret_of w t x =
+    if bit_size_of w (type_of x) == bit_size_of w t then Ok (from_u64_of t (to_u64_of 64 x)) else Err TypeMismatch
+
+-- ---- arithmetic
+
+-- an answer for two values of one type; two types are refused
+abbrev pub of_one_type : Value → Value → Value → Result Value Error
+of_one_type x y answer = if is_same (type_of x) (type_of y) then Ok answer else Err TypeMismatch
+
+-- the sum
+abbrev pub add_of : (w : ℕ) → Value → Value → Result Value Error
+add_of w x y = of_one_type x y (value_of w (type_of x) (unsigned_integer w x +ℤ unsigned_integer w y))
+
+-- the difference
+abbrev pub sub_of : (w : ℕ) → Value → Value → Result Value Error
+sub_of w x y = of_one_type x y (value_of w (type_of x) (unsigned_integer w x -ℤ unsigned_integer w y))
+
+-- the product
+abbrev pub mul_of : (w : ℕ) → Value → Value → Result Value Error
+mul_of w x y = of_one_type x y (value_of w (type_of x) (unsigned_integer w x *ℤ unsigned_integer w y))
+
+-- an answer for a dividend and a divisor; a zero divisor is refused first, of whatever type
+abbrev pub divided : (w : ℕ) → Value → Value → Value → Result Value Error
+divided w x y answer = if int_eq (unsigned_integer w y) (pos 0) then Err DivisionByZero else of_one_type x y answer
+
+-- the quotient, rounded towards zero
+abbrev pub div_of : (w : ℕ) → Value → Value → Result Value Error
+div_of w x y = divided w x y (value_of 64 (type_of x) (int_div (signed_integer w x) (signed_integer w y)))
+
+-- the remainder, with the dividend's sign
+abbrev pub rem_of : (w : ℕ) → Value → Value → Result Value Error
+rem_of w x y = divided w x y (value_of 64 (type_of x) (int_rem (unsigned_integer w x) (unsigned_integer w y)))
+
+-- the absolute value
+abbrev pub abs_of : (w : ℕ) → Value → Result Value Error
+abs_of w x = Ok (value_of 64 (type_of x) (pos (unsigned_abs (signed_integer w x))))
+
+-- the negated integer; unsigned types have none
+abbrev pub neg_of : (w : ℕ) → Value → Result Value Error
+neg_of w x =
+    if is_signed true (type_of x) then Ok (value_of 64 (type_of x) (neg_ℤ (signed_integer w x)))
+    else Err UnsupportedTypeOperation
+
+-- ---- binary digits
+
+-- each digit turned, which is to negate the integer and take one off
+abbrev pub not_of : (w : ℕ) → Value → Result Value Error
+not_of w x = Ok (value_of 64 (type_of x) (neg_ℤ (unsigned_integer w x) -ℤ pos 1))
+
+-- two numbers of 64 bits combined digit by digit
+abbrev pub digits_of : (ℕ → ℕ → ℕ) → (w : ℕ) → Value → Value → Result Value Error
+digits_of combine w x y = of_one_type x y (from_u64_of (type_of x) (combine (to_u64_of w x) (to_u64_of w y)))
+
+-- the digits of both
+abbrev pub and_of : (w : ℕ) → Value → Value → Result Value Error
+and_of = digits_of bit_and
+
+-- the digits of one or both
+abbrev pub or_of : (w : ℕ) → Value → Value → Result Value Error
+or_of = digits_of bit_or
+
+-- the digits of one alone
+abbrev pub xor_of : (w : ℕ) → Value → Value → Result Value Error
+xor_of = digits_of bit_xor
+
+-- ---- shifts
+
+-- an answer for a shift's length, which may be of any type; a negative one is refused first
+abbrev pub shifted : (w : ℕ) (length : Value) → (ℕ → Result Value Error) → Result Value Error
+shifted w length answer =
+    if is_negative (unsigned_integer w length) then Err InvalidShiftExpression
+    else answer (unsigned_abs (unsigned_integer w length))
+
+-- an integer divided by a positive number, rounded down
+abbrev pub floor_quotient : ℤ → ℕ → ℤ
+floor_quotient (pos n) m = pos (n / m)
+floor_quotient (negsuc n) m = negsuc (n / m)
+
+-- the product with 2 ^ n; from the type's size on all bits are shifted out
+abbrev pub shl_of : (w : ℕ) → Value → Value → Result Value Error
+shl_of w x y = shifted w y λ n.
+    Ok (value_of 64 (type_of x) (if nat_le (bit_size_of w (type_of x)) n then pos 0 else unsigned_integer w x *ℤ pos (2 ^ n)))
+
+-- the quotient by 2 ^ n, rounded down; signed types have none
+abbrev pub shr_of : (w : ℕ) → Value → Value → Result Value Error
+shr_of w x y = shifted w y λ n.
+    if is_signed false (type_of x) then Err UnsupportedTypeOperation
+    else Ok (value_of 64 (type_of x) (floor_quotient (unsigned_integer w x) (2 ^ n)))
+
+-- the quotient of a signed integer by 2 ^ n, rounded down; unsigned types have none
+abbrev pub shra_of : (w : ℕ) → Value → Value → Result Value Error
+shra_of w x y = shifted w y λ n.
+    if is_signed true (type_of x) then Ok (value_of 64 (type_of x) (floor_quotient (signed_integer w x) (2 ^ n)))
+    else Err UnsupportedTypeOperation
+
+-- ---- comparisons
+
+-- the generic 1 where the integers of two values of one type pass the test, else the generic 0
+abbrev pub compared : (ℤ → ℤ → Bool) → (w : ℕ) → Value → Value → Result Value Error
+compared passes w x y = of_one_type x y (Generic (if passes (signed_integer w x) (signed_integer w y) then 1 else 0))
+
+-- equal
+abbrev pub eq_of : (w : ℕ) → Value → Value → Result Value Error
+eq_of = compared int_eq
+
+-- not equal
+abbrev pub ne_of : (w : ℕ) → Value → Value → Result Value Error
+ne_of = compared λ a b. not (int_eq a b)
+
+-- below
+abbrev pub lt_of : (w : ℕ) → Value → Value → Result Value Error
+lt_of = compared int_lt
+
+-- at least
+abbrev pub ge_of : (w : ℕ) → Value → Value → Result Value Error
+ge_of = compared λ a b. int_le b a
+
+-- above
+abbrev pub gt_of : (w : ℕ) → Value → Value → Result Value Error
+gt_of = compared λ a b. int_lt b a
+
+-- at most
+abbrev pub le_of : (w : ℕ) → Value → Value → Result Value Error
+le_of = compared int_le

@@ -1,0 +1,16 @@
+//! Typed values of DWARF expressions, and the operations on them (DWARF 5, section 2.5).
+#![tactic(auto)]
+
+mod arithmetic;
+mod bits;
+mod comparisons;
+mod conversions;
+mod laws;
+mod shifts;
+#[cfg(test)]
+mod tests;
+mod types;
+mod word;
+
+pub use laws::value_laws;
+pub use types::{Value, ValueType, is_addr_mask};

@@ -1,0 +1,106 @@
+ghost use Rattle.std.specs.Prelude.{◌≡◌, ◌<◌, ◌≤◌, ◌^◌, ◌*◌, ◌%◌, pos, neg_ℤ, ◌≤ℤ◌, ◌<ℤ◌, nat_le, if◌then◌else◌, MatchResult};
+ghost use Rattle.dwarf_value.specs.Operands.{IsLength, RefusesLength};
+ghost use Rattle.dwarf_value.specs.Values.{IsAddressMask, width_of, floor_quotient, shl_of, shr_of, shra_of};
+
+use crate::types::{Value, mask_width};
+use crate::word::low_bits;
+use dwarf_base::{Error, Result};
+
+impl Value {
+    /// Shifted to the left by a length of any type, with zeros from the right (`DW_OP_shl`). It is zero once the
+    /// length is the type's size. `InvalidShiftExpression` where the length is negative.
+    #[tactic(auto, using(crate::proofs::Wraps::left_shifts))]
+    #[inline]
+    pub fn shl(self, rhs: Value, addr_mask: u64) -> Result<Value>
+        requires { IsAddressMask addr_mask }
+        ensures { result ≡ shl_of (width_of addr_mask) self rhs }
+    {
+        let width = mask_width(addr_mask);
+        let length = rhs.shift_length(width)?;
+        let (value_type, word) = self.apart(width, false);
+        Value::from_u64(
+            value_type,
+            shifted_left(low_bits(word.integer()), length, word.width),
+        )
+    }
+
+    /// Shifted to the right by a length of any type, with zeros from the left (`DW_OP_shr`). A generic value is an
+    /// unsigned integer here.
+    ///
+    /// `InvalidShiftExpression` where the length is negative; else `UnsupportedTypeOperation` at a signed type.
+    #[inline]
+    pub fn shr(self, rhs: Value, addr_mask: u64) -> Result<Value>
+        requires { IsAddressMask addr_mask }
+        ensures { result ≡ shr_of (width_of addr_mask) self rhs }
+    {
+        let width = mask_width(addr_mask);
+        let length = rhs.shift_length(width)?;
+        let (value_type, word) = self.apart(width, false);
+        if word.signed {
+            return Err(Error::UnsupportedTypeOperation);
+        }
+        Ok(Value::wrapped(value_type, shifted_right(word.integer(), length), 64))
+    }
+
+    /// Shifted to the right by a length of any type, with copies of the sign from the left (`DW_OP_shra`). A generic
+    /// value is a signed integer here.
+    ///
+    /// `InvalidShiftExpression` where the length is negative; else `UnsupportedTypeOperation` at an unsigned type.
+    #[inline]
+    pub fn shra(self, rhs: Value, addr_mask: u64) -> Result<Value>
+        requires { IsAddressMask addr_mask }
+        ensures { result ≡ shra_of (width_of addr_mask) self rhs }
+    {
+        let width = mask_width(addr_mask);
+        let length = rhs.shift_length(width)?;
+        let (value_type, word) = self.apart(width, true);
+        if !word.signed {
+            return Err(Error::UnsupportedTypeOperation);
+        }
+        Ok(Value::wrapped(value_type, shifted_right(word.integer(), length), 64))
+    }
+
+    /// The length of a shift by this value. `InvalidShiftExpression` where it is negative.
+    #[inline]
+    fn shift_length(self, width: u32) -> Result<u64>
+        requires some_bit { 0 < width }
+        requires within_64 { width ≤ 64 }
+        ensures { MatchResult result (IsLength width self) (RefusesLength width self) }
+    {
+        let (_, word) = self.apart(width, false);
+        let length = word.integer();
+        if length < 0 {
+            return Err(Error::InvalidShiftExpression);
+        }
+        Ok(length as u64)
+    }
+}
+
+/// Bits of a type of so many bits, shifted to the left.
+#[inline]
+fn shifted_left(bits: u64, length: u64, size: u32) -> u64
+    requires { size ≤ 64 }
+    ensures { result ≡ (if nat_le size length then 0 else bits * 2 ^ length % 2 ^ 64) }
+{
+    if length < u64::from(size) {
+        bits << length
+    } else {
+        0
+    }
+}
+
+/// An integer divided by two to the length, rounded down.
+#[inline]
+fn shifted_right(integer: i128, length: u64) -> i128
+    requires least { neg_ℤ (pos (2 ^ 64)) ≤ℤ integer }
+    requires most { integer <ℤ pos (2 ^ 64) }
+    ensures { result ≡ floor_quotient integer (2 ^ length) }
+{
+    if length < 64 {
+        integer >> length
+    } else if integer < 0 {
+        -1
+    } else {
+        0
+    }
+}

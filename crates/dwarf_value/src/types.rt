@@ -1,0 +1,164 @@
+ghost use Rattle.std.specs.Prelude.{◌≡◌, ◌/◌, ◌<◌, ◌≤◌, ◌↔◌, IsTrue};
+ghost use Rattle.dwarf_base.specs.Reads.{is_fixed_size};
+ghost use Rattle.dwarf_value.specs.Values.{IsAddressMask, width_of, type_of, bit_size_of, from_encoding_of};
+
+use dwarf_base::DwAte;
+use dwarf_base::constants::{DW_ATE_signed, DW_ATE_unsigned};
+
+/// The type of a value.
+#[derive(Clone, Copy, Debug, PartialEq, Eq)]
+pub enum ValueType {
+    /// The generic type: as wide as an address, and without a sign of its own (DWARF 5, section 2.5.1).
+    Generic,
+    /// Signed integers of 8 bits.
+    I8,
+    /// Unsigned integers of 8 bits.
+    U8,
+    /// Signed integers of 16 bits.
+    I16,
+    /// Unsigned integers of 16 bits.
+    U16,
+    /// Signed integers of 32 bits.
+    I32,
+    /// Unsigned integers of 32 bits.
+    U32,
+    /// Signed integers of 64 bits.
+    I64,
+    /// Unsigned integers of 64 bits.
+    U64,
+}
+
+/// A value on the stack of a DWARF expression.
+#[derive(Clone, Copy, Debug, PartialEq, Eq)]
+pub enum Value {
+    /// A generic value. Its bits above the size of an address don't count.
+    Generic(u64),
+    /// A signed integer of 8 bits.
+    I8(i8),
+    /// An unsigned integer of 8 bits.
+    U8(u8),
+    /// A signed integer of 16 bits.
+    I16(i16),
+    /// An unsigned integer of 16 bits.
+    U16(u16),
+    /// A signed integer of 32 bits.
+    I32(i32),
+    /// An unsigned integer of 32 bits.
+    U32(u32),
+    /// A signed integer of 64 bits.
+    I64(i64),
+    /// An unsigned integer of 64 bits.
+    U64(u64),
+}
+
+impl Default for Value {
+    ghost use Rattle.dwarf_value.specs.declared.types.Value.{Value};
+
+    ghost is_default = { λ value. value ≡ Value.Generic 0 };
+
+    /// The generic zero.
+    #[inline]
+    fn default() -> Self {
+        Value::Generic(0)
+    }
+}
+
+/// Whether the mask is that of an address of 1 to 64 bits: ones in its lowest bits, and nothing else.
+#[inline]
+pub fn is_addr_mask(addr_mask: u64) -> bool
+    ensures { IsTrue result ↔ IsAddressMask addr_mask }
+{
+    addr_mask != 0 && addr_mask == u64::MAX >> (64 - addr_mask.count_ones())
+}
+
+/// How many bits an address has.
+#[tactic(auto, unfolding(crate::specs::Values::width_of))]
+#[inline]
+pub(crate) fn mask_width(addr_mask: u64) -> u32
+    requires { IsAddressMask addr_mask }
+    ensures value { result ≡ width_of addr_mask }
+    ensures low { 0 < result }
+    ensures high { result ≤ 64 }
+{
+    addr_mask.count_ones()
+}
+
+impl ValueType {
+    /// The size of the type's values in bits.
+    #[tactic(auto, unfolding(crate::specs::Values::bit_size_of))]
+    #[inline]
+    pub fn bit_size(self, addr_mask: u64) -> u32
+        requires { IsAddressMask addr_mask }
+        ensures { result ≡ bit_size_of (width_of addr_mask) self }
+    {
+        match self {
+            ValueType::Generic => mask_width(addr_mask),
+            ValueType::I8 | ValueType::U8 => 8,
+            ValueType::I16 | ValueType::U16 => 16,
+            ValueType::I32 | ValueType::U32 => 32,
+            ValueType::I64 | ValueType::U64 => 64,
+        }
+    }
+
+    /// The size of the type's values in bytes, with addresses of 8 bytes.
+    #[tactic(auto, unfolding(crate::specs::Values::bit_size_of))]
+    #[inline]
+    pub(crate) fn byte_size(self) -> u8
+        ensures size { result ≡ bit_size_of 64 self / 8 }
+        ensures fixed { IsTrue (is_fixed_size result) }
+    {
+        match self {
+            ValueType::I8 | ValueType::U8 => 1,
+            ValueType::I16 | ValueType::U16 => 2,
+            ValueType::I32 | ValueType::U32 => 4,
+            ValueType::Generic | ValueType::I64 | ValueType::U64 => 8,
+        }
+    }
+
+    /// The type of a base type's values, by its encoding and its size in bytes: `DW_ATE_signed` or
+    /// `DW_ATE_unsigned` with 1, 2, 4 or 8 bytes, and none for all others (DWARF 5, sections 5.1 and 7.8).
+    pub fn from_encoding(encoding: DwAte, byte_size: u64) -> Option<ValueType>
+        ensures { result ≡ from_encoding_of encoding.0 byte_size }
+    {
+        if encoding == DW_ATE_signed {
+            match byte_size {
+                1 => Some(ValueType::I8),
+                2 => Some(ValueType::I16),
+                4 => Some(ValueType::I32),
+                8 => Some(ValueType::I64),
+                _ => None,
+            }
+        } else if encoding == DW_ATE_unsigned {
+            match byte_size {
+                1 => Some(ValueType::U8),
+                2 => Some(ValueType::U16),
+                4 => Some(ValueType::U32),
+                8 => Some(ValueType::U64),
+                _ => None,
+            }
+        } else {
+            None
+        }
+    }
+}
+
+impl Value {
+    /// The value's type.
+    #[tactic(auto, unfolding(crate::specs::Values::type_of))]
+    #[inline]
+    pub fn value_type(&self) -> ValueType
+        ensures { result ≡ type_of self.now }
+    {
+        match *self {
+            Value::Generic(_) => ValueType::Generic,
+            Value::I8(_) => ValueType::I8,
+            Value::U8(_) => ValueType::U8,
+            Value::I16(_) => ValueType::I16,
+            Value::U16(_) => ValueType::U16,
+            Value::I32(_) => ValueType::I32,
+            Value::U32(_) => ValueType::U32,
+            Value::I64(_) => ValueType::I64,
+            Value::U64(_) => ValueType::U64,
+        }
+    }
+}

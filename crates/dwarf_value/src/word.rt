@@ -1,0 +1,169 @@
+ghost use Rattle.std.specs.Prelude.{◌≡◌, ◌<◌, ◌≤◌, ◌^◌, ◌%◌, pos, neg_ℤ, ◌≤ℤ◌, ◌<ℤ◌, MatchResult};
+ghost use Rattle.dwarf_base.specs.Numbers.{residue};
+ghost use Rattle.dwarf_value.specs.Operands.{AreOperands, RefusesOperands};
+ghost use Rattle.dwarf_value.specs.Values.{word_integer, type_of, bit_size_of, is_signed, is_same, integer_of, value_of};
+
+use crate::types::{Value, ValueType};
+use dwarf_base::{Error, Result};
+
+/// Bits with a width from 1 to 64, and whether the highest of them is a sign.
+#[derive(Clone, Copy)]
+pub(crate) struct Word {
+    pub bits: u64,
+    pub width: u32,
+    pub signed: bool,
+    ghost some_bit: { 0 < width },
+    ghost within_64: { width ≤ 64 },
+    ghost fits: { bits < 2 ^ width },
+}
+
+impl Word {
+    /// So many bits, with a sign or without.
+    #[inline]
+    pub fn new(bits: u64, width: u32, signed: bool) -> Word
+        requires some_bit { 0 < width }
+        requires within_64 { width ≤ 64 }
+        requires fits { bits < 2 ^ width }
+        ensures bits { result.bits ≡ bits }
+        ensures width { result.width ≡ width }
+        ensures signed { result.signed ≡ signed }
+    {
+        Word {
+            bits,
+            width,
+            signed,
+        }
+    }
+
+    /// The integer that the bits stand for.
+    #[tactic(auto, unfolding(crate::specs::Values::word_integer))]
+    #[inline]
+    pub fn integer(self) -> i128
+        ensures value { result ≡ word_integer self.signed self.width self.bits }
+        ensures least { neg_ℤ (pos (2 ^ 63)) ≤ℤ result }
+        ensures most { result <ℤ pos (2 ^ 64) }
+    {
+        let half = 1u64 << (self.width - 1);
+        if self.signed && self.bits >= half {
+            self.bits as i128 - 2 * half as i128
+        } else {
+            self.bits as i128
+        }
+    }
+}
+
+/// The integer modulo two to the 64.
+#[inline]
+pub(crate) fn low_bits(integer: i128) -> u64
+    ensures { result ≡ residue 64 integer }
+{
+    (integer.cast_unsigned() & 0xffff_ffff_ffff_ffff) as u64
+}
+
+/// The lowest bits, so many.
+#[inline]
+fn low_part(bits: u64, width: u32) -> u64
+    requires some_bit { 0 < width }
+    requires within_64 { width ≤ 64 }
+    ensures { result ≡ bits % 2 ^ width }
+{
+    bits & (u64::MAX >> (64 - width))
+}
+
+/// Whether the types are the same.
+#[tactic(auto, unfolding(crate::specs::Values::is_same))]
+#[inline]
+pub(crate) fn same_type(first: ValueType, second: ValueType) -> bool
+    ensures { result ≡ is_same first second }
+{
+    first == second
+}
+
+impl Value {
+    /// The type and the word of a value. The bits of a generic one are its lowest, `width` of them, `signed` or not.
+    #[tactic(auto, unfolding(crate::specs::Values::type_of, crate::specs::Values::integer_of, crate::specs::Values::word_integer, crate::specs::Values::bit_size_of, crate::specs::Values::is_signed))]
+    #[inline]
+    pub(crate) fn apart(self, width: u32, signed: bool) -> (ValueType, Word)
+        requires some_bit { 0 < width }
+        requires within_64 { width ≤ 64 }
+        ensures value_type { result.0 ≡ type_of self }
+        ensures width { result.1.width ≡ bit_size_of width (type_of self) }
+        ensures signed { result.1.signed ≡ is_signed signed (type_of self) }
+        ensures integer { word_integer result.1.signed result.1.width result.1.bits ≡ integer_of signed width self }
+    {
+        match self {
+            Value::Generic(content) => {
+                let bits = low_part(content, width);
+                (ValueType::Generic, Word::new(bits, width, signed))
+            }
+            Value::I8(x) => (ValueType::I8, Word::new(x.cast_unsigned() as u64, 8, true)),
+            Value::U8(x) => (ValueType::U8, Word::new(x as u64, 8, false)),
+            Value::I16(x) => (
+                ValueType::I16,
+                Word::new(x.cast_unsigned() as u64, 16, true),
+            ),
+            Value::U16(x) => (ValueType::U16, Word::new(x as u64, 16, false)),
+            Value::I32(x) => (
+                ValueType::I32,
+                Word::new(x.cast_unsigned() as u64, 32, true),
+            ),
+            Value::U32(x) => (ValueType::U32, Word::new(x as u64, 32, false)),
+            Value::I64(x) => (ValueType::I64, Word::new(x.cast_unsigned(), 64, true)),
+            Value::U64(x) => (ValueType::U64, Word::new(x, 64, false)),
+        }
+    }
+
+    /// The type and the integers of two values of one type; `TypeMismatch` where the types differ. The bits of generic
+    /// ones are their lowest, `width` of them, `signed` or not.
+    #[inline]
+    pub(crate) fn operands(
+        self,
+        rhs: Value,
+        width: u32,
+        signed: bool,
+    ) -> Result<(ValueType, i128, i128)>
+        requires some_bit { 0 < width }
+        requires within_64 { width ≤ 64 }
+        ensures { MatchResult result (λ r. AreOperands signed width self rhs r.0 r.1 r.2) (RefusesOperands self rhs) }
+    {
+        let (value_type, first) = self.apart(width, signed);
+        let (other, second) = rhs.apart(width, signed);
+        if !same_type(value_type, other) {
+            return Err(Error::TypeMismatch);
+        }
+        Ok((value_type, first.integer(), second.integer()))
+    }
+
+    /// The value of a type that a word of 64 bits is cut to. A generic one keeps the lowest bits, `width` of them.
+    #[tactic(auto, unfolding(crate::specs::Values::value_of))]
+    #[inline]
+    pub(crate) fn make(value_type: ValueType, word: Word, width: u32) -> Value
+        requires some_bit { 0 < width }
+        requires within_64 { width ≤ 64 }
+        ensures { result ≡ value_of width value_type (pos word.bits) }
+    {
+        let bits = word.bits;
+        match value_type {
+            ValueType::Generic => Value::Generic(low_part(bits, width)),
+            ValueType::I8 => Value::I8(((bits & 0xff) as u8).cast_signed()),
+            ValueType::U8 => Value::U8((bits & 0xff) as u8),
+            ValueType::I16 => Value::I16(((bits & 0xffff) as u16).cast_signed()),
+            ValueType::U16 => Value::U16((bits & 0xffff) as u16),
+            ValueType::I32 => Value::I32(((bits & 0xffff_ffff) as u32).cast_signed()),
+            ValueType::U32 => Value::U32((bits & 0xffff_ffff) as u32),
+            ValueType::I64 => Value::I64(bits.cast_signed()),
+            ValueType::U64 => Value::U64(bits),
+        }
+    }
+
+    /// The value of the type that an integer wraps to. A generic one keeps the lowest bits, `width` of them.
+    #[tactic(auto, using(crate::proofs::Wraps::low_bits_only))]
+    #[inline]
+    pub(crate) fn wrapped(value_type: ValueType, integer: i128, width: u32) -> Value
+        requires some_bit { 0 < width }
+        requires within_64 { width ≤ 64 }
+        ensures { result ≡ value_of width value_type integer }
+    {
+        Value::make(value_type, Word::new(low_bits(integer), 64, false), width)
+    }
+}

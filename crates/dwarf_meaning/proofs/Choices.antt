@@ -1,0 +1,56 @@
+-- The words of the definitions, case by case.
+use Rattle.std.proofs.Common.{◌≡◌, refl, ap, ◌∙◌, sym, Bool, true, false, List, [], ◌∷◌, Option, Some, None, Result, Ok, Err}
+use Rattle.dwarf_base.specs.declared.errors.Error.{Error}
+use Rattle.dwarf_base.specs.Faults.{Fault, fault_of}
+use Rattle.dwarf_value.specs.declared.types.Value.{Value}
+use Rattle.dwarf_meaning.specs.Acts.{choose, on_top, on_some, on_answer, answer_of}
+
+pub choose_true : {A : Type 0} (b : Bool) (x y : A) → b ≡ true → choose b x y ≡ x
+unfolding choose
+choose_true true x y e = refl
+choose_true false x y e = cc
+
+pub choose_false : {A : Type 0} (b : Bool) (x y : A) → b ≡ false → choose b x y ≡ y
+unfolding choose
+choose_false true x y e = cc
+choose_false false x y e = refl
+
+-- what holds of both holds of the choice
+pub choose_both : {A : Type 0} (P : A → Type 0) (b : Bool) (x y : A) → (b ≡ true → P x) → (b ≡ false → P y) → P (choose b x y)
+unfolding choose
+choose_both P true x y p q = p refl
+choose_both P false x y p q = q refl
+
+pub top_none : {A : Type 0} (values : List Value) (none : A) (go : Value → List Value → A) → values ≡ [] → on_top values none go ≡ none
+unfolding on_top
+top_none [] none go e = refl
+top_none (x ∷ rest) none go e = cc
+
+pub top_some : {A : Type 0} (values : List Value) (none : A) (go : Value → List Value → A) (x : Value) (rest : List Value) → values ≡ x ∷ rest → on_top values none go ≡ go x rest
+unfolding on_top
+top_some values none go x rest e = ap (λ (vs : List Value). on_top vs none go) e
+
+pub some_none : {X A : Type 0} (o : Option X) (none : A) (go : X → A) → o ≡ None → on_some o none go ≡ none
+unfolding on_some
+some_none o none go e = ap (λ (p : Option _). on_some p none go) e
+
+pub some_some : {X A : Type 0} (o : Option X) (none : A) (go : X → A) (x : X) → o ≡ Some x → on_some o none go ≡ go x
+unfolding on_some
+some_some o none go x e = ap (λ (p : Option _). on_some p none go) e
+
+-- a call's answer that is a value, and one that is an error
+pub answer_ok : {X A : Type 0} (r : Result X Error) (refused : Fault → A) (go : X → A) (x : X) → r ≡ Ok x → on_answer (answer_of r) refused go ≡ go x
+unfolding on_answer answer_of
+answer_ok r refused go x e = ap (λ (s : Result _ Error). on_answer (answer_of s) refused go) e
+
+pub answer_err : {X A : Type 0} (r : Result X Error) (refused : Fault → A) (go : X → A) (error : Error) → r ≡ Err error → on_answer (answer_of r) refused go ≡ refused (fault_of error)
+unfolding on_answer answer_of
+answer_err r refused go error e = ap (λ (s : Result _ Error). on_answer (answer_of s) refused go) e
+
+pub read_ok : {X A : Type 0} (r : Result X Fault) (refused : Fault → A) (go : X → A) (x : X) → r ≡ Ok x → on_answer r refused go ≡ go x
+unfolding on_answer
+read_ok r refused go x e = ap (λ (s : Result _ Fault). on_answer s refused go) e
+
+pub read_err : {X A : Type 0} (r : Result X Fault) (refused : Fault → A) (go : X → A) (fault : Fault) → r ≡ Err fault → on_answer r refused go ≡ refused fault
+unfolding on_answer
+read_err r refused go fault e = ap (λ (s : Result _ Fault). on_answer s refused go) e

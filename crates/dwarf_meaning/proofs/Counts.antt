@@ -1,0 +1,104 @@
+-- What an operation does, a piece behind a location and an answer leave the count and the settings as they are.
+use Rattle.std.proofs.Common.{ℕ, ◌≡◌, Bool, true, false, List, [], ◌∷◌, ◌++◌, length, Option, Some, None, Result, Ok, Err, refl, ◌∙◌}
+use Rattle.dwarf_base.specs.Faults.{Fault, ◌>>=◌}
+use Rattle.dwarf_value.specs.declared.types.Value.{Value}
+use Rattle.dwarf_meaning.specs.Locations.{Location, Piece}
+use Rattle.dwarf_meaning.specs.Acts.{Act, Pushes, Branches, Locates, Ends, Asks, Refuses}
+use Rattle.dwarf_meaning.specs.Stores.{Setup, Store, Last, Plain, Pieced, Located, Refusal, room, push_value, push_piece, push_frame, push_values, Next, Goes, Stops, Fails, goes, branch_target, branch, done}
+use Rattle.dwarf_meaning.specs.Run.{holds}
+use Rattle.dwarf_meaning.proofs.Choices.{choose_both}
+
+-- where a store comes of it, P holds of that
+abbrev pub OnStore : (Store → Type 0) → Result Store Fault → Type 0
+OnStore P (Ok s) = P s
+OnStore P (Err fault) = Unit {0}
+
+-- where the run goes on, P holds of what is kept
+abbrev pub OnNext : (Store → Type 0) → Next → Type 0
+OnNext P (Goes place s) = P s
+OnNext P (Stops request waiting s) = P s
+OnNext P (Fails fault) = Unit {0}
+
+-- what only counting and inputs change
+pub record Tally : Type 0 where
+  pub count : ℕ
+  pub object_address : Option ℕ
+  pub maximum : ℕ
+
+abbrev pub tally_of : Store → Tally
+tally_of s = record { count = s.count; object_address = s.object_address; maximum = s.maximum }
+
+abbrev pub HasTally : Tally → Store → Type 0
+HasTally m s = tally_of s ≡ m
+
+bound_store : (P : Store → Type 0) (r : Result Refusal Fault) (make : Refusal → Store) → ((left : Refusal) → P (make left)) → OnStore P (r >>= λ left. Ok (make left))
+bound_store P (Ok left) make h = h left
+bound_store P (Err fault) make h = tt
+
+pub tally-push_value : (setup : Setup) (value : Value) (s : Store) → OnStore (HasTally (tally_of s)) (push_value setup value s)
+unfolding push_value
+tally-push_value setup value s =
+    bound_store (HasTally (tally_of s)) (room setup.limits.values (length s.values) s.refusal) (λ left. record s { values = value ∷ s.values; refusal = left }) (λ left. refl)
+
+-- a piece that is pushed leaves the sort of the last operation, too
+pub record KeepsBoth (m : Tally) (sort : Last) (s : Store) : Type 0 where
+  pub tally : tally_of s ≡ m
+  pub last : s.last ≡ sort
+
+pub both-push_piece : (setup : Setup) (piece : Piece) (s : Store) → OnStore (KeepsBoth (tally_of s) s.last) (push_piece setup piece s)
+unfolding push_piece
+both-push_piece setup piece s =
+    bound_store (KeepsBoth (tally_of s) s.last) (room setup.limits.pieces (length s.pieces) s.refusal) (λ left. record s { pieces = s.pieces ++ piece ∷ []; refusal = left })
+    (λ left. record { tally = refl; last = refl })
+
+tally_of_both : (m : Tally) (last : Last) (r : Result Store Fault) → OnStore (KeepsBoth m last) r → OnStore (HasTally m) r
+tally_of_both m last (Ok s) h = h.tally
+tally_of_both m last (Err fault) h = tt
+
+pub tally-push_piece : (setup : Setup) (piece : Piece) (s : Store) → OnStore (HasTally (tally_of s)) (push_piece setup piece s)
+tally-push_piece setup piece s = tally_of_both (tally_of s) s.last (push_piece setup piece s) (both-push_piece setup piece s)
+
+pub tally-push_frame : (setup : Setup) (depth : ℕ) (s : Store) → OnStore (HasTally (tally_of s)) (push_frame setup depth s)
+unfolding push_frame
+tally-push_frame setup depth s = bound_store (HasTally (tally_of s)) (room setup.limits.frames depth s.refusal) (λ left. record s { refusal = left }) (λ left. refl)
+
+on_bound : (P Q : Store → Type 0) (r : Result Store Fault) (next : Store → Result Store Fault) → OnStore P r → ((s : Store) → P s → OnStore Q (next s)) → OnStore Q (r >>= next)
+on_bound P Q (Ok s) next h i = i s h
+on_bound P Q (Err fault) next h i = tt
+
+tally_along : (m : Tally) (s : Store) (r : Result Store Fault) → tally_of s ≡ m → OnStore (HasTally (tally_of s)) r → OnStore (HasTally m) r
+tally_along m s (Ok t) e h = h ∙ e
+tally_along m s (Err fault) e h = tt
+
+pub tally-push_values : (setup : Setup) (values : List Value) (s : Store) → OnStore (HasTally (tally_of s)) (push_values setup values s)
+tally-push_values setup [] s = refl
+tally-push_values setup (value ∷ values) s =
+    on_bound (HasTally (tally_of s)) (HasTally (tally_of s)) (push_value setup value s) (push_values setup values) (tally-push_value setup value s)
+    (λ t e. tally_along (tally_of s) t (push_values setup values t) e (tally-push_values setup values t))
+
+on_goes : (P : Store → Type 0) (place : ℕ) (r : Result Store Fault) → OnStore P r → OnNext P (goes place r)
+on_goes P place (Ok s) h = h
+on_goes P place (Err fault) h = tt
+
+pub tally-done : (setup : Setup) (place len : ℕ) (a : Act) (s : Store) → OnNext (HasTally (tally_of s)) (done setup place len a s)
+tally-done setup place len (Pushes rest pushed) s =
+    on_goes (HasTally (tally_of s)) place _ (tally-push_values setup pushed (record s { values = rest; last = Plain }))
+tally-done setup place len (Branches rest target) s = choose_both (OnNext (HasTally (tally_of s))) _ _ _ (λ e. tt) (λ e. refl)
+tally-done setup place len (Locates rest location) s = refl
+tally-done setup place len (Ends rest piece) s = on_goes (HasTally (tally_of s)) place _ (tally-push_piece setup piece (record s { values = rest; last = Pieced }))
+tally-done setup place len (Asks rest request waiting) s = refl
+tally-done setup place len (Refuses fault) s = tt
+
+-- behind a location the run goes on behind its piece, or fails
+abbrev pub OnPiece : Tally → Next → Type 0
+OnPiece m (Goes place s) = KeepsBoth m Pieced s
+OnPiece m (Stops request waiting s) = ⊥
+OnPiece m (Fails fault) = Unit {0}
+
+piece_goes : (m : Tally) (place : ℕ) (r : Result Store Fault) → OnStore (KeepsBoth m Pieced) r → OnPiece m (goes place r)
+piece_goes m place (Ok s) h = h
+piece_goes m place (Err fault) h = tt
+
+pub both-holds : (setup : Setup) (location : Location) (place : ℕ) (s : Store) (o : Option (ℕ × Option ℕ)) → OnPiece (tally_of s) (holds setup location place s o)
+both-holds setup location place s (Some piece) = piece_goes (tally_of s) place _ (both-push_piece setup _ (record s { last = Pieced }))
+both-holds setup location place s None = tt

@@ -1,0 +1,107 @@
+-- What users of decoding need of it: an operation has bytes, all of the text, and bytes behind them don't matter.
+use Rattle.std.proofs.Common.{ℕ, ◌≡◌, ◌<◌, ◌⊎◌, inl, inr, Bool, List, [], ◌∷◌, ◌++◌, length, Ok, Err, arith, length-append, append_assoc, refl, sym, ap, subst, ◌∙◌}
+use Rattle.dwarf_base.specs.declared.common.Encoding.{Encoding}
+use Rattle.dwarf_base.specs.Faults.{Fault, UnexpectedEof}
+use Rattle.dwarf_base.specs.Fronts.{Begins}
+use Rattle.dwarf_meaning.specs.Operations.{Operation, Text}
+use Rattle.dwarf_meaning.specs.Decoding.{operation_at}
+use Rattle.dwarf_meaning.specs.Spelling.{Spells, Refused}
+use Rattle.dwarf_meaning.specs.Spelling as spelling
+use Rattle.dwarf_meaning.specs.DecodeLaws.{ReadsExactlyTheSpelled, IsDecided, IsWhole}
+use Rattle.dwarf_meaning.proofs.ReadsExactly.{Reading, pair_same}
+use Rattle.dwarf_meaning.proofs.OperationReads.{reads_operation}
+
+some_bytes : (encoding : Encoding) (bits : ℕ) (big : Bool) (bytes : List ℕ) (op : Operation) → Spells encoding bits big bytes op → 0 < length bytes
+some_bytes encoding bits big bytes op (spelling.spelled opcode operands op' s) = omega arith
+
+-- an operation that is read has a byte at least, and all its bytes are the text's
+pub operation_begins : (encoding : Encoding) (bits : ℕ) (text : Text) (op : Operation) (rest : List ℕ) → operation_at encoding bits text ≡ Ok (op, rest) → Begins (Spells encoding bits text.is_big) text.bytes op rest
+operation_begins encoding bits text op rest h =
+    let f = (reads_operation encoding bits text.is_big).found text.bytes op rest h in
+    record { front = f.front; spells = f.spells; whole = f.whole }
+
+-- what is left is shorter
+pub operation_shortens : (encoding : Encoding) (bits : ℕ) (text : Text) (op : Operation) (rest : List ℕ) → operation_at encoding bits text ≡ Ok (op, rest) → length rest < length text.bytes
+operation_shortens encoding bits text op rest h =
+    let b = operation_begins encoding bits text op rest h in
+    let some : 0 < length b.front = some_bytes encoding bits text.is_big b.front op b.spells in
+    let whole : length (b.front ++ rest) ≡ length text.bytes = ap length b.whole in
+    omega (arith, length-append b.front rest)
+
+-- bytes behind an operation don't change what is read
+pub operation_before : (encoding : Encoding) (bits : ℕ) (text : Text) (op : Operation) (rest more : List ℕ) → operation_at encoding bits text ≡ Ok (op, rest) → operation_at encoding bits (record { bytes = text.bytes ++ more; is_big = text.is_big }) ≡ Ok (op, rest ++ more)
+operation_before encoding bits text op rest more h =
+    let b = operation_begins encoding bits text op rest h in
+    let joined : b.front ++ (rest ++ more) ≡ text.bytes ++ more = sym (append_assoc b.front rest more) ∙ ap (λ (xs : List ℕ). xs ++ more) b.whole in
+    subst (λ (xs : List ℕ). operation_at encoding bits (record { bytes = xs; is_big = text.is_big }) ≡ Ok (op, rest ++ more)) joined ((reads_operation encoding bits text.is_big).gives b.front op (rest ++ more) b.spells)
+
+-- a spelling is read, whatever follows
+pub spelled_operation : (encoding : Encoding) (bits : ℕ) (big : Bool) (front : List ℕ) (op : Operation) (rest : List ℕ) → Spells encoding bits big front op → operation_at encoding bits (record { bytes = front ++ rest; is_big = big }) ≡ Ok (op, rest)
+spelled_operation encoding bits big front op rest s = (reads_operation encoding bits big).gives front op rest s
+
+pub begins_operation : (encoding : Encoding) (bits : ℕ) (text : Text) (op : Operation) (rest : List ℕ) → Begins (Spells encoding bits text.is_big) text.bytes op rest → operation_at encoding bits text ≡ Ok (op, rest)
+begins_operation encoding bits text op rest b =
+    subst (λ (xs : List ℕ). operation_at encoding bits (record { bytes = xs; is_big = text.is_big }) ≡ Ok (op, rest)) b.whole (spelled_operation encoding bits text.is_big b.front op rest b.spells)
+
+-- ---- the laws
+
+pub reads_the_spelled : (encoding : Encoding) (bits : ℕ) (text : Text) → ReadsExactlyTheSpelled encoding bits text
+reads_the_spelled encoding bits text = record {
+  operation = λ op rest. (operation_begins encoding bits text op rest, begins_operation encoding bits text op rest);
+  fault = λ fault. ((reads_operation encoding bits text.is_big).refused text.bytes fault, (reads_operation encoding bits text.is_big).refuses text.bytes fault);
+}
+
+-- of two joined lists that are equal, and whose ends are, the fronts are
+same_front : (a b rest : List ℕ) → a ++ rest ≡ b ++ rest → a ≡ b
+same_front [] [] rest e = refl
+same_front [] (x ∷ b) rest e = absurd (omega (arith, ap length e, length-append b rest))
+same_front (x ∷ a) [] rest e = absurd (omega (arith, ap length e, length-append a rest))
+same_front (x ∷ a) (y ∷ b) rest e =
+    let first : x ≡ y = cc in
+    let others : a ++ rest ≡ b ++ rest = cc in
+    ap (λ (n : ℕ). n ∷ a) first ∙ ap (λ (xs : List ℕ). y ∷ xs) (same_front a b rest others)
+
+module _ (encoding : Encoding) (bits : ℕ) (big : Bool) (bytes : List ℕ) where
+  abbrev here : Text
+  here = record { bytes = bytes; is_big = big }
+
+  outcome : (r : Reading Operation) → operation_at encoding bits here ≡ r → ((op : Operation) × ((rest : List ℕ) × Begins (Spells encoding bits big) bytes op rest)) ⊎ ((fault : Fault) × Refused encoding bits big bytes fault)
+  outcome (Ok x) e = inl (x.0, (x.1, operation_begins encoding bits here x.0 x.1 e))
+  outcome (Err fault) e = inr (fault, (reads_operation encoding bits big).refused bytes fault e)
+
+  same_operation : (first second : Operation) (rest others : List ℕ) → Begins (Spells encoding bits big) bytes first rest → Begins (Spells encoding bits big) bytes second others → (first ≡ second) × (rest ≡ others)
+  same_operation first second rest others a b =
+      pair_same first second rest others (sym (begins_operation encoding bits here first rest a) ∙ begins_operation encoding bits here second others b)
+
+  same_bytes : (first second : Operation) (rest others : List ℕ) (a : Begins (Spells encoding bits big) bytes first rest) (b : Begins (Spells encoding bits big) bytes second others) → a.front ≡ b.front
+  same_bytes first second rest others a b =
+      let same = same_operation first second rest others a b in
+      same_front a.front b.front rest (a.whole ∙ (sym b.whole ∙ ap (λ (xs : List ℕ). b.front ++ xs) (sym same.1)))
+
+  same_fault : (first second : Fault) → Refused encoding bits big bytes first → Refused encoding bits big bytes second → first ≡ second
+  same_fault first second a b =
+      let e : operation_at encoding bits here ≡ Err first = (reads_operation encoding bits big).refuses bytes first a in
+      let f : operation_at encoding bits here ≡ Err second = (reads_operation encoding bits big).refuses bytes second b in
+      cc
+
+  not_both : (op : Operation) (rest : List ℕ) (fault : Fault) → Begins (Spells encoding bits big) bytes op rest → Refused encoding bits big bytes fault → ⊥
+  not_both op rest fault a b =
+      let e : operation_at encoding bits here ≡ Ok (op, rest) = begins_operation encoding bits here op rest a in
+      let f : operation_at encoding bits here ≡ Err fault = (reads_operation encoding bits big).refuses bytes fault b in
+      cc
+
+  pub decided : IsDecided encoding bits big bytes
+  decided = record {
+    either = outcome (operation_at encoding bits here) refl;
+    not_both = not_both;
+    one_front = same_bytes;
+    one_operation = λ first second rest others a b. (same_operation first second rest others a b).0;
+    one_fault = same_fault;
+  }
+
+pub whole_operation : (encoding : Encoding) (bits : ℕ) (big : Bool) (bytes : List ℕ) (op : Operation) → Spells encoding bits big bytes op → IsWhole encoding bits big bytes op
+whole_operation encoding bits big bytes op s = record {
+  some_bytes = some_bytes encoding bits big bytes op s;
+  whatever_follows = λ rest. spelled_operation encoding bits big bytes op rest s;
+  cut_off = λ before byte after e. (reads_operation encoding bits big).refused before UnexpectedEof ((reads_operation encoding bits big).cut_off before byte after op (subst (λ (xs : List ℕ). Spells encoding bits big xs op) (sym e) s));
+}

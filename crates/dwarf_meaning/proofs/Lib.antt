@@ -1,0 +1,11 @@
+pub mod ReadsExactly
+pub mod LebReads
+pub mod NumberReads
+pub mod OperationReads
+pub mod Decoded
+pub mod Splittings
+pub mod Branches
+pub mod DecodingFaults
+pub mod Choices
+pub mod Counts
+pub mod Turns

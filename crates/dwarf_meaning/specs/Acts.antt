@@ -1,0 +1,168 @@
+-- What each operation does with the stack, apart from the lists' limits (DWARF 5, sections 2.5.1 and 2.6.1).
+use Rattle.std.specs.Prelude.{ℕ, ◌+◌, ◌*◌, ℤ, ◌==◌, pos, ◌+ℤ◌, Bool, true, false, List, [], ◌∷◌, Option, Some, None, Result, Ok, Err, nat_lt, slice_get}
+use Rattle.dwarf_base.specs.declared.errors.Error.{Error}
+use Rattle.dwarf_base.specs.Faults.{Fault, fault_of, NotEnoughStackItems, InvalidDerefSize, InvalidPushObjectAddress, UnsupportedEvaluation}
+use Rattle.dwarf_base.specs.Numbers.{residue}
+use Rattle.dwarf_value.specs.declared.types.Value.{Value}
+use Rattle.dwarf_value.specs.declared.types.Value.TheVariants.{Generic}
+use Rattle.dwarf_value.specs.declared.types.ValueType.{ValueType}
+use Rattle.dwarf_value.specs.Values.{type_of, to_u64_of, from_u64_of, abs_of, neg_of, not_of, add_of, sub_of, mul_of, div_of, rem_of, and_of, or_of, xor_of, shl_of, shr_of, shra_of, eq_of, ge_of, gt_of, le_of, lt_of, ne_of, convert_of, reinterpret_of, parse_of}
+use Rattle.dwarf_meaning.specs.Operations as operation
+use Rattle.dwarf_meaning.specs.Operations.{Operation, Text}
+use Rattle.dwarf_meaning.specs.Locations.{Location, Empty, InRegister, AtAddress, HoldsValue, HoldsBytes, PointsInto, Piece}
+use Rattle.dwarf_meaning.specs.Requests.{Request, RequiresMemory, RequiresRegister, RequiresWasmLocal, RequiresWasmGlobal, RequiresWasmStack, RequiresFrameBase, RequiresTls, RequiresCallFrameCfa, RequiresAtLocation, RequiresEntryValue, RequiresParameterRef, RequiresRelocatedAddress, RequiresIndexedAddress, RequiresBaseType, Waiting, Memory, Register, WasmValue, EntryValue, FrameBase, Tls, CallFrameCfa, ParameterRef, RelocatedAddress, IndexedAddress, AtLocation, TypedLiteral, Convert, Reinterpret, Answer, memory_of, register_of, wasm_of, entry_of, frame_base_of, tls_of, cfa_of, parameter_of, relocated_of, indexed_of, location_of, base_type_of}
+
+-- What an operation does: `rest` are the values that it leaves of the stack, the top first.
+pub data Act : Type 0 where
+  -- values are pushed, in this order
+  Pushes : (rest pushed : List Value) → Act
+  -- a branch is taken
+  Branches : (rest : List Value) (target : ℤ) → Act
+  -- a location is given
+  Locates : (rest : List Value) (location : Location) → Act
+  -- a piece is ended
+  Ends : (rest : List Value) (piece : Piece) → Act
+  -- something is asked
+  Asks : (rest : List Value) (request : Request) (waiting : Waiting) → Act
+  Refuses : (fault : Fault) → Act
+
+-- ---- words for the tables below
+
+-- the first where the test holds, else the second
+unfoldable pub choose : {A : Type 0} → Bool → A → A → A
+choose true first second = first
+choose false first second = second
+
+-- the top of a stack and what is below it, or `none` of an empty one
+unfoldable pub on_top : {A : Type 0} → List Value → A → (Value → List Value → A) → A
+on_top [] none go = none
+on_top (x ∷ rest) none go = go x rest
+
+-- what is there, or `none`
+unfoldable pub on_some : {X A : Type 0} → Option X → A → (X → A) → A
+on_some None none go = none
+on_some (Some x) none go = go x
+
+-- the answer of a call on values, or its refusal
+unfoldable pub on_answer : {X A : Type 0} → Result X Fault → (Fault → A) → (X → A) → A
+on_answer (Ok x) refused go = go x
+on_answer (Err fault) refused go = refused fault
+
+-- a call's answer, with the error as a fault
+unfoldable pub answer_of : {X : Type 0} → Result X Error → Result X Fault
+answer_of (Ok x) = Ok x
+answer_of (Err error) = Err (fault_of error)
+
+-- no value is there to be popped
+abbrev pub short : Act
+short = Refuses NotEnoughStackItems
+
+-- one value is pushed
+abbrev pub push : List Value → Value → Act
+push rest value = Pushes rest (value ∷ [])
+
+-- the top becomes the call's answer
+abbrev pub unary : (Value → Result Value Error) → List Value → Act
+unary call values = on_top values short (λ x rest. on_answer (answer_of (call x)) Refuses (push rest))
+
+-- the two on top become the call's answer
+abbrev pub binary : (Value → Value → Result Value Error) → List Value → Act
+binary call values = on_top values short (λ y below. on_top below short (λ x rest. on_answer (answer_of (call x y)) Refuses (push rest)))
+
+-- ---- operations that are done at once, and those that ask
+
+-- An address has `bits` bits, and `object` is the address of the object that is described, where one is known.
+unfoldable pub act : (bits : ℕ) (object : Option ℕ) → Operation → List Value → Act
+act bits object operation.Drop values = on_top values short (λ x rest. Pushes rest [])
+act bits object (operation.Pick index) values = on_some (slice_get values index) short (push values)
+act bits object operation.Swap values = on_top values short (λ y below. on_top below short (λ x rest. Pushes rest (y ∷ x ∷ [])))
+act bits object operation.Rot values = on_top values short (λ z below. on_top below short (λ y lower. on_top lower short (λ x rest. Pushes rest (z ∷ x ∷ y ∷ []))))
+act bits object operation.Abs values = unary (abs_of bits) values
+act bits object operation.Neg values = unary (neg_of bits) values
+act bits object operation.Not values = unary (not_of bits) values
+act bits object operation.Plus values = binary (add_of bits) values
+act bits object operation.Minus values = binary (sub_of bits) values
+act bits object operation.Mul values = binary (mul_of bits) values
+act bits object operation.Div values = binary (div_of bits) values
+act bits object operation.Mod values = binary (rem_of bits) values
+act bits object operation.And values = binary (and_of bits) values
+act bits object operation.Or values = binary (or_of bits) values
+act bits object operation.Xor values = binary (xor_of bits) values
+act bits object operation.Shl values = binary (shl_of bits) values
+act bits object operation.Shr values = binary (shr_of bits) values
+act bits object operation.Shra values = binary (shra_of bits) values
+act bits object operation.Eq values = binary (eq_of bits) values
+act bits object operation.Ge values = binary (ge_of bits) values
+act bits object operation.Gt values = binary (gt_of bits) values
+act bits object operation.Le values = binary (le_of bits) values
+act bits object operation.Lt values = binary (lt_of bits) values
+act bits object operation.Ne values = binary (ne_of bits) values
+act bits object (operation.PlusConstant value) values = unary (λ x. add_of bits x (from_u64_of (type_of x) value)) values
+act bits object (operation.UnsignedConstant value) values = push values (Generic value)
+act bits object (operation.SignedConstant value) values = push values (Generic (residue 64 value))
+act bits object operation.PushObjectAddress values = on_some object (Refuses InvalidPushObjectAddress) (λ address. push values (Generic address))
+act bits object (operation.Bra target) values = on_top values short (λ x rest. choose (to_u64_of bits x == 0) (Pushes rest []) (Branches rest target))
+act bits object (operation.Skip target) values = Branches values target
+act bits object operation.Nop values = Pushes values []
+act bits object (operation.VariableValue offset) values = Refuses UnsupportedEvaluation
+act bits object operation.Uninitialized values = Refuses UnsupportedEvaluation
+act bits object (operation.Deref base_type size false) values =
+    choose (nat_lt bits (8 * size)) (Refuses (InvalidDerefSize size))
+    (on_top values short (λ x rest. Asks rest (RequiresMemory (to_u64_of bits x) size None base_type) Memory))
+act bits object (operation.Deref base_type size true) values =
+    choose (nat_lt bits (8 * size)) (Refuses (InvalidDerefSize size))
+    (on_top values short (λ x below. on_top below short (λ y rest. Asks rest (RequiresMemory (to_u64_of bits x) size (Some (to_u64_of bits y)) base_type) Memory)))
+act bits object (operation.RegisterOffset register offset base_type) values = Asks values (RequiresRegister register base_type) (Register offset)
+act bits object (operation.FrameOffset offset) values = Asks values RequiresFrameBase (FrameBase offset)
+act bits object operation.TLS values = on_top values short (λ x rest. Asks rest (RequiresTls (to_u64_of bits x)) Tls)
+act bits object operation.CallFrameCFA values = Asks values RequiresCallFrameCfa CallFrameCfa
+act bits object (operation.Call offset) values = Asks values (RequiresAtLocation offset) AtLocation
+act bits object (operation.EntryValue expression) values = Asks values (RequiresEntryValue expression) EntryValue
+act bits object (operation.ParameterRef offset) values = Asks values (RequiresParameterRef offset) ParameterRef
+act bits object (operation.Address address) values = Asks values (RequiresRelocatedAddress address) RelocatedAddress
+act bits object (operation.AddressIndex index) values = Asks values (RequiresIndexedAddress index true) IndexedAddress
+act bits object (operation.ConstantIndex index) values = Asks values (RequiresIndexedAddress index false) IndexedAddress
+act bits object (operation.TypedLiteral base_type value) values = Asks values (RequiresBaseType base_type) (TypedLiteral value)
+act bits object (operation.Convert base_type) values = Asks values (RequiresBaseType base_type) Convert
+act bits object (operation.Reinterpret base_type) values = Asks values (RequiresBaseType base_type) Reinterpret
+act bits object (operation.WasmLocal index) values = Asks values (RequiresWasmLocal index) WasmValue
+act bits object (operation.WasmGlobal index) values = Asks values (RequiresWasmGlobal index) WasmValue
+act bits object (operation.WasmStack index) values = Asks values (RequiresWasmStack index) WasmValue
+act bits object (operation.Register register) values = Locates values (InRegister register)
+act bits object (operation.ImplicitValue bytes) values = Locates values (HoldsBytes bytes)
+act bits object operation.StackValue values = on_top values short (λ x rest. Locates rest (HoldsValue x))
+act bits object (operation.ImplicitPointer value byte_offset) values = Locates values (PointsInto value byte_offset)
+act bits object (operation.Piece size_in_bits bit_offset) values =
+    on_top values (Ends [] (record { size_in_bits = Some size_in_bits; bit_offset = bit_offset; location = Empty }))
+    (λ x rest. Ends rest (record { size_in_bits = Some size_in_bits; bit_offset = bit_offset; location = AtAddress (to_u64_of bits x) }))
+
+-- ---- what is done with an answer
+
+pub data Use : Type 0 where
+  -- a value is pushed on the rest of the stack
+  Gives : (rest : List Value) (value : Value) → Use
+  -- a text is run in the call's place
+  Calls : (text : Text) → Use
+  Denies : (fault : Fault) → Use
+  -- the answer isn't of the kind that is waited for
+  Misfits : Use
+
+unfoldable pub use_of : (bits : ℕ) → Waiting → Answer → List Value → Use
+use_of bits Memory answer values = on_some (memory_of answer) Misfits (Gives values)
+use_of bits (Register offset) answer values =
+    on_some (register_of answer) Misfits (λ x. on_answer (answer_of (add_of bits x (from_u64_of (type_of x) (residue 64 offset)))) Denies (Gives values))
+use_of bits WasmValue answer values = on_some (wasm_of answer) Misfits (Gives values)
+use_of bits EntryValue answer values = on_some (entry_of answer) Misfits (Gives values)
+use_of bits (FrameBase offset) answer values = on_some (frame_base_of answer) Misfits (λ n. Gives values (Generic (residue 64 (pos n +ℤ offset))))
+use_of bits Tls answer values = on_some (tls_of answer) Misfits (λ n. Gives values (Generic n))
+use_of bits CallFrameCfa answer values = on_some (cfa_of answer) Misfits (λ n. Gives values (Generic n))
+use_of bits ParameterRef answer values = on_some (parameter_of answer) Misfits (λ n. Gives values (Generic n))
+use_of bits RelocatedAddress answer values = on_some (relocated_of answer) Misfits (λ n. Gives values (Generic n))
+use_of bits IndexedAddress answer values = on_some (indexed_of answer) Misfits (λ n. Gives values (Generic n))
+use_of bits AtLocation answer values = on_some (location_of answer) Misfits Calls
+use_of bits (TypedLiteral value) answer values =
+    on_some (base_type_of answer) Misfits (λ kind. on_answer (parse_of kind value.is_big value.bytes) Denies (Gives values))
+use_of bits Convert answer values =
+    on_some (base_type_of answer) Misfits (λ kind. on_top values (Denies NotEnoughStackItems) (λ x rest. on_answer (answer_of (convert_of bits kind x)) Denies (Gives rest)))
+use_of bits Reinterpret answer values =
+    on_some (base_type_of answer) Misfits (λ kind. on_top values (Denies NotEnoughStackItems) (λ x rest. on_answer (answer_of (reinterpret_of bits kind x)) Denies (Gives rest)))

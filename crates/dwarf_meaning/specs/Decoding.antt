@@ -1,0 +1,41 @@
+-- The operation at the front of a text and the bytes behind it, or the fault.
+use Rattle.std.specs.Prelude.{ℕ, ℤ, Bool, List, Result, Ok, Err}
+use Rattle.dwarf_base.specs.declared.common.Encoding.{Encoding}
+use Rattle.dwarf_base.specs.Faults.{Fault, InvalidExpression, ◌>>=◌}
+use Rattle.dwarf_base.specs.Leb.{uleb_at, sleb_at}
+use Rattle.dwarf_base.specs.Reads.{u8_at, fixed_at, signed_at, address_at, split_at}
+use Rattle.dwarf_meaning.specs.Operations.{Operation, Text}
+use Rattle.dwarf_meaning.specs.Operands.{Context, context_of, block_of, Form, SignedForm, SignedFixed, SignedLeb128, Layout, InBytes, InAddress, InLeb128, layout_of, value_of}
+use Rattle.dwarf_meaning.specs.Opcodes.{Row, Makes, Unsigned, Signed, Block, Invalid, row_of}
+
+-- a number in its layout
+abbrev pub number_at : (big : Bool) → Layout → List ℕ → Result (ℕ × List ℕ) Fault
+number_at big (InBytes size) bytes = fixed_at big size bytes
+number_at big (InAddress size) bytes = address_at big size bytes
+number_at big InLeb128 bytes = uleb_at bytes
+
+-- an unsigned operand
+abbrev pub unsigned_at : Context → Form → List ℕ → Result (ℕ × List ℕ) Fault
+unsigned_at context form bytes =
+    number_at context.is_big (layout_of context.encoding form) bytes >>= λ number. value_of context.offset_bits form number.0 >>= λ value. Ok (value, number.1)
+
+-- a signed operand
+abbrev pub integer_at : (big : Bool) → SignedForm → List ℕ → Result (ℤ × List ℕ) Fault
+integer_at big (SignedFixed size) bytes = signed_at big size bytes
+integer_at big SignedLeb128 bytes = sleb_at bytes
+
+-- a row's operands, in order, and what they make
+abbrev pub operands_at : Context → Row → List ℕ → Result (Operation × List ℕ) Fault
+operands_at context (Makes op) bytes = Ok (op, bytes)
+operands_at context (Unsigned form next) bytes =
+    unsigned_at context form bytes >>= λ x. operands_at context (next x.0) x.1
+operands_at context (Signed form next) bytes =
+    integer_at context.is_big form bytes >>= λ x. operands_at context (next x.0) x.1
+operands_at context (Block size next) bytes =
+    split_at size bytes >>= λ x. operands_at context (next (block_of context x.0)) x.1
+operands_at context (Invalid opcode) bytes = Err (InvalidExpression opcode)
+
+-- an opcode and the operands of its row
+unfoldable pub operation_at : Encoding → (offset_bits : ℕ) → Text → Result (Operation × List ℕ) Fault
+operation_at encoding offset_bits text =
+    u8_at text.bytes >>= λ opcode. operands_at (context_of encoding offset_bits text.is_big) (row_of encoding opcode.0) opcode.1

@@ -1,0 +1,16 @@
+pub mod Operations
+pub mod Operands
+pub mod Opcodes
+pub mod Decoding
+pub mod Spelling
+pub mod Splitting
+pub mod DecodeLaws
+pub mod Branches
+pub mod Locations
+pub mod Requests
+pub mod Kinds
+pub mod Acts
+pub mod Stores
+pub mod Run
+pub mod Meaning
+pub mod Rest

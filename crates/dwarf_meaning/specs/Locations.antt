@@ -1,0 +1,19 @@
+-- Locations and the pieces of a variable (DWARF 5, section 2.6.1).
+use Rattle.std.specs.Prelude.{ℕ, ℤ, Option}
+use Rattle.dwarf_value.specs.declared.types.Value.{Value}
+use Rattle.dwarf_meaning.specs.Operations.{Text}
+
+-- where a piece is, or what it holds
+pub data Location : Type 0 where
+  Empty : Location
+  InRegister : (register : ℕ) → Location
+  AtAddress : (address : ℕ) → Location
+  HoldsValue : (value : Value) → Location
+  HoldsBytes : (value : Text) → Location
+  PointsInto : (value : ℕ) (byte_offset : ℤ) → Location
+
+-- A part of a variable, or all of it where there is no size.
+pub record Piece : Type 0 where
+  pub size_in_bits : Option ℕ
+  pub bit_offset : Option ℕ
+  pub location : Location

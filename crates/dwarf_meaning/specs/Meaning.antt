@@ -1,0 +1,95 @@
+-- The meaning of an expression, for the settings and the answers of its caller.
+use Rattle.std.specs.Prelude.{Bool, true, false, ℕ, zero, suc, List, [], ◌∷◌, ◌++◌, Option, Some, None, Result, Ok, Err, length}
+use Rattle.dwarf_base.specs.Faults.{Fault, InvalidPiece, NotEnoughStackItems}
+use Rattle.dwarf_value.specs.declared.types.Value.{Value}
+use Rattle.dwarf_value.specs.declared.types.Value.TheVariants.{Generic}
+use Rattle.dwarf_value.specs.Values.{to_u64_of}
+use Rattle.dwarf_meaning.specs.Operations.{Text}
+use Rattle.dwarf_meaning.specs.Locations.{Location, AtAddress, Piece}
+use Rattle.dwarf_meaning.specs.Requests.{Request, Input}
+use Rattle.dwarf_meaning.specs.Acts.{choose, on_top}
+use Rattle.dwarf_meaning.specs.Stores.{Setup, address_bits, Store, Last, Nothing, Plain, Pieced, Pushed, Called, Located, Refusal, push_value, push_piece}
+use Rattle.dwarf_meaning.specs.Run.{Frame, End, Finished, Asking, Failed, Course, ended, run}
+
+-- what comes of an evaluation
+pub data Outcome : Type 0 where
+  -- a request, with the texts that are open, the innermost first, each at the place behind what was begun last
+  Requests : Request → List Frame → Outcome
+  Faults : Fault → Outcome
+  Completes : List Piece → Option Value → Outcome
+
+abbrev pub completed : Option Value → Result Store Fault → Outcome
+completed value (Ok s) = Completes s.pieces value
+completed value (Err fault) = Faults fault
+
+-- ---- the end of the outermost text
+
+abbrev pub has_pieces : List Piece → Bool
+has_pieces [] = false
+has_pieces (piece ∷ pieces) = true
+
+-- a piece without size and bit offset, which is the whole variable
+abbrev pub whole : Location → Piece
+whole location = record { size_in_bits = None; bit_offset = None; location = location }
+
+abbrev pub finish_located : Setup → Location → Store → Outcome
+finish_located setup location s = choose (has_pieces s.pieces) (Faults InvalidPiece) (completed None (push_piece setup (whole location) s))
+
+-- the top is the value, and the address of the whole variable
+abbrev pub finish_value : Setup → Store → Outcome
+finish_value setup s =
+    on_top s.values (Faults NotEnoughStackItems)
+    (λ x rest. completed (Some x) (push_piece setup (whole (AtAddress (to_u64_of (address_bits setup) x))) (record s { values = rest })))
+
+-- behind an operation that may not follow pieces
+abbrev pub finish_judged : Setup → Store → Outcome
+finish_judged setup s = choose (has_pieces s.pieces) (Faults InvalidPiece) (finish_value setup s)
+
+abbrev pub finish_free : Setup → Store → Outcome
+finish_free setup s = choose (has_pieces s.pieces) (Completes s.pieces None) (finish_value setup s)
+
+abbrev pub finish_by : Setup → Store → Last → Outcome
+finish_by setup s (Located location) = finish_located setup location s
+finish_by setup s Plain = finish_judged setup s
+finish_by setup s Pushed = finish_judged setup s
+finish_by setup s Nothing = finish_free setup s
+finish_by setup s Pieced = finish_free setup s
+finish_by setup s Called = finish_free setup s
+
+abbrev pub finish : Setup → Store → Outcome
+finish setup s = finish_by setup s s.last
+
+-- ---- the whole
+
+-- The rest of the callers follows a run, inside out, and then the end.
+abbrev pub unwound : Setup → List Frame → End → Outcome
+unwound setup [] (Finished s inputs) = finish setup s
+unwound setup (caller ∷ callers) (Finished s inputs) = unwound setup callers (run setup caller.text caller.place (length callers) s inputs).end
+unwound setup callers (Asking request frames inputs) = Requests request (frames ++ callers)
+unwound setup callers (Failed fault) = Faults fault
+
+-- the settings when an evaluation starts
+pub record First : Type 0 where
+  pub initial_value : Option ℕ
+  pub object_address : Option ℕ
+  pub maximum : ℕ
+
+abbrev pub fresh : First → Refusal → Store
+fresh first refusal =
+    record { values = []; pieces = []; count = 0; object_address = first.object_address; maximum = first.maximum; last = Nothing; refusal = refusal }
+
+abbrev pub with_initial : Setup → Option ℕ → Store → Result Store Fault
+with_initial setup None s = Ok s
+with_initial setup (Some number) s = push_value setup (Generic number) s
+
+abbrev pub course_from : Setup → Text → List Input → Result Store Fault → Course
+course_from setup text inputs (Ok s) = run setup text 0 0 s inputs
+course_from setup text inputs (Err fault) = ended (Failed fault)
+
+-- the run of a text, from its settings and the inputs after them
+abbrev pub course_of : Setup → Refusal → Text → First → List Input → Course
+course_of setup refusal text first inputs = course_from setup text inputs (with_initial setup first.initial_value (fresh first refusal))
+
+-- what comes of a text; its path and its requests are those of the course
+unfoldable pub meaning : Setup → Refusal → Text → First → List Input → Outcome
+meaning setup refusal text first inputs = unwound setup [] (course_of setup refusal text first inputs).end

@@ -1,0 +1,54 @@
+-- What is left to do of an evaluation that has come to some state.
+use Rattle.std.specs.Prelude.{Bool, ℕ, zero, suc, List, [], ◌∷◌, Option, Some, None, Result, Ok, Err, length}
+use Rattle.dwarf_base.specs.declared.errors.Error.{Error}
+use Rattle.dwarf_base.specs.Faults.{Fault, fault_of}
+use Rattle.dwarf_value.specs.declared.types.Value.{Value}
+use Rattle.dwarf_meaning.specs.Operations.{Text}
+use Rattle.dwarf_meaning.specs.Requests.{Request, Waiting, Input}
+use Rattle.dwarf_meaning.specs.Stores.{Setup, Store, Refusal}
+use Rattle.dwarf_meaning.specs.Run.{Frame, run, asked}
+use Rattle.dwarf_meaning.specs.Meaning.{Outcome, Faults, Completes, unwound, with_initial}
+
+-- where an evaluation stands
+pub data Status : Type 0 where
+  Start : (initial_value : Option ℕ) → Status
+  Running : Status
+  Waits : Request → Waiting → Status
+  Complete : (value : Option Value) → Status
+  Stopped : Error → Status
+
+pub record State : Type 0 where
+  pub status : Status
+  pub setup : Setup
+  -- the running text, and the place in it
+  pub text : Text
+  pub place : ℕ
+  -- its callers, the innermost first, each with the place where it goes on
+  pub callers : List Frame
+  pub store : Store
+
+abbrev pub with_refusal : Refusal → Store → Store
+with_refusal refusal s = record s { refusal = refusal }
+
+abbrev pub running : State → Store → List Input → Outcome
+running x s inputs = unwound x.setup x.callers (run x.setup x.text x.place (length x.callers) s inputs).end
+
+abbrev pub started : State → List Input → Result Store Fault → Outcome
+started x inputs (Ok s) = running x s inputs
+started x inputs (Err fault) = Faults fault
+
+-- the open request takes the first input
+abbrev pub waits : State → Request → Waiting → Store → List Input → Outcome
+waits x request waiting s inputs =
+    unwound x.setup x.callers (asked (run x.setup) x.setup (record { text = x.text; place = x.place }) (length x.callers) request waiting s inputs).end
+
+abbrev pub rest_by : State → Store → List Input → Status → Outcome
+rest_by x s inputs (Start initial_value) = started x inputs (with_initial x.setup initial_value s)
+rest_by x s inputs Running = running x s inputs
+rest_by x s inputs (Waits request waiting) = waits x request waiting s inputs
+rest_by x s inputs (Complete value) = Completes s.pieces value
+rest_by x s inputs (Stopped error) = Faults (fault_of error)
+
+-- what comes of a state with these inputs, where this push is refused
+unfoldable pub rest : Refusal → State → List Input → Outcome
+rest refusal x inputs = rest_by x (with_refusal refusal x.store) inputs x.status

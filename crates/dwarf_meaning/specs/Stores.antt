@@ -1,0 +1,120 @@
+-- What a run keeps beside texts and places, and the rule by which its lists take one more item.
+use Rattle.std.specs.Prelude.{ℕ, zero, suc, ◌+◌, ◌*◌, ◌%◌, ◌^◌, ℤ, pos, ◌+ℤ◌, List, [], ◌∷◌, ◌++◌, Option, Some, None, Result, Ok, Err, length, nat_lt}
+use Rattle.dwarf_base.specs.declared.common.Encoding.{Encoding}
+use Rattle.dwarf_base.specs.Faults.{Fault, StackFull, BadBranchTarget, ◌>>=◌}
+use Rattle.dwarf_base.specs.Numbers.{residue}
+use Rattle.dwarf_value.specs.declared.types.Value.{Value}
+use Rattle.dwarf_meaning.specs.Locations.{Location, Piece}
+use Rattle.dwarf_meaning.specs.Requests.{Request, Waiting}
+use Rattle.dwarf_meaning.specs.Acts.{choose, Act, Pushes, Branches, Locates, Ends, Asks, Refuses}
+
+-- how many items each list holds at most, where there is such a number
+pub record Limits : Type 0 where
+  pub values : Option ℕ
+  pub frames : Option ℕ
+  pub pieces : Option ℕ
+
+-- what stays the same through a run: the unit's encoding, the bits of an offset, the limits of the lists
+pub record Setup : Type 0 where
+  pub encoding : Encoding
+  pub offset_bits : ℕ
+  pub limits : Limits
+
+abbrev pub address_bits : Setup → ℕ
+address_bits setup = 8 * setup.encoding.address_size
+
+-- Which push on a list without a limit is refused: none, or the one that comes after so many more inputs
+-- were taken, and then after so many more of such pushes.
+pub data Refusal : Type 0 where
+  Never : Refusal
+  After : (inputs pushes : ℕ) → Refusal
+
+-- of what sort the last operation was
+pub data Last : Type 0 where
+  Nothing : Last
+  -- it asked nothing, gave no location and ended no piece
+  Plain : Last
+  Pieced : Last
+  -- an answer was pushed
+  Pushed : Last
+  -- a call was answered by an empty text
+  Called : Last
+  -- its location waits for a piece
+  Located : (location : Location) → Last
+
+pub record Store : Type 0 where
+  -- the top first
+  pub values : List Value
+  -- in order
+  pub pieces : List Piece
+  -- how many operations were counted
+  pub count : ℕ
+  -- the settings in force
+  pub object_address : Option ℕ
+  pub maximum : ℕ
+  pub last : Last
+  pub refusal : Refusal
+
+-- ---- pushes
+
+-- what is left of the refusal after a push on a list without a limit
+abbrev pub spent : Refusal → Result Refusal Fault
+spent Never = Ok Never
+spent (After zero zero) = Err StackFull
+spent (After zero (suc pushes)) = Ok (After zero pushes)
+spent (After (suc inputs) pushes) = Ok (After (suc inputs) pushes)
+
+-- what is left of the refusal after a push on a list with this limit, of n items
+abbrev pub room : Option ℕ → (n : ℕ) → Refusal → Result Refusal Fault
+room None n refusal = spent refusal
+room (Some limit) n refusal = choose (nat_lt n limit) (Ok refusal) (Err StackFull)
+
+-- what is left of it once an input is taken
+abbrev pub taken : Refusal → Refusal
+taken Never = Never
+taken (After zero pushes) = Never
+taken (After (suc inputs) pushes) = After inputs pushes
+
+unfoldable pub push_value : Setup → Value → Store → Result Store Fault
+push_value setup value s = room setup.limits.values (length s.values) s.refusal >>= λ left. Ok (record s { values = value ∷ s.values; refusal = left })
+
+unfoldable pub push_piece : Setup → Piece → Store → Result Store Fault
+push_piece setup piece s = room setup.limits.pieces (length s.pieces) s.refusal >>= λ left. Ok (record s { pieces = s.pieces ++ piece ∷ []; refusal = left })
+
+-- a frame, where `depth` frames stand
+unfoldable pub push_frame : Setup → (depth : ℕ) → Store → Result Store Fault
+push_frame setup depth s = room setup.limits.frames depth s.refusal >>= λ left. Ok (record s { refusal = left })
+
+-- values in order, the last on top
+abbrev pub push_values : Setup → List Value → Store → Result Store Fault
+push_values setup [] s = Ok s
+push_values setup (value ∷ values) s = push_value setup value s >>= push_values setup values
+
+-- ---- operations
+
+-- what an operation leads to: a place of its text, a request, or a fault
+pub data Next : Type 0 where
+  Goes : (place : ℕ) → Store → Next
+  Stops : Request → Waiting → Store → Next
+  Fails : Fault → Next
+
+abbrev pub goes : (place : ℕ) → Result Store Fault → Next
+goes place (Ok s) = Goes place s
+goes place (Err fault) = Fails fault
+
+-- where a branch leads to, from the place behind it: offsets wrap
+abbrev pub branch_target : Setup → (place : ℕ) → ℤ → ℕ
+branch_target setup place target = residue setup.offset_bits (pos place +ℤ target)
+
+-- a place of a text of this length, or its end
+abbrev pub branch : (len place : ℕ) → Store → Next
+branch len place s = choose (nat_lt len place) (Fails (BadBranchTarget place)) (Goes place s)
+
+-- What an operation does to what is kept; `place` is the one behind it, in a text of length `len`.
+abbrev pub done : Setup → (place len : ℕ) → Act → Store → Next
+done setup place len (Pushes rest pushed) s = goes place (push_values setup pushed (record s { values = rest; last = Plain }))
+done setup place len (Branches rest target) s = branch len (branch_target setup place target) (record s { values = rest; last = Plain })
+done setup place len (Locates rest location) s = Goes place (record s { values = rest; last = Located location })
+done setup place len (Ends rest piece) s = goes place (push_piece setup piece (record s { values = rest; last = Pieced }))
+done setup place len (Asks rest request waiting) s = Stops request waiting (record s { values = rest })
+done setup place len (Refuses fault) s = Fails fault

@@ -1,0 +1,162 @@
+-- What comes of an answer.
+use Rattle.std.proofs.Common.{ℕ, zero, suc, ℤ, pos, ◌≡◌, ◌+◌, ◌%◌, ◌^◌, ◌+ℤ◌, List, [], ◌∷◌, ◌++◌, length, Result, Ok, Err, Option, Some, None, ap, ◌∙◌, sym, refl, subst, append_assoc}
+use Rattle.dwarf_base.specs.declared.errors.Error.{Error}
+use Rattle.dwarf_base.specs.Faults.{Fault, fault_of, NotEnoughStackItems}
+use Rattle.dwarf_value.specs.declared.types.Value.{Value}
+use Rattle.dwarf_meaning.specs.Operations.{Text}
+use Rattle.dwarf_meaning.specs.Requests.{Request, Waiting, Answer, Input}
+use Rattle.dwarf_meaning.specs.Acts.{Use, Gives, Calls, Denies, use_of}
+use Rattle.dwarf_meaning.specs.Stores.{Limits, Setup, address_bits, Store, Last, Pushed, Called, Refusal, Never, After, taken, push_value, push_frame}
+use Rattle.dwarf_meaning.specs.Run.{Frame, Course, End, Finished, Asking, Failed, ended, back, called, entered, resumed, used, run, with_input}
+use Rattle.dwarf_meaning.specs.Meaning.{Outcome, Requests, Faults, unwound}
+use Rattle.dwarf_meaning.specs.Rest.{State, Status, Running, Waits, with_refusal, running, rest}
+use Rattle.dwarf_meaning.proofs.Counts.{HasTally, OnStore, Tally, tally_of, tally-push_frame}
+use Rattle.dwarf_expr.specs.Steps.{MayPick, before_input, before_pushes, Steps, Gets, Does, Tries, Pops, Enters, TriesToEnter, Keeps, ReachesFrom, FallsFrom, RunsOn, after_input, input_of, Taken, Takes, TakenFar, TakesFar, with_last, with_status, with_store, with_values}
+use Rattle.dwarf_expr.proofs.Refusals.{before_more, may_before}
+use Rattle.dwarf_expr.proofs.Reaching.{rest_running, rest_waits, unwound_failed, value_tally, keeps_more, may_along}
+
+taken_before : (r : Refusal) → taken (before_input r) ≡ r
+taken_before Never = refl
+taken_before (After inputs pushes) = refl
+
+unwound_open : (setup : Setup) (callers : List Frame) (request : Request) (frames : List Frame) (inputs : List Input) → unwound setup callers (Asking request frames inputs) ≡ Requests request (frames ++ callers)
+unwound_open setup [] request frames inputs = refl
+unwound_open setup (caller ∷ callers) request frames inputs = refl
+
+-- a callee that runs in its place, or as one more frame
+unwound_back : (setup : Setup) (callers : List Frame) (frame : Frame) (course : Course) (end : End) → unwound setup callers (back (run setup) frame (length callers) course end).end ≡ unwound setup (frame ∷ callers) end
+unwound_back setup callers frame course (Finished s inputs) = refl
+unwound_back setup callers frame course (Asking request frames inputs) =
+    unwound_open setup callers request (frames ++ frame ∷ []) inputs ∙ ap (Requests request) (append_assoc frames (frame ∷ []) callers)
+unwound_back setup callers frame course (Failed fault) = unwound_failed setup callers fault
+
+module _ (x : State) (request : Request) (waiting : Waiting) (open_now : x.status ≡ Waits request waiting) (answer : Answer) where
+  abbrev frame : Frame
+  frame = record { text = x.text; place = x.place }
+
+  -- what is kept once the answer is taken; the settings are those of the state
+  answer_rest : (r : Refusal) (inputs : List Input) (u : Use) → use_of (address_bits x.setup) waiting answer x.store.values ≡ u → after_input x (input_of x answer) r inputs ≡ unwound x.setup x.callers (used (run x.setup) x.setup frame (length x.callers) u (with_refusal r x.store) inputs (ended (Asking request (frame ∷ []) (input_of x answer ∷ inputs)))).end
+  answer_rest r inputs u e =
+      rest_waits (before_input r) x (input_of x answer ∷ inputs) request waiting open_now
+      ∙ (ap (λ (q : Refusal). unwound x.setup x.callers (used (run x.setup) x.setup frame (length x.callers) (use_of (address_bits x.setup) waiting answer x.store.values) (with_refusal q x.store) inputs (ended (Asking request (frame ∷ []) (input_of x answer ∷ inputs)))).end) (taken_before r)
+      ∙ ap (λ (v : Use). unwound x.setup x.callers (used (run x.setup) x.setup frame (length x.callers) v (with_refusal r x.store) inputs (ended (Asking request (frame ∷ []) (input_of x answer ∷ inputs)))).end) e)
+
+  pub denies : (fault : Fault) → use_of (address_bits x.setup) waiting answer x.store.values ≡ Denies fault → FallsFrom x.setup.limits (after_input x (input_of x answer)) fault
+  denies fault e = record { refusal = Never; may = tt; same = λ inputs. answer_rest Never inputs (Denies fault) e ∙ unwound_failed x.setup x.callers fault }
+
+  -- a value is pushed on what the answer leaves of the stack
+  module _ (values : List Value) (value : Value) (gives : use_of (address_bits x.setup) waiting answer x.store.values ≡ Gives values value) where
+    abbrev answered : State
+    answered = with_status Running (with_last Pushed (with_values values x))
+
+    value_taken : (new : State) → Does (push_value x.setup value) answered new → Taken answer x new
+    value_taken new d =
+        let tally = value_tally x.setup value (with_refusal (before_pushes d.steps.pushes Never) answered.store) (with_refusal Never new.store) (d.steps.same Never) in
+        let runs : new.status ≡ Running = ap (λ (z : State). z.status) d.alone in
+        record {
+          reaches = record {
+            pushes = d.steps.pushes;
+            same = λ r inputs.
+                answer_rest (before_pushes d.steps.pushes r) inputs (Gives values value) gives
+                ∙ (ap (λ (z : Result Store Fault). unwound x.setup x.callers (resumed (run x.setup) frame (length x.callers) inputs z).end) (d.steps.same r)
+                ∙ sym (rest_running r new inputs runs ∙ ap (λ (z : State). running z (with_refusal r new.store) inputs) d.alone));
+            kept = record {
+              setup = ap (λ (z : State). z.setup) d.alone;
+              object_address = ap (λ (m : Tally). m.object_address) tally;
+              maximum = ap (λ (m : Tally). m.maximum) tally;
+            };
+          };
+          runs = runs;
+        }
+
+    value_refused : (fault : Fault) → Gets x.setup.limits (push_value x.setup value) answered.store (Err fault) → FallsFrom x.setup.limits (after_input x (input_of x answer)) fault
+    value_refused fault h = record {
+      refusal = h.refusal;
+      may = h.may;
+      same = λ inputs.
+          answer_rest h.refusal inputs (Gives values value) gives
+          ∙ (ap (λ (z : Result Store Fault). unwound x.setup x.callers (resumed (run x.setup) frame (length x.callers) inputs z).end) h.same
+          ∙ unwound_failed x.setup x.callers fault);
+    }
+
+    takes_by : {X : Type 0} (new : State) (result : Result X Error) → Tries (push_value x.setup value) answered new result → Takes answer x new result
+    takes_by new (Ok u) d = value_taken new d
+    takes_by new (Err e) h = value_refused (fault_of e) h
+
+    -- where the machine popped what the answer takes
+    pub value_takes : {X : Type 0} (mid new : State) (result : Result X Error) → mid ≡ with_values values x → Tries (push_value mid.setup value) (with_status Running (with_last Pushed mid)) new result → Takes answer x new result
+    value_takes mid new result e h =
+        takes_by new result (subst (λ (z : State). Tries (push_value z.setup value) (with_status Running (with_last Pushed z)) new result) e h)
+
+  -- ---- a called text
+
+  pub empty_takes : (callee : Text) (new : State) → use_of (address_bits x.setup) waiting answer x.store.values ≡ Calls callee → callee.bytes ≡ [] → new ≡ with_last Called (with_status Running x) → Taken answer x new
+  empty_takes callee new calls none e = record {
+    reaches = record {
+      pushes = 0;
+      same = λ r inputs.
+          answer_rest r inputs (Calls callee) calls
+          ∙ (ap (λ (bytes : List ℕ). unwound x.setup x.callers (called (run x.setup) x.setup frame (length x.callers) callee bytes (with_refusal r x.store) inputs).end) none
+          ∙ sym (rest_running r new inputs (ap (λ (z : State). z.status) e) ∙ ap (λ (z : State). running z (with_refusal r z.store) inputs) e));
+      kept = record { setup = ap (λ (z : State). z.setup) e; object_address = ap (λ (z : State). z.store.object_address) e; maximum = ap (λ (z : State). z.store.maximum) e };
+    };
+    runs = ap (λ (z : State). z.status) e;
+  }
+
+  module _ (callee : Text) (byte : ℕ) (bytes : List ℕ) (calls : use_of (address_bits x.setup) waiting answer x.store.values ≡ Calls callee) (some : callee.bytes ≡ byte ∷ bytes) where
+    call_rest : (r : Refusal) (inputs : List Input) (z : Result Store Fault) → push_frame x.setup (length x.callers) (with_refusal r x.store) ≡ z → after_input x (input_of x answer) r inputs ≡ unwound x.setup x.callers (entered (run x.setup) frame (length x.callers) callee inputs z).end
+    call_rest r inputs z e =
+        answer_rest r inputs (Calls callee) calls
+        ∙ (ap (λ (bs : List ℕ). unwound x.setup x.callers (called (run x.setup) x.setup frame (length x.callers) callee bs (with_refusal r x.store) inputs).end) some
+        ∙ ap (λ (y : Result Store Fault). unwound x.setup x.callers (entered (run x.setup) frame (length x.callers) callee inputs y).end) e)
+
+    text_taken : (new : State) → Enters callee (with_status Running x) new → Taken answer x new
+    text_taken new d =
+        let s : Store = with_refusal (before_pushes d.steps.pushes Never) x.store in
+        let tally : tally_of new.store ≡ tally_of x.store = subst (OnStore (HasTally (tally_of s))) (d.steps.same Never) (tally-push_frame x.setup (length x.callers) s) in
+        let runs : new.status ≡ Running = ap (λ (z : State). z.status) d.alone in
+        record {
+          reaches = record {
+            pushes = d.steps.pushes;
+            same = λ r inputs.
+                let t : Store = with_refusal r new.store in
+                let course : Course = run x.setup callee 0 (suc (length x.callers)) t inputs in
+                call_rest (before_pushes d.steps.pushes r) inputs (Ok t) (d.steps.same r)
+                ∙ (unwound_back x.setup x.callers frame course course.end
+                ∙ sym (rest_running r new inputs runs ∙ ap (λ (z : State). running z t inputs) d.alone));
+            kept = record {
+              setup = ap (λ (z : State). z.setup) d.alone;
+              object_address = ap (λ (m : Tally). m.object_address) tally;
+              maximum = ap (λ (m : Tally). m.maximum) tally;
+            };
+          };
+          runs = runs;
+        }
+
+    text_refused : (fault : Fault) → Gets x.setup.limits (push_frame x.setup (length x.callers)) x.store (Err fault) → FallsFrom x.setup.limits (after_input x (input_of x answer)) fault
+    text_refused fault h = record { refusal = h.refusal; may = h.may; same = λ inputs. call_rest h.refusal inputs (Err fault) h.same ∙ unwound_failed x.setup x.callers fault }
+
+    text_takes_by : {X : Type 0} (new : State) (result : Result X Error) → TriesToEnter callee (with_status Running x) new result → Takes answer x new result
+    text_takes_by new (Ok u) d = text_taken new d
+    text_takes_by new (Err e) h = text_refused (fault_of e) h
+
+    pub text_takes : {X : Type 0} (mid new : State) (result : Result X Error) → mid ≡ with_status Running x → TriesToEnter callee mid new result → Takes answer x new result
+    text_takes mid new result e h = text_takes_by new result (subst (λ (z : State). TriesToEnter callee z new result) e h)
+
+-- the answer is taken, and the run goes on
+pub takes_far : (X : Type 0) (answer : Answer) (a b c : State) (result : Result X Error) → Taken answer a b → RunsOn b c result → TakesFar answer a c result
+takes_far X answer a b c (Ok u) h g = record {
+  reaches = record {
+    pushes = h.reaches.pushes + g.reaches.pushes;
+    same = λ r inputs.
+        ap (λ (q : Refusal). after_input a (input_of a answer) q inputs) (before_more h.reaches.pushes g.reaches.pushes r)
+        ∙ (h.reaches.same (before_pushes g.reaches.pushes r) inputs ∙ g.reaches.same r inputs);
+    kept = keeps_more a b c h.reaches.kept g.reaches.kept;
+  };
+  open_now = g.open_now;
+}
+takes_far X answer a b c (Err e) h g = record {
+  refusal = before_pushes h.reaches.pushes g.refusal;
+  may = may_before a.setup.limits h.reaches.pushes g.refusal (may_along a b g.refusal h.reaches.kept g.may);
+  same = λ inputs. h.reaches.same g.refusal inputs ∙ g.same inputs;
+}

@@ -1,0 +1,17 @@
+use Rattle.std.proofs.Common.{refl, length, subst}
+use Rattle.std.proofs.lemmas.List.{length-reverse, reverse-append}
+use Rattle.dwarf_meaning.specs.Rest.{State}
+use Rattle.dwarf_expr.specs.Lists.{MayRefuse}
+use Rattle.dwarf_expr.proofs.Pushes.{value_pushed, value_refused}
+use Rattle.dwarf_expr.proofs.eval.machine.Machine.push.Goals as goal
+
+pub returns-in_default : goal.returns-in_default
+returns-in_default g c =
+    value_refused _ _ _ (subst (λ (s : State). MayRefuse s.setup.limits.values (length s.store.values)) c.self.view_is (rw length-reverse c.in_default.ensures.full))
+
+pub returns : goal.returns
+returns g c =
+    rw (← c.self.view_is) (record {
+      steps = value_pushed _ _ _ _ (rw length-reverse c.in-Ok.ensures.room) (rw (c.in-Ok.ensures.ok, reverse-append) refl);
+      alone = rw c.push.ensures.limit refl;
+    })

@@ -1,0 +1,17 @@
+use Rattle.std.proofs.Common.{refl, length, subst}
+use Rattle.std.proofs.lemmas.List.{length-map, map-append}
+use Rattle.dwarf_meaning.specs.Rest.{State}
+use Rattle.dwarf_expr.specs.Lists.{MayRefuse}
+use Rattle.dwarf_expr.proofs.Pushes.{piece_pushed, piece_refused}
+use Rattle.dwarf_expr.proofs.eval.machine.Machine.push_piece.Goals as goal
+
+pub returns-in_default : goal.returns-in_default
+returns-in_default g c =
+    piece_refused _ _ _ (subst (λ (s : State). MayRefuse s.setup.limits.pieces (length s.store.pieces)) c.self.view_is (rw length-map c.in_default.ensures.full))
+
+pub returns : goal.returns
+returns g c =
+    rw (← c.self.view_is) (record {
+      steps = piece_pushed _ _ _ _ (rw length-map c.in-Ok.ensures.room) (rw (c.in-Ok.ensures.ok, map-append) refl);
+      alone = rw c.push.ensures.limit refl;
+    })

@@ -1,0 +1,12 @@
+use Rattle.std.proofs.lemmas.Result.{err_from_is_err_and}
+use Rattle.dwarf_expr.proofs.Reaching.{reaches_more, falls_more}
+use Rattle.dwarf_expr.proofs.eval.machine.Machine.run_on.Goals as goal
+
+pub loop-self-preserved : goal.loop-self-preserved
+loop-self-preserved g c =
+    (reaches_more c.args.self.now c.loop-self.self c.turn.new.self c.loop-self.invariant.0 c.in_ok-turn.ensures.reaches, c.in_ok-turn.ensures.live)
+
+pub returns-in_err-turn : goal.returns-in_err-turn
+returns-in_err-turn g c =
+    let p = err_from_is_err_and c.from_residual.result c.from_residual.ensures.1 in
+    rw (p.1, p.2) (falls_more c.args.self.now c.loop-self.self _ c.loop-self.invariant.0 c.in_err-turn.ensures)

@@ -1,0 +1,9 @@
+pub mod Answers
+pub mod Calls
+pub mod Entries
+pub mod Iteration
+pub mod Lists
+pub mod Machine
+pub mod Operators
+pub mod Steps
+pub mod Views

@@ -1,0 +1,8 @@
+//! DWARF expressions: their operations, and their evaluation.
+#![tactic(auto)]
+
+pub mod eval;
+pub mod op;
+pub mod store;
+
+pub use dwarf_value as value;

@@ -1,0 +1,78 @@
+ghost use Rattle.std.specs.Prelude.{◌≡◌, ◌↔◌, IsTrue, None};
+
+use dwarf_base::{DebugInfoOffset, Reader, Register};
+use dwarf_value::Value;
+
+/// Where a piece of a variable is, or what it holds (DWARF 5, section 2.6.1).
+#[derive(Clone, Copy, Debug, PartialEq, Eq)]
+pub enum Location<R: Reader, O = <R as Reader>::Offset> {
+    /// Nowhere: the piece was optimized away.
+    Empty,
+    /// In a register.
+    Register {
+        /// The register.
+        register: Register,
+    },
+    /// In memory.
+    Address {
+        /// The address.
+        address: u64,
+    },
+    /// It has no place, and this value.
+    Value {
+        /// The value.
+        value: Value,
+    },
+    /// It has no place, and these bytes.
+    Bytes {
+        /// The bytes.
+        value: R,
+    },
+    /// It is a pointer to an object that has no place.
+    ImplicitPointer {
+        /// Where the object is described.
+        value: DebugInfoOffset<O>,
+        /// Where in the object it points to, in bytes.
+        byte_offset: i64,
+    },
+}
+
+/// A part of a variable, or all of it where it has no size.
+#[derive(Clone, Copy, Debug, PartialEq, Eq)]
+pub struct Piece<R: Reader, O = <R as Reader>::Offset> {
+    /// Its size in bits; without one it is the only piece, and the whole variable.
+    pub size_in_bits: Option<u64>,
+    /// Where it begins in its location, in bits, where that is said.
+    pub bit_offset: Option<u64>,
+    /// Where it is, or what it holds.
+    pub location: Location<R, O>,
+}
+
+impl<R: Reader, O> Default for Location<R, O> {
+    fn default() -> Self
+        ensures { result ≡ Location.Empty }
+    {
+        Location::Empty
+    }
+}
+
+impl<R: Reader, O> Default for Piece<R, O> {
+    fn default() -> Self
+        ensures { result ≡ record { size_in_bits = None; bit_offset = None; location = Location.Empty } }
+    {
+        Piece {
+            size_in_bits: None,
+            bit_offset: None,
+            location: Location::Empty,
+        }
+    }
+}
+
+impl<R: Reader, O> Location<R, O> {
+    /// Whether it is nowhere.
+    pub fn is_empty(&self) -> bool
+        ensures { IsTrue result ↔ (self.now ≡ Location.Empty) }
+    {
+        matches!(self, Location::Empty)
+    }
+}

@@ -1,7 +1,7 @@
 -- What operations do with the stack, case by case.
-use Rattle.std.proofs.Common.{ℕ, ℤ, pos, ◌≡◌, ◌==◌, ◌*◌, ◌+ℤ◌, Bool, true, false, List, [], ◌∷◌, Result, Ok, Err, Option, Some, None, ap, ◌∙◌, sym, refl, nat_lt}
+use Rattle.std.proofs.Common.{ℕ, ℤ, ◌≡◌, ◌==◌, ◌*◌, Bool, true, false, List, [], ◌∷◌, Option, Some, None, ap, ◌∙◌, sym, refl, nat_lt}
 use Rattle.std.specs.Prelude.{slice_get}
-use Rattle.dwarf_base.specs.Faults.{Fault, NotEnoughStackItems, InvalidDerefSize, InvalidPushObjectAddress}
+use Rattle.dwarf_base.specs.Faults.{NotEnoughStackItems, InvalidDerefSize, InvalidPushObjectAddress}
 use Rattle.dwarf_base.specs.Numbers.{residue}
 use Rattle.dwarf_value.specs.declared.types.Value.{Value}
 use Rattle.dwarf_value.specs.declared.types.Value.TheVariants.{Generic}
@@ -9,7 +9,7 @@ use Rattle.dwarf_value.specs.Values.{to_u64_of}
 use Rattle.dwarf_meaning.specs.Operations as operation
 use Rattle.dwarf_meaning.specs.Locations.{Empty, AtAddress, HoldsValue, Piece}
 use Rattle.dwarf_meaning.specs.Requests.{RequiresMemory, RequiresTls, Memory, Tls}
-use Rattle.dwarf_meaning.specs.Acts.{Act, Pushes, Branches, Locates, Ends, Asks, Refuses, choose, on_top, on_some, short, push, act}
+use Rattle.dwarf_meaning.specs.Acts.{Act, Pushes, Branches, Locates, Ends, Asks, Refuses, choose, on_top, short, push, act}
 use Rattle.dwarf_meaning.proofs.Choices.{choose_true, choose_false, top_none, top_some, some_none, some_some}
 
 module _ (bits : ℕ) (object : Option ℕ) (values : List Value) where

@@ -1,5 +1,5 @@
 -- Where a branch leads to, and what a signed number is modulo two to the 64.
-use Rattle.std.proofs.Common.{w64, ℕ, ℤ, pos, ◌≡◌, ◌+◌, ◌%◌, ◌^◌, ◌+ℤ◌, refl, sym, ap, ◌∙◌, arith, subst}
+use Rattle.std.proofs.Common.{w64, ℕ, ℤ, pos, ◌≡◌, ◌+◌, ◌%◌, ◌^◌, ◌+ℤ◌, refl, ap, ◌∙◌, arith}
 use Rattle.std.proofs.lemmas.Int.{ints}
 use Rattle.std.specs.Prelude.{FitsSigned, negsuc}
 use Rattle.std.specs.Int.{cast_unsigned, cast_signed}

@@ -1,11 +1,10 @@
 -- Operations that compute: what they pop, and what they push.
-use Rattle.std.proofs.Common.{ℕ, ◌≡◌, List, [], ◌∷◌, Result, Ok, Err, Option, Some, None, ap, ◌∙◌, sym, refl, subst}
+use Rattle.std.proofs.Common.{ℕ, ◌≡◌, List, [], ◌∷◌, Result, Ok, Err, Some, ap, ◌∙◌, sym, refl}
 use Rattle.dwarf_base.specs.declared.errors.Error.{Error}
-use Rattle.dwarf_base.specs.Faults.{Fault, fault_of, NotEnoughStackItems}
+use Rattle.dwarf_base.specs.Faults.{fault_of, NotEnoughStackItems}
 use Rattle.dwarf_value.specs.declared.types.Value.{Value}
-use Rattle.dwarf_value.specs.Values.{width_of}
-use Rattle.dwarf_meaning.specs.Acts.{Act, Pushes, Refuses, on_top, on_answer, answer_of, short, push, unary, binary}
-use Rattle.dwarf_meaning.specs.Stores.{Store, Last, Plain, address_bits, push_value, Fails}
+use Rattle.dwarf_meaning.specs.Acts.{Refuses, on_top, on_answer, answer_of, short, push, unary, binary}
+use Rattle.dwarf_meaning.specs.Stores.{Plain, address_bits, push_value, Fails}
 use Rattle.dwarf_meaning.specs.Rest.{State, Running}
 use Rattle.dwarf_meaning.proofs.Choices.{top_none, top_some, answer_ok, answer_err}
 use Rattle.dwarf_expr.specs.Steps.{Gets, Pops, Tries, done_at, Performs, with_values}

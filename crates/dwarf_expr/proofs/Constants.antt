@@ -1,12 +1,12 @@
 -- A constant that is added to the top, in the type of the top.
-use Rattle.std.proofs.Common.{ℕ, ◌≡◌, List, [], ◌∷◌, Result, Ok, Err, Some, ap, ◌∙◌, sym, refl}
+use Rattle.std.proofs.Common.{ℕ, ◌≡◌, [], Result, Ok, Err, Some, ap, ◌∙◌, sym, refl}
 use Rattle.dwarf_base.specs.declared.errors.Error.{Error}
 use Rattle.dwarf_base.specs.Faults.{fault_of, NotEnoughStackItems}
 use Rattle.dwarf_value.specs.declared.types.Value.{Value}
 use Rattle.dwarf_value.specs.declared.types.ValueType.{ValueType}
 use Rattle.dwarf_value.specs.Values.{add_of, from_u64_of, type_of}
 use Rattle.dwarf_meaning.specs.Operations as operation
-use Rattle.dwarf_meaning.specs.Acts.{Act, Refuses, act, unary}
+use Rattle.dwarf_meaning.specs.Acts.{act, unary}
 use Rattle.dwarf_meaning.specs.Stores.{Plain, address_bits, push_value, Fails}
 use Rattle.dwarf_meaning.specs.Rest.{State, Running}
 use Rattle.dwarf_expr.specs.Steps.{Gets, Pops, Tries, Performs, act_of, done_at}

@@ -1,5 +1,5 @@
 -- A dereference: what it pops, and what it asks for.
-use Rattle.std.proofs.Common.{ℕ, ◌≡◌, ◌<◌, ◌≤◌, ◌*◌, Bool, true, false, List, [], ◌∷◌, Result, Ok, Err, Option, Some, None, arith, ap, ◌∙◌, sym, refl, nat_lt}
+use Rattle.std.proofs.Common.{ℕ, ◌≡◌, ◌<◌, ◌≤◌, ◌*◌, Bool, true, false, List, [], ◌∷◌, Result, Some, None, arith, ap, ◌∙◌, sym, nat_lt}
 use Rattle.std.proofs.lemmas.Bool.Decides.{nat_tests}
 use Rattle.dwarf_base.specs.declared.errors.Error.{Error}
 use Rattle.dwarf_base.specs.Faults.{fault_of, InvalidDerefSize}
@@ -8,9 +8,9 @@ use Rattle.dwarf_value.specs.Values.{to_u64_of}
 use Rattle.dwarf_meaning.specs.Operations as operation
 use Rattle.dwarf_meaning.specs.Requests.{RequiresMemory, Memory}
 use Rattle.dwarf_meaning.specs.Acts.{Act, Asks}
-use Rattle.dwarf_meaning.specs.Stores.{Store, address_bits, Next, Fails}
+use Rattle.dwarf_meaning.specs.Stores.{address_bits, Fails}
 use Rattle.dwarf_meaning.specs.Rest.{State}
-use Rattle.dwarf_expr.specs.Steps.{Gets, PopsTo, PopsNothing, Performs, PerformedBy, act_of, done_at, with_values}
+use Rattle.dwarf_expr.specs.Steps.{Gets, PopsTo, PopsNothing, Performs, act_of, done_at, with_values}
 use Rattle.dwarf_expr.proofs.ActCases.{wide_deref, none_deref, some_deref, one_deref, two_deref}
 use Rattle.dwarf_expr.proofs.Performances.{performs_as, performs_low, performs_refuses, popped_nothing}
 

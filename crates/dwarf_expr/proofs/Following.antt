@@ -1,16 +1,14 @@
 -- A call answers what the meaning gives, and what is left is what the meaning gives for the inputs to come.
-use Rattle.std.proofs.Common.{ℕ, zero, suc, ◌≡◌, ◌+◌, List, [], ◌∷◌, ◌++◌, length, Result, Ok, Err, Option, Some, None, ap, ◌∙◌, sym, refl, subst}
+use Rattle.std.proofs.Common.{ℕ, zero, suc, ◌≡◌, List, [], ◌∷◌, Result, Ok, Err, Option, ap, ◌∙◌, sym, refl, subst}
 use Rattle.dwarf_base.specs.declared.errors.Error.{Error}
 use Rattle.dwarf_base.specs.Faults.{Fault, fault_of}
-use Rattle.dwarf_value.specs.declared.types.Value.TheVariants.{Generic}
-use Rattle.dwarf_meaning.specs.Operations.{Text}
-use Rattle.dwarf_meaning.specs.Requests.{Request, Waiting, Answer, Input}
-use Rattle.dwarf_meaning.specs.Stores.{Setup, Store, Refusal, Never, After, push_value}
-use Rattle.dwarf_meaning.specs.Run.{Frame, Asking, ended, run}
-use Rattle.dwarf_meaning.specs.Meaning.{Outcome, Requests, Faults, Completes, unwound, First, fresh, with_initial, course_from, course_of, meaning}
+use Rattle.dwarf_meaning.specs.Requests.{Request, Answer, Input}
+use Rattle.dwarf_meaning.specs.Stores.{Setup, Store, Refusal, Never, After}
+use Rattle.dwarf_meaning.specs.Run.{Frame, Asking}
+use Rattle.dwarf_meaning.specs.Meaning.{Outcome, unwound, with_initial, course_from, meaning}
 use Rattle.dwarf_meaning.specs.Rest.{State, Status, Start, Running, Waits, Complete, Stopped, with_refusal, started, rest_by, rest}
-use Rattle.dwarf_expr.specs.Steps.{MayPick, before_pushes, Keeps, Reaches, Falls, ReachesFrom, FallsFrom, IsOpen, Came, RunsOn, Settles, TakenFar, TakesFar, after_input, input_of, with_status}
-use Rattle.dwarf_expr.specs.Calls.{Reply, Completed, Asked, Faulted, reply, IsTold, IsLater, Follows, first_of, means, IsFresh}
+use Rattle.dwarf_expr.specs.Steps.{before_pushes, Keeps, ReachesFrom, FallsFrom, IsOpen, RunsOn, Settles, TakesFar, after_input, input_of, with_status}
+use Rattle.dwarf_expr.specs.Calls.{Reply, Asked, reply, IsTold, IsLater, Follows, means, IsFresh}
 use Rattle.dwarf_expr.proofs.Refusals.{before_never, before_later}
 
 open_reply : (setup : Setup) (callers : List Frame) (request : Request) (frames : List Frame) (inputs : List Input) → reply (unwound setup callers (Asking request frames inputs)) ≡ Asked request

@@ -1,16 +1,16 @@
 -- What an operation does to a state is what its act says.
-use Rattle.std.proofs.Common.{ℕ, zero, suc, ℤ, ◌≡◌, ◌+◌, ◌<◌, ◌≤◌, Bool, true, false, List, [], ◌∷◌, length, Result, Ok, Err, Option, Some, None, arith, ap, ◌∙◌, sym, refl, subst, nat_lt}
+use Rattle.std.proofs.Common.{ℕ, ℤ, ◌≡◌, ◌<◌, ◌≤◌, true, false, List, [], ◌∷◌, length, Result, Ok, Err, Some, None, arith, ap, ◌∙◌, sym, refl, subst, nat_lt}
 use Rattle.std.proofs.lemmas.Bool.Decides.{nat_tests}
 use Rattle.dwarf_base.specs.declared.errors.Error.{Error}
-use Rattle.dwarf_base.specs.Faults.{Fault, fault_of, BadBranchTarget, NotEnoughStackItems, ◌>>=◌}
+use Rattle.dwarf_base.specs.Faults.{Fault, fault_of, BadBranchTarget, NotEnoughStackItems}
 use Rattle.dwarf_value.specs.declared.types.Value.{Value}
 use Rattle.dwarf_meaning.specs.Locations.{Location, Piece}
 use Rattle.dwarf_meaning.specs.Requests.{Request, Waiting}
 use Rattle.dwarf_meaning.specs.Acts.{Act, Pushes, Branches, Locates, Ends, Asks, Refuses}
-use Rattle.dwarf_meaning.specs.Stores.{Setup, Store, Refusal, Never, Last, Plain, Pieced, Located, push_value, push_piece, push_values, Next, Goes, Stops, Fails, goes, branch_target, branch, done}
+use Rattle.dwarf_meaning.specs.Stores.{Setup, Store, Never, Last, Plain, Pieced, Located, push_value, push_piece, push_values, Next, Goes, Stops, Fails, goes, branch_target, branch}
 use Rattle.dwarf_meaning.specs.Rest.{State, Status, Start, Running, Waits, Complete, Stopped, with_refusal}
 use Rattle.dwarf_meaning.proofs.Choices.{choose_true, choose_false}
-use Rattle.dwarf_expr.specs.Steps.{MayPick, Steps, Gets, Does, Tries, Pops, PopsNothing, Jumps, before_pushes, done_at, GoesOn, AsksFor, PerformedBy, Performs, with_store, with_values, with_status, with_last, with_place}
+use Rattle.dwarf_expr.specs.Steps.{Gets, Tries, Pops, PopsNothing, Jumps, before_pushes, done_at, GoesOn, AsksFor, PerformedBy, Performs, with_store, with_values, with_status, with_last, with_place}
 use Rattle.dwarf_expr.proofs.Refusals.{tries_as, bind_ok}
 
 pub performs_as : {X : Type 0} (a b : Act) (old new : State) (result : Result X Error) → a ≡ b → Performs b old new result → Performs a old new result

@@ -1,10 +1,10 @@
 -- A piece that is counted: at the address on top, or nowhere.
-use Rattle.std.proofs.Common.{ℕ, ◌≡◌, List, [], ◌∷◌, Option, Some, Result, ap, ◌∙◌, sym, refl, subst}
+use Rattle.std.proofs.Common.{ℕ, ◌≡◌, List, [], ◌∷◌, Option, Some, Result, ap, ◌∙◌, sym}
 use Rattle.dwarf_base.specs.declared.errors.Error.{Error}
 use Rattle.dwarf_value.specs.declared.types.Value.{Value}
 use Rattle.dwarf_value.specs.Values.{to_u64_of}
 use Rattle.dwarf_meaning.specs.Operations as operation
-use Rattle.dwarf_meaning.specs.Locations.{Empty, AtAddress, Piece}
+use Rattle.dwarf_meaning.specs.Locations.{Empty, AtAddress}
 use Rattle.dwarf_meaning.specs.Acts.{Ends}
 use Rattle.dwarf_meaning.specs.Stores.{Pieced, address_bits, push_piece}
 use Rattle.dwarf_meaning.specs.Rest.{State, Running}

@@ -1,5 +1,5 @@
 -- The last item of the list is the top of the stack.
-use Rattle.std.proofs.Common.{◌≡◌, refl, Option, Some, None, List, [], ◌∷◌, ◌++◌, ℕ, ◌-◌, ◌<◌, ◌≤◌, ◌+◌, length, reverse, sym, ap, ◌∙◌}
+use Rattle.std.proofs.Common.{◌≡◌, Option, Some, None, List, [], ◌∷◌, ◌++◌, reverse, sym, ap, ◌∙◌}
 use Rattle.std.specs.Prelude.{option_to_list, IfNone}
 use Rattle.std.proofs.lemmas.List.{reverse-append, append-nil}
 use Rattle.dwarf_value.specs.declared.types.Value.{Value}

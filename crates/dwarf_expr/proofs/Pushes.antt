@@ -1,5 +1,5 @@
 -- Pushes that a list took, and pushes that it refused.
-use Rattle.std.proofs.Common.{ℕ, zero, suc, ◌≡◌, ◌<◌, ◌⊎◌, inl, inr, Bool, true, false, List, [], ◌∷◌, ◌++◌, length, Result, Ok, Err, Option, Some, None, arith, ap, ◌∙◌, sym, refl, nat_lt}
+use Rattle.std.proofs.Common.{ℕ, zero, suc, ◌≡◌, inl, inr, [], ◌∷◌, ◌++◌, length, Result, Ok, Err, Option, Some, None, arith, ap, ◌∙◌, sym, refl, nat_lt}
 use Rattle.std.proofs.lemmas.Bool.Decides.{nat_tests}
 use Rattle.dwarf_base.specs.Faults.{Fault, StackFull, ◌>>=◌}
 use Rattle.dwarf_value.specs.declared.types.Value.{Value}
@@ -8,7 +8,7 @@ use Rattle.dwarf_meaning.specs.Stores.{Limits, Setup, Store, Refusal, Never, Aft
 use Rattle.dwarf_meaning.specs.Rest.{with_refusal}
 use Rattle.dwarf_meaning.proofs.Choices.{choose_true, choose_false}
 use Rattle.dwarf_expr.specs.Lists.{HasRoom, MayRefuse}
-use Rattle.dwarf_expr.specs.Steps.{MayPick, HasFreeList, before_push, before_pushes, Steps, Gets}
+use Rattle.dwarf_expr.specs.Steps.{MayPick, before_push, before_pushes, Steps, Gets}
 
 -- how many pushes on lists without a limit a push is
 abbrev pub cost : Option ℕ → ℕ

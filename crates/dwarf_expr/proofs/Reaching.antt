@@ -1,16 +1,16 @@
 -- What is left of a state, by where the evaluation stands, and one step after the other.
-use Rattle.std.proofs.Common.{ℕ, zero, suc, ◌≡◌, ◌+◌, List, [], ◌∷◌, Result, Ok, Err, Option, Some, None, true, false, ap, ◌∙◌, sym, refl, subst}
+use Rattle.std.proofs.Common.{ℕ, ◌≡◌, ◌+◌, List, [], ◌∷◌, Result, Ok, Err, Option, Some, None, true, false, ap, ◌∙◌, sym, refl, subst}
 use Rattle.dwarf_base.specs.declared.errors.Error.{Error}
 use Rattle.dwarf_base.specs.Faults.{Fault, fault_of}
 use Rattle.dwarf_value.specs.declared.types.Value.{Value}
 use Rattle.dwarf_value.specs.declared.types.Value.TheVariants.{Generic}
 use Rattle.dwarf_meaning.specs.Requests.{Request, Waiting, Input}
-use Rattle.dwarf_meaning.specs.Stores.{Setup, Store, Refusal, Never, After, push_value}
+use Rattle.dwarf_meaning.specs.Stores.{Setup, Store, Refusal, Never, push_value}
 use Rattle.dwarf_meaning.specs.Run.{Frame, Failed}
-use Rattle.dwarf_meaning.specs.Meaning.{Outcome, Faults, Completes, unwound, with_initial}
+use Rattle.dwarf_meaning.specs.Meaning.{Faults, Completes, unwound, with_initial}
 use Rattle.dwarf_meaning.specs.Rest.{State, Status, Start, Running, Waits, Complete, Stopped, with_refusal, running, started, waits, rest_by, rest}
 use Rattle.dwarf_meaning.proofs.Counts.{HasTally, OnStore, Tally, tally_of, tally-push_value}
-use Rattle.dwarf_expr.specs.Steps.{MayPick, before_pushes, Gets, Does, Tries, Keeps, Reaches, Falls, Begins, Begun, RunsOn, IsLive, IsOpen, is_running, with_status, with_store}
+use Rattle.dwarf_expr.specs.Steps.{MayPick, before_pushes, Gets, Does, Tries, Keeps, Reaches, Falls, Begins, Begun, RunsOn, IsLive, IsOpen, is_running, with_status}
 use Rattle.dwarf_expr.proofs.Refusals.{before_more, may_before}
 
 pub rest_running : (r : Refusal) (x : State) (inputs : List Input) → x.status ≡ Running → rest r x inputs ≡ running x (with_refusal r x.store) inputs

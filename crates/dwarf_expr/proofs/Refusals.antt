@@ -1,11 +1,11 @@
 -- The refusal some pushes before, and parts of the machine one after the other.
-use Rattle.std.proofs.Common.{ℕ, zero, suc, ◌≡◌, ◌+◌, List, [], ◌∷◌, Result, Ok, Err, arith, ap, ◌∙◌, sym, refl, subst}
+use Rattle.std.proofs.Common.{ℕ, zero, suc, ◌≡◌, ◌+◌, [], ◌∷◌, Result, Ok, Err, arith, ap, ◌∙◌, sym, refl, subst}
 use Rattle.dwarf_base.specs.declared.errors.Error.{Error}
-use Rattle.dwarf_base.specs.Faults.{Fault, fault_of, ◌>>=◌}
+use Rattle.dwarf_base.specs.Faults.{Fault, ◌>>=◌}
 use Rattle.dwarf_value.specs.declared.types.Value.{Value}
 use Rattle.dwarf_meaning.specs.Stores.{Limits, Setup, Store, Refusal, Never, After, push_value, push_values}
 use Rattle.dwarf_meaning.specs.Rest.{State, with_refusal}
-use Rattle.dwarf_expr.specs.Steps.{MayPick, before_push, before_pushes, Steps, Gets, Does, Tries, with_store}
+use Rattle.dwarf_expr.specs.Steps.{MayPick, before_push, before_pushes, Gets, Does, Tries, with_store}
 
 pub before_more : (p q : ℕ) (r : Refusal) → before_pushes (p + q) r ≡ before_pushes p (before_pushes q r)
 before_more zero q r =

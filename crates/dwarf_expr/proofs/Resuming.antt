@@ -1,17 +1,17 @@
 -- What comes of an answer.
-use Rattle.std.proofs.Common.{ℕ, zero, suc, ℤ, pos, ◌≡◌, ◌+◌, ◌%◌, ◌^◌, ◌+ℤ◌, List, [], ◌∷◌, ◌++◌, length, Result, Ok, Err, Option, Some, None, ap, ◌∙◌, sym, refl, subst, append_assoc}
+use Rattle.std.proofs.Common.{ℕ, suc, ◌≡◌, ◌+◌, List, [], ◌∷◌, ◌++◌, length, Result, Ok, Err, ap, ◌∙◌, sym, refl, subst, append_assoc}
 use Rattle.dwarf_base.specs.declared.errors.Error.{Error}
-use Rattle.dwarf_base.specs.Faults.{Fault, fault_of, NotEnoughStackItems}
+use Rattle.dwarf_base.specs.Faults.{Fault, fault_of}
 use Rattle.dwarf_value.specs.declared.types.Value.{Value}
 use Rattle.dwarf_meaning.specs.Operations.{Text}
 use Rattle.dwarf_meaning.specs.Requests.{Request, Waiting, Answer, Input}
 use Rattle.dwarf_meaning.specs.Acts.{Use, Gives, Calls, Denies, use_of}
-use Rattle.dwarf_meaning.specs.Stores.{Limits, Setup, address_bits, Store, Last, Pushed, Called, Refusal, Never, After, taken, push_value, push_frame}
-use Rattle.dwarf_meaning.specs.Run.{Frame, Course, End, Finished, Asking, Failed, ended, back, called, entered, resumed, used, run, with_input}
-use Rattle.dwarf_meaning.specs.Meaning.{Outcome, Requests, Faults, unwound}
-use Rattle.dwarf_meaning.specs.Rest.{State, Status, Running, Waits, with_refusal, running, rest}
+use Rattle.dwarf_meaning.specs.Stores.{Setup, address_bits, Store, Pushed, Called, Refusal, Never, After, taken, push_value, push_frame}
+use Rattle.dwarf_meaning.specs.Run.{Frame, Course, End, Finished, Asking, Failed, ended, back, called, entered, resumed, used, run}
+use Rattle.dwarf_meaning.specs.Meaning.{Requests, unwound}
+use Rattle.dwarf_meaning.specs.Rest.{State, Running, Waits, with_refusal, running}
 use Rattle.dwarf_meaning.proofs.Counts.{HasTally, OnStore, Tally, tally_of, tally-push_frame}
-use Rattle.dwarf_expr.specs.Steps.{MayPick, before_input, before_pushes, Steps, Gets, Does, Tries, Pops, Enters, TriesToEnter, Keeps, ReachesFrom, FallsFrom, RunsOn, after_input, input_of, Taken, Takes, TakenFar, TakesFar, with_last, with_status, with_store, with_values}
+use Rattle.dwarf_expr.specs.Steps.{before_input, before_pushes, Gets, Does, Tries, Enters, TriesToEnter, FallsFrom, RunsOn, after_input, input_of, Taken, Takes, TakesFar, with_last, with_status, with_values}
 use Rattle.dwarf_expr.proofs.Refusals.{before_more, may_before}
 use Rattle.dwarf_expr.proofs.Reaching.{rest_running, rest_waits, unwound_failed, value_tally, keeps_more, may_along}
 

@@ -1,19 +1,17 @@
 -- One operation that is counted is one turn of the nested run.
-use Rattle.std.proofs.Common.{ℕ, zero, suc, ◌≡◌, ◌+◌, ◌-◌, ◌*◌, ◌≤◌, ◌<◌, Bool, true, false, List, [], ◌∷◌, length, drop, Result, Ok, Err, arith, ap, ◌∙◌, sym, refl, subst, ◌==◌, nat_lt, ◌&&◌}
-use Rattle.std.proofs.lemmas.Bool.Decides.{nat_tests}
+use Rattle.std.proofs.Common.{ℕ, ◌≡◌, ◌+◌, ◌-◌, ◌*◌, ◌≤◌, ◌<◌, true, false, List, length, Result, Ok, Err, arith, ap, ◌∙◌, sym, refl, subst, ◌==◌}
 use Rattle.dwarf_base.specs.declared.errors.Error.{Error}
 use Rattle.dwarf_base.specs.Faults.{Fault, TooManyIterations, fault_of}
 use Rattle.dwarf_meaning.specs.Operations.{Operation, Text}
 use Rattle.dwarf_meaning.specs.Requests.{Request, Waiting, Input}
-use Rattle.dwarf_meaning.specs.Acts.{Act, act}
-use Rattle.dwarf_meaning.specs.Stores.{Setup, address_bits, Store, Last, Nothing, Plain, Pieced, Pushed, Called, Located, Refusal, Never, Next, Goes, Stops, Fails, done}
-use Rattle.dwarf_meaning.specs.Run.{Frame, Finished, Failed, Course, ended, passing, read, most, can_count, counted, does, counts, led, turn_by, turn, run}
-use Rattle.dwarf_meaning.specs.Meaning.{Outcome, Faults, unwound}
+use Rattle.dwarf_meaning.specs.Stores.{Setup, Store, Last, Nothing, Plain, Pieced, Pushed, Called, Located, Refusal, Never, Next, Goes, Stops, Fails}
+use Rattle.dwarf_meaning.specs.Run.{Finished, Failed, Course, ended, passing, read, most, can_count, counted, does, counts, led, turn_by, run}
+use Rattle.dwarf_meaning.specs.Meaning.{unwound}
 use Rattle.dwarf_meaning.specs.Rest.{State, Status, Start, Running, Waits, Complete, Stopped, with_refusal, running, waits, rest}
 use Rattle.dwarf_meaning.proofs.Choices.{choose_true, choose_false}
 use Rattle.dwarf_meaning.proofs.Counts.{HasTally, OnNext, Tally, tally_of, tally-done}
 use Rattle.dwarf_meaning.proofs.Turns.{run_turn, below_most}
-use Rattle.dwarf_expr.specs.Steps.{MayPick, Steps, Gets, Reads, before_pushes, act_of, done_at, GoesOn, AsksFor, PerformedBy, Performs, with_place, with_store, Keeps, Reaches, Falls, IsFree, IsReady, IsLive, Turned, Turns, effort, effort_by, waits_of}
+use Rattle.dwarf_expr.specs.Steps.{Gets, Reads, before_pushes, act_of, done_at, GoesOn, AsksFor, PerformedBy, Performs, with_place, with_store, Keeps, Falls, IsFree, IsReady, IsLive, Turned, Turns, effort, effort_by, waits_of}
 use Rattle.dwarf_expr.proofs.Reaching.{rest_running, rest_waits, unwound_failed}
 
 -- ---- what there is still to do

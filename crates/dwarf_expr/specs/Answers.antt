@@ -1,5 +1,5 @@
 -- What resumes are given, and where an evaluation stands as its caller sees it.
-use Rattle.std.specs.Prelude.{ℕ, ◌≡◌, Bool, Option, is_some}
+use Rattle.std.specs.Prelude.{◌≡◌, is_some}
 use Rattle.dwarf_meaning.specs.Operations.{Text}
 use Rattle.dwarf_meaning.specs.Kinds as meaning
 use Rattle.dwarf_meaning.specs.Kinds.{Kind, kind_of_waiting}

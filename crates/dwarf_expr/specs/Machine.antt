@@ -1,5 +1,5 @@
 -- What an evaluation stands for: a state of the nested meaning, its readers seen as texts and places.
-use Rattle.std.specs.Prelude.{ℕ, Bool, List, Option, ◌*◌, ◌-◌, ◌<◌, ◌≤◌, ◌≡◌, length, reverse, map}
+use Rattle.std.specs.Prelude.{ℕ, Bool, List, Option, ◌*◌, ◌-◌, ◌≡◌, length, reverse, map}
 use Rattle.std.specs.List.{AllByRecursion}
 use Rattle.dwarf_base.specs.declared.common.Encoding.{Encoding}
 use Rattle.dwarf_base.specs.Reads.{IsSuffix}
@@ -8,9 +8,9 @@ use Rattle.dwarf_value.specs.Values.{IsAddressMask, width_of}
 use Rattle.dwarf_meaning.specs.Operations.{Text}
 use Rattle.dwarf_meaning.specs.Locations as meaning
 use Rattle.dwarf_meaning.specs.Requests as asked
-use Rattle.dwarf_meaning.specs.Stores.{Limits, Setup, Store, Last, Nothing, Plain, Pieced, Pushed, Called, Located, Never}
+use Rattle.dwarf_meaning.specs.Stores.{Setup, Store, Last, Nothing, Plain, Pieced, Pushed, Called, Located, Never}
 use Rattle.dwarf_meaning.specs.Run.{Frame}
-use Rattle.dwarf_meaning.specs.Rest.{State, Status, Start, Running, Waits, Complete, Stopped}
+use Rattle.dwarf_meaning.specs.Rest.{Status, Start, Running, Waits, Complete, Stopped}
 use Rattle.dwarf_expr.specs.Views.{text_of, reference_of}
 use Rattle.dwarf_expr.specs.declared.op.locations.Location.{Location}
 use Rattle.dwarf_expr.specs.declared.op.locations.Location.TheVariants as location

@@ -1,5 +1,5 @@
 -- What the parts of an evaluation do to its state.
-use Rattle.std.specs.Prelude.{ℕ, zero, suc, ◌+◌, ◌-◌, ◌*◌, ◌<◌, ◌≤◌, ◌≡◌, ◌⊎◌, ◌==◌, Bool, true, false, List, [], ◌∷◌, ◌++◌, Option, Some, None, Result, Ok, Err, length}
+use Rattle.std.specs.Prelude.{ℕ, zero, suc, ◌+◌, ◌-◌, ◌*◌, ◌<◌, ◌≤◌, ◌≡◌, ◌⊎◌, ◌==◌, Bool, true, false, List, [], ◌∷◌, Option, Some, None, Result, Ok, Err, length}
 use Rattle.dwarf_base.specs.declared.errors.Error.{Error}
 use Rattle.dwarf_base.specs.declared.errors.Error.TheVariants.{BadBranchTarget, NotEnoughStackItems}
 use Rattle.dwarf_base.specs.Faults.{Fault, fault_of}
@@ -8,7 +8,7 @@ use Rattle.dwarf_value.specs.Values.{to_u64_of}
 use Rattle.dwarf_meaning.specs.Operations.{Operation, Text}
 use Rattle.dwarf_meaning.specs.Requests.{Request, Waiting, Answer, Input}
 use Rattle.dwarf_meaning.specs.Acts.{Act, act}
-use Rattle.dwarf_meaning.specs.Stores.{Limits, Setup, address_bits, Store, Last, Nothing, Plain, Pieced, Pushed, Called, Located, Refusal, Never, After, push_frame, Next, Goes, Stops, Fails, done}
+use Rattle.dwarf_meaning.specs.Stores.{Limits, address_bits, Store, Last, Located, Refusal, Never, After, push_frame, Next, Goes, Stops, Fails, done}
 use Rattle.dwarf_meaning.specs.Run.{Frame, read, most}
 use Rattle.dwarf_meaning.specs.Meaning.{Outcome, Faults, Completes}
 use Rattle.dwarf_meaning.specs.Rest.{State, Status, Start, Running, Waits, Complete, Stopped, with_refusal, rest}

@@ -2,6 +2,7 @@
 #![tactic(auto)]
 
 pub mod eval;
+pub mod laws;
 pub mod op;
 pub mod store;
 

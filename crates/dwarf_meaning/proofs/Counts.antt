@@ -1,10 +1,10 @@
 -- What an operation does, a piece behind a location and an answer leave the count and the settings as they are.
-use Rattle.std.proofs.Common.{ℕ, ◌≡◌, Bool, true, false, List, [], ◌∷◌, ◌++◌, length, Option, Some, None, Result, Ok, Err, refl, ◌∙◌}
+use Rattle.std.proofs.Common.{ℕ, ◌≡◌, List, [], ◌∷◌, ◌++◌, length, Option, Some, None, Result, Ok, Err, refl, ◌∙◌}
 use Rattle.dwarf_base.specs.Faults.{Fault, ◌>>=◌}
 use Rattle.dwarf_value.specs.declared.types.Value.{Value}
 use Rattle.dwarf_meaning.specs.Locations.{Location, Piece}
 use Rattle.dwarf_meaning.specs.Acts.{Act, Pushes, Branches, Locates, Ends, Asks, Refuses}
-use Rattle.dwarf_meaning.specs.Stores.{Setup, Store, Last, Plain, Pieced, Located, Refusal, room, push_value, push_piece, push_frame, push_values, Next, Goes, Stops, Fails, goes, branch_target, branch, done}
+use Rattle.dwarf_meaning.specs.Stores.{Setup, Store, Last, Plain, Pieced, Refusal, room, push_value, push_piece, push_frame, push_values, Next, Goes, Stops, Fails, goes, done}
 use Rattle.dwarf_meaning.specs.Run.{holds}
 use Rattle.dwarf_meaning.proofs.Choices.{choose_both}
 

@@ -1,15 +1,15 @@
 -- Enough turns are enough: a run is one turn, and then a run again.
-use Rattle.std.proofs.Common.{ℕ, zero, suc, ◌≡◌, ◌+◌, ◌-◌, ◌*◌, ◌≤◌, ◌<◌, Bool, true, false, List, [], ◌∷◌, length, drop, Option, Result, Ok, Err, arith, ap, ◌∙◌, sym, refl, subst, nat_lt, ◌&&◌, ◌==◌}
+use Rattle.std.proofs.Common.{ℕ, zero, suc, ◌≡◌, ◌+◌, ◌-◌, ◌*◌, ◌≤◌, ◌<◌, Bool, true, false, List, [], ◌∷◌, length, Result, Ok, Err, arith, ap, ◌∙◌, sym, refl, subst, ◌==◌}
 use Rattle.std.proofs.lemmas.Bool.Decides.{nat_tests}
 use Rattle.dwarf_base.specs.Faults.{Fault, TooManyIterations}
 use Rattle.dwarf_meaning.specs.Operations.{Operation, Text}
 use Rattle.dwarf_meaning.specs.Locations.{Location}
 use Rattle.dwarf_meaning.specs.Requests.{Request, Waiting, Input}
-use Rattle.dwarf_meaning.specs.Acts.{choose, act, Use, Gives, Calls, Denies, Misfits, use_of}
-use Rattle.dwarf_meaning.specs.Stores.{Setup, address_bits, Store, Last, Nothing, Plain, Pieced, Pushed, Called, Located, push_value, push_frame, Next, Goes, Stops, Fails, done}
-use Rattle.dwarf_meaning.specs.Run.{Frame, End, Finished, Asking, Failed, Course, ended, passing, asking, joined, Continues, back, resumed, entered, called, used, with_input, asked, led, read, most, can_count, counted, does, counts, piece_of, holds, held, turn_by, turn, out_of_turns, run_for, enough, run}
-use Rattle.dwarf_meaning.proofs.Choices.{choose_true, choose_false, choose_both}
-use Rattle.dwarf_meaning.proofs.Counts.{OnStore, OnNext, Tally, tally_of, HasTally, KeepsBoth, OnPiece, tally-push_value, tally-push_frame, tally-done, both-holds}
+use Rattle.dwarf_meaning.specs.Acts.{choose, Use, Gives, Calls, Denies, Misfits, use_of}
+use Rattle.dwarf_meaning.specs.Stores.{Setup, address_bits, Store, Last, Nothing, Plain, Pieced, Pushed, Called, Located, Next, Goes, Stops, Fails}
+use Rattle.dwarf_meaning.specs.Run.{Frame, End, Finished, Asking, Failed, Course, ended, passing, asking, joined, Continues, back, resumed, entered, called, used, with_input, asked, led, read, most, can_count, counted, does, counts, piece_of, held, turn_by, turn, out_of_turns, run_for, enough, run}
+use Rattle.dwarf_meaning.proofs.Choices.{choose_false, choose_both}
+use Rattle.dwarf_meaning.proofs.Counts.{OnStore, OnNext, Tally, tally_of, HasTally, OnPiece, tally-push_value, tally-push_frame, tally-done, both-holds}
 
 -- 1 where a location waits
 abbrev pub waits_of : Last → ℕ

@@ -11,7 +11,7 @@ ghost use Rattle.dwarf_expr.specs.Views.{text_of};
 
 use crate::eval::machine::Machine;
 use crate::eval::states::{EvaluationState, Given, Status};
-use crate::op::{EvaluationResult, Piece};
+use crate::op::{EvaluationResult, Expression, Piece};
 use crate::store::{EvaluationStorage, StoreOnHeap};
 use dwarf_base::{Encoding, Reader, Result};
 use dwarf_value::{Value, ValueType};
@@ -38,6 +38,27 @@ impl<R: Reader + Copy, S: EvaluationStorage<R>> Model for Evaluation<R, S> {
     ghost view = { λ e. e.machine };
 
     ghost invariant = { λ e. IsSettled e.machine };
+}
+
+impl<R: Reader + Copy> Expression<R> {
+    /// A fresh evaluation of the expression, on the heap. It takes no memory yet.
+    ///
+    /// The encoding's addresses have from 1 to 8 bytes.
+    pub fn evaluation<A: Allocator + Copy>(
+        self,
+        alloc: A,
+        encoding: Encoding,
+    ) -> Evaluation<R, StoreOnHeap<A>>
+        requires some { 0 < encoding.address_size }
+        requires fits { encoding.address_size ≤ 8 }
+        ensures status { result.status ≡ Start None }
+        ensures setup { result.setup ≡ setup_of encoding R.Offset.BITS None None None }
+        ensures text { result.text ≡ text_of R.bytes R.is_big self.0 }
+        ensures object_address { result.store.object_address ≡ None }
+        ensures maximum { result.store.maximum ≡ most_iterations }
+    {
+        Evaluation::new(alloc, self.0, encoding)
+    }
 }
 
 impl<R: Reader + Copy, A: Allocator + Copy> Evaluation<R, StoreOnHeap<A>> {

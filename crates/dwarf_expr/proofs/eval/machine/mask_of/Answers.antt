@@ -1,4 +1,4 @@
-use Rattle.std.proofs.Common.{◌≡◌, ◌-◌, ◌*◌, ◌^◌, ◌/◌, ◌<◌, ◌≤◌, ℕ, ap, ◌∙◌, sym, subst, arith}
+use Rattle.std.proofs.Common.{◌≡◌, ◌*◌, ◌<◌, ◌≤◌, ap, ◌∙◌, sym, subst, arith}
 use Rattle.dwarf_value.specs.Values.{IsAddressMask, width_of}
 use Rattle.dwarf_value.proofs.Masks.{address_mask, width_of-low}
 use Rattle.dwarf_expr.proofs.AddressMasks.{mask_is}

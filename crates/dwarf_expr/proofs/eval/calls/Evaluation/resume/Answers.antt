@@ -1,4 +1,4 @@
-use Rattle.std.proofs.Common.{sym, subst}
+use Rattle.std.proofs.Common.{subst}
 use Rattle.dwarf_meaning.specs.Rest.{State}
 use Rattle.dwarf_expr.specs.Answers.{answer_of}
 use Rattle.dwarf_expr.specs.Calls.{Resumes, reply_of}

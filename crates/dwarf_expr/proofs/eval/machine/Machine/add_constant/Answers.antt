@@ -1,8 +1,4 @@
-use Rattle.std.proofs.Common.{◌≡◌, ap, ◌∙◌, sym, Ok, Err}
-use Rattle.dwarf_value.specs.declared.types.Value.{Value}
-use Rattle.dwarf_value.specs.Values.{width_of, add_of, from_u64_of, type_of}
-use Rattle.dwarf_expr.proofs.Computes.{unary_none, unary_pushes, unary_refuses}
-use Rattle.dwarf_expr.proofs.Performances.{performs_refuses}
+use Rattle.dwarf_value.specs.Values.{width_of}
 use Rattle.dwarf_expr.proofs.Constants.{constant_pushes, constant_refuses, constant_none}
 use Rattle.dwarf_expr.proofs.eval.machine.Machine.add_constant.Goals as goal
 

@@ -1,4 +1,4 @@
-use Rattle.std.proofs.Common.{◌≡◌, ◌==◌, ℕ, [], ap, ◌∙◌, sym, true, false, arith, w16}
+use Rattle.std.proofs.Common.{◌≡◌, ◌==◌, [], ap, ◌∙◌, true, false, arith, w16}
 use Rattle.std.proofs.lemmas.Int.{to_z-of_z}
 use Rattle.std.proofs.lemmas.Bool.Decides.{nat_tests}
 use Rattle.std.proofs.lemmas.Result.{err_from_is_err_and}

@@ -1,4 +1,4 @@
-use Rattle.std.proofs.Common.{◌<◌, ◌≤◌, ◌≡◌, Bool, true, false, subst, sym, arith}
+use Rattle.std.proofs.Common.{Bool, subst, sym, arith}
 use Rattle.std.proofs.lemmas.Result.{err_from_is_err_and}
 use Rattle.dwarf_meaning.specs.Operations as operation
 use Rattle.dwarf_expr.specs.Steps.{Performs, act_of}

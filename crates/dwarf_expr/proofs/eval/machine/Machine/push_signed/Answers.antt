@@ -1,6 +1,5 @@
-use Rattle.std.proofs.Common.{◌≡◌, ℕ, ap, sym, refl}
+use Rattle.std.proofs.Common.{refl}
 use Rattle.dwarf_value.specs.declared.types.Value.TheVariants.{Generic}
-use Rattle.dwarf_meaning.specs.Acts.{push}
 use Rattle.dwarf_expr.proofs.ActCases.{signed_constant}
 use Rattle.dwarf_expr.proofs.Branches.{passed-residue}
 use Rattle.dwarf_expr.proofs.Performances.{performs_as, performs_push}

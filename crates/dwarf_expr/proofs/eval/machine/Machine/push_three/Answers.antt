@@ -1,4 +1,4 @@
-use Rattle.std.proofs.Common.{refl, subst, sym, [], ◌∷◌}
+use Rattle.std.proofs.Common.{refl, subst, [], ◌∷◌}
 use Rattle.dwarf_meaning.specs.Stores.{Plain, push_value, push_values}
 use Rattle.dwarf_meaning.specs.Rest.{State}
 use Rattle.dwarf_expr.specs.Steps.{Tries, with_last}

@@ -1,7 +1,6 @@
-use Rattle.std.proofs.Common.{sym, refl}
-use Rattle.std.proofs.lemmas.Result.{err_from_is_err_and}
+use Rattle.std.proofs.Common.{refl}
 use Rattle.dwarf_meaning.specs.Stores.{push_value}
-use Rattle.dwarf_expr.proofs.Refusals.{does_then, gets_then, push_values-two, tries_as}
+use Rattle.dwarf_expr.proofs.Refusals.{does_then, push_values-two, tries_as}
 use Rattle.dwarf_expr.proofs.eval.machine.Machine.push_two.Goals as goal
 
 pub returns : goal.returns

@@ -1,4 +1,4 @@
-use Rattle.std.proofs.Common.{◌≡◌, ◌%◌, ◌+◌, ◌^◌, ℕ, ℤ, ap, ◌∙◌, w16}
+use Rattle.std.proofs.Common.{◌%◌, ◌+◌, ◌^◌, ℤ, ap, ◌∙◌, w16}
 use Rattle.std.proofs.lemmas.Int.{to_z-of_z}
 use Rattle.dwarf_base.specs.Numbers.{residue}
 use Rattle.dwarf_expr.proofs.Branches.{residue-add}

@@ -1,7 +1,6 @@
-use Rattle.std.proofs.Common.{◌≡◌, ℕ, ap, ◌∙◌, sym, refl}
+use Rattle.std.proofs.Common.{ℕ, ap, ◌∙◌, sym}
 use Rattle.dwarf_value.specs.Values.{width_of, convert_of}
 use Rattle.dwarf_meaning.specs.Requests.{Convert, BaseTypeAnswer}
-use Rattle.dwarf_meaning.specs.Stores.{address_bits}
 use Rattle.dwarf_expr.proofs.AnswerUses.{open_to, convert_none, convert_gives}
 use Rattle.dwarf_expr.proofs.Computes.{width_old}
 use Rattle.dwarf_expr.proofs.Resuming.{denies, value_takes}

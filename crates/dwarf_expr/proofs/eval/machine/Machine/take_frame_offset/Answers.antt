@@ -1,4 +1,4 @@
-use Rattle.std.proofs.Common.{◌≡◌, ◌+◌, ◌%◌, ◌^◌, ℕ, ap, ◌∙◌, sym, refl}
+use Rattle.std.proofs.Common.{◌+◌, ◌%◌, ◌^◌, ℕ, ap, ◌∙◌, refl}
 use Rattle.dwarf_value.specs.declared.types.Value.TheVariants.{Generic}
 use Rattle.dwarf_meaning.specs.Requests.{FrameBase, FrameBaseAnswer}
 use Rattle.dwarf_expr.proofs.AnswerUses.{open_to, frame_base_gives}

@@ -1,8 +1,5 @@
-use Rattle.std.proofs.Common.{◌≡◌, ℕ, List, Result, Ok, Err, ap, ◌∙◌, sym, refl}
-use Rattle.dwarf_base.specs.declared.errors.Error.{Error}
-use Rattle.dwarf_value.specs.declared.types.Value.{Value}
-use Rattle.dwarf_value.specs.declared.types.ValueType.{ValueType}
-use Rattle.dwarf_value.specs.Values.{width_of, add_of, from_u64_of, type_of}
+use Rattle.std.proofs.Common.{Ok, Err, refl}
+use Rattle.dwarf_value.specs.Values.{width_of}
 use Rattle.dwarf_meaning.specs.Requests.{Register, RegisterAnswer}
 use Rattle.dwarf_expr.proofs.AnswerUses.{open_to, register_gives, register_denies}
 use Rattle.dwarf_expr.proofs.Branches.{passed-residue}

@@ -1,7 +1,6 @@
-use Rattle.std.proofs.Common.{◌≡◌, ℕ, ap, ◌∙◌, sym, refl}
+use Rattle.std.proofs.Common.{ℕ, ap, ◌∙◌, sym}
 use Rattle.dwarf_value.specs.Values.{width_of, reinterpret_of}
 use Rattle.dwarf_meaning.specs.Requests.{Reinterpret, BaseTypeAnswer}
-use Rattle.dwarf_meaning.specs.Stores.{address_bits}
 use Rattle.dwarf_expr.proofs.AnswerUses.{open_to, reinterpret_none, reinterpret_gives, reinterpret_denies}
 use Rattle.dwarf_expr.proofs.Computes.{width_old}
 use Rattle.dwarf_expr.proofs.Resuming.{denies, value_takes}

@@ -1,0 +1,32 @@
+ghost use Rattle.std.specs.Prelude.{◌≡◌, IfOk, None, Some};
+ghost use Rattle.dwexpr.specs.Words.{bytes_in};
+
+use hex::FromHexError;
+use std::alloc::Allocator;
+
+/// Why a word gave no bytes.
+#[derive(Clone, Copy, Debug, PartialEq, Eq)]
+pub enum HexFault {
+    /// It isn't `-` and not a positive even number of hexadecimal digits.
+    Bad,
+    /// There was no memory for the bytes.
+    NoMemory,
+}
+
+/// The bytes that a word of hexadecimal digits says, of either case; `-` says none.
+pub fn bytes_of<A: Allocator>(alloc: A, word: &str) -> Result<Vec<u8, A>, HexFault>
+    ensures ok { IfOk result (λ bytes. bytes_in word.now ≡ Some bytes.items) }
+    ensures bad { result ≡ Err HexFault.Bad → bytes_in word.now ≡ None }
+{
+    if word == "-" {
+        return Ok(Vec::new(alloc));
+    }
+    if word.is_empty() {
+        return Err(HexFault::Bad);
+    }
+    match hex::decode(alloc, word) {
+        Ok(bytes) => Ok(bytes),
+        Err(FromHexError::OutOfMemory) => Err(HexFault::NoMemory),
+        Err(_) => Err(HexFault::Bad),
+    }
+}

@@ -1,0 +1,145 @@
+ghost use Rattle.std.specs.Prelude.{◌<◌, ◌≤◌};
+
+use crate::hexadecimal::{HexFault, bytes_of};
+use crate::lines::{print_fault, print_piece, print_result, print_value_line};
+use crate::steps::count_steps;
+use crate::words::{Reading, reading_of};
+use dwarf_base::EndianSlice;
+use dwarf_expr::eval::{Evaluation, Status};
+use dwarf_expr::store::StoreOnHeap;
+use std::alloc::Allocator;
+use std::io;
+use std::io::{ErrorKind, Read, Write};
+
+// How the program ends.
+const DONE: u8 = 0;
+
+const FAILED: u8 = 1;
+
+const MISUSED: u8 = 2;
+
+/// Prints that the words are not those of the program.
+fn bad_words<W: Write>(output: &mut W) -> io::Result<u8> {
+    writeln!(output, "bad words")?;
+    Ok(MISUSED)
+}
+
+/// Prints that there was no memory.
+fn no_memory<W: Write>(output: &mut W) -> io::Result<u8> {
+    writeln!(output, "no memory")?;
+    Ok(FAILED)
+}
+
+/// Evaluates the bytes in so many steps, and prints what each answers and what comes out.
+fn evaluate<A: Allocator + Copy, W: Write>(
+    alloc: A,
+    bytes: &[u8],
+    reading: Reading,
+    steps: u64,
+    output: &mut W,
+) -> io::Result<u8>
+    requires some { 0 < reading.encoding.address_size }
+    requires fits { reading.encoding.address_size ≤ 8 }
+{
+    let slice = EndianSlice::new(bytes, reading.order);
+    let mut evaluation: Evaluation<_, StoreOnHeap<A>> = Evaluation::new(
+        alloc,
+        slice,
+        reading.encoding,
+    );
+    for step in 0..steps {
+        if let Status::Waiting(_) = evaluation.status() {
+            let line = step + 1;
+            writeln!(output, "misplaced {line}")?;
+            return Ok(MISUSED);
+        }
+        match evaluation.evaluate() {
+            Ok(result) => print_result(output, result)?,
+            Err(error) => print_fault(output, error)?,
+        }
+    }
+    match evaluation.status() {
+        Status::Complete => {
+            for piece in evaluation.as_result() {
+                print_piece(output, *piece)?;
+            }
+            print_value_line(output, evaluation.value_result())?;
+            Ok(DONE)
+        }
+        Status::Failed(_) => Ok(FAILED),
+        Status::Start { initial: _ } => Ok(DONE),
+        Status::Waiting(_) => Ok(DONE),
+    }
+}
+
+/// Reads the steps, and evaluates the bytes in them.
+fn run_eval<A: Allocator + Copy, I: Read + Drop, W: Write>(
+    alloc: A,
+    bytes: &[u8],
+    reading: Reading,
+    mut input: I,
+    output: &mut W,
+) -> io::Result<u8>
+    requires some { 0 < reading.encoding.address_size }
+    requires fits { reading.encoding.address_size ≤ 8 }
+{
+    let mut text = Vec::new(alloc);
+    if let Err(error) = input.read_to_end(&mut text) {
+        return match error.kind() {
+            ErrorKind::OutOfMemory => no_memory(output),
+            _ => Ok(FAILED),
+        };
+    }
+    match count_steps(text.as_slice()) {
+        Ok(steps) => evaluate(alloc, bytes, reading, steps, output),
+        Err(line) => {
+            writeln!(output, "bad step {line}")?;
+            Ok(MISUSED)
+        }
+    }
+}
+
+/// Judges the words, and does what they say.
+fn run_words<A: Allocator + Copy, I: Read + Drop, W: Write>(
+    alloc: A,
+    words: &[String<A>],
+    input: I,
+    output: &mut W,
+) -> io::Result<u8> {
+    let [command, size, offsets, version, order, hexadecimal] = words else {
+        return bad_words(output);
+    };
+    if command.as_str() != "eval" {
+        return bad_words(output);
+    }
+    let Some(reading) = reading_of([
+        size.as_str(),
+        offsets.as_str(),
+        version.as_str(),
+        order.as_str(),
+    ]) else {
+        return bad_words(output);
+    };
+    match bytes_of(alloc, hexadecimal.as_str()) {
+        Ok(bytes) => run_eval(alloc, bytes.as_slice(), reading, input, output),
+        Err(HexFault::Bad) => bad_words(output),
+        Err(HexFault::NoMemory) => no_memory(output),
+    }
+}
+
+/// Runs the program on the words behind its name, and answers its exit status.
+///
+/// `eval ADDR OFFSET VERSION ORDER HEX` evaluates the bytes HEX, in the steps that the lines of `input` say,
+/// and prints one line for each answer and then what came out. The status is 0; 1 where the evaluation
+/// failed, a read or a write failed or there was no memory; 2 where the words or a line are bad.
+pub fn run<A: Allocator + Copy, I: Read + Drop, W: Write + Drop>(
+    alloc: A,
+    words: &[String<A>],
+    input: I,
+    mut output: W,
+) -> u8 {
+    match run_words(alloc, words, input, &mut output) {
+        Ok(status) => status,
+        Err(_) => FAILED,
+    }
+}

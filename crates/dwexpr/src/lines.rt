@@ -5,7 +5,7 @@ use std::io;
 use std::io::Write;
 
 /// Bytes as lower case digits, or `-` for none.
-fn print_bytes<R: Reader + Copy, W: Write>(output: &mut W, bytes: R) -> io::Result<()> {
+pub(crate) fn print_bytes<R: Reader + Copy, W: Write>(output: &mut W, bytes: R) -> io::Result<()> {
     if bytes.is_empty() {
         return write!(output, "-");
     }

@@ -3,6 +3,7 @@
 
 mod hexadecimal;
 mod lines;
+mod operations;
 mod program;
 mod steps;
 #[cfg(test)]

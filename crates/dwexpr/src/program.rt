@@ -2,6 +2,7 @@ ghost use Rattle.std.specs.Prelude.{◌<◌, ◌≤◌};
 
 use crate::hexadecimal::{HexFault, bytes_of};
 use crate::lines::{print_fault, print_piece, print_result, print_value_line};
+use crate::operations::print_operations;
 use crate::steps::count_steps;
 use crate::words::{Reading, reading_of};
 use dwarf_base::EndianSlice;
@@ -99,6 +100,33 @@ fn run_eval<A: Allocator + Copy, I: Read + Drop, W: Write>(
     }
 }
 
+/// What is to be done with the bytes.
+#[derive(Clone, Copy)]
+enum Command {
+    /// List their operations.
+    Ops,
+    /// Evaluate them.
+    Eval,
+}
+
+/// What the first word says.
+fn command_of(word: &str) -> Option<Command> {
+    match word.as_bytes() {
+        b"ops" => Some(Command::Ops),
+        b"eval" => Some(Command::Eval),
+        _ => None,
+    }
+}
+
+/// Lists the operations of the bytes.
+fn run_ops<W: Write>(bytes: &[u8], reading: Reading, output: &mut W) -> io::Result<u8> {
+    if print_operations(output, bytes, reading)? {
+        Ok(DONE)
+    } else {
+        Ok(FAILED)
+    }
+}
+
 /// Judges the words, and does what they say.
 fn run_words<A: Allocator + Copy, I: Read + Drop, W: Write>(
     alloc: A,
@@ -109,9 +137,9 @@ fn run_words<A: Allocator + Copy, I: Read + Drop, W: Write>(
     let [command, size, offsets, version, order, hexadecimal] = words else {
         return bad_words(output);
     };
-    if command.as_str() != "eval" {
+    let Some(command) = command_of(command.as_str()) else {
         return bad_words(output);
-    }
+    };
     let Some(reading) = reading_of([
         size.as_str(),
         offsets.as_str(),
@@ -120,18 +148,20 @@ fn run_words<A: Allocator + Copy, I: Read + Drop, W: Write>(
     ]) else {
         return bad_words(output);
     };
-    match bytes_of(alloc, hexadecimal.as_str()) {
-        Ok(bytes) => run_eval(alloc, bytes.as_slice(), reading, input, output),
-        Err(HexFault::Bad) => bad_words(output),
-        Err(HexFault::NoMemory) => no_memory(output),
+    match (command, bytes_of(alloc, hexadecimal.as_str())) {
+        (Command::Ops, Ok(bytes)) => run_ops(bytes.as_slice(), reading, output),
+        (Command::Eval, Ok(bytes)) => run_eval(alloc, bytes.as_slice(), reading, input, output),
+        (_, Err(HexFault::Bad)) => bad_words(output),
+        (_, Err(HexFault::NoMemory)) => no_memory(output),
     }
 }
 
 /// Runs the program on the words behind its name, and answers its exit status.
 ///
-/// `eval ADDR OFFSET VERSION ORDER HEX` evaluates the bytes HEX, in the steps that the lines of `input` say,
+/// `ops ADDR OFFSET VERSION ORDER HEX` lists the operations of the bytes HEX: the place, the bytes and the name of
+/// each, or the place and the fault where one is met. `eval ADDR OFFSET VERSION ORDER HEX` evaluates the bytes HEX, in the steps that the lines of `input` say,
 /// and prints one line for each answer and then what came out. The status is 0; 1 where the evaluation
-/// failed, a read or a write failed or there was no memory; 2 where the words or a line are bad.
+/// or the decoding failed, a read or a write failed or there was no memory; 2 where the words or a line are bad.
 pub fn run<A: Allocator + Copy, I: Read + Drop, W: Write + Drop>(
     alloc: A,
     words: &[String<A>],

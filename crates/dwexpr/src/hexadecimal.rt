@@ -1,4 +1,4 @@
-ghost use Rattle.std.specs.Prelude.{◌≡◌, IfOk, None, Some};
+ghost use Rattle.std.specs.Prelude.{◌≡◌, IfErr, IfOk, None, Some, [], ◌∷◌};
 ghost use Rattle.dwexpr.specs.Words.{bytes_in};
 
 use hex::FromHexError;
@@ -17,6 +17,8 @@ pub enum HexFault {
 pub fn bytes_of<A: Allocator>(alloc: A, word: &str) -> Result<Vec<u8, A>, HexFault>
     ensures ok { IfOk result (λ bytes. bytes_in word.now ≡ Some bytes.items) }
     ensures bad { result ≡ Err HexFault.Bad → bytes_in word.now ≡ None }
+    ensures none { word.now ≡ 45 ∷ [] → IfErr result (λ fault. ⊥) }
+    ensures empty { word.now ≡ [] → result ≡ Err HexFault.Bad }
 {
     if word == "-" {
         return Ok(Vec::new(alloc));

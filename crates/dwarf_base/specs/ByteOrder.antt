@@ -1,4 +1,4 @@
--- Byte orders (DWARF 5, section 7.1).
+-- Byte orders (DWARF 5, section 7).
 use Rattle.std.specs.Prelude.{Bool, true, false}
 use Rattle.dwarf_base.specs.declared.byte_order.RunTimeEndian.{RunTimeEndian}
 use Rattle.dwarf_base.specs.declared.byte_order.RunTimeEndian.TheVariants.{Little, Big}

@@ -29,6 +29,6 @@ abbrev pub big_of : List ℕ → ℕ
 big_of [] = 0
 big_of (byte ∷ bytes) = byte * 256 ^ length bytes + big_of bytes
 
--- the number of some bytes in a byte order (DWARF 5, section 7.1)
+-- the number of some bytes in a byte order (DWARF 5, section 7)
 abbrev pub number_of : (big : Bool) → List ℕ → ℕ
 number_of big bytes = if big then big_of bytes else little_of bytes

@@ -3,7 +3,7 @@ ghost use Rattle.dwarf_base.specs.ByteOrder.{is_big_of};
 
 use std::fmt::Debug;
 
-/// A byte order (DWARF 5, section 7.1).
+/// A byte order (DWARF 5, section 7).
 pub trait Endianity: Debug + Copy {
     ghost is_big: { Self → Bool };
 

@@ -149,8 +149,8 @@ impl<R: Reader + Copy, S: EvaluationStorage<R>> Evaluation<R, S> {
         self.machine.set_object_address(value);
     }
 
-    /// Sets how many operations may be evaluated in all. It holds from now on. While it isn't set, there may
-    /// be 4294967295.
+    /// Sets how many operations may be evaluated in all. It holds from now on, and can't be unset. While it isn't
+    /// set, there may be 4294967295. A location and the piece behind it count as one.
     pub fn set_max_iterations(&mut self, value: u32)
         ensures { self.new ≡ with_maximum value self.old }
     {

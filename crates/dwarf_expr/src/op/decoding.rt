@@ -442,7 +442,12 @@ fn read_operands<R: Reader + Copy>(
 }
 
 impl<R: Reader + Copy> Operation<R> {
-    /// Reads the operation at the front of `bytes`.
+    /// Reads the operation at the front of `bytes` (DWARF 5, sections 2.5 and 7.7.1).
+    ///
+    /// `UnexpectedEof` where its bytes are cut off, `InvalidExpression` of an unknown opcode, and
+    /// `BadUnsignedLeb128`, `BadSignedLeb128`, `UnsupportedAddressSize`, `UnsupportedOffset`, `UnsupportedRegister` or
+    /// `InvalidPieceSize` of an operand; the first operand that isn't allowed decides. After an error `bytes` is at a suffix of
+    /// what it was.
     #[tactic(auto, using(dwarf_base::proofs::Suffixes::suffix_trans), unfolding(dwarf_meaning::specs::Decoding::operation_at))]
     #[inline]
     pub fn parse(bytes: &mut R, encoding: Encoding) -> Result<Operation<R>>

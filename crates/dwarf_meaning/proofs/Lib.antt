@@ -9,3 +9,4 @@ pub mod DecodingFaults
 pub mod Choices
 pub mod Counts
 pub mod Turns
+pub mod FewTurns

@@ -1,4 +1,4 @@
--- Laws of spelling, refusal and splitting.
+-- Laws of spelling, refusal and splitting (DWARF 5, sections 2.5 and 7.7.1).
 use Rattle.std.specs.Prelude.{ℕ, ◌<◌, ◌≤◌, ◌≡◌, ◌⊎◌, ◌↔◌, Bool, List, ◌∷◌, ◌++◌, Ok, Err, Option, None, length}
 use Rattle.dwarf_base.specs.declared.common.Encoding.{Encoding}
 use Rattle.dwarf_base.specs.Faults.{Fault, UnexpectedEof, BadUnsignedLeb128, BadSignedLeb128, UnsupportedAddressSize, UnsupportedOffset, UnsupportedRegister, InvalidExpression, InvalidPieceSize}

@@ -1,4 +1,4 @@
--- The kinds of answers that requests wait for.
+-- The kinds of answers that requests wait for (DWARF 5, sections 2.5.1 and 2.6.1).
 use Rattle.dwarf_meaning.specs.Requests as asked
 use Rattle.dwarf_meaning.specs.Requests.{Request, Waiting, Answer}
 

@@ -14,3 +14,8 @@ pub mod Stores
 pub mod Run
 pub mod Meaning
 pub mod Rest
+pub mod Steps
+pub mod Rows
+pub mod Agreement
+pub mod TwoRuns
+pub mod Inlining

@@ -1,4 +1,4 @@
--- The meaning of an expression, for the settings and the answers of its caller.
+-- The meaning of an expression, for the settings and the answers of its caller (DWARF 5, sections 2.5, 2.6.1.1 and 2.6.1.2).
 use Rattle.std.specs.Prelude.{Bool, true, false, ℕ, List, [], ◌∷◌, ◌++◌, Option, Some, None, Result, Ok, Err, length}
 use Rattle.dwarf_base.specs.Faults.{Fault, InvalidPiece, NotEnoughStackItems}
 use Rattle.dwarf_value.specs.declared.types.Value.{Value}

@@ -1,4 +1,4 @@
--- What is left to do of an evaluation that has come to some state.
+-- What is left to do of an evaluation that has come to some state (DWARF 5, sections 2.5 and 2.5.1.5).
 use Rattle.std.specs.Prelude.{ℕ, List, Option, Result, Ok, Err, length}
 use Rattle.dwarf_base.specs.declared.errors.Error.{Error}
 use Rattle.dwarf_base.specs.Faults.{Fault, fault_of}

@@ -1,4 +1,4 @@
--- Which bytes spell which operation, and which texts are refused: relations on whole lists of bytes.
+-- Which bytes spell which operation, and which texts are refused: relations on whole lists of bytes (DWARF 5, sections 7.6 and 7.7.1).
 use Rattle.std.specs.Prelude.{ℕ, ◌*◌, ◌<◌, ◌≡◌, ℤ, Bool, true, false, List, [], ◌∷◌, ◌++◌, Ok, Err, length}
 use Rattle.dwarf_base.specs.declared.common.Encoding.{Encoding}
 use Rattle.dwarf_base.specs.Faults.{Fault, UnexpectedEof, UnsupportedAddressSize, InvalidExpression}

@@ -1,4 +1,4 @@
--- A text as operations, one after another.
+-- A text as operations, one after another (DWARF 5, sections 2.5 and 7.7.1).
 use Rattle.std.specs.Prelude.{ℕ, zero, suc, Bool, List, [], ◌∷◌, ◌++◌, Result, Ok, Err, Option, Some, None, length}
 use Rattle.dwarf_base.specs.declared.common.Encoding.{Encoding}
 use Rattle.dwarf_base.specs.Faults.{Fault}

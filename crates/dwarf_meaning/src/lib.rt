@@ -2,5 +2,7 @@
 #![tactic(auto)]
 
 mod laws;
+mod rows;
 
 pub use laws::decode_laws;
+pub use rows::worked_rows;

@@ -1,0 +1,72 @@
+-- Words of a statement that is not yet proved: what two callers hand in, and what they get, but for the bits above an address (DWARF 5, sections 2.5.1 and 2.6.1).
+use Rattle.std.specs.Prelude.{ℕ, ◌%◌, ◌^◌, ◌≡◌, List, [], ◌∷◌, Option, Some, None}
+use Rattle.dwarf_base.specs.Faults.{Fault}
+use Rattle.dwarf_value.specs.declared.types.Value.{Value}
+use Rattle.dwarf_value.specs.declared.types.ValueType.{ValueType}
+use Rattle.dwarf_value.specs.Values.{Agree}
+use Rattle.dwarf_meaning.specs.Operations.{Text}
+use Rattle.dwarf_meaning.specs.Locations.{Location, HoldsValue, Piece}
+use Rattle.dwarf_meaning.specs.Requests.{Request, Answer, MemoryAnswer, RegisterAnswer, WasmAnswer, EntryAnswer, FrameBaseAnswer, TlsAnswer, CfaAnswer, ParameterAnswer, RelocatedAnswer, IndexedAnswer, LocationAnswer, BaseTypeAnswer}
+use Rattle.dwarf_meaning.specs.Run.{Frame}
+use Rattle.dwarf_meaning.specs.Meaning.{Outcome, Requests, Faults, Completes}
+use Rattle.dwarf_meaning.specs.Steps.{Step, InitialValue, ObjectAddress, MaxIterations, Evaluate, Resume}
+
+-- two lists of one length, related item by item
+pub data Pairwise {A : Type 0} (R : A → A → Type 0) : List A → List A → Type 0 where
+  none : Pairwise R [] []
+  more : {x y : A} {xs ys : List A} → R x y → Pairwise R xs ys → Pairwise R (x ∷ xs) (y ∷ ys)
+
+-- nothing twice, or two that are related
+pub data Both {A : Type 0} (R : A → A → Type 0) : Option A → Option A → Type 0 where
+  nothing : Both R None None
+  something : {x y : A} → R x y → Both R (Some x) (Some y)
+
+-- ---- what is handed in; an address has w bits
+
+-- two numbers are the same modulo two to w
+abbrev pub AgreeingNumbers : (w : ℕ) → (first second : ℕ) → Type 0
+AgreeingNumbers w first second = first % 2 ^ w ≡ second % 2 ^ w
+
+-- answers of one kind, whose numbers or values agree, and whose texts and types are the same
+pub data AgreeingAnswers (w : ℕ) : Answer → Answer → Type 0 where
+  memory : {x y : Value} → Agree w x y → AgreeingAnswers w (MemoryAnswer x) (MemoryAnswer y)
+  register : {x y : Value} → Agree w x y → AgreeingAnswers w (RegisterAnswer x) (RegisterAnswer y)
+  wasm_value : {x y : Value} → Agree w x y → AgreeingAnswers w (WasmAnswer x) (WasmAnswer y)
+  entry_value : {x y : Value} → Agree w x y → AgreeingAnswers w (EntryAnswer x) (EntryAnswer y)
+  frame_base : {m n : ℕ} → AgreeingNumbers w m n → AgreeingAnswers w (FrameBaseAnswer m) (FrameBaseAnswer n)
+  tls : {m n : ℕ} → AgreeingNumbers w m n → AgreeingAnswers w (TlsAnswer m) (TlsAnswer n)
+  cfa : {m n : ℕ} → AgreeingNumbers w m n → AgreeingAnswers w (CfaAnswer m) (CfaAnswer n)
+  parameter : {m n : ℕ} → AgreeingNumbers w m n → AgreeingAnswers w (ParameterAnswer m) (ParameterAnswer n)
+  relocated : {m n : ℕ} → AgreeingNumbers w m n → AgreeingAnswers w (RelocatedAnswer m) (RelocatedAnswer n)
+  indexed : {m n : ℕ} → AgreeingNumbers w m n → AgreeingAnswers w (IndexedAnswer m) (IndexedAnswer n)
+  location : {text : Text} → AgreeingAnswers w (LocationAnswer text) (LocationAnswer text)
+  base_type : {value_type : ValueType} → AgreeingAnswers w (BaseTypeAnswer value_type) (BaseTypeAnswer value_type)
+
+-- steps of one kind; the maximum is the same
+pub data AgreeingSteps (w : ℕ) : Step → Step → Type 0 where
+  initial_value : {m n : ℕ} → AgreeingNumbers w m n → AgreeingSteps w (InitialValue m) (InitialValue n)
+  object_address : {m n : ℕ} → AgreeingNumbers w m n → AgreeingSteps w (ObjectAddress m) (ObjectAddress n)
+  max_iterations : {maximum : ℕ} → AgreeingSteps w (MaxIterations maximum) (MaxIterations maximum)
+  evaluate : AgreeingSteps w Evaluate Evaluate
+  resume : {first second : Answer} → AgreeingAnswers w first second → AgreeingSteps w (Resume first) (Resume second)
+
+-- ---- what comes of it
+
+-- the same location, or two values that agree
+pub data AgreeingLocations (w : ℕ) : Location → Location → Type 0 where
+  same : {location : Location} → AgreeingLocations w location location
+  values : {x y : Value} → Agree w x y → AgreeingLocations w (HoldsValue x) (HoldsValue y)
+
+-- the same size and the same offset, in bits
+pub record AgreeingPieces (w : ℕ) (first second : Piece) : Type 0 where
+  pub sizes : first.size_in_bits ≡ second.size_in_bits
+  pub offsets : first.bit_offset ≡ second.bit_offset
+  pub locations : AgreeingLocations w first.location second.location
+
+-- the same request with the same open texts and places, the same fault, or pieces and values that agree
+pub data AgreeingOutcomes (w : ℕ) : Outcome → Outcome → Type 0 where
+  requests : {request : Request} {frames : List Frame} → AgreeingOutcomes w (Requests request frames) (Requests request frames)
+  faults : {fault : Fault} → AgreeingOutcomes w (Faults fault) (Faults fault)
+  completions : {pieces others : List Piece} {value other : Option Value}
+      → Pairwise (AgreeingPieces w) pieces others → Both (Agree w) value other
+      → AgreeingOutcomes w (Completes pieces value) (Completes others other)

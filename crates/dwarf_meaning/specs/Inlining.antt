@@ -1,0 +1,123 @@
+-- A statement that is not yet proved: a called text may be written in its call's place (DWARF 5, section 2.5.1.5).
+use Rattle.std.specs.Prelude.{ℕ, ◌+◌, ◌^◌, ◌<◌, ◌≡◌, ◌≢◌, Bool, List, [], ◌∷◌, ◌++◌, Option, None, length}
+use Rattle.dwarf_base.specs.Faults.{Fault}
+use Rattle.dwarf_value.specs.declared.types.Value.{Value}
+use Rattle.dwarf_meaning.specs.Operations.{Operation, Bra, Skip, Call, Text, DieReference}
+use Rattle.dwarf_meaning.specs.Spelling.{Spells}
+use Rattle.dwarf_meaning.specs.Splitting.{Splitting, Joined}
+use Rattle.dwarf_meaning.specs.Branches.{AreBytes}
+use Rattle.dwarf_meaning.specs.Locations.{Piece}
+use Rattle.dwarf_meaning.specs.Requests.{Request, RequiresAtLocation, LocationAnswer, Input}
+use Rattle.dwarf_meaning.specs.Stores.{Setup, Never}
+use Rattle.dwarf_meaning.specs.Run.{Frame, Asking}
+use Rattle.dwarf_meaning.specs.Meaning.{Outcome, Requests, Faults, Completes, First, course_of, meaning}
+
+-- ---- the texts
+
+-- The bytes before a call, those of the call and those behind it, and the bytes that it is answered by, in one order.
+pub record CallSite : Type 0 where
+  pub before : List ℕ
+  pub call : List ℕ
+  pub behind : List ℕ
+  pub callee : List ℕ
+  pub is_big : Bool
+
+-- the text with the call
+abbrev pub outer : CallSite → Text
+outer site = record { bytes = site.before ++ (site.call ++ site.behind); is_big = site.is_big }
+
+-- the text that the call is answered by
+abbrev pub called : CallSite → Text
+called site = record { bytes = site.callee; is_big = site.is_big }
+
+-- the text with the called bytes in the place of the call's
+abbrev pub inlined : CallSite → Text
+inlined site = record { bytes = site.before ++ (site.callee ++ site.behind); is_big = site.is_big }
+
+-- the outer text, at the place behind the call
+abbrev pub behind_call : CallSite → Frame
+behind_call site = record { text = outer site; place = length site.before + length site.call }
+
+-- ---- the inputs
+
+-- the settings in force once these inputs are taken
+abbrev pub in_force : First → List Input → First
+in_force first [] = first
+in_force first (input ∷ inputs) = in_force (record first { object_address = input.object_address; maximum = input.maximum }) inputs
+
+-- the called text as an answer that changes no setting
+abbrev pub answered : CallSite → First → Input
+answered site settings = record { object_address = settings.object_address; maximum = settings.maximum; answer = LocationAnswer (called site) }
+
+-- the inputs of the outer text: the earlier ones, that answer, and the later ones
+abbrev pub with_answer : CallSite → First → (earlier later : List Input) → List Input
+with_answer site first earlier later = earlier ++ (answered site (in_force first earlier) ∷ later)
+
+-- ---- the premises
+
+-- no list has a limit
+pub record HasNoLimits (setup : Setup) : Type 0 where
+  pub values : setup.limits.values ≡ None
+  pub frames : setup.limits.frames ≡ None
+  pub pieces : setup.limits.pieces ≡ None
+
+-- it is no branch
+abbrev pub IsStraight : Operation → Type 0
+IsStraight (Bra target) = ⊥
+IsStraight (Skip target) = ⊥
+IsStraight _ = Unit {0}
+
+-- none of them is a branch
+abbrev pub AreStraight : List Operation → Type 0
+AreStraight [] = Unit {0}
+AreStraight (op ∷ ops) = IsStraight op × AreStraight ops
+
+-- the call is one of the operations that the outer text splits into, and none of them is a branch
+pub record StandsIn (setup : Setup) (site : CallSite) (offset : DieReference) : Type 0 where
+  pub ahead : List Operation
+  pub joined : Joined setup.encoding setup.offset_bits site.is_big site.before ahead
+  pub spelled : Spells setup.encoding setup.offset_bits site.is_big site.call (Call offset)
+  pub operations : List Operation
+  pub fault : Option Fault
+  pub splits : Splitting setup.encoding setup.offset_bits site.is_big (outer site).bytes operations fault
+  pub straight : AreStraight operations
+
+-- The callee has bytes, and no branch of 16 bits wraps in the inlined text.
+pub record IsCallee (setup : Setup) (site : CallSite) : Type 0 where
+  pub some : 0 < length site.callee
+  pub bytes : AreBytes site.callee
+  pub short : length (inlined site).bytes + 32768 < 2 ^ setup.offset_bits
+
+-- The earlier inputs, all of them, lead to the call, in the outer text alone; `requests` were asked before it.
+pub record LeadsToCall (setup : Setup) (site : CallSite) (offset : DieReference) (first : First) (earlier : List Input) (requests : List Request) : Type 0 where
+  pub end : (course_of setup Never (outer site) first earlier).end ≡ Asking (RequiresAtLocation offset) (behind_call site ∷ []) []
+  pub asked : (course_of setup Never (outer site) first earlier).requests ≡ requests ++ (RequiresAtLocation offset ∷ [])
+
+-- ---- what is said
+
+-- the same pieces and value, or the same open request
+pub data EndAlike : Outcome → Outcome → Type 0 where
+  completions : {pieces : List Piece} {value : Option Value} → EndAlike (Completes pieces value) (Completes pieces value)
+  requests : {request : Request} {frames others : List Frame} → EndAlike (Requests request frames) (Requests request others)
+
+-- the same requests in the same order, but for this one, which comes behind the earlier ones
+pub record LacksOne (request : Request) (earlier whole lacking : List Request) : Type 0 where
+  pub later : List Request
+  pub with_it : whole ≡ earlier ++ (request ∷ later)
+  pub without_it : lacking ≡ earlier ++ later
+
+-- The inlined text ends as the outer one does, without the answer of that call, and without its request.
+pub record IsInlined (setup : Setup) (site : CallSite) (offset : DieReference) (first : First) (earlier later : List Input) (requests : List Request) : Type 0 where
+  pub ends : EndAlike (meaning setup Never (outer site) first (with_answer site first earlier later)) (meaning setup Never (inlined site) first (earlier ++ later))
+  pub asks : LacksOne (RequiresAtLocation offset) requests
+      (course_of setup Never (outer site) first (with_answer site first earlier later)).requests
+      (course_of setup Never (inlined site) first (earlier ++ later)).requests
+
+-- without limits and refusals, where the outer run meets no fault
+abbrev pub Inlining : Type 0
+Inlining =
+    (setup : Setup) (site : CallSite) (offset : DieReference) (first : First) (earlier later : List Input) (requests : List Request)
+    → HasNoLimits setup → StandsIn setup site offset → IsCallee setup site
+    → LeadsToCall setup site offset first earlier requests
+    → ((fault : Fault) → meaning setup Never (outer site) first (with_answer site first earlier later) ≢ Faults fault)
+    → IsInlined setup site offset first earlier later requests

@@ -1,0 +1,60 @@
+-- Words that shorten the worked rows: expressions whose meaning is computed (DWARF 5, sections 2.5 and 2.6).
+use Rattle.std.specs.Prelude.{ℕ, false, List, [], ◌∷◌, Some, None}
+use Rattle.dwarf_base.specs.declared.common.Format.TheVariants.{Dwarf32}
+use Rattle.dwarf_value.specs.declared.types.Value.TheVariants.{Generic}
+use Rattle.dwarf_meaning.specs.Operations.{Text}
+use Rattle.dwarf_meaning.specs.Locations.{Location, AtAddress, Piece}
+use Rattle.dwarf_meaning.specs.Requests.{Answer, LocationAnswer, Input}
+use Rattle.dwarf_meaning.specs.Stores.{Limits, Setup}
+use Rattle.dwarf_meaning.specs.Run.{Frame}
+use Rattle.dwarf_meaning.specs.Meaning.{Outcome, Completes, First, whole}
+
+-- bytes in little-endian order
+abbrev pub text : List ℕ → Text
+text bytes = record { bytes = bytes; is_big = false }
+
+-- no list has a limit
+abbrev pub no_limits : Limits
+no_limits = record { values = None; frames = None; pieces = None }
+
+-- addresses of 4 bytes, the 32-bit format, version 4, offsets of 64 bits
+abbrev pub with_limits : Limits → Setup
+with_limits limits = record { encoding = record { address_size = 4; format = Dwarf32; version = 4 }; offset_bits = 64; limits = limits }
+
+-- the same without limits
+abbrev pub plain : Setup
+plain = with_limits no_limits
+
+-- no initial value, no object address, and this maximum
+abbrev pub at_most : (maximum : ℕ) → First
+at_most maximum = record { initial_value = None; object_address = None; maximum = maximum }
+
+-- the settings of a caller who sets nothing
+abbrev pub unset : First
+unset = at_most 4294967295
+
+-- answers, with these settings still in force
+abbrev pub given : First → List Answer → List Input
+given first [] = []
+given first (answer ∷ answers) =
+    record { object_address = first.object_address; maximum = first.maximum; answer = answer } ∷ given first answers
+
+-- a called text's bytes
+abbrev pub calls : List ℕ → Answer
+calls bytes = LocationAnswer (text bytes)
+
+-- a text that is open at a place
+abbrev pub open_at : List ℕ → (place : ℕ) → Frame
+open_at bytes place = record { text = text bytes; place = place }
+
+-- a piece of 32 bits
+abbrev pub word_at : Location → Piece
+word_at location = record { size_in_bits = Some 32; bit_offset = None; location = location }
+
+-- a generic value, and the whole variable at this address
+abbrev pub valued : (number address : ℕ) → Outcome
+valued number address = Completes (whole (AtAddress address) ∷ []) (Some (Generic number))
+
+-- pieces, and no value
+abbrev pub pieced : List Piece → Outcome
+pieced pieces = Completes pieces None

@@ -1,0 +1,125 @@
+-- The calls of an evaluation, one after another: which are allowed, and what each answers (DWARF 5, section 2.5).
+use Rattle.std.specs.Prelude.{ℕ, ◌≡◌, List, [], ◌∷◌, ◌++◌, Option, Some, None}
+use Rattle.dwarf_base.specs.Faults.{Fault}
+use Rattle.dwarf_meaning.specs.Operations.{Text}
+use Rattle.dwarf_meaning.specs.Requests.{Request, Answer, Input}
+use Rattle.dwarf_meaning.specs.Kinds.{kind_of_request, kind_of_answer}
+use Rattle.dwarf_meaning.specs.Stores.{Setup, Refusal}
+use Rattle.dwarf_meaning.specs.Meaning.{Outcome, Requests, Faults, Completes, First, meaning}
+
+-- a setting, the start, or an answer
+pub data Step : Type 0 where
+  InitialValue : (number : ℕ) → Step
+  ObjectAddress : (address : ℕ) → Step
+  MaxIterations : (maximum : ℕ) → Step
+  Evaluate : Step
+  Resume : (answer : Answer) → Step
+
+-- What some steps told: the settings that hold now, those that held at the start, where there was one, and the inputs since.
+pub record Told : Type 0 where
+  pub settings : First
+  pub first : Option First
+  pub inputs : List Input
+
+-- what comes of it so far, once it was started
+abbrev pub outcome_from : Setup → Refusal → Text → List Input → Option First → Option Outcome
+outcome_from setup refusal text inputs None = None
+outcome_from setup refusal text inputs (Some first) = Some (meaning setup refusal text first inputs)
+
+abbrev pub outcome_of : Setup → Refusal → Text → Told → Option Outcome
+outcome_of setup refusal text told = outcome_from setup refusal text told.inputs told.first
+
+-- ---- which step may come next
+
+-- no request is open
+abbrev pub IsEvaluable : Option Outcome → Type 0
+IsEvaluable None = Unit {0}
+IsEvaluable (Some (Requests request frames)) = ⊥
+IsEvaluable (Some (Faults fault)) = Unit {0}
+IsEvaluable (Some (Completes pieces value)) = Unit {0}
+
+-- a request of the answer's kind is open; after a fault every answer is allowed
+abbrev pub Awaits : Answer → Option Outcome → Type 0
+Awaits answer None = ⊥
+Awaits answer (Some (Requests request frames)) = kind_of_request request ≡ kind_of_answer answer
+Awaits answer (Some (Faults fault)) = Unit {0}
+Awaits answer (Some (Completes pieces value)) = ⊥
+
+-- it wasn't started, and has no initial value
+pub record IsUntold (told : Told) : Type 0 where
+  pub first : told.first ≡ None
+  pub initial_value : told.settings.initial_value ≡ None
+
+abbrev pub Allows : Told → Option Outcome → Step → Type 0
+Allows told outcome (InitialValue number) = IsUntold told
+Allows told outcome (ObjectAddress address) = Unit {0}
+Allows told outcome (MaxIterations maximum) = Unit {0}
+Allows told outcome Evaluate = IsEvaluable outcome
+Allows told outcome (Resume answer) = Awaits answer outcome
+
+-- ---- what a step tells
+
+-- the settings at the start, where it is the first one
+abbrev pub begun : First → Option First → First
+begun settings None = settings
+begun settings (Some first) = first
+
+-- an answer, with the settings that hold now; after a fault it says nothing
+abbrev pub heard : First → List Input → Answer → Option Outcome → List Input
+heard settings inputs answer None = inputs
+heard settings inputs answer (Some (Requests request frames)) =
+    inputs ++ record { object_address = settings.object_address; maximum = settings.maximum; answer = answer } ∷ []
+heard settings inputs answer (Some (Faults fault)) = inputs
+heard settings inputs answer (Some (Completes pieces value)) = inputs
+
+abbrev pub after : Told → Option Outcome → Step → Told
+after told outcome (InitialValue number) = record told { settings = record told.settings { initial_value = Some number } }
+after told outcome (ObjectAddress address) = record told { settings = record told.settings { object_address = Some address } }
+after told outcome (MaxIterations maximum) = record told { settings = record told.settings { maximum = maximum } }
+after told outcome Evaluate = record told { first = Some (begun told.settings told.first) }
+after told outcome (Resume answer) = record told { inputs = heard told.settings told.inputs answer outcome }
+
+-- ---- what the steps answer
+
+-- what a call answers: it is complete, it asks, or it met a fault
+pub data Reply : Type 0 where
+  Completed : Reply
+  Asked : Request → Reply
+  Faulted : Fault → Reply
+
+abbrev pub reply : Outcome → Reply
+reply (Requests request frames) = Asked request
+reply (Completes pieces value) = Completed
+reply (Faults fault) = Faulted fault
+
+abbrev pub replies : Option Outcome → List Reply
+replies None = []
+replies (Some outcome) = reply outcome ∷ []
+
+-- a setting answers nothing; `outcome` is what comes of what was told, the step included
+abbrev pub step_replies : Step → Option Outcome → List Reply
+step_replies (InitialValue number) outcome = []
+step_replies (ObjectAddress address) outcome = []
+step_replies (MaxIterations maximum) outcome = []
+step_replies Evaluate outcome = replies outcome
+step_replies (Resume answer) outcome = replies outcome
+
+module _ (setup : Setup) (refusal : Refusal) (text : Text) where
+  abbrev pub after_step : Told → Step → Told
+  after_step told step = after told (outcome_of setup refusal text told) step
+
+  -- what was told once these steps are done
+  abbrev pub after_steps : Told → List Step → Told
+  after_steps told [] = told
+  after_steps told (step ∷ steps) = after_steps (after_step told step) steps
+
+  -- each step is allowed when it comes
+  abbrev pub AllAllowed : Told → List Step → Type 0
+  AllAllowed told [] = Unit {0}
+  AllAllowed told (step ∷ steps) = Allows told (outcome_of setup refusal text told) step × AllAllowed (after_step told step) steps
+
+  -- what the steps answer, one after another: each what comes of all that was told up to it
+  abbrev pub answers : Told → List Step → List Reply
+  answers told [] = []
+  answers told (step ∷ steps) =
+      let told_now = after_step told step in step_replies step (outcome_of setup refusal text told_now) ++ answers told_now steps

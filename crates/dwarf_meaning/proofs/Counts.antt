@@ -31,7 +31,7 @@ tally_of s = record { count = s.count; object_address = s.object_address; maximu
 abbrev pub HasTally : Tally → Store → Type 0
 HasTally m s = tally_of s ≡ m
 
-bound_store : (P : Store → Type 0) (r : Result Refusal Fault) (make : Refusal → Store) → ((left : Refusal) → P (make left)) → OnStore P (r >>= λ left. Ok (make left))
+pub bound_store : (P : Store → Type 0) (r : Result Refusal Fault) (make : Refusal → Store) → ((left : Refusal) → P (make left)) → OnStore P (r >>= λ left. Ok (make left))
 bound_store P (Ok left) make h = h left
 bound_store P (Err fault) make h = tt
 
@@ -62,7 +62,7 @@ pub tally-push_frame : (setup : Setup) (depth : ℕ) (s : Store) → OnStore (Ha
 unfolding push_frame
 tally-push_frame setup depth s = bound_store (HasTally (tally_of s)) (room setup.limits.frames depth s.refusal) (λ left. record s { refusal = left }) (λ left. refl)
 
-on_bound : (P Q : Store → Type 0) (r : Result Store Fault) (next : Store → Result Store Fault) → OnStore P r → ((s : Store) → P s → OnStore Q (next s)) → OnStore Q (r >>= next)
+pub on_bound : (P Q : Store → Type 0) (r : Result Store Fault) (next : Store → Result Store Fault) → OnStore P r → ((s : Store) → P s → OnStore Q (next s)) → OnStore Q (r >>= next)
 on_bound P Q (Ok s) next h i = i s h
 on_bound P Q (Err fault) next h i = tt
 
@@ -76,7 +76,7 @@ tally-push_values setup (value ∷ values) s =
     on_bound (HasTally (tally_of s)) (HasTally (tally_of s)) (push_value setup value s) (push_values setup values) (tally-push_value setup value s)
     (λ t e. tally_along (tally_of s) t (push_values setup values t) e (tally-push_values setup values t))
 
-on_goes : (P : Store → Type 0) (place : ℕ) (r : Result Store Fault) → OnStore P r → OnNext P (goes place r)
+pub on_goes : (P : Store → Type 0) (place : ℕ) (r : Result Store Fault) → OnStore P r → OnNext P (goes place r)
 on_goes P place (Ok s) h = h
 on_goes P place (Err fault) h = tt
 

@@ -10,3 +10,9 @@ pub mod Choices
 pub mod Counts
 pub mod Turns
 pub mod FewTurns
+pub mod Inputs
+pub mod Counting
+pub mod Shorter
+pub mod Limited
+pub mod Callees
+pub mod Taken

@@ -8,17 +8,9 @@ use Rattle.dwarf_meaning.specs.Requests.{Request, Waiting, Input}
 use Rattle.dwarf_meaning.specs.Acts.{choose, Use, Gives, Calls, Denies, Misfits, use_of}
 use Rattle.dwarf_meaning.specs.Stores.{Setup, address_bits, Store, Last, Nothing, Plain, Pieced, Pushed, Called, Located, Next, Goes, Stops, Fails}
 use Rattle.dwarf_meaning.specs.Run.{Frame, End, Finished, Asking, Failed, Course, ended, passing, asking, joined, Continues, back, resumed, entered, called, used, with_input, asked, led, read, most, can_count, counted, does, counts, piece_of, held, turn_by, turn, out_of_turns, run_for, enough, run}
+use Rattle.dwarf_meaning.specs.RunLaws.{waits_of, turns_left}
 use Rattle.dwarf_meaning.proofs.Choices.{choose_false, choose_both}
 use Rattle.dwarf_meaning.proofs.Counts.{OnStore, OnNext, Tally, tally_of, HasTally, OnPiece, tally-push_value, tally-push_frame, tally-done, both-holds}
-
--- 1 where a location waits
-abbrev pub waits_of : Last → ℕ
-waits_of (Located location) = 1
-waits_of _ = 0
-
--- how many more turns there can be that read an operation
-abbrev pub turns_left : Store → ℕ
-turns_left s = 2 * (most - s.count) + waits_of s.last
 
 waits_little : (last : Last) → waits_of last ≤ 1
 waits_little Nothing = omega arith
@@ -247,7 +239,7 @@ run_for-enough (suc n) (suc m) setup text place depth s inputs h i =
     (λ text place depth t inputs le. run_for-enough n m setup text place depth t inputs (omega (arith, h, le)) (omega (arith, i, le)))
     (lowers_run n setup) setup text place depth s inputs (omega arith)
 
-all_left : (s : Store) → turns_left s ≤ enough
+pub all_left : (s : Store) → turns_left s ≤ enough
 unfolding enough
 all_left s = omega (arith, waits_little s.last)
 

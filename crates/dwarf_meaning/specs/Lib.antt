@@ -19,3 +19,4 @@ pub mod Rows
 pub mod Agreement
 pub mod TwoRuns
 pub mod Inlining
+pub mod RunLaws

@@ -4,5 +4,5 @@
 mod laws;
 mod rows;
 
-pub use laws::decode_laws;
+pub use laws::{decode_laws, run_laws};
 pub use rows::worked_rows;

@@ -1,0 +1,199 @@
+-- Each operation of a run's path is counted once, and none beyond a bound on the maxima.
+use Rattle.std.proofs.Common.{ℕ, zero, suc, ◌≡◌, ◌+◌, ◌≤◌, ◌<◌, Bool, true, false, List, [], ◌∷◌, ◌++◌, length, Result, Ok, Err, arith, subst, ◌==◌, length-append}
+use Rattle.std.proofs.lemmas.Bool.Decides.{nat_tests}
+use Rattle.dwarf_base.specs.Faults.{Fault, TooManyIterations}
+use Rattle.dwarf_meaning.specs.Operations.{Operation, Text}
+use Rattle.dwarf_meaning.specs.Locations.{Location}
+use Rattle.dwarf_meaning.specs.Requests.{Request, Waiting, Input}
+use Rattle.dwarf_meaning.specs.Acts.{choose, Use, Gives, Calls, Denies, Misfits, use_of}
+use Rattle.dwarf_meaning.specs.Stores.{Setup, address_bits, Store, Last, Nothing, Plain, Pieced, Pushed, Called, Located, Next, Goes, Stops, Fails}
+use Rattle.dwarf_meaning.specs.Run.{Frame, End, Finished, Asking, Failed, Course, ended, passing, asking, joined, Continues, back, resumed, entered, called, used, with_input, asked, led, read, most, can_count, counted, does, counts, piece_of, held, turn_by, turn, out_of_turns, run_for, enough, run}
+use Rattle.dwarf_meaning.specs.RunLaws.{AllMaxima, MaximaWithin, EndCounts, EndCountWithin, EndMaximumWithin, CountsWithin}
+use Rattle.dwarf_meaning.proofs.Choices.{choose_both}
+use Rattle.dwarf_meaning.proofs.Counts.{OnStore, OnNext, Tally, tally_of, HasTally, OnPiece, tally-push_value, tally-push_frame, tally-done, both-holds}
+
+-- what is known of each maximum, and the bound on counts that it gives
+pub record Bounded (bound : ℕ) (Fits : ℕ → Type 0) : Type 0 where
+  pub below : (m : ℕ) → Fits m → (n : ℕ) → n < m → n < most → n < bound
+
+-- this many operations may be counted, under this maximum and those to come
+pub record Allowed (bound : ℕ) (Fits : ℕ → Type 0) (n : Tally) (inputs : List Input) : Type 0 where
+  pub count : n.count ≤ bound
+  pub maximum : Fits n.maximum
+  pub others : AllMaxima Fits inputs
+
+-- where the text ends
+pub record Stands (Fits : ℕ → Type 0) (total : ℕ) (s : Store) (left : List Input) : Type 0 where
+  pub count : s.count ≡ total
+  pub maximum : Fits s.maximum
+  pub others : AllMaxima Fits left
+
+abbrev pub EndStands : (ℕ → Type 0) → (total : ℕ) → End → Type 0
+EndStands Fits total (Finished s left) = Stands Fits total s left
+EndStands Fits total (Asking request frames left) = Unit {0}
+EndStands Fits total (Failed fault) = Unit {0}
+
+pub record Counted (bound : ℕ) (Fits : ℕ → Type 0) (start : ℕ) (course : Course) : Type 0 where
+  pub few : start + length course.path ≤ bound
+  pub at_end : EndStands Fits (start + length course.path) course.end
+
+stands_at : (Fits : ℕ → Type 0) (total other : ℕ) (end : End) → total ≡ other → EndStands Fits total end → EndStands Fits other end
+stands_at Fits total other end e h = subst (λ (n : ℕ). EndStands Fits n end) e h
+
+module _ (bound : ℕ) (Fits : ℕ → Type 0) where
+  abbrev pub Counting : Continues → Type 0
+  Counting go = (text : Text) (place depth : ℕ) (s : Store) (inputs : List Input) → Allowed bound Fits (tally_of s) inputs → Counted bound Fits s.count (go text place depth s inputs)
+
+  counted_failed : (n : ℕ) (fault : Fault) → n ≤ bound → Counted bound Fits n (ended (Failed fault))
+  counted_failed n fault h = record { few = omega (arith, h); at_end = tt }
+
+  counted_choose : (n : ℕ) (b : Bool) (x y : Course) → (b ≡ true → Counted bound Fits n x) → (b ≡ false → Counted bound Fits n y) → Counted bound Fits n (choose b x y)
+  counted_choose n = choose_both (Counted bound Fits n)
+
+  counted_joined : (n : ℕ) (first second : Course) → Counted bound Fits (n + length first.path) second → Counted bound Fits n (joined first second)
+  counted_joined n first second h =
+      let e : n + length first.path + length second.path ≡ n + length (first.path ++ second.path) = let l = length-append first.path second.path in omega (arith, l) in
+      record { few = omega (arith, e, h.few); at_end = stands_at Fits _ _ second.end e h.at_end }
+
+  counted_passing : (n : ℕ) (frame : Frame) (course : Course) → Counted bound Fits (n + 1) course → Counted bound Fits n (passing frame course)
+  counted_passing n frame course h =
+      record { few = omega (arith, h.few); at_end = stands_at Fits (n + 1 + length course.path) (n + suc (length course.path)) course.end (omega arith) h.at_end }
+
+  module _ (bounded : Bounded bound Fits) (go : Continues) (counting : Counting go) where
+    counted_from : (n : Tally) (text : Text) (place depth : ℕ) (s : Store) (inputs : List Input) → tally_of s ≡ n → Allowed bound Fits n inputs → Counted bound Fits n.count (go text place depth s inputs)
+    counted_from n text place depth s inputs e =
+        subst (λ (k : Tally). Allowed bound Fits k inputs → Counted bound Fits k.count (go text place depth s inputs)) e (counting text place depth s inputs)
+
+    counted_back : (n : ℕ) (frame : Frame) (depth : ℕ) (course : Course) (end : End) → n + length course.path ≤ bound → EndStands Fits (n + length course.path) end → Counted bound Fits n (back go frame depth course end)
+    counted_back n frame depth course (Finished s left) h i =
+        counted_joined n course (go frame.text frame.place depth s left)
+        (subst (λ (k : ℕ). Counted bound Fits k (go frame.text frame.place depth s left)) i.count
+        (counting frame.text frame.place depth s left (record { count = omega (arith, h, i.count); maximum = i.maximum; others = i.others })))
+    counted_back n frame depth course (Asking request frames left) h i = record { few = h; at_end = tt }
+    counted_back n frame depth course (Failed fault) h i = record { few = h; at_end = tt }
+
+    counted_resumed : (n : Tally) (frame : Frame) (depth : ℕ) (inputs : List Input) (r : Result Store Fault) → OnStore (HasTally n) r → Allowed bound Fits n inputs → Counted bound Fits n.count (resumed go frame depth inputs r)
+    counted_resumed n frame depth inputs (Ok s) h a = counted_from n frame.text frame.place depth s inputs h a
+    counted_resumed n frame depth inputs (Err fault) h a = counted_failed n.count fault a.count
+
+    counted_entered : (n : Tally) (frame : Frame) (depth : ℕ) (callee : Text) (inputs : List Input) (r : Result Store Fault) → OnStore (HasTally n) r → Allowed bound Fits n inputs → Counted bound Fits n.count (entered go frame depth callee inputs r)
+    counted_entered n frame depth callee inputs (Ok s) h a =
+        let course = go callee 0 (suc depth) s inputs in
+        let c = counted_from n callee 0 (suc depth) s inputs h a in
+        counted_back n.count frame depth course course.end c.few c.at_end
+    counted_entered n frame depth callee inputs (Err fault) h a = counted_failed n.count fault a.count
+
+    counted_called : (setup : Setup) (frame : Frame) (depth : ℕ) (callee : Text) (bytes : List ℕ) (s : Store) (inputs : List Input) → Allowed bound Fits (tally_of s) inputs → Counted bound Fits s.count (called go setup frame depth callee bytes s inputs)
+    counted_called setup frame depth callee [] s inputs a = counting frame.text frame.place depth (record s { last = Called }) inputs a
+    counted_called setup frame depth callee (byte ∷ bytes) s inputs a = counted_entered (tally_of s) frame depth callee inputs _ (tally-push_frame setup depth s) a
+
+    counted_used : (setup : Setup) (frame : Frame) (depth : ℕ) (u : Use) (s : Store) (inputs : List Input) (unanswered : Course) → Allowed bound Fits (tally_of s) inputs → Counted bound Fits s.count unanswered → Counted bound Fits s.count (used go setup frame depth u s inputs unanswered)
+    counted_used setup frame depth (Gives rest value) s inputs unanswered a h =
+        counted_resumed (tally_of s) frame depth inputs _ (tally-push_value setup value (record s { values = rest; last = Pushed })) a
+    counted_used setup frame depth (Calls callee) s inputs unanswered a h = counted_called setup frame depth callee callee.bytes s inputs a
+    counted_used setup frame depth (Denies fault) s inputs unanswered a h = counted_failed s.count fault a.count
+    counted_used setup frame depth Misfits s inputs unanswered a h = h
+
+    counted_asked : (setup : Setup) (frame : Frame) (depth : ℕ) (request : Request) (waiting : Waiting) (s : Store) (inputs : List Input) → Allowed bound Fits (tally_of s) inputs → Counted bound Fits s.count (asked go setup frame depth request waiting s inputs)
+    counted_asked setup frame depth request waiting s [] a = record { few = omega (arith, a.count); at_end = tt }
+    counted_asked setup frame depth request waiting s (input ∷ inputs) a =
+        counted_used setup frame depth (use_of (address_bits setup) waiting input.answer s.values) (with_input input s) inputs (ended (Asking request (frame ∷ []) (input ∷ inputs)))
+        (record { count = a.count; maximum = a.others.0; others = a.others.1 }) (record { few = omega (arith, a.count); at_end = tt })
+
+    counted_led : (setup : Setup) (text : Text) (depth place : ℕ) (inputs : List Input) (n : Tally) (next : Next) → OnNext (HasTally n) next → Allowed bound Fits n inputs → Counted bound Fits n.count (led go setup text depth place inputs next)
+    counted_led setup text depth place inputs n (Goes to s) h a = counted_from n text to depth s inputs h a
+    counted_led setup text depth place inputs n (Stops request waiting s) h a =
+        let frame : Frame = record { text = text; place = place } in
+        subst (λ (k : Tally). Allowed bound Fits k inputs → Counted bound Fits k.count (asking request (asked go setup frame depth request waiting s inputs))) h
+        (λ allowed. let c = counted_asked setup frame depth request waiting s inputs allowed in record { few = c.few; at_end = c.at_end })
+        a
+    counted_led setup text depth place inputs n (Fails fault) h a = counted_failed n.count fault a.count
+
+    counted_does : (setup : Setup) (text : Text) (depth : ℕ) (s : Store) (inputs : List Input) (r : Result (Operation × List ℕ) Fault) → Allowed bound Fits (tally_of s) inputs → Counted bound Fits s.count (does go setup text depth s inputs r)
+    counted_does setup text depth s inputs (Ok x) a = counted_led setup text depth _ inputs (tally_of s) _ (tally-done setup _ _ _ s) a
+    counted_does setup text depth s inputs (Err fault) a = counted_failed s.count fault a.count
+
+    counted_counts : (setup : Setup) (text : Text) (place depth : ℕ) (s : Store) (inputs : List Input) → Allowed bound Fits (tally_of s) inputs → Counted bound Fits s.count (counts go setup text place depth s inputs)
+    counted_counts setup text place depth s inputs a =
+        counted_choose s.count (can_count s) _ _
+        (λ can. let below = bounded.below s.maximum a.maximum s.count (grind (arith, nat_tests)) (grind (arith, nat_tests)) in
+        counted_passing s.count _ _ (counted_does setup text depth (counted s) inputs (read setup text place)
+        (record { count = omega (arith, below); maximum = a.maximum; others = a.others })))
+        (λ e. counted_failed s.count TooManyIterations a.count)
+
+    piece_tally : (n : Tally) (next : Next) → OnPiece n next → OnNext (HasTally n) next
+    piece_tally n (Goes to s) h = h.tally
+    piece_tally n (Stops request waiting s) h = absurd h
+    piece_tally n (Fails fault) h = tt
+
+    counted_held : (setup : Setup) (text : Text) (depth : ℕ) (location : Location) (s : Store) (inputs : List Input) (r : Result (Operation × List ℕ) Fault) → Allowed bound Fits (tally_of s) inputs → Counted bound Fits s.count (held go setup text depth location s inputs r)
+    counted_held setup text depth location s inputs (Ok x) a = counted_led setup text depth _ inputs (tally_of s) _ (piece_tally (tally_of s) _ (both-holds setup location _ s (piece_of x.0))) a
+    counted_held setup text depth location s inputs (Err fault) a = counted_failed s.count fault a.count
+
+    counted_by : (setup : Setup) (text : Text) (place depth : ℕ) (s : Store) (inputs : List Input) (last : Last) → Allowed bound Fits (tally_of s) inputs → Counted bound Fits s.count (turn_by go setup text place depth s inputs last)
+    counted_by setup text place depth s inputs (Located location) a = counted_held setup text depth location s inputs (read setup text place) a
+    counted_by setup text place depth s inputs Nothing a = counted_counts setup text place depth s inputs a
+    counted_by setup text place depth s inputs Plain a = counted_counts setup text place depth s inputs a
+    counted_by setup text place depth s inputs Pieced a = counted_counts setup text place depth s inputs a
+    counted_by setup text place depth s inputs Pushed a = counted_counts setup text place depth s inputs a
+    counted_by setup text place depth s inputs Called a = counted_counts setup text place depth s inputs a
+
+    counted_turn : (setup : Setup) → Counting (turn go setup)
+    counted_turn setup text place depth s inputs a =
+        counted_choose s.count (place == length text.bytes) _ _
+        (λ e. record { few = omega (arith, a.count); at_end = record { count = omega arith; maximum = a.maximum; others = a.others } })
+        (λ e. counted_by setup text place depth s inputs s.last a)
+
+  counted_run_for : Bounded bound Fits → (turns : ℕ) (setup : Setup) → Counting (run_for turns setup)
+  unfolding run_for
+  counted_run_for bounded zero setup = counted_turn bounded out_of_turns (λ text place depth s inputs a. counted_failed s.count TooManyIterations a.count) setup
+  counted_run_for bounded (suc turns) setup = counted_turn bounded (run_for turns setup) (counted_run_for bounded turns setup) setup
+
+-- ---- a bound on the maxima
+
+within_bounded : (bound : ℕ) → Bounded bound (λ m. m ≤ bound)
+within_bounded bound = record { below = λ m h n i j. omega (arith, h, i) }
+
+most_bounded : Bounded most (λ m. Unit {0})
+most_bounded = record { below = λ m h n i j. j }
+
+all_any : (inputs : List Input) → AllMaxima (λ m. Unit {0}) inputs
+all_any [] = tt
+all_any (input ∷ inputs) = (tt, all_any inputs)
+
+count_at : (bound total : ℕ) (Fits : ℕ → Type 0) (end : End) → total ≤ bound → EndStands Fits total end → EndCountWithin bound end
+count_at bound total Fits (Finished s left) h i = omega (arith, h, i.count)
+count_at bound total Fits (Asking request frames left) h i = tt
+count_at bound total Fits (Failed fault) h i = tt
+
+total_at : (total : ℕ) (Fits : ℕ → Type 0) (end : End) → EndStands Fits total end → EndCounts total end
+total_at total Fits (Finished s left) i = i.count
+total_at total Fits (Asking request frames left) i = tt
+total_at total Fits (Failed fault) i = tt
+
+maximum_at : (bound total : ℕ) (end : End) → EndStands (λ m. m ≤ bound) total end → EndMaximumWithin bound end
+maximum_at bound total (Finished s left) i = i.maximum
+maximum_at bound total (Asking request frames left) i = tt
+maximum_at bound total (Failed fault) i = tt
+
+counts_within : (bound start : ℕ) (Fits : ℕ → Type 0) (course : Course) → Counted bound Fits start course → CountsWithin bound start course
+counts_within bound start Fits course h = record { few = omega (arith, h.few); count = count_at bound _ Fits course.end h.few h.at_end }
+
+pub count_within : (bound : ℕ) (setup : Setup) (text : Text) (place depth : ℕ) (s : Store) (inputs : List Input) → s.count ≤ bound → s.maximum ≤ bound → MaximaWithin bound inputs → CountsWithin bound s.count (run setup text place depth s inputs)
+count_within bound setup text place depth s inputs h i j =
+    counts_within bound s.count _ _ (counted_run_for bound (λ m. m ≤ bound) (within_bounded bound) enough setup text place depth s inputs (record { count = h; maximum = i; others = j }))
+
+pub maximum_within : (bound : ℕ) (setup : Setup) (text : Text) (place depth : ℕ) (s : Store) (inputs : List Input) → s.count ≤ bound → s.maximum ≤ bound → MaximaWithin bound inputs → EndMaximumWithin bound (run setup text place depth s inputs).end
+maximum_within bound setup text place depth s inputs h i j =
+    maximum_at bound _ _ (counted_run_for bound (λ m. m ≤ bound) (within_bounded bound) enough setup text place depth s inputs (record { count = h; maximum = i; others = j })).at_end
+
+more_bounded : (start : ℕ) → Bounded (start + most) (λ m. Unit {0})
+more_bounded start = record { below = λ m h n i j. omega (arith, j) }
+
+pub counts_path : (setup : Setup) (text : Text) (place depth : ℕ) (s : Store) (inputs : List Input) → let course = run setup text place depth s inputs in EndCounts (s.count + length course.path) course.end
+counts_path setup text place depth s inputs =
+    total_at _ (λ m. Unit {0}) _ (counted_run_for (s.count + most) (λ m. Unit {0}) (more_bounded s.count) enough setup text place depth s inputs (record { count = omega arith; maximum = tt; others = all_any inputs })).at_end
+
+pub count_at_most : (setup : Setup) (text : Text) (place depth : ℕ) (s : Store) (inputs : List Input) → s.count ≤ most → CountsWithin most s.count (run setup text place depth s inputs)
+count_at_most setup text place depth s inputs h =
+    counts_within most s.count _ _ (counted_run_for most (λ m. Unit {0}) most_bounded enough setup text place depth s inputs (record { count = h; maximum = tt; others = all_any inputs }))

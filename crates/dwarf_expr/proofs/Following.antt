@@ -8,7 +8,8 @@ use Rattle.dwarf_meaning.specs.Run.{Frame, Asking}
 use Rattle.dwarf_meaning.specs.Meaning.{Outcome, unwound, with_initial, course_from, meaning}
 use Rattle.dwarf_meaning.specs.Rest.{State, Status, Start, Running, Waits, Complete, Stopped, with_refusal, started, rest_by, rest}
 use Rattle.dwarf_expr.specs.Steps.{before_pushes, Keeps, ReachesFrom, FallsFrom, IsOpen, RunsOn, Settles, TakesFar, after_input, input_of, with_status}
-use Rattle.dwarf_expr.specs.Calls.{Reply, Asked, reply, IsTold, IsLater, Follows, means, IsFresh}
+use Rattle.dwarf_meaning.specs.Steps.{Reply, Asked, reply}
+use Rattle.dwarf_expr.specs.Calls.{IsTold, IsLater, Follows, means, IsFresh}
 use Rattle.dwarf_expr.proofs.Refusals.{before_never, before_later}
 
 open_reply : (setup : Setup) (callers : List Frame) (request : Request) (frames : List Frame) (inputs : List Input) → reply (unwound setup callers (Asking request frames inputs)) ≡ Asked request
@@ -22,7 +23,7 @@ told_by r x told (Stopped error) h = h
 told_by r x told (Start initial_value) h = absurd h
 told_by r x told Running h = absurd h
 
-told_rest : (r : Refusal) (x : State) (told : Reply) → IsTold told x.status → told ≡ reply (rest r x [])
+pub told_rest : (r : Refusal) (x : State) (told : Reply) → IsTold told x.status → told ≡ reply (rest r x [])
 unfolding rest
 told_rest r x told h = told_by r x told x.status h
 

@@ -13,6 +13,8 @@ pub mod Constants
 pub mod Dereferences
 pub mod Reaching
 pub mod Turning
+pub mod WaitingKinds
+pub mod Walks
 pub mod Finishing
 pub mod Holding
 pub mod Following

@@ -19,7 +19,7 @@ taken_before : (r : Refusal) → taken (before_input r) ≡ r
 taken_before Never = refl
 taken_before (After inputs pushes) = refl
 
-unwound_open : (setup : Setup) (callers : List Frame) (request : Request) (frames : List Frame) (inputs : List Input) → unwound setup callers (Asking request frames inputs) ≡ Requests request (frames ++ callers)
+pub unwound_open : (setup : Setup) (callers : List Frame) (request : Request) (frames : List Frame) (inputs : List Input) → unwound setup callers (Asking request frames inputs) ≡ Requests request (frames ++ callers)
 unwound_open setup [] request frames inputs = refl
 unwound_open setup (caller ∷ callers) request frames inputs = refl
 

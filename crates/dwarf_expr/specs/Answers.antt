@@ -1,11 +1,12 @@
 -- What resumes are given, and where an evaluation stands as its caller sees it.
-use Rattle.std.specs.Prelude.{◌≡◌, is_some}
+use Rattle.std.specs.Prelude.{◌≡◌, Bool, true, false, None, is_some}
 use Rattle.dwarf_meaning.specs.Operations.{Text}
 use Rattle.dwarf_meaning.specs.Kinds as meaning
-use Rattle.dwarf_meaning.specs.Kinds.{Kind, kind_of_waiting}
+use Rattle.dwarf_meaning.specs.Kinds.{Kind, kind_of_request, kind_of_waiting}
 use Rattle.dwarf_meaning.specs.Requests as asked
 use Rattle.dwarf_meaning.specs.Rest as rest
 use Rattle.dwarf_meaning.specs.Rest.{Start, Running, Waits, Complete, Stopped}
+use Rattle.dwarf_expr.specs.Calls.{IsClosed, IsComplete}
 use Rattle.dwarf_expr.specs.declared.eval.states.Given.{Given}
 use Rattle.dwarf_expr.specs.declared.eval.states.Given.TheVariants as given
 use Rattle.dwarf_expr.specs.declared.eval.states.WaitingKind.{WaitingKind}
@@ -41,10 +42,10 @@ kind_of kind.IndexedAddress = meaning.IndexedAddress
 kind_of kind.AtLocation = meaning.AtLocation
 kind_of kind.BaseType = meaning.BaseType
 
--- the status is that of the evaluation
+-- the status is that of the evaluation: where a request is open, its kind
 abbrev pub Shows : rest.Status → Status → Type 0
 Shows (Start initial_value) shown = shown ≡ status.Start (is_some initial_value)
-Shows (Waits request waiting) (status.Waiting kind) = kind_of kind ≡ kind_of_waiting waiting
+Shows (Waits request waiting) (status.Waiting kind) = (kind_of kind ≡ kind_of_waiting waiting) × (kind_of kind ≡ kind_of_request request)
 Shows (Waits request waiting) _ = ⊥
 Shows (Complete value) shown = shown ≡ status.Complete
 Shows (Stopped error) shown = shown ≡ status.Failed error
@@ -73,3 +74,15 @@ IsOpenFor kind (Stopped error) = Unit {0}
 IsOpenFor kind (Start initial_value) = ⊥
 IsOpenFor kind (Complete value) = ⊥
 IsOpenFor kind Running = ⊥
+
+-- no initial value was set, or one was
+abbrev pub IsStart : (initial : Bool) → rest.Status → Type 0
+IsStart true s = IsClosed s
+IsStart false s = s ≡ Start None
+
+-- which calls a status permits, as their conditions ask: settings and `evaluate`, resumes, results
+abbrev pub Permits : rest.Status → Status → Type 0
+Permits s (status.Start initial) = IsStart initial s
+Permits s (status.Waiting kind) = IsOpenFor (kind_of kind) s
+Permits s status.Complete = IsComplete s
+Permits s (status.Failed error) = (kind : Kind) → IsOpenFor kind s

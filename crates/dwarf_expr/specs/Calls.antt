@@ -9,21 +9,11 @@ use Rattle.dwarf_meaning.specs.Requests.{Request, Waiting, Input}
 use Rattle.dwarf_meaning.specs.Stores.{Refusal, Never, After}
 use Rattle.dwarf_meaning.specs.Meaning.{Outcome, Requests, Faults, Completes, First, fresh, meaning}
 use Rattle.dwarf_meaning.specs.Rest.{State, Status, Start, Running, Waits, Complete, Stopped, rest}
+use Rattle.dwarf_meaning.specs.Steps.{Reply, Completed, Asked, Faulted, reply}
 use Rattle.dwarf_expr.specs.Views.{reference_of}
 use Rattle.dwarf_expr.specs.Steps.{MayPick, IsOpen, Keeps, after_input}
 use Rattle.dwarf_expr.specs.declared.op.results.EvaluationResult.{EvaluationResult}
 use Rattle.dwarf_expr.specs.declared.op.results.EvaluationResult.TheVariants as result
-
--- what a call answers
-pub data Reply : Type 0 where
-  Completed : Reply
-  Asked : Request → Reply
-  Faulted : Fault → Reply
-
-abbrev pub reply : Outcome → Reply
-reply (Requests request frames) = Asked request
-reply (Completes pieces value) = Completed
-reply (Faults fault) = Faulted fault
 
 abbrev pub told_of : {R O P : Type 0} → (R → Text) → (O → ℕ) → EvaluationResult R O P → Reply
 told_of text number result.Complete = Completed

@@ -5,5 +5,7 @@ pub mod Iteration
 pub mod Lists
 pub mod Machine
 pub mod Operators
+pub mod Replays
+pub mod Stepping
 pub mod Steps
 pub mod Views

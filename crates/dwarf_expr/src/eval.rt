@@ -9,4 +9,5 @@ mod states;
 mod turns;
 
 pub use calls::Evaluation;
+pub(crate) use states::Given;
 pub use states::{Status, WaitingKind};

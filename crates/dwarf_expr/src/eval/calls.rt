@@ -3,7 +3,7 @@ ghost use Rattle.dwarf_meaning.specs.Kinds as kind;
 ghost use Rattle.dwarf_meaning.specs.Kinds.{kind_of_answer};
 ghost use Rattle.dwarf_meaning.specs.Requests as asked;
 ghost use Rattle.dwarf_meaning.specs.Rest.{Start, Complete};
-ghost use Rattle.dwarf_expr.specs.Answers.{IsOpenFor, Shows, answer_of};
+ghost use Rattle.dwarf_expr.specs.Answers.{IsOpenFor, Permits, Shows, answer_of};
 ghost use Rattle.dwarf_expr.specs.Calls.{Evaluates, HasResult, IsClosed, IsComplete, Resumes, most_iterations, with_maximum, with_object};
 ghost use Rattle.dwarf_expr.specs.Machine.{piece_of, setup_of};
 ghost use Rattle.dwarf_expr.specs.Steps.{input_of, with_status};
@@ -121,7 +121,8 @@ impl<R: Reader + Copy, S: EvaluationStorage<R>> Evaluation<R, S> {
 
     /// Where the evaluation stands, and so which calls it allows.
     pub fn status(&self) -> Status
-        ensures { Shows self.now.status result }
+        ensures shows { Shows self.now.status result }
+        ensures permits { Permits self.now.status result }
     {
         match self.machine.state() {
             EvaluationState::Start(initial_value) => Status::Start {
@@ -177,7 +178,7 @@ impl<R: Reader + Copy, S: EvaluationStorage<R>> Evaluation<R, S> {
     }
 
     /// Goes on with an answer.
-    fn resume(&mut self, given: Given<R>) -> Result<EvaluationResult<R>>
+    pub(crate) fn resume(&mut self, given: Given<R>) -> Result<EvaluationResult<R>>
         requires { IsOpenFor (kind_of_answer (answer_of (text_of R.bytes R.is_big) given)) self.old.status }
         ensures { Resumes (text_of R.bytes R.is_big) R.Offset.number (input_of self.old (answer_of (text_of R.bytes R.is_big) given)) self.old self.new result self.old.status }
     {

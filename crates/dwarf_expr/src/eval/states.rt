@@ -1,5 +1,5 @@
 ghost use Rattle.std.specs.Prelude.{◌≡◌};
-ghost use Rattle.dwarf_meaning.specs.Kinds.{kind_of_waiting};
+ghost use Rattle.dwarf_meaning.specs.Kinds.{kind_of_answer, kind_of_request, kind_of_waiting};
 ghost use Rattle.dwarf_expr.specs.Views.{text_of};
 
 use crate::op::{DieReference, EvaluationResult, Expression, Location};
@@ -65,7 +65,8 @@ pub(crate) enum OpenRequest<R: Reader, O = <R as Reader>::Offset> {
 
 impl<R: Reader + Copy> OpenRequest<R> {
     ghost use Rattle.dwarf_expr.specs.Answers.{kind_of};
-    ghost use Rattle.dwarf_expr.specs.Calls.{Asked, told_of};
+    ghost use Rattle.dwarf_meaning.specs.Steps.{Asked};
+    ghost use Rattle.dwarf_expr.specs.Calls.{told_of};
     ghost use Rattle.dwarf_expr.specs.Machine.{request_of, waiting_of};
 
     /// What is asked.
@@ -122,7 +123,8 @@ impl<R: Reader + Copy> OpenRequest<R> {
 
     /// The kind of its answer.
     pub(crate) fn kind(self) -> WaitingKind
-        ensures { kind_of result ≡ kind_of_waiting (waiting_of (text_of R.bytes R.is_big) self) }
+        ensures waits { kind_of result ≡ kind_of_waiting (waiting_of (text_of R.bytes R.is_big) self) }
+        ensures asks { kind_of result ≡ kind_of_request (request_of (text_of R.bytes R.is_big) R.Offset.number self) }
     {
         match self {
             OpenRequest::Memory { .. } => WaitingKind::Memory,
@@ -215,4 +217,28 @@ pub(crate) enum Given<R> {
     IndexedAddress(u64),
     AtLocation(R),
     BaseType(ValueType),
+}
+
+impl<R: Reader + Copy> Given<R> {
+    ghost use Rattle.dwarf_expr.specs.Answers.{answer_of, kind_of};
+
+    /// The kind of the answer.
+    pub(crate) fn kind(self) -> WaitingKind
+        ensures { kind_of result ≡ kind_of_answer (answer_of (text_of R.bytes R.is_big) self) }
+    {
+        match self {
+            Given::Memory(_) => WaitingKind::Memory,
+            Given::Register(_) => WaitingKind::Register,
+            Given::WasmValue(_) => WaitingKind::WasmValue,
+            Given::EntryValue(_) => WaitingKind::EntryValue,
+            Given::FrameBase(_) => WaitingKind::FrameBase,
+            Given::Tls(_) => WaitingKind::Tls,
+            Given::CallFrameCfa(_) => WaitingKind::CallFrameCfa,
+            Given::ParameterRef(_) => WaitingKind::ParameterRef,
+            Given::RelocatedAddress(_) => WaitingKind::RelocatedAddress,
+            Given::IndexedAddress(_) => WaitingKind::IndexedAddress,
+            Given::AtLocation(_) => WaitingKind::AtLocation,
+            Given::BaseType(_) => WaitingKind::BaseType,
+        }
+    }
 }

@@ -10,7 +10,7 @@ use Rattle.dwarf_meaning.specs.Run.{led, holds, held, piece_of, read, run, turn_
 use Rattle.dwarf_meaning.specs.Meaning.{unwound}
 use Rattle.dwarf_meaning.specs.Rest.{State, Running, with_refusal, running, rest}
 use Rattle.dwarf_meaning.proofs.Counts.{OnStore, KeepsBoth, Tally, tally_of, both-push_piece}
-use Rattle.dwarf_expr.specs.Steps.{Gets, Does, Tries, Reads, before_pushes, Falls, IsLive, Turned, Turns, waits_of, with_place, with_last}
+use Rattle.dwarf_expr.specs.Steps.{Gets, Does, Tries, Reads, before_pushes, Falls, IsLive, Turned, Turns, waits_of, read_to, with_last}
 use Rattle.dwarf_expr.proofs.Reaching.{rest_running, unwound_failed}
 use Rattle.dwarf_expr.proofs.Turning.{rest_inside, effort_running}
 
@@ -47,7 +47,7 @@ module _ (x : State) (location : Location) (runs : x.status ≡ Running) (inside
       piece = record { size_in_bits = Some size.0; bit_offset = size.1; location = location }
 
       abbrev mid : State
-      mid = with_last Pieced (with_place place_then x)
+      mid = with_last Pieced (read_to place_then x)
 
       piece_turned : (new : State) → Does (push_piece x.setup piece) mid new → Turned x new
       piece_turned new d =
@@ -101,6 +101,6 @@ module _ (x : State) (location : Location) (runs : x.status ≡ Running) (inside
 
   pub hold_turns : (X : Type 0) (behind marked new : State) (op : Operation) (size : ℕ × Option ℕ) (result : Result X Error) → Reads op x behind → Some size ≡ piece_of op → marked ≡ with_last Pieced behind → Tries (push_piece marked.setup (record { size_in_bits = Some size.0; bit_offset = size.1; location = location })) marked new result → Turns x new result
   hold_turns X behind marked new op size result reads some e h =
-      let is : marked ≡ with_last Pieced (with_place (length x.text.bytes - length reads.behind) x) = e ∙ ap (with_last Pieced) reads.moved in
+      let is : marked ≡ with_last Pieced (read_to (length x.text.bytes - length reads.behind) x) = e ∙ ap (with_last Pieced) reads.moved in
       let h' = subst (λ (z : State). Tries (push_piece z.setup (record { size_in_bits = Some size.0; bit_offset = size.1; location = location })) z new result) is h in
       piece_turns x location runs inside waits op reads.behind reads.was size (sym some) X new result h'

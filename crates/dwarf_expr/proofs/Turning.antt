@@ -11,7 +11,7 @@ use Rattle.dwarf_meaning.specs.Rest.{State, Status, Start, Running, Waits, Compl
 use Rattle.dwarf_meaning.proofs.Choices.{choose_true, choose_false}
 use Rattle.dwarf_meaning.proofs.Counts.{HasTally, OnNext, Tally, tally_of, tally-done}
 use Rattle.dwarf_meaning.proofs.Turns.{run_turn, below_most}
-use Rattle.dwarf_expr.specs.Steps.{Gets, Reads, before_pushes, act_of, done_at, GoesOn, AsksFor, PerformedBy, Performs, with_place, with_store, Keeps, Falls, IsFree, IsReady, IsLive, Turned, Turns, effort, effort_by, waits_of}
+use Rattle.dwarf_expr.specs.Steps.{Gets, Reads, before_pushes, act_of, done_at, GoesOn, AsksFor, PerformedBy, Performs, read_to, with_store, Keeps, Falls, IsFree, IsReady, IsLive, Turned, Turns, effort, effort_by, waits_of}
 use Rattle.dwarf_expr.proofs.Reaching.{rest_running, rest_waits, unwound_failed}
 
 -- ---- what there is still to do
@@ -62,7 +62,7 @@ rest_inside x r inputs runs inside =
 
 -- where the operation was read
 abbrev pub behind_op : State → ℕ → State
-behind_op x place = with_place place (with_store (counted x.store) x)
+behind_op x place = read_to place (with_store (counted x.store) x)
 
 module _ (x : State) (ready : IsReady x) where
   ready_rest : (r : Refusal) (inputs : List Input) → rest r x inputs ≡ unwound x.setup x.callers (counts (run x.setup) x.setup x.text x.place (length x.callers) (with_refusal r x.store) inputs).end

@@ -106,11 +106,15 @@ abbrev pub Jumps : {X : Type 0} → ℕ → State → State → Result X Error �
 Jumps place old new (Ok x) = (place ≤ length old.text.bytes) × (new ≡ with_place place old)
 Jumps place old new (Err e) = (length old.text.bytes < place) × (e ≡ BadBranchTarget place)
 
+-- the same state at this place, once one more operation was decoded
+abbrev pub read_to : ℕ → State → State
+read_to place x = record x { place = place; decodings = x.decodings + 1 }
+
 -- the operation at the place was read
 pub record Reads (op : Operation) (old new : State) : Type 0 where
   pub behind : List ℕ
   pub was : read old.setup old.text old.place ≡ Ok (op, behind)
-  pub moved : new ≡ with_place (length old.text.bytes - length behind) old
+  pub moved : new ≡ read_to (length old.text.bytes - length behind) old
 
 -- ---- operations
 

@@ -26,6 +26,8 @@ pub record State : Type 0 where
   -- its callers, the innermost first, each with the place where it goes on
   pub callers : List Frame
   pub store : Store
+  -- how often an operation was decoded; nothing depends on it
+  pub decodings : ℕ
 
 abbrev pub with_refusal : Refusal → Store → Store
 with_refusal refusal s = record s { refusal = refusal }

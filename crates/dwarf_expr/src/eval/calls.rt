@@ -56,6 +56,7 @@ impl<R: Reader + Copy> Expression<R> {
         ensures text { result.text ≡ text_of R.bytes R.is_big self.0 }
         ensures object_address { result.store.object_address ≡ None }
         ensures maximum { result.store.maximum ≡ most_iterations }
+        ensures decodings { result.decodings ≡ 0 }
     {
         Evaluation::new(alloc, self.0, encoding)
     }
@@ -73,6 +74,7 @@ impl<R: Reader + Copy, A: Allocator + Copy> Evaluation<R, StoreOnHeap<A>> {
         ensures text { result.text ≡ text_of R.bytes R.is_big bytecode }
         ensures object_address { result.store.object_address ≡ None }
         ensures maximum { result.store.maximum ≡ most_iterations }
+        ensures decodings { result.decodings ≡ 0 }
     {
         Evaluation::new_in(
             bytecode,
@@ -113,6 +115,7 @@ impl<R: Reader + Copy, S: EvaluationStorage<R>> Evaluation<R, S> {
         ensures text { result.text ≡ text_of R.bytes R.is_big bytecode }
         ensures object_address { result.store.object_address ≡ None }
         ensures maximum { result.store.maximum ≡ most_iterations }
+        ensures decodings { result.decodings ≡ 0 }
     {
         Evaluation {
             machine: Machine::new_in(bytecode, encoding, stack, expression_stack, pieces),

@@ -1,4 +1,4 @@
-ghost use Rattle.std.specs.Prelude.{◌≡◌, ◌==◌, ◌<◌, ◌≤◌, ◌*◌, ℕ, [], None, Some, Err, map, length, slice_get, true, false, OnOk, IfOk, IfErr};
+ghost use Rattle.std.specs.Prelude.{◌≡◌, ◌==◌, ◌<◌, ◌≤◌, ◌*◌, ◌+◌, ℕ, [], None, Some, Err, map, length, slice_get, true, false, OnOk, IfOk, IfErr};
 ghost use Rattle.dwarf_base.specs.Faults.{fault_of};
 ghost use Rattle.dwarf_value.specs.Values.{IsAddressMask, width_of};
 ghost use Rattle.dwarf_meaning.specs.Meaning.{has_pieces};
@@ -14,6 +14,7 @@ use crate::eval::states::{EvaluationState, LastOperation};
 use crate::op::{Operation, Piece};
 use crate::store::{ArrayLike, EvaluationStorage};
 use dwarf_base::{Encoding, Error, Reader, ReaderOffset, Result};
+use dwarf_ticks::Ticks;
 use dwarf_value::Value;
 use std::marker::Model;
 
@@ -33,6 +34,8 @@ pub(crate) struct Machine<R: Reader + Copy, S: EvaluationStorage<R>> {
     stack: S::Stack,
     expression_stack: S::ExpressionStack,
     pieces: S::Result,
+    // Contracts alone see it.
+    decodings: Ticks,
 }
 
 impl<R: Reader + Copy, S: EvaluationStorage<R>> Model for Machine<R, S> {
@@ -43,7 +46,7 @@ impl<R: Reader + Copy, S: EvaluationStorage<R>> Model for Machine<R, S> {
     ghost use Rattle.dwarf_expr.specs.Machine.{setup_of, status_of, store_of, place_of, frames_of, IsSound};
     ghost use Rattle.dwarf_expr.specs.Views.{text_of};
 
-    ghost view = { λ e. record { status = status_of (text_of R.bytes R.is_big) R.Offset.number e.state; setup = setup_of e.encoding R.Offset.BITS (S.Stack.limit e.stack) (S.ExpressionStack.limit e.expression_stack) (S.Result.limit e.pieces); text = text_of R.bytes R.is_big e.bytecode; place = place_of R.bytes e.bytecode e.pc; callers = frames_of R.bytes R.is_big (S.ExpressionStack.items e.expression_stack); store = store_of (text_of R.bytes R.is_big) R.Offset.number (S.Stack.items e.stack) (S.Result.items e.pieces) e.iteration e.object_address e.max_iterations e.last } };
+    ghost view = { λ e. record { status = status_of (text_of R.bytes R.is_big) R.Offset.number e.state; setup = setup_of e.encoding R.Offset.BITS (S.Stack.limit e.stack) (S.ExpressionStack.limit e.expression_stack) (S.Result.limit e.pieces); text = text_of R.bytes R.is_big e.bytecode; place = place_of R.bytes e.bytecode e.pc; callers = frames_of R.bytes R.is_big (S.ExpressionStack.items e.expression_stack); store = store_of (text_of R.bytes R.is_big) R.Offset.number (S.Stack.items e.stack) (S.Result.items e.pieces) e.iteration e.object_address e.max_iterations e.last; decodings = e.decodings.count } };
 
     ghost invariant = { λ e. IsSound R.bytes R.is_big e.encoding e.addr_mask e.bytecode e.pc (S.ExpressionStack.items e.expression_stack) };
 }
@@ -194,13 +197,15 @@ impl<R: Reader + Copy, S: EvaluationStorage<R>> Machine<R, S> {
         self.pc.offset_from(&self.bytecode)
     }
 
-    /// Decodes the operation at the place, and goes behind it.
+    /// Decodes the operation at the place, and goes behind it. No other function of evaluation decodes.
     #[inline]
     pub(crate) fn read(&mut self) -> Result<Operation<R>>
         ensures ok { IfOk result (λ op. Reads (operation_of (text_of R.bytes R.is_big) R.Offset.number op) self.old self.new) }
         ensures behind { OnOk result (0 < self.new.place) }
         ensures err { IfErr result (λ e. read self.old.setup self.old.text self.old.place ≡ Err (fault_of e)) }
+        ensures decodings { self.new.decodings ≡ self.old.decodings + 1 }
     {
+        self.decodings.tick();
         Operation::parse(&mut self.pc, self.encoding)
     }
 
@@ -290,6 +295,7 @@ impl<R: Reader + Copy, S: EvaluationStorage<R>> Machine<R, S> {
         ensures object_address { result.store.object_address ≡ None }
         ensures maximum { result.store.maximum ≡ most_iterations }
         ensures fresh { IsFresh result None }
+        ensures decodings { result.decodings ≡ 0 }
     {
         Machine {
             state: EvaluationState::Start(None),
@@ -304,6 +310,7 @@ impl<R: Reader + Copy, S: EvaluationStorage<R>> Machine<R, S> {
             stack,
             expression_stack,
             pieces,
+            decodings: Ticks::new(),
         }
     }
 }

@@ -8,5 +8,5 @@ returns-clause-ok g c =
     rw (← c.self.view_is) (IfOk-weaker c.parse.result _ _ (λ op e. record {
       behind = g.R.Reader.bytes c.parse.new.bytes;
       was = rw (c.self.invariant.here.rest.same, ← c.self.invariant.here.order) e;
-      moved = refl;
+      moved = rw (c.tick.ensures) refl;
     }) (gives_ok _ _ _ _ c.parse.ensures.value))

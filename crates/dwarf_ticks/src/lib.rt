@@ -1,0 +1,39 @@
+//! A number that contracts see and that takes no room in a program.
+#![tactic(auto)]
+
+ghost use Rattle.std.specs.Prelude.{◌≡◌, ◌+◌, ℕ};
+
+use std::marker::{Model, PhantomData};
+
+/// How often something was done. It has no bytes: contracts alone see the number.
+///
+/// Only `tick` raises it, and only a new one has none.
+#[derive(Drop)]
+pub struct Ticks {
+    marker: PhantomData<()>,
+    pub ghost count: { ℕ },
+}
+
+impl Model for Ticks {
+    ghost use base.Fml.{ftrue};
+
+    ghost also_owns = { λ _. ftrue };
+}
+
+impl Ticks {
+    /// Nothing was done yet.
+    pub fn new() -> Self
+        ensures { result.count ≡ 0 }
+    {
+        Ticks {
+            marker: PhantomData,
+        }
+    }
+
+    /// It was done once more.
+    #[inline]
+    pub fn tick(&mut self)
+        ensures { self.new.count ≡ self.old.count + 1 }
+    {
+    }
+}

@@ -1,5 +1,5 @@
 -- Steps of an evaluation, one after another, come to what the meaning of all that they told gives.
-use Rattle.std.proofs.Common.{ℕ, zero, suc, ◌≡◌, ◌⊎◌, inl, inr, List, [], ◌∷◌, ◌++◌, length, Result, Ok, Err, Option, Some, None, take, slice_get, arith, ◌≤◌, ◌+◌, ap, ◌∙◌, sym, refl, subst, append_assoc}
+use Rattle.std.proofs.Common.{ℕ, zero, suc, ◌≡◌, ◌⊎◌, inl, inr, List, [], ◌∷◌, ◌++◌, length, Result, Option, Some, None, take, slice_get, arith, ◌≤◌, ap, ◌∙◌, sym, refl, subst, append_assoc}
 use Rattle.std.proofs.lemmas.List.{append-nil, length-append, length-map, map-append, take_all}
 use Rattle.std.proofs.lemmas.Option.{slice_get-map, slice_get_within, get_or_from_slice_get}
 use Rattle.std.proofs.Math.Seq.{take-suc, take-append_seam}
@@ -10,13 +10,13 @@ use Rattle.dwarf_value.specs.declared.types.Value.{Value}
 use Rattle.dwarf_meaning.specs.Operations.{Text}
 use Rattle.dwarf_meaning.specs.Requests.{Request, Waiting, Answer, Input}
 use Rattle.dwarf_meaning.specs.Kinds.{kind_of_request, kind_of_answer}
-use Rattle.dwarf_meaning.specs.Stores.{Setup, Store, Refusal, Never, After, Limits}
-use Rattle.dwarf_meaning.specs.Run.{Frame, Asking}
-use Rattle.dwarf_meaning.specs.Meaning.{Outcome, Requests, Faults, Completes, First, unwound, meaning}
+use Rattle.dwarf_meaning.specs.Stores.{Setup, Refusal, Never, After, Limits}
+use Rattle.dwarf_meaning.specs.Run.{Frame}
+use Rattle.dwarf_meaning.specs.Meaning.{Outcome, Requests, Faults, Completes, First, meaning}
 use Rattle.dwarf_meaning.specs.Rest.{State, Status, Start, Running, Waits, Complete, Stopped, with_refusal, rest_by, rest}
-use Rattle.dwarf_meaning.specs.Steps.{Step, InitialValue, ObjectAddress, MaxIterations, Evaluate, Resume, Told, Reply, Completed, Asked, Faulted, reply, replies, IsEvaluable, Awaits, IsUntold, Allows, AllAllowed, begun, heard, after, after_step, after_steps, answers, outcome_of, outcome_from, step_replies}
+use Rattle.dwarf_meaning.specs.Steps.{Step, InitialValue, ObjectAddress, MaxIterations, Evaluate, Resume, Told, Reply, Completed, Faulted, reply, replies, IsEvaluable, Awaits, Allows, AllAllowed, begun, after, after_step, after_steps, answers, outcome_of, outcome_from, step_replies}
 use Rattle.dwarf_expr.specs.Calls.{IsTold, IsLater, Follows, first_of, means, IsClosed, Evaluates, Resumes, reply_of, with_object, with_maximum}
-use Rattle.dwarf_expr.specs.Steps.{MayPick, before_input, Keeps, IsOpen, after_input, input_of, with_status}
+use Rattle.dwarf_expr.specs.Steps.{MayPick, before_input, IsOpen, after_input, input_of, with_status}
 use Rattle.dwarf_expr.specs.Lists.{MayRefuse}
 use Rattle.dwarf_expr.specs.Stepping.{IsAskingFor, MayTake, IsSet, IsCalled, IsKept}
 use Rattle.dwarf_expr.specs.Replays.{told_at, step_of, steps_of, reply_in, replies_in, IsAsking, IsStopped, StandsAt, Walks, WalksAll, WalksTo, WalksOver}
@@ -390,14 +390,14 @@ module _ (first : State) (steps : List Step) (given : List Reply) (x new : State
       let settings = w.told.settings in
       let now : Told = record { settings = settings; first = Some settings; inputs = w.told.inputs } in
       let settings_are : first_of x initial_value ≡ settings =
-          ap (λ (v : Option ℕ). record { initial_value = v; object_address = x.store.object_address; maximum = x.store.maximum }) (sym w.initial)
-          ∙ (ap (λ (a : Option ℕ). record { initial_value = settings.initial_value; object_address = a; maximum = x.store.maximum }) w.holds.object_address
-          ∙ ap (λ (m : ℕ). record { initial_value = settings.initial_value; object_address = settings.object_address; maximum = m }) w.holds.maximum) in
+      ap (λ (v : Option ℕ). record { initial_value = v; object_address = x.store.object_address; maximum = x.store.maximum }) (sym w.initial)
+      ∙ (ap (λ (a : Option ℕ). record { initial_value = settings.initial_value; object_address = a; maximum = x.store.maximum }) w.holds.object_address
+      ∙ ap (λ (m : ℕ). record { initial_value = settings.initial_value; object_address = settings.object_address; maximum = m }) w.holds.maximum) in
       let means_is : (r : Refusal) (inputs : List Input) → means x initial_value r inputs ≡ meaning first.setup (before_inputs 0 r) first.text settings (now.inputs ++ inputs) = λ r inputs.
-          ap (λ (s : Setup). meaning s r x.text (first_of x initial_value) inputs) w.holds.setup
-          ∙ (ap (λ (t : Text). meaning first.setup r t (first_of x initial_value) inputs) w.text
-          ∙ (ap (λ (f : First). meaning first.setup r first.text f inputs) settings_are
-          ∙ ap (λ (is : List Input). meaning first.setup r first.text settings (is ++ inputs)) (sym w.inputs))) in
+      ap (λ (s : Setup). meaning s r x.text (first_of x initial_value) inputs) w.holds.setup
+      ∙ (ap (λ (t : Text). meaning first.setup r t (first_of x initial_value) inputs) w.text
+      ∙ (ap (λ (f : First). meaning first.setup r first.text f inputs) settings_are
+      ∙ ap (λ (is : List Input). meaning first.setup r first.text settings (is ++ inputs)) (sym w.inputs))) in
       let unstarted : (r : Refusal) → outcome_of first.setup r first.text w.told ≡ None = λ r. ap (outcome_from first.setup r first.text w.told.inputs) w.started in
       called_by first steps given Evaluate x new told (means x initial_value) h now 0 settings refl means_is (λ o. refl) new.status refl
       (subst (λ (s : Setup). MayPick s.limits h.refusal) w.holds.setup h.may)
@@ -425,9 +425,9 @@ module _ (first : State) (steps : List Step) (given : List Reply) (x new : State
         told = w.told;
         taken = w.taken;
         walked = λ r l. walked_more first steps given (given ++ Completed ∷ []) Evaluate (before_inputs w.taken r) w.told w.told (w.walked r l)
-        (subst IsEvaluable (sym (is r l)) tt)
-        (begun_already w.told w.settings (outcome_of first.setup (before_inputs w.taken r) first.text w.told) w.started)
-        (ap (λ (o : Option Outcome). given ++ replies o) (sym (is r l)));
+            (subst IsEvaluable (sym (is r l)) tt)
+            (begun_already w.told w.settings (outcome_of first.setup (before_inputs w.taken r) first.text w.told) w.started)
+            (ap (λ (o : Option Outcome). given ++ replies o) (sym (is r l)));
         settings = w.settings;
         started = w.started;
         rest_is = w.rest_is;
@@ -438,15 +438,15 @@ module _ (first : State) (steps : List Step) (given : List Reply) (x new : State
   fails_again : (error : Error) (step : Step) (w : Over first steps given error) → Allows w.told (Some (Faults (fault_of error))) step → after w.told (Some (Faults (fault_of error))) step ≡ w.told → step_replies step (Some (Faults (fault_of error))) ≡ Faulted (fault_of error) ∷ [] → Over first (steps ++ step ∷ []) (given ++ Faulted (fault_of error) ∷ []) error
   fails_again error step w allowed after_is replies_are =
       let is : outcome_of first.setup w.refusal first.text w.told ≡ Some (Faults (fault_of error)) =
-          ap (outcome_from first.setup w.refusal first.text w.told.inputs) w.started ∙ ap Some w.fails in
+      ap (outcome_from first.setup w.refusal first.text w.told.inputs) w.started ∙ ap Some w.fails in
       record {
         told = w.told;
         refusal = w.refusal;
         may = w.may;
         walked = walked_more first steps given (given ++ Faulted (fault_of error) ∷ []) step w.refusal w.told w.told w.walked
-        (subst (λ (o : Option Outcome). Allows w.told o step) (sym is) allowed)
-        (ap (λ (o : Option Outcome). after w.told o step) is ∙ after_is)
-        (ap (λ (l : List Reply). given ++ l) (sym replies_are ∙ ap (step_replies step) (sym is)));
+            (subst (λ (o : Option Outcome). Allows w.told o step) (sym is) allowed)
+            (ap (λ (o : Option Outcome). after w.told o step) is ∙ after_is)
+            (ap (λ (l : List Reply). given ++ l) (sym replies_are ∙ ap (step_replies step) (sym is)));
         settings = w.settings;
         started = w.started;
         fails = w.fails;
@@ -460,14 +460,14 @@ module _ (first : State) (steps : List Step) (given : List Reply) (x new : State
       let now : Told = record { settings = settings; first = w.told.first; inputs = w.told.inputs ++ input ∷ [] } in
       let frame : Frame = record { text = x.text; place = x.place } in
       let is : (r : Refusal) → outcome_of first.setup (before_inputs w.taken (before_input r)) first.text w.told ≡ Some (Requests request (frame ∷ x.callers)) = λ r.
-          going_outcome first steps given x w (before_input r) (later_before r)
-          ∙ ap Some (rest_by_status (before_input r) x [] (Waits request waiting) e ∙ unwound_open x.setup x.callers request (frame ∷ []) []) in
+      going_outcome first steps given x w (before_input r) (later_before r)
+      ∙ ap Some (rest_by_status (before_input r) x [] (Waits request waiting) e ∙ unwound_open x.setup x.callers request (frame ∷ []) []) in
       let input_is : record { object_address = settings.object_address; maximum = settings.maximum; answer = answer } ≡ input =
-          ap (λ (a : Option ℕ). record { object_address = a; maximum = settings.maximum; answer = answer }) (sym w.holds.object_address)
-          ∙ ap (λ (m : ℕ). record { object_address = x.store.object_address; maximum = m; answer = answer }) (sym w.holds.maximum) in
+      ap (λ (a : Option ℕ). record { object_address = a; maximum = settings.maximum; answer = answer }) (sym w.holds.object_address)
+      ∙ ap (λ (m : ℕ). record { object_address = x.store.object_address; maximum = m; answer = answer }) (sym w.holds.maximum) in
       let means_is : (r : Refusal) (inputs : List Input) → after_input x input r inputs ≡ meaning first.setup (before_inputs (suc w.taken) r) first.text w.settings (now.inputs ++ inputs) = λ r inputs.
-          sym (w.rest_is (before_input r) (input ∷ inputs) (later_before r))
-          ∙ ap (meaning first.setup (before_inputs (suc w.taken) r) first.text w.settings) (sym (append_assoc w.told.inputs (input ∷ []) inputs)) in
+      sym (w.rest_is (before_input r) (input ∷ inputs) (later_before r))
+      ∙ ap (meaning first.setup (before_inputs (suc w.taken) r) first.text w.settings) (sym (append_assoc w.told.inputs (input ∷ []) inputs)) in
       called_by first steps given (Resume answer) x new told (after_input x input) h now (suc w.taken) w.settings w.started means_is (λ o. refl) new.status refl
       (may_inputs first.setup.limits (suc w.taken) h.refusal (subst (λ (s : Setup). MayPick s.limits h.refusal) w.holds.setup h.may))
       (λ o. record {
@@ -486,16 +486,16 @@ module _ {R O P : Type 0} (text : R → Text) (number : O → ℕ) (first : Stat
   evaluates (Start initial_value) e told w h c = starts first steps given x new (reply_of text number told) initial_value w h
   evaluates (Complete value) e told w h c =
       let again : Went first (steps ++ Evaluate ∷ []) (given ++ Completed ∷ []) x =
-          subst (WentBy first (steps ++ Evaluate ∷ []) (given ++ Completed ∷ []) x) (sym e) (completes_again first steps given x new value e w) in
+      subst (WentBy first (steps ++ Evaluate ∷ []) (given ++ Completed ∷ []) x) (sym e) (completes_again first steps given x new value e w) in
       let replied : Went first (steps ++ Evaluate ∷ []) (given ++ reply_of text number told ∷ []) x =
-          subst (λ (t : Result (EvaluationResult R O P) Error). Went first (steps ++ Evaluate ∷ []) (given ++ reply_of text number t ∷ []) x) (sym h.0) again in
+      subst (λ (t : Result (EvaluationResult R O P) Error). Went first (steps ++ Evaluate ∷ []) (given ++ reply_of text number t ∷ []) x) (sym h.0) again in
       subst (Went first (steps ++ Evaluate ∷ []) (given ++ reply_of text number told ∷ [])) (sym h.1) replied
   evaluates (Stopped error) e told w h c =
       let again : Went first (steps ++ Evaluate ∷ []) (given ++ Faulted (fault_of error) ∷ []) x =
-          subst (WentBy first (steps ++ Evaluate ∷ []) (given ++ Faulted (fault_of error) ∷ []) x) (sym e)
-          (fails_again first steps given x new error Evaluate w tt (begun_already first steps given x new w.told w.settings (Some (Faults (fault_of error))) w.started) refl) in
+      subst (WentBy first (steps ++ Evaluate ∷ []) (given ++ Faulted (fault_of error) ∷ []) x) (sym e)
+      (fails_again first steps given x new error Evaluate w tt (begun_already first steps given x new w.told w.settings (Some (Faults (fault_of error))) w.started) refl) in
       let replied : Went first (steps ++ Evaluate ∷ []) (given ++ reply_of text number told ∷ []) x =
-          subst (λ (t : Result (EvaluationResult R O P) Error). Went first (steps ++ Evaluate ∷ []) (given ++ reply_of text number t ∷ []) x) (sym h.0) again in
+      subst (λ (t : Result (EvaluationResult R O P) Error). Went first (steps ++ Evaluate ∷ []) (given ++ reply_of text number t ∷ []) x) (sym h.0) again in
       subst (Went first (steps ++ Evaluate ∷ []) (given ++ reply_of text number told ∷ [])) (sym h.1) replied
   evaluates (Waits request waiting) e told w h c = absurd c
   evaluates Running e told w h c = absurd w
@@ -504,10 +504,10 @@ module _ {R O P : Type 0} (text : R → Text) (number : O → ℕ) (first : Stat
   resumes (Waits request waiting) e answer told w h k = goes_on first steps given x new (reply_of text number told) answer request waiting e k w h
   resumes (Stopped error) e answer told w h k =
       let again : Went first (steps ++ Resume answer ∷ []) (given ++ Faulted (fault_of error) ∷ []) x =
-          subst (WentBy first (steps ++ Resume answer ∷ []) (given ++ Faulted (fault_of error) ∷ []) x) (sym e)
-          (fails_again first steps given x new error (Resume answer) w tt refl refl) in
+      subst (WentBy first (steps ++ Resume answer ∷ []) (given ++ Faulted (fault_of error) ∷ []) x) (sym e)
+      (fails_again first steps given x new error (Resume answer) w tt refl refl) in
       let replied : Went first (steps ++ Resume answer ∷ []) (given ++ reply_of text number told ∷ []) x =
-          subst (λ (t : Result (EvaluationResult R O P) Error). Went first (steps ++ Resume answer ∷ []) (given ++ reply_of text number t ∷ []) x) (sym h.0) again in
+      subst (λ (t : Result (EvaluationResult R O P) Error). Went first (steps ++ Resume answer ∷ []) (given ++ reply_of text number t ∷ []) x) (sym h.0) again in
       subst (Went first (steps ++ Resume answer ∷ []) (given ++ reply_of text number told ∷ [])) (sym h.1) replied
   resumes (Start initial_value) e answer told w h k = absurd k
   resumes (Complete value) e answer told w h k = absurd k
@@ -708,8 +708,8 @@ module _ {R O P : Type 0} (view : R → Text) (number : O → ℕ) (first : Stat
           refusal = r;
           walks = subst (λ (steps : List Step). Walks first steps r (before ++ one ∷ []) new) (sym (take_next view all index step is_next)) whole.walks;
           before = same_front before (answers first.setup r first.text (told_at first) done) one calls.reply_is
-          (whole.walks.replies_are ∙ (answers_more first.setup r first.text (told_at first) done (step_of view step)
-          ∙ ap (λ (l : List Reply). answers first.setup r first.text (told_at first) done ++ l) calls.one));
+              (whole.walks.replies_are ∙ (answers_more first.setup r first.text (told_at first) done (step_of view step)
+              ∙ ap (λ (l : List Reply). answers first.setup r first.text (told_at first) done ++ l) calls.one));
           inside = (step_of view step, next_is view all index step is_next);
           full = subst (MayRefuse limit) (sym (length-map given (reply_in view number))) h.2;
         })

@@ -1,13 +1,13 @@
 -- What a call of an evaluation answers: the nested meaning, and what is left of it.
 use Rattle.std.specs.Prelude.{ℕ, zero, suc, ◌≡◌, List, [], Option, Result, Ok, Err}
 use Rattle.dwarf_base.specs.declared.errors.Error.{Error}
-use Rattle.dwarf_base.specs.Faults.{Fault, fault_of}
+use Rattle.dwarf_base.specs.Faults.{fault_of}
 use Rattle.dwarf_value.specs.declared.types.Value.{Value}
 use Rattle.dwarf_meaning.specs.Operations.{Text}
 use Rattle.dwarf_meaning.specs.Requests as asked
 use Rattle.dwarf_meaning.specs.Requests.{Request, Waiting, Input}
 use Rattle.dwarf_meaning.specs.Stores.{Refusal, Never, After}
-use Rattle.dwarf_meaning.specs.Meaning.{Outcome, Requests, Faults, Completes, First, fresh, meaning}
+use Rattle.dwarf_meaning.specs.Meaning.{Outcome, First, fresh, meaning}
 use Rattle.dwarf_meaning.specs.Rest.{State, Status, Start, Running, Waits, Complete, Stopped, rest}
 use Rattle.dwarf_meaning.specs.Steps.{Reply, Completed, Asked, Faulted, reply}
 use Rattle.dwarf_expr.specs.Views.{reference_of}

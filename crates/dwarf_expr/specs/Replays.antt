@@ -4,7 +4,7 @@ use Rattle.dwarf_base.specs.Faults.{Fault, fault_of}
 use Rattle.dwarf_meaning.specs.Operations.{Text}
 use Rattle.dwarf_meaning.specs.Requests as asked
 use Rattle.dwarf_meaning.specs.Requests.{Request}
-use Rattle.dwarf_meaning.specs.Stores.{Setup, Refusal}
+use Rattle.dwarf_meaning.specs.Stores.{Refusal}
 use Rattle.dwarf_meaning.specs.Run.{Frame}
 use Rattle.dwarf_meaning.specs.Meaning.{Outcome, Requests, Faults, Completes}
 use Rattle.dwarf_meaning.specs.Rest.{State, Status, Start, Running, Waits, Complete, Stopped}

@@ -34,6 +34,5 @@ impl Ticks {
     #[inline]
     pub fn tick(&mut self)
         ensures { self.new.count ≡ self.old.count + 1 }
-    {
-    }
+    {}
 }

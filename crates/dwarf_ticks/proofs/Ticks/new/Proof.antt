@@ -1,4 +1,4 @@
-use Rattle.dwarf_ticks.proofs.Steps.{List, [], ◌∷◌, refl, proved, ftrue, flft, Val, tables, ‵, raw, ◌⊛◌, ◌$◌, ◌∵◌, !, qed, done, move, keep, split, join, fjoin, feq_i, suffices, frame, group, enter, no_more, and_then, returns, alloc_all, pass_all, free_all, look_at, get, sets, plain, nothing, on_entry, Stays, walk_of, says, ends_at}
+use Rattle.dwarf_ticks.proofs.Steps.{[], ◌∷◌, refl, proved, ftrue, tables, ‵, raw, ◌$◌, ◌∵◌, !, qed, move, keep, join, fjoin, suffices, frame, enter, no_more, and_then, returns, alloc_all, pass_all, free_all, look_at, get, sets, nothing, on_entry, Stays, walk_of, ends_at}
 use types.Kit.{use0}
 use types.Part.{agg}
 use denote.Builtin.{unit}

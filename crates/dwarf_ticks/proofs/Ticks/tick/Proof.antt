@@ -1,4 +1,4 @@
-use Rattle.dwarf_ticks.proofs.Steps.{List, [], ◌∷◌, refl, proved, ftrue, flft, named, Val, vunit, tables, ‵, ◌⊛◌, ◌$◌, ◌∵◌, !, qed, done, move, keep, split, join, fsplit3, fjoin, feq_i, suffices, frame, group, enter, of_opd, unit_lit, returns, alloc_all, pass_all, free_all, look_at, sets, MutRef, mut_vals, mut_Tells, plain, nothing, opens, closes, Stays, walk_of, says, stay_ref, Goes-ref, ends_at}
+use Rattle.dwarf_ticks.proofs.Steps.{[], ◌∷◌, refl, proved, ftrue, flft, named, vunit, tables, ‵, ◌⊛◌, ◌$◌, ◌∵◌, !, qed, done, move, keep, split, join, fsplit3, feq_i, suffices, frame, group, enter, of_opd, unit_lit, returns, alloc_all, pass_all, free_all, look_at, sets, MutRef, mut_vals, mut_Tells, plain, nothing, opens, closes, Stays, walk_of, says, stay_ref, Goes-ref, ends_at}
 use Rattle.std.proofs.Common.{◌+◌}
 use Rattle.dwarf_ticks.specs.contracts.Ticks.tick as f
 use Rattle.dwarf_ticks.proofs.Ticks.tick.Statement.{statement}

@@ -1,6 +1,5 @@
-use Rattle.std.proofs.Common.{ℕ, suc, ◌≡◌, ◌+◌, ◌≤◌, List, [], Err, length, take, arith, ap, ◌∙◌, sym, refl, subst}
+use Rattle.std.proofs.Common.{ℕ, suc, ◌≡◌, ◌+◌, List, [], Err, length, take, arith, ◌∙◌, sym, refl, subst}
 use Rattle.std.proofs.lemmas.Option.{slice_get_read}
-use Rattle.dwarf_meaning.specs.Steps.{Reply}
 use Rattle.dwarf_expr.specs.Replays.{replies_in, step_of, steps_of}
 use Rattle.dwarf_expr.specs.Stepping.{Keeps}
 use Rattle.dwarf_expr.specs.declared.replay.walk.Stop.{Stop}

@@ -3,11 +3,13 @@
 
 mod hexadecimal;
 mod lines;
+mod numbers;
 mod operations;
 mod program;
 mod steps;
 #[cfg(test)]
 mod tests;
+mod values;
 mod words;
 
 pub use hexadecimal::{HexFault, bytes_of};

@@ -3,10 +3,11 @@ ghost use Rattle.std.specs.Prelude.{◌<◌, ◌≤◌};
 use crate::hexadecimal::{HexFault, bytes_of};
 use crate::lines::{print_fault, print_piece, print_result, print_value_line};
 use crate::operations::print_operations;
-use crate::steps::count_steps;
+use crate::steps::{StepsFault, borrow_steps, steps_in};
 use crate::words::{Reading, reading_of};
-use dwarf_base::EndianSlice;
+use dwarf_base::{EndianSlice, Reader, RunTimeEndian};
 use dwarf_expr::eval::{Evaluation, Status};
+use dwarf_expr::replay::{Answer, Replayed, Step, replay};
 use dwarf_expr::store::StoreOnHeap;
 use std::alloc::Allocator;
 use std::io;
@@ -18,6 +19,9 @@ const DONE: u8 = 0;
 const FAILED: u8 = 1;
 
 const MISUSED: u8 = 2;
+
+/// A text in the byte order of the words.
+type Text<'a> = EndianSlice<'a, RunTimeEndian>;
 
 /// Prints that the words are not those of the program.
 fn bad_words<W: Write>(output: &mut W) -> io::Result<u8> {
@@ -31,34 +35,19 @@ fn no_memory<W: Write>(output: &mut W) -> io::Result<u8> {
     Ok(FAILED)
 }
 
-/// Evaluates the bytes in so many steps, and prints what each answers and what comes out.
-fn evaluate<A: Allocator + Copy, W: Write>(
-    alloc: A,
-    bytes: &[u8],
-    reading: Reading,
-    steps: u64,
-    output: &mut W,
-) -> io::Result<u8>
-    requires some { 0 < reading.encoding.address_size }
-    requires fits { reading.encoding.address_size ≤ 8 }
-{
-    let slice = EndianSlice::new(bytes, reading.order);
-    let mut evaluation: Evaluation<_, StoreOnHeap<A>> = Evaluation::new(
-        alloc,
-        slice,
-        reading.encoding,
-    );
-    for step in 0..steps {
-        if let Status::Waiting(_) = evaluation.status() {
-            let line = step + 1;
-            writeln!(output, "misplaced {line}")?;
-            return Ok(MISUSED);
-        }
-        match evaluation.evaluate() {
-            Ok(result) => print_result(output, result)?,
-            Err(error) => print_fault(output, error)?,
-        }
+/// Prints what one call of the evaluation gave.
+fn print_answer<R: Reader + Copy, W: Write>(output: &mut W, answer: Answer<R>) -> io::Result<()> {
+    match answer.0 {
+        Ok(result) => print_result(output, result),
+        Err(error) => print_fault(output, error),
     }
+}
+
+/// Prints what came out of the evaluation, where it is complete.
+fn print_outcome<A: Allocator + Copy, W: Write>(
+    output: &mut W,
+    evaluation: &Evaluation<Text<'_>, StoreOnHeap<A>>,
+) -> io::Result<u8> {
     match evaluation.status() {
         Status::Complete => {
             for piece in evaluation.as_result() {
@@ -73,6 +62,67 @@ fn evaluate<A: Allocator + Copy, W: Write>(
     }
 }
 
+/// Does the steps on the bytes, and prints each answer and what comes out.
+fn evaluate<'a, A: Allocator + Copy, W: Write>(
+    alloc: A,
+    bytes: &'a [u8],
+    reading: Reading,
+    steps: &[Step<Text<'a>>],
+    output: &mut W,
+) -> io::Result<u8>
+    requires some { 0 < reading.encoding.address_size }
+    requires fits { reading.encoding.address_size ≤ 8 }
+{
+    let text = EndianSlice::new(bytes, reading.order);
+    let mut evaluation: Evaluation<_, StoreOnHeap<A>> = Evaluation::new(
+        alloc,
+        text,
+        reading.encoding,
+    );
+    let mut answers = Vec::new(alloc);
+    let replayed = replay(&mut evaluation, steps, &mut answers);
+    for answer in answers.as_slice() {
+        print_answer(output, *answer)?;
+    }
+    match replayed {
+        Replayed::Done => print_outcome(output, &evaluation),
+        Replayed::Misplaced(index) => {
+            let line = index.saturating_add(1);
+            writeln!(output, "misplaced {line}")?;
+            Ok(MISUSED)
+        }
+        Replayed::NoRoom {
+            index: _,
+            answer: _,
+        } => no_memory(output),
+    }
+}
+
+/// Judges the lines, and evaluates the bytes in the steps that they say.
+fn run_lines<A: Allocator + Copy, W: Write>(
+    alloc: A,
+    bytes: &[u8],
+    reading: Reading,
+    lines: &[u8],
+    output: &mut W,
+) -> io::Result<u8>
+    requires some { 0 < reading.encoding.address_size }
+    requires fits { reading.encoding.address_size ≤ 8 }
+{
+    let owned = match steps_in(alloc, lines) {
+        Ok(steps) => steps,
+        Err(StepsFault::Bad(line)) => {
+            writeln!(output, "bad step {line}")?;
+            return Ok(MISUSED);
+        }
+        Err(StepsFault::NoMemory) => return no_memory(output),
+    };
+    match borrow_steps(alloc, owned.as_slice(), reading.order) {
+        Ok(steps) => evaluate(alloc, bytes, reading, steps.as_slice(), output),
+        Err(_) => no_memory(output),
+    }
+}
+
 /// Reads the steps, and evaluates the bytes in them.
 fn run_eval<A: Allocator + Copy, I: Read + Drop, W: Write>(
     alloc: A,
@@ -84,19 +134,13 @@ fn run_eval<A: Allocator + Copy, I: Read + Drop, W: Write>(
     requires some { 0 < reading.encoding.address_size }
     requires fits { reading.encoding.address_size ≤ 8 }
 {
-    let mut text = Vec::new(alloc);
-    if let Err(error) = input.read_to_end(&mut text) {
-        return match error.kind() {
+    let mut lines = Vec::new(alloc);
+    match input.read_to_end(&mut lines) {
+        Ok(_) => run_lines(alloc, bytes, reading, lines.as_slice(), output),
+        Err(error) => match error.kind() {
             ErrorKind::OutOfMemory => no_memory(output),
             _ => Ok(FAILED),
-        };
-    }
-    match count_steps(text.as_slice()) {
-        Ok(steps) => evaluate(alloc, bytes, reading, steps, output),
-        Err(line) => {
-            writeln!(output, "bad step {line}")?;
-            Ok(MISUSED)
-        }
+        },
     }
 }
 
@@ -159,9 +203,12 @@ fn run_words<A: Allocator + Copy, I: Read + Drop, W: Write>(
 /// Runs the program on the words behind its name, and answers its exit status.
 ///
 /// `ops ADDR OFFSET VERSION ORDER HEX` lists the operations of the bytes HEX: the place, the bytes and the name of
-/// each, or the place and the fault where one is met. `eval ADDR OFFSET VERSION ORDER HEX` evaluates the bytes HEX, in the steps that the lines of `input` say,
-/// and prints one line for each answer and then what came out. The status is 0; 1 where the evaluation
-/// or the decoding failed, a read or a write failed or there was no memory; 2 where the words or a line are bad.
+/// each, or the place and the fault where one is met. `eval ADDR OFFSET VERSION ORDER HEX` evaluates the bytes HEX in
+/// the steps that the lines of `input` say: all of them are read and judged first, and then done in order. It prints
+/// a line for each answer and, where the evaluation is complete at the end, its pieces and its value.
+///
+/// The status is 0; 1 where the evaluation or the decoding failed, a read or a write failed or there was no memory;
+/// and 2 where the words or a line are bad or a step isn't allowed where it stands.
 pub fn run<A: Allocator + Copy, I: Read + Drop, W: Write + Drop>(
     alloc: A,
     words: &[String<A>],

@@ -1,5 +1,12 @@
 ghost use Rattle.std.specs.Prelude.{◌<◌, length};
 
+use crate::hexadecimal::{HexFault, bytes_of};
+use crate::numbers::unsigned_in;
+use crate::values::{type_in, value_in};
+use dwarf_base::{EndianSlice, RunTimeEndian};
+use dwarf_expr::replay::Step;
+use std::alloc::{AllocError, Allocator};
+
 /// A line of the input, and what follows it.
 #[derive(Clone, Copy)]
 struct Line<'a> {
@@ -32,19 +39,122 @@ fn first_line(input: &[u8]) -> Line<'_>
     }
 }
 
-/// How many steps the input has, or the number, from 1, of the first line that is none.
-///
-/// Today the only step is `evaluate`.
-pub(crate) fn count_steps(input: &[u8]) -> Result<u64, u64> {
+/// A step that owns its text.
+#[derive(Drop)]
+pub(crate) enum OwnedStep<A: Allocator> {
+    /// A step that has none.
+    Plain(Step<EndianSlice<'static, RunTimeEndian>>),
+    /// The answer that is a text.
+    Location(Vec<u8, A>),
+}
+
+impl<A: Allocator> OwnedStep<A> {
+    /// The step, with its text read in this order.
+    fn borrowed(&self, order: RunTimeEndian) -> Step<EndianSlice<'_, RunTimeEndian>> {
+        match self {
+            OwnedStep::Plain(step) => *step,
+            OwnedStep::Location(bytes) => {
+                Step::AtLocation(EndianSlice::new(bytes.as_slice(), order))
+            }
+        }
+    }
+}
+
+/// Why a line is no step.
+#[derive(Clone, Copy)]
+enum LineFault {
+    /// It isn't of the form of one.
+    Bad,
+    /// There was no memory for its text.
+    NoMemory,
+}
+
+impl From<HexFault> for LineFault {
+    fn from(fault: HexFault) -> LineFault {
+        match fault {
+            HexFault::Bad => LineFault::Bad,
+            HexFault::NoMemory => LineFault::NoMemory,
+        }
+    }
+}
+
+/// The step of this name, with the word that follows it, unless its text has to be kept.
+fn plain_step<R>(name: &str, word: &str) -> Option<Step<R>> {
+    Some(match name.as_bytes() {
+        b"initial" => Step::InitialValue(unsigned_in(word)?),
+        b"object" => Step::ObjectAddress(unsigned_in(word)?),
+        b"max" => Step::MaxIterations(u32::try_from(unsigned_in(word)?).ok()?),
+        b"memory" => Step::Memory(value_in(word)?),
+        b"register" => Step::Register(value_in(word)?),
+        b"wasm" => Step::WasmValue(value_in(word)?),
+        b"entry" => Step::EntryValue(value_in(word)?),
+        b"frame" => Step::FrameBase(unsigned_in(word)?),
+        b"tls" => Step::Tls(unsigned_in(word)?),
+        b"cfa" => Step::CallFrameCfa(unsigned_in(word)?),
+        b"parameter" => Step::ParameterRef(unsigned_in(word)?),
+        b"relocated" => Step::RelocatedAddress(unsigned_in(word)?),
+        b"indexed" => Step::IndexedAddress(unsigned_in(word)?),
+        b"type" => Step::BaseType(type_in(word)?),
+        _ => return None,
+    })
+}
+
+/// The step that a line says, in words parted by one space.
+fn step_in<A: Allocator>(alloc: A, line: &[u8]) -> Result<OwnedStep<A>, LineFault> {
+    let Ok(line) = str::from_utf8(line) else {
+        return Err(LineFault::Bad);
+    };
+    if line == "evaluate" {
+        return Ok(OwnedStep::Plain(Step::Evaluate));
+    }
+    let Some((name, word)) = line.split_once(' ') else {
+        return Err(LineFault::Bad);
+    };
+    if name == "location" {
+        return Ok(OwnedStep::Location(bytes_of(alloc, word)?));
+    }
+    match plain_step(name, word) {
+        Some(step) => Ok(OwnedStep::Plain(step)),
+        None => Err(LineFault::Bad),
+    }
+}
+
+/// Why an input gives no steps.
+#[derive(Clone, Copy)]
+pub(crate) enum StepsFault {
+    /// The line of this number, from 1, is no step.
+    Bad(usize),
+    /// There was no memory for them.
+    NoMemory,
+}
+
+/// The steps that the lines of the input say. The first line that is none or finds no memory decides.
+pub(crate) fn steps_in<A: Allocator + Copy>(
+    alloc: A,
+    input: &[u8],
+) -> Result<Vec<OwnedStep<A>, A>, StepsFault> {
+    let mut steps = Vec::new(alloc);
     let mut left = input;
-    let mut lines: u64 = 0;
     while !left.is_empty() {
         let line = first_line(left);
-        lines = lines.saturating_add(1);
-        if line.text != b"evaluate".as_slice() {
-            return Err(lines);
+        let step = match step_in(alloc, line.text) {
+            Ok(step) => step,
+            Err(LineFault::Bad) => return Err(StepsFault::Bad(steps.len().saturating_add(1))),
+            Err(LineFault::NoMemory) => return Err(StepsFault::NoMemory),
+        };
+        if steps.push(step).is_err() {
+            return Err(StepsFault::NoMemory);
         }
         left = line.rest;
     }
-    Ok(lines)
+    Ok(steps)
+}
+
+/// The same steps, with their texts read in this order.
+pub(crate) fn borrow_steps<A: Allocator + Copy>(
+    alloc: A,
+    steps: &[OwnedStep<A>],
+    order: RunTimeEndian,
+) -> Result<Vec<Step<EndianSlice<'_, RunTimeEndian>>, A>, AllocError> {
+    steps.iter().map(|step| step.borrowed(order)).collect(alloc)
 }

@@ -6,7 +6,7 @@ pub(crate) fn unsigned_in(word: &str) -> Option<u64> {
         Some(digits) => (digits, 16),
         None => (word, 10),
     };
-    // `from_str_radix` takes a plus sign, and a minus sign for no unsigned type.
+    // `from_str_radix` would take a plus sign.
     if digits.starts_with('+') {
         return None;
     }
@@ -14,12 +14,11 @@ pub(crate) fn unsigned_in(word: &str) -> Option<u64> {
 }
 
 /// The number that a word says, of a signed type: decimal digits, with a minus sign or none.
-pub(crate) fn signed_in<N: FromStr>(word: &str) -> Option<N>
+pub(crate) fn signed_in<N: FromStr + Drop>(word: &str) -> Option<N>
 where
-    N: Drop,
     N::Err: Drop,
 {
-    // `parse` takes a plus sign.
+    // `parse` would take a plus sign.
     if word.starts_with('+') {
         return None;
     }

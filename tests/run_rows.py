@@ -2,13 +2,24 @@
 """Runs each row of tests/rows on the built program and compares what it prints and its status.
 
 A row has a name, the program's words, its input (`input`, or `input_hex` for bytes that aren't text), and the output
-and the status that are wanted. The last line is `N passed, M failed`; the status is 1 where a row failed.
+and the status that are wanted. It may say besides
+- `input_times`: how often the input stands, one after another;
+- `input_from`: in place of an input, a `directory`, whose read fails, or a pipe that stays `open` and gives nothing;
+- `output_to`: `full`, a device on which every write fails;
+- `megabytes`: how much memory the program may have;
+- `output_pattern`: a regular expression for all of the output, in place of it.
+
+The last line is `N passed, M failed`; the status is 1 where a row failed.
 
     tests/run_rows.py [WORD]    only the rows whose file and name have the word
 """
 
+import contextlib
 import json
+import os
 import pathlib
+import re
+import resource
 import subprocess
 import sys
 
@@ -17,7 +28,9 @@ ROWS = TOP / "tests" / "rows"
 LAUNCHER = TOP / "bin" / "dwexpr"
 PROGRAM = TOP / "crates" / "dwexpr" / "out" / "dwexpr"
 SECONDS = 60
-FIELDS = {"name", "words", "input", "input_hex", "output", "status"}
+INPUTS = {"input", "input_hex", "input_from"}
+OUTPUTS = {"output", "output_pattern"}
+FIELDS = {"name", "words", "status", "input_times", "output_to", "megabytes"} | INPUTS | OUTPUTS
 
 
 def rows_of(file):
@@ -25,31 +38,87 @@ def rows_of(file):
     rows = json.loads(file.read_text(encoding="utf-8"))
     names = set()
     for row in rows:
-        unknown = set(row) - FIELDS
-        if unknown or row["name"] in names or ("input" in row) == ("input_hex" in row):
+        fields = set(row)
+        if fields - FIELDS or row["name"] in names or len(fields & INPUTS) != 1 or len(fields & OUTPUTS) != 1:
             raise SystemExit(f"{file.name}: a row is malformed, or its name stands twice: {row}")
         names.add(row["name"])
     return rows
 
 
+def bytes_of(row):
+    """The bytes of the row's input."""
+    text = bytes.fromhex(row["input_hex"]) if "input_hex" in row else row.get("input", "").encode("utf-8")
+    return text * row.get("input_times", 1)
+
+
+@contextlib.contextmanager
 def input_of(row):
-    if "input_hex" in row:
-        return bytes.fromhex(row["input_hex"])
-    return row["input"].encode("utf-8")
+    """What the program reads from: bytes, a directory, or a pipe that nobody writes to."""
+    if row.get("input_from") == "directory":
+        place = os.open("/", os.O_RDONLY)
+        try:
+            yield {"stdin": place}
+        finally:
+            os.close(place)
+    elif row.get("input_from") == "open":
+        reader, writer = os.pipe()
+        try:
+            yield {"stdin": reader}
+        finally:
+            os.close(reader)
+            os.close(writer)
+    else:
+        yield {"input": bytes_of(row)}
+
+
+@contextlib.contextmanager
+def output_of(row):
+    """What the program writes to: the row's reader, or a device that is full."""
+    if row.get("output_to") == "full":
+        with open("/dev/full", "wb") as device:
+            yield device
+    else:
+        yield subprocess.PIPE
+
+
+def limit_of(row):
+    """What limits the program's memory, where the row says so."""
+    if "megabytes" not in row:
+        return None
+    size = row["megabytes"] << 20
+    return lambda: resource.setrlimit(resource.RLIMIT_AS, (size, size))
+
+
+def run(row):
+    with input_of(row) as source, output_of(row) as sink:
+        return subprocess.run(
+            [str(PROGRAM), *row["words"]],
+            **source,
+            stdout=sink,
+            stderr=subprocess.PIPE,
+            preexec_fn=limit_of(row),
+            timeout=SECONDS,
+            check=False,
+        )
+
+
+def is_wanted(row, printed):
+    if "output_pattern" in row:
+        return re.fullmatch(row["output_pattern"].encode("utf-8"), printed) is not None
+    return printed == row["output"].encode("utf-8")
 
 
 def complaints_of(row):
     """What is wrong with the program's answer to a row: nothing, where it passes."""
     try:
-        ran = subprocess.run(
-            [str(PROGRAM), *row["words"]], input=input_of(row), capture_output=True, timeout=SECONDS, check=False
-        )
+        ran = run(row)
     except subprocess.TimeoutExpired:
         return [f"it had not ended after {SECONDS} seconds"]
     complaints = []
-    wanted = row["output"].encode("utf-8")
-    if ran.stdout != wanted:
-        complaints.append(f"it printed {ran.stdout!r}, and {wanted!r} is wanted")
+    printed = ran.stdout or b""
+    if not is_wanted(row, printed):
+        wanted = row.get("output_pattern", row.get("output"))
+        complaints.append(f"it printed {printed[-200:]!r}, and {wanted!r} is wanted")
     if ran.returncode != row["status"]:
         complaints.append(f"it ended with status {ran.returncode}, and {row['status']} is wanted")
     if complaints and ran.stderr:

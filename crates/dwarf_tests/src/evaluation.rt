@@ -1,0 +1,471 @@
+ghost use Rattle.std.specs.Borrow.{ffalse};
+ghost use Rattle.std.specs.Prelude.{◌≡◌, None};
+ghost use Rattle.dwarf_meaning.specs.Rest.{Start};
+ghost use Rattle.dwarf_expr.specs.Answers.{IsOpenFor, kind_of};
+ghost use Rattle.dwarf_expr.specs.Calls.{IsComplete};
+
+use arrayvec::ArrayVec;
+use dwarf_base::{
+    DebugAddrIndex, Encoding, EndianSlice, Error, Format, Reader, Register, Result, RunTimeEndian,
+    UnitOffset,
+};
+use dwarf_expr::eval::{Evaluation, Status, WaitingKind};
+use dwarf_expr::op::{DieReference, EvaluationResult, Expression, Location, Piece};
+use dwarf_expr::store::{EvaluationStorage, StoreOnHeap};
+use dwarf_value::{Value, ValueType};
+use std::alloc::{AllocError, Allocator, Global};
+use std::process::Abort;
+
+pub(crate) type Slice<'a> = EndianSlice<'a, RunTimeEndian>;
+
+type Answered<'a> = Result<EvaluationResult<Slice<'a>>>;
+
+const DONE: Answered<'static> = Ok(EvaluationResult::Complete);
+
+const FULL: Answered<'static> = Err(Error::StackFull);
+
+/// Addresses of 4 bytes and the 32-bit format.
+pub(crate) const SMALL: Encoding = Encoding {
+    address_size: 4,
+    format: Format::Dwarf32,
+    version: 4,
+};
+
+/// Lists of fixed capacities.
+pub(crate) struct Fixed<const STACK: usize, const FRAMES: usize, const PIECES: usize>;
+
+impl<
+    R: Reader + Copy + Default,
+    const STACK: usize,
+    const FRAMES: usize,
+    const PIECES: usize,
+> EvaluationStorage<R> for Fixed<STACK, FRAMES, PIECES> {
+    type Stack = ArrayVec<Value, STACK>;
+
+    type ExpressionStack = ArrayVec<(R, R), FRAMES>;
+
+    type Result = ArrayVec<Piece<R>, PIECES>;
+}
+
+// An allocator that refuses every growth.
+#[derive(Clone, Copy)]
+pub(crate) struct Refusing;
+
+unsafe impl Allocator for Refusing {
+    ghost dealloc_token = { λ _ _ _. ffalse };
+
+    fn allocate(&self, _size: usize, _align: usize) -> std::result::Result<*mut u8, AllocError> {
+        Err(AllocError)
+    }
+
+    unsafe fn deallocate(&self, _ptr: *mut u8, _size: usize, _align: usize) {}
+}
+
+/// The bytes, the lowest of a number first.
+pub(crate) fn little(text: &[u8]) -> Slice<'_> {
+    EndianSlice::new(text, RunTimeEndian::Little)
+}
+
+/// A fresh evaluation on the heap.
+pub(crate) fn on_heap(alloc: Global, text: &[u8]) -> Evaluation<Slice<'_>, StoreOnHeap<Global>>
+    ensures { result.status ≡ Start None }
+{
+    Evaluation::new(alloc, little(text), SMALL)
+}
+
+/// A fresh evaluation over lists of these capacities.
+pub(crate) fn over_lists<const STACK: usize, const FRAMES: usize, const PIECES: usize>(
+    text: &[u8],
+) -> Evaluation<Slice<'_>, Fixed<STACK, FRAMES, PIECES>>
+    ensures { result.status ≡ Start None }
+{
+    Evaluation::new_in(
+        little(text),
+        SMALL,
+        ArrayVec::new(),
+        ArrayVec::new(),
+        ArrayVec::new(),
+    )
+}
+
+/// Where an evaluation stands, with its value and its pieces where it is complete.
+pub(crate) type Stand<'a, R> = (Status, Option<Value>, &'a [Piece<R>]);
+
+/// Where the evaluation stands.
+pub(crate) fn stand<R: Reader + Copy, S: EvaluationStorage<R>>(
+    eval: &Evaluation<R, S>,
+) -> Stand<'_, R> {
+    match eval.status() {
+        Status::Complete => (Status::Complete, eval.value_result(), eval.as_result()),
+        status => (status, None, &[]),
+    }
+}
+
+// A request is open whose answer is of this kind.
+fn expect_waiting<R: Reader + Copy, S: EvaluationStorage<R>>(
+    rt: &impl Abort,
+    eval: &Evaluation<R, S>,
+    kind: WaitingKind,
+)
+    ensures { IsOpenFor (kind_of kind) eval.now.status }
+{
+    assert!(rt; eval.status() == Status::Waiting(kind));
+}
+
+// The evaluation is complete.
+fn expect_complete<R: Reader + Copy, S: EvaluationStorage<R>>(
+    rt: &impl Abort,
+    eval: &Evaluation<R, S>,
+)
+    ensures { IsComplete eval.now.status }
+{
+    assert!(rt; eval.status() == Status::Complete);
+}
+
+// Evaluates where no request is open.
+fn evaluate_again<R: Reader + Copy, S: EvaluationStorage<R>>(
+    rt: &impl Abort,
+    eval: &mut Evaluation<R, S>,
+) -> Result<EvaluationResult<R>> {
+    assert!(rt; !matches!(eval.status(), Status::Waiting(_)));
+    eval.evaluate()
+}
+
+/// A piece of no size: the whole variable.
+pub(crate) fn whole(location: Location<Slice<'_>>) -> Piece<Slice<'_>> {
+    Piece {
+        size_in_bits: None,
+        bit_offset: None,
+        location,
+    }
+}
+
+/// Complete, with this value, and one piece at this address.
+pub(crate) fn expect_value(
+    rt: &impl Abort,
+    stand: Stand<'_, Slice<'_>>,
+    value: Value,
+    address: u64,
+) {
+    let (status, given, pieces) = stand;
+    assert!(rt; status == Status::Complete);
+    assert!(rt; given == Some(value));
+    assert!(rt; pieces == [whole(Location::Address { address })].as_slice());
+}
+
+// Complete, with no value, and one piece.
+fn expect_whole(rt: &impl Abort, stand: Stand<'_, Slice<'_>>, location: Location<Slice<'_>>) {
+    let (status, given, pieces) = stand;
+    assert!(rt; status == Status::Complete);
+    assert!(rt; given == None);
+    assert!(rt; pieces == [whole(location)].as_slice());
+}
+
+#[test]
+fn ways_to_begin(rt: HostRuntime) {
+    let text = little(&[0x33, 0x35, 0x22]);
+    let mut eval = Evaluation::new(rt.alloc(), text, SMALL);
+    assert!(rt; eval.status() == Status::Start { initial: false });
+    assert!(rt; eval.evaluate() == DONE);
+    expect_value(&rt, stand(&eval), Value::Generic(8), 8);
+
+    let mut eval = Expression(text).evaluation(rt.alloc(), SMALL);
+    assert!(rt; eval.evaluate() == DONE);
+    expect_value(&rt, stand(&eval), Value::Generic(8), 8);
+
+    let mut eval: Evaluation<Slice<'static>, StoreOnHeap<Global>> = Evaluation::new_in(
+        text,
+        SMALL,
+        Vec::new(rt.alloc()),
+        Vec::new(rt.alloc()),
+        Vec::new(rt.alloc()),
+    );
+    assert!(rt; eval.evaluate() == DONE);
+    expect_value(&rt, stand(&eval), Value::Generic(8), 8);
+
+    let mut eval = over_lists::<2, 0, 1>(&[0x33, 0x35, 0x22]);
+    assert!(rt; eval.evaluate() == DONE);
+    expect_value(&rt, stand(&eval), Value::Generic(8), 8);
+}
+
+#[test]
+fn settings(rt: HostRuntime) {
+    let mut eval = on_heap(rt.alloc(), &[0x97, 0x22]);
+    eval.set_initial_value(5);
+    assert!(rt; eval.status() == Status::Start { initial: true });
+    eval.set_object_address(0x7000);
+    eval.set_max_iterations(2);
+    assert!(rt; evaluate_again(&rt, &mut eval) == DONE);
+    expect_value(&rt, stand(&eval), Value::Generic(0x7005), 0x7005);
+    assert!(rt; evaluate_again(&rt, &mut eval) == DONE);
+
+    let mut eval = on_heap(rt.alloc(), &[0x97, 0x22]);
+    eval.set_max_iterations(0);
+    let spent = Err(Error::TooManyIterations);
+    assert!(rt; evaluate_again(&rt, &mut eval) == spent);
+    eval.set_max_iterations(9);
+    assert!(rt; evaluate_again(&rt, &mut eval) == spent);
+    assert!(rt; eval.status() == Status::Failed(Error::TooManyIterations));
+}
+
+#[test]
+fn results(rt: HostRuntime) {
+    let mut eval = on_heap(rt.alloc(), b"\x9e\x05hello");
+    assert!(rt; eval.evaluate() == DONE);
+    let hello = Location::Bytes {
+        value: little(b"hello"),
+    };
+    expect_whole(&rt, stand(&eval), hello);
+    expect_complete(&rt, &eval);
+    assert!(rt; eval.value_result() == None);
+    assert!(rt; eval.result().as_slice() == [whole(hello)].as_slice());
+
+    let mut eval = over_lists::<1, 0, 1>(&[0x31, 0x9f]);
+    assert!(rt; eval.evaluate() == DONE);
+    let one = Location::Value {
+        value: Value::Generic(1),
+    };
+    expect_whole(&rt, stand(&eval), one);
+    expect_complete(&rt, &eval);
+    assert!(rt; eval.value_result() == None);
+}
+
+#[test]
+fn a_big_endian_constant(rt: HostRuntime) {
+    let text = EndianSlice::new(&[0x0a, 0x01, 0x02], RunTimeEndian::Big);
+    let mut eval = Evaluation::new(rt.alloc(), text, SMALL);
+    assert!(rt; eval.evaluate() == DONE);
+    expect_value(&rt, stand(&eval), Value::Generic(258), 258);
+}
+
+#[test]
+fn memory_and_registers(rt: HostRuntime) {
+    let mut eval = on_heap(rt.alloc(), &[0x31, 0x06]);
+    let memory = EvaluationResult::RequiresMemory {
+        address: 1,
+        size: 4,
+        space: None,
+        base_type: UnitOffset(0),
+    };
+    assert!(rt; eval.evaluate() == Ok(memory));
+    expect_waiting(&rt, &eval, WaitingKind::Memory);
+    assert!(rt; eval.resume_with_memory(Value::Generic(7)) == DONE);
+    expect_value(&rt, stand(&eval), Value::Generic(7), 7);
+
+    let mut eval = on_heap(rt.alloc(), &[0x70, 0x7f]);
+    let register = EvaluationResult::RequiresRegister {
+        register: Register(0),
+        base_type: UnitOffset(0),
+    };
+    assert!(rt; eval.evaluate() == Ok(register));
+    expect_waiting(&rt, &eval, WaitingKind::Register);
+    assert!(rt; eval.resume_with_register(Value::Generic(0)) == DONE);
+    expect_value(&rt, stand(&eval), Value::Generic(0xffff_ffff), 0xffff_ffff);
+}
+
+#[test]
+fn values_of_the_target(rt: HostRuntime) {
+    let mut eval = on_heap(rt.alloc(), &[0xed, 0x01, 0x81, 0x00]);
+    let global = EvaluationResult::RequiresWasmGlobal { index: 1 };
+    assert!(rt; eval.evaluate() == Ok(global));
+    expect_waiting(&rt, &eval, WaitingKind::WasmValue);
+    assert!(rt; eval.resume_with_wasm_value(Value::I32(5)) == DONE);
+    expect_value(&rt, stand(&eval), Value::I32(5), 5);
+
+    let mut eval = on_heap(rt.alloc(), &[0xa3, 0x01, 0x9c]);
+    let entry = EvaluationResult::RequiresEntryValue(Expression(little(&[0x9c])));
+    assert!(rt; eval.evaluate() == Ok(entry));
+    expect_waiting(&rt, &eval, WaitingKind::EntryValue);
+    assert!(rt; eval.resume_with_entry_value(Value::I8(-1)) == DONE);
+    expect_value(&rt, stand(&eval), Value::I8(-1), u64::MAX);
+
+    let mut eval = on_heap(rt.alloc(), &[0xfa, 0x78, 0x56, 0x34, 0x12]);
+    let parameter = EvaluationResult::RequiresParameterRef(UnitOffset(0x1234_5678));
+    assert!(rt; eval.evaluate() == Ok(parameter));
+    expect_waiting(&rt, &eval, WaitingKind::ParameterRef);
+    assert!(rt; eval.resume_with_parameter_ref(6) == DONE);
+    expect_value(&rt, stand(&eval), Value::Generic(6), 6);
+}
+
+#[test]
+fn frames_and_threads(rt: HostRuntime) {
+    let mut eval = on_heap(rt.alloc(), &[0x91, 0x70]);
+    assert!(rt; eval.evaluate() == Ok(EvaluationResult::RequiresFrameBase));
+    expect_waiting(&rt, &eval, WaitingKind::FrameBase);
+    assert!(rt; eval.resume_with_frame_base(0x10) == DONE);
+    expect_value(&rt, stand(&eval), Value::Generic(0), 0);
+
+    let mut eval = on_heap(rt.alloc(), &[0x35, 0x9b]);
+    assert!(rt; eval.evaluate() == Ok(EvaluationResult::RequiresTls(5)));
+    expect_waiting(&rt, &eval, WaitingKind::Tls);
+    assert!(rt; eval.resume_with_tls(0x40) == DONE);
+    expect_value(&rt, stand(&eval), Value::Generic(0x40), 0x40);
+
+    let mut eval = on_heap(rt.alloc(), &[0x9c]);
+    assert!(rt; eval.evaluate() == Ok(EvaluationResult::RequiresCallFrameCfa));
+    expect_waiting(&rt, &eval, WaitingKind::CallFrameCfa);
+    assert!(rt; eval.resume_with_call_frame_cfa(1) == DONE);
+    expect_value(&rt, stand(&eval), Value::Generic(1), 1);
+}
+
+#[test]
+fn addresses(rt: HostRuntime) {
+    let mut eval = on_heap(rt.alloc(), &[0x03, 0x10, 0x00, 0x00, 0x00]);
+    assert!(rt; eval.evaluate() == Ok(EvaluationResult::RequiresRelocatedAddress(0x10)));
+    expect_waiting(&rt, &eval, WaitingKind::RelocatedAddress);
+    assert!(rt; eval.resume_with_relocated_address(0x20) == DONE);
+    expect_value(&rt, stand(&eval), Value::Generic(0x20), 0x20);
+
+    let mut eval = on_heap(rt.alloc(), &[0xa1, 0x05]);
+    let indexed = EvaluationResult::RequiresIndexedAddress {
+        index: DebugAddrIndex(5),
+        relocate: true,
+    };
+    assert!(rt; eval.evaluate() == Ok(indexed));
+    expect_waiting(&rt, &eval, WaitingKind::IndexedAddress);
+    assert!(rt; eval.resume_with_indexed_address(0x30) == DONE);
+    expect_value(&rt, stand(&eval), Value::Generic(0x30), 0x30);
+}
+
+#[test]
+fn calls_and_types(rt: HostRuntime) {
+    let mut eval = on_heap(rt.alloc(), &[0x98, 0x05, 0x00]);
+    let call = EvaluationResult::RequiresAtLocation(DieReference::UnitRef(UnitOffset(5)));
+    assert!(rt; eval.evaluate() == Ok(call));
+    expect_waiting(&rt, &eval, WaitingKind::AtLocation);
+    assert!(rt; eval.resume_with_at_location(little(&[0x50])) == DONE);
+    let register = Location::Register {
+        register: Register(0),
+    };
+    expect_whole(&rt, stand(&eval), register);
+
+    let mut eval = on_heap(rt.alloc(), &[0xa4, 0x07, 0x02, 0xff, 0x7f, 0x9f]);
+    let base_type = EvaluationResult::RequiresBaseType(UnitOffset(7));
+    assert!(rt; eval.evaluate() == Ok(base_type));
+    expect_waiting(&rt, &eval, WaitingKind::BaseType);
+    assert!(rt; eval.resume_with_base_type(ValueType::I16) == DONE);
+    let literal = Location::Value {
+        value: Value::I16(32767),
+    };
+    expect_whole(&rt, stand(&eval), literal);
+}
+
+// A stack of capacity 2.
+#[test]
+fn a_full_stack(rt: HostRuntime) {
+    let mut eval = over_lists::<2, 1, 1>(&[0x31, 0x32]);
+    assert!(rt; eval.evaluate() == DONE);
+    expect_value(&rt, stand(&eval), Value::Generic(2), 2);
+
+    let mut eval = over_lists::<2, 1, 1>(&[0x31, 0x32, 0x33]);
+    for _ in 0..3 {
+        assert!(rt; evaluate_again(&rt, &mut eval) == FULL);
+        assert!(rt; eval.status() == Status::Failed(Error::StackFull));
+    }
+}
+
+// The sum of 40 ones.
+fn expect_sum(rt: &impl Abort, alloc: Global, text: &[u8]) {
+    let mut eval = on_heap(alloc, text);
+    assert!(rt; eval.evaluate().is_ok());
+    expect_value(rt, stand(&eval), Value::Generic(40), 40);
+}
+
+// Twenty pieces of 8 bits in register 0.
+fn expect_registers(rt: &impl Abort, alloc: Global, text: &[u8]) {
+    let mut eval = on_heap(alloc, text);
+    assert!(rt; eval.evaluate().is_ok());
+    let (status, _, pieces) = stand(&eval);
+    assert!(rt; status == Status::Complete);
+    assert!(rt; pieces.len() == 20);
+    for piece in pieces {
+        assert!(rt; piece.size_in_bits == Some(8));
+        assert!(rt;
+            matches!(
+                piece.location,
+                Location::Register {
+                    register: Register(0)
+                }
+            )
+        );
+    }
+}
+
+#[test]
+fn growing_lists(rt: HostRuntime) -> std::result::Result<(), AllocError> {
+    let mut ones = Vec::new(rt.alloc());
+    ones.extend_from_slice(&[0x31; 40])?;
+    ones.extend_from_slice(&[0x22; 39])?;
+    expect_sum(&rt, rt.alloc(), &ones);
+
+    let mut registers = Vec::new(rt.alloc());
+    for _ in 0..20 {
+        registers.extend_from_slice(&[0x50, 0x93, 0x01])?;
+    }
+    expect_registers(&rt, rt.alloc(), &registers);
+    Ok(())
+}
+
+#[test]
+fn refused_growth(rt: HostRuntime) {
+    let mut eval = Evaluation::new(Refusing, little(&[0x31]), SMALL);
+    for _ in 0..3 {
+        assert!(rt; evaluate_again(&rt, &mut eval) == FULL);
+        assert!(rt; eval.status() == Status::Failed(Error::StackFull));
+    }
+}
+
+// Answers a request of this kind: with zero, with an expression that does nothing, or with a type.
+fn answer<'a>(
+    eval: &mut Evaluation<Slice<'a>, StoreOnHeap<Global>>,
+    kind: WaitingKind,
+) -> Answered<'a>
+    requires { IsOpenFor (kind_of kind) eval.old.status }
+{
+    match kind {
+        WaitingKind::Memory => eval.resume_with_memory(Value::Generic(0)),
+        WaitingKind::Register => eval.resume_with_register(Value::Generic(0)),
+        WaitingKind::WasmValue => eval.resume_with_wasm_value(Value::Generic(0)),
+        WaitingKind::EntryValue => eval.resume_with_entry_value(Value::Generic(0)),
+        WaitingKind::FrameBase => eval.resume_with_frame_base(0),
+        WaitingKind::Tls => eval.resume_with_tls(0),
+        WaitingKind::CallFrameCfa => eval.resume_with_call_frame_cfa(0),
+        WaitingKind::ParameterRef => eval.resume_with_parameter_ref(0),
+        WaitingKind::RelocatedAddress => eval.resume_with_relocated_address(0),
+        WaitingKind::IndexedAddress => eval.resume_with_indexed_address(0),
+        WaitingKind::AtLocation => eval.resume_with_at_location(little(&[0x96])),
+        WaitingKind::BaseType => eval.resume_with_base_type(ValueType::U8),
+    }
+}
+
+/// With at most 16 operations the evaluation ends after at most 16 answers.
+pub(crate) fn expect_end(rt: &impl Abort, alloc: Global, text: &[u8]) {
+    let mut eval = on_heap(alloc, text);
+    eval.set_max_iterations(16);
+    let mut last = eval.evaluate();
+    for _ in 0..16 {
+        if let Status::Waiting(kind) = eval.status() {
+            last = answer(&mut eval, kind);
+        }
+    }
+    match last {
+        Ok(result) => {
+            assert!(rt; result == EvaluationResult::Complete, "{text:?}");
+            assert!(rt; eval.status() == Status::Complete, "{text:?}");
+        }
+        Err(error) => {
+            assert!(rt; eval.status() == Status::Failed(error), "{text:?}");
+        }
+    }
+}
+
+#[test]
+fn short_expressions(rt: HostRuntime) {
+    expect_end(&rt, rt.alloc(), &[]);
+    for first in 0..=255u8 {
+        expect_end(&rt, rt.alloc(), &[first]);
+        for second in 0..=255u8 {
+            expect_end(&rt, rt.alloc(), &[first, second]);
+        }
+    }
+}

@@ -1,0 +1,7 @@
+//! Tests of evaluation and replay, as their users see them: rows on the heap and on lists of fixed capacities.
+#![tactic(auto)]
+
+#[cfg(test)]
+mod evaluation;
+#[cfg(test)]
+mod replays;

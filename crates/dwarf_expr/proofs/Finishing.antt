@@ -7,6 +7,7 @@ use Rattle.dwarf_value.specs.Values.{to_u64_of}
 use Rattle.dwarf_meaning.specs.Locations.{AtAddress, Piece}
 use Rattle.dwarf_meaning.specs.Requests.{Input}
 use Rattle.dwarf_meaning.specs.Acts.{choose}
+use Rattle.dwarf_meaning.specs.RunLaws.{waits_of}
 use Rattle.dwarf_meaning.specs.Stores.{Setup, address_bits, Store, Last, Refusal, Never, push_piece}
 use Rattle.dwarf_meaning.specs.Run.{Frame, Course, Finished, ended, turn_by, run}
 use Rattle.dwarf_meaning.specs.Meaning.{Outcome, Faults, Completes, completed, has_pieces, whole, finish_value, finish_by, finish, unwound}
@@ -14,7 +15,7 @@ use Rattle.dwarf_meaning.specs.Rest.{State, Status, Start, Running, Waits, Compl
 use Rattle.dwarf_meaning.proofs.Choices.{choose_true, choose_false, top_none, top_some}
 use Rattle.dwarf_meaning.proofs.Counts.{HasTally, OnStore, Tally, tally_of, tally-push_piece}
 use Rattle.dwarf_meaning.proofs.Turns.{run_turn}
-use Rattle.dwarf_expr.specs.Steps.{Gets, Does, Pops, before_pushes, GoesBack, FinishedBy, Closes, Keeps, IsLive, Turned, Turns, waits_of, with_store, with_status, with_values}
+use Rattle.dwarf_expr.specs.Steps.{Gets, Does, Pops, before_pushes, GoesBack, FinishedBy, Closes, Keeps, IsLive, Turned, Turns, with_store, with_status, with_values}
 use Rattle.dwarf_expr.proofs.Reaching.{rest_running, rest_complete, keeps_here, keeps_more, may_along}
 use Rattle.dwarf_expr.proofs.Turning.{effort_running, less_stopped}
 

@@ -5,12 +5,13 @@ use Rattle.dwarf_base.specs.Faults.{Fault, InvalidExpressionTerminator, fault_of
 use Rattle.dwarf_meaning.specs.Operations.{Operation}
 use Rattle.dwarf_meaning.specs.Locations.{Location, Piece}
 use Rattle.dwarf_meaning.specs.Requests.{Input}
+use Rattle.dwarf_meaning.specs.RunLaws.{waits_of}
 use Rattle.dwarf_meaning.specs.Stores.{Store, Last, Pieced, Located, Refusal, Never, push_piece, Next, Goes, Fails, goes}
 use Rattle.dwarf_meaning.specs.Run.{led, holds, held, piece_of, read, run, turn_by}
 use Rattle.dwarf_meaning.specs.Meaning.{unwound}
 use Rattle.dwarf_meaning.specs.Rest.{State, Running, with_refusal, running, rest}
 use Rattle.dwarf_meaning.proofs.Counts.{OnStore, KeepsBoth, Tally, tally_of, both-push_piece}
-use Rattle.dwarf_expr.specs.Steps.{Gets, Does, Tries, Reads, before_pushes, Falls, IsLive, Turned, Turns, waits_of, read_to, with_last}
+use Rattle.dwarf_expr.specs.Steps.{Gets, Does, Tries, Reads, before_pushes, Falls, IsLive, Turned, Turns, read_to, with_last}
 use Rattle.dwarf_expr.proofs.Reaching.{rest_running, unwound_failed}
 use Rattle.dwarf_expr.proofs.Turning.{rest_inside, effort_running}
 

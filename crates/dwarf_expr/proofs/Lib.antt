@@ -20,8 +20,6 @@ pub mod Holding
 pub mod Following
 pub mod AnswerUses
 pub mod Resuming
-pub mod EntryRows
 pub mod Items
-pub mod Operands
 pub mod AddressMasks
 pub mod Texts

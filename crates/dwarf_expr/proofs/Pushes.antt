@@ -7,7 +7,7 @@ use Rattle.dwarf_meaning.specs.Locations.{Piece}
 use Rattle.dwarf_meaning.specs.Stores.{Limits, Setup, Store, Refusal, Never, After, room, spent, push_value, push_piece, push_frame}
 use Rattle.dwarf_meaning.specs.Rest.{with_refusal}
 use Rattle.dwarf_meaning.proofs.Choices.{choose_true, choose_false}
-use Rattle.dwarf_expr.specs.Lists.{HasRoom, MayRefuse}
+use Rattle.dwarf_store.specs.Lists.{HasRoom, MayRefuse}
 use Rattle.dwarf_expr.specs.Steps.{MayPick, before_push, before_pushes, Steps, Gets}
 
 -- how many pushes on lists without a limit a push is

@@ -4,6 +4,7 @@ use Rattle.dwarf_base.specs.declared.errors.Error.{Error}
 use Rattle.dwarf_base.specs.Faults.{Fault, TooManyIterations, fault_of}
 use Rattle.dwarf_meaning.specs.Operations.{Operation, Text}
 use Rattle.dwarf_meaning.specs.Requests.{Request, Waiting, Input}
+use Rattle.dwarf_meaning.specs.RunLaws.{waits_of}
 use Rattle.dwarf_meaning.specs.Stores.{Setup, Store, Last, Nothing, Plain, Pieced, Pushed, Called, Located, Refusal, Never, Next, Goes, Stops, Fails}
 use Rattle.dwarf_meaning.specs.Run.{Finished, Failed, Course, ended, passing, read, most, can_count, counted, does, counts, led, turn_by, run}
 use Rattle.dwarf_meaning.specs.Meaning.{unwound}
@@ -11,7 +12,7 @@ use Rattle.dwarf_meaning.specs.Rest.{State, Status, Start, Running, Waits, Compl
 use Rattle.dwarf_meaning.proofs.Choices.{choose_true, choose_false}
 use Rattle.dwarf_meaning.proofs.Counts.{HasTally, OnNext, Tally, tally_of, tally-done}
 use Rattle.dwarf_meaning.proofs.Turns.{run_turn, below_most}
-use Rattle.dwarf_expr.specs.Steps.{Gets, Reads, before_pushes, act_of, done_at, GoesOn, AsksFor, PerformedBy, Performs, read_to, with_store, Keeps, Falls, IsFree, IsReady, IsLive, Turned, Turns, effort, effort_by, waits_of}
+use Rattle.dwarf_expr.specs.Steps.{Gets, Reads, before_pushes, act_of, done_at, GoesOn, AsksFor, PerformedBy, Performs, read_to, with_store, Keeps, Falls, IsFree, IsReady, IsLive, Turned, Turns, effort, effort_by}
 use Rattle.dwarf_expr.proofs.Reaching.{rest_running, rest_waits, unwound_failed}
 
 -- ---- what there is still to do

@@ -17,9 +17,9 @@ use Rattle.dwarf_meaning.specs.Rest.{State, Status, Start, Running, Waits, Compl
 use Rattle.dwarf_meaning.specs.Steps.{Step, InitialValue, ObjectAddress, MaxIterations, Evaluate, Resume, Told, Reply, Completed, Faulted, reply, replies, IsEvaluable, Awaits, Allows, AllAllowed, begun, after, after_step, after_steps, answers, outcome_of, outcome_from, step_replies}
 use Rattle.dwarf_expr.specs.Calls.{IsTold, IsLater, Follows, first_of, means, IsClosed, Evaluates, Resumes, reply_of, with_object, with_maximum}
 use Rattle.dwarf_expr.specs.Steps.{MayPick, before_input, IsOpen, after_input, input_of, with_status}
-use Rattle.dwarf_expr.specs.Lists.{MayRefuse}
+use Rattle.dwarf_store.specs.Lists.{MayRefuse}
 use Rattle.dwarf_expr.specs.Stepping.{IsAskingFor, MayTake, IsSet, IsCalled, IsKept}
-use Rattle.dwarf_expr.specs.Replays.{told_at, step_of, steps_of, reply_in, replies_in, IsAsking, IsStopped, StandsAt, Walks, WalksAll, WalksTo, WalksOver}
+use Rattle.dwarf_expr.specs.Replays.{told_at, step_of, steps_of, reply_in, replies_in, IsAsking, IsStopped, AreSet, StandsAt, Walks, WalksAll, WalksTo, WalksOver}
 use Rattle.dwarf_expr.specs.declared.replay.steps.Step as code
 use Rattle.dwarf_expr.specs.declared.replay.steps.Answer as kept_answer
 use Rattle.dwarf_expr.specs.declared.op.results.EvaluationResult.{EvaluationResult}
@@ -551,15 +551,18 @@ module _ (first : State) (steps : List Step) (given : List Reply) (x : State) (P
   Wanted (Stopped error) = (told : Told) (settings : First) → told.first ≡ Some settings → P told (Some (Faults (fault_of error)))
   Wanted Running = Unit {0}
 
+  are_set : (told : Told) → Holds first told x → AreSet told x
+  are_set told h = record { object_address = h.object_address; maximum = h.maximum }
+
   led_by : (status : Status) → x.status ≡ status → WentBy first steps given x status → Wanted status → Led first steps given x P
   led_by (Start initial_value) e w wanted =
-      led w.told Never None (w.walked Never) tt (ap (outcome_from first.setup Never first.text w.told.inputs) w.started) (e ∙ ap Start (sym w.initial)) (wanted w.told w.started w.initial)
+      led w.told Never None (w.walked Never) tt (ap (outcome_from first.setup Never first.text w.told.inputs) w.started) (e ∙ ap Start (sym w.initial), are_set w.told w.holds) (wanted w.told w.started w.initial)
   led_by (Waits request waiting) e w wanted =
       let frame : Frame = record { text = x.text; place = x.place } in
       led w.told (before_inputs w.taken Never) (Some (Requests request (frame ∷ x.callers))) (w.walked Never tt) (may_inputs first.setup.limits w.taken Never tt)
       (going_outcome first steps given x w Never tt
       ∙ ap Some (rest_by_status Never x [] (Waits request waiting) e ∙ unwound_open x.setup x.callers request (frame ∷ []) []))
-      (subst (IsAsking request (frame ∷ x.callers) x) (sym e) (refl, refl))
+      (subst (IsAsking request (frame ∷ x.callers) x) (sym e) (refl, refl), are_set w.told w.holds)
       (wanted w.told w.settings (frame ∷ x.callers) w.started)
   led_by (Complete value) e w wanted =
       led w.told (before_inputs w.taken Never) (Some (Completes x.store.pieces value)) (w.walked Never tt) (may_inputs first.setup.limits w.taken Never tt)

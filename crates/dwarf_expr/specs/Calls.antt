@@ -10,7 +10,7 @@ use Rattle.dwarf_meaning.specs.Stores.{Refusal, Never, After}
 use Rattle.dwarf_meaning.specs.Meaning.{Outcome, First, fresh, meaning}
 use Rattle.dwarf_meaning.specs.Rest.{State, Status, Start, Running, Waits, Complete, Stopped, rest}
 use Rattle.dwarf_meaning.specs.Steps.{Reply, Completed, Asked, Faulted, reply}
-use Rattle.dwarf_expr.specs.Views.{reference_of}
+use Rattle.dwarf_op.specs.Views.{reference_of}
 use Rattle.dwarf_expr.specs.Steps.{MayPick, IsOpen, Keeps, after_input}
 use Rattle.dwarf_expr.specs.declared.op.results.EvaluationResult.{EvaluationResult}
 use Rattle.dwarf_expr.specs.declared.op.results.EvaluationResult.TheVariants as result

@@ -5,7 +5,7 @@ use Rattle.dwarf_base.specs.declared.errors.Error.{Error}
 use Rattle.dwarf_base.specs.Faults.{Fault, fault_of}
 use Rattle.dwarf_meaning.specs.Operations as meaning
 use Rattle.dwarf_meaning.specs.Splitting.{items_at}
-use Rattle.dwarf_expr.specs.Views.{text_of}
+use Rattle.dwarf_op.specs.Views.{text_of}
 use Rattle.dwarf_expr.specs.declared.op.expressions.OperationIter.{OperationIter}
 
 -- the bytes that are left

@@ -1,11 +1,8 @@
 pub mod Answers
 pub mod Calls
-pub mod Entries
 pub mod Iteration
-pub mod Lists
 pub mod Machine
 pub mod Operators
 pub mod Replays
 pub mod Stepping
 pub mod Steps
-pub mod Views

@@ -11,10 +11,10 @@ use Rattle.dwarf_meaning.specs.Requests as asked
 use Rattle.dwarf_meaning.specs.Stores.{Setup, Store, Last, Nothing, Plain, Pieced, Pushed, Called, Located, Never}
 use Rattle.dwarf_meaning.specs.Run.{Frame}
 use Rattle.dwarf_meaning.specs.Rest.{Status, Start, Running, Waits, Complete, Stopped}
-use Rattle.dwarf_expr.specs.Views.{text_of, reference_of}
-use Rattle.dwarf_expr.specs.declared.op.locations.Location.{Location}
-use Rattle.dwarf_expr.specs.declared.op.locations.Location.TheVariants as location
-use Rattle.dwarf_expr.specs.declared.op.locations.Piece.{Piece}
+use Rattle.dwarf_op.specs.Views.{text_of, reference_of}
+use Rattle.dwarf_op.specs.declared.locations.Location.{Location}
+use Rattle.dwarf_op.specs.declared.locations.Location.TheVariants as location
+use Rattle.dwarf_op.specs.declared.locations.Piece.{Piece}
 use Rattle.dwarf_expr.specs.declared.eval.states.LastOperation.{LastOperation}
 use Rattle.dwarf_expr.specs.declared.eval.states.LastOperation.TheVariants as last
 use Rattle.dwarf_expr.specs.declared.eval.states.OpenRequest.{OpenRequest}

@@ -11,7 +11,7 @@ use Rattle.dwarf_meaning.specs.Rest.{State, Status, Start, Running, Waits, Compl
 use Rattle.dwarf_meaning.specs.Steps as meaning
 use Rattle.dwarf_meaning.specs.Steps.{Told, Reply, Allows, AllAllowed, answers, after_steps, outcome_of}
 use Rattle.dwarf_expr.specs.Calls.{first_of, reply_of}
-use Rattle.dwarf_expr.specs.Lists.{MayRefuse}
+use Rattle.dwarf_store.specs.Lists.{MayRefuse}
 use Rattle.dwarf_expr.specs.Steps.{MayPick}
 use Rattle.dwarf_expr.specs.declared.replay.steps.Step.{Step}
 use Rattle.dwarf_expr.specs.declared.replay.steps.Step.TheVariants as step
@@ -69,10 +69,15 @@ IsStopped fault (Waits request waiting) = ⊥
 IsStopped fault (Complete value) = ⊥
 IsStopped fault Running = ⊥
 
+-- the settings that were told last hold
+pub record AreSet (told : Told) (x : State) : Type 0 where
+  pub object_address : x.store.object_address ≡ told.settings.object_address
+  pub maximum : x.store.maximum ≡ told.settings.maximum
+
 -- it is where the steps lead: not started yet, in a request, at a fault, or complete with pieces and a value
 abbrev pub StandsAt : Told → State → Option Outcome → Type 0
-StandsAt told x None = x.status ≡ Start told.settings.initial_value
-StandsAt told x (Some (Requests request frames)) = IsAsking request frames x x.status
+StandsAt told x None = (x.status ≡ Start told.settings.initial_value) × AreSet told x
+StandsAt told x (Some (Requests request frames)) = IsAsking request frames x x.status × AreSet told x
 StandsAt told x (Some (Faults fault)) = IsStopped fault x.status
 StandsAt told x (Some (Completes pieces value)) = (x.status ≡ Complete value) × (x.store.pieces ≡ pieces)
 

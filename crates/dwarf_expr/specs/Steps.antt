@@ -8,6 +8,7 @@ use Rattle.dwarf_value.specs.Values.{to_u64_of}
 use Rattle.dwarf_meaning.specs.Operations.{Operation, Text}
 use Rattle.dwarf_meaning.specs.Requests.{Request, Waiting, Answer, Input}
 use Rattle.dwarf_meaning.specs.Acts.{Act, act}
+use Rattle.dwarf_meaning.specs.RunLaws.{waits_of}
 use Rattle.dwarf_meaning.specs.Stores.{Limits, address_bits, Store, Last, Located, Refusal, Never, After, push_frame, Next, Goes, Stops, Fails, done}
 use Rattle.dwarf_meaning.specs.Run.{Frame, read, most}
 use Rattle.dwarf_meaning.specs.Meaning.{Outcome, Faults, Completes}
@@ -199,10 +200,6 @@ FinishedBy f old new (Stopped error) = ⊥
 abbrev pub Closes : {X : Type 0} → (Store → Outcome) → State → State → Result X Error → Type 0
 Closes f old new (Ok x) = FinishedBy f old new new.status
 Closes f old new (Err e) = Gets old.setup.limits f old.store (Faults (fault_of e))
-
-abbrev pub waits_of : Last → ℕ
-waits_of (Located location) = 1
-waits_of _ = 0
 
 abbrev pub effort_by : State → Status → ℕ
 effort_by x Running = 3 * (most - x.store.count) + length x.callers + waits_of x.store.last + 1

@@ -8,10 +8,10 @@ use Rattle.dwarf_meaning.specs.Operations.{Operation, Text}
 use Rattle.dwarf_meaning.specs.Locations.{Location, Piece}
 use Rattle.dwarf_meaning.specs.Requests.{Request, Waiting, Input}
 use Rattle.dwarf_meaning.specs.Acts.{on_top, Act, Pushes, Branches, Locates, Ends, Asks, Refuses, Use, Gives, Calls, Denies, Misfits, use_of}
-use Rattle.dwarf_meaning.specs.Stores.{Setup, address_bits, Refusal, Store, Last, Nothing, Plain, Pieced, Pushed, Called, Located, spent, room, push_value, push_piece, push_frame, push_values, Next, Goes, Stops, Fails, done}
+use Rattle.dwarf_meaning.specs.Stores.{IsWithin, Setup, address_bits, Refusal, Store, Last, Nothing, Plain, Pieced, Pushed, Called, Located, spent, room, push_value, push_piece, push_frame, push_values, Next, Goes, Stops, Fails, done}
 use Rattle.dwarf_meaning.specs.Run.{Frame, End, Finished, Asking, Failed, Course, ended, Continues, back, resumed, entered, called, used, with_input, asked, led, read, can_count, counted, does, counts, piece_of, holds, held, turn_by, turn, out_of_turns, run_for, enough, run}
 use Rattle.dwarf_meaning.specs.Meaning.{completed, has_pieces, whole, finish_located, finish_value, finish_judged, finish_free, finish_by, unwound, First, fresh, with_initial, course_from, meaning}
-use Rattle.dwarf_meaning.specs.RunLaws.{IsWithin, ListsWithin, OpenTexts, EndWithin, OutcomeWithin, outermost}
+use Rattle.dwarf_meaning.specs.RunLaws.{ListsWithin, OpenTexts, EndWithin, OutcomeWithin, outermost}
 use Rattle.dwarf_meaning.proofs.Choices.{choose_both}
 use Rattle.dwarf_meaning.proofs.Counts.{OnStore, OnNext, bound_store, on_bound, on_goes}
 use Rattle.dwarf_meaning.proofs.Shorter.{Leaves, pushes, branches, locates, ends, asks, refuses, act_leaves, Keeps, gives, use_keeps}

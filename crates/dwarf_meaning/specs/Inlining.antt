@@ -83,7 +83,7 @@ pub record StandsIn (setup : Setup) (site : CallSite) (offset : DieReference) : 
   pub straight : AreStraight operations
 
 -- The callee has bytes, and no branch of 16 bits wraps in the inlined text.
-pub record IsCallee (setup : Setup) (site : CallSite) : Type 0 where
+pub record IsInlinable (setup : Setup) (site : CallSite) : Type 0 where
   pub some : 0 < length site.callee
   pub bytes : AreBytes site.callee
   pub short : length (inlined site).bytes + 32768 < 2 ^ setup.offset_bits
@@ -117,7 +117,7 @@ pub record IsInlined (setup : Setup) (site : CallSite) (offset : DieReference) (
 abbrev pub Inlining : Type 0
 Inlining =
     (setup : Setup) (site : CallSite) (offset : DieReference) (first : First) (earlier later : List Input) (requests : List Request)
-    → HasNoLimits setup → StandsIn setup site offset → IsCallee setup site
+    → HasNoLimits setup → StandsIn setup site offset → IsInlinable setup site
     → LeadsToCall setup site offset first earlier requests
     → ((fault : Fault) → meaning setup Never (outer site) first (with_answer site first earlier later) ≢ Faults fault)
     → IsInlined setup site offset first earlier later requests

@@ -2,7 +2,7 @@
 use Rattle.std.specs.Prelude.{ℕ, ◌+◌, ◌-◌, ◌*◌, ◌<◌, ◌≤◌, ◌≡◌, ◌⊎◌, List, [], ◌∷◌, ◌++◌, Option, Some, None, length}
 use Rattle.dwarf_meaning.specs.Operations.{Text}
 use Rattle.dwarf_meaning.specs.Requests.{Request, Input, LocationAnswer}
-use Rattle.dwarf_meaning.specs.Stores.{Limits, Store, Last, Located}
+use Rattle.dwarf_meaning.specs.Stores.{Limits, IsWithin, Store, Last, Located}
 use Rattle.dwarf_meaning.specs.Run.{Frame, End, Finished, Asking, Failed, Course, most}
 use Rattle.dwarf_meaning.specs.Meaning.{Outcome, Requests, Faults, Completes}
 
@@ -95,11 +95,6 @@ pub record CountsWithin (bound start : ℕ) (course : Course) : Type 0 where
   pub count : EndCountWithin bound course.end
 
 -- ---- limits
-
--- no more than the limit, where there is one
-abbrev pub IsWithin : (limit : Option ℕ) → ℕ → Type 0
-IsWithin None n = Unit {0}
-IsWithin (Some limit) n = n ≤ limit
 
 -- the values and the pieces are within their limits
 pub record ListsWithin (limits : Limits) (s : Store) : Type 0 where

@@ -1,5 +1,5 @@
 -- What a run keeps beside texts and places, and the rule by which its lists take one more item (DWARF 5, sections 2.5.1, 2.5.1.5 and 2.6.1.2).
-use Rattle.std.specs.Prelude.{ℕ, zero, suc, ◌*◌, ℤ, pos, ◌+ℤ◌, List, [], ◌∷◌, ◌++◌, Option, Some, None, Result, Ok, Err, length, nat_lt}
+use Rattle.std.specs.Prelude.{ℕ, zero, suc, ◌*◌, ◌≤◌, ℤ, pos, ◌+ℤ◌, List, [], ◌∷◌, ◌++◌, Option, Some, None, Result, Ok, Err, length, nat_lt}
 use Rattle.dwarf_base.specs.declared.common.Encoding.{Encoding}
 use Rattle.dwarf_base.specs.Faults.{Fault, StackFull, BadBranchTarget, ◌>>=◌}
 use Rattle.dwarf_base.specs.Numbers.{residue}
@@ -13,6 +13,11 @@ pub record Limits : Type 0 where
   pub values : Option ℕ
   pub frames : Option ℕ
   pub pieces : Option ℕ
+
+-- no more than the limit, where there is one
+abbrev pub IsWithin : (limit : Option ℕ) → ℕ → Type 0
+IsWithin None n = Unit {0}
+IsWithin (Some limit) n = n ≤ limit
 
 -- what stays the same through a run: the unit's encoding, the bits of an offset, the limits of the lists
 pub record Setup : Type 0 where

@@ -7,11 +7,11 @@ ghost use Rattle.dwarf_meaning.specs.Spelling.{Spells};
 ghost use Rattle.dwarf_meaning.specs.Splitting.{Splitting};
 ghost use Rattle.dwarf_meaning.specs.Branches.{AreBytes, BranchesNear};
 ghost use Rattle.dwarf_meaning.specs.Requests.{Input};
-ghost use Rattle.dwarf_meaning.specs.Stores.{Setup, Store, Refusal};
+ghost use Rattle.dwarf_meaning.specs.Stores.{Setup, IsWithin, Store, Refusal};
 ghost use Rattle.dwarf_meaning.specs.Run.{Frame, End, most, turn, run_for, enough, run};
 ghost use Rattle.dwarf_meaning.specs.Meaning.{First, unwound, meaning};
 ghost use Rattle.dwarf_meaning.specs.DecodeLaws.{ReadsExactlyTheSpelled, IsDecided, IsWhole, SplitsOnce, IsSplitting, IsDecodingFault};
-ghost use Rattle.dwarf_meaning.specs.RunLaws.{turns_left, IsSettled, course_before, IsOver, EndTook, MaximaWithin, EndCounts, EndMaximumWithin, CountsWithin, IsWithin, ListsWithin, EndWithin, OutcomeWithin, outermost, EndOpen, OutcomeOpen};
+ghost use Rattle.dwarf_meaning.specs.RunLaws.{turns_left, IsSettled, course_before, IsOver, EndTook, MaximaWithin, EndCounts, EndMaximumWithin, CountsWithin, ListsWithin, EndWithin, OutcomeWithin, outermost, EndOpen, OutcomeOpen};
 
 /// Laws of decoding, for every text.
 ///

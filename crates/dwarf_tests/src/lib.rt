@@ -1,7 +1,9 @@
-//! Tests of evaluation and replay, as their users see them: rows on the heap and on lists of fixed capacities.
+//! Tests of operations, evaluation and replay, as their users see them: rows on the heap and on lists of fixed capacities.
 #![tactic(auto)]
 
 #[cfg(test)]
 mod evaluation;
+#[cfg(test)]
+mod operations;
 #[cfg(test)]
 mod replays;

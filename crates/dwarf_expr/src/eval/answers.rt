@@ -6,7 +6,7 @@ ghost use Rattle.dwarf_meaning.specs.Rest.{Running};
 ghost use Rattle.dwarf_meaning.specs.Stores.{Pushed, push_value};
 ghost use Rattle.dwarf_expr.specs.Answers.{IsWaitingFor, IsWaitingTo, answer_of};
 ghost use Rattle.dwarf_expr.specs.Steps.{Takes, TakesFar, Tries, with_last, with_status};
-ghost use Rattle.dwarf_expr.specs.Views.{text_of};
+ghost use Rattle.dwarf_op.specs.Views.{text_of};
 
 use crate::eval::machine::Machine;
 use crate::eval::states::{EvaluationState, Given, LastOperation, OpenRequest};

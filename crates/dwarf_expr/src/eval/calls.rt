@@ -7,7 +7,7 @@ ghost use Rattle.dwarf_expr.specs.Answers.{IsOpenFor, Permits, Shows, answer_of}
 ghost use Rattle.dwarf_expr.specs.Calls.{Evaluates, HasResult, IsClosed, IsComplete, Resumes, most_iterations, with_maximum, with_object};
 ghost use Rattle.dwarf_expr.specs.Machine.{piece_of, setup_of};
 ghost use Rattle.dwarf_expr.specs.Steps.{input_of, with_status};
-ghost use Rattle.dwarf_expr.specs.Views.{text_of};
+ghost use Rattle.dwarf_op.specs.Views.{text_of};
 
 use crate::eval::machine::Machine;
 use crate::eval::states::{EvaluationState, Given, Status};

@@ -8,7 +8,7 @@ ghost use Rattle.dwarf_meaning.specs.Stores.{Plain, address_bits, push_value, pu
 ghost use Rattle.dwarf_expr.specs.Calls.{IsFresh, most_iterations, with_maximum, with_object};
 ghost use Rattle.dwarf_expr.specs.Machine.{last_of, piece_of, setup_of, status_of};
 ghost use Rattle.dwarf_expr.specs.Steps.{GoesBack, Jumps, Pops, Reads, Tries, TriesToEnter, is_running, with_last, with_status, with_store};
-ghost use Rattle.dwarf_expr.specs.Views.{operation_of, text_of};
+ghost use Rattle.dwarf_op.specs.Views.{operation_of, text_of};
 
 use crate::eval::states::{EvaluationState, LastOperation};
 use crate::op::{Operation, Piece};
@@ -44,7 +44,7 @@ impl<R: Reader + Copy, S: EvaluationStorage<R>> Model for Machine<R, S> {
     ghost Value = { State };
 
     ghost use Rattle.dwarf_expr.specs.Machine.{setup_of, status_of, store_of, place_of, frames_of, IsSound};
-    ghost use Rattle.dwarf_expr.specs.Views.{text_of};
+    ghost use Rattle.dwarf_op.specs.Views.{text_of};
 
     ghost view = { λ e. record { status = status_of (text_of R.bytes R.is_big) R.Offset.number e.state; setup = setup_of e.encoding R.Offset.BITS (S.Stack.limit e.stack) (S.ExpressionStack.limit e.expression_stack) (S.Result.limit e.pieces); text = text_of R.bytes R.is_big e.bytecode; place = place_of R.bytes e.bytecode e.pc; callers = frames_of R.bytes R.is_big (S.ExpressionStack.items e.expression_stack); store = store_of (text_of R.bytes R.is_big) R.Offset.number (S.Stack.items e.stack) (S.Result.items e.pieces) e.iteration e.object_address e.max_iterations e.last; decodings = e.decodings.count } };
 

@@ -6,7 +6,7 @@ ghost use Rattle.dwarf_meaning.specs.Stores.{Plain, address_bits, push_value, pu
 ghost use Rattle.dwarf_expr.specs.Machine.{location_of, request_of, waiting_of};
 ghost use Rattle.dwarf_expr.specs.Operators.{binary_of, unary_of};
 ghost use Rattle.dwarf_expr.specs.Steps.{Performs, PopsNumber, Tries, act_of};
-ghost use Rattle.dwarf_expr.specs.Views.{operation_of, text_of};
+ghost use Rattle.dwarf_op.specs.Views.{operation_of, text_of};
 
 use crate::eval::machine::Machine;
 use crate::eval::operators::{BinaryOperator, UnaryOperator};

@@ -1,6 +1,6 @@
 ghost use Rattle.std.specs.Prelude.{◌≡◌};
 ghost use Rattle.dwarf_meaning.specs.Kinds.{kind_of_answer, kind_of_request, kind_of_waiting};
-ghost use Rattle.dwarf_expr.specs.Views.{text_of};
+ghost use Rattle.dwarf_op.specs.Views.{text_of};
 
 use crate::op::{DieReference, EvaluationResult, Expression, Location};
 use dwarf_base::{DebugAddrIndex, Error, Reader, Register, UnitOffset};

@@ -6,7 +6,7 @@ ghost use Rattle.dwarf_meaning.specs.Stores.{Located, push_piece};
 ghost use Rattle.dwarf_expr.specs.Calls.{IsTold, reply_of, told_of};
 ghost use Rattle.dwarf_expr.specs.Machine.{location_of, piece_of};
 ghost use Rattle.dwarf_expr.specs.Steps.{Begins, Closes, IsOpen, IsReady, RunsOn, Settles, Turns};
-ghost use Rattle.dwarf_expr.specs.Views.{operation_of, text_of};
+ghost use Rattle.dwarf_op.specs.Views.{operation_of, text_of};
 
 use crate::eval::machine::Machine;
 use crate::eval::states::{EvaluationState, LastOperation};

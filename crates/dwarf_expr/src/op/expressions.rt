@@ -4,10 +4,10 @@ ghost use Rattle.dwarf_base.specs.Reads.{IsSuffix};
 ghost use Rattle.dwarf_meaning.specs.Decoding.{operation_at};
 ghost use Rattle.dwarf_meaning.specs.Splitting.{items_at};
 ghost use Rattle.dwarf_expr.specs.Iteration.{input_of, encoding_of, item_of, items_left, GivesNext, GivesItem};
-ghost use Rattle.dwarf_expr.specs.Views.{operation_of, text_of};
+ghost use Rattle.dwarf_op.specs.Views.{operation_of, text_of};
 
-use super::operations::Operation;
 use dwarf_base::{Encoding, Reader, Result};
+use dwarf_op::Operation;
 
 /// The bytes of an expression (DWARF 5, section 2.5).
 #[derive(Clone, Copy, Debug, PartialEq, Eq, Hash)]

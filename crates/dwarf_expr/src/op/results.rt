@@ -1,6 +1,6 @@
 use crate::op::expressions::Expression;
-use crate::op::operations::DieReference;
 use dwarf_base::{DebugAddrIndex, Reader, Register, UnitOffset};
+use dwarf_op::DieReference;
 
 /// What a call of an evaluation answers: that it is complete, or what it has to be told before it goes on.
 #[derive(Clone, Copy, Debug, PartialEq, Eq)]

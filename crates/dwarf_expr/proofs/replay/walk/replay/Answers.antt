@@ -3,7 +3,7 @@ use Rattle.std.proofs.lemmas.Option.{slice_get_read}
 use Rattle.dwarf_expr.specs.Replays.{replies_in, step_of, steps_of}
 use Rattle.dwarf_expr.specs.Stepping.{Keeps}
 use Rattle.dwarf_expr.specs.declared.replay.walk.Stop.{Stop}
-use Rattle.dwarf_expr.specs.Views.{text_of}
+use Rattle.dwarf_op.specs.Views.{text_of}
 use Rattle.dwarf_expr.proofs.Walks.{Went, went_at_first, kept_on, stopped, overflowed, taken_all}
 use Rattle.dwarf_expr.proofs.replay.walk.replay.Goals as goal
 

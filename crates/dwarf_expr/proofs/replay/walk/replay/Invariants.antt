@@ -1,6 +1,6 @@
 use Rattle.std.proofs.Common.{◌≡◌, ◌≤◌, ◌-◌, length, take}
 use Rattle.dwarf_expr.specs.Replays.{replies_in, steps_of}
-use Rattle.dwarf_expr.specs.Views.{text_of}
+use Rattle.dwarf_op.specs.Views.{text_of}
 use Rattle.dwarf_expr.proofs.Walks.{Went}
 use Rattle.dwarf_expr.proofs.replay.walk.replay.Given as goal
 

@@ -1,7 +1,7 @@
 use Rattle.std.proofs.Common.{sym, subst}
 use Rattle.dwarf_meaning.specs.Rest.{State}
 use Rattle.dwarf_expr.specs.Calls.{Evaluates, IsSettledBy, means, reply_of}
-use Rattle.dwarf_expr.specs.Views.{text_of}
+use Rattle.dwarf_op.specs.Views.{text_of}
 use Rattle.dwarf_expr.proofs.Following.{start_follows, meaning_rest}
 use Rattle.dwarf_expr.proofs.eval.calls.Evaluation.evaluate.Goals as goal
 

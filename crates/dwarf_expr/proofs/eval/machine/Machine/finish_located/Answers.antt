@@ -3,7 +3,7 @@ use Rattle.dwarf_base.specs.Faults.{InvalidPiece}
 use Rattle.dwarf_meaning.specs.Meaning.{Faults, completed, whole}
 use Rattle.dwarf_meaning.specs.Stores.{push_piece}
 use Rattle.dwarf_expr.specs.Machine.{location_of}
-use Rattle.dwarf_expr.specs.Views.{text_of}
+use Rattle.dwarf_op.specs.Views.{text_of}
 use Rattle.dwarf_expr.proofs.Finishing.{mixed, closes_else, closes_with}
 use Rattle.dwarf_expr.proofs.eval.machine.Machine.finish_located.Goals as goal
 

@@ -2,7 +2,7 @@ use Rattle.std.proofs.Common.{◌≡◌, ◌-◌, refl, subst, length, sym, arit
 use Rattle.std.specs.List.{AllByRecursion}
 use Rattle.dwarf_meaning.specs.Rest.{State}
 use Rattle.dwarf_base.proofs.Suffixes.{suffix_whole}
-use Rattle.dwarf_expr.specs.Lists.{MayRefuse}
+use Rattle.dwarf_store.specs.Lists.{MayRefuse}
 use Rattle.dwarf_expr.specs.Machine.{IsLeftOf}
 use Rattle.dwarf_expr.proofs.Frames.{frames-push, length-frames, all_and_last}
 use Rattle.dwarf_expr.proofs.Pushes.{frame_pushed, frame_refused}

@@ -1,5 +1,5 @@
 use Rattle.dwarf_expr.specs.Answers.{answer_of}
-use Rattle.dwarf_expr.specs.Views.{text_of}
+use Rattle.dwarf_op.specs.Views.{text_of}
 use Rattle.dwarf_expr.proofs.Resuming.{takes_far}
 use Rattle.dwarf_expr.proofs.eval.machine.Machine.resume.Goals as goal
 

@@ -5,7 +5,7 @@ use Rattle.dwarf_meaning.specs.Kinds as kind
 use Rattle.dwarf_meaning.specs.Kinds.{kind_of_answer}
 use Rattle.dwarf_meaning.specs.Requests.{MemoryAnswer, WasmAnswer, EntryAnswer, TlsAnswer, CfaAnswer, ParameterAnswer, RelocatedAnswer, IndexedAnswer}
 use Rattle.dwarf_expr.specs.Answers.{IsWaitingFor, answer_of}
-use Rattle.dwarf_expr.specs.Views.{text_of}
+use Rattle.dwarf_op.specs.Views.{text_of}
 use Rattle.dwarf_expr.specs.declared.eval.states.Given.{Given}
 use Rattle.dwarf_expr.proofs.AnswerUses.{open_for, memory_gives, wasm_gives, entry_gives, tls_gives, cfa_gives, parameter_gives, relocated_gives, indexed_gives}
 use Rattle.dwarf_expr.proofs.Resuming.{value_takes}

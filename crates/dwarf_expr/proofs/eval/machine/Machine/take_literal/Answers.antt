@@ -1,6 +1,6 @@
 use Rattle.std.proofs.Common.{refl}
 use Rattle.dwarf_meaning.specs.Requests.{TypedLiteral, BaseTypeAnswer}
-use Rattle.dwarf_expr.specs.Views.{text_of}
+use Rattle.dwarf_op.specs.Views.{text_of}
 use Rattle.dwarf_expr.proofs.AnswerUses.{open_to, literal_gives, literal_denies}
 use Rattle.dwarf_expr.proofs.Resuming.{denies, value_takes}
 use Rattle.dwarf_expr.proofs.eval.machine.Machine.take_literal.Goals as goal

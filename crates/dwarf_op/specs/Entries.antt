@@ -1,0 +1,147 @@
+-- What the entries of the code's table of opcodes stand for: rows of the standard's table.
+use Rattle.std.specs.Prelude.{ℕ, ◌*◌, ℤ, pos, true, false, List, Some, None, Result, Ok}
+use Rattle.dwarf_base.specs.Faults.{Fault, ◌>>=◌}
+use Rattle.dwarf_base.specs.Leb.{uleb_at}
+use Rattle.dwarf_base.specs.Numbers.{register_of}
+use Rattle.dwarf_base.specs.declared.common.Encoding.{Encoding}
+use Rattle.dwarf_meaning.specs.Operations as meaning
+use Rattle.dwarf_meaning.specs.Operations.{Text}
+use Rattle.dwarf_meaning.specs.Operands.{Form, Fixed, Address, Leb128, RegisterNumber, PieceSize, SectionOffset, InfoReference, SignedForm, SignedFixed, SignedLeb128}
+use Rattle.dwarf_meaning.specs.Operands as form
+use Rattle.dwarf_meaning.specs.Opcodes.{Row, Makes, Unsigned, Invalid, unsigned, signed, unsigned_two, unsigned_signed, sized_block, wasm_row}
+use Rattle.dwarf_op.specs.declared.opcodes.Plain.{Plain}
+use Rattle.dwarf_op.specs.declared.opcodes.Plain.TheVariants as plain
+use Rattle.dwarf_op.specs.declared.opcodes.Unsigned as shapes
+use Rattle.dwarf_op.specs.declared.opcodes.Unsigned.TheVariants as unsigned_shape
+use Rattle.dwarf_op.specs.declared.opcodes.Signed as signed_shapes
+use Rattle.dwarf_op.specs.declared.opcodes.Signed.TheVariants as signed_shape
+use Rattle.dwarf_op.specs.declared.opcodes.Offset as offset_shapes
+use Rattle.dwarf_op.specs.declared.opcodes.Offset.TheVariants as offset_shape
+use Rattle.dwarf_op.specs.declared.opcodes.FromByte.{FromByte}
+use Rattle.dwarf_op.specs.declared.opcodes.FromByte.TheVariants as from_byte
+use Rattle.dwarf_op.specs.declared.opcodes.FromUnsigned.{FromUnsigned}
+use Rattle.dwarf_op.specs.declared.opcodes.FromUnsigned.TheVariants as from_unsigned
+use Rattle.dwarf_op.specs.declared.opcodes.FromSigned.{FromSigned}
+use Rattle.dwarf_op.specs.declared.opcodes.FromSigned.TheVariants as from_signed
+use Rattle.dwarf_op.specs.declared.opcodes.FromBranch.{FromBranch}
+use Rattle.dwarf_op.specs.declared.opcodes.FromBranch.TheVariants as from_branch
+use Rattle.dwarf_op.specs.declared.opcodes.FromOffset.{FromOffset}
+use Rattle.dwarf_op.specs.declared.opcodes.FromOffset.TheVariants as from_offset
+use Rattle.dwarf_op.specs.declared.opcodes.FromBlock.{FromBlock}
+use Rattle.dwarf_op.specs.declared.opcodes.FromBlock.TheVariants as from_block
+use Rattle.dwarf_op.specs.declared.opcodes.Entry.{Entry}
+use Rattle.dwarf_op.specs.declared.opcodes.Entry.TheVariants as entry
+
+abbrev pub plain_operation : Plain → meaning.Operation
+plain_operation plain.Drop = meaning.Drop
+plain_operation plain.Swap = meaning.Swap
+plain_operation plain.Rot = meaning.Rot
+plain_operation plain.Abs = meaning.Abs
+plain_operation plain.And = meaning.And
+plain_operation plain.Div = meaning.Div
+plain_operation plain.Minus = meaning.Minus
+plain_operation plain.Mod = meaning.Mod
+plain_operation plain.Mul = meaning.Mul
+plain_operation plain.Neg = meaning.Neg
+plain_operation plain.Not = meaning.Not
+plain_operation plain.Or = meaning.Or
+plain_operation plain.Plus = meaning.Plus
+plain_operation plain.Shl = meaning.Shl
+plain_operation plain.Shr = meaning.Shr
+plain_operation plain.Shra = meaning.Shra
+plain_operation plain.Xor = meaning.Xor
+plain_operation plain.Eq = meaning.Eq
+plain_operation plain.Ge = meaning.Ge
+plain_operation plain.Gt = meaning.Gt
+plain_operation plain.Le = meaning.Le
+plain_operation plain.Lt = meaning.Lt
+plain_operation plain.Ne = meaning.Ne
+plain_operation plain.Nop = meaning.Nop
+plain_operation plain.PushObjectAddress = meaning.PushObjectAddress
+plain_operation plain.TLS = meaning.TLS
+plain_operation plain.CallFrameCFA = meaning.CallFrameCFA
+plain_operation plain.StackValue = meaning.StackValue
+plain_operation plain.Uninitialized = meaning.Uninitialized
+
+abbrev pub unsigned_form : shapes.Unsigned → Form
+unsigned_form unsigned_shape.U16 = Fixed 2
+unsigned_form unsigned_shape.U32 = Fixed 4
+unsigned_form unsigned_shape.U64 = Fixed 8
+unsigned_form unsigned_shape.Uleb128 = Leb128
+unsigned_form unsigned_shape.Address = Address
+
+abbrev pub signed_form : signed_shapes.Signed → SignedForm
+signed_form signed_shape.I8 = SignedFixed 1
+signed_form signed_shape.I16 = SignedFixed 2
+signed_form signed_shape.I32 = SignedFixed 4
+signed_form signed_shape.I64 = SignedFixed 8
+signed_form signed_shape.Sleb128 = SignedLeb128
+
+abbrev pub offset_form : offset_shapes.Offset → Form
+offset_form offset_shape.U16 = Fixed 2
+offset_form offset_shape.U32 = Fixed 4
+offset_form offset_shape.Uleb128 = form.Offset
+offset_form offset_shape.Section = SectionOffset
+offset_form offset_shape.Reference = InfoReference
+
+abbrev pub byte_operation : FromByte → ℕ → meaning.Operation
+byte_operation from_byte.Constant byte = meaning.UnsignedConstant byte
+byte_operation from_byte.Pick byte = meaning.Pick byte
+byte_operation from_byte.Deref byte = meaning.Deref 0 byte false
+byte_operation from_byte.SpaceDeref byte = meaning.Deref 0 byte true
+
+abbrev pub unsigned_operation : FromUnsigned → ℕ → meaning.Operation
+unsigned_operation from_unsigned.Constant number = meaning.UnsignedConstant number
+unsigned_operation from_unsigned.PlusConstant number = meaning.PlusConstant number
+unsigned_operation from_unsigned.Address number = meaning.Address number
+
+abbrev pub signed_operation : FromSigned → ℤ → meaning.Operation
+signed_operation from_signed.Constant number = meaning.SignedConstant number
+signed_operation from_signed.FrameOffset number = meaning.FrameOffset number
+
+abbrev pub branch_operation : FromBranch → ℤ → meaning.Operation
+branch_operation from_branch.Bra target = meaning.Bra target
+branch_operation from_branch.Skip target = meaning.Skip target
+
+abbrev pub offset_operation : FromOffset → ℕ → meaning.Operation
+offset_operation from_offset.UnitCall offset = meaning.Call (meaning.UnitRef offset)
+offset_operation from_offset.InfoCall offset = meaning.Call (meaning.DebugInfoRef offset)
+offset_operation from_offset.ParameterRef offset = meaning.ParameterRef offset
+offset_operation from_offset.AddressIndex offset = meaning.AddressIndex offset
+offset_operation from_offset.ConstantIndex offset = meaning.ConstantIndex offset
+offset_operation from_offset.Convert offset = meaning.Convert offset
+offset_operation from_offset.Reinterpret offset = meaning.Reinterpret offset
+offset_operation from_offset.VariableValue offset = meaning.VariableValue offset
+
+abbrev pub block_operation : FromBlock → Text → meaning.Operation
+block_operation from_block.ImplicitValue block = meaning.ImplicitValue block
+block_operation from_block.EntryValue block = meaning.EntryValue block
+
+-- the row that an entry is at an opcode
+abbrev pub entry_row : Encoding → (opcode : ℕ) → Entry → Row
+entry_row encoding opcode entry.Unknown = Invalid opcode
+entry_row encoding opcode (entry.Plain operation) = Makes (plain_operation operation)
+entry_row encoding opcode (entry.Literal number) = Makes (meaning.UnsignedConstant number)
+entry_row encoding opcode (entry.Register register) = Makes (meaning.Register register)
+entry_row encoding opcode (entry.Pick index) = Makes (meaning.Pick index)
+entry_row encoding opcode (entry.Deref space) = Makes (meaning.Deref 0 encoding.address_size space)
+entry_row encoding opcode (entry.Byte make) = unsigned (Fixed 1) (byte_operation make)
+entry_row encoding opcode (entry.Unsigned shape make) = unsigned (unsigned_form shape) (unsigned_operation make)
+entry_row encoding opcode (entry.Signed shape make) = signed (signed_form shape) (signed_operation make)
+entry_row encoding opcode (entry.Branch make) = signed (SignedFixed 2) (branch_operation make)
+entry_row encoding opcode (entry.Offset shape make) = unsigned (offset_form shape) (offset_operation make)
+entry_row encoding opcode (entry.BaseRegister register) = signed SignedLeb128 (λ offset. meaning.RegisterOffset register offset 0)
+entry_row encoding opcode entry.NamedRegister = unsigned RegisterNumber meaning.Register
+entry_row encoding opcode entry.NamedBaseRegister = unsigned_signed RegisterNumber SignedLeb128 (λ register offset. meaning.RegisterOffset register offset 0)
+entry_row encoding opcode entry.TypedRegister = unsigned_two RegisterNumber form.Offset (λ register base_type. meaning.RegisterOffset register (pos 0) base_type)
+entry_row encoding opcode entry.Piece = unsigned PieceSize (λ size. meaning.Piece (8 * size) None)
+entry_row encoding opcode entry.BitPiece = unsigned_two Leb128 Leb128 (λ size offset. meaning.Piece size (Some offset))
+entry_row encoding opcode (entry.Block make) = sized_block form.Offset (block_operation make)
+entry_row encoding opcode entry.TypedLiteral = Unsigned form.Offset (λ base_type. sized_block (Fixed 1) (meaning.TypedLiteral base_type))
+entry_row encoding opcode (entry.TypedDeref space) = unsigned_two (Fixed 1) form.Offset (λ size base_type. meaning.Deref base_type size space)
+entry_row encoding opcode entry.ImplicitPointer = unsigned_signed InfoReference SignedLeb128 meaning.ImplicitPointer
+entry_row encoding opcode entry.WasmLocation = Unsigned (Fixed 1) wasm_row
+
+-- a register's number at the front
+abbrev pub register_at : List ℕ → Result (ℕ × List ℕ) Fault
+register_at bytes = uleb_at bytes >>= λ number. register_of number.0 >>= λ register. Ok (register, number.1)

@@ -1,0 +1,8 @@
+//! Where an evaluation keeps its values, its callers and its pieces.
+#![tactic(auto)]
+
+mod lists;
+mod storage;
+
+pub use lists::ArrayLike;
+pub use storage::{EvaluationStorage, StoreOnHeap};

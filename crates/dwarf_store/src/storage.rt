@@ -1,0 +1,29 @@
+use crate::lists::ArrayLike;
+use dwarf_base::Reader;
+use dwarf_op::Piece;
+use dwarf_value::Value;
+use std::alloc::Allocator;
+use std::marker::PhantomData;
+
+/// Where an evaluation keeps its lists.
+pub trait EvaluationStorage<R: Reader + Copy> {
+    /// The values on the stack.
+    type Stack: ArrayLike<Item = Value>;
+
+    /// The callers of the running expression, each with what is left of it and the whole of it.
+    type ExpressionStack: ArrayLike<Item = (R, R)>;
+
+    /// The pieces.
+    type Result: ArrayLike<Item = Piece<R>>;
+}
+
+/// Lists on the heap, over an allocator.
+pub struct StoreOnHeap<A>(PhantomData<A>);
+
+impl<R: Reader + Copy, A: Allocator> EvaluationStorage<R> for StoreOnHeap<A> {
+    type Stack = Vec<Value, A>;
+
+    type ExpressionStack = Vec<(R, R), A>;
+
+    type Result = Vec<Piece<R>, A>;
+}

@@ -11,6 +11,7 @@ use dwarf_base::{
 };
 use dwarf_expr::eval::{Evaluation, Status, WaitingKind};
 use dwarf_expr::op::{DieReference, EvaluationResult, Expression, Location, Piece};
+use dwarf_expr::replay::Step;
 use dwarf_expr::store::{EvaluationStorage, StoreOnHeap};
 use dwarf_value::{Value, ValueType};
 use std::alloc::{AllocError, Allocator, Global};
@@ -21,8 +22,6 @@ pub(crate) type Slice<'a> = EndianSlice<'a, RunTimeEndian>;
 type Answered<'a> = Result<EvaluationResult<Slice<'a>>>;
 
 const DONE: Answered<'static> = Ok(EvaluationResult::Complete);
-
-const FULL: Answered<'static> = Err(Error::StackFull);
 
 /// Addresses of 4 bytes and the 32-bit format.
 pub(crate) const SMALL: Encoding = Encoding {
@@ -122,8 +121,8 @@ fn expect_complete<R: Reader + Copy, S: EvaluationStorage<R>>(
     assert!(rt; eval.status() == Status::Complete);
 }
 
-// Evaluates where no request is open.
-fn evaluate_again<R: Reader + Copy, S: EvaluationStorage<R>>(
+// Evaluates where no request is open. It has no contract, as the tests look at what it gives.
+fn evaluate<R: Reader + Copy, S: EvaluationStorage<R>>(
     rt: &impl Abort,
     eval: &mut Evaluation<R, S>,
 ) -> Result<EvaluationResult<R>> {
@@ -161,31 +160,30 @@ fn expect_whole(rt: &impl Abort, stand: Stand<'_, Slice<'_>>, location: Location
     assert!(rt; pieces == [whole(location)].as_slice());
 }
 
+// A new evaluation of `33 35 22` gives 8.
+fn expect_eight<'a, S: EvaluationStorage<Slice<'a>>>(
+    rt: &impl Abort,
+    mut eval: Evaluation<Slice<'a>, S>,
+) {
+    assert!(rt; eval.status() == Status::Start { initial: false });
+    assert!(rt; evaluate(rt, &mut eval) == DONE);
+    expect_value(rt, stand(&eval), Value::Generic(8), 8);
+}
+
 #[test]
 fn ways_to_begin(rt: HostRuntime) {
     let text = little(&[0x33, 0x35, 0x22]);
-    let mut eval = Evaluation::new(rt.alloc(), text, SMALL);
-    assert!(rt; eval.status() == Status::Start { initial: false });
-    assert!(rt; eval.evaluate() == DONE);
-    expect_value(&rt, stand(&eval), Value::Generic(8), 8);
-
-    let mut eval = Expression(text).evaluation(rt.alloc(), SMALL);
-    assert!(rt; eval.evaluate() == DONE);
-    expect_value(&rt, stand(&eval), Value::Generic(8), 8);
-
-    let mut eval: Evaluation<Slice<'static>, StoreOnHeap<Global>> = Evaluation::new_in(
+    expect_eight(&rt, Evaluation::new(rt.alloc(), text, SMALL));
+    expect_eight(&rt, Expression(text).evaluation(rt.alloc(), SMALL));
+    let on_heap: Evaluation<Slice<'static>, StoreOnHeap<Global>> = Evaluation::new_in(
         text,
         SMALL,
         Vec::new(rt.alloc()),
         Vec::new(rt.alloc()),
         Vec::new(rt.alloc()),
     );
-    assert!(rt; eval.evaluate() == DONE);
-    expect_value(&rt, stand(&eval), Value::Generic(8), 8);
-
-    let mut eval = over_lists::<2, 0, 1>(&[0x33, 0x35, 0x22]);
-    assert!(rt; eval.evaluate() == DONE);
-    expect_value(&rt, stand(&eval), Value::Generic(8), 8);
+    expect_eight(&rt, on_heap);
+    expect_eight(&rt, over_lists::<2, 0, 1>(&[0x33, 0x35, 0x22]));
 }
 
 #[test]
@@ -195,23 +193,26 @@ fn settings(rt: HostRuntime) {
     assert!(rt; eval.status() == Status::Start { initial: true });
     eval.set_object_address(0x7000);
     eval.set_max_iterations(2);
-    assert!(rt; evaluate_again(&rt, &mut eval) == DONE);
+    assert!(rt; evaluate(&rt, &mut eval) == DONE);
     expect_value(&rt, stand(&eval), Value::Generic(0x7005), 0x7005);
-    assert!(rt; evaluate_again(&rt, &mut eval) == DONE);
+    assert!(rt; evaluate(&rt, &mut eval) == DONE);
+}
 
+#[test]
+fn a_maximum_of_nothing(rt: HostRuntime) {
     let mut eval = on_heap(rt.alloc(), &[0x97, 0x22]);
     eval.set_max_iterations(0);
     let spent = Err(Error::TooManyIterations);
-    assert!(rt; evaluate_again(&rt, &mut eval) == spent);
+    assert!(rt; evaluate(&rt, &mut eval) == spent);
     eval.set_max_iterations(9);
-    assert!(rt; evaluate_again(&rt, &mut eval) == spent);
+    assert!(rt; evaluate(&rt, &mut eval) == spent);
     assert!(rt; eval.status() == Status::Failed(Error::TooManyIterations));
 }
 
 #[test]
-fn results(rt: HostRuntime) {
+fn results_on_the_heap(rt: HostRuntime) {
     let mut eval = on_heap(rt.alloc(), b"\x9e\x05hello");
-    assert!(rt; eval.evaluate() == DONE);
+    assert!(rt; evaluate(&rt, &mut eval) == DONE);
     let hello = Location::Bytes {
         value: little(b"hello"),
     };
@@ -219,162 +220,236 @@ fn results(rt: HostRuntime) {
     expect_complete(&rt, &eval);
     assert!(rt; eval.value_result() == None);
     assert!(rt; eval.result().as_slice() == [whole(hello)].as_slice());
+}
 
+#[test]
+fn results_over_lists(rt: HostRuntime) {
     let mut eval = over_lists::<1, 0, 1>(&[0x31, 0x9f]);
-    assert!(rt; eval.evaluate() == DONE);
+    assert!(rt; evaluate(&rt, &mut eval) == DONE);
     let one = Location::Value {
         value: Value::Generic(1),
     };
     expect_whole(&rt, stand(&eval), one);
-    expect_complete(&rt, &eval);
-    assert!(rt; eval.value_result() == None);
 }
 
 #[test]
 fn a_big_endian_constant(rt: HostRuntime) {
     let text = EndianSlice::new(&[0x0a, 0x01, 0x02], RunTimeEndian::Big);
     let mut eval = Evaluation::new(rt.alloc(), text, SMALL);
-    assert!(rt; eval.evaluate() == DONE);
+    assert!(rt; evaluate(&rt, &mut eval) == DONE);
     expect_value(&rt, stand(&eval), Value::Generic(258), 258);
+}
+
+// Calls the resume of the answer's kind, where such a request is open.
+fn resume<'a>(
+    rt: &impl Abort,
+    eval: &mut Evaluation<Slice<'a>, StoreOnHeap<Global>>,
+    answer: Step<Slice<'a>>,
+) -> Answered<'a> {
+    match answer {
+        Step::Memory(value) => {
+            expect_waiting(rt, eval, WaitingKind::Memory);
+            eval.resume_with_memory(value)
+        }
+        Step::Register(value) => {
+            expect_waiting(rt, eval, WaitingKind::Register);
+            eval.resume_with_register(value)
+        }
+        Step::WasmValue(value) => {
+            expect_waiting(rt, eval, WaitingKind::WasmValue);
+            eval.resume_with_wasm_value(value)
+        }
+        Step::EntryValue(value) => {
+            expect_waiting(rt, eval, WaitingKind::EntryValue);
+            eval.resume_with_entry_value(value)
+        }
+        Step::FrameBase(frame_base) => {
+            expect_waiting(rt, eval, WaitingKind::FrameBase);
+            eval.resume_with_frame_base(frame_base)
+        }
+        Step::Tls(address) => {
+            expect_waiting(rt, eval, WaitingKind::Tls);
+            eval.resume_with_tls(address)
+        }
+        Step::CallFrameCfa(address) => {
+            expect_waiting(rt, eval, WaitingKind::CallFrameCfa);
+            eval.resume_with_call_frame_cfa(address)
+        }
+        Step::ParameterRef(number) => {
+            expect_waiting(rt, eval, WaitingKind::ParameterRef);
+            eval.resume_with_parameter_ref(number)
+        }
+        Step::RelocatedAddress(address) => {
+            expect_waiting(rt, eval, WaitingKind::RelocatedAddress);
+            eval.resume_with_relocated_address(address)
+        }
+        Step::IndexedAddress(address) => {
+            expect_waiting(rt, eval, WaitingKind::IndexedAddress);
+            eval.resume_with_indexed_address(address)
+        }
+        Step::AtLocation(callee) => {
+            expect_waiting(rt, eval, WaitingKind::AtLocation);
+            eval.resume_with_at_location(callee)
+        }
+        Step::BaseType(base_type) => {
+            expect_waiting(rt, eval, WaitingKind::BaseType);
+            eval.resume_with_base_type(base_type)
+        }
+        _ => evaluate(rt, eval),
+    }
+}
+
+// A text that asks this, and is complete with its answer.
+fn asked<'a>(
+    rt: &impl Abort,
+    alloc: Global,
+    text: &'a [u8],
+    request: EvaluationResult<Slice<'a>>,
+    answer: Step<Slice<'a>>,
+) -> Evaluation<Slice<'a>, StoreOnHeap<Global>> {
+    let mut eval = on_heap(alloc, text);
+    assert!(rt; evaluate(rt, &mut eval) == Ok(request), "{text:?}");
+    assert!(rt; resume(rt, &mut eval, answer) == DONE, "{text:?}");
+    eval
 }
 
 #[test]
 fn memory_and_registers(rt: HostRuntime) {
-    let mut eval = on_heap(rt.alloc(), &[0x31, 0x06]);
     let memory = EvaluationResult::RequiresMemory {
         address: 1,
         size: 4,
         space: None,
         base_type: UnitOffset(0),
     };
-    assert!(rt; eval.evaluate() == Ok(memory));
-    expect_waiting(&rt, &eval, WaitingKind::Memory);
-    assert!(rt; eval.resume_with_memory(Value::Generic(7)) == DONE);
+    let seven = Step::Memory(Value::Generic(7));
+    let eval = asked(&rt, rt.alloc(), &[0x31, 0x06], memory, seven);
     expect_value(&rt, stand(&eval), Value::Generic(7), 7);
 
-    let mut eval = on_heap(rt.alloc(), &[0x70, 0x7f]);
     let register = EvaluationResult::RequiresRegister {
         register: Register(0),
         base_type: UnitOffset(0),
     };
-    assert!(rt; eval.evaluate() == Ok(register));
-    expect_waiting(&rt, &eval, WaitingKind::Register);
-    assert!(rt; eval.resume_with_register(Value::Generic(0)) == DONE);
+    let zero = Step::Register(Value::Generic(0));
+    let eval = asked(&rt, rt.alloc(), &[0x70, 0x7f], register, zero);
     expect_value(&rt, stand(&eval), Value::Generic(0xffff_ffff), 0xffff_ffff);
 }
 
 #[test]
 fn values_of_the_target(rt: HostRuntime) {
-    let mut eval = on_heap(rt.alloc(), &[0xed, 0x01, 0x81, 0x00]);
     let global = EvaluationResult::RequiresWasmGlobal { index: 1 };
-    assert!(rt; eval.evaluate() == Ok(global));
-    expect_waiting(&rt, &eval, WaitingKind::WasmValue);
-    assert!(rt; eval.resume_with_wasm_value(Value::I32(5)) == DONE);
+    let five = Step::WasmValue(Value::I32(5));
+    let eval = asked(&rt, rt.alloc(), &[0xed, 0x01, 0x81, 0x00], global, five);
     expect_value(&rt, stand(&eval), Value::I32(5), 5);
 
-    let mut eval = on_heap(rt.alloc(), &[0xa3, 0x01, 0x9c]);
     let entry = EvaluationResult::RequiresEntryValue(Expression(little(&[0x9c])));
-    assert!(rt; eval.evaluate() == Ok(entry));
-    expect_waiting(&rt, &eval, WaitingKind::EntryValue);
-    assert!(rt; eval.resume_with_entry_value(Value::I8(-1)) == DONE);
+    let less = Step::EntryValue(Value::I8(-1));
+    let eval = asked(&rt, rt.alloc(), &[0xa3, 0x01, 0x9c], entry, less);
     expect_value(&rt, stand(&eval), Value::I8(-1), u64::MAX);
 
-    let mut eval = on_heap(rt.alloc(), &[0xfa, 0x78, 0x56, 0x34, 0x12]);
     let parameter = EvaluationResult::RequiresParameterRef(UnitOffset(0x1234_5678));
-    assert!(rt; eval.evaluate() == Ok(parameter));
-    expect_waiting(&rt, &eval, WaitingKind::ParameterRef);
-    assert!(rt; eval.resume_with_parameter_ref(6) == DONE);
+    let text = &[0xfa, 0x78, 0x56, 0x34, 0x12];
+    let eval = asked(&rt, rt.alloc(), text, parameter, Step::ParameterRef(6));
     expect_value(&rt, stand(&eval), Value::Generic(6), 6);
 }
 
 #[test]
 fn frames_and_threads(rt: HostRuntime) {
-    let mut eval = on_heap(rt.alloc(), &[0x91, 0x70]);
-    assert!(rt; eval.evaluate() == Ok(EvaluationResult::RequiresFrameBase));
-    expect_waiting(&rt, &eval, WaitingKind::FrameBase);
-    assert!(rt; eval.resume_with_frame_base(0x10) == DONE);
+    let base = EvaluationResult::RequiresFrameBase;
+    let eval = asked(&rt, rt.alloc(), &[0x91, 0x70], base, Step::FrameBase(0x10));
     expect_value(&rt, stand(&eval), Value::Generic(0), 0);
 
-    let mut eval = on_heap(rt.alloc(), &[0x35, 0x9b]);
-    assert!(rt; eval.evaluate() == Ok(EvaluationResult::RequiresTls(5)));
-    expect_waiting(&rt, &eval, WaitingKind::Tls);
-    assert!(rt; eval.resume_with_tls(0x40) == DONE);
+    let tls = EvaluationResult::RequiresTls(5);
+    let eval = asked(&rt, rt.alloc(), &[0x35, 0x9b], tls, Step::Tls(0x40));
     expect_value(&rt, stand(&eval), Value::Generic(0x40), 0x40);
 
-    let mut eval = on_heap(rt.alloc(), &[0x9c]);
-    assert!(rt; eval.evaluate() == Ok(EvaluationResult::RequiresCallFrameCfa));
-    expect_waiting(&rt, &eval, WaitingKind::CallFrameCfa);
-    assert!(rt; eval.resume_with_call_frame_cfa(1) == DONE);
+    let cfa = EvaluationResult::RequiresCallFrameCfa;
+    let eval = asked(&rt, rt.alloc(), &[0x9c], cfa, Step::CallFrameCfa(1));
     expect_value(&rt, stand(&eval), Value::Generic(1), 1);
 }
 
 #[test]
 fn addresses(rt: HostRuntime) {
-    let mut eval = on_heap(rt.alloc(), &[0x03, 0x10, 0x00, 0x00, 0x00]);
-    assert!(rt; eval.evaluate() == Ok(EvaluationResult::RequiresRelocatedAddress(0x10)));
-    expect_waiting(&rt, &eval, WaitingKind::RelocatedAddress);
-    assert!(rt; eval.resume_with_relocated_address(0x20) == DONE);
+    let text = &[0x03, 0x10, 0x00, 0x00, 0x00];
+    let relocated = EvaluationResult::RequiresRelocatedAddress(0x10);
+    let eval = asked(
+        &rt,
+        rt.alloc(),
+        text,
+        relocated,
+        Step::RelocatedAddress(0x20),
+    );
     expect_value(&rt, stand(&eval), Value::Generic(0x20), 0x20);
 
-    let mut eval = on_heap(rt.alloc(), &[0xa1, 0x05]);
     let indexed = EvaluationResult::RequiresIndexedAddress {
         index: DebugAddrIndex(5),
         relocate: true,
     };
-    assert!(rt; eval.evaluate() == Ok(indexed));
-    expect_waiting(&rt, &eval, WaitingKind::IndexedAddress);
-    assert!(rt; eval.resume_with_indexed_address(0x30) == DONE);
+    let eval = asked(
+        &rt,
+        rt.alloc(),
+        &[0xa1, 0x05],
+        indexed,
+        Step::IndexedAddress(0x30),
+    );
     expect_value(&rt, stand(&eval), Value::Generic(0x30), 0x30);
 }
 
 #[test]
 fn calls_and_types(rt: HostRuntime) {
-    let mut eval = on_heap(rt.alloc(), &[0x98, 0x05, 0x00]);
     let call = EvaluationResult::RequiresAtLocation(DieReference::UnitRef(UnitOffset(5)));
-    assert!(rt; eval.evaluate() == Ok(call));
-    expect_waiting(&rt, &eval, WaitingKind::AtLocation);
-    assert!(rt; eval.resume_with_at_location(little(&[0x50])) == DONE);
+    let callee = Step::AtLocation(little(&[0x50]));
+    let eval = asked(&rt, rt.alloc(), &[0x98, 0x05, 0x00], call, callee);
     let register = Location::Register {
         register: Register(0),
     };
     expect_whole(&rt, stand(&eval), register);
 
-    let mut eval = on_heap(rt.alloc(), &[0xa4, 0x07, 0x02, 0xff, 0x7f, 0x9f]);
     let base_type = EvaluationResult::RequiresBaseType(UnitOffset(7));
-    assert!(rt; eval.evaluate() == Ok(base_type));
-    expect_waiting(&rt, &eval, WaitingKind::BaseType);
-    assert!(rt; eval.resume_with_base_type(ValueType::I16) == DONE);
+    let text = &[0xa4, 0x07, 0x02, 0xff, 0x7f, 0x9f];
+    let eval = asked(
+        &rt,
+        rt.alloc(),
+        text,
+        base_type,
+        Step::BaseType(ValueType::I16),
+    );
     let literal = Location::Value {
         value: Value::I16(32767),
     };
     expect_whole(&rt, stand(&eval), literal);
 }
 
+// The list is full, and the fault is kept.
+fn expect_full<R: Reader + Copy, S: EvaluationStorage<R>>(
+    rt: &impl Abort,
+    mut eval: Evaluation<R, S>,
+) {
+    for _ in 0..3 {
+        assert!(rt; matches!(evaluate(rt, &mut eval), Err(Error::StackFull)));
+        assert!(rt; eval.status() == Status::Failed(Error::StackFull));
+    }
+}
+
 // A stack of capacity 2.
 #[test]
 fn a_full_stack(rt: HostRuntime) {
     let mut eval = over_lists::<2, 1, 1>(&[0x31, 0x32]);
-    assert!(rt; eval.evaluate() == DONE);
+    assert!(rt; evaluate(&rt, &mut eval) == DONE);
     expect_value(&rt, stand(&eval), Value::Generic(2), 2);
-
-    let mut eval = over_lists::<2, 1, 1>(&[0x31, 0x32, 0x33]);
-    for _ in 0..3 {
-        assert!(rt; evaluate_again(&rt, &mut eval) == FULL);
-        assert!(rt; eval.status() == Status::Failed(Error::StackFull));
-    }
+    expect_full(&rt, over_lists::<2, 1, 1>(&[0x31, 0x32, 0x33]));
 }
 
 // The sum of 40 ones.
 fn expect_sum(rt: &impl Abort, alloc: Global, text: &[u8]) {
     let mut eval = on_heap(alloc, text);
-    assert!(rt; eval.evaluate().is_ok());
+    assert!(rt; evaluate(rt, &mut eval) == DONE);
     expect_value(rt, stand(&eval), Value::Generic(40), 40);
 }
 
 // Twenty pieces of 8 bits in register 0.
 fn expect_registers(rt: &impl Abort, alloc: Global, text: &[u8]) {
     let mut eval = on_heap(alloc, text);
-    assert!(rt; eval.evaluate().is_ok());
+    assert!(rt; evaluate(rt, &mut eval) == DONE);
     let (status, _, pieces) = stand(&eval);
     assert!(rt; status == Status::Complete);
     assert!(rt; pieces.len() == 20);
@@ -408,33 +483,24 @@ fn growing_lists(rt: HostRuntime) -> std::result::Result<(), AllocError> {
 
 #[test]
 fn refused_growth(rt: HostRuntime) {
-    let mut eval = Evaluation::new(Refusing, little(&[0x31]), SMALL);
-    for _ in 0..3 {
-        assert!(rt; evaluate_again(&rt, &mut eval) == FULL);
-        assert!(rt; eval.status() == Status::Failed(Error::StackFull));
-    }
+    expect_full(&rt, Evaluation::new(Refusing, little(&[0x31]), SMALL));
 }
 
-// Answers a request of this kind: with zero, with an expression that does nothing, or with a type.
-fn answer<'a>(
-    eval: &mut Evaluation<Slice<'a>, StoreOnHeap<Global>>,
-    kind: WaitingKind,
-) -> Answered<'a>
-    requires { IsOpenFor (kind_of kind) eval.old.status }
-{
+// An answer of this kind: zero, an expression that does nothing, or a type.
+fn answer_of(kind: WaitingKind) -> Step<Slice<'static>> {
     match kind {
-        WaitingKind::Memory => eval.resume_with_memory(Value::Generic(0)),
-        WaitingKind::Register => eval.resume_with_register(Value::Generic(0)),
-        WaitingKind::WasmValue => eval.resume_with_wasm_value(Value::Generic(0)),
-        WaitingKind::EntryValue => eval.resume_with_entry_value(Value::Generic(0)),
-        WaitingKind::FrameBase => eval.resume_with_frame_base(0),
-        WaitingKind::Tls => eval.resume_with_tls(0),
-        WaitingKind::CallFrameCfa => eval.resume_with_call_frame_cfa(0),
-        WaitingKind::ParameterRef => eval.resume_with_parameter_ref(0),
-        WaitingKind::RelocatedAddress => eval.resume_with_relocated_address(0),
-        WaitingKind::IndexedAddress => eval.resume_with_indexed_address(0),
-        WaitingKind::AtLocation => eval.resume_with_at_location(little(&[0x96])),
-        WaitingKind::BaseType => eval.resume_with_base_type(ValueType::U8),
+        WaitingKind::Memory => Step::Memory(Value::Generic(0)),
+        WaitingKind::Register => Step::Register(Value::Generic(0)),
+        WaitingKind::WasmValue => Step::WasmValue(Value::Generic(0)),
+        WaitingKind::EntryValue => Step::EntryValue(Value::Generic(0)),
+        WaitingKind::FrameBase => Step::FrameBase(0),
+        WaitingKind::Tls => Step::Tls(0),
+        WaitingKind::CallFrameCfa => Step::CallFrameCfa(0),
+        WaitingKind::ParameterRef => Step::ParameterRef(0),
+        WaitingKind::RelocatedAddress => Step::RelocatedAddress(0),
+        WaitingKind::IndexedAddress => Step::IndexedAddress(0),
+        WaitingKind::AtLocation => Step::AtLocation(little(&[0x96])),
+        WaitingKind::BaseType => Step::BaseType(ValueType::U8),
     }
 }
 
@@ -442,10 +508,10 @@ fn answer<'a>(
 pub(crate) fn expect_end(rt: &impl Abort, alloc: Global, text: &[u8]) {
     let mut eval = on_heap(alloc, text);
     eval.set_max_iterations(16);
-    let mut last = eval.evaluate();
+    let mut last = evaluate(rt, &mut eval);
     for _ in 0..16 {
         if let Status::Waiting(kind) = eval.status() {
-            last = answer(&mut eval, kind);
+            last = resume(rt, &mut eval, answer_of(kind));
         }
     }
     match last {

@@ -7,6 +7,7 @@ use Rattle.dwarf_meaning.specs.Stores.{Setup, Store, Refusal, Never, After}
 use Rattle.dwarf_meaning.specs.Run.{Frame, Asking}
 use Rattle.dwarf_meaning.specs.Meaning.{Outcome, unwound, with_initial, course_from, meaning}
 use Rattle.dwarf_meaning.specs.Rest.{State, Status, Start, Running, Waits, Complete, Stopped, with_refusal, started, rest_by, rest}
+use Rattle.dwarf_expr.specs.Bounds.{Spends}
 use Rattle.dwarf_expr.specs.Steps.{before_pushes, Keeps, ReachesFrom, FallsFrom, IsOpen, RunsOn, Settles, TakesFar, after_input, input_of, with_status}
 use Rattle.dwarf_meaning.specs.Steps.{Reply, Asked, reply}
 use Rattle.dwarf_expr.specs.Calls.{IsTold, IsLater, Follows, means, IsFresh}
@@ -47,6 +48,7 @@ came_follows outcomes old mid new told h s t =
       status = t;
       more = λ open_now r inputs l. to r inputs l;
       kept = λ open_now. subst (Keeps old) (sym s) h.kept;
+      spends = λ open_now. subst (Spends old) (sym s) h.spends;
     }
 
 fell_follows : (outcomes : Refusal → List Input → Outcome) (old mid new : State) (error : Error) (told : Reply) → FallsFrom old.setup.limits outcomes (fault_of error) → new ≡ with_status (Stopped error) mid → IsTold told new.status → Follows old outcomes told new
@@ -59,12 +61,13 @@ fell_follows outcomes old mid new error told h s t =
       status = t;
       more = λ open_now r inputs l. absurd (subst IsOpen stopped open_now);
       kept = λ open_now. absurd (subst IsOpen stopped open_now);
+      spends = λ open_now. absurd (subst IsOpen stopped open_now);
     }
 
 -- a run from a fresh state
 pub start_follows : (X Y : Type 0) (outcomes : Refusal → List Input → Outcome) (old mid new : State) (base : (r : Refusal) (inputs : List Input) → outcomes r inputs ≡ rest r old inputs) (outcome : Result X Error) (result : Result Y Error) (told : Reply) → RunsOn old mid outcome → Settles mid new outcome result → IsTold told new.status → Follows old outcomes told new
 start_follows X Y outcomes old mid new base (Ok u) result told h s t =
-    came_follows outcomes old mid new told (record { pushes = h.reaches.pushes; same = λ r inputs. base (before_pushes h.reaches.pushes r) inputs ∙ h.reaches.same r inputs; kept = h.reaches.kept }) s t
+    came_follows outcomes old mid new told (record { pushes = h.reaches.pushes; same = λ r inputs. base (before_pushes h.reaches.pushes r) inputs ∙ h.reaches.same r inputs; kept = h.reaches.kept; spends = h.reaches.spends }) s t
 start_follows X Y outcomes old mid new base (Err error) result told h s t =
     fell_follows outcomes old mid new error told (record { refusal = h.refusal; may = h.may; same = λ inputs. base h.refusal inputs ∙ h.same inputs }) s.1 t
 

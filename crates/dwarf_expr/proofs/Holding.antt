@@ -1,5 +1,5 @@
 -- A location that waits for its piece.
-use Rattle.std.proofs.Common.{ℕ, ◌≡◌, ◌-◌, ◌==◌, false, List, length, Result, Ok, Err, Option, Some, None, arith, ap, ◌∙◌, sym, refl, subst}
+use Rattle.std.proofs.Common.{ℕ, ◌≡◌, ◌+◌, ◌-◌, ◌==◌, false, List, length, Result, Ok, Err, Option, Some, None, arith, ap, ◌∙◌, sym, refl, subst}
 use Rattle.dwarf_base.specs.declared.errors.Error.{Error}
 use Rattle.dwarf_base.specs.Faults.{Fault, InvalidExpressionTerminator, fault_of}
 use Rattle.dwarf_meaning.specs.Operations.{Operation}
@@ -12,7 +12,9 @@ use Rattle.dwarf_meaning.specs.Meaning.{unwound}
 use Rattle.dwarf_meaning.specs.Rest.{State, Running, with_refusal, running, rest}
 use Rattle.dwarf_meaning.proofs.Counts.{OnStore, KeepsBoth, Tally, tally_of, both-push_piece}
 use Rattle.dwarf_expr.specs.Steps.{Gets, Does, Tries, Reads, before_pushes, Falls, IsLive, Turned, Turns, read_to, with_last}
+use Rattle.dwarf_expr.proofs.Loads.{Keeping, kept_in, piece_adds}
 use Rattle.dwarf_expr.proofs.Reaching.{rest_running, unwound_failed}
+use Rattle.dwarf_expr.proofs.Spending.{held_spends}
 use Rattle.dwarf_expr.proofs.Turning.{rest_inside, effort_running}
 
 module _ (x : State) (location : Location) (runs : x.status ≡ Running) (inside : (x.place == length x.text.bytes) ≡ false) (waits : x.store.last ≡ Located location) where
@@ -60,6 +62,8 @@ module _ (x : State) (location : Location) (runs : x.status ≡ Running) (inside
           let last : waits_of new.store.last ≡ 0 = ap waits_of both.last in
           let waited : waits_of x.store.last ≡ 1 = ap waits_of waits in
           let callers : length new.callers ≡ length x.callers = ap (λ (z : State). length z.callers) d.alone in
+          let added : kept_in new.store ≡ kept_in mid.store + 1 = subst (OnStore (Keeping (kept_in s + 1))) (d.steps.same Never) (piece_adds x.setup piece s) in
+          let kept : kept_in new.store ≡ kept_in x.store = omega (arith, added, waited) in
           let was = effort_running x runs in
           let is = effort_running new still in
           record {
@@ -73,6 +77,7 @@ module _ (x : State) (location : Location) (runs : x.status ≡ Running) (inside
                 object_address = ap (λ (m : Tally). m.object_address) tally;
                 maximum = ap (λ (m : Tally). m.maximum) tally;
               };
+              spends = held_spends x new runs still callers count (ap (λ (z : State). z.decodings) d.alone) waited last kept;
             };
             less = omega (arith, was, is, callers, count, last, waited);
             live = subst IsLive (sym still) tt;

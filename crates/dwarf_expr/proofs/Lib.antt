@@ -21,5 +21,8 @@ pub mod Following
 pub mod AnswerUses
 pub mod Resuming
 pub mod Items
+pub mod Light
+pub mod Loads
+pub mod Spending
 pub mod AddressMasks
 pub mod Texts

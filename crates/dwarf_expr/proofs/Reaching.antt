@@ -1,10 +1,11 @@
 -- What is left of a state, by where the evaluation stands, and one step after the other.
-use Rattle.std.proofs.Common.{ℕ, ◌≡◌, ◌+◌, List, [], ◌∷◌, Result, Ok, Err, Option, Some, None, true, false, ap, ◌∙◌, sym, refl, subst}
+use Rattle.std.proofs.Common.{ℕ, ◌≡◌, ◌+◌, arith, length, List, [], ◌∷◌, Result, Ok, Err, Option, Some, None, true, false, ap, ◌∙◌, sym, refl, subst}
 use Rattle.dwarf_base.specs.declared.errors.Error.{Error}
 use Rattle.dwarf_base.specs.Faults.{Fault, fault_of}
 use Rattle.dwarf_value.specs.declared.types.Value.{Value}
 use Rattle.dwarf_value.specs.declared.types.Value.TheVariants.{Generic}
 use Rattle.dwarf_meaning.specs.Requests.{Request, Waiting, Input}
+use Rattle.dwarf_meaning.specs.RunLaws.{waits_of}
 use Rattle.dwarf_meaning.specs.Stores.{Setup, Store, Refusal, Never, push_value}
 use Rattle.dwarf_meaning.specs.Run.{Frame, Failed}
 use Rattle.dwarf_meaning.specs.Meaning.{Faults, Completes, unwound, with_initial}
@@ -12,6 +13,8 @@ use Rattle.dwarf_meaning.specs.Rest.{State, Status, Start, Running, Waits, Compl
 use Rattle.dwarf_meaning.proofs.Counts.{HasTally, OnStore, Tally, tally_of, tally-push_value}
 use Rattle.dwarf_expr.specs.Steps.{MayPick, before_pushes, Gets, Does, Tries, Keeps, Reaches, Falls, Begins, Begun, RunsOn, IsLive, IsOpen, is_running, with_status}
 use Rattle.dwarf_expr.proofs.Refusals.{before_more, may_before}
+use Rattle.dwarf_expr.proofs.Loads.{HasLast, Keeping, kept_in, value_adds, value_last}
+use Rattle.dwarf_expr.proofs.Spending.{begun_spends, spends_here, spends_more}
 
 pub rest_running : (r : Refusal) (x : State) (inputs : List Input) → x.status ≡ Running → rest r x inputs ≡ running x (with_refusal r x.store) inputs
 unfolding rest
@@ -46,7 +49,7 @@ keeps_more a b c h i = record {
 }
 
 pub reaches_here : (x : State) → Reaches x x
-reaches_here x = record { pushes = 0; same = λ r inputs. refl; kept = keeps_here x }
+reaches_here x = record { pushes = 0; same = λ r inputs. refl; kept = keeps_here x; spends = spends_here x }
 
 pub reaches_more : (a b c : State) → Reaches a b → Reaches b c → Reaches a c
 reaches_more a b c h i = record {
@@ -54,6 +57,7 @@ reaches_more a b c h i = record {
   same = λ r inputs.
       ap (λ (q : Refusal). rest q a inputs) (before_more h.pushes i.pushes r) ∙ (h.same (before_pushes i.pushes r) inputs ∙ i.same r inputs);
   kept = keeps_more a b c h.kept i.kept;
+  spends = spends_more a b c h.spends i.spends;
 }
 
 pub may_along : (a b : State) (r : Refusal) → Keeps a b → MayPick b.setup.limits r → MayPick a.setup.limits r
@@ -90,6 +94,9 @@ begins_none x new starts e = record {
         rest_start r x inputs None starts
         ∙ sym (rest_running r new inputs (ap (λ (z : State). z.status) e) ∙ ap (λ (z : State). running z (with_refusal r z.store) inputs) e);
     kept = record { setup = ap (λ (z : State). z.setup) e; object_address = ap (λ (z : State). z.store.object_address) e; maximum = ap (λ (z : State). z.store.maximum) e };
+    spends =
+        let kept = ap (λ (z : State). kept_in z.store) e in
+        begun_spends x new None starts (ap (λ (z : State). z.status) e) (ap (λ (z : State). length z.callers) e) (ap (λ (z : State). z.store.count) e) (ap (λ (z : State). z.decodings) e) (ap (λ (z : State). waits_of z.store.last) e) (omega (arith, kept));
   };
   runs = ap (λ (z : State). z.status) e;
 }
@@ -102,7 +109,10 @@ pub begins_some : (X : Type 0) (v : ℕ) (x mid new : State) (result : Result X 
 begins_some X v x mid new (Ok u) starts e h =
     let d = subst (λ (z : State). Does (push_value z.setup (Generic v)) z new) e h in
     let still : new.status ≡ Running = ap (λ (z : State). z.status) d.alone in
-    let tally = value_tally x.setup (Generic v) (with_refusal (before_pushes d.steps.pushes Never) x.store) (with_refusal Never new.store) (d.steps.same Never) in
+    let s : Store = with_refusal (before_pushes d.steps.pushes Never) x.store in
+    let tally = value_tally x.setup (Generic v) s (with_refusal Never new.store) (d.steps.same Never) in
+    let kept : kept_in new.store ≡ kept_in x.store + 1 = subst (OnStore (Keeping (kept_in s + 1))) (d.steps.same Never) (value_adds x.setup (Generic v) s) in
+    let last : new.store.last ≡ x.store.last = subst (OnStore (HasLast s.last)) (d.steps.same Never) (value_last x.setup (Generic v) s) in
     record {
       reaches = record {
         pushes = d.steps.pushes;
@@ -115,6 +125,7 @@ begins_some X v x mid new (Ok u) starts e h =
           object_address = ap (λ (m : Tally). m.object_address) tally;
           maximum = ap (λ (m : Tally). m.maximum) tally;
         };
+        spends = begun_spends x new (Some v) starts still (ap (λ (z : State). length z.callers) d.alone) (ap (λ (m : Tally). m.count) tally) (ap (λ (z : State). z.decodings) d.alone) (ap waits_of last) (omega (arith, kept));
       };
       runs = still;
     }

@@ -1,18 +1,22 @@
 -- What comes of an answer.
-use Rattle.std.proofs.Common.{ℕ, suc, ◌≡◌, ◌+◌, List, [], ◌∷◌, ◌++◌, length, Result, Ok, Err, ap, ◌∙◌, sym, refl, subst, append_assoc}
+use Rattle.std.proofs.Common.{ℕ, suc, ◌≡◌, ◌+◌, ◌≤◌, arith, List, [], ◌∷◌, ◌++◌, length, Result, Ok, Err, ap, ◌∙◌, sym, refl, subst, append_assoc}
 use Rattle.dwarf_base.specs.declared.errors.Error.{Error}
 use Rattle.dwarf_base.specs.Faults.{Fault, fault_of}
 use Rattle.dwarf_value.specs.declared.types.Value.{Value}
 use Rattle.dwarf_meaning.specs.Operations.{Text}
 use Rattle.dwarf_meaning.specs.Requests.{Request, Waiting, Answer, Input}
 use Rattle.dwarf_meaning.specs.Acts.{Use, Gives, Calls, Denies, use_of}
+use Rattle.dwarf_meaning.specs.RunLaws.{waits_of}
 use Rattle.dwarf_meaning.specs.Stores.{Setup, address_bits, Store, Pushed, Called, Refusal, Never, After, taken, push_value, push_frame}
 use Rattle.dwarf_meaning.specs.Run.{Frame, Course, End, Finished, Asking, Failed, ended, back, called, entered, resumed, used, run}
 use Rattle.dwarf_meaning.specs.Meaning.{Requests, unwound}
 use Rattle.dwarf_meaning.specs.Rest.{State, Running, Waits, with_refusal, running}
 use Rattle.dwarf_meaning.proofs.Counts.{HasTally, OnStore, Tally, tally_of, tally-push_frame}
 use Rattle.dwarf_expr.specs.Steps.{before_input, before_pushes, Gets, Does, Tries, Enters, TriesToEnter, FallsFrom, RunsOn, after_input, input_of, Taken, Takes, TakesFar, with_last, with_status, with_values}
+use Rattle.dwarf_expr.proofs.Light.{IsLightUse, use_light}
+use Rattle.dwarf_expr.proofs.Loads.{HasLast, Keeping, kept_in, value_adds, value_last, frame_adds, frame_last}
 use Rattle.dwarf_expr.proofs.Refusals.{before_more, may_before}
+use Rattle.dwarf_expr.proofs.Spending.{answered_spends, spends_more}
 use Rattle.dwarf_expr.proofs.Reaching.{rest_running, rest_waits, unwound_failed, value_tally, keeps_more, may_along}
 
 taken_before : (r : Refusal) → taken (before_input r) ≡ r
@@ -53,6 +57,11 @@ module _ (x : State) (request : Request) (waiting : Waiting) (open_now : x.statu
     value_taken new d =
         let tally = value_tally x.setup value (with_refusal (before_pushes d.steps.pushes Never) answered.store) (with_refusal Never new.store) (d.steps.same Never) in
         let runs : new.status ≡ Running = ap (λ (z : State). z.status) d.alone in
+        let s : Store = with_refusal (before_pushes d.steps.pushes Never) answered.store in
+        let kept : kept_in new.store ≡ kept_in answered.store + 1 = subst (OnStore (Keeping (kept_in s + 1))) (d.steps.same Never) (value_adds x.setup value s) in
+        let last : waits_of new.store.last ≡ 0 = ap waits_of (subst (OnStore (HasLast s.last)) (d.steps.same Never) (value_last x.setup value s)) in
+        let fewer : length values ≤ length x.store.values = subst (IsLightUse (length x.store.values)) gives (use_light (address_bits x.setup) waiting answer x.store.values) in
+        let callers = ap (λ (z : State). length z.callers) d.alone in
         record {
           reaches = record {
             pushes = d.steps.pushes;
@@ -65,6 +74,7 @@ module _ (x : State) (request : Request) (waiting : Waiting) (open_now : x.statu
               object_address = ap (λ (m : Tally). m.object_address) tally;
               maximum = ap (λ (m : Tally). m.maximum) tally;
             };
+            spends = answered_spends x new request waiting open_now runs (omega (arith, callers)) (omega (arith, callers, kept, fewer)) (ap (λ (m : Tally). m.count) tally) (ap (λ (z : State). z.decodings) d.alone) (omega (arith, last));
           };
           runs = runs;
         }
@@ -91,17 +101,22 @@ module _ (x : State) (request : Request) (waiting : Waiting) (open_now : x.statu
   -- ---- a called text
 
   pub empty_takes : (callee : Text) (new : State) → use_of (address_bits x.setup) waiting answer x.store.values ≡ Calls callee → callee.bytes ≡ [] → new ≡ with_last Called (with_status Running x) → Taken answer x new
-  empty_takes callee new calls none e = record {
-    reaches = record {
-      pushes = 0;
-      same = λ r inputs.
-          answer_rest r inputs (Calls callee) calls
-          ∙ (ap (λ (bytes : List ℕ). unwound x.setup x.callers (called (run x.setup) x.setup frame (length x.callers) callee bytes (with_refusal r x.store) inputs).end) none
-          ∙ sym (rest_running r new inputs (ap (λ (z : State). z.status) e) ∙ ap (λ (z : State). running z (with_refusal r z.store) inputs) e));
-      kept = record { setup = ap (λ (z : State). z.setup) e; object_address = ap (λ (z : State). z.store.object_address) e; maximum = ap (λ (z : State). z.store.maximum) e };
-    };
-    runs = ap (λ (z : State). z.status) e;
-  }
+  empty_takes callee new calls none e =
+      let callers = ap (λ (z : State). length z.callers) e in
+      let kept = ap (λ (z : State). kept_in z.store) e in
+      let last = ap (λ (z : State). waits_of z.store.last) e in
+      record {
+        reaches = record {
+          pushes = 0;
+          same = λ r inputs.
+              answer_rest r inputs (Calls callee) calls
+              ∙ (ap (λ (bytes : List ℕ). unwound x.setup x.callers (called (run x.setup) x.setup frame (length x.callers) callee bytes (with_refusal r x.store) inputs).end) none
+              ∙ sym (rest_running r new inputs (ap (λ (z : State). z.status) e) ∙ ap (λ (z : State). running z (with_refusal r z.store) inputs) e));
+          kept = record { setup = ap (λ (z : State). z.setup) e; object_address = ap (λ (z : State). z.store.object_address) e; maximum = ap (λ (z : State). z.store.maximum) e };
+          spends = answered_spends x new request waiting open_now (ap (λ (z : State). z.status) e) (omega (arith, callers)) (omega (arith, callers, kept)) (ap (λ (z : State). z.store.count) e) (ap (λ (z : State). z.decodings) e) (omega (arith, last));
+        };
+        runs = ap (λ (z : State). z.status) e;
+      }
 
   module _ (callee : Text) (byte : ℕ) (bytes : List ℕ) (calls : use_of (address_bits x.setup) waiting answer x.store.values ≡ Calls callee) (some : callee.bytes ≡ byte ∷ bytes) where
     call_rest : (r : Refusal) (inputs : List Input) (z : Result Store Fault) → push_frame x.setup (length x.callers) (with_refusal r x.store) ≡ z → after_input x (input_of x answer) r inputs ≡ unwound x.setup x.callers (entered (run x.setup) frame (length x.callers) callee inputs z).end
@@ -115,6 +130,9 @@ module _ (x : State) (request : Request) (waiting : Waiting) (open_now : x.statu
         let s : Store = with_refusal (before_pushes d.steps.pushes Never) x.store in
         let tally : tally_of new.store ≡ tally_of x.store = subst (OnStore (HasTally (tally_of s))) (d.steps.same Never) (tally-push_frame x.setup (length x.callers) s) in
         let runs : new.status ≡ Running = ap (λ (z : State). z.status) d.alone in
+        let kept : kept_in new.store ≡ kept_in x.store = subst (OnStore (Keeping (kept_in s))) (d.steps.same Never) (frame_adds x.setup (length x.callers) s) in
+        let last : waits_of new.store.last ≡ waits_of x.store.last = ap waits_of (subst (OnStore (HasLast s.last)) (d.steps.same Never) (frame_last x.setup (length x.callers) s)) in
+        let callers : length new.callers ≡ suc (length x.callers) = ap (λ (z : State). length z.callers) d.alone in
         record {
           reaches = record {
             pushes = d.steps.pushes;
@@ -129,6 +147,7 @@ module _ (x : State) (request : Request) (waiting : Waiting) (open_now : x.statu
               object_address = ap (λ (m : Tally). m.object_address) tally;
               maximum = ap (λ (m : Tally). m.maximum) tally;
             };
+            spends = answered_spends x new request waiting open_now runs (omega (arith, callers)) (omega (arith, callers, kept)) (ap (λ (m : Tally). m.count) tally) (ap (λ (z : State). z.decodings) d.alone) (omega (arith, last));
           };
           runs = runs;
         }
@@ -152,6 +171,7 @@ takes_far X answer a b c (Ok u) h g = record {
         ap (λ (q : Refusal). after_input a (input_of a answer) q inputs) (before_more h.reaches.pushes g.reaches.pushes r)
         ∙ (h.reaches.same (before_pushes g.reaches.pushes r) inputs ∙ g.reaches.same r inputs);
     kept = keeps_more a b c h.reaches.kept g.reaches.kept;
+    spends = spends_more a b c h.reaches.spends g.reaches.spends;
   };
   open_now = g.open_now;
 }

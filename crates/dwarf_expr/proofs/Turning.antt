@@ -1,11 +1,11 @@
 -- One operation that is counted is one turn of the nested run.
-use Rattle.std.proofs.Common.{ℕ, ◌≡◌, ◌+◌, ◌-◌, ◌*◌, ◌≤◌, ◌<◌, true, false, List, length, Result, Ok, Err, arith, ap, ◌∙◌, sym, refl, subst, ◌==◌}
+use Rattle.std.proofs.Common.{ℕ, ◌≡◌, ◌+◌, ◌-◌, ◌*◌, ◌<◌, true, false, List, length, Result, Ok, Err, arith, ap, ◌∙◌, sym, refl, subst, ◌==◌}
 use Rattle.dwarf_base.specs.declared.errors.Error.{Error}
 use Rattle.dwarf_base.specs.Faults.{Fault, TooManyIterations, fault_of}
 use Rattle.dwarf_meaning.specs.Operations.{Operation, Text}
 use Rattle.dwarf_meaning.specs.Requests.{Request, Waiting, Input}
 use Rattle.dwarf_meaning.specs.RunLaws.{waits_of}
-use Rattle.dwarf_meaning.specs.Stores.{Setup, Store, Last, Nothing, Plain, Pieced, Pushed, Called, Located, Refusal, Never, Next, Goes, Stops, Fails}
+use Rattle.dwarf_meaning.specs.Stores.{Setup, address_bits, Store, Last, Nothing, Plain, Pieced, Pushed, Called, Located, Refusal, Never, Next, Goes, Stops, Fails}
 use Rattle.dwarf_meaning.specs.Run.{Finished, Failed, Course, ended, passing, read, most, can_count, counted, does, counts, led, turn_by, run}
 use Rattle.dwarf_meaning.specs.Meaning.{unwound}
 use Rattle.dwarf_meaning.specs.Rest.{State, Status, Start, Running, Waits, Complete, Stopped, with_refusal, running, waits, rest}
@@ -13,17 +13,12 @@ use Rattle.dwarf_meaning.proofs.Choices.{choose_true, choose_false}
 use Rattle.dwarf_meaning.proofs.Counts.{HasTally, OnNext, Tally, tally_of, tally-done}
 use Rattle.dwarf_meaning.proofs.Turns.{run_turn, below_most}
 use Rattle.dwarf_expr.specs.Steps.{Gets, Reads, before_pushes, act_of, done_at, GoesOn, AsksFor, PerformedBy, Performs, read_to, with_store, Keeps, Falls, IsFree, IsReady, IsLive, Turned, Turns, effort, effort_by}
+use Rattle.dwarf_expr.proofs.Light.{act_light}
+use Rattle.dwarf_expr.proofs.Loads.{IsLighter, kept_in, done_lighter}
 use Rattle.dwarf_expr.proofs.Reaching.{rest_running, rest_waits, unwound_failed}
+use Rattle.dwarf_expr.proofs.Spending.{asked_spends, counted_spends, waits_little}
 
 -- ---- what there is still to do
-
-waits_little : (last : Last) → waits_of last ≤ 1
-waits_little Nothing = omega arith
-waits_little Plain = omega arith
-waits_little Pieced = omega arith
-waits_little Pushed = omega arith
-waits_little Called = omega arith
-waits_little (Located location) = omega arith
 
 pub effort_running : (x : State) → x.status ≡ Running → effort x ≡ 3 * (most - x.store.count) + length x.callers + waits_of x.store.last + 1
 effort_running x e = ap (effort_by x) e
@@ -125,6 +120,12 @@ module _ (x : State) (ready : IsReady x) where
       asks_tally : (new : State) (request : Request) (waiting : Waiting) → AsksFor (act_of there op) request waiting there new → tally_of new.store ≡ tally_of there.store
       asks_tally new request waiting h = next_tally (λ n. Unit {0}) (before_pushes h.steps.pushes Never) (Stops request waiting (with_refusal Never new.store)) (h.steps.same Never)
 
+      -- it adds one item at most
+      next_lighter : (r : Refusal) (next : Next) → done_at (act_of there op) there (with_refusal r there.store) ≡ next → IsLighter (kept_in there.store) next
+      next_lighter r next e =
+          subst (IsLighter (kept_in there.store)) e
+          (done_lighter x.setup place_then (length x.text.bytes) (act_of there op) (with_refusal r there.store) (act_light (address_bits there.setup) there.store.object_address op there.store.values))
+
       keeps_by : (new : State) → new.setup ≡ x.setup → tally_of new.store ≡ tally_of there.store → Keeps x new
       keeps_by new setup tally = record { setup = setup; object_address = ap (λ (m : Tally). m.object_address) tally; maximum = ap (λ (m : Tally). m.maximum) tally }
 
@@ -136,6 +137,8 @@ module _ (x : State) (ready : IsReady x) where
               ready_led (before_pushes goes.steps.pushes r) inputs (Goes new.place (with_refusal r new.store)) (goes.steps.same r)
               ∙ sym (rest_running r new inputs runs ∙ ap (λ (y : State). running y (with_refusal r new.store) inputs) goes.alone);
           kept = keeps_by new (ap (λ (z : State). z.setup) goes.alone) (goes_tally new goes);
+          spends = counted_spends x new ready.runs runs (ap (λ (z : State). length z.callers) goes.alone) (ap (λ (m : Tally). m.count) (goes_tally new goes)) (ap (λ (z : State). z.decodings) goes.alone)
+              (next_lighter (before_pushes goes.steps.pushes Never) (Goes new.place (with_refusal Never new.store)) (goes.steps.same Never));
         };
         less = less_counted x new ready.runs runs can (ap (λ (z : State). z.callers) goes.alone) (ap (λ (m : Tally). m.count) (goes_tally new goes));
         live = subst IsLive (sym runs) tt;
@@ -149,6 +152,8 @@ module _ (x : State) (ready : IsReady x) where
               ready_led (before_pushes asks.steps.pushes r) inputs (Stops request waiting (with_refusal r new.store)) (asks.steps.same r)
               ∙ sym (rest_waits r new inputs request waiting open_now ∙ ap (λ (y : State). waits y request waiting (with_refusal r new.store) inputs) asks.alone);
           kept = keeps_by new (ap (λ (z : State). z.setup) asks.alone) (asks_tally new request waiting asks);
+          spends = asked_spends x new request waiting ready.runs open_now (ap (λ (z : State). length z.callers) asks.alone) (ap (λ (m : Tally). m.count) (asks_tally new request waiting asks)) (ap (λ (z : State). z.decodings) asks.alone)
+              (next_lighter (before_pushes asks.steps.pushes Never) (Stops request waiting (with_refusal Never new.store)) (asks.steps.same Never));
         };
         less = less_stopped x new (Waits request waiting) ready.runs open_now refl;
         live = subst IsLive (sym open_now) tt;

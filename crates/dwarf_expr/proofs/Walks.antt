@@ -19,11 +19,13 @@ use Rattle.dwarf_expr.specs.Calls.{IsTold, IsLater, Follows, first_of, means, Is
 use Rattle.dwarf_expr.specs.Steps.{MayPick, before_input, IsOpen, after_input, input_of, with_status}
 use Rattle.dwarf_store.specs.Lists.{MayRefuse}
 use Rattle.dwarf_expr.specs.Stepping.{IsAskingFor, MayTake, IsSet, IsCalled, IsKept}
-use Rattle.dwarf_expr.specs.Replays.{told_at, step_of, steps_of, reply_in, replies_in, IsAsking, IsStopped, AreSet, StandsAt, Walks, WalksAll, WalksTo, WalksOver}
+use Rattle.dwarf_expr.specs.Replays.{told_at, step_of, steps_of, reply_in, replies_in, IsAsking, IsStopped, AreSet, StandsAt, IsSpent, Walks, WalksAll, WalksTo, WalksOver}
 use Rattle.dwarf_expr.specs.declared.replay.steps.Step as code
 use Rattle.dwarf_expr.specs.declared.replay.steps.Answer as kept_answer
 use Rattle.dwarf_expr.specs.declared.op.results.EvaluationResult.{EvaluationResult}
+use Rattle.dwarf_expr.specs.Bounds.{Spends, SpendsInAll, initial_items}
 use Rattle.dwarf_expr.proofs.Following.{told_rest}
+use Rattle.dwarf_expr.proofs.Spending.{alike_spends, spent_here, spent_initial, spent_more}
 use Rattle.dwarf_expr.proofs.Resuming.{unwound_open}
 
 -- ---- one more step of the definitions
@@ -73,6 +75,7 @@ pub record Unstarted (first : State) (steps : List Step) (given : List Reply) (x
   pub initial : told.settings.initial_value ≡ initial_value
   pub text : x.text ≡ first.text
   pub holds : Holds first told x
+  pub spent : SpendsInAll (initial_items told.settings.initial_value) first x
 
 -- it waits or is complete: what is left of it is what the meaning gives, for all inputs to come
 pub record Going (first : State) (steps : List Step) (given : List Reply) (x : State) : Type 0 where
@@ -83,6 +86,7 @@ pub record Going (first : State) (steps : List Step) (given : List Reply) (x : S
   pub started : told.first ≡ Some settings
   pub rest_is : (r : Refusal) (inputs : List Input) → IsLater r → meaning first.setup (before_inputs taken r) first.text settings (told.inputs ++ inputs) ≡ rest r x inputs
   pub holds : Holds first told x
+  pub spent : SpendsInAll (initial_items told.settings.initial_value) first x
 
 -- it met a fault, for some refusal
 pub record Over (first : State) (steps : List Step) (given : List Reply) (error : Error) : Type 0 where
@@ -115,6 +119,7 @@ went_at_first x e =
       initial = refl;
       text = refl;
       holds = record { setup = refl; object_address = refl; maximum = refl };
+      spent = spent_here x;
     })
 
 -- ---- refusals
@@ -193,8 +198,14 @@ module _ (first : State) where
     maximum : ℕ
     new_is : new ≡ set_to object maximum x
     holds : (told : Told) → Holds first told x → Holds first (tells told) new
+    spends : Spends x new
 
   module _ (steps : List Step) (given : List Reply) (step : Step) (x new : State) (s : IsSetting step x new) where
+    set_spent : (told : Told) → SpendsInAll (initial_items told.settings.initial_value) first x → SpendsInAll (initial_items (s.tells told).settings.initial_value) first new
+    set_spent told h =
+        let same : initial_items (s.tells told).settings.initial_value ≡ initial_items told.settings.initial_value = ap initial_items (s.initial_is told) in
+        subst (λ (n : ℕ). SpendsInAll n first new) (sym same) (spent_more (initial_items told.settings.initial_value) first x new h s.spends)
+
     set_walked : (r : Refusal) (told : Told) → Walked first steps given told r → Walked first (steps ++ step ∷ []) given (s.tells told) r
     set_walked r told w =
         walked_more steps given given step r told (s.tells told) w (s.allowed told _) (s.after_is told _)
@@ -212,6 +223,7 @@ module _ (first : State) where
           ∙ (w.rest_is r inputs l
           ∙ (sym (rest_set s.object s.maximum r x inputs o) ∙ ap (λ (z : State). rest r z inputs) (sym s.new_is)));
       holds = s.holds w.told w.holds;
+      spent = set_spent w.told w.spent;
     }
 
     set_by : (status : Status) → x.status ≡ status → WentBy first steps given x status → WentBy first (steps ++ step ∷ []) given new status
@@ -223,6 +235,7 @@ module _ (first : State) where
       initial = s.initial_is w.told ∙ w.initial;
       text = ap (λ (z : State). z.text) s.new_is ∙ w.text;
       holds = s.holds w.told w.holds;
+      spent = set_spent w.told w.spent;
     }
     set_by (Waits request waiting) e w = set_going (subst IsOpen (sym e) tt) w
     set_by (Complete value) e w = set_going (subst IsOpen (sym e) tt) w
@@ -242,6 +255,11 @@ module _ (first : State) where
         let status : x.status ≡ new.status = ap (λ (z : State). z.status) (sym s.new_is) in
         subst (WentBy first (steps ++ step ∷ []) given new) status (set_by x.status refl w)
 
+  set_spends : {object : Option ℕ} {maximum : ℕ} (x new : State) → new ≡ set_to object maximum x → Spends x new
+  set_spends x new e =
+      alike_spends x new (ap (λ (z : State). z.status) e) (ap (λ (z : State). z.callers) e) (ap (λ (z : State). z.store.values) e) (ap (λ (z : State). z.store.pieces) e)
+      (ap (λ (z : State). z.store.last) e) (ap (λ (z : State). z.store.count) e) (ap (λ (z : State). z.decodings) e)
+
   object_setting : (address : ℕ) (x new : State) → new ≡ with_object (Some address) x → IsSetting (ObjectAddress address) x new
   object_setting address x new e = record {
     tells = λ told. record told { settings = record told.settings { object_address = Some address } };
@@ -259,6 +277,7 @@ module _ (first : State) where
       object_address = ap (λ (z : State). z.store.object_address) e;
       maximum = ap (λ (z : State). z.store.maximum) e ∙ h.maximum;
     };
+    spends = set_spends x new e;
   }
 
   maximum_setting : (maximum : ℕ) (x new : State) → new ≡ with_maximum maximum x → IsSetting (MaxIterations maximum) x new
@@ -278,6 +297,7 @@ module _ (first : State) where
       object_address = ap (λ (z : State). z.store.object_address) e ∙ h.object_address;
       maximum = ap (λ (z : State). z.store.maximum) e;
     };
+    spends = set_spends x new e;
   }
 
   -- the initial value
@@ -299,6 +319,7 @@ module _ (first : State) where
           object_address = ap (λ (z : State). z.store.object_address) n ∙ w.holds.object_address;
           maximum = ap (λ (z : State). z.store.maximum) n ∙ w.holds.maximum;
         };
+        spent = spent_initial number first x new e n (subst (λ (v : Option ℕ). SpendsInAll (initial_items v) first x) w.initial w.spent);
       })
 
   pub set_went_on : (steps : List Step) (given : List Reply) (step : Step) (x new : State) → IsSet step x new → Went first steps given x → Went first (steps ++ step ∷ []) given new
@@ -341,8 +362,8 @@ module _ (first : State) where
         ap (λ (t : Reply). given ++ t ∷ []) e
         ∙ ap (λ (l : List Reply). given ++ l) (sym (answers_one (outcomes r [])) ∙ ap (step_replies step) (sym (called_outcome r)))
 
-    called_going : IsOpen new.status → Holds first now new → ((r : Refusal) → IsLater r → told ≡ reply (outcomes r []) → Walked first (steps ++ step ∷ []) (given ++ told ∷ []) now (before_inputs n r)) → Going first (steps ++ step ∷ []) (given ++ told ∷ []) new
-    called_going o holds walked = record {
+    called_going : IsOpen new.status → Holds first now new → SpendsInAll (initial_items now.settings.initial_value) first new → ((r : Refusal) → IsLater r → told ≡ reply (outcomes r []) → Walked first (steps ++ step ∷ []) (given ++ told ∷ []) now (before_inputs n r)) → Going first (steps ++ step ∷ []) (given ++ told ∷ []) new
+    called_going o holds spent walked = record {
       told = now;
       taken = n;
       walked = λ r l. walked r l (told_rest r new told h.status ∙ ap reply (sym (h.more o r [] l)));
@@ -350,6 +371,7 @@ module _ (first : State) where
       started = started;
       rest_is = λ r inputs l. sym (means_is r inputs) ∙ h.more o r inputs l;
       holds = holds;
+      spent = spent;
     }
 
     called_over : (error : Error) → new.status ≡ Stopped error → MayPick first.setup.limits (before_inputs n h.refusal) → Walked first (steps ++ step ∷ []) (given ++ told ∷ []) now (before_inputs n h.refusal) → Over first (steps ++ step ∷ []) (given ++ told ∷ []) error
@@ -366,16 +388,16 @@ module _ (first : State) where
           ∙ reply_fault (outcomes h.refusal []) (fault_of error) (sym h.answer ∙ subst (IsTold told) e h.status));
     }
 
-    called_by : (status : Status) → new.status ≡ status → MayPick first.setup.limits (before_inputs n h.refusal) → (IsOpen new.status → Holds first now new) → ((r : Refusal) → (IsLater r ⊎ (r ≡ h.refusal)) → told ≡ reply (outcomes r []) → Walked first (steps ++ step ∷ []) (given ++ told ∷ []) now (before_inputs n r)) → WentBy first (steps ++ step ∷ []) (given ++ told ∷ []) new status
-    called_by (Waits request waiting) e may holds walked =
+    called_by : (status : Status) → new.status ≡ status → MayPick first.setup.limits (before_inputs n h.refusal) → (IsOpen new.status → Holds first now new) → (IsOpen new.status → SpendsInAll (initial_items now.settings.initial_value) first new) → ((r : Refusal) → (IsLater r ⊎ (r ≡ h.refusal)) → told ≡ reply (outcomes r []) → Walked first (steps ++ step ∷ []) (given ++ told ∷ []) now (before_inputs n r)) → WentBy first (steps ++ step ∷ []) (given ++ told ∷ []) new status
+    called_by (Waits request waiting) e may holds spent walked =
         let o : IsOpen new.status = subst IsOpen (sym e) tt in
-        called_going o (holds o) (λ r l. walked r (inl l))
-    called_by (Complete value) e may holds walked =
+        called_going o (holds o) (spent o) (λ r l. walked r (inl l))
+    called_by (Complete value) e may holds spent walked =
         let o : IsOpen new.status = subst IsOpen (sym e) tt in
-        called_going o (holds o) (λ r l. walked r (inl l))
-    called_by (Stopped error) e may holds walked = called_over error e may (walked h.refusal (inr refl) h.answer)
-    called_by (Start initial_value) e may holds walked = absurd (subst (IsTold told) e h.status)
-    called_by Running e may holds walked = absurd (subst (IsTold told) e h.status)
+        called_going o (holds o) (spent o) (λ r l. walked r (inl l))
+    called_by (Stopped error) e may holds spent walked = called_over error e may (walked h.refusal (inr refl) h.answer)
+    called_by (Start initial_value) e may holds spent walked = absurd (subst (IsTold told) e h.status)
+    called_by Running e may holds spent walked = absurd (subst (IsTold told) e h.status)
 
 -- ---- each call
 
@@ -406,6 +428,7 @@ module _ (first : State) (steps : List Step) (given : List Reply) (x new : State
         object_address = (h.kept o).object_address ∙ w.holds.object_address;
         maximum = (h.kept o).maximum ∙ w.holds.maximum;
       })
+      (λ o. spent_more (initial_items settings.initial_value) first x new w.spent (h.spends o))
       (λ r l e. walked_more first steps given (given ++ told ∷ []) Evaluate r w.told now (w.walked r)
       (subst IsEvaluable (sym (unstarted r)) tt)
       (ap (λ (f : Option First). record { settings = settings; first = Some (begun settings f); inputs = w.told.inputs }) w.started)
@@ -432,6 +455,7 @@ module _ (first : State) (steps : List Step) (given : List Reply) (x new : State
         started = w.started;
         rest_is = w.rest_is;
         holds = w.holds;
+        spent = w.spent;
       }
 
   -- a call after a fault
@@ -475,6 +499,7 @@ module _ (first : State) (steps : List Step) (given : List Reply) (x new : State
         object_address = (h.kept o).object_address ∙ w.holds.object_address;
         maximum = (h.kept o).maximum ∙ w.holds.maximum;
       })
+      (λ o. spent_more (initial_items settings.initial_value) first x new w.spent (h.spends o))
       (λ r l s. walked_more first steps given (given ++ told ∷ []) (Resume answer) (before_inputs (suc w.taken) r) w.told now (w.walked (before_input r) (later_before r))
       (subst (Awaits answer) (sym (is r)) kind)
       (ap (λ (o : Option Outcome). after w.told o (Resume answer)) (is r)
@@ -531,14 +556,15 @@ pub record Led (first : State) (steps : List Step) (given : List Reply) (x : Sta
       P told (outcome_of first.setup refusal first.text told)
 
 module _ (first : State) (steps : List Step) (given : List Reply) (x : State) (P : Told → Option Outcome → Type 0) where
-  led : (told : Told) (refusal : Refusal) (outcome : Option Outcome) → Walked first steps given told refusal → MayPick first.setup.limits refusal → outcome_of first.setup refusal first.text told ≡ outcome → StandsAt told x outcome → P told outcome → Led first steps given x P
-  led told refusal outcome w may is stands holds = record {
+  led : (told : Told) (refusal : Refusal) (outcome : Option Outcome) → Walked first steps given told refusal → MayPick first.setup.limits refusal → outcome_of first.setup refusal first.text told ≡ outcome → StandsAt told x outcome → IsSpent told first x outcome → P told outcome → Led first steps given x P
+  led told refusal outcome w may is stands spent holds = record {
     refusal = refusal;
     walks = record {
       may = may;
       allowed = w.allowed;
       replies_are = w.replies_are;
       stands = subst (λ (t : Told). StandsAt t x (outcome_of first.setup refusal first.text t)) (sym w.told_is) (subst (StandsAt told x) (sym is) stands);
+      spent = subst (λ (t : Told). IsSpent t first x (outcome_of first.setup refusal first.text t)) (sym w.told_is) (subst (IsSpent told first x) (sym is) spent);
     };
     holds = subst (λ (t : Told). P t (outcome_of first.setup refusal first.text t)) (sym w.told_is) (subst (P told) (sym is) holds);
   }
@@ -556,23 +582,26 @@ module _ (first : State) (steps : List Step) (given : List Reply) (x : State) (P
 
   led_by : (status : Status) → x.status ≡ status → WentBy first steps given x status → Wanted status → Led first steps given x P
   led_by (Start initial_value) e w wanted =
-      led w.told Never None (w.walked Never) tt (ap (outcome_from first.setup Never first.text w.told.inputs) w.started) (e ∙ ap Start (sym w.initial), are_set w.told w.holds) (wanted w.told w.started w.initial)
+      led w.told Never None (w.walked Never) tt (ap (outcome_from first.setup Never first.text w.told.inputs) w.started) (e ∙ ap Start (sym w.initial), are_set w.told w.holds) w.spent (wanted w.told w.started w.initial)
   led_by (Waits request waiting) e w wanted =
       let frame : Frame = record { text = x.text; place = x.place } in
       led w.told (before_inputs w.taken Never) (Some (Requests request (frame ∷ x.callers))) (w.walked Never tt) (may_inputs first.setup.limits w.taken Never tt)
       (going_outcome first steps given x w Never tt
       ∙ ap Some (rest_by_status Never x [] (Waits request waiting) e ∙ unwound_open x.setup x.callers request (frame ∷ []) []))
       (subst (IsAsking request (frame ∷ x.callers) x) (sym e) (refl, refl), are_set w.told w.holds)
+      w.spent
       (wanted w.told w.settings (frame ∷ x.callers) w.started)
   led_by (Complete value) e w wanted =
       led w.told (before_inputs w.taken Never) (Some (Completes x.store.pieces value)) (w.walked Never tt) (may_inputs first.setup.limits w.taken Never tt)
       (going_outcome first steps given x w Never tt ∙ ap Some (rest_by_status Never x [] (Complete value) e))
       (e, refl)
+      w.spent
       (wanted w.told w.settings w.started)
   led_by (Stopped error) e w wanted =
       led w.told w.refusal (Some (Faults (fault_of error))) w.walked w.may
       (ap (outcome_from first.setup w.refusal first.text w.told.inputs) w.started ∙ ap Some w.fails)
       (subst (IsStopped (fault_of error)) (sym e) refl)
+      tt
       (wanted w.told w.settings w.started)
   led_by Running e w wanted = absurd w
 

@@ -11,6 +11,7 @@ use Rattle.dwarf_meaning.specs.Meaning.{Outcome, First, fresh, meaning}
 use Rattle.dwarf_meaning.specs.Rest.{State, Status, Start, Running, Waits, Complete, Stopped, rest}
 use Rattle.dwarf_meaning.specs.Steps.{Reply, Completed, Asked, Faulted, reply}
 use Rattle.dwarf_op.specs.Views.{reference_of}
+use Rattle.dwarf_expr.specs.Bounds.{Spends}
 use Rattle.dwarf_expr.specs.Steps.{MayPick, IsOpen, Keeps, after_input}
 use Rattle.dwarf_expr.specs.declared.op.results.EvaluationResult.{EvaluationResult}
 use Rattle.dwarf_expr.specs.declared.op.results.EvaluationResult.TheVariants as result
@@ -59,6 +60,7 @@ pub record Follows (old : State) (outcomes : Refusal → List Input → Outcome)
   pub status : IsTold told new.status
   pub more : IsOpen new.status → (r : Refusal) (inputs : List Input) → IsLater r → outcomes r inputs ≡ rest r new inputs
   pub kept : IsOpen new.status → Keeps old new
+  pub spends : IsOpen new.status → Spends old new
 
 -- the settings as they stand when the evaluation starts
 abbrev pub first_of : State → Option ℕ → First

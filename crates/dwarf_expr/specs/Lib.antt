@@ -1,4 +1,5 @@
 pub mod Answers
+pub mod Bounds
 pub mod Calls
 pub mod Iteration
 pub mod Machine

@@ -10,6 +10,7 @@ use Rattle.dwarf_meaning.specs.Meaning.{Outcome, Requests, Faults, Completes}
 use Rattle.dwarf_meaning.specs.Rest.{State, Status, Start, Running, Waits, Complete, Stopped}
 use Rattle.dwarf_meaning.specs.Steps as meaning
 use Rattle.dwarf_meaning.specs.Steps.{Told, Reply, Allows, AllAllowed, answers, after_steps, outcome_of}
+use Rattle.dwarf_expr.specs.Bounds.{initial_items, SpendsInAll}
 use Rattle.dwarf_expr.specs.Calls.{first_of, reply_of}
 use Rattle.dwarf_store.specs.Lists.{MayRefuse}
 use Rattle.dwarf_expr.specs.Steps.{MayPick}
@@ -81,6 +82,13 @@ StandsAt told x (Some (Requests request frames)) = IsAsking request frames x x.s
 StandsAt told x (Some (Faults fault)) = IsStopped fault x.status
 StandsAt told x (Some (Completes pieces value)) = (x.status ≡ Complete value) × (x.store.pieces ≡ pieces)
 
+-- as long as it met no fault, it kept and decoded no more than the operations that it counted allow, and an initial value
+abbrev pub IsSpent : Told → State → State → Option Outcome → Type 0
+IsSpent told old new None = SpendsInAll (initial_items told.settings.initial_value) old new
+IsSpent told old new (Some (Requests request frames)) = SpendsInAll (initial_items told.settings.initial_value) old new
+IsSpent told old new (Some (Completes pieces value)) = SpendsInAll (initial_items told.settings.initial_value) old new
+IsSpent told old new (Some (Faults fault)) = Unit {0}
+
 -- ---- replay
 
 -- Steps that are all allowed were done, for some refusal or for none: the replies are theirs, and the evaluation
@@ -92,6 +100,9 @@ pub record Walks (old : State) (steps : List meaning.Step) (refusal : Refusal) (
   pub stands :
       let told = after_steps old.setup refusal old.text (told_at old) steps in
       StandsAt told new (outcome_of old.setup refusal old.text told)
+  pub spent :
+      let told = after_steps old.setup refusal old.text (told_at old) steps in
+      IsSpent told old new (outcome_of old.setup refusal old.text told)
 
 pub record WalksAll (old : State) (steps : List meaning.Step) (replies : List Reply) (new : State) : Type 0 where
   pub refusal : Refusal

@@ -13,6 +13,7 @@ use Rattle.dwarf_meaning.specs.Stores.{Limits, address_bits, Store, Last, Locate
 use Rattle.dwarf_meaning.specs.Run.{Frame, read, most}
 use Rattle.dwarf_meaning.specs.Meaning.{Outcome, Faults, Completes}
 use Rattle.dwarf_meaning.specs.Rest.{State, Status, Start, Running, Waits, Complete, Stopped, with_refusal, rest}
+use Rattle.dwarf_expr.specs.Bounds.{Spends}
 
 -- ---- refusals
 
@@ -160,6 +161,7 @@ pub record Reaches (old new : State) : Type 0 where
   pub pushes : ℕ
   pub same : (r : Refusal) (inputs : List Input) → rest (before_pushes pushes r) old inputs ≡ rest r new inputs
   pub kept : Keeps old new
+  pub spends : Spends old new
 
 -- for some refusal, the state ends in the fault
 pub record Falls (old : State) (fault : Fault) : Type 0 where
@@ -183,23 +185,29 @@ abbrev pub GoesBack : Bool → State → State → Type 0
 GoesBack true old new = (f : Frame) × (fs : List Frame) × (old.callers ≡ f ∷ fs) × (new ≡ record old { text = f.text; place = f.place; callers = fs })
 GoesBack false old new = (old.callers ≡ []) × (new ≡ old)
 
--- the run is over, as f says, with this value
-pub record Finishes (f : Store → Outcome) (value : Option Value) (old new : State) : Type 0 where
+-- Nothing is counted, and of values and pieces there are so many more at most.
+pub record Adds (more : ℕ) (old new : State) : Type 0 where
+  pub items : length new.store.values + length new.store.pieces ≤ length old.store.values + length old.store.pieces + more
+  pub count : new.store.count ≡ old.store.count
+
+-- the run is over, as f says, with this value, and so many more items at most
+pub record Finishes (more : ℕ) (f : Store → Outcome) (value : Option Value) (old new : State) : Type 0 where
   pub steps : Steps f old.store (λ s. Completes s.pieces value) new.store
   pub alone : new ≡ with_store new.store (with_status (Complete value) old)
   pub kept : Keeps old new
+  pub adds : Adds more old new
 
-abbrev pub FinishedBy : (Store → Outcome) → State → State → Status → Type 0
-FinishedBy f old new (Complete value) = Finishes f value old new
-FinishedBy f old new Running = ⊥
-FinishedBy f old new (Start initial_value) = ⊥
-FinishedBy f old new (Waits request waiting) = ⊥
-FinishedBy f old new (Stopped error) = ⊥
+abbrev pub FinishedBy : ℕ → (Store → Outcome) → State → State → Status → Type 0
+FinishedBy more f old new (Complete value) = Finishes more f value old new
+FinishedBy more f old new Running = ⊥
+FinishedBy more f old new (Start initial_value) = ⊥
+FinishedBy more f old new (Waits request waiting) = ⊥
+FinishedBy more f old new (Stopped error) = ⊥
 
--- the run is over, as f says, or f gives the fault for some refusal
-abbrev pub Closes : {X : Type 0} → (Store → Outcome) → State → State → Result X Error → Type 0
-Closes f old new (Ok x) = FinishedBy f old new new.status
-Closes f old new (Err e) = Gets old.setup.limits f old.store (Faults (fault_of e))
+-- the run is over, as f says, with so many more items at most, or f gives the fault for some refusal
+abbrev pub Closes : {X : Type 0} → ℕ → (Store → Outcome) → State → State → Result X Error → Type 0
+Closes more f old new (Ok x) = FinishedBy more f old new new.status
+Closes more f old new (Err e) = Gets old.setup.limits f old.store (Faults (fault_of e))
 
 abbrev pub effort_by : State → Status → ℕ
 effort_by x Running = 3 * (most - x.store.count) + length x.callers + waits_of x.store.last + 1
@@ -267,6 +275,7 @@ pub record ReachesFrom (old : State) (outcomes : Refusal → List Input → Outc
   pub pushes : ℕ
   pub same : (r : Refusal) (inputs : List Input) → outcomes (before_pushes pushes r) inputs ≡ rest r new inputs
   pub kept : Keeps old new
+  pub spends : Spends old new
 
 pub record FallsFrom (limits : Limits) (outcomes : Refusal → List Input → Outcome) (fault : Fault) : Type 0 where
   pub refusal : Refusal

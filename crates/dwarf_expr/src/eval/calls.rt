@@ -4,6 +4,7 @@ ghost use Rattle.dwarf_meaning.specs.Kinds.{kind_of_answer};
 ghost use Rattle.dwarf_meaning.specs.Requests as asked;
 ghost use Rattle.dwarf_meaning.specs.Rest.{Start, Complete};
 ghost use Rattle.dwarf_expr.specs.Answers.{IsOpenFor, Permits, Shows, answer_of};
+ghost use Rattle.dwarf_expr.specs.Bounds.{IsUnspent};
 ghost use Rattle.dwarf_expr.specs.Calls.{Evaluates, HasResult, IsClosed, IsComplete, Resumes, most_iterations, with_maximum, with_object};
 ghost use Rattle.dwarf_expr.specs.Machine.{piece_of, setup_of};
 ghost use Rattle.dwarf_expr.specs.Steps.{input_of, with_status};
@@ -56,7 +57,7 @@ impl<R: Reader + Copy> Expression<R> {
         ensures text { result.text ≡ text_of R.bytes R.is_big self.0 }
         ensures object_address { result.store.object_address ≡ None }
         ensures maximum { result.store.maximum ≡ most_iterations }
-        ensures decodings { result.decodings ≡ 0 }
+        ensures unspent { IsUnspent result }
     {
         Evaluation::new(alloc, self.0, encoding)
     }
@@ -74,7 +75,7 @@ impl<R: Reader + Copy, A: Allocator + Copy> Evaluation<R, StoreOnHeap<A>> {
         ensures text { result.text ≡ text_of R.bytes R.is_big bytecode }
         ensures object_address { result.store.object_address ≡ None }
         ensures maximum { result.store.maximum ≡ most_iterations }
-        ensures decodings { result.decodings ≡ 0 }
+        ensures unspent { IsUnspent result }
     {
         Evaluation::new_in(
             bytecode,
@@ -115,7 +116,7 @@ impl<R: Reader + Copy, S: EvaluationStorage<R>> Evaluation<R, S> {
         ensures text { result.text ≡ text_of R.bytes R.is_big bytecode }
         ensures object_address { result.store.object_address ≡ None }
         ensures maximum { result.store.maximum ≡ most_iterations }
-        ensures decodings { result.decodings ≡ 0 }
+        ensures unspent { IsUnspent result }
     {
         Evaluation {
             machine: Machine::new_in(bytecode, encoding, stack, expression_stack, pieces),

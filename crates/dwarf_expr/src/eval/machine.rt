@@ -5,6 +5,7 @@ ghost use Rattle.dwarf_meaning.specs.Meaning.{has_pieces};
 ghost use Rattle.dwarf_meaning.specs.Rest.{Start};
 ghost use Rattle.dwarf_meaning.specs.Run.{can_count, counted, read};
 ghost use Rattle.dwarf_meaning.specs.Stores.{Plain, address_bits, push_value, push_piece};
+ghost use Rattle.dwarf_expr.specs.Bounds.{IsUnspent};
 ghost use Rattle.dwarf_expr.specs.Calls.{IsFresh, most_iterations, with_maximum, with_object};
 ghost use Rattle.dwarf_expr.specs.Machine.{last_of, piece_of, setup_of, status_of};
 ghost use Rattle.dwarf_expr.specs.Steps.{GoesBack, Jumps, Pops, Reads, Tries, TriesToEnter, is_running, with_last, with_status, with_store};
@@ -295,7 +296,7 @@ impl<R: Reader + Copy, S: EvaluationStorage<R>> Machine<R, S> {
         ensures object_address { result.store.object_address ≡ None }
         ensures maximum { result.store.maximum ≡ most_iterations }
         ensures fresh { IsFresh result None }
-        ensures decodings { result.decodings ≡ 0 }
+        ensures unspent { IsUnspent result }
     {
         Machine {
             state: EvaluationState::Start(None),

@@ -2,6 +2,7 @@ ghost use Rattle.std.specs.Prelude.{◌≡◌, ◌==◌, length, true, false, On
 ghost use Rattle.dwarf_meaning.specs.Meaning.{whole as meant_whole, completed, finish, finish_by, finish_free, finish_judged, finish_located, finish_value};
 ghost use Rattle.dwarf_meaning.specs.Rest.{Running, Start};
 ghost use Rattle.dwarf_meaning.specs.Run.{piece_of as meant_piece};
+ghost use Rattle.dwarf_meaning.specs.RunLaws.{waits_of};
 ghost use Rattle.dwarf_meaning.specs.Stores.{Located, push_piece};
 ghost use Rattle.dwarf_expr.specs.Calls.{IsTold, reply_of, told_of};
 ghost use Rattle.dwarf_expr.specs.Machine.{location_of, piece_of};
@@ -75,7 +76,7 @@ impl<R: Reader + Copy, S: EvaluationStorage<R>> Machine<R, S> {
 
     /// Ends the run with one more piece.
     fn complete(&mut self, piece: Piece<R>, value: Option<Value>) -> Result<()>
-        ensures { Closes (λ s. completed value (push_piece self.old.setup (piece_of (text_of R.bytes R.is_big) R.Offset.number piece) s)) self.old self.new result }
+        ensures { Closes 1 (λ s. completed value (push_piece self.old.setup (piece_of (text_of R.bytes R.is_big) R.Offset.number piece) s)) self.old self.new result }
     {
         self.push_piece(piece)?;
         self.enter(EvaluationState::Complete(value));
@@ -84,7 +85,7 @@ impl<R: Reader + Copy, S: EvaluationStorage<R>> Machine<R, S> {
 
     /// Ends the run with the value on top.
     fn finish_value(&mut self) -> Result<()>
-        ensures { Closes (finish_value self.old.setup) self.old self.new result }
+        ensures { Closes 0 (finish_value self.old.setup) self.old self.new result }
     {
         let Some(value) = self.pop() else {
             return Err(Error::NotEnoughStackItems);
@@ -95,7 +96,7 @@ impl<R: Reader + Copy, S: EvaluationStorage<R>> Machine<R, S> {
 
     /// Ends the run with a location that waits for a piece.
     fn finish_located(&mut self, location: Location<R>) -> Result<()>
-        ensures { Closes (finish_located self.old.setup (location_of (text_of R.bytes R.is_big) R.Offset.number location)) self.old self.new result }
+        ensures { Closes 1 (finish_located self.old.setup (location_of (text_of R.bytes R.is_big) R.Offset.number location)) self.old self.new result }
     {
         if self.has_pieces() {
             return Err(Error::InvalidPiece);
@@ -105,7 +106,7 @@ impl<R: Reader + Copy, S: EvaluationStorage<R>> Machine<R, S> {
 
     /// Ends the run behind an operation that may not follow pieces.
     fn finish_judged(&mut self) -> Result<()>
-        ensures { Closes (finish_judged self.old.setup) self.old self.new result }
+        ensures { Closes 0 (finish_judged self.old.setup) self.old self.new result }
     {
         if self.has_pieces() {
             return Err(Error::InvalidPiece);
@@ -115,7 +116,7 @@ impl<R: Reader + Copy, S: EvaluationStorage<R>> Machine<R, S> {
 
     /// Ends the run behind another operation.
     fn finish_free(&mut self) -> Result<()>
-        ensures { Closes (finish_free self.old.setup) self.old self.new result }
+        ensures { Closes 0 (finish_free self.old.setup) self.old self.new result }
     {
         if self.has_pieces() {
             self.enter(EvaluationState::Complete(None));
@@ -126,7 +127,7 @@ impl<R: Reader + Copy, S: EvaluationStorage<R>> Machine<R, S> {
 
     /// Ends the run.
     fn finish(&mut self) -> Result<()>
-        ensures { Closes (finish self.old.setup) self.old self.new result }
+        ensures { Closes (waits_of self.old.store.last) (finish self.old.setup) self.old self.new result }
     {
         match self.last() {
             LastOperation::Located(location) => self.finish_located(location),

@@ -8,4 +8,4 @@ returns-then-has_pieces g c = stands (finish_value c.args.self.now.setup) c.args
 
 pub returns : goal.returns
 returns g c =
-    closes_else (Unit {0}) (λ s. Completes s.pieces None) (finish_value c.args.self.now.setup) c.args.self.now c.finish_value.new.self c.finish_value.result (sym c.has_pieces.ensures ∙ c.if-has_pieces.false) c.finish_value.ensures
+    closes_else (Unit {0}) 0 (λ s. Completes s.pieces None) (finish_value c.args.self.now.setup) c.args.self.now c.finish_value.new.self c.finish_value.result (sym c.has_pieces.ensures ∙ c.if-has_pieces.false) c.finish_value.ensures

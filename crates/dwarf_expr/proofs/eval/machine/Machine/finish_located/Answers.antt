@@ -15,5 +15,5 @@ returns-then-has_pieces g c =
 pub returns : goal.returns
 returns g c =
     let piece = whole (location_of (text_of g.R.Reader.bytes g.R.Reader.is_big) g.R.Offset.ReaderOffset.number c.args.location) in
-    closes_else (Unit {0}) (λ s. Faults InvalidPiece) (λ s. completed None (push_piece c.args.self.now.setup piece s)) c.args.self.now c.complete.new.self c.complete.result (sym c.has_pieces.ensures ∙ c.if-has_pieces.false)
+    closes_else (Unit {0}) 1 (λ s. Faults InvalidPiece) (λ s. completed None (push_piece c.args.self.now.setup piece s)) c.args.self.now c.complete.new.self c.complete.result (sym c.has_pieces.ensures ∙ c.if-has_pieces.false)
     (closes_with (Unit {0}) None _ piece c.args.self.now c.complete.new.self c.complete.result c.whole.ensures c.complete.ensures)

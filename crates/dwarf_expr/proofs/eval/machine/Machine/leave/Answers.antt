@@ -1,5 +1,6 @@
 use Rattle.std.proofs.Common.{subst, Bool}
 use Rattle.dwarf_meaning.specs.Meaning.{finish}
+use Rattle.dwarf_meaning.specs.RunLaws.{waits_of}
 use Rattle.dwarf_meaning.specs.Rest.{State}
 use Rattle.dwarf_expr.specs.Steps.{GoesBack, Closes}
 use Rattle.dwarf_expr.proofs.Finishing.{back_turned, finish_turns}
@@ -11,4 +12,4 @@ returns-then-pop_frame g c = back_turned c.args.self.now c.requires.runs c.requi
 pub returns : goal.returns
 returns g c =
     let h = subst (λ (b : Bool). GoesBack b c.args.self.now c.pop_frame.new.self) c.if-pop_frame.false c.pop_frame.ensures in
-    finish_turns c.args.self.now c.requires.runs c.requires.ends (Unit {0}) c.finish.new.self c.finish.result h.0 (subst (λ (z : State). Closes (finish z.setup) z c.finish.new.self c.finish.result) h.1 c.finish.ensures)
+    finish_turns c.args.self.now c.requires.runs c.requires.ends (Unit {0}) c.finish.new.self c.finish.result h.0 (subst (λ (z : State). Closes (waits_of z.store.last) (finish z.setup) z c.finish.new.self c.finish.result) h.1 c.finish.ensures)

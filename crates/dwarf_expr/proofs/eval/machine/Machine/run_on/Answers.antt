@@ -1,6 +1,11 @@
 use Rattle.std.proofs.lemmas.Result.{err_from_is_err_and}
-use Rattle.dwarf_expr.proofs.Reaching.{reaches_more, falls_more}
+use Rattle.std.proofs.Common.{sym, subst}
+use Rattle.dwarf_expr.specs.Steps.{IsLive}
+use Rattle.dwarf_expr.proofs.Reaching.{reaches_here, reaches_more, falls_more}
 use Rattle.dwarf_expr.proofs.eval.machine.Machine.run_on.Goals as goal
+
+pub loop-self-init : goal.loop-self-init
+loop-self-init g c = (reaches_here c.args.self.now, subst IsLive (sym c.requires) tt)
 
 pub loop-self-preserved : goal.loop-self-preserved
 loop-self-preserved g c =

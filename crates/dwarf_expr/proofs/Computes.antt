@@ -7,7 +7,7 @@ use Rattle.dwarf_meaning.specs.Acts.{Refuses, on_top, on_answer, answer_of, shor
 use Rattle.dwarf_meaning.specs.Stores.{Plain, address_bits, push_value, Fails}
 use Rattle.dwarf_meaning.specs.Rest.{State, Running}
 use Rattle.dwarf_meaning.proofs.Choices.{top_none, top_some, answer_ok, answer_err}
-use Rattle.dwarf_expr.specs.Steps.{Gets, Pops, Tries, done_at, Performs, with_values}
+use Rattle.dwarf_expr.specs.inner.Steps.{Gets, Pops, Tries, done_at, Performs, with_values}
 use Rattle.dwarf_expr.proofs.Performances.{performs_as, performs_push, performs_refuses, PopsTwo}
 
 -- ---- the acts

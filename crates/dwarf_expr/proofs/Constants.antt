@@ -9,7 +9,7 @@ use Rattle.dwarf_meaning.specs.Operations as operation
 use Rattle.dwarf_meaning.specs.Acts.{act, unary}
 use Rattle.dwarf_meaning.specs.Stores.{Plain, address_bits, push_value, Fails}
 use Rattle.dwarf_meaning.specs.Rest.{State, Running}
-use Rattle.dwarf_expr.specs.Steps.{Gets, Pops, Tries, Performs, act_of, done_at}
+use Rattle.dwarf_expr.specs.inner.Steps.{Gets, Pops, Tries, Performs, act_of, done_at}
 use Rattle.dwarf_expr.proofs.Computes.{unary_none, unary_pushes, unary_refuses}
 use Rattle.dwarf_expr.proofs.Performances.{performs_as, performs_refuses}
 

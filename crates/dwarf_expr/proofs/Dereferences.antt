@@ -10,7 +10,7 @@ use Rattle.dwarf_meaning.specs.Requests.{RequiresMemory, Memory}
 use Rattle.dwarf_meaning.specs.Acts.{Act, Asks}
 use Rattle.dwarf_meaning.specs.Stores.{address_bits, Fails}
 use Rattle.dwarf_meaning.specs.Rest.{State}
-use Rattle.dwarf_expr.specs.Steps.{Gets, PopsTo, PopsNothing, Performs, act_of, done_at, with_values}
+use Rattle.dwarf_expr.specs.inner.Steps.{Gets, PopsTo, PopsNothing, Performs, act_of, done_at, with_values}
 use Rattle.dwarf_expr.proofs.ActCases.{wide_deref, none_deref, some_deref, one_deref, two_deref}
 use Rattle.dwarf_expr.proofs.Performances.{performs_as, performs_low, performs_refuses, popped_nothing}
 

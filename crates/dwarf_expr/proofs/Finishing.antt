@@ -15,7 +15,8 @@ use Rattle.dwarf_meaning.specs.Rest.{State, Status, Start, Running, Waits, Compl
 use Rattle.dwarf_meaning.proofs.Choices.{choose_true, choose_false, top_none, top_some}
 use Rattle.dwarf_meaning.proofs.Counts.{HasTally, OnStore, Tally, tally_of, tally-push_piece}
 use Rattle.dwarf_meaning.proofs.Turns.{run_turn}
-use Rattle.dwarf_expr.specs.Steps.{Gets, Does, Pops, before_pushes, GoesBack, Adds, FinishedBy, Closes, Keeps, IsLive, Turned, Turns, with_store, with_status, with_values}
+use Rattle.dwarf_expr.specs.Calls.{Keeps, with_status}
+use Rattle.dwarf_expr.specs.inner.Steps.{Gets, Does, Pops, before_pushes, GoesBack, Adds, FinishedBy, Closes, IsLive, Turned, Turns, with_store, with_values}
 use Rattle.dwarf_expr.proofs.Reaching.{rest_running, rest_complete, keeps_here, keeps_more, may_along}
 use Rattle.dwarf_expr.proofs.Loads.{Extended, piece_extends}
 use Rattle.dwarf_expr.proofs.Spending.{back_spends, over_spends}

@@ -8,9 +8,9 @@ use Rattle.dwarf_meaning.specs.Run.{Frame, Asking}
 use Rattle.dwarf_meaning.specs.Meaning.{Outcome, unwound, with_initial, course_from, meaning}
 use Rattle.dwarf_meaning.specs.Rest.{State, Status, Start, Running, Waits, Complete, Stopped, with_refusal, started, rest_by, rest}
 use Rattle.dwarf_expr.specs.Bounds.{Spends}
-use Rattle.dwarf_expr.specs.Steps.{before_pushes, Keeps, ReachesFrom, FallsFrom, IsOpen, RunsOn, Settles, TakesFar, after_input, input_of, with_status}
+use Rattle.dwarf_expr.specs.Calls.{Keeps, IsOpen, after_input, input_of, with_status, IsTold, IsLater, Follows, means, IsFresh}
+use Rattle.dwarf_expr.specs.inner.Steps.{before_pushes, ReachesFrom, FallsFrom, RunsOn, Settles, TakesFar}
 use Rattle.dwarf_meaning.specs.Steps.{Reply, Asked, reply}
-use Rattle.dwarf_expr.specs.Calls.{IsTold, IsLater, Follows, means, IsFresh}
 use Rattle.dwarf_expr.proofs.Refusals.{before_never, before_later}
 
 open_reply : (setup : Setup) (callers : List Frame) (request : Request) (frames : List Frame) (inputs : List Input) → reply (unwound setup callers (Asking request frames inputs)) ≡ Asked request

@@ -11,7 +11,7 @@ use Rattle.dwarf_meaning.specs.Run.{led, holds, held, piece_of, read, run, turn_
 use Rattle.dwarf_meaning.specs.Meaning.{unwound}
 use Rattle.dwarf_meaning.specs.Rest.{State, Running, with_refusal, running, rest}
 use Rattle.dwarf_meaning.proofs.Counts.{OnStore, KeepsBoth, Tally, tally_of, both-push_piece}
-use Rattle.dwarf_expr.specs.Steps.{Gets, Does, Tries, Reads, before_pushes, Falls, IsLive, Turned, Turns, read_to, with_last}
+use Rattle.dwarf_expr.specs.inner.Steps.{Gets, Does, Tries, Reads, before_pushes, Falls, IsLive, Turned, Turns, read_to, with_last}
 use Rattle.dwarf_expr.proofs.Loads.{Keeping, kept_in, piece_adds}
 use Rattle.dwarf_expr.proofs.Reaching.{rest_running, unwound_failed}
 use Rattle.dwarf_expr.proofs.Spending.{held_spends}

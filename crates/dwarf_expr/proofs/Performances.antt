@@ -10,7 +10,8 @@ use Rattle.dwarf_meaning.specs.Acts.{Act, Pushes, Branches, Locates, Ends, Asks,
 use Rattle.dwarf_meaning.specs.Stores.{Setup, Store, Never, Last, Plain, Pieced, Located, push_value, push_piece, push_values, Next, Goes, Stops, Fails, goes, branch_target, branch}
 use Rattle.dwarf_meaning.specs.Rest.{State, Status, Start, Running, Waits, Complete, Stopped, with_refusal}
 use Rattle.dwarf_meaning.proofs.Choices.{choose_true, choose_false}
-use Rattle.dwarf_expr.specs.Steps.{Gets, Tries, Pops, PopsNothing, Jumps, before_pushes, done_at, GoesOn, AsksFor, PerformedBy, Performs, with_store, with_values, with_status, with_last, with_place}
+use Rattle.dwarf_expr.specs.Calls.{with_status}
+use Rattle.dwarf_expr.specs.inner.Steps.{Gets, Tries, Pops, PopsNothing, Jumps, before_pushes, done_at, GoesOn, AsksFor, PerformedBy, Performs, with_store, with_values, with_last, with_place}
 use Rattle.dwarf_expr.proofs.Refusals.{tries_as, bind_ok}
 
 pub performs_as : {X : Type 0} (a b : Act) (old new : State) (result : Result X Error) → a ≡ b → Performs b old new result → Performs a old new result

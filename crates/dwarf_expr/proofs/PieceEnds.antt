@@ -8,7 +8,7 @@ use Rattle.dwarf_meaning.specs.Locations.{Empty, AtAddress}
 use Rattle.dwarf_meaning.specs.Acts.{Ends}
 use Rattle.dwarf_meaning.specs.Stores.{Pieced, address_bits, push_piece}
 use Rattle.dwarf_meaning.specs.Rest.{State, Running}
-use Rattle.dwarf_expr.specs.Steps.{PopsTo, PopsNothing, Tries, Performs, act_of, with_last, with_values}
+use Rattle.dwarf_expr.specs.inner.Steps.{PopsTo, PopsNothing, Tries, Performs, act_of, with_last, with_values}
 use Rattle.dwarf_expr.proofs.ActCases.{none_piece, some_piece}
 use Rattle.dwarf_expr.proofs.Performances.{performs_as, performs_ends}
 

@@ -4,7 +4,7 @@ use Rattle.std.specs.Prelude.{option_to_list, IfNone}
 use Rattle.std.proofs.lemmas.List.{reverse-append, append-nil}
 use Rattle.dwarf_value.specs.declared.types.Value.{Value}
 use Rattle.dwarf_meaning.specs.Rest.{State}
-use Rattle.dwarf_expr.specs.Steps.{Pops, with_values}
+use Rattle.dwarf_expr.specs.inner.Steps.{Pops, with_values}
 
 pub popped : (o : Option Value) (old_items new_items : List Value) (old new : State) → old_items ≡ new_items ++ option_to_list o → IfNone o (old_items ≡ []) → old.store.values ≡ reverse old_items → new ≡ with_values (reverse new_items) old → Pops o old new
 popped None old_items new_items old new h n e f =

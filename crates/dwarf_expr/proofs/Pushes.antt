@@ -8,7 +8,8 @@ use Rattle.dwarf_meaning.specs.Stores.{Limits, Setup, Store, Refusal, Never, Aft
 use Rattle.dwarf_meaning.specs.Rest.{with_refusal}
 use Rattle.dwarf_meaning.proofs.Choices.{choose_true, choose_false}
 use Rattle.dwarf_store.specs.Lists.{HasRoom, MayRefuse}
-use Rattle.dwarf_expr.specs.Steps.{MayPick, before_push, before_pushes, Steps, Gets}
+use Rattle.dwarf_expr.specs.Calls.{MayPick}
+use Rattle.dwarf_expr.specs.inner.Steps.{before_push, before_pushes, Steps, Gets}
 
 -- how many pushes on lists without a limit a push is
 abbrev pub cost : Option ℕ → ℕ

@@ -11,7 +11,8 @@ use Rattle.dwarf_meaning.specs.Run.{Frame, Failed}
 use Rattle.dwarf_meaning.specs.Meaning.{Faults, Completes, unwound, with_initial}
 use Rattle.dwarf_meaning.specs.Rest.{State, Status, Start, Running, Waits, Complete, Stopped, with_refusal, running, started, waits, rest_by, rest}
 use Rattle.dwarf_meaning.proofs.Counts.{HasTally, OnStore, Tally, tally_of, tally-push_value}
-use Rattle.dwarf_expr.specs.Steps.{MayPick, before_pushes, Gets, Does, Tries, Keeps, Reaches, Falls, Begins, Begun, RunsOn, IsLive, IsOpen, is_running, with_status}
+use Rattle.dwarf_expr.specs.Calls.{MayPick, Keeps, IsOpen, with_status}
+use Rattle.dwarf_expr.specs.inner.Steps.{before_pushes, Gets, Does, Tries, Reaches, Falls, Begins, Begun, RunsOn, IsLive, is_running}
 use Rattle.dwarf_expr.proofs.Refusals.{before_more, may_before}
 use Rattle.dwarf_expr.proofs.Loads.{HasLast, Keeping, kept_in, value_adds, value_last}
 use Rattle.dwarf_expr.proofs.Spending.{begun_spends, spends_here, spends_more}

@@ -5,7 +5,8 @@ use Rattle.dwarf_base.specs.Faults.{Fault, ◌>>=◌}
 use Rattle.dwarf_value.specs.declared.types.Value.{Value}
 use Rattle.dwarf_meaning.specs.Stores.{Limits, Setup, Store, Refusal, Never, After, push_value, push_values}
 use Rattle.dwarf_meaning.specs.Rest.{State, with_refusal}
-use Rattle.dwarf_expr.specs.Steps.{MayPick, before_push, before_pushes, Gets, Does, Tries, with_store}
+use Rattle.dwarf_expr.specs.Calls.{MayPick}
+use Rattle.dwarf_expr.specs.inner.Steps.{before_push, before_pushes, Gets, Does, Tries, with_store}
 
 pub before_more : (p q : ℕ) (r : Refusal) → before_pushes (p + q) r ≡ before_pushes p (before_pushes q r)
 before_more zero q r =

@@ -12,7 +12,8 @@ use Rattle.dwarf_meaning.specs.Run.{Frame, Course, End, Finished, Asking, Failed
 use Rattle.dwarf_meaning.specs.Meaning.{Requests, unwound}
 use Rattle.dwarf_meaning.specs.Rest.{State, Running, Waits, with_refusal, running}
 use Rattle.dwarf_meaning.proofs.Counts.{HasTally, OnStore, Tally, tally_of, tally-push_frame}
-use Rattle.dwarf_expr.specs.Steps.{before_input, before_pushes, Gets, Does, Tries, Enters, TriesToEnter, FallsFrom, RunsOn, after_input, input_of, Taken, Takes, TakesFar, with_last, with_status, with_values}
+use Rattle.dwarf_expr.specs.Calls.{before_input, after_input, input_of, with_status}
+use Rattle.dwarf_expr.specs.inner.Steps.{before_pushes, Gets, Does, Tries, Enters, TriesToEnter, FallsFrom, RunsOn, Taken, Takes, TakesFar, with_last, with_values}
 use Rattle.dwarf_expr.proofs.Light.{IsLightUse, use_light}
 use Rattle.dwarf_expr.proofs.Loads.{HasLast, Keeping, kept_in, value_adds, value_last, frame_adds, frame_last}
 use Rattle.dwarf_expr.proofs.Refusals.{before_more, may_before}

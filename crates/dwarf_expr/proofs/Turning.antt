@@ -12,7 +12,8 @@ use Rattle.dwarf_meaning.specs.Rest.{State, Status, Start, Running, Waits, Compl
 use Rattle.dwarf_meaning.proofs.Choices.{choose_true, choose_false}
 use Rattle.dwarf_meaning.proofs.Counts.{HasTally, OnNext, Tally, tally_of, tally-done}
 use Rattle.dwarf_meaning.proofs.Turns.{run_turn, below_most}
-use Rattle.dwarf_expr.specs.Steps.{Gets, Reads, before_pushes, act_of, done_at, GoesOn, AsksFor, PerformedBy, Performs, read_to, with_store, Keeps, Falls, IsFree, IsReady, IsLive, Turned, Turns, effort, effort_by}
+use Rattle.dwarf_expr.specs.Calls.{Keeps}
+use Rattle.dwarf_expr.specs.inner.Steps.{Gets, Reads, before_pushes, act_of, done_at, GoesOn, AsksFor, PerformedBy, Performs, read_to, with_store, Falls, IsFree, IsReady, IsLive, Turned, Turns, effort, effort_by}
 use Rattle.dwarf_expr.proofs.Light.{act_light}
 use Rattle.dwarf_expr.proofs.Loads.{IsLighter, kept_in, done_lighter}
 use Rattle.dwarf_expr.proofs.Reaching.{rest_running, rest_waits, unwound_failed}

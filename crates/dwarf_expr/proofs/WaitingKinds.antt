@@ -5,7 +5,7 @@ use Rattle.dwarf_meaning.specs.Kinds.{Kind, kind_of_request, kind_of_waiting}
 use Rattle.dwarf_meaning.specs.Rest as rest
 use Rattle.dwarf_meaning.specs.Rest.{Start, Running, Waits, Complete, Stopped}
 use Rattle.dwarf_expr.specs.Answers.{Shows, kind_of}
-use Rattle.dwarf_expr.specs.Stepping.{IsAskingFor}
+use Rattle.dwarf_expr.specs.inner.Stepping.{IsAskingFor}
 use Rattle.dwarf_expr.specs.declared.eval.states.Status.TheVariants as status
 use Rattle.dwarf_expr.specs.declared.eval.states.WaitingKind.{WaitingKind}
 use Rattle.dwarf_expr.specs.declared.eval.states.WaitingKind.TheVariants as kind

@@ -15,10 +15,9 @@ use Rattle.dwarf_meaning.specs.Run.{Frame}
 use Rattle.dwarf_meaning.specs.Meaning.{Outcome, Requests, Faults, Completes, First, meaning}
 use Rattle.dwarf_meaning.specs.Rest.{State, Status, Start, Running, Waits, Complete, Stopped, with_refusal, rest_by, rest}
 use Rattle.dwarf_meaning.specs.Steps.{Step, InitialValue, ObjectAddress, MaxIterations, Evaluate, Resume, Told, Reply, Completed, Faulted, reply, replies, IsEvaluable, Awaits, Allows, AllAllowed, begun, after, after_step, after_steps, answers, outcome_of, outcome_from, step_replies}
-use Rattle.dwarf_expr.specs.Calls.{IsTold, IsLater, Follows, first_of, means, IsClosed, Evaluates, Resumes, reply_of, with_object, with_maximum}
-use Rattle.dwarf_expr.specs.Steps.{MayPick, before_input, IsOpen, after_input, input_of, with_status}
+use Rattle.dwarf_expr.specs.Calls.{IsTold, IsLater, Follows, first_of, means, IsClosed, Evaluates, Resumes, reply_of, with_object, with_maximum, MayPick, before_input, IsOpen, after_input, input_of, with_status}
 use Rattle.dwarf_store.specs.Lists.{MayRefuse}
-use Rattle.dwarf_expr.specs.Stepping.{IsAskingFor, MayTake, IsSet, IsCalled, IsKept}
+use Rattle.dwarf_expr.specs.inner.Stepping.{IsAskingFor, MayTake, IsSet, IsCalled, IsKept}
 use Rattle.dwarf_expr.specs.Replays.{told_at, step_of, steps_of, reply_in, replies_in, IsAsking, IsStopped, AreSet, StandsAt, IsSpent, Walks, WalksAll, WalksTo, WalksOver}
 use Rattle.dwarf_expr.specs.declared.replay.steps.Step as code
 use Rattle.dwarf_expr.specs.declared.replay.steps.Answer as kept_answer

@@ -1,20 +1,62 @@
 -- What a call of an evaluation answers: the nested meaning, and what is left of it.
-use Rattle.std.specs.Prelude.{ℕ, zero, suc, ◌≡◌, List, [], Option, Result, Ok, Err}
+use Rattle.std.specs.Prelude.{ℕ, zero, suc, ◌≡◌, ◌⊎◌, List, [], ◌∷◌, Option, None, Result, Ok, Err}
 use Rattle.dwarf_base.specs.declared.errors.Error.{Error}
 use Rattle.dwarf_base.specs.Faults.{fault_of}
 use Rattle.dwarf_value.specs.declared.types.Value.{Value}
 use Rattle.dwarf_meaning.specs.Operations.{Text}
 use Rattle.dwarf_meaning.specs.Requests as asked
-use Rattle.dwarf_meaning.specs.Requests.{Request, Waiting, Input}
-use Rattle.dwarf_meaning.specs.Stores.{Refusal, Never, After}
+use Rattle.dwarf_meaning.specs.Requests.{Request, Waiting, Answer, Input}
+use Rattle.dwarf_meaning.specs.Stores.{Limits, Refusal, Never, After}
 use Rattle.dwarf_meaning.specs.Meaning.{Outcome, First, fresh, meaning}
 use Rattle.dwarf_meaning.specs.Rest.{State, Status, Start, Running, Waits, Complete, Stopped, rest}
 use Rattle.dwarf_meaning.specs.Steps.{Reply, Completed, Asked, Faulted, reply}
 use Rattle.dwarf_op.specs.Views.{reference_of}
 use Rattle.dwarf_expr.specs.Bounds.{Spends}
-use Rattle.dwarf_expr.specs.Steps.{MayPick, IsOpen, Keeps, after_input}
 use Rattle.dwarf_expr.specs.declared.op.results.EvaluationResult.{EvaluationResult}
 use Rattle.dwarf_expr.specs.declared.op.results.EvaluationResult.TheVariants as result
+
+-- ---- refusals, inputs and settings
+
+-- one of the lists has no limit
+abbrev pub HasFreeList : Limits → Type 0
+HasFreeList limits = (limits.values ≡ None) ⊎ (limits.frames ≡ None) ⊎ (limits.pieces ≡ None)
+
+-- only a push on a list without a limit may be refused before a limit is met
+abbrev pub MayPick : Limits → Refusal → Type 0
+MayPick limits Never = Unit {0}
+MayPick limits (After inputs pushes) = HasFreeList limits
+
+-- the refusal before an input is taken
+abbrev pub before_input : Refusal → Refusal
+before_input Never = Never
+before_input (After inputs pushes) = After (suc inputs) pushes
+
+-- an answer, with the settings as they stand
+abbrev pub input_of : State → Answer → Input
+input_of x answer = record { object_address = x.store.object_address; maximum = x.store.maximum; answer = answer }
+
+-- what comes of a state and its next input
+abbrev pub after_input : State → Input → Refusal → List Input → Outcome
+after_input x input r inputs = rest (before_input r) x (input ∷ inputs)
+
+-- the setup and the settings stay
+pub record Keeps (old new : State) : Type 0 where
+  pub setup : new.setup ≡ old.setup
+  pub object_address : new.store.object_address ≡ old.store.object_address
+  pub maximum : new.store.maximum ≡ old.store.maximum
+
+-- it waits or is complete
+abbrev pub IsOpen : Status → Type 0
+IsOpen (Waits request waiting) = Unit {0}
+IsOpen (Complete value) = Unit {0}
+IsOpen Running = ⊥
+IsOpen (Start initial_value) = ⊥
+IsOpen (Stopped error) = ⊥
+
+abbrev pub with_status : Status → State → State
+with_status status x = record x { status = status }
+
+-- ---- answers
 
 abbrev pub told_of : {R O P : Type 0} → (R → Text) → (O → ℕ) → EvaluationResult R O P → Reply
 told_of text number result.Complete = Completed

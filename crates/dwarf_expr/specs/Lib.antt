@@ -3,7 +3,5 @@ pub mod Bounds
 pub mod Calls
 pub mod Iteration
 pub mod Machine
-pub mod Operators
 pub mod Replays
-pub mod Stepping
-pub mod Steps
+pub mod inner

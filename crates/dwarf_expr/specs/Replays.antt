@@ -11,9 +11,8 @@ use Rattle.dwarf_meaning.specs.Rest.{State, Status, Start, Running, Waits, Compl
 use Rattle.dwarf_meaning.specs.Steps as meaning
 use Rattle.dwarf_meaning.specs.Steps.{Told, Reply, Allows, AllAllowed, answers, after_steps, outcome_of}
 use Rattle.dwarf_expr.specs.Bounds.{initial_items, SpendsInAll}
-use Rattle.dwarf_expr.specs.Calls.{first_of, reply_of}
+use Rattle.dwarf_expr.specs.Calls.{first_of, reply_of, MayPick}
 use Rattle.dwarf_store.specs.Lists.{MayRefuse}
-use Rattle.dwarf_expr.specs.Steps.{MayPick}
 use Rattle.dwarf_expr.specs.declared.replay.steps.Step.{Step}
 use Rattle.dwarf_expr.specs.declared.replay.steps.Step.TheVariants as step
 use Rattle.dwarf_expr.specs.declared.replay.steps.Answer.{Answer}

@@ -2,7 +2,7 @@
 use Rattle.std.proofs.Common.{ℕ, zero, suc, ◌+◌, ◌≡◌, ◌<◌, List, [], ◌∷◌, length, refl, subst, arith, slice_index_or}
 use Rattle.dwarf_base.specs.declared.common.Encoding.{Encoding}
 use Rattle.dwarf_meaning.specs.Opcodes.{Row, row_of}
-use Rattle.dwarf_op.specs.Entries.{entry_row}
+use Rattle.dwarf_op.specs.inner.Entries.{entry_row}
 use Rattle.dwarf_op.specs.declared.opcodes.TheConstants.{ENTRIES}
 use Rattle.dwarf_op.specs.declared.opcodes.Entry.{Entry}
 

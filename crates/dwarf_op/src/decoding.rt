@@ -5,8 +5,8 @@ ghost use Rattle.dwarf_base.specs.declared.common.Encoding.{Encoding};
 ghost use Rattle.dwarf_base.specs.Reads.{Gives, IsSuffix};
 ghost use Rattle.dwarf_meaning.specs.Operands.{context_of};
 ghost use Rattle.dwarf_meaning.specs.Decoding.{unsigned_at, integer_at, operands_at, operation_at};
-ghost use Rattle.dwarf_op.specs.Entries.{unsigned_form, signed_form, offset_form, register_at, entry_row};
-ghost use Rattle.dwarf_op.specs.Entries as entries;
+ghost use Rattle.dwarf_op.specs.inner.Entries.{unsigned_form, signed_form, offset_form, register_at, entry_row};
+ghost use Rattle.dwarf_op.specs.inner.Entries as entries;
 ghost use Rattle.dwarf_op.specs.Views.{operation_of, text_of};
 
 use crate::opcodes::{

@@ -5,7 +5,8 @@ ghost use Rattle.dwarf_meaning.specs.Requests as asked;
 ghost use Rattle.dwarf_meaning.specs.Rest.{Running};
 ghost use Rattle.dwarf_meaning.specs.Stores.{Pushed, push_value};
 ghost use Rattle.dwarf_expr.specs.Answers.{IsWaitingFor, IsWaitingTo, answer_of};
-ghost use Rattle.dwarf_expr.specs.Steps.{Takes, TakesFar, Tries, with_last, with_status};
+ghost use Rattle.dwarf_expr.specs.Calls.{with_status};
+ghost use Rattle.dwarf_expr.specs.inner.Steps.{Takes, TakesFar, Tries, with_last};
 ghost use Rattle.dwarf_op.specs.Views.{text_of};
 
 use crate::eval::machine::Machine;

@@ -5,9 +5,8 @@ ghost use Rattle.dwarf_meaning.specs.Requests as asked;
 ghost use Rattle.dwarf_meaning.specs.Rest.{Start, Complete};
 ghost use Rattle.dwarf_expr.specs.Answers.{IsOpenFor, Permits, Shows, answer_of};
 ghost use Rattle.dwarf_expr.specs.Bounds.{IsUnspent};
-ghost use Rattle.dwarf_expr.specs.Calls.{Evaluates, HasResult, IsClosed, IsComplete, Resumes, most_iterations, with_maximum, with_object};
+ghost use Rattle.dwarf_expr.specs.Calls.{Evaluates, HasResult, IsClosed, IsComplete, Resumes, most_iterations, with_maximum, with_object, input_of, with_status};
 ghost use Rattle.dwarf_expr.specs.Machine.{piece_of, setup_of};
-ghost use Rattle.dwarf_expr.specs.Steps.{input_of, with_status};
 ghost use Rattle.dwarf_op.specs.Views.{text_of};
 
 use crate::eval::machine::Machine;

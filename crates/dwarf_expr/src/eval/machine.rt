@@ -6,9 +6,9 @@ ghost use Rattle.dwarf_meaning.specs.Rest.{Start};
 ghost use Rattle.dwarf_meaning.specs.Run.{can_count, counted, read};
 ghost use Rattle.dwarf_meaning.specs.Stores.{Plain, address_bits, push_value, push_piece};
 ghost use Rattle.dwarf_expr.specs.Bounds.{IsUnspent};
-ghost use Rattle.dwarf_expr.specs.Calls.{IsFresh, most_iterations, with_maximum, with_object};
+ghost use Rattle.dwarf_expr.specs.Calls.{IsFresh, most_iterations, with_maximum, with_object, with_status};
 ghost use Rattle.dwarf_expr.specs.Machine.{last_of, piece_of, setup_of, status_of};
-ghost use Rattle.dwarf_expr.specs.Steps.{GoesBack, Jumps, Pops, Reads, Tries, TriesToEnter, is_running, with_last, with_status, with_store};
+ghost use Rattle.dwarf_expr.specs.inner.Steps.{GoesBack, Jumps, Pops, Reads, Tries, TriesToEnter, is_running, with_last, with_store};
 ghost use Rattle.dwarf_op.specs.Views.{operation_of, text_of};
 
 use crate::eval::states::{EvaluationState, LastOperation};

@@ -4,8 +4,8 @@ ghost use Rattle.dwarf_meaning.specs.Operations as meaning;
 ghost use Rattle.dwarf_meaning.specs.Rest.{Running};
 ghost use Rattle.dwarf_meaning.specs.Stores.{Plain, address_bits, push_value, push_values};
 ghost use Rattle.dwarf_expr.specs.Machine.{location_of, request_of, waiting_of};
-ghost use Rattle.dwarf_expr.specs.Operators.{binary_of, unary_of};
-ghost use Rattle.dwarf_expr.specs.Steps.{Performs, PopsNumber, Tries, act_of};
+ghost use Rattle.dwarf_expr.specs.inner.Operators.{binary_of, unary_of};
+ghost use Rattle.dwarf_expr.specs.inner.Steps.{Performs, PopsNumber, Tries, act_of};
 ghost use Rattle.dwarf_op.specs.Views.{operation_of, text_of};
 
 use crate::eval::machine::Machine;

@@ -1,6 +1,6 @@
 ghost use Rattle.std.specs.Prelude.{◌≡◌};
 ghost use Rattle.dwarf_value.specs.Values.{IsAddressMask, width_of};
-ghost use Rattle.dwarf_expr.specs.Operators.{binary_of, unary_of};
+ghost use Rattle.dwarf_expr.specs.inner.Operators.{binary_of, unary_of};
 
 use dwarf_base::Result;
 use dwarf_value::Value;

@@ -4,9 +4,9 @@ ghost use Rattle.dwarf_meaning.specs.Rest.{Running, Start};
 ghost use Rattle.dwarf_meaning.specs.Run.{piece_of as meant_piece};
 ghost use Rattle.dwarf_meaning.specs.RunLaws.{waits_of};
 ghost use Rattle.dwarf_meaning.specs.Stores.{Located, push_piece};
-ghost use Rattle.dwarf_expr.specs.Calls.{IsTold, reply_of, told_of};
+ghost use Rattle.dwarf_expr.specs.Calls.{IsTold, reply_of, told_of, IsOpen};
 ghost use Rattle.dwarf_expr.specs.Machine.{location_of, piece_of};
-ghost use Rattle.dwarf_expr.specs.Steps.{Begins, Closes, IsOpen, IsReady, RunsOn, Settles, Turns};
+ghost use Rattle.dwarf_expr.specs.inner.Steps.{Begins, Closes, IsReady, RunsOn, Settles, Turns};
 ghost use Rattle.dwarf_op.specs.Views.{operation_of, text_of};
 
 use crate::eval::machine::Machine;

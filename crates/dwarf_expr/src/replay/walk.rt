@@ -3,7 +3,7 @@ ghost use Rattle.dwarf_meaning.specs.Kinds.{kind_of_answer};
 ghost use Rattle.dwarf_meaning.specs.Rest.{Start};
 ghost use Rattle.dwarf_expr.specs.Answers.{IsOpenFor, answer_of};
 ghost use Rattle.dwarf_expr.specs.Replays.{Replays, step_of};
-ghost use Rattle.dwarf_expr.specs.Stepping.{Comes, IsAskingFor, Keeps};
+ghost use Rattle.dwarf_expr.specs.inner.Stepping.{Comes, IsAskingFor, Keeps};
 ghost use Rattle.dwarf_op.specs.Views.{text_of};
 ghost use Rattle.dwarf_meaning.specs.Steps as meaning;
 

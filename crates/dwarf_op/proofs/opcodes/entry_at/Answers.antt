@@ -1,6 +1,6 @@
 use Rattle.std.proofs.Common.{◌≡◌, ℕ, arith, slice_index_or, sym, subst}
 use Rattle.dwarf_meaning.specs.Opcodes.{row_of}
-use Rattle.dwarf_op.specs.Entries.{entry_row}
+use Rattle.dwarf_op.specs.inner.Entries.{entry_row}
 use Rattle.dwarf_op.specs.declared.opcodes.TheConstants.{ENTRIES}
 use Rattle.dwarf_op.specs.declared.opcodes.Entry.TheVariants.{Unknown}
 use Rattle.dwarf_op.proofs.EntryRows.{entry_is_row}

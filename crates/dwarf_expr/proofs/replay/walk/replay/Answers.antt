@@ -1,7 +1,7 @@
 use Rattle.std.proofs.Common.{ℕ, suc, ◌≡◌, ◌+◌, List, [], Err, length, take, arith, ◌∙◌, sym, refl, subst}
 use Rattle.std.proofs.lemmas.Option.{slice_get_read}
 use Rattle.dwarf_expr.specs.Replays.{replies_in, step_of, steps_of}
-use Rattle.dwarf_expr.specs.Stepping.{Keeps}
+use Rattle.dwarf_expr.specs.inner.Stepping.{Keeps}
 use Rattle.dwarf_expr.specs.declared.replay.walk.Stop.{Stop}
 use Rattle.dwarf_op.specs.Views.{text_of}
 use Rattle.dwarf_expr.proofs.Walks.{Went, went_at_first, kept_on, stopped, overflowed, taken_all}

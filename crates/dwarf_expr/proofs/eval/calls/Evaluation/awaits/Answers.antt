@@ -1,7 +1,7 @@
 use Rattle.std.proofs.Common.{◌∙◌, sym, subst}
 use denote.Enum.Bare.{same_true, true_same}
 use Rattle.dwarf_meaning.specs.Kinds.{Kind}
-use Rattle.dwarf_expr.specs.Stepping.{IsAskingFor}
+use Rattle.dwarf_expr.specs.inner.Stepping.{IsAskingFor}
 use Rattle.dwarf_expr.specs.contracts.eval.states.WaitingKind.{the_type}
 use Rattle.dwarf_expr.proofs.WaitingKinds.{asks, is_asked}
 use Rattle.dwarf_expr.proofs.eval.calls.Evaluation.awaits.Goals as goal

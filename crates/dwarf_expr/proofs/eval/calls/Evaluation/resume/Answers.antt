@@ -1,8 +1,7 @@
 use Rattle.std.proofs.Common.{subst}
 use Rattle.dwarf_meaning.specs.Rest.{State}
 use Rattle.dwarf_expr.specs.Answers.{answer_of}
-use Rattle.dwarf_expr.specs.Calls.{Resumes, reply_of}
-use Rattle.dwarf_expr.specs.Steps.{input_of}
+use Rattle.dwarf_expr.specs.Calls.{Resumes, reply_of, input_of}
 use Rattle.dwarf_op.specs.Views.{text_of}
 use Rattle.dwarf_expr.proofs.Following.{resume_follows}
 use Rattle.dwarf_expr.proofs.eval.calls.Evaluation.resume.Goals as goal

@@ -1,5 +1,5 @@
 use Rattle.dwarf_value.specs.Values.{width_of}
-use Rattle.dwarf_expr.specs.Operators.{binary_of}
+use Rattle.dwarf_expr.specs.inner.Operators.{binary_of}
 use Rattle.dwarf_expr.proofs.Performances.{performs_refuses, pops_one, pops_two}
 use Rattle.dwarf_expr.proofs.Computes.{binary_none, binary_one, binary_pushes, binary_refuses}
 use Rattle.dwarf_expr.proofs.eval.machine.Machine.compute_binary.Goals as goal

@@ -1,5 +1,5 @@
 use Rattle.dwarf_value.specs.Values.{width_of}
-use Rattle.dwarf_expr.specs.Operators.{unary_of}
+use Rattle.dwarf_expr.specs.inner.Operators.{unary_of}
 use Rattle.dwarf_expr.proofs.Performances.{performs_refuses}
 use Rattle.dwarf_expr.proofs.Computes.{unary_none, unary_pushes, unary_refuses}
 use Rattle.dwarf_expr.proofs.eval.machine.Machine.compute_unary.Goals as goal

@@ -2,7 +2,7 @@ use Rattle.std.proofs.Common.{subst, sym}
 use Rattle.std.proofs.lemmas.Result.{err_from_is_err_and}
 use Rattle.dwarf_base.specs.Faults.{fault_of}
 use Rattle.dwarf_base.specs.declared.errors.Error.{Error}
-use Rattle.dwarf_expr.specs.Steps.{Falls}
+use Rattle.dwarf_expr.specs.inner.Steps.{Falls}
 use Rattle.dwarf_expr.proofs.Turning.{ready_none, counted_turns, unread_turns}
 use Rattle.dwarf_expr.proofs.eval.machine.Machine.count_operation.Goals as goal
 

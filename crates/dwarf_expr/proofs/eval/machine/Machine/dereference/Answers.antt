@@ -1,7 +1,7 @@
 use Rattle.std.proofs.Common.{Bool, subst, sym, arith}
 use Rattle.std.proofs.lemmas.Result.{err_from_is_err_and}
 use Rattle.dwarf_meaning.specs.Operations as operation
-use Rattle.dwarf_expr.specs.Steps.{Performs, act_of}
+use Rattle.dwarf_expr.specs.inner.Steps.{Performs, act_of}
 use Rattle.dwarf_expr.proofs.Dereferences.{too_wide, no_address, asks_memory, no_space, asks_space}
 use Rattle.dwarf_expr.proofs.eval.machine.Machine.dereference.Goals as goal
 

@@ -2,7 +2,7 @@ use Rattle.std.proofs.Common.{ap, ◌∙◌, [], Ok}
 use Rattle.dwarf_meaning.specs.Operations as operation
 use Rattle.dwarf_meaning.specs.Acts.{Pushes}
 use Rattle.dwarf_meaning.specs.Stores.{Plain, address_bits}
-use Rattle.dwarf_expr.specs.Steps.{act_of, with_last}
+use Rattle.dwarf_expr.specs.inner.Steps.{act_of, with_last}
 use Rattle.dwarf_expr.proofs.ActCases.{none_drop, some_drop}
 use Rattle.dwarf_expr.proofs.Performances.{performs_as, performs_none, performs_refuses}
 use Rattle.dwarf_expr.proofs.eval.machine.Machine.drop_top.Goals as goal

@@ -1,7 +1,7 @@
 use Rattle.std.proofs.Common.{refl, subst, [], ◌∷◌}
 use Rattle.dwarf_meaning.specs.Stores.{Plain, push_value, push_values}
 use Rattle.dwarf_meaning.specs.Rest.{State}
-use Rattle.dwarf_expr.specs.Steps.{Tries, with_last}
+use Rattle.dwarf_expr.specs.inner.Steps.{Tries, with_last}
 use Rattle.dwarf_expr.proofs.Refusals.{does_then, tries_as}
 use Rattle.dwarf_expr.proofs.eval.machine.Machine.push_three.Goals as goal
 

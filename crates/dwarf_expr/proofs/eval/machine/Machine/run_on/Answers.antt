@@ -1,6 +1,6 @@
 use Rattle.std.proofs.lemmas.Result.{err_from_is_err_and}
 use Rattle.std.proofs.Common.{sym, subst}
-use Rattle.dwarf_expr.specs.Steps.{IsLive}
+use Rattle.dwarf_expr.specs.inner.Steps.{IsLive}
 use Rattle.dwarf_expr.proofs.Reaching.{reaches_here, reaches_more, falls_more}
 use Rattle.dwarf_expr.proofs.eval.machine.Machine.run_on.Goals as goal
 

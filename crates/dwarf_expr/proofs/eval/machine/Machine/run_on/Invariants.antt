@@ -1,4 +1,4 @@
-use Rattle.dwarf_expr.specs.Steps.{Reaches, IsLive, effort}
+use Rattle.dwarf_expr.specs.inner.Steps.{Reaches, IsLive, effort}
 use Rattle.dwarf_expr.proofs.eval.machine.Machine.run_on.Given as goal
 
 -- what comes of the state at the call is what comes of the state now

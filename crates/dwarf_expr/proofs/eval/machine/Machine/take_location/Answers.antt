@@ -2,7 +2,7 @@ use Rattle.std.proofs.Common.{sym, ap, ◌∙◌}
 use Rattle.dwarf_meaning.specs.Kinds as kind
 use Rattle.dwarf_meaning.specs.Requests.{LocationAnswer}
 use Rattle.dwarf_meaning.specs.Stores.{Called}
-use Rattle.dwarf_expr.specs.Steps.{with_last}
+use Rattle.dwarf_expr.specs.inner.Steps.{with_last}
 use Rattle.dwarf_op.specs.Views.{text_of}
 use Rattle.dwarf_expr.proofs.AnswerUses.{open_for, location_calls}
 use Rattle.dwarf_expr.proofs.Resuming.{empty_takes, text_takes}

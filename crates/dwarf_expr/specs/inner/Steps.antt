@@ -1,5 +1,5 @@
--- What the parts of an evaluation do to its state.
-use Rattle.std.specs.Prelude.{ℕ, zero, suc, ◌+◌, ◌-◌, ◌*◌, ◌<◌, ◌≤◌, ◌≡◌, ◌⊎◌, ◌==◌, Bool, true, false, List, [], ◌∷◌, Option, Some, None, Result, Ok, Err, length}
+-- What the parts of an evaluation do to its state. Private contracts alone cite this file.
+use Rattle.std.specs.Prelude.{ℕ, zero, suc, ◌+◌, ◌-◌, ◌*◌, ◌<◌, ◌≤◌, ◌≡◌, ◌==◌, Bool, true, false, List, [], ◌∷◌, Option, Some, None, Result, Ok, Err, length}
 use Rattle.dwarf_base.specs.declared.errors.Error.{Error}
 use Rattle.dwarf_base.specs.declared.errors.Error.TheVariants.{BadBranchTarget, NotEnoughStackItems}
 use Rattle.dwarf_base.specs.Faults.{Fault, fault_of}
@@ -14,17 +14,9 @@ use Rattle.dwarf_meaning.specs.Run.{Frame, read, most}
 use Rattle.dwarf_meaning.specs.Meaning.{Outcome, Faults, Completes}
 use Rattle.dwarf_meaning.specs.Rest.{State, Status, Start, Running, Waits, Complete, Stopped, with_refusal, rest}
 use Rattle.dwarf_expr.specs.Bounds.{Spends}
+use Rattle.dwarf_expr.specs.Calls.{MayPick, input_of, after_input, Keeps, IsOpen, with_status}
 
 -- ---- refusals
-
--- one of the lists has no limit
-abbrev pub HasFreeList : Limits → Type 0
-HasFreeList limits = (limits.values ≡ None) ⊎ (limits.frames ≡ None) ⊎ (limits.pieces ≡ None)
-
--- only a push on a list without a limit may be refused before a limit is met
-abbrev pub MayPick : Limits → Refusal → Type 0
-MayPick limits Never = Unit {0}
-MayPick limits (After inputs pushes) = HasFreeList limits
 
 -- the refusal before a push on a list without a limit
 abbrev pub before_push : Refusal → Refusal
@@ -36,11 +28,6 @@ before_push (After (suc inputs) pushes) = After (suc inputs) pushes
 abbrev pub before_pushes : ℕ → Refusal → Refusal
 before_pushes zero refusal = refusal
 before_pushes (suc pushes) refusal = before_push (before_pushes pushes refusal)
-
--- the refusal before an input is taken
-abbrev pub before_input : Refusal → Refusal
-before_input Never = Never
-before_input (After inputs pushes) = After (suc inputs) pushes
 
 -- ---- steps
 
@@ -60,9 +47,6 @@ with_store s x = record x { store = s }
 
 abbrev pub with_values : List Value → State → State
 with_values values x = record x { store = record x.store { values = values } }
-
-abbrev pub with_status : Status → State → State
-with_status status x = record x { status = status }
 
 abbrev pub with_last : Last → State → State
 with_last last x = record x { store = record x.store { last = last } }
@@ -150,12 +134,6 @@ Performs a old new (Err e) = Gets old.setup.limits (done_at a old) old.store (Fa
 
 -- ---- turns
 
--- the setup and the settings stay
-pub record Keeps (old new : State) : Type 0 where
-  pub setup : new.setup ≡ old.setup
-  pub object_address : new.store.object_address ≡ old.store.object_address
-  pub maximum : new.store.maximum ≡ old.store.maximum
-
 -- what comes of the one state is what comes of the other, to which it came by so many pushes
 pub record Reaches (old new : State) : Type 0 where
   pub pushes : ℕ
@@ -225,14 +203,6 @@ IsLive (Complete value) = Unit {0}
 IsLive (Start initial_value) = ⊥
 IsLive (Stopped error) = ⊥
 
--- it waits or is over
-abbrev pub IsOpen : Status → Type 0
-IsOpen (Waits request waiting) = Unit {0}
-IsOpen (Complete value) = Unit {0}
-IsOpen Running = ⊥
-IsOpen (Start initial_value) = ⊥
-IsOpen (Stopped error) = ⊥
-
 pub record Turned (old new : State) : Type 0 where
   pub reaches : Reaches old new
   pub less : effort new < effort old
@@ -281,14 +251,6 @@ pub record FallsFrom (limits : Limits) (outcomes : Refusal → List Input → Ou
   pub refusal : Refusal
   pub may : MayPick limits refusal
   pub same : (inputs : List Input) → outcomes refusal inputs ≡ Faults fault
-
--- what comes of a state and its next input
-abbrev pub after_input : State → Input → Refusal → List Input → Outcome
-after_input x input r inputs = rest (before_input r) x (input ∷ inputs)
-
--- an answer, with the settings as they stand
-abbrev pub input_of : State → Answer → Input
-input_of x answer = record { object_address = x.store.object_address; maximum = x.store.maximum; answer = answer }
 
 pub record Taken (answer : Answer) (old new : State) : Type 0 where
   pub reaches : ReachesFrom old (after_input old (input_of old answer)) new

@@ -5,9 +5,8 @@ use Rattle.dwarf_meaning.specs.Operations.{Text}
 use Rattle.dwarf_meaning.specs.Kinds.{Kind, kind_of_request, kind_of_answer}
 use Rattle.dwarf_meaning.specs.Rest.{State, Status, Start, Running, Waits, Complete, Stopped}
 use Rattle.dwarf_meaning.specs.Steps.{Step, InitialValue, ObjectAddress, MaxIterations, Evaluate, Resume}
-use Rattle.dwarf_expr.specs.Calls.{Evaluates, Resumes, IsClosed, with_object, with_maximum}
+use Rattle.dwarf_expr.specs.Calls.{Evaluates, Resumes, IsClosed, with_object, with_maximum, input_of, with_status}
 use Rattle.dwarf_store.specs.Lists.{MayRefuse}
-use Rattle.dwarf_expr.specs.Steps.{input_of, with_status}
 use Rattle.dwarf_expr.specs.declared.op.results.EvaluationResult.{EvaluationResult}
 use Rattle.dwarf_expr.specs.declared.replay.steps.Answer.{Answer}
 use Rattle.dwarf_expr.specs.declared.replay.walk.Outcome.{Outcome}

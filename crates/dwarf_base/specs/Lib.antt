@@ -1,7 +1,9 @@
 pub mod ByteOrder
 pub mod EndianSlice
+pub mod Equality
 pub mod Faults
 pub mod Fronts
 pub mod Leb
 pub mod Numbers
 pub mod Reads
+pub mod StandardNumbers

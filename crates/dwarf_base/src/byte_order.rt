@@ -21,13 +21,21 @@ pub struct LittleEndian;
 pub struct BigEndian;
 
 /// A byte order that is known when the program runs.
-#[derive(Clone, Copy, Debug, Default, PartialEq, Eq, Hash)]
+#[derive(Clone, Copy, Debug, PartialEq, Eq, Hash)]
 pub enum RunTimeEndian {
     /// The lowest byte of a number comes first.
-    #[default]
     Little,
     /// The highest byte of a number comes first.
     Big,
+}
+
+impl Default for RunTimeEndian {
+    ghost is_default = { λ order. is_big_of order ≡ false };
+
+    /// The lowest byte first.
+    fn default() -> Self {
+        RunTimeEndian::Little
+    }
 }
 
 impl Endianity for LittleEndian {

@@ -4,11 +4,15 @@
 mod byte_order;
 mod common;
 pub mod constants;
+mod equality;
+#[cfg(test)]
+mod equality_tests;
 mod errors;
 mod laws;
 mod offsets;
 mod reading;
 mod slices;
+mod standard;
 #[cfg(test)]
 mod tests;
 
@@ -17,8 +21,10 @@ pub use common::{
     DebugAddrIndex, DebugInfoOffset, Encoding, Format, ReaderOffsetId, Register, UnitOffset,
 };
 pub use constants::{DwAte, DwOp};
+pub use equality::{equality_laws, offset_equality_laws, slice_equality_laws};
 pub use errors::{Error, Result};
 pub use laws::reader_laws;
 pub use offsets::ReaderOffset;
 pub use reading::Reader;
 pub use slices::EndianSlice;
+pub use standard::constant_laws;

@@ -1,4 +1,4 @@
-ghost use Rattle.std.specs.Prelude.{◌≡◌, ℕ, Bool, List, [], length, ◌-◌, ◌%◌, ◌^◌, ◌<◌, ◌==◌, IfOk, IsTrue};
+ghost use Rattle.std.specs.Prelude.{◌≡◌, ℕ, Bool, List, [], length, ◌-◌, ◌%◌, ◌^◌, ◌<◌, ◌==◌, IfOk, OnErr, IsTrue};
 ghost use Rattle.dwarf_base.specs.Leb.{uleb_at, uleb_u32_at, sleb_at, leb_from, unsigned_leb, signed_leb};
 ghost use Rattle.dwarf_base.specs.Reads.{Gives, IsSuffix, u8_at, split_at, skip_at, fixed_at, signed_at, address_at, format_at, is_fixed_size};
 
@@ -11,7 +11,8 @@ use std::fmt::Debug;
 ///
 /// What a read answers depends on the bytes that it takes, the byte order and its arguments alone, but for
 /// the identifier that `UnexpectedEof` carries. After an `Ok` the reader is behind those bytes. After an
-/// `Err` it is at some suffix of the bytes that it had. No call takes memory.
+/// `Err` of a single read it is where it was; of a number that is made of several reads, or that has to fit, it is
+/// at some suffix of the bytes that it had. No call takes memory.
 pub trait Reader: Debug {
     /// How it counts bytes.
     type Offset: ReaderOffset;
@@ -43,6 +44,7 @@ pub trait Reader: Debug {
     /// Drops the first `len` bytes. `UnexpectedEof` where there are fewer.
     fn skip(&mut self, len: Self::Offset) -> Result<()>
         ensures value { Gives (λ x. x) result (bytes self.new) (skip_at (Self.Offset.number len) (bytes self.old)) }
+        ensures kept { OnErr result (bytes self.new ≡ bytes self.old) }
         ensures rest { IsSuffix (bytes self.new) (bytes self.old) }
         ensures order { is_big self.new ≡ is_big self.old };
 
@@ -50,12 +52,14 @@ pub trait Reader: Debug {
     fn split(&mut self, len: Self::Offset) -> Result<Self>
         ensures value { Gives bytes result (bytes self.new) (split_at (Self.Offset.number len) (bytes self.old)) }
         ensures front_order { IfOk result (λ front. is_big front ≡ is_big self.old) }
+        ensures kept { OnErr result (bytes self.new ≡ bytes self.old) }
         ensures rest { IsSuffix (bytes self.new) (bytes self.old) }
         ensures order { is_big self.new ≡ is_big self.old };
 
     /// Reads one byte. `UnexpectedEof` where there is none.
     fn read_u8(&mut self) -> Result<u8>
         ensures value { Gives (λ n. n) result (bytes self.new) (u8_at (bytes self.old)) }
+        ensures kept { OnErr result (bytes self.new ≡ bytes self.old) }
         ensures rest { IsSuffix (bytes self.new) (bytes self.old) }
         ensures order { is_big self.new ≡ is_big self.old };
 
@@ -64,6 +68,7 @@ pub trait Reader: Debug {
         requires { IsTrue (is_fixed_size n) }
         ensures value { Gives (λ x. x) result (bytes self.new) (fixed_at (is_big self.old) n (bytes self.old)) }
         ensures fits { IfOk result (λ number. number < 256 ^ n) }
+        ensures kept { OnErr result (bytes self.new ≡ bytes self.old) }
         ensures rest { IsSuffix (bytes self.new) (bytes self.old) }
         ensures order { is_big self.new ≡ is_big self.old };
 
@@ -71,6 +76,7 @@ pub trait Reader: Debug {
     #[inline]
     fn read_u16(&mut self) -> Result<u16>
         ensures value { Gives (λ x. x) result (bytes self.new) (fixed_at (is_big self.old) 2 (bytes self.old)) }
+        ensures kept { OnErr result (bytes self.new ≡ bytes self.old) }
         ensures rest { IsSuffix (bytes self.new) (bytes self.old) }
         ensures order { is_big self.new ≡ is_big self.old }
     {
@@ -82,6 +88,7 @@ pub trait Reader: Debug {
     #[inline]
     fn read_u32(&mut self) -> Result<u32>
         ensures value { Gives (λ x. x) result (bytes self.new) (fixed_at (is_big self.old) 4 (bytes self.old)) }
+        ensures kept { OnErr result (bytes self.new ≡ bytes self.old) }
         ensures rest { IsSuffix (bytes self.new) (bytes self.old) }
         ensures order { is_big self.new ≡ is_big self.old }
     {
@@ -93,6 +100,7 @@ pub trait Reader: Debug {
     #[inline]
     fn read_u64(&mut self) -> Result<u64>
         ensures value { Gives (λ x. x) result (bytes self.new) (fixed_at (is_big self.old) 8 (bytes self.old)) }
+        ensures kept { OnErr result (bytes self.new ≡ bytes self.old) }
         ensures rest { IsSuffix (bytes self.new) (bytes self.old) }
         ensures order { is_big self.new ≡ is_big self.old }
     {
@@ -103,6 +111,7 @@ pub trait Reader: Debug {
     #[inline]
     fn read_i8(&mut self) -> Result<i8>
         ensures value { Gives (λ x. x) result (bytes self.new) (signed_at (is_big self.old) 1 (bytes self.old)) }
+        ensures kept { OnErr result (bytes self.new ≡ bytes self.old) }
         ensures rest { IsSuffix (bytes self.new) (bytes self.old) }
         ensures order { is_big self.new ≡ is_big self.old }
     {
@@ -114,6 +123,7 @@ pub trait Reader: Debug {
     #[inline]
     fn read_i16(&mut self) -> Result<i16>
         ensures value { Gives (λ x. x) result (bytes self.new) (signed_at (is_big self.old) 2 (bytes self.old)) }
+        ensures kept { OnErr result (bytes self.new ≡ bytes self.old) }
         ensures rest { IsSuffix (bytes self.new) (bytes self.old) }
         ensures order { is_big self.new ≡ is_big self.old }
     {
@@ -125,6 +135,7 @@ pub trait Reader: Debug {
     #[inline]
     fn read_i32(&mut self) -> Result<i32>
         ensures value { Gives (λ x. x) result (bytes self.new) (signed_at (is_big self.old) 4 (bytes self.old)) }
+        ensures kept { OnErr result (bytes self.new ≡ bytes self.old) }
         ensures rest { IsSuffix (bytes self.new) (bytes self.old) }
         ensures order { is_big self.new ≡ is_big self.old }
     {
@@ -136,6 +147,7 @@ pub trait Reader: Debug {
     #[inline]
     fn read_i64(&mut self) -> Result<i64>
         ensures value { Gives (λ x. x) result (bytes self.new) (signed_at (is_big self.old) 8 (bytes self.old)) }
+        ensures kept { OnErr result (bytes self.new ≡ bytes self.old) }
         ensures rest { IsSuffix (bytes self.new) (bytes self.old) }
         ensures order { is_big self.new ≡ is_big self.old }
     {
@@ -148,6 +160,7 @@ pub trait Reader: Debug {
     #[inline]
     fn read_address(&mut self, size: u8) -> Result<u64>
         ensures value { Gives (λ x. x) result (bytes self.new) (address_at (is_big self.old) size (bytes self.old)) }
+        ensures kept { OnErr result (bytes self.new ≡ bytes self.old) }
         ensures rest { IsSuffix (bytes self.new) (bytes self.old) }
         ensures order { is_big self.new ≡ is_big self.old }
     {

@@ -1,4 +1,4 @@
-ghost use Rattle.std.specs.Prelude.{◌≡◌, []};
+ghost use Rattle.std.specs.Prelude.{◌≡◌, [], OnErr};
 ghost use Rattle.dwarf_base.specs.EndianSlice.{slice_bytes, slice_order};
 ghost use Rattle.dwarf_base.specs.Reads.{Gives, IsSuffix, split_at, fixed_at};
 
@@ -33,6 +33,7 @@ impl<'input, E: Endianity> EndianSlice<'input, E> {
     #[inline]
     fn take_front<const N: usize>(&mut self) -> Result<[u8; N]>
         ensures value { Gives (λ front. front) result self.new.slice.now (split_at N self.old.slice.now) }
+        ensures kept { OnErr result (self.new.slice.now ≡ self.old.slice.now) }
         ensures rest { IsSuffix self.new.slice.now self.old.slice.now }
         ensures order { self.new.endian ≡ self.old.endian }
     {
@@ -46,6 +47,7 @@ impl<'input, E: Endianity> EndianSlice<'input, E> {
     #[inline]
     fn read_two(&mut self) -> Result<u16>
         ensures value { Gives (λ x. x) result self.new.slice.now (fixed_at (E.is_big self.old.endian) 2 self.old.slice.now) }
+        ensures kept { OnErr result (self.new.slice.now ≡ self.old.slice.now) }
         ensures rest { IsSuffix self.new.slice.now self.old.slice.now }
         ensures order { self.new.endian ≡ self.old.endian }
     {
@@ -60,6 +62,7 @@ impl<'input, E: Endianity> EndianSlice<'input, E> {
     #[inline]
     fn read_four(&mut self) -> Result<u32>
         ensures value { Gives (λ x. x) result self.new.slice.now (fixed_at (E.is_big self.old.endian) 4 self.old.slice.now) }
+        ensures kept { OnErr result (self.new.slice.now ≡ self.old.slice.now) }
         ensures rest { IsSuffix self.new.slice.now self.old.slice.now }
         ensures order { self.new.endian ≡ self.old.endian }
     {
@@ -74,6 +77,7 @@ impl<'input, E: Endianity> EndianSlice<'input, E> {
     #[inline]
     fn read_eight(&mut self) -> Result<u64>
         ensures value { Gives (λ x. x) result self.new.slice.now (fixed_at (E.is_big self.old.endian) 8 self.old.slice.now) }
+        ensures kept { OnErr result (self.new.slice.now ≡ self.old.slice.now) }
         ensures rest { IsSuffix self.new.slice.now self.old.slice.now }
         ensures order { self.new.endian ≡ self.old.endian }
     {

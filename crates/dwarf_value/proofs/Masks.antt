@@ -63,9 +63,19 @@ ones-IsAddressMask mask h m = m.low_ones ∙ sym (ones_low mask h)
 pub not-IsAddressMask-zero : IsAddressMask 0 → ⊥
 not-IsAddressMask-zero m = let p = pow_below 0 (width_of 0) m.some_bit in omega (arith, m.low_ones)
 
--- the lowest bits, by a mask of so many ones
-pub and-low_mask : (n w : ℕ) → w ≤ 64 → bit_and n (18446744073709551615 / 2 ^ (64 - w)) ≡ n % 2 ^ w
-and-low_mask n w h =
-    let e : (2 ^ 64 - 1) / 2 ^ (64 - w) ≡ 2 ^ (64 - (64 - w)) - 1 = ones_shr 64 (64 - w) (omega arith) in
-    let f : 64 - (64 - w) ≡ w = omega arith in
-    ap (bit_and n) (e ∙ ap (λ k. 2 ^ k - 1) f) ∙ and_mask n w
+-- the lowest bits, by the mask of so many ones
+pub and-address_mask : (n mask : ℕ) → IsAddressMask mask → bit_and n mask ≡ n % 2 ^ width_of mask
+and-address_mask n mask is_mask = ap (bit_and n) is_mask.low_ones ∙ and_mask n (width_of mask)
+
+pub ruleset low_bits_by_mask = (and-address_mask)
+
+-- all 64 bits
+pub all_bits_mask : IsAddressMask 18446744073709551615
+all_bits_mask = address_mask 64 (omega arith)
+
+pub all_bits_width : width_of 18446744073709551615 ≡ 64
+all_bits_width = width_of-low 64
+
+pub ruleset all_bits = (all_bits_mask, all_bits_width)
+
+pub ruleset width_within_64 = (width_of-le)

@@ -6,7 +6,6 @@ use Rattle.std.specs.Ordering.{int_eq}
 use Rattle.dwarf_base.specs.Faults.{Fault, ◌>>=◌}
 use Rattle.dwarf_base.specs.Faults as fault
 use Rattle.dwarf_base.specs.Reads.{fixed_at}
-use Rattle.dwarf_base.specs.declared.constants.TheConstants.{DW_ATE_signed, DW_ATE_unsigned}
 use Rattle.dwarf_base.specs.Numbers.{residue, signed_of}
 use Rattle.dwarf_base.specs.declared.errors.Error.{Error}
 use Rattle.dwarf_base.specs.declared.errors.Error.TheVariants.{UnsupportedTypeOperation, TypeMismatch, DivisionByZero, InvalidShiftExpression}
@@ -139,11 +138,12 @@ type_of_size t8 t16 t32 t64 byte_size =
     else if byte_size == 8 then Some t64
     else None
 
--- the type of an integer by its encoding and its size in bytes (DWARF 5, section 7.8)
+-- the type of an integer by its encoding, which is 5 for signed and 7 for unsigned ones, and its size in bytes
+-- (DWARF 5, section 7.8)
 abbrev pub from_encoding_of : (encoding byte_size : ℕ) → Option ValueType
 from_encoding_of encoding byte_size =
-    if encoding == DW_ATE_signed.0 then type_of_size kind.I8 kind.I16 kind.I32 kind.I64 byte_size
-    else if encoding == DW_ATE_unsigned.0 then type_of_size kind.U8 kind.U16 kind.U32 kind.U64 byte_size
+    if encoding == 0x05 then type_of_size kind.I8 kind.I16 kind.I32 kind.I64 byte_size
+    else if encoding == 0x07 then type_of_size kind.U8 kind.U16 kind.U32 kind.U64 byte_size
     else None
 
 -- the number at the front of the bytes; the generic type has no size of its own

@@ -1,105 +1,101 @@
-ghost use Rattle.std.specs.Prelude.{◌≡◌, ◌<◌, ◌≤◌, pos, ◌*ℤ◌, MatchResult};
+ghost use Rattle.std.specs.Prelude.{◌≡◌, pos, ◌*ℤ◌, MatchResult};
 ghost use Rattle.dwarf_base.specs.Numbers.{residue};
 ghost use Rattle.dwarf_value.specs.Operands.{AreDivided, RefusesDivision};
 ghost use Rattle.dwarf_value.specs.Values.{IsAddressMask, width_of, add_of, sub_of, mul_of, div_of, rem_of, abs_of, neg_of};
 
-use crate::types::{Value, ValueType, mask_width};
+use crate::types::{Value, ValueType};
 use crate::word::{low_bits, same_type};
 use dwarf_base::{Error, Result};
 
 impl Value {
     /// The sum, wrapped (`DW_OP_plus`). `TypeMismatch` where the types differ.
-    #[inline]
+    #[inline(always)]
     pub fn add(self, rhs: Value, addr_mask: u64) -> Result<Value>
         requires { IsAddressMask addr_mask }
         ensures { result ≡ add_of (width_of addr_mask) self rhs }
     {
-        let width = mask_width(addr_mask);
-        let (value_type, x, y) = self.operands(rhs, width, false)?;
-        Ok(Value::wrapped(value_type, x + y, width))
+        let (value_type, x, y) = self.operands(rhs, addr_mask, false)?;
+        Ok(Value::wrapped(value_type, x + y, addr_mask))
     }
 
     /// The difference, wrapped (`DW_OP_minus`). `TypeMismatch` where the types differ.
-    #[inline]
+    #[inline(always)]
     pub fn sub(self, rhs: Value, addr_mask: u64) -> Result<Value>
         requires { IsAddressMask addr_mask }
         ensures { result ≡ sub_of (width_of addr_mask) self rhs }
     {
-        let width = mask_width(addr_mask);
-        let (value_type, x, y) = self.operands(rhs, width, false)?;
-        Ok(Value::wrapped(value_type, x - y, width))
+        let (value_type, x, y) = self.operands(rhs, addr_mask, false)?;
+        Ok(Value::wrapped(value_type, x - y, addr_mask))
     }
 
     /// The product, wrapped (`DW_OP_mul`). `TypeMismatch` where the types differ.
     #[tactic(auto, using(crate::proofs::Wraps::low_bits_only))]
-    #[inline]
+    #[inline(always)]
     pub fn mul(self, rhs: Value, addr_mask: u64) -> Result<Value>
         requires { IsAddressMask addr_mask }
         ensures { result ≡ mul_of (width_of addr_mask) self rhs }
     {
-        let width = mask_width(addr_mask);
-        let (value_type, x, y) = self.operands(rhs, width, false)?;
-        Ok(Value::wrapped(value_type, low_product(x, y), width))
+        let (value_type, x, y) = self.operands(rhs, addr_mask, false)?;
+        Ok(Value::wrapped(value_type, low_product(x, y), addr_mask))
     }
 
     /// The quotient, rounded towards zero and wrapped (`DW_OP_div`). Generic values are divided as signed integers.
     ///
     /// `DivisionByZero` where the divisor is zero, of whatever type; else `TypeMismatch` where the types differ.
-    #[inline]
+    #[inline(always)]
     pub fn div(self, rhs: Value, addr_mask: u64) -> Result<Value>
         requires { IsAddressMask addr_mask }
         ensures { result ≡ div_of (width_of addr_mask) self rhs }
     {
-        let (value_type, x, y) = self.divided_by(rhs, mask_width(addr_mask), true)?;
-        Ok(Value::wrapped(value_type, x / y, 64))
+        let (value_type, x, y) = self.divided_by(rhs, addr_mask, true)?;
+        Ok(Value::wrapped_to_64(value_type, x / y))
     }
 
     /// The remainder, with the dividend's sign (`DW_OP_mod`). Generic values are divided as unsigned integers.
     ///
     /// `DivisionByZero` where the divisor is zero, of whatever type; else `TypeMismatch` where the types differ.
-    #[inline]
+    #[inline(always)]
     pub fn rem(self, rhs: Value, addr_mask: u64) -> Result<Value>
         requires { IsAddressMask addr_mask }
         ensures { result ≡ rem_of (width_of addr_mask) self rhs }
     {
-        let (value_type, x, y) = self.divided_by(rhs, mask_width(addr_mask), false)?;
-        Ok(Value::wrapped(value_type, x % y, 64))
+        let (value_type, x, y) = self.divided_by(rhs, addr_mask, false)?;
+        Ok(Value::wrapped_to_64(value_type, x % y))
     }
 
     /// The absolute value, wrapped (`DW_OP_abs`). A generic value is a signed integer here. It is never refused.
-    #[inline]
+    #[inline(always)]
     pub fn abs(self, addr_mask: u64) -> Result<Value>
         requires { IsAddressMask addr_mask }
         ensures { result ≡ abs_of (width_of addr_mask) self }
     {
-        let (value_type, word) = self.apart(mask_width(addr_mask), true);
+        let (value_type, word) = self.apart(addr_mask, true);
         let x = word.integer();
-        Ok(Value::wrapped(value_type, if x < 0 { -x } else { x }, 64))
+        Ok(Value::wrapped_to_64(value_type, if x < 0 { -x } else { x }))
     }
 
     /// The negated value, wrapped (`DW_OP_neg`). A generic value is a signed integer here.
     /// `UnsupportedTypeOperation` at an unsigned type.
-    #[inline]
+    #[inline(always)]
     pub fn neg(self, addr_mask: u64) -> Result<Value>
         requires { IsAddressMask addr_mask }
         ensures { result ≡ neg_of (width_of addr_mask) self }
     {
-        let (value_type, word) = self.apart(mask_width(addr_mask), true);
+        let (value_type, word) = self.apart(addr_mask, true);
         if !word.signed {
             return Err(Error::UnsupportedTypeOperation);
         }
-        Ok(Value::wrapped(value_type, -word.integer(), 64))
+        Ok(Value::wrapped_to_64(value_type, -word.integer()))
     }
 
     /// The type and the integers of a dividend and a divisor. A zero divisor is refused before two types are.
-    #[inline]
-    fn divided_by(self, rhs: Value, width: u32, signed: bool) -> Result<(ValueType, i128, i128)>
-        requires some_bit { 0 < width }
-        requires within_64 { width ≤ 64 }
-        ensures { MatchResult result (λ r. AreDivided signed width self rhs r.0 r.1 r.2) (RefusesDivision width self rhs) }
+    #[inline(always)]
+    fn divided_by(self, rhs: Value, addr_mask: u64, signed: bool) -> Result<(ValueType, i128, i128)>
+        requires { IsAddressMask addr_mask }
+        ensures { MatchResult result (λ r. AreDivided signed (width_of addr_mask) self rhs r.0 r.1 r.2) (RefusesDivision (width_of addr_mask) self rhs) }
     {
-        let (value_type, first) = self.apart(width, signed);
-        let (other, second) = rhs.apart(width, signed);
+        let (value_type, first) = self.apart(addr_mask, signed);
+        let (other, second) = rhs.apart(addr_mask, signed);
         let divisor = second.integer();
         if divisor == 0 {
             return Err(Error::DivisionByZero);
@@ -112,7 +108,7 @@ impl Value {
 }
 
 /// The product modulo two to the 64.
-#[inline]
+#[inline(always)]
 fn low_product(x: i128, y: i128) -> i128
     ensures { result ≡ pos (residue 64 (x *ℤ y)) }
 {

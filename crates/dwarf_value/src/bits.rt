@@ -1,48 +1,48 @@
 ghost use Rattle.std.specs.Prelude.{◌≡◌};
 ghost use Rattle.dwarf_value.specs.Values.{IsAddressMask, width_of, not_of, and_of, or_of, xor_of};
 
-use crate::types::{Value, mask_width};
+use crate::types::Value;
 use crate::word::low_bits;
 use dwarf_base::Result;
 
 impl Value {
     /// Each binary digit turned (`DW_OP_not`). It is never refused.
-    #[inline]
+    #[inline(always)]
     pub fn not(self, addr_mask: u64) -> Result<Value>
         requires { IsAddressMask addr_mask }
         ensures { result ≡ not_of (width_of addr_mask) self }
     {
-        let (value_type, word) = self.apart(mask_width(addr_mask), false);
-        Ok(Value::wrapped(value_type, -word.integer() - 1, 64))
+        let (value_type, word) = self.apart(addr_mask, false);
+        Ok(Value::wrapped_to_64(value_type, -word.integer() - 1))
     }
 
     /// The binary digits that are set in both (`DW_OP_and`). `TypeMismatch` where the types differ.
-    #[inline]
+    #[inline(always)]
     pub fn and(self, rhs: Value, addr_mask: u64) -> Result<Value>
         requires { IsAddressMask addr_mask }
         ensures { result ≡ and_of (width_of addr_mask) self rhs }
     {
-        let (value_type, x, y) = self.operands(rhs, mask_width(addr_mask), false)?;
+        let (value_type, x, y) = self.operands(rhs, addr_mask, false)?;
         Value::from_u64(value_type, low_bits(x) & low_bits(y))
     }
 
     /// The binary digits that are set in one or both (`DW_OP_or`). `TypeMismatch` where the types differ.
-    #[inline]
+    #[inline(always)]
     pub fn or(self, rhs: Value, addr_mask: u64) -> Result<Value>
         requires { IsAddressMask addr_mask }
         ensures { result ≡ or_of (width_of addr_mask) self rhs }
     {
-        let (value_type, x, y) = self.operands(rhs, mask_width(addr_mask), false)?;
+        let (value_type, x, y) = self.operands(rhs, addr_mask, false)?;
         Value::from_u64(value_type, low_bits(x) | low_bits(y))
     }
 
     /// The binary digits that are set in one of the two alone (`DW_OP_xor`). `TypeMismatch` where the types differ.
-    #[inline]
+    #[inline(always)]
     pub fn xor(self, rhs: Value, addr_mask: u64) -> Result<Value>
         requires { IsAddressMask addr_mask }
         ensures { result ≡ xor_of (width_of addr_mask) self rhs }
     {
-        let (value_type, x, y) = self.operands(rhs, mask_width(addr_mask), false)?;
+        let (value_type, x, y) = self.operands(rhs, addr_mask, false)?;
         Value::from_u64(value_type, low_bits(x) ^ low_bits(y))
     }
 }

@@ -1,73 +1,73 @@
 ghost use Rattle.std.specs.Prelude.{◌≡◌};
 ghost use Rattle.dwarf_value.specs.Values.{IsAddressMask, width_of, eq_of, ge_of, gt_of, le_of, lt_of, ne_of};
 
-use crate::types::{Value, mask_width};
+use crate::types::Value;
 use dwarf_base::Result;
 
 impl Value {
     /// Whether the two are equal, as the generic 1 or 0 (`DW_OP_eq`). Generic values are signed integers here.
     /// `TypeMismatch` where the types differ.
-    #[inline]
+    #[inline(always)]
     pub fn eq(self, rhs: Value, addr_mask: u64) -> Result<Value>
         requires { IsAddressMask addr_mask }
         ensures { result ≡ eq_of (width_of addr_mask) self rhs }
     {
-        let (_, x, y) = self.operands(rhs, mask_width(addr_mask), true)?;
+        let (_, x, y) = self.operands(rhs, addr_mask, true)?;
         Ok(Value::Generic(u64::from(x == y)))
     }
 
     /// Whether it is at least `rhs`, as the generic 1 or 0 (`DW_OP_ge`). Generic values are signed integers here.
     /// `TypeMismatch` where the types differ.
-    #[inline]
+    #[inline(always)]
     pub fn ge(self, rhs: Value, addr_mask: u64) -> Result<Value>
         requires { IsAddressMask addr_mask }
         ensures { result ≡ ge_of (width_of addr_mask) self rhs }
     {
-        let (_, x, y) = self.operands(rhs, mask_width(addr_mask), true)?;
+        let (_, x, y) = self.operands(rhs, addr_mask, true)?;
         Ok(Value::Generic(u64::from(x >= y)))
     }
 
     /// Whether it is above `rhs`, as the generic 1 or 0 (`DW_OP_gt`). Generic values are signed integers here.
     /// `TypeMismatch` where the types differ.
-    #[inline]
+    #[inline(always)]
     pub fn gt(self, rhs: Value, addr_mask: u64) -> Result<Value>
         requires { IsAddressMask addr_mask }
         ensures { result ≡ gt_of (width_of addr_mask) self rhs }
     {
-        let (_, x, y) = self.operands(rhs, mask_width(addr_mask), true)?;
+        let (_, x, y) = self.operands(rhs, addr_mask, true)?;
         Ok(Value::Generic(u64::from(x > y)))
     }
 
     /// Whether it is at most `rhs`, as the generic 1 or 0 (`DW_OP_le`). Generic values are signed integers here.
     /// `TypeMismatch` where the types differ.
-    #[inline]
+    #[inline(always)]
     pub fn le(self, rhs: Value, addr_mask: u64) -> Result<Value>
         requires { IsAddressMask addr_mask }
         ensures { result ≡ le_of (width_of addr_mask) self rhs }
     {
-        let (_, x, y) = self.operands(rhs, mask_width(addr_mask), true)?;
+        let (_, x, y) = self.operands(rhs, addr_mask, true)?;
         Ok(Value::Generic(u64::from(x <= y)))
     }
 
     /// Whether it is below `rhs`, as the generic 1 or 0 (`DW_OP_lt`). Generic values are signed integers here.
     /// `TypeMismatch` where the types differ.
-    #[inline]
+    #[inline(always)]
     pub fn lt(self, rhs: Value, addr_mask: u64) -> Result<Value>
         requires { IsAddressMask addr_mask }
         ensures { result ≡ lt_of (width_of addr_mask) self rhs }
     {
-        let (_, x, y) = self.operands(rhs, mask_width(addr_mask), true)?;
+        let (_, x, y) = self.operands(rhs, addr_mask, true)?;
         Ok(Value::Generic(u64::from(x < y)))
     }
 
     /// Whether the two differ, as the generic 1 or 0 (`DW_OP_ne`). Generic values are signed integers here.
     /// `TypeMismatch` where the types differ.
-    #[inline]
+    #[inline(always)]
     pub fn ne(self, rhs: Value, addr_mask: u64) -> Result<Value>
         requires { IsAddressMask addr_mask }
         ensures { result ≡ ne_of (width_of addr_mask) self rhs }
     {
-        let (_, x, y) = self.operands(rhs, mask_width(addr_mask), true)?;
+        let (_, x, y) = self.operands(rhs, addr_mask, true)?;
         Ok(Value::Generic(u64::from(x != y)))
     }
 }

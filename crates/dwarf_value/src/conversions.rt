@@ -2,7 +2,7 @@ ghost use Rattle.std.specs.Prelude.{◌≡◌, Ok};
 ghost use Rattle.dwarf_base.specs.Faults.{Answers};
 ghost use Rattle.dwarf_value.specs.Values.{IsAddressMask, width_of, parse_of, to_u64_of, from_u64_of, convert_of, reinterpret_of};
 
-use crate::types::{Value, ValueType, mask_width};
+use crate::types::{Value, ValueType};
 use crate::word::{Word, low_bits, same_type};
 use dwarf_base::{Error, Reader, Result};
 
@@ -10,7 +10,7 @@ impl Value {
     /// Reads a number of the type from the front of the bytes, in their order. The rest is ignored.
     ///
     /// `UnsupportedTypeOperation` at the generic type; else `UnexpectedEof` where there are too few bytes.
-    #[inline]
+    #[inline(always)]
     pub fn parse<R: Reader + Copy>(value_type: ValueType, bytes: R) -> Result<Value>
         ensures { Answers (λ value. value) result (parse_of value_type (R.is_big bytes) (R.bytes bytes)) }
     {
@@ -24,25 +24,26 @@ impl Value {
 
     /// The value as a number of 64 bits: a signed one with its sign extended, and of a generic one the bits of an
     /// address. It is never refused.
-    #[inline]
+    #[inline(always)]
     pub fn to_u64(self, addr_mask: u64) -> Result<u64>
         requires { IsAddressMask addr_mask }
         ensures { result ≡ Ok (to_u64_of (width_of addr_mask) self) }
     {
-        let (_, word) = self.apart(mask_width(addr_mask), false);
+        let (_, word) = self.apart(addr_mask, false);
         Ok(low_bits(word.integer()))
     }
 
     /// The value of the type that a number wraps to. It is never refused.
-    #[inline]
+    #[tactic(auto, using(crate::proofs::Masks::all_bits))]
+    #[inline(always)]
     pub fn from_u64(value_type: ValueType, value: u64) -> Result<Value>
         ensures { result ≡ Ok (from_u64_of value_type value) }
     {
-        Ok(Value::make(value_type, Word::new(value, 64, false), 64))
+        Ok(Value::make(value_type, Word::new(value, 64, false), u64::MAX))
     }
 
     /// The value in another type, by `to_u64` and `from_u64` (`DW_OP_convert`). It is never refused.
-    #[inline]
+    #[inline(always)]
     pub fn convert(self, value_type: ValueType, addr_mask: u64) -> Result<Value>
         requires { IsAddressMask addr_mask }
         ensures { result ≡ convert_of (width_of addr_mask) value_type self }
@@ -54,7 +55,8 @@ impl Value {
     /// The value's bits in another type of the same size (`DW_OP_reinterpret`). `TypeMismatch` where the sizes differ.
     ///
     /// Of a generic value all 64 bits go into a generic one.
-    #[inline]
+    #[tactic(auto, using(crate::proofs::Masks::all_bits))]
+    #[inline(always)]
     pub fn reinterpret(self, value_type: ValueType, addr_mask: u64) -> Result<Value>
         requires { IsAddressMask addr_mask }
         ensures { result ≡ reinterpret_of (width_of addr_mask) value_type self }
@@ -62,7 +64,7 @@ impl Value {
         if self.value_type().bit_size(addr_mask) != value_type.bit_size(addr_mask) {
             return Err(Error::TypeMismatch);
         }
-        let (_, word) = self.apart(64, false);
+        let (_, word) = self.apart(u64::MAX, false);
         Value::from_u64(value_type, low_bits(word.integer()))
     }
 }

@@ -5,6 +5,7 @@ mod arithmetic;
 mod bits;
 mod comparisons;
 mod conversions;
+mod equality;
 mod laws;
 mod shifts;
 #[cfg(test)]
@@ -12,5 +13,6 @@ mod tests;
 mod types;
 mod word;
 
+pub use equality::equality_laws;
 pub use laws::value_laws;
 pub use types::{Value, ValueType, is_addr_mask};

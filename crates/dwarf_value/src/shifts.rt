@@ -1,8 +1,8 @@
-ghost use Rattle.std.specs.Prelude.{◌≡◌, ◌<◌, ◌≤◌, ◌^◌, ◌*◌, ◌%◌, pos, neg_ℤ, ◌≤ℤ◌, ◌<ℤ◌, nat_le, if◌then◌else◌, MatchResult};
+ghost use Rattle.std.specs.Prelude.{◌≡◌, ◌≤◌, ◌^◌, ◌*◌, ◌%◌, pos, neg_ℤ, ◌≤ℤ◌, ◌<ℤ◌, nat_le, if◌then◌else◌, MatchResult};
 ghost use Rattle.dwarf_value.specs.Operands.{IsLength, RefusesLength};
 ghost use Rattle.dwarf_value.specs.Values.{IsAddressMask, width_of, floor_quotient, shl_of, shr_of, shra_of};
 
-use crate::types::{Value, mask_width};
+use crate::types::Value;
 use crate::word::low_bits;
 use dwarf_base::{Error, Result};
 
@@ -10,14 +10,13 @@ impl Value {
     /// Shifted to the left by a length of any type, with zeros from the right (`DW_OP_shl`). It is zero once the
     /// length is the type's size. `InvalidShiftExpression` where the length is negative.
     #[tactic(auto, using(crate::proofs::Wraps::left_shifts))]
-    #[inline]
+    #[inline(always)]
     pub fn shl(self, rhs: Value, addr_mask: u64) -> Result<Value>
         requires { IsAddressMask addr_mask }
         ensures { result ≡ shl_of (width_of addr_mask) self rhs }
     {
-        let width = mask_width(addr_mask);
-        let length = rhs.shift_length(width)?;
-        let (value_type, word) = self.apart(width, false);
+        let length = rhs.shift_length(addr_mask)?;
+        let (value_type, word) = self.apart(addr_mask, false);
         Value::from_u64(
             value_type,
             shifted_left(low_bits(word.integer()), length, word.width),
@@ -28,46 +27,43 @@ impl Value {
     /// unsigned integer here.
     ///
     /// `InvalidShiftExpression` where the length is negative; else `UnsupportedTypeOperation` at a signed type.
-    #[inline]
+    #[inline(always)]
     pub fn shr(self, rhs: Value, addr_mask: u64) -> Result<Value>
         requires { IsAddressMask addr_mask }
         ensures { result ≡ shr_of (width_of addr_mask) self rhs }
     {
-        let width = mask_width(addr_mask);
-        let length = rhs.shift_length(width)?;
-        let (value_type, word) = self.apart(width, false);
+        let length = rhs.shift_length(addr_mask)?;
+        let (value_type, word) = self.apart(addr_mask, false);
         if word.signed {
             return Err(Error::UnsupportedTypeOperation);
         }
-        Ok(Value::wrapped(value_type, shifted_right(word.integer(), length), 64))
+        Ok(Value::wrapped_to_64(value_type, shifted_right(word.integer(), length)))
     }
 
     /// Shifted to the right by a length of any type, with copies of the sign from the left (`DW_OP_shra`). A generic
     /// value is a signed integer here.
     ///
     /// `InvalidShiftExpression` where the length is negative; else `UnsupportedTypeOperation` at an unsigned type.
-    #[inline]
+    #[inline(always)]
     pub fn shra(self, rhs: Value, addr_mask: u64) -> Result<Value>
         requires { IsAddressMask addr_mask }
         ensures { result ≡ shra_of (width_of addr_mask) self rhs }
     {
-        let width = mask_width(addr_mask);
-        let length = rhs.shift_length(width)?;
-        let (value_type, word) = self.apart(width, true);
+        let length = rhs.shift_length(addr_mask)?;
+        let (value_type, word) = self.apart(addr_mask, true);
         if !word.signed {
             return Err(Error::UnsupportedTypeOperation);
         }
-        Ok(Value::wrapped(value_type, shifted_right(word.integer(), length), 64))
+        Ok(Value::wrapped_to_64(value_type, shifted_right(word.integer(), length)))
     }
 
     /// The length of a shift by this value. `InvalidShiftExpression` where it is negative.
-    #[inline]
-    fn shift_length(self, width: u32) -> Result<u64>
-        requires some_bit { 0 < width }
-        requires within_64 { width ≤ 64 }
-        ensures { MatchResult result (IsLength width self) (RefusesLength width self) }
+    #[inline(always)]
+    fn shift_length(self, addr_mask: u64) -> Result<u64>
+        requires { IsAddressMask addr_mask }
+        ensures { MatchResult result (IsLength (width_of addr_mask) self) (RefusesLength (width_of addr_mask) self) }
     {
-        let (_, word) = self.apart(width, false);
+        let (_, word) = self.apart(addr_mask, false);
         let length = word.integer();
         if length < 0 {
             return Err(Error::InvalidShiftExpression);
@@ -77,7 +73,7 @@ impl Value {
 }
 
 /// Bits of a type of so many bits, shifted to the left.
-#[inline]
+#[inline(always)]
 fn shifted_left(bits: u64, length: u64, size: u32) -> u64
     requires { size ≤ 64 }
     ensures { result ≡ (if nat_le size length then 0 else bits * 2 ^ length % 2 ^ 64) }
@@ -90,7 +86,7 @@ fn shifted_left(bits: u64, length: u64, size: u32) -> u64
 }
 
 /// An integer divided by two to the length, rounded down.
-#[inline]
+#[inline(always)]
 fn shifted_right(integer: i128, length: u64) -> i128
     requires least { neg_ℤ (pos (2 ^ 64)) ≤ℤ integer }
     requires most { integer <ℤ pos (2 ^ 64) }

@@ -1,7 +1,7 @@
 ghost use Rattle.dwarf_value.specs.Values.{IsAddressMask};
 
 use crate::Value::{Generic, I8, I16, I32, I64, U8, U16, U32, U64};
-use crate::{Value, ValueType, is_addr_mask, value_laws};
+use crate::{Value, ValueType, equality_laws, is_addr_mask, value_laws};
 use Call::{
     Abs, Add, And, Div, Eq, Ge, Gt, Le, Lt, Mul, Ne, Neg, Not, Or, Rem, Shl, Shr, Shra, Sub, Xor,
 };
@@ -489,4 +489,5 @@ fn numbers_and_sizes(rt: HostRuntime) {
         assert_eq!(rt; unsigned.bit_size(MASK), size, "{unsigned:?}");
     }
     value_laws();
+    equality_laws();
 }

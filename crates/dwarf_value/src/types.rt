@@ -31,7 +31,8 @@ pub enum ValueType {
 /// A value on the stack of a DWARF expression.
 #[derive(Clone, Copy, Debug, PartialEq, Eq)]
 pub enum Value {
-    /// A generic value. Its bits above the size of an address don't count.
+    /// A generic value. Operations on it count its bits up to the size of an address, but for `reinterpret`, which
+    /// takes all 64; where it is handed on it keeps them.
     Generic(u64),
     /// A signed integer of 8 bits.
     I8(i8),
@@ -57,14 +58,14 @@ impl Default for Value {
     ghost is_default = { λ value. value ≡ Value.Generic 0 };
 
     /// The generic zero.
-    #[inline]
+    #[inline(always)]
     fn default() -> Self {
         Value::Generic(0)
     }
 }
 
 /// Whether the mask is that of an address of 1 to 64 bits: ones in its lowest bits, and nothing else.
-#[inline]
+#[inline(always)]
 pub fn is_addr_mask(addr_mask: u64) -> bool
     ensures { IsTrue result ↔ IsAddressMask addr_mask }
 {
@@ -73,7 +74,7 @@ pub fn is_addr_mask(addr_mask: u64) -> bool
 
 /// How many bits an address has.
 #[tactic(auto, unfolding(crate::specs::Values::width_of))]
-#[inline]
+#[inline(always)]
 pub(crate) fn mask_width(addr_mask: u64) -> u32
     requires { IsAddressMask addr_mask }
     ensures value { result ≡ width_of addr_mask }
@@ -86,7 +87,7 @@ pub(crate) fn mask_width(addr_mask: u64) -> u32
 impl ValueType {
     /// The size of the type's values in bits.
     #[tactic(auto, unfolding(crate::specs::Values::bit_size_of))]
-    #[inline]
+    #[inline(always)]
     pub fn bit_size(self, addr_mask: u64) -> u32
         requires { IsAddressMask addr_mask }
         ensures { result ≡ bit_size_of (width_of addr_mask) self }
@@ -102,7 +103,7 @@ impl ValueType {
 
     /// The size of the type's values in bytes, with addresses of 8 bytes.
     #[tactic(auto, unfolding(crate::specs::Values::bit_size_of))]
-    #[inline]
+    #[inline(always)]
     pub(crate) fn byte_size(self) -> u8
         ensures size { result ≡ bit_size_of 64 self / 8 }
         ensures fixed { IsTrue (is_fixed_size result) }
@@ -145,7 +146,7 @@ impl ValueType {
 impl Value {
     /// The value's type.
     #[tactic(auto, unfolding(crate::specs::Values::type_of))]
-    #[inline]
+    #[inline(always)]
     pub fn value_type(&self) -> ValueType
         ensures { result ≡ type_of self.now }
     {

@@ -1,9 +1,9 @@
 ghost use Rattle.std.specs.Prelude.{◌≡◌, ◌<◌, ◌≤◌, ◌^◌, ◌%◌, pos, neg_ℤ, ◌≤ℤ◌, ◌<ℤ◌, MatchResult};
 ghost use Rattle.dwarf_base.specs.Numbers.{residue};
 ghost use Rattle.dwarf_value.specs.Operands.{AreOperands, RefusesOperands};
-ghost use Rattle.dwarf_value.specs.Values.{word_integer, type_of, bit_size_of, is_signed, is_same, integer_of, value_of};
+ghost use Rattle.dwarf_value.specs.Values.{IsAddressMask, width_of, word_integer, type_of, bit_size_of, is_signed, is_same, integer_of, value_of};
 
-use crate::types::{Value, ValueType};
+use crate::types::{Value, ValueType, mask_width};
 use dwarf_base::{Error, Result};
 
 /// Bits with a width from 1 to 64, and whether the highest of them is a sign.
@@ -19,7 +19,7 @@ pub(crate) struct Word {
 
 impl Word {
     /// So many bits, with a sign or without.
-    #[inline]
+    #[inline(always)]
     pub fn new(bits: u64, width: u32, signed: bool) -> Word
         requires some_bit { 0 < width }
         requires within_64 { width ≤ 64 }
@@ -37,7 +37,7 @@ impl Word {
 
     /// The integer that the bits stand for.
     #[tactic(auto, unfolding(crate::specs::Values::word_integer))]
-    #[inline]
+    #[inline(always)]
     pub fn integer(self) -> i128
         ensures value { result ≡ word_integer self.signed self.width self.bits }
         ensures least { neg_ℤ (pos (2 ^ 63)) ≤ℤ result }
@@ -53,26 +53,26 @@ impl Word {
 }
 
 /// The integer modulo two to the 64.
-#[inline]
+#[inline(always)]
 pub(crate) fn low_bits(integer: i128) -> u64
     ensures { result ≡ residue 64 integer }
 {
     (integer.cast_unsigned() & 0xffff_ffff_ffff_ffff) as u64
 }
 
-/// The lowest bits, so many.
-#[inline]
-fn low_part(bits: u64, width: u32) -> u64
-    requires some_bit { 0 < width }
-    requires within_64 { width ≤ 64 }
-    ensures { result ≡ bits % 2 ^ width }
+/// The lowest bits, as many as an address has.
+#[tactic(auto, using(crate::proofs::Masks::low_bits_by_mask))]
+#[inline(always)]
+fn low_part(bits: u64, addr_mask: u64) -> u64
+    requires { IsAddressMask addr_mask }
+    ensures { result ≡ bits % 2 ^ width_of addr_mask }
 {
-    bits & (u64::MAX >> (64 - width))
+    bits & addr_mask
 }
 
 /// Whether the types are the same.
 #[tactic(auto, unfolding(crate::specs::Values::is_same))]
-#[inline]
+#[inline(always)]
 pub(crate) fn same_type(first: ValueType, second: ValueType) -> bool
     ensures { result ≡ is_same first second }
 {
@@ -80,21 +80,23 @@ pub(crate) fn same_type(first: ValueType, second: ValueType) -> bool
 }
 
 impl Value {
-    /// The type and the word of a value. The bits of a generic one are its lowest, `width` of them, `signed` or not.
+    /// The type and the word of a value. The bits of a generic one are those of an address, `signed` or not.
     #[tactic(auto, unfolding(crate::specs::Values::type_of, crate::specs::Values::integer_of, crate::specs::Values::word_integer, crate::specs::Values::bit_size_of, crate::specs::Values::is_signed))]
-    #[inline]
-    pub(crate) fn apart(self, width: u32, signed: bool) -> (ValueType, Word)
-        requires some_bit { 0 < width }
-        requires within_64 { width ≤ 64 }
+    #[inline(always)]
+    pub(crate) fn apart(self, addr_mask: u64, signed: bool) -> (ValueType, Word)
+        requires { IsAddressMask addr_mask }
         ensures value_type { result.0 ≡ type_of self }
-        ensures width { result.1.width ≡ bit_size_of width (type_of self) }
+        ensures width { result.1.width ≡ bit_size_of (width_of addr_mask) (type_of self) }
         ensures signed { result.1.signed ≡ is_signed signed (type_of self) }
-        ensures integer { word_integer result.1.signed result.1.width result.1.bits ≡ integer_of signed width self }
+        ensures integer { word_integer result.1.signed result.1.width result.1.bits ≡ integer_of signed (width_of addr_mask) self }
     {
         match self {
             Value::Generic(content) => {
-                let bits = low_part(content, width);
-                (ValueType::Generic, Word::new(bits, width, signed))
+                let bits = low_part(content, addr_mask);
+                (
+                    ValueType::Generic,
+                    Word::new(bits, mask_width(addr_mask), signed),
+                )
             }
             Value::I8(x) => (ValueType::I8, Word::new(x.cast_unsigned() as u64, 8, true)),
             Value::U8(x) => (ValueType::U8, Word::new(x as u64, 8, false)),
@@ -114,37 +116,35 @@ impl Value {
     }
 
     /// The type and the integers of two values of one type; `TypeMismatch` where the types differ. The bits of generic
-    /// ones are their lowest, `width` of them, `signed` or not.
-    #[inline]
+    /// ones are those of an address, `signed` or not.
+    #[inline(always)]
     pub(crate) fn operands(
         self,
         rhs: Value,
-        width: u32,
+        addr_mask: u64,
         signed: bool,
     ) -> Result<(ValueType, i128, i128)>
-        requires some_bit { 0 < width }
-        requires within_64 { width ≤ 64 }
-        ensures { MatchResult result (λ r. AreOperands signed width self rhs r.0 r.1 r.2) (RefusesOperands self rhs) }
+        requires { IsAddressMask addr_mask }
+        ensures { MatchResult result (λ r. AreOperands signed (width_of addr_mask) self rhs r.0 r.1 r.2) (RefusesOperands self rhs) }
     {
-        let (value_type, first) = self.apart(width, signed);
-        let (other, second) = rhs.apart(width, signed);
+        let (value_type, first) = self.apart(addr_mask, signed);
+        let (other, second) = rhs.apart(addr_mask, signed);
         if !same_type(value_type, other) {
             return Err(Error::TypeMismatch);
         }
         Ok((value_type, first.integer(), second.integer()))
     }
 
-    /// The value of a type that a word of 64 bits is cut to. A generic one keeps the lowest bits, `width` of them.
+    /// The value of a type that a word of 64 bits is cut to. A generic one keeps the bits of an address.
     #[tactic(auto, unfolding(crate::specs::Values::value_of))]
-    #[inline]
-    pub(crate) fn make(value_type: ValueType, word: Word, width: u32) -> Value
-        requires some_bit { 0 < width }
-        requires within_64 { width ≤ 64 }
-        ensures { result ≡ value_of width value_type (pos word.bits) }
+    #[inline(always)]
+    pub(crate) fn make(value_type: ValueType, word: Word, addr_mask: u64) -> Value
+        requires { IsAddressMask addr_mask }
+        ensures { result ≡ value_of (width_of addr_mask) value_type (pos word.bits) }
     {
         let bits = word.bits;
         match value_type {
-            ValueType::Generic => Value::Generic(low_part(bits, width)),
+            ValueType::Generic => Value::Generic(low_part(bits, addr_mask)),
             ValueType::I8 => Value::I8(((bits & 0xff) as u8).cast_signed()),
             ValueType::U8 => Value::U8((bits & 0xff) as u8),
             ValueType::I16 => Value::I16(((bits & 0xffff) as u16).cast_signed()),
@@ -156,14 +156,26 @@ impl Value {
         }
     }
 
-    /// The value of the type that an integer wraps to. A generic one keeps the lowest bits, `width` of them.
-    #[tactic(auto, using(crate::proofs::Wraps::low_bits_only))]
-    #[inline]
-    pub(crate) fn wrapped(value_type: ValueType, integer: i128, width: u32) -> Value
-        requires some_bit { 0 < width }
-        requires within_64 { width ≤ 64 }
-        ensures { result ≡ value_of width value_type integer }
+    /// The value of the type that an integer wraps to. A generic one keeps the bits of an address.
+    #[tactic(auto, using(crate::proofs::Wraps::low_bits_only, crate::proofs::Masks::width_within_64))]
+    #[inline(always)]
+    pub(crate) fn wrapped(value_type: ValueType, integer: i128, addr_mask: u64) -> Value
+        requires { IsAddressMask addr_mask }
+        ensures { result ≡ value_of (width_of addr_mask) value_type integer }
     {
-        Value::make(value_type, Word::new(low_bits(integer), 64, false), width)
+        Value::make(
+            value_type,
+            Word::new(low_bits(integer), 64, false),
+            addr_mask,
+        )
+    }
+
+    /// The value of the type that an integer wraps to. A generic one keeps 64 bits.
+    #[tactic(auto, using(crate::proofs::Masks::all_bits))]
+    #[inline(always)]
+    pub(crate) fn wrapped_to_64(value_type: ValueType, integer: i128) -> Value
+        ensures { result ≡ value_of 64 value_type integer }
+    {
+        Value::wrapped(value_type, integer, u64::MAX)
     }
 }

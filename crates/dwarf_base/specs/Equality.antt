@@ -1,0 +1,22 @@
+-- Equality of what contracts see.
+use Rattle.std.specs.Prelude.{◌≡◌, ◌↔◌, Bool, IsTrue}
+use Rattle.dwarf_base.specs.declared.slices.EndianSlice.{EndianSlice}
+use Rattle.dwarf_base.specs.EndianSlice.{slice_bytes, slice_order}
+
+-- a test that is true exactly of two values that are seen as the same
+abbrev pub IsEqualityOf : {X Y : Type 0} → (seen : X → Y) → (X → X → Bool) → Type 0
+IsEqualityOf {X} seen test = (x y : X) → IsTrue (test x y) ↔ (seen x ≡ seen y)
+
+-- a test that is true exactly of two values that are the same
+abbrev pub IsEquality : {X : Type 0} → (X → X → Bool) → Type 0
+IsEquality {X} test = IsEqualityOf (λ x. x) test
+
+-- a test that says of two values what a test of a part says of their parts
+abbrev pub IsEqualityBy : {X Part : Type 0} → (X → X → Bool) → (part : X → Part) → (Part → Part → Bool) → Type 0
+IsEqualityBy {X} test part are_parts_equal = (x y : X) → test x y ≡ are_parts_equal (part x) (part y)
+
+-- a test of slices that is true exactly where the bytes are the same, and the byte orders by a test of their own
+abbrev pub IsSliceEquality : {E : Type 0} → (E → E → Bool) → (EndianSlice E → EndianSlice E → Bool) → Type 0
+IsSliceEquality {E} are_orders_equal test =
+    (x y : EndianSlice E)
+    → IsTrue (test x y) ↔ ((slice_bytes x ≡ slice_bytes y) × IsTrue (are_orders_equal (slice_order x) (slice_order y)))

@@ -16,7 +16,4 @@ pub mod Meaning
 pub mod Rest
 pub mod Steps
 pub mod Rows
-pub mod Agreement
-pub mod TwoRuns
-pub mod Inlining
 pub mod RunLaws

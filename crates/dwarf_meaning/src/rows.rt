@@ -16,6 +16,7 @@ pub fn worked_rows()
     ensures sum { meaning plain Never (text (0x33 ∷ 0x35 ∷ 0x22 ∷ [])) unset [] ≡ valued 8 8 }
     ensures nothing { meaning plain Never (text []) unset [] ≡ Faults NotEnoughStackItems }
     ensures initial_value { meaning plain Never (text []) (record unset { initial_value = Some 0x100000005 }) [] ≡ valued 0x100000005 5 }
+    ensures branch_of_zero_up_to_the_address { meaning plain Never (text (0x28 ∷ 0x04 ∷ 0x00 ∷ 0x31 ∷ 0x2f ∷ 0x01 ∷ 0x00 ∷ 0x32 ∷ [])) (record unset { initial_value = Some 0x100000000 }) [] ≡ valued 1 1 }
     ensures value_after_piece { meaning plain Never (text (0x31 ∷ 0x93 ∷ 0x04 ∷ 0x31 ∷ [])) unset [] ≡ Faults InvalidPiece }
     ensures endless_loop { meaning plain Never (text (0x2f ∷ 0xfd ∷ 0xff ∷ [])) (at_most 3) [] ≡ Faults TooManyIterations }
     ensures call_asks { meaning plain Never (text (0x98 ∷ 0x05 ∷ 0x00 ∷ 0x93 ∷ 0x04 ∷ [])) (at_most 2) [] ≡ Requests (RequiresAtLocation (UnitRef 5)) (open_at (0x98 ∷ 0x05 ∷ 0x00 ∷ 0x93 ∷ 0x04 ∷ []) 3 ∷ []) }

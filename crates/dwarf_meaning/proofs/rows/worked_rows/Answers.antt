@@ -23,6 +23,9 @@ returns c = record {
   sum = in_twenty plain Never (text (0x33 ∷ 0x35 ∷ 0x22 ∷ [])) unset [] (valued 8 8) (λ more. refl);
   nothing = in_twenty plain Never (text []) unset [] (Faults NotEnoughStackItems) (λ more. refl);
   initial_value = in_twenty plain Never (text []) (record unset { initial_value = Some 0x100000005 }) [] (valued 0x100000005 5) (λ more. refl);
+  branch_of_zero_up_to_the_address =
+      in_twenty plain Never (text (0x28 ∷ 0x04 ∷ 0x00 ∷ 0x31 ∷ 0x2f ∷ 0x01 ∷ 0x00 ∷ 0x32 ∷ [])) (record unset { initial_value = Some 0x100000000 }) []
+      (valued 1 1) (λ more. refl);
   value_after_piece = in_twenty plain Never (text (0x31 ∷ 0x93 ∷ 0x04 ∷ 0x31 ∷ [])) unset [] (Faults InvalidPiece) (λ more. refl);
   endless_loop = in_twenty plain Never (text (0x2f ∷ 0xfd ∷ 0xff ∷ [])) (at_most 3) [] (Faults TooManyIterations) (λ more. refl);
   call_asks = in_twenty plain Never (text (0x98 ∷ 0x05 ∷ 0x00 ∷ 0x93 ∷ 0x04 ∷ [])) (at_most 2) [] (Requests (RequiresAtLocation (UnitRef 5)) (open_at (0x98 ∷ 0x05 ∷ 0x00 ∷ 0x93 ∷ 0x04 ∷ []) 3 ∷ [])) (λ more. refl);

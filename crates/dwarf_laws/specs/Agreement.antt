@@ -1,4 +1,4 @@
--- Words of a statement that is not yet proved: what two callers hand in, and what they get, but for the bits above an address (DWARF 5, sections 2.5.1 and 2.6.1).
+-- What two callers hand in, and what they get, but for the bits above an address (DWARF 5, sections 2.5.1 and 2.6.1).
 use Rattle.std.specs.Prelude.{ℕ, ◌%◌, ◌^◌, ◌≡◌, List, [], ◌∷◌, Option, Some, None}
 use Rattle.dwarf_base.specs.Faults.{Fault}
 use Rattle.dwarf_value.specs.declared.types.Value.{Value}
@@ -6,10 +6,10 @@ use Rattle.dwarf_value.specs.declared.types.ValueType.{ValueType}
 use Rattle.dwarf_value.specs.Values.{Agree}
 use Rattle.dwarf_meaning.specs.Operations.{Text}
 use Rattle.dwarf_meaning.specs.Locations.{Location, HoldsValue, Piece}
-use Rattle.dwarf_meaning.specs.Requests.{Request, Answer, MemoryAnswer, RegisterAnswer, WasmAnswer, EntryAnswer, FrameBaseAnswer, TlsAnswer, CfaAnswer, ParameterAnswer, RelocatedAnswer, IndexedAnswer, LocationAnswer, BaseTypeAnswer}
+use Rattle.dwarf_meaning.specs.Requests.{Request, Answer, MemoryAnswer, RegisterAnswer, WasmAnswer, EntryAnswer, FrameBaseAnswer, TlsAnswer, CfaAnswer, ParameterAnswer, RelocatedAnswer, IndexedAnswer, LocationAnswer, BaseTypeAnswer, Input}
 use Rattle.dwarf_meaning.specs.Run.{Frame}
-use Rattle.dwarf_meaning.specs.Meaning.{Outcome, Requests, Faults, Completes}
-use Rattle.dwarf_meaning.specs.Steps.{Step, InitialValue, ObjectAddress, MaxIterations, Evaluate, Resume}
+use Rattle.dwarf_meaning.specs.Meaning.{Outcome, Requests, Faults, Completes, First}
+use Rattle.dwarf_meaning.specs.Steps.{Step, InitialValue, ObjectAddress, MaxIterations, Evaluate, Resume, Told}
 
 -- two lists of one length, related item by item
 pub data Pairwise {A : Type 0} (R : A → A → Type 0) : List A → List A → Type 0 where
@@ -50,6 +50,24 @@ pub data AgreeingSteps (w : ℕ) : Step → Step → Type 0 where
   evaluate : AgreeingSteps w Evaluate Evaluate
   resume : {first second : Answer} → AgreeingAnswers w first second → AgreeingSteps w (Resume first) (Resume second)
 
+-- the same maximum, and numbers that agree, set on both sides or on neither
+pub record AgreeingFirsts (w : ℕ) (first second : First) : Type 0 where
+  pub initial_value : Both (AgreeingNumbers w) first.initial_value second.initial_value
+  pub object_address : Both (AgreeingNumbers w) first.object_address second.object_address
+  pub maximum : first.maximum ≡ second.maximum
+
+-- answers that agree, with settings that agree
+pub record AgreeingInputs (w : ℕ) (first second : Input) : Type 0 where
+  pub object_address : Both (AgreeingNumbers w) first.object_address second.object_address
+  pub maximum : first.maximum ≡ second.maximum
+  pub answer : AgreeingAnswers w first.answer second.answer
+
+-- What was told so far: settings and answers that agree, started on both sides or on neither.
+pub record AgreeingTold (w : ℕ) (told other : Told) : Type 0 where
+  pub settings : AgreeingFirsts w told.settings other.settings
+  pub first : Both (AgreeingFirsts w) told.first other.first
+  pub inputs : Pairwise (AgreeingInputs w) told.inputs other.inputs
+
 -- ---- what comes of it
 
 -- the same location, or two values that agree
@@ -65,7 +83,8 @@ pub record AgreeingPieces (w : ℕ) (first second : Piece) : Type 0 where
 
 -- the same request with the same open texts and places, the same fault, or pieces and values that agree
 pub data AgreeingOutcomes (w : ℕ) : Outcome → Outcome → Type 0 where
-  requests : {request : Request} {frames : List Frame} → AgreeingOutcomes w (Requests request frames) (Requests request frames)
+  requests : {request : Request} {frames : List Frame}
+      → AgreeingOutcomes w (Requests request frames) (Requests request frames)
   faults : {fault : Fault} → AgreeingOutcomes w (Faults fault) (Faults fault)
   completions : {pieces others : List Piece} {value other : Option Value}
       → Pairwise (AgreeingPieces w) pieces others → Both (Agree w) value other

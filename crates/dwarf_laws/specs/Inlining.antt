@@ -1,4 +1,4 @@
--- A statement that is not yet proved: a called text may be written in its call's place (DWARF 5, section 2.5.1.5).
+-- A called text may be written in its call's place (DWARF 5, section 2.5.1.5).
 use Rattle.std.specs.Prelude.{ℕ, ◌+◌, ◌^◌, ◌<◌, ◌≡◌, ◌≢◌, Bool, List, [], ◌∷◌, ◌++◌, Option, None, length}
 use Rattle.dwarf_base.specs.Faults.{Fault}
 use Rattle.dwarf_value.specs.declared.types.Value.{Value}
@@ -43,11 +43,17 @@ behind_call site = record { text = outer site; place = length site.before + leng
 -- the settings in force once these inputs are taken
 abbrev pub in_force : First → List Input → First
 in_force first [] = first
-in_force first (input ∷ inputs) = in_force (record first { object_address = input.object_address; maximum = input.maximum }) inputs
+in_force first (input ∷ inputs) =
+    in_force (record first { object_address = input.object_address; maximum = input.maximum }) inputs
 
 -- the called text as an answer that changes no setting
 abbrev pub answered : CallSite → First → Input
-answered site settings = record { object_address = settings.object_address; maximum = settings.maximum; answer = LocationAnswer (called site) }
+answered site settings =
+    record {
+      object_address = settings.object_address;
+      maximum = settings.maximum;
+      answer = LocationAnswer (called site);
+    }
 
 -- the inputs of the outer text: the earlier ones, that answer, and the later ones
 abbrev pub with_answer : CallSite → First → (earlier later : List Input) → List Input
@@ -89,7 +95,8 @@ pub record IsInlinable (setup : Setup) (site : CallSite) : Type 0 where
   pub short : length (inlined site).bytes + 32768 < 2 ^ setup.offset_bits
 
 -- The earlier inputs, all of them, lead to the call, in the outer text alone; `requests` were asked before it.
-pub record LeadsToCall (setup : Setup) (site : CallSite) (offset : DieReference) (first : First) (earlier : List Input) (requests : List Request) : Type 0 where
+pub record LeadsToCall (setup : Setup) (site : CallSite) (offset : DieReference) (first : First)
+    (earlier : List Input) (requests : List Request) : Type 0 where
   pub end : (course_of setup Never (outer site) first earlier).end ≡ Asking (RequiresAtLocation offset) (behind_call site ∷ []) []
   pub asked : (course_of setup Never (outer site) first earlier).requests ≡ requests ++ (RequiresAtLocation offset ∷ [])
 
@@ -97,7 +104,8 @@ pub record LeadsToCall (setup : Setup) (site : CallSite) (offset : DieReference)
 
 -- the same pieces and value, or the same open request
 pub data EndAlike : Outcome → Outcome → Type 0 where
-  completions : {pieces : List Piece} {value : Option Value} → EndAlike (Completes pieces value) (Completes pieces value)
+  completions : {pieces : List Piece} {value : Option Value}
+      → EndAlike (Completes pieces value) (Completes pieces value)
   requests : {request : Request} {frames others : List Frame} → EndAlike (Requests request frames) (Requests request others)
 
 -- the same requests in the same order, but for this one, which comes behind the earlier ones
@@ -107,8 +115,10 @@ pub record LacksOne (request : Request) (earlier whole lacking : List Request) :
   pub without_it : lacking ≡ earlier ++ later
 
 -- The inlined text ends as the outer one does, without the answer of that call, and without its request.
-pub record IsInlined (setup : Setup) (site : CallSite) (offset : DieReference) (first : First) (earlier later : List Input) (requests : List Request) : Type 0 where
-  pub ends : EndAlike (meaning setup Never (outer site) first (with_answer site first earlier later)) (meaning setup Never (inlined site) first (earlier ++ later))
+pub record IsInlined (setup : Setup) (site : CallSite) (offset : DieReference) (first : First)
+    (earlier later : List Input) (requests : List Request) : Type 0 where
+  pub ends : EndAlike (meaning setup Never (outer site) first (with_answer site first earlier later))
+      (meaning setup Never (inlined site) first (earlier ++ later))
   pub asks : LacksOne (RequiresAtLocation offset) requests
       (course_of setup Never (outer site) first (with_answer site first earlier later)).requests
       (course_of setup Never (inlined site) first (earlier ++ later)).requests
@@ -116,7 +126,8 @@ pub record IsInlined (setup : Setup) (site : CallSite) (offset : DieReference) (
 -- without limits and refusals, where the outer run meets no fault
 abbrev pub Inlining : Type 0
 Inlining =
-    (setup : Setup) (site : CallSite) (offset : DieReference) (first : First) (earlier later : List Input) (requests : List Request)
+    (setup : Setup) (site : CallSite) (offset : DieReference) (first : First) (earlier later : List Input)
+    (requests : List Request)
     → HasNoLimits setup → StandsIn setup site offset → IsInlinable setup site
     → LeadsToCall setup site offset first earlier requests
     → ((fault : Fault) → meaning setup Never (outer site) first (with_answer site first earlier later) ≢ Faults fault)

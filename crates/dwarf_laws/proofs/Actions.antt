@@ -1,0 +1,275 @@
+-- Operations and answers on agreeing stacks.
+use Rattle.std.proofs.Common.{ℕ, ◌≡◌, ap, refl, subst, ◌==◌, ℤ, true, false, List, [], ◌∷◌, Option, None, Result}
+use Rattle.dwarf_base.specs.declared.errors.Error.{Error}
+use Rattle.dwarf_base.specs.Faults.{Fault}
+use Rattle.dwarf_base.specs.Numbers.{residue}
+use Rattle.dwarf_value.specs.declared.types.Value.{Value}
+use Rattle.dwarf_value.specs.declared.types.Value.TheVariants.{Generic}
+use Rattle.dwarf_value.specs.declared.types.ValueType.{ValueType}
+use Rattle.dwarf_value.specs.Values.{type_of, Agree, to_u64_of, from_u64_of, abs_of, neg_of, not_of, add_of, sub_of, mul_of, div_of, rem_of, and_of, or_of, xor_of, shl_of, shr_of, shra_of, eq_of, ge_of, gt_of, le_of, lt_of, ne_of, convert_of, reinterpret_of, parse_of}
+use Rattle.dwarf_value.specs.Laws.{IsWidth, AgreeingAnswers as AgreeingResults}
+use Rattle.dwarf_value.proofs.Agreements.{Agree-refl, Agree-Generic, Agree-sums, to_u64_of-Agree, convert_of-Agree, add_of_constant-Agree, abs_of-Agree, neg_of-Agree, not_of-Agree, add_of-Agree, sub_of-Agree, mul_of-Agree, div_of-Agree, rem_of-Agree, and_of-Agree, or_of-Agree, xor_of-Agree, shl_of-Agree, shr_of-Agree, shra_of-Agree, eq_of-Agree, ge_of-Agree, gt_of-Agree, le_of-Agree, lt_of-Agree, ne_of-Agree}
+use Rattle.dwarf_value.proofs.ValueLaws.{reinterpret_of-Agree}
+use Rattle.dwarf_meaning.specs.Operations as operation
+use Rattle.dwarf_meaning.specs.Operations.{Operation, Text}
+use Rattle.dwarf_meaning.specs.Locations.{Location, AtAddress, Piece}
+use Rattle.dwarf_meaning.specs.Requests.{Request, RequiresMemory, RequiresTls, Waiting, Memory, Register, WasmValue, EntryValue, FrameBase, Tls, CallFrameCfa, ParameterRef, RelocatedAddress, IndexedAddress, AtLocation, TypedLiteral, Convert, Reinterpret, Answer, memory_of, register_of, wasm_of, entry_of, frame_base_of, tls_of, cfa_of, parameter_of, relocated_of, indexed_of, location_of, base_type_of}
+use Rattle.dwarf_meaning.specs.Acts.{on_top, on_some, on_answer, answer_of, Act, Pushes, Branches, Locates, Ends, Asks, Refuses, short, unary, binary, act, Use, Gives, Calls, Denies, Misfits, use_of}
+use Rattle.dwarf_laws.specs.Agreement as agreeing
+use Rattle.dwarf_laws.specs.Agreement.{Pairwise, none, more, Both, nothing, something, AgreeingNumbers, AgreeingAnswers, AgreeingLocations, same, AgreeingPieces}
+use Rattle.dwarf_laws.proofs.Pairs.{get_both, choose_pair, top_pair, some_pair, answer_pair, read_pair, answers_agree}
+
+pub data AgreeingActs (w : ℕ) : Act → Act → Type 0 where
+  pushes : {rest rest' pushed pushed' : List Value} → Pairwise (Agree w) rest rest'
+      → Pairwise (Agree w) pushed pushed' → AgreeingActs w (Pushes rest pushed) (Pushes rest' pushed')
+  branches : {rest rest' : List Value} {target : ℤ} → Pairwise (Agree w) rest rest'
+      → AgreeingActs w (Branches rest target) (Branches rest' target)
+  locates : {rest rest' : List Value} {location location' : Location} → Pairwise (Agree w) rest rest'
+      → AgreeingLocations w location location' → AgreeingActs w (Locates rest location) (Locates rest' location')
+  ends : {rest rest' : List Value} {piece piece' : Piece} → Pairwise (Agree w) rest rest'
+      → AgreeingPieces w piece piece' → AgreeingActs w (Ends rest piece) (Ends rest' piece')
+  asks : {rest rest' : List Value} {request : Request} {waiting : Waiting} → Pairwise (Agree w) rest rest'
+      → AgreeingActs w (Asks rest request waiting) (Asks rest' request waiting)
+  refuses : {fault : Fault} → AgreeingActs w (Refuses fault) (Refuses fault)
+
+pub data AgreeingUses (w : ℕ) : Use → Use → Type 0 where
+  gives : {rest rest' : List Value} {x x' : Value} → Pairwise (Agree w) rest rest' → Agree w x x'
+      → AgreeingUses w (Gives rest x) (Gives rest' x')
+  calls : {text : Text} → AgreeingUses w (Calls text) (Calls text)
+  denies : {fault : Fault} → AgreeingUses w (Denies fault) (Denies fault)
+  misfits : AgreeingUses w Misfits Misfits
+
+-- the same address on both sides
+pub same_addresses : (w : ℕ) (x x' : Value) → Agree w x x'
+    → AgreeingLocations w (AtAddress (to_u64_of w x)) (AtAddress (to_u64_of w x'))
+same_addresses w x x' a =
+    subst (λ (n : ℕ). AgreeingLocations w (AtAddress (to_u64_of w x)) (AtAddress n)) (to_u64_of-Agree w x x' a) same
+
+-- ---- operations
+
+module _ (w : ℕ) where
+  asks_equal : (rest rest' : List Value) (request request' : Request) (waiting : Waiting) → request ≡ request'
+      → Pairwise (Agree w) rest rest' → AgreeingActs w (Asks rest request waiting) (Asks rest' request' waiting)
+  asks_equal rest rest' request request' waiting e h =
+      subst (λ (r : Request). AgreeingActs w (Asks rest request waiting) (Asks rest' r waiting)) e (asks h)
+
+  pushes_one : (rest rest' : List Value) (x x' : Value) → Pairwise (Agree w) rest rest' → Agree w x x'
+      → AgreeingActs w (Pushes rest (x ∷ [])) (Pushes rest' (x' ∷ []))
+  pushes_one rest rest' x x' h a = pushes h (more a none)
+
+  top_acts : (values others : List Value) (go go' : Value → List Value → Act) → Pairwise (Agree w) values others
+      → ((x x' : Value) (rest rest' : List Value) → Agree w x x' → Pairwise (Agree w) rest rest'
+      → AgreeingActs w (go x rest) (go' x' rest'))
+      → AgreeingActs w (on_top values short go) (on_top others short go')
+  top_acts values others go go' h g = top_pair (AgreeingActs w) w values others short short go go' h refuses g
+
+  unary_acts : (call : Value → Result Value Error) (values others : List Value)
+      → ((x x' : Value) → Agree w x x' → call x ≡ call x') → Pairwise (Agree w) values others
+      → AgreeingActs w (unary call values) (unary call others)
+  unary_acts call values others equal h =
+      top_acts values others _ _ h (λ x x' rest rest' a b.
+      answer_pair (AgreeingActs w) w _ _ _ _ _ _ (answers_agree w _ _ (equal x x' a)) (λ fault. refuses)
+      (λ y y' c. pushes_one rest rest' y y' b c))
+
+  binary_acts : (call : Value → Value → Result Value Error) (values others : List Value)
+      → ((x x' y y' : Value) → Agree w x x' → Agree w y y' → call x y ≡ call x' y')
+      → Pairwise (Agree w) values others → AgreeingActs w (binary call values) (binary call others)
+  binary_acts call values others equal h =
+      top_acts values others _ _ h (λ y y' below below' a b. top_acts below below' _ _ b (λ x x' rest rest' c d.
+      answer_pair (AgreeingActs w) w _ _ _ _ _ _ (answers_agree w _ _ (equal x x' y y' c a)) (λ fault. refuses)
+      (λ z z' e. pushes_one rest rest' z z' d e)))
+
+  pub act_both : (object object' : Option ℕ) (op : Operation) (values others : List Value)
+      → Both (AgreeingNumbers w) object object' → Pairwise (Agree w) values others
+      → AgreeingActs w (act w object op values) (act w object' op others)
+  unfolding act
+  act_both object object' operation.Drop values others o h = top_acts values others _ _ h (λ x x' rest rest' a b. pushes b none)
+  act_both object object' (operation.Pick index) values others o h =
+      some_pair (AgreeingActs w) (Agree w) _ _ _ _ _ _ (get_both (Agree w) index h) refuses
+      (λ x x' a. pushes_one values others x x' h a)
+  act_both object object' operation.Swap values others o h =
+      top_acts values others _ _ h (λ y y' below below' a b. top_acts below below' _ _ b
+      (λ x x' rest rest' c d. pushes d (more a (more c none))))
+  act_both object object' operation.Rot values others o h =
+      top_acts values others _ _ h (λ z z' below below' a b. top_acts below below' _ _ b
+      (λ y y' lower lower' c d. top_acts lower lower' _ _ d
+      (λ x x' rest rest' e f. pushes f (more a (more e (more c none))))))
+  act_both object object' operation.Abs values others o h = unary_acts (abs_of w) values others (abs_of-Agree w) h
+  act_both object object' operation.Neg values others o h = unary_acts (neg_of w) values others (neg_of-Agree w) h
+  act_both object object' operation.Not values others o h = unary_acts (not_of w) values others (not_of-Agree w) h
+  act_both object object' operation.Plus values others o h = binary_acts (add_of w) values others (add_of-Agree w) h
+  act_both object object' operation.Minus values others o h = binary_acts (sub_of w) values others (sub_of-Agree w) h
+  act_both object object' operation.Mul values others o h = binary_acts (mul_of w) values others (mul_of-Agree w) h
+  act_both object object' operation.Div values others o h = binary_acts (div_of w) values others (div_of-Agree w) h
+  act_both object object' operation.Mod values others o h = binary_acts (rem_of w) values others (rem_of-Agree w) h
+  act_both object object' operation.And values others o h = binary_acts (and_of w) values others (and_of-Agree w) h
+  act_both object object' operation.Or values others o h = binary_acts (or_of w) values others (or_of-Agree w) h
+  act_both object object' operation.Xor values others o h = binary_acts (xor_of w) values others (xor_of-Agree w) h
+  act_both object object' operation.Shl values others o h = binary_acts (shl_of w) values others (shl_of-Agree w) h
+  act_both object object' operation.Shr values others o h = binary_acts (shr_of w) values others (shr_of-Agree w) h
+  act_both object object' operation.Shra values others o h = binary_acts (shra_of w) values others (shra_of-Agree w) h
+  act_both object object' operation.Eq values others o h = binary_acts (eq_of w) values others (eq_of-Agree w) h
+  act_both object object' operation.Ge values others o h = binary_acts (ge_of w) values others (ge_of-Agree w) h
+  act_both object object' operation.Gt values others o h = binary_acts (gt_of w) values others (gt_of-Agree w) h
+  act_both object object' operation.Le values others o h = binary_acts (le_of w) values others (le_of-Agree w) h
+  act_both object object' operation.Lt values others o h = binary_acts (lt_of w) values others (lt_of-Agree w) h
+  act_both object object' operation.Ne values others o h = binary_acts (ne_of w) values others (ne_of-Agree w) h
+  act_both object object' (operation.PlusConstant value) values others o h =
+      unary_acts (λ x. add_of w x (from_u64_of (type_of x) value)) values others (add_of_constant-Agree w value) h
+  act_both object object' (operation.UnsignedConstant value) values others o h = pushes_one values others _ _ h (Agree-refl w _)
+  act_both object object' (operation.SignedConstant value) values others o h = pushes_one values others _ _ h (Agree-refl w _)
+  act_both object object' operation.PushObjectAddress values others o h =
+      some_pair (AgreeingActs w) (AgreeingNumbers w) _ _ _ _ _ _ o refuses
+      (λ m n e. pushes_one values others _ _ h (Agree-Generic w m n e))
+  act_both object object' (operation.Bra target) values others o h =
+      top_acts values others _ _ h (λ x x' rest rest' a b. choose_pair (AgreeingActs w) _ _ _ _ _ _
+      (ap (λ (n : ℕ). n == 0) (to_u64_of-Agree w x x' a)) (pushes b none) (branches b))
+  act_both object object' (operation.Skip target) values others o h = branches h
+  act_both object object' operation.Nop values others o h = pushes h none
+  act_both object object' (operation.VariableValue offset) values others o h = refuses
+  act_both object object' operation.Uninitialized values others o h = refuses
+  act_both object object' (operation.Deref base_type size false) values others o h =
+      choose_pair (AgreeingActs w) _ _ _ _ _ _ refl refuses
+      (top_acts values others _ _ h (λ x x' rest rest' a b.
+      asks_equal rest rest' _ _ Memory (ap (λ (n : ℕ). RequiresMemory n size None base_type) (to_u64_of-Agree w x x' a)) b))
+  act_both object object' (operation.Deref base_type size true) values others o h =
+      choose_pair (AgreeingActs w) _ _ _ _ _ _ refl refuses
+      (top_acts values others _ _ h (λ x x' below below' a b. top_acts below below' _ _ b (λ y y' rest rest' c d.
+      let p = to_u64_of-Agree w x x' a in let q = to_u64_of-Agree w y y' c in
+      asks_equal rest rest' _ _ Memory (cc) d)))
+  act_both object object' (operation.RegisterOffset register offset base_type) values others o h = asks h
+  act_both object object' (operation.FrameOffset offset) values others o h = asks h
+  act_both object object' operation.TLS values others o h =
+      top_acts values others _ _ h (λ x x' rest rest' a b. asks_equal rest rest' _ _ Tls
+      (ap RequiresTls (to_u64_of-Agree w x x' a)) b)
+  act_both object object' operation.CallFrameCFA values others o h = asks h
+  act_both object object' (operation.Call offset) values others o h = asks h
+  act_both object object' (operation.EntryValue expression) values others o h = asks h
+  act_both object object' (operation.ParameterRef offset) values others o h = asks h
+  act_both object object' (operation.Address address) values others o h = asks h
+  act_both object object' (operation.AddressIndex index) values others o h = asks h
+  act_both object object' (operation.ConstantIndex index) values others o h = asks h
+  act_both object object' (operation.TypedLiteral base_type value) values others o h = asks h
+  act_both object object' (operation.Convert base_type) values others o h = asks h
+  act_both object object' (operation.Reinterpret base_type) values others o h = asks h
+  act_both object object' (operation.WasmLocal index) values others o h = asks h
+  act_both object object' (operation.WasmGlobal index) values others o h = asks h
+  act_both object object' (operation.WasmStack index) values others o h = asks h
+  act_both object object' (operation.Register register) values others o h = locates h same
+  act_both object object' (operation.ImplicitValue bytes) values others o h = locates h same
+  act_both object object' operation.StackValue values others o h =
+      top_acts values others _ _ h (λ x x' rest rest' a b. locates b (agreeing.values a))
+  act_both object object' (operation.ImplicitPointer value byte_offset) values others o h = locates h same
+  act_both object object' (operation.Piece size_in_bits bit_offset) values others o h =
+      top_pair (AgreeingActs w) w values others _ _ _ _ h (ends none (record { sizes = refl; offsets = refl; locations = same }))
+      (λ x x' rest rest' a b. ends b (record { sizes = refl; offsets = refl; locations = same_addresses w x x' a }))
+
+-- ---- answers
+
+-- what two agreeing answers say
+module _ (w : ℕ) where
+  memory_both : (a b : Answer) → AgreeingAnswers w a b → Both (Agree w) (memory_of a) (memory_of b)
+  memory_both a b (agreeing.memory h) = something h
+  memory_both a b _ = nothing
+
+  register_both : (a b : Answer) → AgreeingAnswers w a b → Both (Agree w) (register_of a) (register_of b)
+  register_both a b (agreeing.register h) = something h
+  register_both a b _ = nothing
+
+  wasm_value_both : (a b : Answer) → AgreeingAnswers w a b → Both (Agree w) (wasm_of a) (wasm_of b)
+  wasm_value_both a b (agreeing.wasm_value h) = something h
+  wasm_value_both a b _ = nothing
+
+  entry_value_both : (a b : Answer) → AgreeingAnswers w a b → Both (Agree w) (entry_of a) (entry_of b)
+  entry_value_both a b (agreeing.entry_value h) = something h
+  entry_value_both a b _ = nothing
+
+  frame_base_both : (a b : Answer) → AgreeingAnswers w a b → Both (AgreeingNumbers w) (frame_base_of a) (frame_base_of b)
+  frame_base_both a b (agreeing.frame_base h) = something h
+  frame_base_both a b _ = nothing
+
+  tls_both : (a b : Answer) → AgreeingAnswers w a b → Both (AgreeingNumbers w) (tls_of a) (tls_of b)
+  tls_both a b (agreeing.tls h) = something h
+  tls_both a b _ = nothing
+
+  cfa_both : (a b : Answer) → AgreeingAnswers w a b → Both (AgreeingNumbers w) (cfa_of a) (cfa_of b)
+  cfa_both a b (agreeing.cfa h) = something h
+  cfa_both a b _ = nothing
+
+  parameter_both : (a b : Answer) → AgreeingAnswers w a b → Both (AgreeingNumbers w) (parameter_of a) (parameter_of b)
+  parameter_both a b (agreeing.parameter h) = something h
+  parameter_both a b _ = nothing
+
+  relocated_both : (a b : Answer) → AgreeingAnswers w a b → Both (AgreeingNumbers w) (relocated_of a) (relocated_of b)
+  relocated_both a b (agreeing.relocated h) = something h
+  relocated_both a b _ = nothing
+
+  indexed_both : (a b : Answer) → AgreeingAnswers w a b → Both (AgreeingNumbers w) (indexed_of a) (indexed_of b)
+  indexed_both a b (agreeing.indexed h) = something h
+  indexed_both a b _ = nothing
+
+  location_both : (a b : Answer) → AgreeingAnswers w a b → Both (λ (s t : Text). s ≡ t) (location_of a) (location_of b)
+  location_both a b agreeing.location = something refl
+  location_both a b _ = nothing
+
+  base_type_both : (a b : Answer) → AgreeingAnswers w a b → Both (λ (s t : ValueType). s ≡ t) (base_type_of a) (base_type_of b)
+  base_type_both a b agreeing.base_type = something refl
+  base_type_both a b _ = nothing
+
+module _ (w : ℕ) (width : IsWidth w) where
+  some_uses : {X : Type 0} (Q : X → X → Type 0) (o o' : Option X) (go go' : X → Use) → Both Q o o'
+      → ((x x' : X) → Q x x' → AgreeingUses w (go x) (go' x')) → AgreeingUses w (on_some o Misfits go) (on_some o' Misfits go')
+  some_uses Q o o' go go' h g = some_pair (AgreeingUses w) Q o o' Misfits Misfits go go' h misfits g
+
+  answer_uses : (r r' : Result Value Error) (rest rest' : List Value) → AgreeingResults w r r' → Pairwise (Agree w) rest rest'
+      → AgreeingUses w (on_answer (answer_of r) Denies (Gives rest)) (on_answer (answer_of r') Denies (Gives rest'))
+  answer_uses r r' rest rest' h b =
+      answer_pair (AgreeingUses w) w r r' Denies Denies _ _ h (λ fault. denies) (λ x x' a. gives b a)
+
+  generic_uses : (values others : List Value) (o o' : Option ℕ) → Pairwise (Agree w) values others → Both (AgreeingNumbers w) o o'
+      → AgreeingUses w (on_some o Misfits (λ n. Gives values (Generic n))) (on_some o' Misfits (λ n. Gives others (Generic n)))
+  generic_uses values others o o' h b = some_uses (AgreeingNumbers w) o o' _ _ b (λ m n e. gives h (Agree-Generic w m n e))
+
+  pub use_both : (waiting : Waiting) (x y : Answer) (values others : List Value) → AgreeingAnswers w x y
+      → Pairwise (Agree w) values others → AgreeingUses w (use_of w waiting x values) (use_of w waiting y others)
+  unfolding use_of
+  use_both Memory x y values others a h = some_uses (Agree w) _ _ _ _ (memory_both w x y a) (λ v v' b. gives h b)
+  use_both (Register offset) x y values others a h =
+      some_uses (Agree w) _ _ _ _ (register_both w x y a) (λ v v' b.
+      answer_uses _ _ values others (answers_agree w _ _ (add_of_constant-Agree w (residue 64 offset) v v' b)) h)
+  use_both WasmValue x y values others a h = some_uses (Agree w) _ _ _ _ (wasm_value_both w x y a) (λ v v' b. gives h b)
+  use_both EntryValue x y values others a h = some_uses (Agree w) _ _ _ _ (entry_value_both w x y a) (λ v v' b. gives h b)
+  use_both (FrameBase offset) x y values others a h =
+      some_uses (AgreeingNumbers w) _ _ _ _ (frame_base_both w x y a)
+      (λ m n e. gives h (Agree-sums w m n offset width.within_64 e))
+  use_both Tls x y values others a h = generic_uses values others _ _ h (tls_both w x y a)
+  use_both CallFrameCfa x y values others a h = generic_uses values others _ _ h (cfa_both w x y a)
+  use_both ParameterRef x y values others a h = generic_uses values others _ _ h (parameter_both w x y a)
+  use_both RelocatedAddress x y values others a h = generic_uses values others _ _ h (relocated_both w x y a)
+  use_both IndexedAddress x y values others a h = generic_uses values others _ _ h (indexed_both w x y a)
+  use_both AtLocation x y values others a h =
+      some_uses (λ (s t : Text). s ≡ t) _ _ Calls Calls (location_both w x y a)
+      (λ s t e. subst (λ (p : Text). AgreeingUses w (Calls s) (Calls p)) e calls)
+  use_both (TypedLiteral value) x y values others a h =
+      some_uses (λ (s t : ValueType). s ≡ t) _ _ _ _ (base_type_both w x y a) (λ s t e.
+      subst (λ (p : ValueType). AgreeingUses w (on_answer (parse_of s value.is_big value.bytes) Denies (Gives values))
+      (on_answer (parse_of p value.is_big value.bytes) Denies (Gives others))) e
+      (read_pair (AgreeingUses w) (parse_of s value.is_big value.bytes) Denies Denies (Gives values) (Gives others)
+      (λ fault. denies) (λ v. gives h (Agree-refl w v))))
+  use_both Convert x y values others a h =
+      some_uses (λ (s t : ValueType). s ≡ t) _ _ _ _ (base_type_both w x y a) (λ s t e.
+      top_pair (AgreeingUses w) w values others _ _ _ _ h denies (λ v v' rest rest' b c.
+      answer_uses _ _ rest rest' (answers_agree w _ _ (typed_convert s t v v' e b)) c))
+    where
+      typed_convert : (s t : ValueType) (v v' : Value) → s ≡ t → Agree w v v' → convert_of w s v ≡ convert_of w t v'
+      typed_convert s t v v' e b = subst (λ (p : ValueType). convert_of w s v ≡ convert_of w p v') e (convert_of-Agree s w v v' b)
+  use_both Reinterpret x y values others a h =
+      some_uses (λ (s t : ValueType). s ≡ t) _ _ _ _ (base_type_both w x y a) (λ s t e.
+      top_pair (AgreeingUses w) w values others _ _ _ _ h denies (λ v v' rest rest' b c.
+      answer_uses _ _ rest rest' (typed_reinterpret s t v v' e b) c))
+    where
+      typed_reinterpret : (s t : ValueType) (v v' : Value) → s ≡ t → Agree w v v'
+          → AgreeingResults w (reinterpret_of w s v) (reinterpret_of w t v')
+      typed_reinterpret s t v v' e b =
+          subst (λ (p : ValueType). AgreeingResults w (reinterpret_of w s v) (reinterpret_of w p v')) e
+          (reinterpret_of-Agree w s v v' width b)

@@ -1,0 +1,216 @@
+-- Up to the call: what is asked, and what is kept there.
+use Rattle.std.proofs.Common.{ℕ, ◌+◌, ◌-◌, ◌≡◌, ◌≤◌, ◌<◌, Bool, true, false, List, [], ◌∷◌, ◌++◌, length, drop, Option, Some, None, Ok, refl, sym, ap, subst, ◌∙◌, ◌==◌, arith, append_assoc, length-append}
+use Rattle.std.proofs.lemmas.Bool.Decides.{nat_tests}
+use Rattle.std.proofs.lemmas.List.{drop-append-le, length-drop}
+use Rattle.std.proofs.Math.Seq.{drop-append_seam}
+use Rattle.dwarf_base.specs.declared.common.Encoding.{Encoding}
+use Rattle.dwarf_base.specs.Faults.{TooManyIterations, InvalidExpressionTerminator}
+use Rattle.dwarf_meaning.specs.Operations as operation
+use Rattle.dwarf_meaning.specs.Operations.{Operation, Text, DieReference}
+use Rattle.dwarf_meaning.specs.Locations.{Location}
+use Rattle.dwarf_meaning.specs.Spelling.{Spells}
+use Rattle.dwarf_meaning.specs.Splitting.{Joined}
+use Rattle.dwarf_meaning.specs.Splitting as splitting
+use Rattle.dwarf_meaning.specs.Requests.{Request, RequiresAtLocation, AtLocation, location_of, Input}
+use Rattle.dwarf_meaning.specs.Acts.{on_some, act, Calls, Misfits, use_of}
+use Rattle.dwarf_meaning.specs.Stores.{Setup, address_bits, Store, Last, Nothing, Plain, Pieced, Pushed, Called, Located, push_frame, done}
+use Rattle.dwarf_meaning.specs.Run.{Frame, End, Finished, Asking, Failed, Course, ended, passing, asking, back, called, used, asked, led, read, can_count, counted, does, counts, held, turn_by, run}
+use Rattle.dwarf_meaning.specs.Meaning.{First}
+use Rattle.dwarf_meaning.specs.RunLaws.{EndOpen}
+use Rattle.dwarf_meaning.proofs.Choices.{choose_true, choose_false}
+use Rattle.dwarf_meaning.proofs.Turns.{run_turn}
+use Rattle.dwarf_meaning.proofs.Callees.{run_open}
+use Rattle.dwarf_meaning.proofs.Decoded.{spelled_operation, whole_operation}
+use Rattle.dwarf_laws.proofs.Jumps.{straight_jumps, act_jumps}
+use Rattle.dwarf_laws.proofs.Calm.{free, calm}
+use Rattle.dwarf_laws.proofs.Texts.{stands, StraightFrom, straight_step}
+use Rattle.dwarf_laws.proofs.Later.{AsksBehind, OpenBehind, run_later}
+use Rattle.dwarf_laws.proofs.Phase as phase
+use Rattle.dwarf_laws.proofs.Phase.{last_place, last_snoc, frames_of, open_some, turn_leads}
+
+abbrev inputs_of : End → List Input
+inputs_of (Finished s inputs) = inputs
+inputs_of (Asking request frames inputs) = inputs
+inputs_of (Failed fault) = []
+
+module _ (encoding : Encoding) (bits : ℕ) (A K B : List ℕ) (big : Bool) (offset : DieReference)
+    (spelled : Spells encoding bits big K (operation.Call offset)) where
+  abbrev S : Setup
+  S = free encoding bits
+
+  abbrev outer : Text
+  outer = record { bytes = A ++ (K ++ B); is_big = big }
+
+  abbrev call : Request
+  call = RequiresAtLocation offset
+
+  abbrev behind_call : Frame
+  behind_call = record { text = outer; place = length A + length K }
+
+  abbrev AtCall : End → Type 0
+  AtCall end = end ≡ Asking call (behind_call ∷ []) []
+
+  some_call : 0 < length K
+  some_call = (whole_operation encoding bits big K (operation.Call offset) spelled).some_bytes
+
+  read_call : read S outer (length A) ≡ Ok (operation.Call offset, B)
+  read_call =
+      ap (λ (xs : List ℕ). read S (record { bytes = xs; is_big = big }) 0) (drop-append_seam A (K ++ B))
+      ∙ spelled_operation encoding bits big K (operation.Call offset) B spelled
+
+  call_place : length (A ++ (K ++ B)) - length B ≡ length A + length K
+  call_place = omega (arith, length-append A (K ++ B), length-append K B)
+
+  -- ---- the call's turn
+
+  abbrev pub call_course : Store → List Input → Course
+  call_course t inputs =
+      passing (record { text = outer; place = length A })
+      (asking call (asked (run S) S behind_call 0 call AtLocation (counted (calm t)) inputs))
+
+  does_call : (s : Store) (inputs : List Input) → does (run S) S outer 0 s inputs (read S outer (length A)) ≡ asking
+      call (asked (run S) S behind_call 0 call AtLocation s inputs)
+  unfolding act
+  does_call s inputs =
+      ap (does (run S) S outer 0 s inputs) read_call
+      ∙ ap (λ (k : ℕ). led (run S) S outer 0 k inputs
+      (done S k (length (A ++ (K ++ B))) (act (address_bits S) s.object_address (operation.Call offset) s.values)
+      s)) call_place
+
+  counts_call : (t : Store) (before : List Input) → AtCall (counts (run S) S outer (length A) 0 (calm t) before).end
+      → (inputs : List Input) → counts (run S) S outer (length A) 0 (calm t) inputs ≡ call_course t inputs
+  counts_call t before at_call inputs = by_test (can_count (calm t)) refl
+    where
+      by_test : (b : Bool) → can_count (calm t) ≡ b → counts (run S) S outer (length A) 0 (calm t) inputs ≡ call_course t inputs
+      by_test true e =
+          choose_true (can_count (calm t)) _ _ e ∙ ap (passing (record { text = outer; place = length A }))
+          (does_call (counted (calm t)) inputs)
+      by_test false e =
+          let x : Failed TooManyIterations ≡ Asking call (behind_call ∷ []) [] = sym
+          (ap (λ (c : Course). c.end) (choose_false (can_count (calm t))
+          (passing (record { text = outer; place = length A })
+          (does (run S) S outer 0 (counted (calm t)) before (read S outer (length A))))
+          (ended (Failed TooManyIterations)) e)) ∙ at_call in
+          absurd cc
+
+  held_call : (location : Location) (s : Store) (inputs : List Input)
+      → AtCall (held (run S) S outer 0 location s inputs (read S outer (length A))).end → ⊥
+  held_call location s inputs at_call =
+      let x : Failed (InvalidExpressionTerminator (length (A ++ (K ++ B)) - length B - 1)) ≡ Asking call (behind_call ∷ []) [] = sym (ap (λ r. (held (run S) S outer 0 location s inputs r).end) read_call) ∙ at_call in
+      cc
+
+  by_call : (last : Last) (t : Store) (before : List Input)
+      → AtCall (turn_by (run S) S outer (length A) 0 (calm t) before last).end → (inputs : List Input)
+      → turn_by (run S) S outer (length A) 0 (calm t) inputs last ≡ call_course t inputs
+  by_call (Located location) t before at_call inputs = absurd (held_call location (calm t) before at_call)
+  by_call Nothing t before at_call inputs = counts_call t before at_call inputs
+  by_call Plain t before at_call inputs = counts_call t before at_call inputs
+  by_call Pieced t before at_call inputs = counts_call t before at_call inputs
+  by_call Pushed t before at_call inputs = counts_call t before at_call inputs
+  by_call Called t before at_call inputs = counts_call t before at_call inputs
+
+  opened : (t : Store) (inputs : List Input) → run S outer (length A) 0 (calm t) inputs ≡ turn_by (run S) S outer
+      (length A) 0 (calm t) inputs t.last
+  opened t inputs =
+      run_turn S outer (length A) 0 (calm t) inputs
+      ∙ choose_false (length A == length (A ++ (K ++ B))) _ _ (let l = length-append A (K ++ B) in
+      let k = length-append K B in let m = some_call in grind (arith, nat_tests))
+
+  -- where the run of some inputs stays at the call, the run of any asks it
+  pub call_turn : (t : Store) (before : List Input) → AtCall (run S outer (length A) 0 (calm t) before).end
+      → (inputs : List Input) → run S outer (length A) 0 (calm t) inputs ≡ call_course t inputs
+  call_turn t before at_call inputs =
+      opened t inputs ∙ by_call t.last t before (sym (ap (λ (c : Course). c.end) (opened t before)) ∙ at_call) inputs
+
+  pub straight_behind : StraightFrom encoding bits outer (length A) → StraightFrom encoding bits outer (length A + length K)
+  straight_behind h =
+      subst (λ (k : ℕ). StraightFrom encoding bits outer k) call_place
+      (straight_step encoding bits outer (length A) (operation.Call offset) B read_call h).1
+
+  -- ---- the call is not asked again
+
+  module _ (straight : StraightFrom encoding bits outer (length A + length K)) where
+    later_not : (s : Store) (inputs : List Input) → AtCall (run S outer (length A + length K) 0 s inputs).end → ⊥
+    later_not s inputs at_call =
+        let o : OpenBehind outer (length A + length K) (behind_call ∷ []) = subst
+        (AsksBehind outer (length A + length K)) at_call
+        (run_later encoding bits outer (length A + length K) (length A + length K) 0 s inputs (omega arith) straight) in
+        let e : length A + length K ≡ o.place = ap last_place o.is ∙ last_snoc o.inner
+        (record { text = outer; place = o.place }) in
+        omega (arith, e, o.later)
+
+    back_not : (callee : Text) (s : Store) (inputs : List Input) (c : Course) (end : End) → EndOpen inputs callee end
+        → AtCall (back (run S) behind_call 0 c end).end → ⊥
+    back_not callee s inputs c (Finished u left) o at_call = later_not u left at_call
+    back_not callee s inputs c (Asking request frames left) o at_call =
+        let e : length (frames ++ behind_call ∷ []) ≡ 1 = ap (λ (end : End). length (frames_of end)) at_call in
+        let some : 0 < length frames = open_some inputs callee frames o in
+        omega (arith, e, some, length-append frames (behind_call ∷ []))
+    back_not callee s inputs c (Failed fault) o at_call = let x : Failed fault ≡ Asking call (behind_call ∷ []) [] = at_call in cc
+
+    called_not : (callee : Text) (bytes : List ℕ) (s : Store) (inputs : List Input)
+        → AtCall (called (run S) S behind_call 0 callee bytes (calm s) inputs).end → ⊥
+    unfolding push_frame
+    called_not callee [] s inputs at_call = later_not _ inputs at_call
+    called_not callee (byte ∷ bytes) s inputs at_call =
+        back_not callee s inputs (run S callee 0 1 (calm s) inputs) (run S callee 0 1 (calm s) inputs).end
+        (run_open S callee 0 1 (calm s) inputs) at_call
+
+    used_not : (o : Option Text) (s : Store) (input : Input) (inputs : List Input)
+        → AtCall (used (run S) S behind_call 0 (on_some o Misfits Calls) (calm s) inputs
+        (ended (Asking call (behind_call ∷ []) (input ∷ inputs)))).end → ⊥
+    unfolding on_some
+    used_not None s input inputs at_call = let x : input ∷ inputs ≡ [] = ap inputs_of at_call in cc
+    used_not (Some callee) s input inputs at_call = called_not callee callee.bytes s inputs at_call
+
+    asked_not : (t : Store) (input : Input) (inputs : List Input)
+        → AtCall (asked (run S) S behind_call 0 call AtLocation (counted (calm t)) (input ∷ inputs)).end → ⊥
+    unfolding use_of
+    asked_not t input inputs at_call =
+        used_not (location_of input.answer) (record t
+        { count = t.count + 1; object_address = input.object_address; maximum = input.maximum }) input inputs at_call
+
+  module _ (target : First) where
+    abbrev From : ℕ → Type 0
+    From p = phase.From encoding bits A K B big offset spelled target p
+
+    from_call : StraightFrom encoding bits outer (length A + length K) → From (length A)
+    from_call straight t [] f =
+        λ at_call. record {
+          front = [];
+          store = t;
+          fits = f;
+          at_call = at_call;
+          goes_on = λ X more. record
+              { requests = refl; end = refl };
+        }
+    from_call straight t (input ∷ inputs) f =
+        λ at_call. absurd (asked_not straight t input inputs
+        (sym (ap (λ (c : Course). c.end) (call_turn t (input ∷ inputs) at_call (input ∷ inputs))) ∙ at_call))
+
+    pub from : (todo : List ℕ) (ops : List Operation) → Joined encoding bits big todo ops → (p : ℕ) → drop p A ≡ todo
+        → p ≤ length A → StraightFrom encoding bits outer p → From p
+    from todo ops splitting.none p e le straight =
+        let x : length (drop p A) ≡ 0 = ap length e in
+        let l : p ≡ length A = omega (arith, x, length-drop p A, le) in
+        subst From (sym l) (from_call (straight_behind (subst (λ (k : ℕ). StraightFrom encoding bits outer k) l straight)))
+    from todo ops (splitting.one_more front rest op ops' s more) p e le straight =
+        let reads : (X : List ℕ) → read S (record { bytes = A ++ X; is_big = big }) p ≡ Ok (op, rest ++ X) = λ X.
+        ap (λ (xs : List ℕ). read S (record { bytes = xs; is_big = big }) 0)
+        (drop-append-le p A X le ∙ (ap (λ (xs : List ℕ). xs ++ X) e ∙ append_assoc front rest X))
+        ∙ spelled_operation encoding bits big front op (rest ++ X) s in
+        let alone : read S (record { bytes = A; is_big = big }) p ≡ Ok (op, rest) = ap
+        (λ (xs : List ℕ). read S (record { bytes = xs; is_big = big }) 0) e ∙ spelled_operation encoding bits big
+        front op rest s in
+        let st = stands encoding bits (record { bytes = A; is_big = big }) p op rest alone in
+        let step = straight_step encoding bits outer p op (rest ++ (K ++ B)) (reads (K ++ B)) straight in
+        let few : length rest ≤ length A = let a = st.left in let b = length-drop p A in omega (arith, a, b) in
+        let place : (X : List ℕ) → length (A ++ X) - length (rest ++ X) ≡ length A - length rest = λ X. omega
+        (arith, length-append A X, length-append rest X, few) in
+        let p' = length A - length rest in
+        turn_leads encoding bits A K B big offset spelled target p' (omega (arith, some_call))
+        (from rest ops' more p' st.behind (omega arith)
+        (subst (λ (k : ℕ). StraightFrom encoding bits outer k) (place (K ++ B)) step.1))
+        p op rest reads (let a = st.within in let b = st.some in
+        omega (arith, a, b)) place (λ bits' object values. act_jumps (λ z. ⊥) bits' object op values
+        (straight_jumps (λ z. ⊥) op step.0))

@@ -1,0 +1,105 @@
+-- Without limits and refusals nothing that is kept depends on the count.
+use Rattle.std.proofs.Common.{ℕ, ◌+◌, ◌≡◌, ◌≤◌, ℤ, false, List, [], ◌∷◌, ◌++◌, Option, Some, None, Result, Ok, refl, sym, subst, arith, nat_lt}
+use Rattle.std.proofs.lemmas.Bool.Decides.{nat_tests}
+use Rattle.dwarf_base.specs.declared.common.Encoding.{Encoding}
+use Rattle.dwarf_base.specs.Faults.{Fault, BadBranchTarget}
+use Rattle.dwarf_value.specs.declared.types.Value.{Value}
+use Rattle.dwarf_meaning.specs.Locations.{Location}
+use Rattle.dwarf_meaning.specs.Requests.{Request, Waiting}
+use Rattle.dwarf_meaning.specs.Acts.{Act, Pushes, Branches, Locates, Ends, Asks, Refuses}
+use Rattle.dwarf_meaning.specs.Stores.{Setup, Store, Never, Plain, Pieced, Located, push_value, push_piece, push_values, Next, Goes, Stops, Fails, goes, done, branch_target, branch}
+use Rattle.dwarf_meaning.specs.Run.{holds}
+use Rattle.dwarf_meaning.proofs.Choices.{choose_false, choose_both}
+use Rattle.dwarf_laws.proofs.Jumps.{Jumping, pushes, branches, locates, ends, asks, refuses}
+
+abbrev pub free : Encoding → (bits : ℕ) → Setup
+free encoding bits =
+    record { encoding = encoding; offset_bits = bits; limits = record { values = None; frames = None; pieces = None } }
+
+-- no push is refused
+abbrev pub calm : Store → Store
+calm t = record t { refusal = Never }
+
+-- the same, but for n more that were counted
+abbrev pub ahead : ℕ → Store → Store
+ahead n t = record t { count = t.count + n; refusal = Never }
+
+-- values pushed in order
+abbrev pub piled : List Value → List Value → List Value
+piled [] values = values
+piled (value ∷ more) values = piled more (value ∷ values)
+
+module _ (encoding : Encoding) (bits : ℕ) where
+  abbrev S : Setup
+  S = free encoding bits
+
+  pub piles_calm : (pushed : List Value) (t : Store)
+      → push_values S pushed (calm t) ≡ Ok (calm (record t { values = piled pushed t.values }))
+  unfolding push_value
+  piles_calm [] t = refl
+  piles_calm (value ∷ more) t = piles_calm more (record t { values = value ∷ t.values })
+
+  piles_ahead : (n : ℕ) (pushed : List Value) (t : Store)
+      → push_values S pushed (ahead n t) ≡ Ok (ahead n (record t { values = piled pushed t.values }))
+  unfolding push_value
+  piles_ahead n [] t = refl
+  piles_ahead n (value ∷ more) t = piles_ahead n more (record t { values = value ∷ t.values })
+
+  -- what two operations lead to, at places that are related; the settings stay
+  pub data NextBoth (n : ℕ) (Al : ℕ → ℕ → Type 0) (object : Option ℕ) (maximum : ℕ) : Next → Next → Type 0 where
+    goes_both : {q q' : ℕ} (t : Store) → Al q q' → t.object_address ≡ object → t.maximum ≡ maximum
+        → NextBoth n Al object maximum (Goes q (ahead n t)) (Goes q' (calm t))
+    stops_both : {request : Request} {waiting : Waiting} (t : Store) → t.object_address ≡ object → t.maximum ≡ maximum
+        → NextBoth n Al object maximum (Stops request waiting (ahead n t)) (Stops request waiting (calm t))
+    fails_both : {fault : Fault} {next : Next} → NextBoth n Al object maximum (Fails fault) next
+
+  module _ (n : ℕ) (Al : ℕ → ℕ → Type 0) (len len' place place' : ℕ) where
+    -- a branch to a place of the text leads to a place beside it
+    abbrev pub Lands : ℤ → Type 0
+    Lands target =
+        branch_target S place target ≤ len → (branch_target S place' target ≤ len') × Al
+        (branch_target S place target) (branch_target S place' target)
+
+    branch_both : (target : ℤ) (t : Store) → Lands target
+        → NextBoth n Al t.object_address t.maximum (branch len (branch_target S place target) (ahead n t))
+        (branch len' (branch_target S place' target) (calm t))
+    branch_both target t h =
+        choose_both (λ (x : Next). NextBoth n Al t.object_address t.maximum x
+        (branch len' (branch_target S place' target) (calm t))) (nat_lt len (branch_target S place target)) _ _
+        (λ e. fails_both)
+        (λ e.
+        let lands = h (grind (arith, nat_tests)) in
+        let no : nat_lt len' (branch_target S place' target) ≡ false = let l = lands.0 in grind (arith, nat_tests) in
+        subst (λ (x : Next). NextBoth n Al t.object_address t.maximum
+        (Goes (branch_target S place target) (ahead n t)) x)
+        (sym (choose_false (nat_lt len' (branch_target S place' target))
+        (Fails (BadBranchTarget (branch_target S place' target))) (Goes (branch_target S place' target) (calm t))
+        no)) (goes_both t lands.1 refl refl))
+
+    pub done_both : (a : Act) (t : Store) → Al place place' → Jumping Lands a
+        → NextBoth n Al t.object_address t.maximum (done S place len a (ahead n t)) (done S place' len' a (calm t))
+    unfolding push_piece
+    done_both (Pushes rest pushed) t al pushes =
+        let u : Store = record t { values = rest; last = Plain } in
+        let v : Store = record u { values = piled pushed rest } in
+        subst (λ (r : Result Store Fault). NextBoth n Al t.object_address t.maximum (goes place r)
+        (goes place' (push_values S pushed (calm u)))) (sym (piles_ahead n pushed u))
+        (subst (λ (r : Result Store Fault). NextBoth n Al t.object_address t.maximum (Goes place (ahead n v))
+        (goes place' r)) (sym (piles_calm pushed u)) (goes_both v al refl refl))
+    done_both (Branches rest target) t al (branches h) = branch_both target (record t { values = rest; last = Plain }) h
+    done_both (Locates rest location) t al locates = goes_both (record t { values = rest; last = Located location }) al refl refl
+    done_both (Ends rest piece) t al ends =
+        goes_both (record t { values = rest; last = Pieced; pieces = t.pieces ++ piece ∷ [] }) al refl refl
+    done_both (Asks rest request waiting) t al asks = stops_both (record t { values = rest }) refl refl
+    done_both (Refuses fault) t al refuses = fails_both
+
+    pub holds_both : (location : Location) (t : Store) (o : Option (ℕ × Option ℕ)) → Al place place'
+        → NextBoth n Al t.object_address t.maximum (holds S location place (ahead n t) o) (holds S location place' (calm t) o)
+    unfolding push_piece
+    holds_both location t (Some piece) al =
+        goes_both (record t {
+          last = Pieced;
+          pieces = t.pieces ++ record
+              { size_in_bits = Some piece.0; bit_offset = piece.1; location = location } ∷ [];
+        }) al refl refl
+    holds_both location t None al = fails_both

@@ -1,0 +1,262 @@
+-- Two evaluations of one text, step by step.
+use Rattle.std.proofs.Common.{ℕ, ◌≡◌, ◌≢◌, ap, refl, sym, ◌∙◌, ◌⊎◌, inl, inr, List, [], ◌∷◌, ◌++◌, Option, Some, None}
+use Rattle.std.specs.Prelude.{◌↔◌}
+use Rattle.dwarf_base.specs.Faults.{StackFull}
+use Rattle.dwarf_value.specs.Laws.{IsWidth}
+use Rattle.dwarf_meaning.specs.Operations.{Text}
+use Rattle.dwarf_meaning.specs.Requests.{Answer, Input}
+use Rattle.dwarf_meaning.specs.Kinds.{kind_of_answer}
+use Rattle.dwarf_meaning.specs.Stores.{Limits, Setup, address_bits, Refusal}
+use Rattle.dwarf_meaning.specs.Meaning.{Outcome, Faults, First}
+use Rattle.dwarf_meaning.specs.Steps.{Step, InitialValue, ObjectAddress, MaxIterations, Evaluate, Resume, Told, outcome_from, outcome_of, IsEvaluable, Awaits, IsUntold, Allows, begun, heard, after, Reply, reply, replies, step_replies, after_step, answers}
+use Rattle.dwarf_laws.specs.Agreement as agreeing
+use Rattle.dwarf_laws.specs.Agreement.{Pairwise, none, more, Both, nothing, something, AgreeingAnswers, AgreeingSteps, initial_value, object_address, max_iterations, evaluate, resume, AgreeingFirsts, AgreeingInputs, AgreeingTold, AgreeingOutcomes, requests, faults, completions}
+use Rattle.dwarf_laws.specs.TwoRuns.{untold, NoneIsFull, path_from, StandAlike, AreAlike, TwoRuns}
+use Rattle.dwarf_laws.proofs.Pairs.{snoc_both}
+use Rattle.dwarf_laws.proofs.Meanings.{meaning_both, path_both}
+
+-- ---- which step may come next
+
+none_both : {A : Type 0} (R : A → A → Type 0) (x y : Option A) → Both R x y → x ≡ None → y ≡ None
+none_both R x y nothing e = refl
+none_both R x y (something r) e = cc
+
+none_back : {A : Type 0} (R : A → A → Type 0) (x y : Option A) → Both R x y → y ≡ None → x ≡ None
+none_back R x y nothing e = refl
+none_back R x y (something r) e = cc
+
+module _ (w : ℕ) where
+  same_kinds : (a b : Answer) → AgreeingAnswers w a b → kind_of_answer a ≡ kind_of_answer b
+  same_kinds a b (agreeing.memory h) = refl
+  same_kinds a b (agreeing.register h) = refl
+  same_kinds a b (agreeing.wasm_value h) = refl
+  same_kinds a b (agreeing.entry_value h) = refl
+  same_kinds a b (agreeing.frame_base h) = refl
+  same_kinds a b (agreeing.tls h) = refl
+  same_kinds a b (agreeing.cfa h) = refl
+  same_kinds a b (agreeing.parameter h) = refl
+  same_kinds a b (agreeing.relocated h) = refl
+  same_kinds a b (agreeing.indexed h) = refl
+  same_kinds a b agreeing.location = refl
+  same_kinds a b agreeing.base_type = refl
+
+  evaluable_both : (o o' : Option Outcome) → Both (AgreeingOutcomes w) o o' → IsEvaluable o ↔ IsEvaluable o'
+  evaluable_both o o' nothing = (λ h. h, λ h. h)
+  evaluable_both o o' (something requests) = (λ h. h, λ h. h)
+  evaluable_both o o' (something faults) = (λ h. h, λ h. h)
+  evaluable_both o o' (something (completions p v)) = (λ h. h, λ h. h)
+
+  awaits_both : (a b : Answer) (o o' : Option Outcome) → AgreeingAnswers w a b → Both (AgreeingOutcomes w) o o'
+      → Awaits a o ↔ Awaits b o'
+  awaits_both a b o o' k nothing = (λ h. h, λ h. h)
+  awaits_both a b o o' k (something requests) = (λ h. h ∙ same_kinds a b k, λ h. h ∙ sym (same_kinds a b k))
+  awaits_both a b o o' k (something faults) = (λ h. h, λ h. h)
+  awaits_both a b o o' k (something (completions p v)) = (λ h. h, λ h. h)
+
+  untold_both : (told told' : Told) → AgreeingTold w told told' → IsUntold told → IsUntold told'
+  untold_both told told' t h =
+      record { first = none_both _ _ _ t.first h.first; initial_value = none_both _ _ _ t.settings.initial_value h.initial_value }
+
+  untold_back : (told told' : Told) → AgreeingTold w told told' → IsUntold told' → IsUntold told
+  untold_back told told' t h =
+      record { first = none_back _ _ _ t.first h.first; initial_value = none_back _ _ _ t.settings.initial_value h.initial_value }
+
+  allows_both : (told told' : Told) (o o' : Option Outcome) (x y : Step) → AgreeingTold w told told'
+      → Both (AgreeingOutcomes w) o o' → AgreeingSteps w x y → Allows told o x ↔ Allows told' o' y
+  allows_both told told' o o' x y t h (initial_value e) = (untold_both told told' t, untold_back told told' t)
+  allows_both told told' o o' x y t h (object_address e) = (λ i. i, λ i. i)
+  allows_both told told' o o' x y t h max_iterations = (λ i. i, λ i. i)
+  allows_both told told' o o' x y t h evaluate = evaluable_both o o' h
+  allows_both told told' o o' x y t h (resume k) = awaits_both _ _ o o' k h
+
+  -- ---- what a step tells
+
+  begun_both : (x y : First) (f g : Option First) → AgreeingFirsts w x y → Both (AgreeingFirsts w) f g
+      → AgreeingFirsts w (begun x f) (begun y g)
+  begun_both x y f g a nothing = a
+  begun_both x y f g a (something b) = b
+
+  heard_both : (x y : First) (inputs inputs' : List Input) (a b : Answer) (o o' : Option Outcome)
+      → AgreeingFirsts w x y → Pairwise (AgreeingInputs w) inputs inputs' → AgreeingAnswers w a b
+      → Both (AgreeingOutcomes w) o o' → Pairwise (AgreeingInputs w) (heard x inputs a o) (heard y inputs' b o')
+  heard_both x y inputs inputs' a b o o' f i k nothing = i
+  heard_both x y inputs inputs' a b o o' f i k (something requests) =
+      snoc_both i (record { object_address = f.object_address; maximum = f.maximum; answer = k })
+  heard_both x y inputs inputs' a b o o' f i k (something faults) = i
+  heard_both x y inputs inputs' a b o o' f i k (something (completions p v)) = i
+
+  after_both : (told told' : Told) (o o' : Option Outcome) (x y : Step) → AgreeingTold w told told'
+      → Both (AgreeingOutcomes w) o o' → AgreeingSteps w x y → AgreeingTold w (after told o x) (after told' o' y)
+  after_both told told' o o' x y t h (initial_value e) =
+      record {
+        settings = record {
+          initial_value = something e;
+          object_address = t.settings.object_address;
+          maximum =
+              t.settings.maximum;
+        };
+        first = t.first;
+        inputs = t.inputs;
+      }
+  after_both told told' o o' x y t h (object_address e) =
+      record {
+        settings = record {
+          initial_value = t.settings.initial_value;
+          object_address = something e;
+          maximum =
+              t.settings.maximum;
+        };
+        first = t.first;
+        inputs = t.inputs;
+      }
+  after_both told told' o o' x y t h max_iterations =
+      record {
+        settings = record {
+          initial_value = t.settings.initial_value;
+          object_address =
+              t.settings.object_address;
+          maximum = refl;
+        };
+        first = t.first;
+        inputs = t.inputs;
+      }
+  after_both told told' o o' x y t h evaluate =
+      record { settings = t.settings; first = something (begun_both _ _ _ _ t.settings t.first); inputs = t.inputs }
+  after_both told told' o o' x y t h (resume k) =
+      record { settings = t.settings; first = t.first; inputs = heard_both _ _ _ _ _ _ o o' t.settings t.inputs k h }
+
+  -- ---- what a step answers
+
+  same_reply : (o o' : Option Outcome) → Both (AgreeingOutcomes w) o o' → replies o ≡ replies o'
+  same_reply o o' nothing = refl
+  same_reply o o' (something requests) = refl
+  same_reply o o' (something faults) = refl
+  same_reply o o' (something (completions p v)) = refl
+
+  same_step_replies : (o o' : Option Outcome) (x y : Step) → Both (AgreeingOutcomes w) o o' → AgreeingSteps w x y
+      → step_replies x o ≡ step_replies y o'
+  same_step_replies o o' x y h (initial_value e) = refl
+  same_step_replies o o' x y h (object_address e) = refl
+  same_step_replies o o' x y h max_iterations = refl
+  same_step_replies o o' x y h evaluate = same_reply o o' h
+  same_step_replies o o' x y h (resume k) = same_reply o o' h
+
+pub none_full_behind : (xs ys : List Reply) → NoneIsFull (xs ++ ys) → NoneIsFull ys
+none_full_behind [] ys h = h
+none_full_behind (x ∷ xs) ys h = none_full_behind xs ys h.1
+
+-- ---- all steps
+
+module _ (Free : Type 0) where
+  -- no push was refused, where `Free` holds
+  abbrev pub IsClearSoFar : Option Outcome → Type 0
+  IsClearSoFar o = Free → o ≢ Some (Faults StackFull)
+
+  pub clear_reply : (o : Option Outcome) (rest : List Reply) → (Free → NoneIsFull (replies o ++ rest)) → IsClearSoFar o
+  clear_reply None rest h free e = cc
+  clear_reply (Some x) rest h free e = let i : x ≡ Faults StackFull = cc in (h free).0 (ap reply i)
+
+  pub clear_after : (setup : Setup) (refusal : Refusal) (text : Text) (told : Told) (x : Step) (rest : List Reply)
+      → IsClearSoFar (outcome_of setup refusal text told)
+      → (Free → NoneIsFull (step_replies x (outcome_of setup refusal text
+      (after_step setup refusal text told x)) ++ rest))
+      → IsClearSoFar (outcome_of setup refusal text (after_step setup refusal text told x))
+  clear_after setup refusal text told (InitialValue number) rest c h = c
+  clear_after setup refusal text told (ObjectAddress address) rest c h = c
+  clear_after setup refusal text told (MaxIterations maximum) rest c h = c
+  clear_after setup refusal text told Evaluate rest c h = clear_reply _ rest h
+  clear_after setup refusal text told (Resume answer) rest c h = clear_reply _ rest h
+
+module _ (Free : Type 0) (setup : Setup) (limits : Limits) (premise : Free ⊎ (setup.limits ≡ limits))
+    (width : IsWidth (address_bits setup)) (refusal another : Refusal) (same_refusal : Free ⊎ (refusal ≡ another))
+    (text : Text) where
+  abbrev w : ℕ
+  w = address_bits setup
+
+  abbrev other : Setup
+  other = record setup { limits = limits }
+
+  outcomes_from : (f g : Option First) (inputs inputs' : List Input) → Both (AgreeingFirsts w) f g
+      → Pairwise (AgreeingInputs w) inputs inputs'
+      → IsClearSoFar Free (outcome_from setup refusal text inputs f)
+      → IsClearSoFar Free (outcome_from other another text inputs' g)
+      → Both (AgreeingOutcomes w) (outcome_from setup refusal text inputs f) (outcome_from other another text inputs' g)
+  outcomes_from f g inputs inputs' nothing i h k = nothing
+  outcomes_from f g inputs inputs' (something a) i h k =
+      something (meaning_both Free setup limits premise width refusal another same_refusal text _ _ inputs inputs' a i
+      (λ free e. h free (ap Some e)) (λ free e. k free (ap Some e)))
+
+  paths_from : (f g : Option First) (inputs inputs' : List Input) → Both (AgreeingFirsts w) f g
+      → Pairwise (AgreeingInputs w) inputs inputs'
+      → IsClearSoFar Free (outcome_from setup refusal text inputs f)
+      → IsClearSoFar Free (outcome_from other another text inputs' g)
+      → path_from setup refusal text inputs f ≡ path_from other another text inputs' g
+  paths_from f g inputs inputs' nothing i h k = refl
+  paths_from f g inputs inputs' (something a) i h k =
+      path_both Free setup limits premise width refusal another same_refusal text _ _ inputs inputs' a i
+      (λ free e. h free (ap Some e)) (λ free e. k free (ap Some e))
+
+  -- what agreeing tellings lead to, where no push was refused
+  stand_alike : (told told' : Told) → AgreeingTold w told told'
+      → IsClearSoFar Free (outcome_of setup refusal text told) → IsClearSoFar Free (outcome_of other another text told')
+      → StandAlike setup other refusal another text told told'
+  stand_alike told told' t c d =
+      let o = outcomes_from told.first told'.first told.inputs told'.inputs t.first t.inputs c d in
+      record {
+        agreeing = t;
+        outcomes = o;
+        paths = paths_from told.first told'.first told.inputs told'.inputs t.first t.inputs c d;
+        next = λ x y a. allows_both w told told' _ _ x y t o a;
+      }
+
+  pub alike_steps : (steps others : List Step) (told told' : Told) → Pairwise (AgreeingSteps w) steps others
+      → AgreeingTold w told told'
+      → IsClearSoFar Free (outcome_of setup refusal text told) → IsClearSoFar Free (outcome_of other another text told')
+      → (Free → NoneIsFull (answers setup refusal text told steps))
+      → (Free → NoneIsFull (answers other another text told' others))
+      → AreAlike setup other refusal another text told told' steps others
+  alike_steps steps others told told' none t c d h k =
+      record { allowed = (λ i. i, λ i. i); replies = refl; stand = stand_alike told told' t c d }
+  alike_steps steps others told told' (more {x = x} {y = y} {xs = xs} {ys = ys} a as') t c d h k =
+      let now = stand_alike told told' t c d in
+      let told_now = after_step setup refusal text told x in
+      let told_now' = after_step other another text told' y in
+      let t_now = after_both w told told' _ _ x y t now.outcomes a in
+      let c_now = clear_after Free setup refusal text told x (answers setup refusal text told_now xs) c h in
+      let d_now = clear_after Free other another text told' y (answers other another text told_now' ys) d k in
+      let o_now = outcomes_from told_now.first told_now'.first told_now.inputs told_now'.inputs t_now.first
+      t_now.inputs c_now d_now in
+      let allows = now.next x y a in
+      let rest = alike_steps xs ys told_now told_now' as' t_now c_now d_now
+      (λ free. none_full_behind _ _ (h free)) (λ free. none_full_behind _ _ (k free)) in
+      let reply_now = same_step_replies w _ _ x y o_now a in
+      let replies_behind = rest.replies in
+      record {
+        allowed = (λ i. (allows.0 i.0, rest.allowed.0 i.1), λ i. (allows.1 i.0, rest.allowed.1 i.1));
+        replies = ap (λ (l : List Reply). l ++ answers setup refusal text told_now xs) reply_now
+            ∙ ap (λ (l : List Reply). step_replies y (outcome_of other another text told_now') ++ l) replies_behind;
+        stand = rest.stand;
+      }
+
+clear_start : (setup : Setup) (refusal : Refusal) (text : Text) (told : Told) (rest : List Reply)
+    → NoneIsFull (replies (outcome_of setup refusal text told) ++ rest)
+    → IsClearSoFar (Unit {0}) (outcome_of setup refusal text told)
+clear_start setup refusal text told rest h = clear_reply (Unit {0}) _ rest (λ free. h)
+
+pub two_runs : TwoRuns
+two_runs setup limits refusal another text told second steps others width t p (inl e) =
+    alike_steps ⊥ setup limits (inr e.0) width refusal another (inr e.1) text steps others told second p t
+    (λ free. absurd free) (λ free. absurd free) (λ free. absurd free) (λ free. absurd free)
+two_runs setup limits refusal another text told second steps others width t p (inr e) =
+    alike_steps (Unit {0}) setup limits (inl tt) width refusal another (inl tt) text steps others told second p t
+    (clear_start setup refusal text told _ e.0) (clear_start (record setup { limits = limits }) another text second _ e.1)
+    (λ free. none_full_behind _ _ e.0) (λ free. none_full_behind _ _ e.1)
+
+-- with nothing told on either side the premise holds
+pub nothing_told : (w : ℕ) → AgreeingTold w untold untold
+nothing_told w =
+    record {
+      settings = record { initial_value = nothing; object_address = nothing; maximum = refl };
+      first = nothing;
+      inputs = none;
+    }

@@ -1,0 +1,377 @@
+-- A called text may be written in its call's place.
+use Rattle.std.proofs.Common.{ℕ, ◌+◌, ◌≡◌, ◌≢◌, ◌<◌, Bool, List, [], ◌∷◌, ◌++◌, length, Option, Some, None, refl, sym, ap, subst, ◌∙◌, arith, append_assoc, length-append}
+use Rattle.std.proofs.lemmas.List.{append-nil}
+use Rattle.dwarf_base.specs.declared.common.Encoding.{Encoding}
+use Rattle.dwarf_base.specs.Faults.{Fault}
+use Rattle.dwarf_value.specs.declared.types.Value.TheVariants.{Generic}
+use Rattle.dwarf_meaning.specs.Operations.{Operation, Text, DieReference}
+use Rattle.dwarf_meaning.specs.Splitting.{Joined, items_at}
+use Rattle.dwarf_meaning.specs.Splitting as splitting
+use Rattle.dwarf_meaning.specs.Requests.{Request, RequiresAtLocation, AtLocation, Input}
+use Rattle.dwarf_meaning.specs.Acts.{on_some, use_of}
+use Rattle.dwarf_meaning.specs.Stores.{Setup, Store, Last, Nothing, Plain, Pieced, Pushed, Called, Located, Never, push_frame, push_value, push_piece}
+use Rattle.dwarf_meaning.specs.Run.{Frame, End, Finished, Asking, Failed, Course, passing, asking, back, called, asked, counted, run}
+use Rattle.dwarf_meaning.specs.Meaning.{Outcome, Requests, Faults, Completes, First, finish, finish_by, unwound, fresh, with_initial, course_from, course_of, meaning}
+use Rattle.dwarf_laws.specs.Inlining as inlining
+use Rattle.dwarf_laws.specs.Inlining.{CallSite, in_force, answered, with_answer, HasNoLimits, StandsIn, IsInlinable, LeadsToCall, EndAlike, LacksOne, IsInlined, Inlining}
+use Rattle.dwarf_meaning.proofs.Splittings.{splitting_items, items_ok}
+use Rattle.dwarf_meaning.proofs.Decoded.{spelled_operation}
+use Rattle.std.proofs.Math.Seq.{drop-append_seam}
+use Rattle.dwarf_laws.proofs.Calm.{free, calm, ahead}
+use Rattle.dwarf_laws.proofs.Mirror.{Fits, AsksToo, MirrorsAt, at_end, mirror}
+use Rattle.dwarf_laws.proofs.Texts.{AllStraight, straight_items, StraightFrom, callee_aligned, InCallee, behind_aligned, Beside}
+use Rattle.dwarf_laws.proofs.Phase.{Reached, leads_as}
+use Rattle.dwarf_laws.proofs.Calling.{call_course, call_turn, straight_behind, from}
+
+-- ---- settings
+
+keeps_initial : (first : First) (inputs : List Input) → (in_force first inputs).initial_value ≡ first.initial_value
+keeps_initial first [] = refl
+keeps_initial first (input ∷ inputs) =
+    keeps_initial (record first { object_address = input.object_address; maximum = input.maximum }) inputs
+
+fits_so : (first : First) (inputs : List Input) → Fits (in_force first inputs) inputs first.object_address first.maximum
+fits_so first inputs =
+    ap (λ (k : Option ℕ). in_force (record
+    { initial_value = k; object_address = first.object_address; maximum = first.maximum }) inputs) (keeps_initial first inputs)
+
+snoc_same : {A : Type 0} (a b : List A) (x : A) → a ++ x ∷ [] ≡ b ++ x ∷ [] → a ≡ b
+snoc_same [] [] x e = refl
+snoc_same [] (y ∷ b) x e = absurd (omega (arith, ap length e, length-append b (x ∷ [])))
+snoc_same (y ∷ a) [] x e = absurd (omega (arith, ap length e, length-append a (x ∷ [])))
+snoc_same (y ∷ a) (z ∷ b) x e =
+    let first : y ≡ z = cc in
+    let others : a ++ x ∷ [] ≡ b ++ x ∷ [] = cc in
+    ap (λ (n : _). n ∷ a) first ∙ ap (λ (xs : List _). z ∷ xs) (snoc_same a b x others)
+
+straight_after : (encoding : Encoding) (bits : ℕ) (big : Bool) (bytes : List ℕ) (ops : List Operation)
+    → Joined encoding bits big bytes ops → (rest : List ℕ)
+    → AllStraight (items_at encoding bits (record { bytes = bytes ++ rest; is_big = big }))
+    → AllStraight (items_at encoding bits (record { bytes = rest; is_big = big }))
+straight_after encoding bits big bytes ops splitting.none rest h = h
+straight_after encoding bits big bytes ops (splitting.one_more front others op ops' s more) rest h =
+    let e = ap (λ (xs : List ℕ). items_at encoding bits (record { bytes = xs; is_big = big }))
+    (append_assoc front others rest) ∙ items_ok encoding bits big (front ++ (others ++ rest)) op (others ++ rest)
+    (spelled_operation encoding bits big front op (others ++ rest) s) in
+    straight_after encoding bits big others ops' more rest (subst AllStraight e h).1
+
+-- ---- how both runs end
+
+record FinishesToo (front : List Request) (s : Store) (inputs : List Input) (requests : List Request) (end : End) : Type 0 where
+  store : Store
+  is : s ≡ ahead 1 store
+  same : requests ≡ front
+  last : end ≡ Finished (calm store) inputs
+
+module _ (encoding : Encoding) (bits : ℕ) where
+  abbrev S : Setup
+  S = free encoding bits
+
+  abbrev EndsAt : List Request → End → List Request → End → Type 0
+  EndsAt front (Finished s inputs) requests end = FinishesToo front s inputs requests end
+  EndsAt front (Asking request frames inputs) requests end = AsksToo front request inputs requests end
+  EndsAt front (Failed fault) requests end = Unit {0}
+
+  ends_behind : (more front : List Request) (end : End) (requests : List Request) (end' : End)
+      → EndsAt front end requests end' → EndsAt (more ++ front) end (more ++ requests) end'
+  ends_behind more front (Finished s inputs) requests end' h =
+      record { store = h.store; is = h.is; same = ap (λ (l : List Request). more ++ l) h.same; last = h.last }
+  ends_behind more front (Asking request frames inputs) requests end' h =
+      record { frames = h.frames; same = ap (λ (l : List Request). more ++ l) h.same; is = h.is }
+  ends_behind more front (Failed fault) requests end' h = tt
+
+  settled : (target : First) (T : Text) (front : List Request) (end : End) (requests : List Request) (end' : End)
+      → MirrorsAt encoding bits target 1 T (length T.bytes) 0 front end requests end' → EndsAt front end requests end'
+  settled target T front (Finished s inputs) requests end' h =
+      let over = at_end encoding bits target 1 T 0 (calm h.store) inputs in
+      record {
+        store = h.store;
+        is = h.is;
+        same = h.goes_on.requests ∙ (ap (λ (c : Course). front ++ c.requests) over ∙ append-nil front);
+        last = h.goes_on.end ∙ ap (λ (c : Course). c.end) over;
+      }
+  settled target T front (Asking request frames inputs) requests end' h = h
+  settled target T front (Failed fault) requests end' h = tt
+
+  -- ---- outcomes
+
+  same_finish : (t : Store) (last : Last) → finish_by S (ahead 1 t) last ≡ finish_by S (calm t) last
+  unfolding push_piece
+  same_finish t (Located location) = refl
+  same_finish t Plain = refl
+  same_finish t Pushed = refl
+  same_finish t Nothing = refl
+  same_finish t Pieced = refl
+  same_finish t Called = refl
+
+  alike : (o : Outcome) → ((fault : Fault) → o ≢ Faults fault) → EndAlike o o
+  alike (Requests request frames) h = inlining.requests
+  alike (Faults fault) h = absurd (h fault refl)
+  alike (Completes pieces value) h = inlining.completions
+
+  outcomes : (front : List Request) (end : End) (requests : List Request) (end' : End)
+      → EndsAt front end requests end' → ((fault : Fault) → unwound S [] end ≢ Faults fault)
+      → EndAlike (unwound S [] end) (unwound S [] end')
+  outcomes front (Finished s inputs) requests end' h clean =
+      let e : unwound S [] (Finished s inputs) ≡ unwound S [] end' = ap (finish S) h.is
+      ∙ (same_finish h.store h.store.last ∙ sym (ap (unwound S []) h.last)) in
+      subst (λ (o : Outcome). EndAlike (unwound S [] (Finished s inputs)) o) e (alike _ clean)
+  outcomes front (Asking request frames inputs) requests end' h clean =
+      subst (λ (x : End). EndAlike (unwound S [] (Asking request frames inputs)) (unwound S [] x)) (sym h.is) inlining.requests
+  outcomes front (Failed fault) requests end' h clean = absurd (clean fault refl)
+
+  same_requests : (front : List Request) (end : End) (requests : List Request) (end' : End)
+      → EndsAt front end requests end' → ((fault : Fault) → unwound S [] end ≢ Faults fault) → requests ≡ front
+  same_requests front (Finished s inputs) requests end' h clean = h.same
+  same_requests front (Asking request frames inputs) requests end' h clean = h.same
+  same_requests front (Failed fault) requests end' h clean = absurd (clean fault refl)
+
+  -- ---- from the call on
+
+  enters : (frame : Frame) (callee : Text) (bytes : List ℕ) (t : Store) (inputs : List Input) → 0 < length bytes
+      → called (run S) S frame 0 callee bytes (ahead 1 t) inputs ≡ back (run S) frame 0
+      (run S callee 0 1 (ahead 1 t) inputs) (run S callee 0 1 (ahead 1 t) inputs).end
+  unfolding push_frame
+  enters frame callee [] t inputs h = absurd (omega (arith, h))
+  enters frame callee (byte ∷ bytes) t inputs h = refl
+
+  module _ (site : CallSite) (offset : DieReference) (stands : StandsIn S site offset) (fit : IsInlinable S site) where
+    abbrev A : List ℕ
+    A = site.before
+
+    abbrev K : List ℕ
+    K = site.call
+
+    abbrev C : List ℕ
+    C = site.callee
+
+    abbrev B : List ℕ
+    B = site.behind
+
+    abbrev outer : Text
+    outer = inlining.outer site
+
+    abbrev inlined : Text
+    inlined = inlining.inlined site
+
+    abbrev callee : Text
+    callee = inlining.called site
+
+    abbrev behind_call : Frame
+    behind_call = inlining.behind_call site
+
+    straight_all : StraightFrom encoding bits outer 0
+    straight_all =
+        subst AllStraight (sym (splitting_items encoding bits site.is_big outer.bytes stands.operations stands.fault
+        stands.splits)) (straight_items stands.operations stands.fault stands.straight)
+
+    module _ (straight : StraightFrom encoding bits outer (length A + length K)) (target : First) where
+      after_callee : (t : Store) (inputs : List Input) → Fits target inputs t.object_address t.maximum
+          → let x = run S outer (length A + length K) 0 (ahead 1 t) inputs in
+          let y = run S inlined (length A + length C) 0 (calm t) inputs in EndsAt x.requests x.end y.requests y.end
+      after_callee t inputs f =
+          let x = run S outer (length A + length K) 0 (ahead 1 t) inputs in
+          let y = run S inlined (length A + length C) 0 (calm t) inputs in
+          let b : Beside encoding bits A K C B site.is_big (length A + length K) (length A + length C) = record
+          { beyond = 0; first = omega arith; second = omega arith; straight = straight } in
+          settled target inlined x.requests x.end y.requests y.end
+          (mirror encoding bits target 1 outer inlined (Beside encoding bits A K C B site.is_big)
+          (length inlined.bytes) (behind_aligned encoding bits A K C B site.is_big target 1) (length A + length K)
+          (length A + length C) 0 0 t inputs b f)
+
+      back_ends : (c : Course) (end : End) (y : Course)
+          → MirrorsAt encoding bits target 1 inlined (length A + length C) 0 c.requests end y.requests y.end
+          → let x = back (run S) behind_call 0 c end in EndsAt x.requests x.end y.requests y.end
+      back_ends c (Failed fault) y h = tt
+      back_ends c (Asking request frames inputs) y h = h
+      back_ends c (Finished s inputs) y h =
+          let first = run S outer (length A + length K) 0 (ahead 1 h.store) inputs in
+          let second = run S inlined (length A + length C) 0 (calm h.store) inputs in
+          let both : EndsAt (c.requests ++ first.requests) first.end (c.requests ++ second.requests) second.end =
+          ends_behind c.requests first.requests first.end second.requests second.end (after_callee h.store inputs h.fits) in
+          subst (λ (u : Store). let x = run S outer (length A + length K) 0 u inputs in
+          EndsAt (c.requests ++ x.requests) x.end y.requests y.end) (sym h.is)
+          (subst (λ (l : List Request). EndsAt (c.requests ++ first.requests) first.end l y.end) (sym h.goes_on.requests)
+          (subst (λ (e : End). EndsAt (c.requests ++ first.requests) first.end (c.requests ++ second.requests) e)
+          (sym h.goes_on.end) both))
+
+      -- the callee in its call's place, and what is behind
+      callee_ends : (t : Store) (inputs : List Input) → Fits target inputs t.object_address t.maximum
+          → let c = run S callee 0 1 (ahead 1 t) inputs in let x = back (run S) behind_call 0 c c.end in
+          let y = run S inlined (length A) 0 (calm t) inputs in EndsAt x.requests x.end y.requests y.end
+      callee_ends t inputs f =
+          let c = run S callee 0 1 (ahead 1 t) inputs in
+          back_ends c c.end (run S inlined (length A) 0 (calm t) inputs)
+          (mirror encoding bits target 1 callee inlined (InCallee encoding bits A K C B site.is_big)
+          (length A + length C) (callee_aligned encoding bits A K C B site.is_big target 1 fit.some fit.bytes
+          fit.short) 0 (length A) 1 0 t inputs (omega arith, omega arith) f)
+
+    -- the outer run from the call on, with the answer
+    answered_call : (t : Store) (settings : First) (inputs : List Input)
+        → asked (run S) S behind_call 0 (RequiresAtLocation offset) AtLocation (counted (calm t))
+        (answered site settings ∷ inputs)
+        ≡ (let u : Store = record t { object_address = settings.object_address; maximum = settings.maximum } in
+        let c = run S callee 0 1 (ahead 1 u) inputs in back (run S) behind_call 0 c c.end)
+    unfolding use_of on_some
+    answered_call t settings inputs =
+        enters behind_call callee C (record t
+        { object_address = settings.object_address; maximum = settings.maximum }) inputs fit.some
+
+    -- ---- the whole
+
+    started : Option ℕ → First → Store
+    started None first = fresh first Never
+    started (Some number) first = record (fresh first Never) { values = Generic number ∷ [] }
+
+    starts : (o : Option ℕ) (first : First) (text : Text) (inputs : List Input)
+        → course_from S text inputs (with_initial S o (fresh first Never)) ≡ run S text 0 0 (calm (started o first)) inputs
+    unfolding started push_value
+    starts None first text inputs = refl
+    starts (Some number) first text inputs = refl
+
+    starts_fit : (o : Option ℕ) (first : First) (inputs : List Input) → let t = started o first in
+        Fits (in_force first inputs) inputs t.object_address t.maximum
+    unfolding started
+    starts_fit None first inputs = fits_so first inputs
+    starts_fit (Some number) first inputs = fits_so first inputs
+
+    module _ (first : First) (earlier : List Input) (requests : List Request)
+        (leads : LeadsToCall S site offset first earlier requests) where
+      abbrev settings : First
+      settings = in_force first earlier
+
+      abbrev course : Text → List Input → Course
+      course text inputs = course_of S Never text first inputs
+
+      abbrev AtCall : Type 0
+      AtCall =
+          Reached encoding bits A K B site.is_big offset stands.spelled settings
+          (λ X more. (course (record { bytes = A ++ X; is_big = site.is_big }) (earlier ++ more)).requests)
+          (λ X more. (course (record { bytes = A ++ X; is_big = site.is_big }) (earlier ++ more)).end)
+
+      reached : AtCall
+      reached =
+          let t = started first.initial_value first in
+          let begins : (text : Text) (inputs : List Input) → course text inputs ≡ run S text 0 0 (calm t) inputs =
+          λ text inputs. starts first.initial_value first text inputs in
+          leads_as encoding bits A K B site.is_big offset stands.spelled settings (run S outer 0 0 (calm t) earlier)
+          (course outer earlier)
+          (λ X more. run S (record { bytes = A ++ X; is_big = site.is_big }) 0 0 (calm t) (earlier ++ more))
+          (λ X more. course (record { bytes = A ++ X; is_big = site.is_big }) (earlier ++ more))
+          (begins outer earlier) (λ X more. begins (record { bytes = A ++ X; is_big = site.is_big }) (earlier ++ more))
+          (from encoding bits A K B site.is_big offset stands.spelled settings A stands.ahead stands.joined 0 refl
+          (omega arith) straight_all t earlier (starts_fit first.initial_value first earlier))
+          leads.end
+
+      abbrev call : Request
+      call = RequiresAtLocation offset
+
+      straight : StraightFrom encoding bits outer (length A + length K)
+      straight =
+          straight_behind encoding bits A K B site.is_big offset stands.spelled
+          (subst (λ (xs : List ℕ). AllStraight (items_at encoding bits (record { bytes = xs; is_big = site.is_big })))
+          (sym (drop-append_seam A (K ++ B)))
+          (straight_after encoding bits site.is_big A stands.ahead stands.joined (K ++ B) straight_all))
+
+      module _ (r : AtCall) where
+        calls : (inputs : List Input) → run S outer (length A) 0 (calm r.store) inputs ≡ call_course encoding bits A K
+            B site.is_big offset stands.spelled r.store inputs
+        calls = call_turn encoding bits A K B site.is_big offset stands.spelled r.store [] r.at_call
+
+        front_is : r.front ≡ requests
+        front_is =
+            snoc_same r.front requests call
+            (sym ((r.goes_on (K ++ B) []).requests ∙ ap (λ (c : Course). r.front ++ c.requests) (calls []))
+            ∙ (ap (λ (inputs : List Input). (course outer inputs).requests) (append-nil earlier) ∙ leads.asked))
+
+        same_store : record r.store { object_address = settings.object_address; maximum = settings.maximum } ≡ r.store
+        same_store =
+            let object : settings.object_address ≡ r.store.object_address = sym (ap (λ (f : First). f.object_address) r.fits) in
+            let maximum : settings.maximum ≡ r.store.maximum = sym (ap (λ (f : First). f.maximum) r.fits) in
+            ap (λ (k : Option ℕ). record r.store { object_address = k; maximum = settings.maximum }) object ∙ ap
+            (λ (k : ℕ). record r.store { maximum = k }) maximum
+
+        module _ (later : List Input) where
+          abbrev callee_course : Store → Course
+          callee_course u = let c = run S callee 0 1 (ahead 1 u) later in back (run S) behind_call 0 c c.end
+
+          abbrev first_rest : Course
+          first_rest = callee_course r.store
+
+          abbrev second_rest : Course
+          second_rest = run S inlined (length A) 0 (calm r.store) later
+
+          rests : EndsAt first_rest.requests first_rest.end second_rest.requests second_rest.end
+          rests =
+              let now : First = record settings { object_address = r.store.object_address; maximum = r.store.maximum } in
+              callee_ends straight (in_force now later) r.store later (fits_so now later)
+
+          calls_so : run S outer (length A) 0 (calm r.store) (answered site settings ∷ later) ≡ passing
+              (record { text = outer; place = length A }) (asking call first_rest)
+          calls_so =
+              calls (answered site settings ∷ later)
+              ∙ ap (λ (c : Course). passing (record { text = outer; place = length A }) (asking call c))
+              (answered_call r.store settings later ∙ ap callee_course same_store)
+
+          abbrev whole : Course
+          whole = course outer (with_answer site first earlier later)
+
+          abbrev short : Course
+          short = course inlined (earlier ++ later)
+
+          whole_requests : whole.requests ≡ requests ++ (call ∷ first_rest.requests)
+          whole_requests =
+              (r.goes_on (K ++ B) (answered site settings ∷ later)).requests
+              ∙ (ap (λ (c : Course). r.front ++ c.requests) calls_so ∙ ap
+              (λ (l : List Request). l ++ (call ∷ first_rest.requests)) front_is)
+
+          whole_end : whole.end ≡ first_rest.end
+          whole_end = (r.goes_on (K ++ B) (answered site settings ∷ later)).end ∙ ap (λ (c : Course). c.end) calls_so
+
+          short_requests : short.requests ≡ requests ++ second_rest.requests
+          short_requests = (r.goes_on (C ++ B) later).requests ∙ ap (λ (l : List Request). l ++ second_rest.requests) front_is
+
+          short_end : short.end ≡ second_rest.end
+          short_end = (r.goes_on (C ++ B) later).end
+
+          is_inlined : ((fault : Fault) → meaning S Never outer first (with_answer site first earlier later) ≢ Faults
+              fault) → IsInlined S site offset first earlier later requests
+          unfolding meaning
+          is_inlined faultless =
+              let clean : (fault : Fault) → unwound S [] first_rest.end ≢ Faults fault = subst
+              (λ (e : End). (fault : Fault) → unwound S [] e ≢ Faults fault) whole_end faultless in
+              let alike_ends = outcomes first_rest.requests first_rest.end second_rest.requests second_rest.end rests clean in
+              record {
+                ends =
+                    subst (λ (e : End). EndAlike (unwound S [] e) (unwound S [] short.end)) (sym whole_end)
+                    (subst (λ (e : End). EndAlike (unwound S [] first_rest.end) (unwound S [] e)) (sym short_end) alike_ends);
+                asks = record {
+                  later = first_rest.requests;
+                  with_it = whole_requests;
+                  without_it =
+                      short_requests ∙ ap (λ (l : List Request). requests ++ l)
+                      (same_requests first_rest.requests first_rest.end second_rest.requests second_rest.end rests clean);
+                };
+              }
+
+pub no_limits : (setup : Setup) → HasNoLimits setup → free setup.encoding setup.offset_bits ≡ setup
+no_limits setup h =
+    ap (λ (k : Option ℕ). record setup { limits = record { values = k; frames = None; pieces = None } }) (sym h.values)
+    ∙ (ap (λ (k : Option ℕ). record setup {
+      limits = record
+          { values = setup.limits.values; frames = k; pieces = None };
+    }) (sym h.frames)
+    ∙ ap (λ (k : Option ℕ). record setup {
+      limits = record
+          { values = setup.limits.values; frames = setup.limits.frames; pieces = k };
+    }) (sym h.pieces))
+
+pub inlines : Inlining
+inlines setup site offset first earlier later requests h =
+    subst (λ (k : Setup). StandsIn k site offset → IsInlinable k site → LeadsToCall k site offset first earlier requests
+    → ((fault : Fault) → meaning k Never (inlining.outer site) first (with_answer site first earlier later) ≢ Faults fault)
+    → IsInlined k site offset first earlier later requests)
+    (no_limits setup h)
+    (λ stands fit leads faultless. is_inlined setup.encoding setup.offset_bits site offset stands fit first earlier
+    requests leads (reached setup.encoding setup.offset_bits site offset stands fit first earlier requests leads)
+    later faultless)

@@ -1,0 +1,75 @@
+-- Two lists, options and choices that are related.
+use Rattle.std.proofs.Common.{ℕ, zero, suc, ◌≡◌, ap, refl, subst, Bool, true, false, List, [], ◌∷◌, ◌++◌, length, Option, Result, Ok, Err}
+use Rattle.std.specs.Prelude.{slice_get}
+use Rattle.dwarf_base.specs.declared.errors.Error.{Error}
+use Rattle.dwarf_base.specs.Faults.{Fault}
+use Rattle.dwarf_value.specs.declared.types.Value.{Value}
+use Rattle.dwarf_value.specs.Values.{Agree}
+use Rattle.dwarf_value.specs.Laws.{AgreeingAnswers, values, refusals}
+use Rattle.dwarf_value.proofs.Agreements.{Agree-refl}
+use Rattle.dwarf_meaning.specs.Acts.{choose, on_top, on_some, on_answer, answer_of}
+use Rattle.dwarf_laws.specs.Agreement.{Pairwise, none, more, Both, nothing, something}
+
+-- ---- lists and options
+
+pub same_length : {A : Type 0} {R : A → A → Type 0} {xs ys : List A} → Pairwise R xs ys → length xs ≡ length ys
+same_length none = refl
+same_length (more r rs) = ap suc (same_length rs)
+
+pub snoc_both : {A : Type 0} {R : A → A → Type 0} {xs ys : List A} {x y : A} → Pairwise R xs ys → R x y
+    → Pairwise R (xs ++ x ∷ []) (ys ++ y ∷ [])
+snoc_both none h = more h none
+snoc_both (more r rs) h = more r (snoc_both rs h)
+
+pub get_both : {A : Type 0} (R : A → A → Type 0) (i : ℕ) {xs ys : List A} → Pairwise R xs ys
+    → Both R (slice_get xs i) (slice_get ys i)
+get_both R i none = nothing
+get_both R zero (more r rs) = something r
+get_both R (suc i) (more r rs) = get_both R i rs
+
+-- ---- the words of the definitions, on both sides
+
+module _ {A : Type 0} (R : A → A → Type 0) where
+  pub choose_pair : (b c : Bool) (x x' y y' : A) → b ≡ c → R x x' → R y y' → R (choose b x y) (choose c x' y')
+  unfolding choose
+  choose_pair b c x x' y y' e h g = subst (λ p. R (choose b x y) (choose p x' y')) e (at b)
+    where
+      at : (b : Bool) → R (choose b x y) (choose b x' y')
+      at true = h
+      at false = g
+
+  pub top_pair : (w : ℕ) (vs ws : List Value) (x x' : A) (go go' : Value → List Value → A) → Pairwise (Agree w) vs ws → R x x'
+      → ((v v' : Value) (rest rest' : List Value) → Agree w v v' → Pairwise (Agree w) rest rest' → R (go v rest) (go' v' rest'))
+      → R (on_top vs x go) (on_top ws x' go')
+  unfolding on_top
+  top_pair w vs ws x x' go go' none h g = h
+  top_pair w vs ws x x' go go' (more a bs) h g = g _ _ _ _ a bs
+
+  pub some_pair : {X : Type 0} (Q : X → X → Type 0) (o o' : Option X) (x x' : A) (go go' : X → A) → Both Q o o' → R x x'
+      → ((v v' : X) → Q v v' → R (go v) (go' v')) → R (on_some o x go) (on_some o' x' go')
+  unfolding on_some
+  some_pair Q o o' x x' go go' nothing h g = h
+  some_pair Q o o' x x' go go' (something q) h g = g _ _ q
+
+  pub answer_pair : (w : ℕ) (r r' : Result Value Error) (bad bad' : Fault → A) (go go' : Value → A) → AgreeingAnswers w r r'
+      → ((fault : Fault) → R (bad fault) (bad' fault)) → ((v v' : Value) → Agree w v v' → R (go v) (go' v'))
+      → R (on_answer (answer_of r) bad go) (on_answer (answer_of r') bad' go')
+  unfolding on_answer answer_of
+  answer_pair w r r' bad bad' go go' (values a) h g = g _ _ a
+  answer_pair w r r' bad bad' go go' refusals h g = h _
+
+  -- the same answer on both sides
+  pub read_pair : {X : Type 0} (r : Result X Fault) (bad bad' : Fault → A) (go go' : X → A)
+      → ((fault : Fault) → R (bad fault) (bad' fault)) → ((x : X) → R (go x) (go' x))
+      → R (on_answer r bad go) (on_answer r bad' go')
+  unfolding on_answer
+  read_pair (Ok x) bad bad' go go' h g = g x
+  read_pair (Err fault) bad bad' go go' h g = h fault
+
+-- equal answers agree
+pub answers_agree : (w : ℕ) (r r' : Result Value Error) → r ≡ r' → AgreeingAnswers w r r'
+answers_agree w r r' e = subst (λ p. AgreeingAnswers w r p) e (at r)
+  where
+    at : (r : Result Value Error) → AgreeingAnswers w r r
+    at (Ok x) = values (Agree-refl w x)
+    at (Err error) = refusals

@@ -1,0 +1,329 @@
+-- Before a call both runs are the same.
+use Rattle.std.proofs.Common.{ℕ, ◌+◌, ◌-◌, ◌≡◌, ◌<◌, Bool, true, false, List, [], ◌∷◌, ◌++◌, length, Option, Some, None, Result, Ok, refl, sym, ap, subst, ◌∙◌, ◌==◌, arith, append_assoc, length-append}
+use Rattle.std.proofs.lemmas.Bool.Decides.{nat_tests}
+use Rattle.dwarf_base.specs.declared.common.Encoding.{Encoding}
+use Rattle.dwarf_base.specs.Faults.{Fault, TooManyIterations}
+use Rattle.dwarf_meaning.specs.Operations as operation
+use Rattle.dwarf_meaning.specs.Operations.{Operation, Text, DieReference}
+use Rattle.dwarf_meaning.specs.Locations.{Location}
+use Rattle.dwarf_meaning.specs.Spelling.{Spells}
+use Rattle.dwarf_meaning.specs.Requests.{Request, RequiresAtLocation, Waiting, Input}
+use Rattle.dwarf_meaning.specs.Acts.{choose, Act, Pushes, Branches, Locates, Ends, Asks, Refuses, act, Use, Gives, Calls, Denies, Misfits, use_of}
+use Rattle.dwarf_meaning.specs.Stores.{Setup, address_bits, Store, Last, Nothing, Plain, Pieced, Pushed, Called, Located, push_value, push_piece, push_frame, Next, Goes, Stops, Fails, goes, done}
+use Rattle.dwarf_meaning.specs.Run.{Frame, End, Finished, Asking, Failed, Course, ended, joined, back, called, used, asked, led, read, can_count, does, counts, piece_of, holds, held, turn_by, run}
+use Rattle.dwarf_meaning.specs.Meaning.{First}
+use Rattle.dwarf_meaning.specs.RunLaws.{IsSettled, end_before, course_before, Open, alone, calling}
+use Rattle.dwarf_meaning.proofs.Choices.{choose_false}
+use Rattle.dwarf_meaning.proofs.Turns.{run_turn}
+use Rattle.dwarf_meaning.proofs.Inputs.{extends_run}
+use Rattle.dwarf_laws.proofs.Jumps.{Jumping, pushes, branches, locates, ends, asks, refuses}
+use Rattle.dwarf_laws.proofs.Calm.{free, calm, ahead, piled, piles_calm}
+use Rattle.dwarf_laws.proofs.Mirror.{Fits, GoesOn, Rests, MirrorsAt, mirror_same}
+
+-- ---- frames
+
+abbrev pub last_place : List Frame → ℕ
+last_place [] = 0
+last_place (x ∷ []) = x.place
+last_place (x ∷ y ∷ frames) = last_place (y ∷ frames)
+
+pub last_snoc : (frames : List Frame) (x : Frame) → last_place (frames ++ x ∷ []) ≡ x.place
+last_snoc [] x = refl
+last_snoc (a ∷ []) x = refl
+last_snoc (a ∷ b ∷ frames) x = last_snoc (b ∷ frames) x
+
+abbrev pub frames_of : End → List Frame
+frames_of (Finished s inputs) = []
+frames_of (Asking request frames inputs) = frames
+frames_of (Failed fault) = []
+
+pub open_some : (inputs : List Input) (text : Text) (frames : List Frame) → Open inputs text frames → 0 < length frames
+open_some inputs text frames (alone frame) = omega arith
+open_some inputs text frames (calling frame callee inner c o) = omega (arith, length-append inner (frame ∷ []))
+
+-- ---- what an operation that is no branch leads to
+
+pub data NextCalm (object : Option ℕ) (maximum place : ℕ) : Next → Type 0 where
+  goes_calm : (t : Store) → t.object_address ≡ object → t.maximum ≡ maximum → NextCalm object maximum place (Goes place (calm t))
+  stops_calm : {request : Request} {waiting : Waiting} (t : Store) → t.object_address ≡ object → t.maximum ≡ maximum
+      → NextCalm object maximum place (Stops request waiting (calm t))
+  fails_calm : {fault : Fault} → NextCalm object maximum place (Fails fault)
+
+same_len : (setup : Setup) (place len other : ℕ) (a : Act) (s : Store) → Jumping (λ z. ⊥) a
+    → done setup place len a s ≡ done setup place other a s
+same_len setup place len other (Pushes rest pushed) s pushes = refl
+same_len setup place len other (Branches rest target) s (branches h) = absurd h
+same_len setup place len other (Locates rest location) s locates = refl
+same_len setup place len other (Ends rest piece) s ends = refl
+same_len setup place len other (Asks rest request waiting) s asks = refl
+same_len setup place len other (Refuses fault) s refuses = refl
+
+module _ (encoding : Encoding) (bits : ℕ) where
+  abbrev S : Setup
+  S = free encoding bits
+
+  done_calm : (place len : ℕ) (a : Act) (t : Store) → Jumping (λ z. ⊥) a
+      → NextCalm t.object_address t.maximum place (done S place len a (calm t))
+  unfolding push_piece
+  done_calm place len (Pushes rest pushed) t pushes =
+      let u : Store = record t { values = rest; last = Plain } in
+      subst (λ (r : Result Store Fault). NextCalm t.object_address t.maximum place (goes place r))
+      (sym (piles_calm encoding bits pushed u)) (goes_calm (record u { values = piled pushed rest }) refl refl)
+  done_calm place len (Branches rest target) t (branches h) = absurd h
+  done_calm place len (Locates rest location) t locates =
+      goes_calm (record t { values = rest; last = Located location }) refl refl
+  done_calm place len (Ends rest piece) t ends =
+      goes_calm (record t { values = rest; last = Pieced; pieces = t.pieces ++ piece ∷ [] }) refl refl
+  done_calm place len (Asks rest request waiting) t asks = stops_calm (record t { values = rest }) refl refl
+  done_calm place len (Refuses fault) t refuses = fails_calm
+
+  holds_calm : (location : Location) (place : ℕ) (t : Store) (o : Option (ℕ × Option ℕ))
+      → NextCalm t.object_address t.maximum place (holds S location place (calm t) o)
+  unfolding push_piece
+  holds_calm location place t (Some piece) =
+      goes_calm (record t {
+        last = Pieced;
+        pieces = t.pieces ++ record
+            { size_in_bits = Some piece.0; bit_offset = piece.1; location = location } ∷ [];
+      }) refl refl
+  holds_calm location place t None = fails_calm
+
+  module _ (A K B : List ℕ) (big : Bool) (offset : DieReference)
+      (spelled : Spells encoding bits big K (operation.Call offset)) (target : First) where
+    -- a text that begins with the bytes before the call
+    abbrev pub text : List ℕ → Text
+    text X = record { bytes = A ++ X; is_big = big }
+
+    abbrev pub outer : Text
+    outer = text (K ++ B)
+
+    abbrev pub call : Request
+    call = RequiresAtLocation offset
+
+    abbrev pub behind_call : Frame
+    behind_call = record { text = outer; place = length A + length K }
+
+    abbrev pub AtCall : End → Type 0
+    AtCall end = end ≡ Asking call (behind_call ∷ []) []
+
+    -- with this much asked, each run comes to the call's place, whatever stands there
+    pub record Reached (R : List ℕ → List Input → List Request) (E : List ℕ → List Input → End) : Type 0 where
+      pub front : List Request
+      pub store : Store
+      pub fits : Fits target [] store.object_address store.maximum
+      pub at_call : AtCall (run S outer (length A) 0 (calm store) []).end
+      pub goes_on : (X : List ℕ) (more : List Input)
+          → GoesOn front (R X more) (E X more) (run S (text X) (length A) 0 (calm store) more)
+
+    abbrev pub Leads : Course → (List ℕ → List Input → Course) → Type 0
+    Leads c f = AtCall c.end → Reached (λ X more. (f X more).requests) (λ X more. (f X more).end)
+
+    pub leads_as : (c c' : Course) (f f' : List ℕ → List Input → Course) → c' ≡ c
+        → ((X : List ℕ) (more : List Input) → f' X more ≡ f X more) → Leads c f → Leads c' f'
+    leads_as c c' f f' e g h at_call =
+        let r = h (sym (ap (λ (x : Course). x.end) e) ∙ at_call) in
+        record {
+          front = r.front;
+          store = r.store;
+          fits = r.fits;
+          at_call = r.at_call;
+          goes_on = λ X more. let o = r.goes_on X more in
+              record {
+                requests = ap (λ (x : Course). x.requests) (g X more) ∙ o.requests;
+                end = ap
+                    (λ (x : Course). x.end) (g X more) ∙ o.end;
+              };
+        }
+
+    reached_behind : (more : List Request) (R : List ℕ → List Input → List Request) (E : List ℕ → List Input → End)
+        → Reached R E → Reached (λ X rest. more ++ R X rest) E
+    reached_behind more R E r = record {
+      front = more ++ r.front;
+      store = r.store;
+      fits = r.fits;
+      at_call = r.at_call;
+      goes_on = λ X rest. let o = r.goes_on X rest in
+          record { requests = ap (λ (l : List Request). more ++ l) o.requests ∙ sym (append_assoc more r.front _); end = o.end };
+    }
+
+    leads_failed : (fault : Fault) (f : List ℕ → List Input → Course) → Leads (ended (Failed fault)) f
+    leads_failed fault f e = absurd (let x : Failed fault ≡ Asking call (behind_call ∷ []) [] = e in cc)
+
+    leads_choose : (b : Bool) (x y : Course) (f g : List ℕ → List Input → Course) → Leads x f → Leads y g
+        → Leads (choose b x y) (λ X more. choose b (f X more) (g X more))
+    unfolding choose
+    leads_choose true x y f g h k = h
+    leads_choose false x y f g h k = k
+
+    -- from a place on
+    abbrev pub From : ℕ → Type 0
+    From p =
+        (t : Store) (inputs : List Input) → Fits target inputs t.object_address t.maximum
+        → Leads (run S outer p 0 (calm t) inputs) (λ X more. run S (text X) p 0 (calm t) (inputs ++ more))
+
+    -- ---- what comes of one operation before the call
+
+    record EndsCalm (s : Store) (left : List Input) : Type 0 where
+      store : Store
+      is : s ≡ calm store
+      fits : Fits target left store.object_address store.maximum
+
+    none_ahead : (t : Store) → ahead 0 t ≡ calm t
+    none_ahead t = ap (λ (k : ℕ). record (calm t) { count = k }) (let e : t.count + 0 ≡ t.count = omega arith in e)
+
+    ends_calm : (T : Text) (p d : ℕ) (t : Store) (inputs : List Input) (s : Store) (left : List Input)
+        → Fits target inputs t.object_address t.maximum → (run S T p d (calm t) inputs).end ≡ Finished s left → EndsCalm s left
+    ends_calm T p d t inputs s left f e =
+        let c = run S T p d (calm t) inputs in
+        let m : MirrorsAt encoding bits target 0 T (length T.bytes) d c.requests c.end c.requests c.end = subst
+        (λ (u : Store). MirrorsAt encoding bits target 0 T (length T.bytes) d (run S T p d u inputs).requests
+        (run S T p d u inputs).end c.requests c.end) (none_ahead t) (mirror_same encoding bits target 0 T p d t inputs f) in
+        let r : Rests encoding bits target 0 T (length T.bytes) d c.requests s left c.requests c.end = subst
+        (λ (x : End). MirrorsAt encoding bits target 0 T (length T.bytes) d c.requests x c.requests c.end) e m in
+        record { store = r.store; is = r.is ∙ none_ahead r.store; fits = r.fits }
+
+    module _ (p : ℕ) (before : p < length A + length K) (H : From p) where
+      abbrev at : List ℕ → Frame
+      at X = record { text = text X; place = p }
+
+      not_here : (request : Request) (frames : List Frame) (inputs : List Input)
+          → AtCall (Asking request (frames ++ at (K ++ B) ∷ []) inputs) → ⊥
+      not_here request frames inputs e =
+          let x : p ≡ length A + length K = sym (last_snoc frames (at (K ++ B))) ∙ ap
+          (λ (end : End). last_place (frames_of end)) e in
+          omega (arith, x, before)
+
+      back_leads : (callee : Text) (t : Store) (inputs : List Input) (end : End)
+          → Fits target inputs t.object_address t.maximum → (run S callee 0 1 (calm t) inputs).end ≡ end
+          → Leads (back (run S) (at (K ++ B)) 0 (run S callee 0 1 (calm t) inputs) end)
+          (λ X more. let c = run S callee 0 1 (calm t) (inputs ++ more) in back (run S) (at X) 0 c c.end)
+      back_leads callee t inputs (Failed fault) f e =
+          leads_failed fault (λ X more. let c = run S callee 0 1 (calm t) (inputs ++ more) in back (run S) (at X) 0 c c.end)
+      back_leads callee t inputs (Asking request frames left) f e = λ at_call. absurd (not_here request frames left at_call)
+      back_leads callee t inputs (Finished s left) f e =
+          let c = run S callee 0 1 (calm t) inputs in
+          let k = ends_calm callee 0 1 t inputs s left f e in
+          let longer : (more : List Input) → run S callee 0 1 (calm t) (inputs ++ more) ≡ course_before more c =
+          λ more. extends_run S callee 0 1 (calm t) inputs more (subst IsSettled (sym e) tt) in
+          let ended_so : (more : List Input) → end_before more c.end ≡ Finished (calm k.store) (left ++ more) =
+          λ more. ap (end_before more) e ∙ ap (λ (u : Store). Finished u (left ++ more)) k.is in
+          let inner : List ℕ → List Input → Course = λ X more. run S (text X) p 0 (calm k.store) (left ++ more) in
+          leads_as (joined c (run S outer p 0 (calm k.store) left)) (joined c (run S outer p 0 s left))
+          (λ X more. joined c (inner X more)) (λ X more. let c = run S callee 0 1 (calm t) (inputs ++ more) in
+          back (run S) (at X) 0 c c.end)
+          (ap (λ (u : Store). joined c (run S outer p 0 u left)) k.is)
+          (λ X more. ap (λ (x : Course). back (run S) (at X) 0 x x.end) (longer more) ∙ ap
+          (back (run S) (at X) 0 (course_before more c)) (ended_so more))
+          (λ at_call. reached_behind c.requests _ _ (H k.store left k.fits at_call))
+
+      called_leads : (callee : Text) (bytes : List ℕ) (t : Store) (inputs : List Input)
+          → Fits target inputs t.object_address t.maximum
+          → Leads (called (run S) S (at (K ++ B)) 0 callee bytes (calm t) inputs)
+          (λ X more. called (run S) S (at X) 0 callee bytes (calm t) (inputs ++ more))
+      unfolding push_frame
+      called_leads callee [] t inputs f = H (record t { last = Called }) inputs f
+      called_leads callee (byte ∷ bytes) t inputs f = back_leads callee t inputs _ f refl
+
+      used_leads : (u : Use) (t : Store) (inputs : List Input) (c : Course) (g : List ℕ → List Input → Course)
+          → Fits target inputs t.object_address t.maximum → Leads c g
+          → Leads (used (run S) S (at (K ++ B)) 0 u (calm t) inputs c)
+          (λ X more. used (run S) S (at X) 0 u (calm t) (inputs ++ more) (g X more))
+      unfolding push_value
+      used_leads (Gives rest value) t inputs c g f h = H (record t { values = value ∷ rest; last = Pushed }) inputs f
+      used_leads (Calls callee) t inputs c g f h = called_leads callee callee.bytes t inputs f
+      used_leads (Denies fault) t inputs c g f h = leads_failed fault (λ X more. ended (Failed fault))
+      used_leads Misfits t inputs c g f h = h
+
+      asked_leads : (request : Request) (waiting : Waiting) (t : Store) (inputs : List Input)
+          → Fits target inputs t.object_address t.maximum
+          → Leads (asked (run S) S (at (K ++ B)) 0 request waiting (calm t) inputs)
+          (λ X more. asked (run S) S (at X) 0 request waiting (calm t) (inputs ++ more))
+      asked_leads request waiting t [] f = λ at_call. absurd (not_here request [] [] at_call)
+      asked_leads request waiting t (input ∷ inputs) f =
+          used_leads (use_of (address_bits S) waiting input.answer t.values)
+          (record t { object_address = input.object_address; maximum = input.maximum }) inputs
+          (ended (Asking request (at (K ++ B) ∷ []) (input ∷ inputs)))
+          (λ X more. ended (Asking request (at X ∷ []) (input ∷ (inputs ++ more)))) f
+          (λ at_call. absurd (not_here request [] (input ∷ inputs) at_call))
+
+      led_leads : (inputs : List Input) (object : Option ℕ) (maximum : ℕ) (next : Next)
+          → Fits target inputs object maximum → NextCalm object maximum p next
+          → Leads (led (run S) S outer 0 p inputs next) (λ X more. led (run S) S (text X) 0 p (inputs ++ more) next)
+      led_leads inputs object maximum next f (goes_calm t o m) =
+          H t inputs (subst (λ k. Fits target inputs k t.maximum) (sym o) (subst (λ k. Fits target inputs object k) (sym m) f))
+      led_leads inputs object maximum next f (stops_calm {request = request} {waiting = waiting} t o m) = λ at_call.
+          reached_behind (request ∷ []) _ _ (asked_leads request waiting t inputs
+          (subst (λ k. Fits target inputs k t.maximum) (sym o) (subst (λ k. Fits target inputs object k) (sym m) f)) at_call)
+      led_leads inputs object maximum next f (fails_calm {fault = fault}) = leads_failed fault (λ X more. ended (Failed fault))
+
+      -- the operation that stands at q, and leads to p
+      module _ (q : ℕ) (op : Operation) (rest : List ℕ)
+          (reads : (X : List ℕ) → read S (text X) q ≡ Ok (op, rest ++ X)) (inside : q < length A)
+          (place : (X : List ℕ) → length (A ++ X) - length (rest ++ X) ≡ p)
+          (straight : (bits' : ℕ) (object : Option ℕ) (values : List _) → Jumping (λ z. ⊥) (act bits' object op values)) where
+        does_is : (X : List ℕ) (s : Store) (inputs : List Input)
+            → does (run S) S (text X) 0 s inputs (read S (text X) q) ≡ led (run S) S (text X) 0 p inputs
+            (done S p 0 (act (address_bits S) s.object_address op s.values) s)
+        does_is X s inputs =
+            let a = act (address_bits S) s.object_address op s.values in
+            ap (does (run S) S (text X) 0 s inputs) (reads X)
+            ∙ (ap (λ (k : ℕ). led (run S) S (text X) 0 k inputs (done S k (length (A ++ X)) a s)) (place X)
+            ∙ ap (led (run S) S (text X) 0 p inputs) (same_len S p (length (A ++ X)) 0 a s (straight _ _ _)))
+
+        held_is : (X : List ℕ) (location : Location) (s : Store) (inputs : List Input)
+            → held (run S) S (text X) 0 location s inputs (read S (text X) q) ≡ led (run S) S (text X) 0 p inputs
+            (holds S location p s (piece_of op))
+        held_is X location s inputs =
+            ap (held (run S) S (text X) 0 location s inputs) (reads X)
+            ∙ ap (λ (k : ℕ). led (run S) S (text X) 0 k inputs (holds S location k s (piece_of op))) (place X)
+
+        counts_leads : (t : Store) (inputs : List Input) → Fits target inputs t.object_address t.maximum
+            → Leads (counts (run S) S outer q 0 (calm t) inputs)
+            (λ X more. counts (run S) S (text X) q 0 (calm t) (inputs ++ more))
+        counts_leads t inputs f =
+            let u : Store = record t { count = t.count + 1 } in
+            leads_choose (can_count (calm t)) _ _ _ _
+            (leads_as (led (run S) S outer 0 p inputs
+            (done S p 0 (act (address_bits S) u.object_address op u.values) (calm u)))
+            (does (run S) S outer 0 (calm u) inputs (read S outer q))
+            (λ X more. led (run S) S (text X) 0 p (inputs ++ more)
+            (done S p 0 (act (address_bits S) u.object_address op u.values) (calm u)))
+            (λ X more. does (run S) S (text X) 0 (calm u) (inputs ++ more) (read S (text X) q))
+            (does_is (K ++ B) (calm u) inputs) (λ X more. does_is X (calm u) (inputs ++ more))
+            (led_leads inputs u.object_address u.maximum _ f (done_calm p 0 _ u (straight _ _ _))))
+            (leads_failed TooManyIterations (λ X more. ended (Failed TooManyIterations)))
+
+        held_leads : (location : Location) (t : Store) (inputs : List Input) → Fits target inputs t.object_address t.maximum
+            → Leads (held (run S) S outer 0 location (calm t) inputs (read S outer q))
+            (λ X more. held (run S) S (text X) 0 location (calm t) (inputs ++ more) (read S (text X) q))
+        held_leads location t inputs f =
+            leads_as (led (run S) S outer 0 p inputs (holds S location p (calm t) (piece_of op)))
+            (held (run S) S outer 0 location (calm t) inputs (read S outer q))
+            (λ X more. led (run S) S (text X) 0 p (inputs ++ more) (holds S location p (calm t) (piece_of op)))
+            (λ X more. held (run S) S (text X) 0 location (calm t) (inputs ++ more) (read S (text X) q))
+            (held_is (K ++ B) location (calm t) inputs) (λ X more. held_is X location (calm t) (inputs ++ more))
+            (led_leads inputs t.object_address t.maximum _ f (holds_calm location p t (piece_of op)))
+
+        by_leads : (last : Last) (t : Store) (inputs : List Input) → Fits target inputs t.object_address t.maximum
+            → Leads (turn_by (run S) S outer q 0 (calm t) inputs last)
+            (λ X more. turn_by (run S) S (text X) q 0 (calm t) (inputs ++ more) last)
+        by_leads (Located location) t inputs f = held_leads location t inputs f
+        by_leads Nothing t inputs f = counts_leads t inputs f
+        by_leads Plain t inputs f = counts_leads t inputs f
+        by_leads Pieced t inputs f = counts_leads t inputs f
+        by_leads Pushed t inputs f = counts_leads t inputs f
+        by_leads Called t inputs f = counts_leads t inputs f
+
+        opened : (X : List ℕ) (t : Store) (inputs : List Input)
+            → run S (text X) q 0 (calm t) inputs ≡ turn_by (run S) S (text X) q 0 (calm t) inputs t.last
+        opened X t inputs =
+            run_turn S (text X) q 0 (calm t) inputs
+            ∙ choose_false (q == length (A ++ X)) _ _
+            (let l : length (A ++ X) ≡ length A + length X = length-append A X in let i = inside in grind (arith, nat_tests))
+
+        pub turn_leads : From q
+        turn_leads t inputs f =
+            leads_as (turn_by (run S) S outer q 0 (calm t) inputs t.last) (run S outer q 0 (calm t) inputs)
+            (λ X more. turn_by (run S) S (text X) q 0 (calm t) (inputs ++ more) t.last)
+            (λ X more. run S (text X) q 0 (calm t) (inputs ++ more))
+            (opened (K ++ B) t inputs) (λ X more. opened X t (inputs ++ more)) (by_leads t.last t inputs f)

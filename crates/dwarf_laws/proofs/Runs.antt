@@ -1,0 +1,222 @@
+-- Two runs of one text, side by side.
+use Rattle.std.proofs.Common.{ℕ, zero, suc, ◌+◌, ◌≡◌, ap, refl, ◌⊎◌, List, [], ◌∷◌, length, Result, Ok, Err}
+use Rattle.dwarf_base.specs.Faults.{Fault, StackFull}
+use Rattle.dwarf_value.specs.Laws.{IsWidth}
+use Rattle.dwarf_meaning.specs.Operations.{Operation, Text}
+use Rattle.dwarf_meaning.specs.Locations.{Location}
+use Rattle.dwarf_meaning.specs.Requests.{Request, Waiting, Input}
+use Rattle.dwarf_meaning.specs.Acts.{Use}
+use Rattle.dwarf_meaning.specs.Stores.{Limits, Setup, address_bits, Store, Last, taken, Next}
+use Rattle.dwarf_meaning.specs.Run.{Frame, End, Finished, Asking, Failed, Course, ended, passing, asking, joined, Continues, back, resumed, entered, called, used, with_input, asked, led, read, can_count, counted, does, counts, piece_of, held, turn_by, turn, out_of_turns, run_for, enough, run}
+use Rattle.dwarf_laws.specs.Agreement.{Pairwise, none, more, AgreeingInputs, AgreeingLocations}
+use Rattle.dwarf_laws.proofs.Pairs.{choose_pair}
+use Rattle.dwarf_laws.proofs.Actions.{AgreeingUses, gives, calls, denies, misfits, act_both, use_both}
+use Rattle.dwarf_laws.proofs.Holdings.{AgreeingLasts, both_nothing, both_plain, both_pieced, both_pushed, both_called, both_located, AgreeingStores, AgreeingResults, stores, refusals, result_first, result_second, AgreeingNexts, goes_on, stops, fails, next_first, next_second, map_free, changed, push_value_both, push_frame_both, done_both, holds_both}
+
+pub data AgreeingEnds (Free : Type 0) (w : ℕ) : End → End → Type 0 where
+  finish_both : {s t : Store} {inputs inputs' : List Input} → AgreeingStores Free w s t
+      → Pairwise (AgreeingInputs w) inputs inputs' → AgreeingEnds Free w (Finished s inputs) (Finished t inputs')
+  ask_both : {request : Request} {frames : List Frame} {inputs inputs' : List Input}
+      → AgreeingEnds Free w (Asking request frames inputs) (Asking request frames inputs')
+  fail_both : {fault : Fault} → AgreeingEnds Free w (Failed fault) (Failed fault)
+
+-- Two courses with agreeing ends; where `Free` holds, one of them may end in a push that was refused.
+pub data AgreeingCourses (Free : Type 0) (w : ℕ) : Course → Course → Type 0 where
+  courses : {first second : Course} → first.path ≡ second.path → first.requests ≡ second.requests
+      → AgreeingEnds Free w first.end second.end → AgreeingCourses Free w first second
+  course_first : {first second : Course} → Free → first.end ≡ Failed StackFull → AgreeingCourses Free w first second
+  course_second : {first second : Course} → Free → second.end ≡ Failed StackFull → AgreeingCourses Free w first second
+
+-- two ways to go on
+abbrev pub GoAlike : (Free : Type 0) (w : ℕ) → Continues → Continues → Type 0
+GoAlike Free w go go' =
+    (text : Text) (place depth : ℕ) (s t : Store) (inputs inputs' : List Input) → AgreeingStores Free w s t
+    → Pairwise (AgreeingInputs w) inputs inputs'
+    → AgreeingCourses Free w (go text place depth s inputs) (go' text place depth t inputs')
+
+module _ (Free : Type 0) (w : ℕ) where
+  ended_both : (e e' : End) → AgreeingEnds Free w e e' → AgreeingCourses Free w (ended e) (ended e')
+  ended_both e e' h = courses refl refl h
+
+  passing_both : (frame : Frame) (c c' : Course) → AgreeingCourses Free w c c'
+      → AgreeingCourses Free w (passing frame c) (passing frame c')
+  passing_both frame c c' (courses p q h) = courses (ap (λ (l : List Frame). frame ∷ l) p) q h
+  passing_both frame c c' (course_first free e) = course_first free e
+  passing_both frame c c' (course_second free e) = course_second free e
+
+  asking_both : (request : Request) (c c' : Course) → AgreeingCourses Free w c c'
+      → AgreeingCourses Free w (asking request c) (asking request c')
+  asking_both request c c' (courses p q h) = courses p (ap (λ (l : List Request). request ∷ l) q) h
+  asking_both request c c' (course_first free e) = course_first free e
+  asking_both request c c' (course_second free e) = course_second free e
+
+  joined_both : (c c' d d' : Course) → c.path ≡ c'.path → c.requests ≡ c'.requests → AgreeingCourses Free w d d'
+      → AgreeingCourses Free w (joined c d) (joined c' d')
+  joined_both c c' d d' p q (courses p' q' h) = courses (cc) (cc) h
+  joined_both c c' d d' p q (course_first free e) = course_first free e
+  joined_both c c' d d' p q (course_second free e) = course_second free e
+
+module _ (Free : Type 0) (setup : Setup) (limits : Limits) (premise : Free ⊎ (setup.limits ≡ limits))
+    (width : IsWidth (address_bits setup)) where
+  abbrev w : ℕ
+  w = address_bits setup
+
+  abbrev other : Setup
+  other = record setup { limits = limits }
+
+  with_input_both : (i j : Input) (s t : Store) → AgreeingInputs w i j → AgreeingStores Free w s t
+      → AgreeingStores Free w (with_input i s) (with_input j t)
+  with_input_both i j s t a h =
+      record {
+        values = h.values;
+        pieces = h.pieces;
+        count = h.count;
+        object_address = a.object_address;
+        maximum =
+            a.maximum;
+        last = h.last;
+        refusal = map_free taken s.refusal t.refusal h.refusal;
+      }
+
+  module _ (go go' : Continues) (H : GoAlike Free w go go') where
+    back_ends : (frame : Frame) (depth : ℕ) (c c' : Course) (e e' : End) → c.path ≡ c'.path → c.requests ≡ c'.requests
+        → AgreeingEnds Free w e e'
+        → AgreeingCourses Free w (back go frame depth c e) (back go' frame depth c' e')
+    back_ends frame depth c c' e e' p q (finish_both h i) =
+        joined_both Free w c c' _ _ p q (H frame.text frame.place depth _ _ _ _ h i)
+    back_ends frame depth c c' e e' p q ask_both = courses p q ask_both
+    back_ends frame depth c c' e e' p q fail_both = courses p q fail_both
+
+    back_both : (frame : Frame) (depth : ℕ) (c c' : Course) → AgreeingCourses Free w c c'
+        → AgreeingCourses Free w (back go frame depth c c.end) (back go' frame depth c' c'.end)
+    back_both frame depth c c' (courses p q h) = back_ends frame depth c c' c.end c'.end p q h
+    back_both frame depth c c' (course_first free e) = course_first free (ap (λ (end : End). (back go frame depth c end).end) e)
+    back_both frame depth c c' (course_second free e) =
+        course_second free (ap (λ (end : End). (back go' frame depth c' end).end) e)
+
+    resumed_both : (frame : Frame) (depth : ℕ) (inputs inputs' : List Input) (r r' : Result Store Fault)
+        → Pairwise (AgreeingInputs w) inputs inputs' → AgreeingResults Free w r r'
+        → AgreeingCourses Free w (resumed go frame depth inputs r) (resumed go' frame depth inputs' r')
+    resumed_both frame depth inputs inputs' r r' i (stores h) = H frame.text frame.place depth _ _ inputs inputs' h i
+    resumed_both frame depth inputs inputs' r r' i refusals = ended_both Free w _ _ fail_both
+    resumed_both frame depth inputs inputs' r r' i (result_first free) = course_first free refl
+    resumed_both frame depth inputs inputs' r r' i (result_second free) = course_second free refl
+
+    entered_both : (frame : Frame) (depth : ℕ) (callee : Text) (inputs inputs' : List Input)
+        (r r' : Result Store Fault) → Pairwise (AgreeingInputs w) inputs inputs' → AgreeingResults Free w r r'
+        → AgreeingCourses Free w (entered go frame depth callee inputs r) (entered go' frame depth callee inputs' r')
+    entered_both frame depth callee inputs inputs' r r' i (stores h) =
+        back_both frame depth _ _ (H callee 0 (suc depth) _ _ inputs inputs' h i)
+    entered_both frame depth callee inputs inputs' r r' i refusals = ended_both Free w _ _ fail_both
+    entered_both frame depth callee inputs inputs' r r' i (result_first free) = course_first free refl
+    entered_both frame depth callee inputs inputs' r r' i (result_second free) = course_second free refl
+
+    called_both : (frame : Frame) (depth : ℕ) (callee : Text) (bytes : List ℕ) (s t : Store)
+        (inputs inputs' : List Input) → AgreeingStores Free w s t → Pairwise (AgreeingInputs w) inputs inputs'
+        → AgreeingCourses Free w (called go setup frame depth callee bytes s inputs)
+        (called go' other frame depth callee bytes t inputs')
+    called_both frame depth callee [] s t inputs inputs' h i =
+        H frame.text frame.place depth _ _ inputs inputs' (changed h h.values both_called) i
+    called_both frame depth callee (byte ∷ bytes) s t inputs inputs' h i =
+        entered_both frame depth callee inputs inputs' _ _ i (push_frame_both Free setup limits premise depth s t h)
+
+    used_both : (frame : Frame) (depth : ℕ) (u u' : Use) (s t : Store) (inputs inputs' : List Input) (c c' : Course)
+        → AgreeingUses w u u' → AgreeingStores Free w s t → Pairwise (AgreeingInputs w) inputs inputs'
+        → AgreeingCourses Free w c c' → AgreeingCourses Free w (used go setup frame depth u s inputs c)
+        (used go' other frame depth u' t inputs' c')
+    used_both frame depth u u' s t inputs inputs' c c' (gives r a) h i k =
+        resumed_both frame depth inputs inputs' _ _ i
+        (push_value_both Free setup limits premise _ _ _ _ a (changed h r both_pushed))
+    used_both frame depth u u' s t inputs inputs' c c' (calls {text = callee}) h i k = called_both frame depth callee
+        callee.bytes s t inputs inputs' h i
+    used_both frame depth u u' s t inputs inputs' c c' denies h i k = ended_both Free w _ _ fail_both
+    used_both frame depth u u' s t inputs inputs' c c' misfits h i k = k
+
+    asked_both : (frame : Frame) (depth : ℕ) (request : Request) (waiting : Waiting) (s t : Store)
+        (inputs inputs' : List Input) → AgreeingStores Free w s t → Pairwise (AgreeingInputs w) inputs inputs'
+        → AgreeingCourses Free w (asked go setup frame depth request waiting s inputs)
+        (asked go' other frame depth request waiting t inputs')
+    asked_both frame depth request waiting s t inputs inputs' h none = ended_both Free w _ _ ask_both
+    asked_both frame depth request waiting s t inputs inputs' h (more {x = x} {y = y} a i) =
+        used_both frame depth _ _ _ _ _ _ _ _
+        (use_both w width waiting x.answer y.answer s.values t.values a.answer h.values)
+        (with_input_both x y s t a h) i (ended_both Free w _ _ ask_both)
+
+    led_both : (text : Text) (depth place : ℕ) (inputs inputs' : List Input) (n n' : Next)
+        → Pairwise (AgreeingInputs w) inputs inputs' → AgreeingNexts Free w n n'
+        → AgreeingCourses Free w (led go setup text depth place inputs n) (led go' other text depth place inputs' n')
+    led_both text depth place inputs inputs' n n' i (goes_on h) = H text _ depth _ _ inputs inputs' h i
+    led_both text depth place inputs inputs' n n' i (stops h) =
+        asking_both Free w _ _ _ (asked_both (record { text = text; place = place }) depth _ _ _ _ inputs inputs' h i)
+    led_both text depth place inputs inputs' n n' i fails = ended_both Free w _ _ fail_both
+    led_both text depth place inputs inputs' n n' i (next_first free) = course_first free refl
+    led_both text depth place inputs inputs' n n' i (next_second free) = course_second free refl
+
+    does_both : (text : Text) (depth : ℕ) (s t : Store) (inputs inputs' : List Input)
+        (r : Result (Operation × List ℕ) Fault) → AgreeingStores Free w s t → Pairwise (AgreeingInputs w) inputs inputs'
+        → AgreeingCourses Free w (does go setup text depth s inputs r) (does go' other text depth t inputs' r)
+    does_both text depth s t inputs inputs' (Ok x) h i =
+        led_both text depth _ inputs inputs' _ _ i
+        (done_both Free setup limits premise _ (length text.bytes) _ _ s t
+        (act_both w s.object_address t.object_address x.0 s.values t.values h.object_address h.values) h)
+    does_both text depth s t inputs inputs' (Err fault) h i = ended_both Free w _ _ fail_both
+
+    counted_both : (s t : Store) → AgreeingStores Free w s t → AgreeingStores Free w (counted s) (counted t)
+    counted_both s t h =
+        record {
+          values = h.values;
+          pieces = h.pieces;
+          count = ap (λ (n : ℕ). n + 1) h.count;
+          object_address =
+              h.object_address;
+          maximum = h.maximum;
+          last = h.last;
+          refusal = h.refusal;
+        }
+
+    same_can : (s t : Store) → AgreeingStores Free w s t → can_count s ≡ can_count t
+    same_can s t h = let p = h.count in let q = h.maximum in cc
+
+    counts_both : (text : Text) (place depth : ℕ) (s t : Store) (inputs inputs' : List Input)
+        → AgreeingStores Free w s t → Pairwise (AgreeingInputs w) inputs inputs'
+        → AgreeingCourses Free w (counts go setup text place depth s inputs) (counts go' other text place depth t inputs')
+    counts_both text place depth s t inputs inputs' h i =
+        choose_pair (AgreeingCourses Free w) (can_count s) (can_count t) _ _ _ _ (same_can s t h)
+        (passing_both Free w (record { text = text; place = place }) _ _
+        (does_both text depth (counted s) (counted t) inputs inputs' (read setup text place) (counted_both s t h) i))
+        (ended_both Free w _ _ fail_both)
+
+    held_both : (text : Text) (depth : ℕ) (location location' : Location) (s t : Store) (inputs inputs' : List Input)
+        (r : Result (Operation × List ℕ) Fault) → AgreeingLocations w location location' → AgreeingStores Free w s t
+        → Pairwise (AgreeingInputs w) inputs inputs'
+        → AgreeingCourses Free w (held go setup text depth location s inputs r)
+        (held go' other text depth location' t inputs' r)
+    held_both text depth location location' s t inputs inputs' (Ok x) l h i =
+        led_both text depth _ inputs inputs' _ _ i
+        (holds_both Free setup limits premise location location' _ s t (piece_of x.0) l h)
+    held_both text depth location location' s t inputs inputs' (Err fault) l h i = ended_both Free w _ _ fail_both
+
+    by_both : (text : Text) (place depth : ℕ) (s t : Store) (inputs inputs' : List Input) (l m : Last)
+        → AgreeingLasts w l m → AgreeingStores Free w s t → Pairwise (AgreeingInputs w) inputs inputs'
+        → AgreeingCourses Free w (turn_by go setup text place depth s inputs l) (turn_by go' other text place depth t inputs' m)
+    by_both text place depth s t inputs inputs' l m (both_located k) h i =
+        held_both text depth _ _ s t inputs inputs' (read setup text place) k h i
+    by_both text place depth s t inputs inputs' l m both_nothing h i = counts_both text place depth s t inputs inputs' h i
+    by_both text place depth s t inputs inputs' l m both_plain h i = counts_both text place depth s t inputs inputs' h i
+    by_both text place depth s t inputs inputs' l m both_pieced h i = counts_both text place depth s t inputs inputs' h i
+    by_both text place depth s t inputs inputs' l m both_pushed h i = counts_both text place depth s t inputs inputs' h i
+    by_both text place depth s t inputs inputs' l m both_called h i = counts_both text place depth s t inputs inputs' h i
+
+    turn_both : GoAlike Free w (turn go setup) (turn go' other)
+    turn_both text place depth s t inputs inputs' h i =
+        choose_pair (AgreeingCourses Free w) _ _ _ _ _ _ refl (ended_both Free w _ _ (finish_both h i))
+        (by_both text place depth s t inputs inputs' s.last t.last h.last h i)
+
+  run_for_both : (turns : ℕ) → GoAlike Free w (run_for turns setup) (run_for turns other)
+  unfolding run_for
+  run_for_both zero =
+      turn_both out_of_turns out_of_turns (λ text place depth s t inputs inputs' h i. ended_both Free w _ _ fail_both)
+  run_for_both (suc turns) = turn_both (run_for turns setup) (run_for turns other) (run_for_both turns)
+
+  pub run_both : GoAlike Free w (run setup) (run other)
+  run_both = run_for_both enough

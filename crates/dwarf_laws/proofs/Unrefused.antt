@@ -1,0 +1,272 @@
+-- Without limits a run in which no push is refused is the run without a refusal.
+use Rattle.std.proofs.Common.{ℕ, zero, suc, ◌≡◌, ap, refl, sym, subst, ◌⊎◌, inl, inr, List, [], ◌∷◌, ◌++◌, length, Option, Some, None, Result, Ok, Err}
+use Rattle.dwarf_base.specs.declared.common.Encoding.{Encoding}
+use Rattle.dwarf_base.specs.Faults.{Fault, StackFull, ◌>>=◌}
+use Rattle.dwarf_value.specs.declared.types.Value.{Value}
+use Rattle.dwarf_meaning.specs.Operations.{Operation, Text}
+use Rattle.dwarf_meaning.specs.Locations.{Location, Piece}
+use Rattle.dwarf_meaning.specs.Requests.{Request, Waiting, Input}
+use Rattle.dwarf_meaning.specs.Acts.{on_top, Act, Pushes, Branches, Locates, Ends, Asks, Refuses, Use, Gives, Calls, Denies, Misfits, use_of}
+use Rattle.dwarf_meaning.specs.Stores.{Setup, address_bits, Store, Last, Nothing, Plain, Pieced, Pushed, Called, Located, Refusal, Never, push_value, push_piece, push_frame, push_values, Next, Goes, Stops, Fails, goes, done}
+use Rattle.dwarf_meaning.specs.Run.{Frame, End, Finished, Asking, Failed, Course, ended, passing, asking, joined, Continues, back, resumed, entered, called, used, with_input, asked, led, read, can_count, counted, does, counts, piece_of, holds, held, turn_by, turn, out_of_turns, run_for, enough}
+use Rattle.dwarf_meaning.specs.Meaning.{Outcome, Faults, completed, finish_located, finish_value, finish_judged, finish_free, finish_by, unwound, First, fresh, with_initial, course_from, meaning}
+use Rattle.dwarf_laws.proofs.Pairs.{choose_pair}
+use Rattle.dwarf_laws.proofs.Holdings.{IsRoom, is_left, is_full, spent_is}
+use Rattle.dwarf_laws.proofs.Calm.{free, calm}
+
+-- ---- pushes
+
+data CalmResults : Result Store Fault → Result Store Fault → Type 0 where
+  stores : {s : Store} → CalmResults (Ok s) (Ok (calm s))
+  no_stores : {r : Result Store Fault} → CalmResults (Err StackFull) r
+
+data CalmNexts : Next → Next → Type 0 where
+  goes_on : {place : ℕ} {s : Store} → CalmNexts (Goes place s) (Goes place (calm s))
+  stops : {request : Request} {waiting : Waiting} {s : Store}
+      → CalmNexts (Stops request waiting s) (Stops request waiting (calm s))
+  fails : {fault : Fault} → CalmNexts (Fails fault) (Fails fault)
+  no_next : {next : Next} → CalmNexts (Fails StackFull) next
+
+by_room : (make : Refusal → Store) (t : Store) → ((left : Refusal) → calm (make left) ≡ t) → (r : Result Refusal Fault) → IsRoom r
+    → CalmResults (r >>= λ left. Ok (make left)) (Ok t)
+by_room make t h r (is_left {left = left}) = subst (λ (u : Store). CalmResults (Ok (make left)) (Ok u)) (h left) stores
+by_room make t h r is_full = no_stores
+
+bind_calm : (r r' : Result Store Fault) (f : Store → Result Store Fault) → CalmResults r r'
+    → ((s : Store) → CalmResults (f s) (f (calm s)))
+    → CalmResults (r >>= f) (r' >>= f)
+bind_calm r r' f stores k = k _
+bind_calm r r' f no_stores k = no_stores
+
+goes_calm : (place : ℕ) (r r' : Result Store Fault) → CalmResults r r' → CalmNexts (goes place r) (goes place r')
+goes_calm place r r' stores = goes_on
+goes_calm place r r' no_stores = no_next
+
+-- ---- courses
+
+data CalmEnds : End → End → Type 0 where
+  finish_calm : {s : Store} {inputs : List Input} → CalmEnds (Finished s inputs) (Finished (calm s) inputs)
+  ask_calm : {request : Request} {frames : List Frame} {inputs : List Input}
+      → CalmEnds (Asking request frames inputs) (Asking request frames inputs)
+  fail_calm : {fault : Fault} → CalmEnds (Failed fault) (Failed fault)
+
+-- the same but for what is left of the refusal, or a push was refused
+data Calms : Course → Course → Type 0 where
+  calms : {c c' : Course} → c.path ≡ c'.path → c.requests ≡ c'.requests → CalmEnds c.end c'.end → Calms c c'
+  full : {c c' : Course} → c.end ≡ Failed StackFull → Calms c c'
+
+abbrev GoCalm : Continues → Continues → Type 0
+GoCalm go go' =
+    (text : Text) (place depth : ℕ) (s : Store) (inputs : List Input)
+    → Calms (go text place depth s inputs) (go' text place depth (calm s) inputs)
+
+ended_calm : (e e' : End) → CalmEnds e e' → Calms (ended e) (ended e')
+ended_calm e e' h = calms refl refl h
+
+passing_calm : (frame : Frame) (c c' : Course) → Calms c c' → Calms (passing frame c) (passing frame c')
+passing_calm frame c c' (calms p q h) = calms (ap (λ (l : List Frame). frame ∷ l) p) q h
+passing_calm frame c c' (full e) = full e
+
+asking_calm : (request : Request) (c c' : Course) → Calms c c' → Calms (asking request c) (asking request c')
+asking_calm request c c' (calms p q h) = calms p (ap (λ (l : List Request). request ∷ l) q) h
+asking_calm request c c' (full e) = full e
+
+joined_calm : (c c' d d' : Course) → c.path ≡ c'.path → c.requests ≡ c'.requests → Calms d d' → Calms (joined c d) (joined c' d')
+joined_calm c c' d d' p q (calms p' q' h) = calms (cc) (cc) h
+joined_calm c c' d d' p q (full e) = full e
+
+module _ (encoding : Encoding) (bits : ℕ) where
+  abbrev S : Setup
+  S = free encoding bits
+
+  value_calm : (x : Value) (s : Store) → CalmResults (push_value S x s) (push_value S x (calm s))
+  unfolding push_value
+  value_calm x s =
+      by_room (λ left. record s { values = x ∷ s.values; refusal = left })
+      (record s { values = x ∷ s.values; refusal = Never }) (λ left. refl) _ (spent_is s.refusal)
+
+  piece_calm : (p : Piece) (s : Store) → CalmResults (push_piece S p s) (push_piece S p (calm s))
+  unfolding push_piece
+  piece_calm p s =
+      by_room (λ left. record s { pieces = s.pieces ++ p ∷ []; refusal = left })
+      (record s { pieces = s.pieces ++ p ∷ []; refusal = Never }) (λ left. refl) _ (spent_is s.refusal)
+
+  frame_calm : (depth : ℕ) (s : Store) → CalmResults (push_frame S depth s) (push_frame S depth (calm s))
+  unfolding push_frame
+  frame_calm depth s =
+      by_room (λ left. record s { refusal = left }) (record s { refusal = Never }) (λ left. refl) _ (spent_is s.refusal)
+
+  values_calm : (xs : List Value) (s : Store) → CalmResults (push_values S xs s) (push_values S xs (calm s))
+  values_calm [] s = stores
+  values_calm (x ∷ xs) s =
+      bind_calm (push_value S x s) (push_value S x (calm s)) (push_values S xs) (value_calm x s) (values_calm xs)
+
+  done_calm : (place len : ℕ) (a : Act) (s : Store) → CalmNexts (done S place len a s) (done S place len a (calm s))
+  done_calm place len (Pushes rest pushed) s = goes_calm place _ _ (values_calm pushed (record s { values = rest; last = Plain }))
+  done_calm place len (Branches rest target) s = choose_pair CalmNexts _ _ _ _ _ _ refl fails goes_on
+  done_calm place len (Locates rest location) s = goes_on
+  done_calm place len (Ends rest piece) s = goes_calm place _ _ (piece_calm piece (record s { values = rest; last = Pieced }))
+  done_calm place len (Asks rest request waiting) s = stops
+  done_calm place len (Refuses fault) s = fails
+
+  holds_calm : (location : Location) (place : ℕ) (s : Store) (o : Option (ℕ × Option ℕ))
+      → CalmNexts (holds S location place s o) (holds S location place (calm s) o)
+  holds_calm location place s (Some piece) =
+      goes_calm place _ _ (piece_calm (record
+      { size_in_bits = Some piece.0; bit_offset = piece.1; location = location }) (record s { last = Pieced }))
+  holds_calm location place s None = fails
+
+  module _ (go go' : Continues) (H : GoCalm go go') where
+    back_ends : (frame : Frame) (depth : ℕ) (c c' : Course) (e e' : End) → c.path ≡ c'.path → c.requests ≡ c'.requests
+        → CalmEnds e e'
+        → Calms (back go frame depth c e) (back go' frame depth c' e')
+    back_ends frame depth c c' e e' p q (finish_calm {s = s} {inputs = inputs}) = joined_calm c c' _ _ p q
+        (H frame.text frame.place depth s inputs)
+    back_ends frame depth c c' e e' p q ask_calm = calms p q ask_calm
+    back_ends frame depth c c' e e' p q fail_calm = calms p q fail_calm
+
+    back_calm : (frame : Frame) (depth : ℕ) (c c' : Course) → Calms c c'
+        → Calms (back go frame depth c c.end) (back go' frame depth c' c'.end)
+    back_calm frame depth c c' (calms p q h) = back_ends frame depth c c' c.end c'.end p q h
+    back_calm frame depth c c' (full e) = full (ap (λ (end : End). (back go frame depth c end).end) e)
+
+    resumed_calm : (frame : Frame) (depth : ℕ) (inputs : List Input) (r r' : Result Store Fault) → CalmResults r r'
+        → Calms (resumed go frame depth inputs r) (resumed go' frame depth inputs r')
+    resumed_calm frame depth inputs r r' (stores {s = s}) = H frame.text frame.place depth s inputs
+    resumed_calm frame depth inputs r r' no_stores = full refl
+
+    entered_calm : (frame : Frame) (depth : ℕ) (callee : Text) (inputs : List Input) (r r' : Result Store Fault)
+        → CalmResults r r'
+        → Calms (entered go frame depth callee inputs r) (entered go' frame depth callee inputs r')
+    entered_calm frame depth callee inputs r r' (stores {s = s}) = back_calm frame depth _ _ (H callee 0 (suc depth) s inputs)
+    entered_calm frame depth callee inputs r r' no_stores = full refl
+
+    called_calm : (frame : Frame) (depth : ℕ) (callee : Text) (bytes : List ℕ) (s : Store) (inputs : List Input)
+        → Calms (called go S frame depth callee bytes s inputs) (called go' S frame depth callee bytes (calm s) inputs)
+    called_calm frame depth callee [] s inputs = H frame.text frame.place depth (record s { last = Called }) inputs
+    called_calm frame depth callee (byte ∷ bytes) s inputs = entered_calm frame depth callee inputs _ _ (frame_calm depth s)
+
+    used_calm : (frame : Frame) (depth : ℕ) (u : Use) (s : Store) (inputs : List Input) (c : Course) → Calms c c
+        → Calms (used go S frame depth u s inputs c) (used go' S frame depth u (calm s) inputs c)
+    used_calm frame depth (Gives rest value) s inputs c k =
+        resumed_calm frame depth inputs _ _ (value_calm value (record s { values = rest; last = Pushed }))
+    used_calm frame depth (Calls callee) s inputs c k = called_calm frame depth callee callee.bytes s inputs
+    used_calm frame depth (Denies fault) s inputs c k = ended_calm _ _ fail_calm
+    used_calm frame depth Misfits s inputs c k = k
+
+    asked_calm : (frame : Frame) (depth : ℕ) (request : Request) (waiting : Waiting) (s : Store) (inputs : List Input)
+        → Calms (asked go S frame depth request waiting s inputs) (asked go' S frame depth request waiting (calm s) inputs)
+    asked_calm frame depth request waiting s [] = ended_calm _ _ ask_calm
+    asked_calm frame depth request waiting s (input ∷ inputs) =
+        used_calm frame depth (use_of (address_bits S) waiting input.answer s.values) (with_input input s) inputs _
+        (ended_calm _ _ ask_calm)
+
+    led_calm : (text : Text) (depth place : ℕ) (inputs : List Input) (n n' : Next) → CalmNexts n n'
+        → Calms (led go S text depth place inputs n) (led go' S text depth place inputs n')
+    led_calm text depth place inputs n n' (goes_on {place = to} {s = s}) = H text to depth s inputs
+    led_calm text depth place inputs n n' (stops {request = request} {waiting = waiting} {s = s}) =
+        asking_calm request _ _ (asked_calm (record { text = text; place = place }) depth request waiting s inputs)
+    led_calm text depth place inputs n n' fails = ended_calm _ _ fail_calm
+    led_calm text depth place inputs n n' no_next = full refl
+
+    does_calm : (text : Text) (depth : ℕ) (s : Store) (inputs : List Input) (r : Result (Operation × List ℕ) Fault)
+        → Calms (does go S text depth s inputs r) (does go' S text depth (calm s) inputs r)
+    does_calm text depth s inputs (Ok x) = led_calm text depth _ inputs _ _ (done_calm _ (length text.bytes) _ s)
+    does_calm text depth s inputs (Err fault) = ended_calm _ _ fail_calm
+
+    counts_calm : (text : Text) (place depth : ℕ) (s : Store) (inputs : List Input)
+        → Calms (counts go S text place depth s inputs) (counts go' S text place depth (calm s) inputs)
+    counts_calm text place depth s inputs =
+        choose_pair Calms (can_count s) (can_count s) _ _ _ _ refl
+        (passing_calm (record { text = text; place = place }) _ _
+        (does_calm text depth (counted s) inputs (read S text place))) (ended_calm _ _ fail_calm)
+
+    held_calm : (text : Text) (depth : ℕ) (location : Location) (s : Store) (inputs : List Input)
+        (r : Result (Operation × List ℕ) Fault)
+        → Calms (held go S text depth location s inputs r) (held go' S text depth location (calm s) inputs r)
+    held_calm text depth location s inputs (Ok x) = led_calm text depth _ inputs _ _ (holds_calm location _ s (piece_of x.0))
+    held_calm text depth location s inputs (Err fault) = ended_calm _ _ fail_calm
+
+    by_calm : (text : Text) (place depth : ℕ) (s : Store) (inputs : List Input) (l : Last)
+        → Calms (turn_by go S text place depth s inputs l) (turn_by go' S text place depth (calm s) inputs l)
+    by_calm text place depth s inputs (Located location) = held_calm text depth location s inputs (read S text place)
+    by_calm text place depth s inputs Nothing = counts_calm text place depth s inputs
+    by_calm text place depth s inputs Plain = counts_calm text place depth s inputs
+    by_calm text place depth s inputs Pieced = counts_calm text place depth s inputs
+    by_calm text place depth s inputs Pushed = counts_calm text place depth s inputs
+    by_calm text place depth s inputs Called = counts_calm text place depth s inputs
+
+    turn_calm : GoCalm (turn go S) (turn go' S)
+    turn_calm text place depth s inputs =
+        choose_pair Calms _ _ _ _ _ _ refl (ended_calm _ _ finish_calm) (by_calm text place depth s inputs s.last)
+
+  run_for_calm : (turns : ℕ) → GoCalm (run_for turns S) (run_for turns S)
+  unfolding run_for
+  run_for_calm zero = turn_calm out_of_turns out_of_turns (λ text place depth s inputs. ended_calm _ _ fail_calm)
+  run_for_calm (suc turns) = turn_calm (run_for turns S) (run_for turns S) (run_for_calm turns)
+
+  -- ---- outcomes
+
+  -- a push was refused, or they are the same
+  abbrev CalmOutcomes : Outcome → Outcome → Type 0
+  CalmOutcomes o o' = (o ≡ Faults StackFull) ⊎ (o ≡ o')
+
+  completed_calm : (value : Option Value) (r r' : Result Store Fault) → CalmResults r r'
+      → CalmOutcomes (completed value r) (completed value r')
+  completed_calm value r r' stores = inr refl
+  completed_calm value r r' no_stores = inl refl
+
+  located_calm : (location : Location) (s : Store) → CalmOutcomes (finish_located S location s)
+      (finish_located S location (calm s))
+  located_calm location s = choose_pair CalmOutcomes _ _ _ _ _ _ refl (inr refl) (completed_calm None _ _ (piece_calm _ s))
+
+  top_calm : (s : Store) (values : List Value) → s.values ≡ values → CalmOutcomes (finish_value S s) (finish_value S (calm s))
+  unfolding on_top
+  top_calm s values e =
+      subst (λ (l : List Value). CalmOutcomes (finish_value S (record s { values = l }))
+      (finish_value S (calm (record s { values = l })))) (sym e) (at values)
+    where
+      at : (l : List Value) → CalmOutcomes (finish_value S (record s { values = l }))
+          (finish_value S (calm (record s { values = l })))
+      at [] = inr refl
+      at (x ∷ rest) = completed_calm (Some x) _ _ (piece_calm _ (record s { values = rest }))
+
+  judged_calm : (s : Store) → CalmOutcomes (finish_judged S s) (finish_judged S (calm s))
+  judged_calm s = choose_pair CalmOutcomes _ _ _ _ _ _ refl (inr refl) (top_calm s s.values refl)
+
+  free_calm : (s : Store) → CalmOutcomes (finish_free S s) (finish_free S (calm s))
+  free_calm s = choose_pair CalmOutcomes _ _ _ _ _ _ refl (inr refl) (top_calm s s.values refl)
+
+  finished_calm : (s : Store) (l : Last) → CalmOutcomes (finish_by S s l) (finish_by S (calm s) l)
+  finished_calm s (Located location) = located_calm location s
+  finished_calm s Plain = judged_calm s
+  finished_calm s Pushed = judged_calm s
+  finished_calm s Nothing = free_calm s
+  finished_calm s Pieced = free_calm s
+  finished_calm s Called = free_calm s
+
+  ends_calm : (e e' : End) → CalmEnds e e' → CalmOutcomes (unwound S [] e) (unwound S [] e')
+  ends_calm e e' (finish_calm {s = s}) = finished_calm s s.last
+  ends_calm e e' ask_calm = inr refl
+  ends_calm e e' fail_calm = inr refl
+
+  courses_calm : (c c' : Course) → Calms c c' → CalmOutcomes (unwound S [] c.end) (unwound S [] c'.end)
+  courses_calm c c' (calms p q h) = ends_calm c.end c'.end h
+  courses_calm c c' (full e) = inl (ap (λ (end : End). unwound S [] end) e)
+
+  initial_calm : (m : Option ℕ) (s : Store) → CalmResults (with_initial S m s) (with_initial S m (calm s))
+  initial_calm None s = stores
+  initial_calm (Some number) s = value_calm _ s
+
+  from_calm : (text : Text) (inputs : List Input) (r r' : Result Store Fault) → CalmResults r r'
+      → Calms (course_from S text inputs r) (course_from S text inputs r')
+  from_calm text inputs r r' (stores {s = s}) = run_for_calm enough text 0 0 s inputs
+  from_calm text inputs r r' no_stores = full refl
+
+  -- a push was refused, or it is what comes of it without a refusal
+  pub meaning_calm : (refusal : Refusal) (text : Text) (first : First) (inputs : List Input)
+      → (meaning S refusal text first inputs ≡ Faults StackFull) ⊎ (meaning S refusal text first inputs ≡ meaning S
+      Never text first inputs)
+  unfolding meaning
+  meaning_calm refusal text first inputs =
+      courses_calm _ _ (from_calm text inputs _ _ (initial_calm first.initial_value (fresh first refusal)))

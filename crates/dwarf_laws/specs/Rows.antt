@@ -1,0 +1,75 @@
+-- Words for the worked rows of the two laws: evaluations that are computed (DWARF 5, sections 2.5 and 2.6).
+use Rattle.std.specs.Prelude.{ℕ, ◌≡◌, ◌≢◌, List, [], ◌∷◌, ◌++◌, Some, false}
+use Rattle.dwarf_base.specs.Faults.{Fault}
+use Rattle.dwarf_meaning.specs.Operations.{UnitRef}
+use Rattle.dwarf_meaning.specs.Requests.{Request, RequiresAtLocation, Answer, Input}
+use Rattle.dwarf_meaning.specs.Stores.{Setup, Refusal, Never}
+use Rattle.dwarf_meaning.specs.Meaning.{Outcome, Faults, First, course_of, meaning}
+use Rattle.dwarf_meaning.specs.Steps.{Step, Evaluate, Resume, outcome_of, AllAllowed, after_steps, Reply, answers}
+use Rattle.dwarf_meaning.specs.Rows.{text, plain, unset}
+use Rattle.dwarf_laws.specs.Agreement.{Pairwise, AgreeingSteps, AgreeingOutcomes}
+use Rattle.dwarf_laws.specs.TwoRuns.{untold}
+use Rattle.dwarf_laws.specs.Inlining.{CallSite, outer, inlined, with_answer, HasNoLimits, StandsIn, IsInlinable, LeadsToCall, EndAlike}
+
+-- these answers are given, one after another
+abbrev pub resumes : List Answer → List Step
+resumes [] = []
+resumes (answer ∷ answers) = Resume answer ∷ resumes answers
+
+-- an evaluation is started, and then these answers are given
+abbrev pub started : List Answer → List Step
+started answers = Evaluate ∷ resumes answers
+
+-- Steps from the beginning, each of them allowed: what they answer, and what comes of them.
+pub record ComeTo (setup : Setup) (bytes : List ℕ) (steps : List Step) (replied : List Reply)
+    (outcome : Outcome) : Type 0 where
+  pub allowed : AllAllowed setup Never (text bytes) untold steps
+  pub replies : answers setup Never (text bytes) untold steps ≡ replied
+  pub comes : outcome_of setup Never (text bytes) (after_steps setup Never (text bytes) untold steps) ≡ Some outcome
+
+-- Two runs by agreeing steps, for addresses of 4 bytes: the same answers, and what comes of each.
+pub record ComeAlike (setup : Setup) (bytes : List ℕ) (steps others : List Step) (replied : List Reply)
+    (outcome other : Outcome) : Type 0 where
+  pub agree : Pairwise (AgreeingSteps 32) steps others
+  pub one : ComeTo setup bytes steps replied outcome
+  pub another : ComeTo setup bytes others replied other
+
+-- ---- called texts
+
+-- the call of the entry at offset 5, between other bytes, and the bytes that it is answered by
+abbrev pub calling : (before behind callee : List ℕ) → CallSite
+calling before behind callee =
+    record { before = before; call = 0x98 ∷ 0x05 ∷ 0x00 ∷ []; behind = behind; callee = callee; is_big = false }
+
+-- Every premise of the law holds, with nothing set; what comes of both texts; and what they ask, before the call and
+-- behind it.
+pub record IsWorked (site : CallSite) (earlier later : List Input) (before behind : List Request)
+    (outcome : Outcome) : Type 0 where
+  pub no_limits : HasNoLimits plain
+  pub stands : StandsIn plain site (UnitRef 5)
+  pub inlinable : IsInlinable plain site
+  pub leads : LeadsToCall plain site (UnitRef 5) unset earlier before
+  pub faultless : (fault : Fault)
+      → meaning plain Never (outer site) unset (with_answer site unset earlier later) ≢ Faults fault
+  pub outer_comes : meaning plain Never (outer site) unset (with_answer site unset earlier later) ≡ outcome
+  pub inlined_comes : meaning plain Never (inlined site) unset (earlier ++ later) ≡ outcome
+  pub outer_asks :
+      (course_of plain Never (outer site) unset (with_answer site unset earlier later)).requests
+      ≡ before ++ (RequiresAtLocation (UnitRef 5) ∷ behind)
+  pub inlined_asks : (course_of plain Never (inlined site) unset (earlier ++ later)).requests ≡ before ++ behind
+
+-- ---- why the premises stand
+
+-- Two runs of one text, for addresses of 4 bytes, and what comes of each: it doesn't agree.
+pub record ComeApart (setup other : Setup) (refusal another : Refusal) (bytes : List ℕ) (first second : First)
+    (inputs others : List Input) (outcome apart : Outcome) : Type 0 where
+  pub one_comes : meaning setup refusal (text bytes) first inputs ≡ outcome
+  pub other_comes : meaning other another (text bytes) second others ≡ apart
+  pub differ : AgreeingOutcomes 32 outcome apart → ⊥
+
+-- Two texts and what comes of each, by its own inputs: they don't end alike.
+pub record EndApart (setup : Setup) (bytes others : List ℕ) (first : First) (inputs later : List Input)
+    (outcome apart : Outcome) : Type 0 where
+  pub outer_comes : meaning setup Never (text bytes) first inputs ≡ outcome
+  pub inlined_comes : meaning setup Never (text others) first later ≡ apart
+  pub differ : EndAlike outcome apart → ⊥

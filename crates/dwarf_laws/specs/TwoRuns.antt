@@ -1,0 +1,79 @@
+-- Bits above an address change nothing that matters (DWARF 5, section 2.5.1).
+use Rattle.std.specs.Prelude.{◌≡◌, ◌≢◌, ◌⊎◌, ◌↔◌, List, [], ◌∷◌, ◌++◌, Option, Some, None}
+use Rattle.dwarf_base.specs.Faults.{StackFull}
+use Rattle.dwarf_value.specs.Laws.{IsWidth}
+use Rattle.dwarf_meaning.specs.Operations.{Text}
+use Rattle.dwarf_meaning.specs.Requests.{Input}
+use Rattle.dwarf_meaning.specs.Stores.{Limits, Setup, address_bits, Refusal}
+use Rattle.dwarf_meaning.specs.Run.{Frame}
+use Rattle.dwarf_meaning.specs.Meaning.{First, course_of}
+use Rattle.dwarf_meaning.specs.Steps.{Step, Told, outcome_of, Allows, AllAllowed, after_steps, Reply, Faulted, replies, answers}
+use Rattle.dwarf_laws.specs.Agreement.{Pairwise, Both, AgreeingSteps, AgreeingTold, AgreeingOutcomes}
+
+-- nothing is set, and nothing was started
+abbrev pub untold : Told
+untold =
+    record {
+      settings = record { initial_value = None; object_address = None; maximum = 4294967295 };
+      first = None;
+      inputs = [];
+    }
+
+-- no push was refused
+abbrev pub NoneIsFull : List Reply → Type 0
+NoneIsFull [] = Unit {0}
+NoneIsFull (reply ∷ replies) = (reply ≢ Faulted StackFull) × NoneIsFull replies
+
+-- where the operations stand that were counted so far
+abbrev pub path_from : Setup → Refusal → Text → List Input → Option First → List Frame
+path_from setup refusal text inputs None = []
+path_from setup refusal text inputs (Some first) = (course_of setup refusal text first inputs).path
+
+-- the same of all that was told
+abbrev pub path_of : Setup → Refusal → Text → Told → List Frame
+path_of setup refusal text told = path_from setup refusal text told.inputs told.first
+
+-- what came of all that was told before, once it was started, and what the steps answer
+abbrev pub all_replies : Setup → Refusal → Text → Told → List Step → List Reply
+all_replies setup refusal text told steps = replies (outcome_of setup refusal text told) ++ answers setup refusal text told steps
+
+-- Two evaluations of one text stand alike, by what each was told.
+pub record StandAlike (setup other : Setup) (refusal another : Refusal) (text : Text)
+    (told second : Told) : Type 0 where
+  pub agreeing : AgreeingTold (address_bits setup) told second
+  -- the same request with the same open texts and places, the same fault, or agreeing pieces and values
+  pub outcomes : Both (AgreeingOutcomes (address_bits setup)) (outcome_of setup refusal text told)
+      (outcome_of other another text second)
+  pub paths : path_of setup refusal text told ≡ path_of other another text second
+  -- of agreeing next steps, one is allowed exactly when the other is
+  pub next : (step following : Step) → AgreeingSteps (address_bits setup) step following
+      → Allows told (outcome_of setup refusal text told) step
+      ↔ Allows second (outcome_of other another text second) following
+
+-- Two evaluations of one text, each by its own steps, from what it was told before.
+pub record AreAlike (setup other : Setup) (refusal another : Refusal) (text : Text) (told second : Told)
+    (steps others : List Step) : Type 0 where
+  pub allowed : AllAllowed setup refusal text told steps ↔ AllAllowed other another text second others
+  -- requests and faults are the same, and come at the same steps
+  pub replies : answers setup refusal text told steps ≡ answers other another text second others
+  pub stand : StandAlike setup other refusal another text
+      (after_steps setup refusal text told steps) (after_steps other another text second others)
+
+-- the same limits and the same refusal, or no push that was refused
+abbrev pub AreComparable : (setup other : Setup) (refusal another : Refusal) (text : Text) (told second : Told)
+    (steps others : List Step) → Type 0
+AreComparable setup other refusal another text told second steps others =
+    ((setup.limits ≡ other.limits) × (refusal ≡ another))
+    ⊎ (NoneIsFull (all_replies setup refusal text told steps) × NoneIsFull (all_replies other another text second others))
+
+-- Agreeing steps, from what was told before, under any limits and refusals. With nothing told on either side
+-- (`untold`) it speaks of whole evaluations.
+abbrev pub TwoRuns : Type 0
+TwoRuns =
+    (setup : Setup) (limits : Limits) (refusal another : Refusal) (text : Text) (told second : Told)
+    (steps others : List Step)
+    → IsWidth (address_bits setup)
+    → AgreeingTold (address_bits setup) told second
+    → Pairwise (AgreeingSteps (address_bits setup)) steps others
+    → AreComparable setup (record setup { limits = limits }) refusal another text told second steps others
+    → AreAlike setup (record setup { limits = limits }) refusal another text told second steps others

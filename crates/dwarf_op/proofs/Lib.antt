@@ -1,2 +1,4 @@
-pub mod EntryRows
-pub mod Operands
+mod EqualOperations
+pub mod OneByte
+pub mod Rows
+pub mod ShortLeb

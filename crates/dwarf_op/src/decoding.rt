@@ -1,101 +1,28 @@
 //! Reading the operation at the front of a text.
 
 ghost use Rattle.std.specs.Prelude.{◌≡◌, ◌<◌, length, OnOk};
-ghost use Rattle.dwarf_base.specs.declared.common.Encoding.{Encoding};
 ghost use Rattle.dwarf_base.specs.Reads.{Gives, IsSuffix};
 ghost use Rattle.dwarf_meaning.specs.Operands.{context_of};
-ghost use Rattle.dwarf_meaning.specs.Decoding.{unsigned_at, integer_at, operands_at, operation_at};
-ghost use Rattle.dwarf_op.specs.inner.Entries.{unsigned_form, signed_form, offset_form, register_at, entry_row};
-ghost use Rattle.dwarf_op.specs.inner.Entries as entries;
-ghost use Rattle.dwarf_op.specs.Views.{operation_of, text_of};
+ghost use Rattle.dwarf_meaning.specs.Decoding.{operands_at, operation_at};
+ghost use Rattle.dwarf_op.specs.Entries.{entry_row, rare_row};
+ghost use Rattle.dwarf_op.specs.Entries as entries;
+ghost use Rattle.dwarf_op.specs.Views.{operation_of, piece_read, text_of};
 
 use crate::opcodes::{
-    Entry, FromBlock, FromBranch, FromByte, FromOffset, FromSigned, FromUnsigned, Offset, Plain,
-    Signed, Unsigned, entry_at,
+    Entry, FromBlock, FromBranch, FromByte, FromOffset, FromSigned, FromUnsigned, Plain, Rare,
+    entry_at,
+};
+use crate::operands::{
+    WasmPlace, generic_type, read_bit_piece, read_block, read_implicit_pointer,
+    read_named_base_register, read_offset, read_piece, read_register, read_signed, read_sleb128,
+    read_typed_deref, read_typed_literal, read_typed_register, read_unsigned, read_wasm_location,
 };
 use crate::operations::{DieReference, Operation};
 use dwarf_base::{
-    DebugAddrIndex, DebugInfoOffset, DwOp, Encoding, Error, Reader, ReaderOffset, Register, Result,
-    UnitOffset, constants,
+    DebugAddrIndex, DebugInfoOffset, DwOp, Encoding, Error, Reader, Register, Result, UnitOffset,
 };
 
-#[inline]
-fn read_unsigned<R: Reader + Copy>(
-    shape: Unsigned,
-    bytes: &mut R,
-    encoding: Encoding,
-) -> Result<u64>
-    ensures value { Gives (λ n. n) result (R.bytes bytes.new) (unsigned_at (context_of encoding R.Offset.BITS (R.is_big bytes.old)) (unsigned_form shape) (R.bytes bytes.old)) }
-    ensures rest { IsSuffix (R.bytes bytes.new) (R.bytes bytes.old) }
-    ensures order { R.is_big bytes.new ≡ R.is_big bytes.old }
-{
-    match shape {
-        Unsigned::U16 => Ok(u64::from(bytes.read_u16()?)),
-        Unsigned::U32 => Ok(u64::from(bytes.read_u32()?)),
-        Unsigned::U64 => bytes.read_u64(),
-        Unsigned::Uleb128 => bytes.read_uleb128(),
-        Unsigned::Address => bytes.read_address(encoding.address_size),
-    }
-}
-
-#[inline]
-fn read_signed<R: Reader + Copy>(shape: Signed, bytes: &mut R) -> Result<i64>
-    ensures value { Gives (λ n. n) result (R.bytes bytes.new) (integer_at (R.is_big bytes.old) (signed_form shape) (R.bytes bytes.old)) }
-    ensures rest { IsSuffix (R.bytes bytes.new) (R.bytes bytes.old) }
-    ensures order { R.is_big bytes.new ≡ R.is_big bytes.old }
-{
-    match shape {
-        Signed::I8 => Ok(i64::from(bytes.read_i8()?)),
-        Signed::I16 => Ok(i64::from(bytes.read_i16()?)),
-        Signed::I32 => Ok(i64::from(bytes.read_i32()?)),
-        Signed::I64 => bytes.read_i64(),
-        Signed::Sleb128 => bytes.read_sleb128(),
-    }
-}
-
-#[inline]
-fn read_offset<R: Reader + Copy>(
-    shape: Offset,
-    bytes: &mut R,
-    encoding: Encoding,
-) -> Result<R::Offset>
-    ensures value { Gives R.Offset.number result (R.bytes bytes.new) (unsigned_at (context_of encoding R.Offset.BITS (R.is_big bytes.old)) (offset_form shape) (R.bytes bytes.old)) }
-    ensures rest { IsSuffix (R.bytes bytes.new) (R.bytes bytes.old) }
-    ensures order { R.is_big bytes.new ≡ R.is_big bytes.old }
-{
-    match shape {
-        Offset::U16 => Ok(R::Offset::from_u16(bytes.read_u16()?)),
-        Offset::U32 => Ok(R::Offset::from_u32(bytes.read_u32()?)),
-        Offset::Uleb128 => R::Offset::from_u64(bytes.read_uleb128()?),
-        Offset::Section => bytes.read_offset(encoding.format),
-        Offset::Reference => {
-            if encoding.version == 2 {
-                R::Offset::from_u64(bytes.read_address(encoding.address_size)?)
-            } else {
-                bytes.read_offset(encoding.format)
-            }
-        }
-    }
-}
-
-#[inline]
-fn read_register<R: Reader + Copy>(bytes: &mut R) -> Result<Register>
-    ensures value { Gives (λ r. r.0) result (R.bytes bytes.new) (register_at (R.bytes bytes.old)) }
-    ensures rest { IsSuffix (R.bytes bytes.new) (R.bytes bytes.old) }
-    ensures order { R.is_big bytes.new ≡ R.is_big bytes.old }
-{
-    Register::from_u64(bytes.read_uleb128()?)
-}
-
-// The generic type.
-#[inline]
-fn generic_type<O: ReaderOffset>() -> UnitOffset<O>
-    ensures { O.number result.0 ≡ 0 }
-{
-    UnitOffset(O::from_u8(0))
-}
-
-#[inline]
+#[inline(always)]
 fn plain_operation<R: Reader>(operation: Plain) -> Operation<R>
     ensures { operation_of (text_of R.bytes R.is_big) R.Offset.number result ≡ entries.plain_operation operation }
 {
@@ -132,7 +59,7 @@ fn plain_operation<R: Reader>(operation: Plain) -> Operation<R>
     }
 }
 
-#[inline]
+#[inline(always)]
 fn byte_operation<R: Reader>(make: FromByte, byte: u8) -> Operation<R>
     ensures { operation_of (text_of R.bytes R.is_big) R.Offset.number result ≡ entries.byte_operation make byte }
 {
@@ -154,7 +81,7 @@ fn byte_operation<R: Reader>(make: FromByte, byte: u8) -> Operation<R>
     }
 }
 
-#[inline]
+#[inline(always)]
 fn unsigned_operation<R: Reader>(make: FromUnsigned, number: u64) -> Operation<R>
     ensures { operation_of (text_of R.bytes R.is_big) R.Offset.number result ≡ entries.unsigned_operation make number }
 {
@@ -165,7 +92,7 @@ fn unsigned_operation<R: Reader>(make: FromUnsigned, number: u64) -> Operation<R
     }
 }
 
-#[inline]
+#[inline(always)]
 fn signed_operation<R: Reader>(make: FromSigned, number: i64) -> Operation<R>
     ensures { operation_of (text_of R.bytes R.is_big) R.Offset.number result ≡ entries.signed_operation make number }
 {
@@ -175,7 +102,7 @@ fn signed_operation<R: Reader>(make: FromSigned, number: i64) -> Operation<R>
     }
 }
 
-#[inline]
+#[inline(always)]
 fn branch_operation<R: Reader>(make: FromBranch, target: i16) -> Operation<R>
     ensures { operation_of (text_of R.bytes R.is_big) R.Offset.number result ≡ entries.branch_operation make target }
 {
@@ -185,7 +112,7 @@ fn branch_operation<R: Reader>(make: FromBranch, target: i16) -> Operation<R>
     }
 }
 
-#[inline]
+#[inline(always)]
 fn offset_operation<R: Reader>(make: FromOffset, offset: R::Offset) -> Operation<R>
     ensures { operation_of (text_of R.bytes R.is_big) R.Offset.number result ≡ entries.offset_operation make (R.Offset.number offset) }
 {
@@ -217,7 +144,7 @@ fn offset_operation<R: Reader>(make: FromOffset, offset: R::Offset) -> Operation
     }
 }
 
-#[inline]
+#[inline(always)]
 fn block_operation<R: Reader + Copy>(make: FromBlock, block: R) -> Operation<R>
     ensures { operation_of (text_of R.bytes R.is_big) R.Offset.number result ≡ entries.block_operation make (text_of R.bytes R.is_big block) }
 {
@@ -227,166 +154,88 @@ fn block_operation<R: Reader + Copy>(make: FromBlock, block: R) -> Operation<R>
     }
 }
 
-#[tactic(auto, using(dwarf_base::proofs::Suffixes::suffix_trans, crate::proofs::Operands::one_byte))]
-#[inline]
-fn read_named_base_register<R: Reader + Copy>(bytes: &mut R) -> Result<Operation<R>>
-    ensures value { (encoding : Encoding) → Gives (operation_of (text_of R.bytes R.is_big) R.Offset.number) result (R.bytes bytes.new) (operands_at (context_of encoding R.Offset.BITS (R.is_big bytes.old)) (entry_row encoding 0 Entry.NamedBaseRegister) (R.bytes bytes.old)) }
-    ensures rest { IsSuffix (R.bytes bytes.new) (R.bytes bytes.old) }
-    ensures order { R.is_big bytes.new ≡ R.is_big bytes.old }
+#[inline(always)]
+fn wasm_operation<R: Reader>(place: WasmPlace, index: u32) -> Operation<R>
+    ensures { operation_of (text_of R.bytes R.is_big) R.Offset.number result ≡ entries.wasm_operation place index }
 {
-    let base = read_register(bytes)?;
-    let offset = bytes.read_sleb128()?;
-    Ok(Operation::RegisterOffset {
-        register: base,
-        offset,
-        base_type: generic_type(),
-    })
-}
-
-#[tactic(auto, using(dwarf_base::proofs::Suffixes::suffix_trans, crate::proofs::Operands::one_byte))]
-#[inline]
-fn read_typed_register<R: Reader + Copy>(bytes: &mut R, encoding: Encoding) -> Result<Operation<R>>
-    ensures value { Gives (operation_of (text_of R.bytes R.is_big) R.Offset.number) result (R.bytes bytes.new) (operands_at (context_of encoding R.Offset.BITS (R.is_big bytes.old)) (entry_row encoding 0 Entry.TypedRegister) (R.bytes bytes.old)) }
-    ensures rest { IsSuffix (R.bytes bytes.new) (R.bytes bytes.old) }
-    ensures order { R.is_big bytes.new ≡ R.is_big bytes.old }
-{
-    let register = read_register(bytes)?;
-    let base_type = read_offset(Offset::Uleb128, bytes, encoding)?;
-    Ok(Operation::RegisterOffset {
-        register,
-        offset: 0,
-        base_type: UnitOffset(base_type),
-    })
-}
-
-#[tactic(auto, using(dwarf_base::proofs::Suffixes::suffix_trans, crate::proofs::Operands::one_byte))]
-#[inline]
-fn read_piece<R: Reader + Copy>(bytes: &mut R) -> Result<Operation<R>>
-    ensures value { (encoding : Encoding) → Gives (operation_of (text_of R.bytes R.is_big) R.Offset.number) result (R.bytes bytes.new) (operands_at (context_of encoding R.Offset.BITS (R.is_big bytes.old)) (entry_row encoding 0 Entry.Piece) (R.bytes bytes.old)) }
-    ensures rest { IsSuffix (R.bytes bytes.new) (R.bytes bytes.old) }
-    ensures order { R.is_big bytes.new ≡ R.is_big bytes.old }
-{
-    let size = bytes.read_uleb128()?;
-    let Some(size_in_bits) = size.checked_mul(8) else {
-        return Err(Error::InvalidPieceSize(size));
-    };
-    Ok(Operation::Piece {
-        size_in_bits,
-        bit_offset: None,
-    })
-}
-
-#[tactic(auto, using(dwarf_base::proofs::Suffixes::suffix_trans, crate::proofs::Operands::one_byte))]
-#[inline]
-fn read_bit_piece<R: Reader + Copy>(bytes: &mut R) -> Result<Operation<R>>
-    ensures value { (encoding : Encoding) → Gives (operation_of (text_of R.bytes R.is_big) R.Offset.number) result (R.bytes bytes.new) (operands_at (context_of encoding R.Offset.BITS (R.is_big bytes.old)) (entry_row encoding 0 Entry.BitPiece) (R.bytes bytes.old)) }
-    ensures rest { IsSuffix (R.bytes bytes.new) (R.bytes bytes.old) }
-    ensures order { R.is_big bytes.new ≡ R.is_big bytes.old }
-{
-    let size_in_bits = bytes.read_uleb128()?;
-    let bit_offset = bytes.read_uleb128()?;
-    Ok(Operation::Piece {
-        size_in_bits,
-        bit_offset: Some(bit_offset),
-    })
-}
-
-#[tactic(auto, using(dwarf_base::proofs::Suffixes::suffix_trans, crate::proofs::Operands::one_byte))]
-#[inline]
-fn read_block<R: Reader + Copy>(
-    make: FromBlock,
-    bytes: &mut R,
-    encoding: Encoding,
-) -> Result<Operation<R>>
-    ensures value { Gives (operation_of (text_of R.bytes R.is_big) R.Offset.number) result (R.bytes bytes.new) (operands_at (context_of encoding R.Offset.BITS (R.is_big bytes.old)) (entry_row encoding 0 (Entry.Block make)) (R.bytes bytes.old)) }
-    ensures rest { IsSuffix (R.bytes bytes.new) (R.bytes bytes.old) }
-    ensures order { R.is_big bytes.new ≡ R.is_big bytes.old }
-{
-    let size = read_offset(Offset::Uleb128, bytes, encoding)?;
-    let block = bytes.split(size)?;
-    Ok(block_operation(make, block))
-}
-
-#[tactic(auto, using(dwarf_base::proofs::Suffixes::suffix_trans, crate::proofs::Operands::one_byte))]
-#[inline]
-fn read_typed_literal<R: Reader + Copy>(bytes: &mut R, encoding: Encoding) -> Result<Operation<R>>
-    ensures value { Gives (operation_of (text_of R.bytes R.is_big) R.Offset.number) result (R.bytes bytes.new) (operands_at (context_of encoding R.Offset.BITS (R.is_big bytes.old)) (entry_row encoding 0 Entry.TypedLiteral) (R.bytes bytes.old)) }
-    ensures rest { IsSuffix (R.bytes bytes.new) (R.bytes bytes.old) }
-    ensures order { R.is_big bytes.new ≡ R.is_big bytes.old }
-{
-    let base_type = read_offset(Offset::Uleb128, bytes, encoding)?;
-    let size = bytes.read_u8()?;
-    let value = bytes.split(R::Offset::from_u8(size))?;
-    Ok(Operation::TypedLiteral {
-        base_type: UnitOffset(base_type),
-        value,
-    })
-}
-
-#[tactic(auto, using(dwarf_base::proofs::Suffixes::suffix_trans, crate::proofs::Operands::one_byte))]
-#[inline]
-fn read_typed_deref<R: Reader + Copy>(
-    space: bool,
-    bytes: &mut R,
-    encoding: Encoding,
-) -> Result<Operation<R>>
-    ensures value { Gives (operation_of (text_of R.bytes R.is_big) R.Offset.number) result (R.bytes bytes.new) (operands_at (context_of encoding R.Offset.BITS (R.is_big bytes.old)) (entry_row encoding 0 (Entry.TypedDeref space)) (R.bytes bytes.old)) }
-    ensures rest { IsSuffix (R.bytes bytes.new) (R.bytes bytes.old) }
-    ensures order { R.is_big bytes.new ≡ R.is_big bytes.old }
-{
-    let size = bytes.read_u8()?;
-    let base_type = read_offset(Offset::Uleb128, bytes, encoding)?;
-    Ok(Operation::Deref {
-        base_type: UnitOffset(base_type),
-        size,
-        space,
-    })
-}
-
-#[tactic(auto, using(dwarf_base::proofs::Suffixes::suffix_trans, crate::proofs::Operands::one_byte))]
-#[inline]
-fn read_implicit_pointer<R: Reader + Copy>(
-    bytes: &mut R,
-    encoding: Encoding,
-) -> Result<Operation<R>>
-    ensures value { Gives (operation_of (text_of R.bytes R.is_big) R.Offset.number) result (R.bytes bytes.new) (operands_at (context_of encoding R.Offset.BITS (R.is_big bytes.old)) (entry_row encoding 0 Entry.ImplicitPointer) (R.bytes bytes.old)) }
-    ensures rest { IsSuffix (R.bytes bytes.new) (R.bytes bytes.old) }
-    ensures order { R.is_big bytes.new ≡ R.is_big bytes.old }
-{
-    let value = read_offset(Offset::Reference, bytes, encoding)?;
-    let byte_offset = bytes.read_sleb128()?;
-    Ok(Operation::ImplicitPointer {
-        value: DebugInfoOffset(value),
-        byte_offset,
-    })
-}
-
-#[tactic(auto, using(dwarf_base::proofs::Suffixes::suffix_trans, crate::proofs::Operands::one_byte))]
-#[inline]
-fn read_wasm_location<R: Reader + Copy>(bytes: &mut R) -> Result<Operation<R>>
-    ensures value { (encoding : Encoding) → Gives (operation_of (text_of R.bytes R.is_big) R.Offset.number) result (R.bytes bytes.new) (operands_at (context_of encoding R.Offset.BITS (R.is_big bytes.old)) (entry_row encoding 0 Entry.WasmLocation) (R.bytes bytes.old)) }
-    ensures rest { IsSuffix (R.bytes bytes.new) (R.bytes bytes.old) }
-    ensures order { R.is_big bytes.new ≡ R.is_big bytes.old }
-{
-    match bytes.read_u8()? {
-        0 => Ok(Operation::WasmLocal {
-            index: bytes.read_uleb128_u32()?,
-        }),
-        1 => Ok(Operation::WasmGlobal {
-            index: bytes.read_uleb128_u32()?,
-        }),
-        2 => Ok(Operation::WasmStack {
-            index: bytes.read_uleb128_u32()?,
-        }),
-        3 => Ok(Operation::WasmGlobal {
-            index: bytes.read_u32()?,
-        }),
-        _ => Err(Error::InvalidExpression(constants::DW_OP_WASM_location)),
+    match place {
+        WasmPlace::Local => Operation::WasmLocal { index },
+        WasmPlace::Global => Operation::WasmGlobal { index },
+        WasmPlace::Stack => Operation::WasmStack { index },
     }
 }
 
-#[tactic(auto, using(dwarf_base::proofs::Suffixes::suffix_trans, crate::proofs::Operands::one_byte))]
-#[inline]
+// In one function of its own, so that what is read often stays small enough to be read in line.
+#[tactic(auto, using(dwarf_base::proofs::Suffixes::suffix_trans, crate::proofs::OneByte::one_byte))]
+#[inline(never)]
+fn read_rare_operands<R: Reader + Copy>(
+    entry: Rare,
+    bytes: &mut R,
+    encoding: Encoding,
+) -> Result<Operation<R>>
+    ensures value { Gives (operation_of (text_of R.bytes R.is_big) R.Offset.number) result (R.bytes bytes.new) (operands_at (context_of encoding R.Offset.BITS (R.is_big bytes.old)) (rare_row entry) (R.bytes bytes.old)) }
+    ensures rest { IsSuffix (R.bytes bytes.new) (R.bytes bytes.old) }
+    ensures order { R.is_big bytes.new ≡ R.is_big bytes.old }
+{
+    match entry {
+        Rare::NamedRegister => Ok(Operation::Register {
+            register: read_register(bytes)?,
+        }),
+        Rare::NamedBaseRegister => {
+            let (register, offset) = read_named_base_register(bytes)?;
+            Ok(Operation::RegisterOffset {
+                register,
+                offset,
+                base_type: generic_type(),
+            })
+        }
+        Rare::TypedRegister => {
+            let (register, base_type) = read_typed_register(bytes, encoding)?;
+            Ok(Operation::RegisterOffset {
+                register,
+                offset: 0,
+                base_type: UnitOffset(base_type),
+            })
+        }
+        Rare::BitPiece => {
+            let (size_in_bits, bit_offset) = read_bit_piece(bytes)?;
+            Ok(Operation::Piece {
+                size_in_bits,
+                bit_offset: Some(bit_offset),
+            })
+        }
+        Rare::Block(make) => Ok(block_operation(make, read_block(bytes, encoding)?)),
+        Rare::TypedLiteral => {
+            let (base_type, value) = read_typed_literal(bytes, encoding)?;
+            Ok(Operation::TypedLiteral {
+                base_type: UnitOffset(base_type),
+                value,
+            })
+        }
+        Rare::TypedDeref(space) => {
+            let (size, base_type) = read_typed_deref(bytes, encoding)?;
+            Ok(Operation::Deref {
+                base_type: UnitOffset(base_type),
+                size,
+                space,
+            })
+        }
+        Rare::ImplicitPointer => {
+            let (value, byte_offset) = read_implicit_pointer(bytes, encoding)?;
+            Ok(Operation::ImplicitPointer {
+                value: DebugInfoOffset(value),
+                byte_offset,
+            })
+        }
+        Rare::WasmLocation => {
+            let (place, index) = read_wasm_location(bytes)?;
+            Ok(wasm_operation(place, index))
+        }
+    }
+}
+
+#[tactic(auto, using(dwarf_base::proofs::Suffixes::suffix_trans, crate::proofs::OneByte::one_byte))]
+#[inline(always)]
 fn read_operands<R: Reader + Copy>(
     entry: Entry,
     opcode: u8,
@@ -418,26 +267,25 @@ fn read_operands<R: Reader + Copy>(
         }
         Entry::Signed(shape, make) => Ok(signed_operation(make, read_signed(shape, bytes)?)),
         Entry::Branch(make) => Ok(branch_operation(make, bytes.read_i16()?)),
-        Entry::Offset(shape, make) => {
-            Ok(offset_operation(make, read_offset(shape, bytes, encoding)?))
-        }
+        Entry::Offset(shape, make) => Ok(offset_operation(
+            make,
+            read_offset(shape, bytes, encoding)?,
+        )),
         Entry::BaseRegister(register) => Ok(Operation::RegisterOffset {
             register: Register(u16::from(register)),
-            offset: bytes.read_sleb128()?,
+            offset: read_sleb128(bytes)?,
             base_type: generic_type(),
         }),
-        Entry::NamedRegister => Ok(Operation::Register {
-            register: read_register(bytes)?,
+        Entry::Piece => Ok(Operation::Piece {
+            size_in_bits: read_piece(bytes)?,
+            bit_offset: None,
         }),
-        Entry::NamedBaseRegister => read_named_base_register(bytes),
-        Entry::TypedRegister => read_typed_register(bytes, encoding),
-        Entry::Piece => read_piece(bytes),
-        Entry::BitPiece => read_bit_piece(bytes),
-        Entry::Block(make) => read_block(make, bytes, encoding),
-        Entry::TypedLiteral => read_typed_literal(bytes, encoding),
-        Entry::TypedDeref(space) => read_typed_deref(space, bytes, encoding),
-        Entry::ImplicitPointer => read_implicit_pointer(bytes, encoding),
-        Entry::WasmLocation => read_wasm_location(bytes),
+        Entry::Rare(entry) => {
+            let mut apart = *bytes;
+            let operation = read_rare_operands(entry, &mut apart, encoding);
+            *bytes = apart;
+            operation
+        }
     }
 }
 
@@ -449,7 +297,7 @@ impl<R: Reader + Copy> Operation<R> {
     /// `InvalidPieceSize` of an operand; the first operand that isn't allowed decides. After an error `bytes` is at a suffix of
     /// what it was.
     #[tactic(auto, using(dwarf_base::proofs::Suffixes::suffix_trans), unfolding(dwarf_meaning::specs::Decoding::operation_at))]
-    #[inline]
+    #[inline(always)]
     pub fn parse(bytes: &mut R, encoding: Encoding) -> Result<Operation<R>>
         ensures less { OnOk result (length (R.bytes bytes.new) < length (R.bytes bytes.old)) }
         ensures value { Gives (operation_of (text_of R.bytes R.is_big) R.Offset.number) result (R.bytes bytes.new) (operation_at encoding R.Offset.BITS (text_of R.bytes R.is_big bytes.old)) }
@@ -458,5 +306,57 @@ impl<R: Reader + Copy> Operation<R> {
     {
         let opcode = bytes.read_u8()?;
         read_operands(entry_at(opcode), opcode, bytes, encoding)
+    }
+}
+
+/// Reads the operation at the front of `bytes` where a location waits for its piece (DWARF 5, section 2.6.1.2): the
+/// size and the offset of the piece, in bits, or none where the operation ends no piece.
+///
+/// The errors are those of [`Operation::parse`], in the same order.
+#[tactic(auto, using(dwarf_base::proofs::Suffixes::suffix_trans), unfolding(dwarf_meaning::specs::Decoding::operation_at))]
+#[inline(always)]
+pub fn parse_piece<R: Reader + Copy>(
+    bytes: &mut R,
+    encoding: Encoding,
+) -> Result<Option<(u64, Option<u64>)>>
+    ensures less { OnOk result (length (R.bytes bytes.new) < length (R.bytes bytes.old)) }
+    ensures value { Gives (λ piece. piece) result (R.bytes bytes.new) (piece_read (operation_at encoding R.Offset.BITS (text_of R.bytes R.is_big bytes.old))) }
+    ensures rest { IsSuffix (R.bytes bytes.new) (R.bytes bytes.old) }
+    ensures order { R.is_big bytes.new ≡ R.is_big bytes.old }
+{
+    let opcode = bytes.read_u8()?;
+    match entry_at(opcode) {
+        Entry::Piece => Ok(Some((read_piece(bytes)?, None))),
+        Entry::Rare(Rare::BitPiece) => {
+            let (size_in_bits, bit_offset) = read_bit_piece(bytes)?;
+            Ok(Some((size_in_bits, Some(bit_offset))))
+        }
+        other => {
+            let mut apart = *bytes;
+            let piece = read_other_piece(other, opcode, &mut apart, encoding)?;
+            *bytes = apart;
+            Ok(piece)
+        }
+    }
+}
+
+// The piece that the operation of an entry ends, which is none but at those two; its operands may be refused.
+#[inline(never)]
+fn read_other_piece<R: Reader + Copy>(
+    entry: Entry,
+    opcode: u8,
+    bytes: &mut R,
+    encoding: Encoding,
+) -> Result<Option<(u64, Option<u64>)>>
+    ensures value { Gives (λ piece. piece) result (R.bytes bytes.new) (piece_read (operands_at (context_of encoding R.Offset.BITS (R.is_big bytes.old)) (entry_row encoding opcode entry) (R.bytes bytes.old))) }
+    ensures rest { IsSuffix (R.bytes bytes.new) (R.bytes bytes.old) }
+    ensures order { R.is_big bytes.new ≡ R.is_big bytes.old }
+{
+    match read_operands(entry, opcode, bytes, encoding)? {
+        Operation::Piece {
+            size_in_bits,
+            bit_offset,
+        } => Ok(Some((size_in_bits, bit_offset))),
+        _ => Ok(None),
     }
 }

@@ -42,7 +42,9 @@ pub enum Location<R: Reader, O = <R as Reader>::Offset> {
 pub struct Piece<R: Reader, O = <R as Reader>::Offset> {
     /// Its size in bits; without one it is the only piece, and the whole variable.
     pub size_in_bits: Option<u64>,
-    /// Where it begins in its location, in bits, where that is said.
+    /// Where it begins in its location, in bits. In a register or a value it counts from the least significant bit
+    /// end; in memory by the numbering of the target's language. Without one the piece begins where its location does,
+    /// and where it stands in a larger register is a matter of the target's calling convention.
     pub bit_offset: Option<u64>,
     /// Where it is, or what it holds.
     pub location: Location<R, O>,

@@ -3,11 +3,11 @@
 ghost use Rattle.std.specs.Prelude.{◌≡◌};
 ghost use Rattle.dwarf_base.specs.declared.common.Encoding.{Encoding};
 ghost use Rattle.dwarf_meaning.specs.Opcodes.{row_of};
-ghost use Rattle.dwarf_op.specs.inner.Entries.{entry_row};
+ghost use Rattle.dwarf_op.specs.Entries.{entry_row};
 
 /// An operation without fields.
 #[derive(Clone, Copy)]
-pub(super) enum Plain {
+pub enum Plain {
     Drop,
     Swap,
     Rot,
@@ -41,7 +41,7 @@ pub(super) enum Plain {
 
 /// How an operand stands that is an unsigned number of up to 64 bits.
 #[derive(Clone, Copy)]
-pub(super) enum Unsigned {
+pub enum Unsigned {
     U16,
     U32,
     U64,
@@ -51,7 +51,7 @@ pub(super) enum Unsigned {
 
 /// How an operand stands that is a signed number.
 #[derive(Clone, Copy)]
-pub(super) enum Signed {
+pub enum Signed {
     I8,
     I16,
     I32,
@@ -61,7 +61,7 @@ pub(super) enum Signed {
 
 /// How an operand stands that has to fit the reader's offsets.
 #[derive(Clone, Copy)]
-pub(super) enum Offset {
+pub enum Offset {
     U16,
     U32,
     Uleb128,
@@ -73,7 +73,7 @@ pub(super) enum Offset {
 
 /// What is made of one byte.
 #[derive(Clone, Copy)]
-pub(super) enum FromByte {
+pub enum FromByte {
     Constant,
     Pick,
     Deref,
@@ -82,7 +82,7 @@ pub(super) enum FromByte {
 
 /// What is made of an unsigned number.
 #[derive(Clone, Copy)]
-pub(super) enum FromUnsigned {
+pub enum FromUnsigned {
     Constant,
     PlusConstant,
     Address,
@@ -90,21 +90,21 @@ pub(super) enum FromUnsigned {
 
 /// What is made of a signed number.
 #[derive(Clone, Copy)]
-pub(super) enum FromSigned {
+pub enum FromSigned {
     Constant,
     FrameOffset,
 }
 
 /// What is made of the two bytes of a branch.
 #[derive(Clone, Copy)]
-pub(super) enum FromBranch {
+pub enum FromBranch {
     Bra,
     Skip,
 }
 
 /// What is made of an offset.
 #[derive(Clone, Copy)]
-pub(super) enum FromOffset {
+pub enum FromOffset {
     UnitCall,
     InfoCall,
     ParameterRef,
@@ -117,14 +117,37 @@ pub(super) enum FromOffset {
 
 /// What is made of a block.
 #[derive(Clone, Copy)]
-pub(super) enum FromBlock {
+pub enum FromBlock {
     ImplicitValue,
     EntryValue,
 }
 
+/// What stands behind an opcode that compilers seldom write, and what is made of it.
+#[derive(Clone, Copy)]
+pub enum Rare {
+    /// A register.
+    NamedRegister,
+    /// A register and a signed LEB128 number.
+    NamedBaseRegister,
+    /// A register and the offset of a base type.
+    TypedRegister,
+    /// A size and an offset in bits.
+    BitPiece,
+    /// The size of a block, and the block.
+    Block(FromBlock),
+    /// The offset of a base type, the size of a block in one byte, and the block.
+    TypedLiteral,
+    /// One byte and the offset of a base type. Whether there is an address space.
+    TypedDeref(bool),
+    /// A reference into `.debug_info` and a signed LEB128 number.
+    ImplicitPointer,
+    /// A kind in one byte, and an index that stands as the kind says.
+    WasmLocation,
+}
+
 /// What stands behind an opcode, and what is made of it: by the kinds of its operands, in order.
 #[derive(Clone, Copy)]
-pub(super) enum Entry {
+pub enum Entry {
     /// No operation has the opcode.
     Unknown,
     /// No operands.
@@ -149,292 +172,104 @@ pub(super) enum Entry {
     Offset(Offset, FromOffset),
     /// A signed LEB128 number; the opcode says the register.
     BaseRegister(u8),
-    /// A register.
-    NamedRegister,
-    /// A register and a signed LEB128 number.
-    NamedBaseRegister,
-    /// A register and the offset of a base type.
-    TypedRegister,
     /// A size in bytes.
     Piece,
-    /// A size and an offset in bits.
-    BitPiece,
-    /// The size of a block, and the block.
-    Block(FromBlock),
-    /// The offset of a base type, the size of a block in one byte, and the block.
-    TypedLiteral,
-    /// One byte and the offset of a base type. Whether there is an address space.
-    TypedDeref(bool),
-    /// A reference into `.debug_info` and a signed LEB128 number.
-    ImplicitPointer,
-    /// A kind in one byte, and an index that stands as the kind says.
-    WasmLocation,
+    /// What compilers seldom write; it is read apart.
+    Rare(Rare),
 }
 
-/// The entry of each opcode, in order.
-static ENTRIES: [Entry; 256] = [
-    Entry::Unknown, // 0x00
-    Entry::Unknown, // 0x01
-    Entry::Unknown, // 0x02
-    Entry::Unsigned(Unsigned::Address, FromUnsigned::Address), // 0x03 addr
-    Entry::Unknown, // 0x04
-    Entry::Unknown, // 0x05
-    Entry::Deref(false), // 0x06 deref
-    Entry::Unknown, // 0x07
-    Entry::Byte(FromByte::Constant), // 0x08 const1u
-    Entry::Signed(Signed::I8, FromSigned::Constant), // 0x09 const1s
-    Entry::Unsigned(Unsigned::U16, FromUnsigned::Constant), // 0x0a const2u
-    Entry::Signed(Signed::I16, FromSigned::Constant), // 0x0b const2s
-    Entry::Unsigned(Unsigned::U32, FromUnsigned::Constant), // 0x0c const4u
-    Entry::Signed(Signed::I32, FromSigned::Constant), // 0x0d const4s
-    Entry::Unsigned(Unsigned::U64, FromUnsigned::Constant), // 0x0e const8u
-    Entry::Signed(Signed::I64, FromSigned::Constant), // 0x0f const8s
-    Entry::Unsigned(Unsigned::Uleb128, FromUnsigned::Constant), // 0x10 constu
-    Entry::Signed(Signed::Sleb128, FromSigned::Constant), // 0x11 consts
-    Entry::Pick(0), // 0x12 dup
-    Entry::Plain(Plain::Drop), // 0x13 drop
-    Entry::Pick(1), // 0x14 over
-    Entry::Byte(FromByte::Pick), // 0x15 pick
-    Entry::Plain(Plain::Swap), // 0x16 swap
-    Entry::Plain(Plain::Rot), // 0x17 rot
-    Entry::Deref(true), // 0x18 xderef
-    Entry::Plain(Plain::Abs), // 0x19 abs
-    Entry::Plain(Plain::And), // 0x1a and
-    Entry::Plain(Plain::Div), // 0x1b div
-    Entry::Plain(Plain::Minus), // 0x1c minus
-    Entry::Plain(Plain::Mod), // 0x1d mod
-    Entry::Plain(Plain::Mul), // 0x1e mul
-    Entry::Plain(Plain::Neg), // 0x1f neg
-    Entry::Plain(Plain::Not), // 0x20 not
-    Entry::Plain(Plain::Or), // 0x21 or
-    Entry::Plain(Plain::Plus), // 0x22 plus
-    Entry::Unsigned(Unsigned::Uleb128, FromUnsigned::PlusConstant), // 0x23 plus_uconst
-    Entry::Plain(Plain::Shl), // 0x24 shl
-    Entry::Plain(Plain::Shr), // 0x25 shr
-    Entry::Plain(Plain::Shra), // 0x26 shra
-    Entry::Plain(Plain::Xor), // 0x27 xor
-    Entry::Branch(FromBranch::Bra), // 0x28 bra
-    Entry::Plain(Plain::Eq), // 0x29 eq
-    Entry::Plain(Plain::Ge), // 0x2a ge
-    Entry::Plain(Plain::Gt), // 0x2b gt
-    Entry::Plain(Plain::Le), // 0x2c le
-    Entry::Plain(Plain::Lt), // 0x2d lt
-    Entry::Plain(Plain::Ne), // 0x2e ne
-    Entry::Branch(FromBranch::Skip), // 0x2f skip
-    Entry::Literal(0), // 0x30 lit0
-    Entry::Literal(1), // 0x31 lit1
-    Entry::Literal(2), // 0x32 lit2
-    Entry::Literal(3), // 0x33 lit3
-    Entry::Literal(4), // 0x34 lit4
-    Entry::Literal(5), // 0x35 lit5
-    Entry::Literal(6), // 0x36 lit6
-    Entry::Literal(7), // 0x37 lit7
-    Entry::Literal(8), // 0x38 lit8
-    Entry::Literal(9), // 0x39 lit9
-    Entry::Literal(10), // 0x3a lit10
-    Entry::Literal(11), // 0x3b lit11
-    Entry::Literal(12), // 0x3c lit12
-    Entry::Literal(13), // 0x3d lit13
-    Entry::Literal(14), // 0x3e lit14
-    Entry::Literal(15), // 0x3f lit15
-    Entry::Literal(16), // 0x40 lit16
-    Entry::Literal(17), // 0x41 lit17
-    Entry::Literal(18), // 0x42 lit18
-    Entry::Literal(19), // 0x43 lit19
-    Entry::Literal(20), // 0x44 lit20
-    Entry::Literal(21), // 0x45 lit21
-    Entry::Literal(22), // 0x46 lit22
-    Entry::Literal(23), // 0x47 lit23
-    Entry::Literal(24), // 0x48 lit24
-    Entry::Literal(25), // 0x49 lit25
-    Entry::Literal(26), // 0x4a lit26
-    Entry::Literal(27), // 0x4b lit27
-    Entry::Literal(28), // 0x4c lit28
-    Entry::Literal(29), // 0x4d lit29
-    Entry::Literal(30), // 0x4e lit30
-    Entry::Literal(31), // 0x4f lit31
-    Entry::Register(0), // 0x50 reg0
-    Entry::Register(1), // 0x51 reg1
-    Entry::Register(2), // 0x52 reg2
-    Entry::Register(3), // 0x53 reg3
-    Entry::Register(4), // 0x54 reg4
-    Entry::Register(5), // 0x55 reg5
-    Entry::Register(6), // 0x56 reg6
-    Entry::Register(7), // 0x57 reg7
-    Entry::Register(8), // 0x58 reg8
-    Entry::Register(9), // 0x59 reg9
-    Entry::Register(10), // 0x5a reg10
-    Entry::Register(11), // 0x5b reg11
-    Entry::Register(12), // 0x5c reg12
-    Entry::Register(13), // 0x5d reg13
-    Entry::Register(14), // 0x5e reg14
-    Entry::Register(15), // 0x5f reg15
-    Entry::Register(16), // 0x60 reg16
-    Entry::Register(17), // 0x61 reg17
-    Entry::Register(18), // 0x62 reg18
-    Entry::Register(19), // 0x63 reg19
-    Entry::Register(20), // 0x64 reg20
-    Entry::Register(21), // 0x65 reg21
-    Entry::Register(22), // 0x66 reg22
-    Entry::Register(23), // 0x67 reg23
-    Entry::Register(24), // 0x68 reg24
-    Entry::Register(25), // 0x69 reg25
-    Entry::Register(26), // 0x6a reg26
-    Entry::Register(27), // 0x6b reg27
-    Entry::Register(28), // 0x6c reg28
-    Entry::Register(29), // 0x6d reg29
-    Entry::Register(30), // 0x6e reg30
-    Entry::Register(31), // 0x6f reg31
-    Entry::BaseRegister(0), // 0x70 breg0
-    Entry::BaseRegister(1), // 0x71 breg1
-    Entry::BaseRegister(2), // 0x72 breg2
-    Entry::BaseRegister(3), // 0x73 breg3
-    Entry::BaseRegister(4), // 0x74 breg4
-    Entry::BaseRegister(5), // 0x75 breg5
-    Entry::BaseRegister(6), // 0x76 breg6
-    Entry::BaseRegister(7), // 0x77 breg7
-    Entry::BaseRegister(8), // 0x78 breg8
-    Entry::BaseRegister(9), // 0x79 breg9
-    Entry::BaseRegister(10), // 0x7a breg10
-    Entry::BaseRegister(11), // 0x7b breg11
-    Entry::BaseRegister(12), // 0x7c breg12
-    Entry::BaseRegister(13), // 0x7d breg13
-    Entry::BaseRegister(14), // 0x7e breg14
-    Entry::BaseRegister(15), // 0x7f breg15
-    Entry::BaseRegister(16), // 0x80 breg16
-    Entry::BaseRegister(17), // 0x81 breg17
-    Entry::BaseRegister(18), // 0x82 breg18
-    Entry::BaseRegister(19), // 0x83 breg19
-    Entry::BaseRegister(20), // 0x84 breg20
-    Entry::BaseRegister(21), // 0x85 breg21
-    Entry::BaseRegister(22), // 0x86 breg22
-    Entry::BaseRegister(23), // 0x87 breg23
-    Entry::BaseRegister(24), // 0x88 breg24
-    Entry::BaseRegister(25), // 0x89 breg25
-    Entry::BaseRegister(26), // 0x8a breg26
-    Entry::BaseRegister(27), // 0x8b breg27
-    Entry::BaseRegister(28), // 0x8c breg28
-    Entry::BaseRegister(29), // 0x8d breg29
-    Entry::BaseRegister(30), // 0x8e breg30
-    Entry::BaseRegister(31), // 0x8f breg31
-    Entry::NamedRegister, // 0x90 regx
-    Entry::Signed(Signed::Sleb128, FromSigned::FrameOffset), // 0x91 fbreg
-    Entry::NamedBaseRegister, // 0x92 bregx
-    Entry::Piece, // 0x93 piece
-    Entry::Byte(FromByte::Deref), // 0x94 deref_size
-    Entry::Byte(FromByte::SpaceDeref), // 0x95 xderef_size
-    Entry::Plain(Plain::Nop), // 0x96 nop
-    Entry::Plain(Plain::PushObjectAddress), // 0x97 push_object_address
-    Entry::Offset(Offset::U16, FromOffset::UnitCall), // 0x98 call2
-    Entry::Offset(Offset::U32, FromOffset::UnitCall), // 0x99 call4
-    Entry::Offset(Offset::Section, FromOffset::InfoCall), // 0x9a call_ref
-    Entry::Plain(Plain::TLS), // 0x9b form_tls_address
-    Entry::Plain(Plain::CallFrameCFA), // 0x9c call_frame_cfa
-    Entry::BitPiece, // 0x9d bit_piece
-    Entry::Block(FromBlock::ImplicitValue), // 0x9e implicit_value
-    Entry::Plain(Plain::StackValue), // 0x9f stack_value
-    Entry::ImplicitPointer, // 0xa0 implicit_pointer
-    Entry::Offset(Offset::Uleb128, FromOffset::AddressIndex), // 0xa1 addrx
-    Entry::Offset(Offset::Uleb128, FromOffset::ConstantIndex), // 0xa2 constx
-    Entry::Block(FromBlock::EntryValue), // 0xa3 entry_value
-    Entry::TypedLiteral, // 0xa4 const_type
-    Entry::TypedRegister, // 0xa5 regval_type
-    Entry::TypedDeref(false), // 0xa6 deref_type
-    Entry::TypedDeref(true), // 0xa7 xderef_type
-    Entry::Offset(Offset::Uleb128, FromOffset::Convert), // 0xa8 convert
-    Entry::Offset(Offset::Uleb128, FromOffset::Reinterpret), // 0xa9 reinterpret
-    Entry::Unknown, // 0xaa
-    Entry::Unknown, // 0xab
-    Entry::Unknown, // 0xac
-    Entry::Unknown, // 0xad
-    Entry::Unknown, // 0xae
-    Entry::Unknown, // 0xaf
-    Entry::Unknown, // 0xb0
-    Entry::Unknown, // 0xb1
-    Entry::Unknown, // 0xb2
-    Entry::Unknown, // 0xb3
-    Entry::Unknown, // 0xb4
-    Entry::Unknown, // 0xb5
-    Entry::Unknown, // 0xb6
-    Entry::Unknown, // 0xb7
-    Entry::Unknown, // 0xb8
-    Entry::Unknown, // 0xb9
-    Entry::Unknown, // 0xba
-    Entry::Unknown, // 0xbb
-    Entry::Unknown, // 0xbc
-    Entry::Unknown, // 0xbd
-    Entry::Unknown, // 0xbe
-    Entry::Unknown, // 0xbf
-    Entry::Unknown, // 0xc0
-    Entry::Unknown, // 0xc1
-    Entry::Unknown, // 0xc2
-    Entry::Unknown, // 0xc3
-    Entry::Unknown, // 0xc4
-    Entry::Unknown, // 0xc5
-    Entry::Unknown, // 0xc6
-    Entry::Unknown, // 0xc7
-    Entry::Unknown, // 0xc8
-    Entry::Unknown, // 0xc9
-    Entry::Unknown, // 0xca
-    Entry::Unknown, // 0xcb
-    Entry::Unknown, // 0xcc
-    Entry::Unknown, // 0xcd
-    Entry::Unknown, // 0xce
-    Entry::Unknown, // 0xcf
-    Entry::Unknown, // 0xd0
-    Entry::Unknown, // 0xd1
-    Entry::Unknown, // 0xd2
-    Entry::Unknown, // 0xd3
-    Entry::Unknown, // 0xd4
-    Entry::Unknown, // 0xd5
-    Entry::Unknown, // 0xd6
-    Entry::Unknown, // 0xd7
-    Entry::Unknown, // 0xd8
-    Entry::Unknown, // 0xd9
-    Entry::Unknown, // 0xda
-    Entry::Unknown, // 0xdb
-    Entry::Unknown, // 0xdc
-    Entry::Unknown, // 0xdd
-    Entry::Unknown, // 0xde
-    Entry::Unknown, // 0xdf
-    Entry::Plain(Plain::TLS), // 0xe0 GNU_push_tls_address
-    Entry::Unknown, // 0xe1
-    Entry::Unknown, // 0xe2
-    Entry::Unknown, // 0xe3
-    Entry::Unknown, // 0xe4
-    Entry::Unknown, // 0xe5
-    Entry::Unknown, // 0xe6
-    Entry::Unknown, // 0xe7
-    Entry::Unknown, // 0xe8
-    Entry::Unknown, // 0xe9
-    Entry::Unknown, // 0xea
-    Entry::Unknown, // 0xeb
-    Entry::Unknown, // 0xec
-    Entry::WasmLocation, // 0xed WASM_location
-    Entry::Unknown, // 0xee
-    Entry::Unknown, // 0xef
-    Entry::Plain(Plain::Uninitialized), // 0xf0 GNU_uninit
-    Entry::Unknown, // 0xf1
-    Entry::ImplicitPointer, // 0xf2 GNU_implicit_pointer
-    Entry::Block(FromBlock::EntryValue), // 0xf3 GNU_entry_value
-    Entry::TypedLiteral, // 0xf4 GNU_const_type
-    Entry::TypedRegister, // 0xf5 GNU_regval_type
-    Entry::TypedDeref(false), // 0xf6 GNU_deref_type
-    Entry::Offset(Offset::Uleb128, FromOffset::Convert), // 0xf7 GNU_convert
-    Entry::Unknown, // 0xf8
-    Entry::Offset(Offset::Uleb128, FromOffset::Reinterpret), // 0xf9 GNU_reinterpret
-    Entry::Offset(Offset::U32, FromOffset::ParameterRef), // 0xfa GNU_parameter_ref
-    Entry::Offset(Offset::Uleb128, FromOffset::AddressIndex), // 0xfb GNU_addr_index
-    Entry::Offset(Offset::Uleb128, FromOffset::ConstantIndex), // 0xfc GNU_const_index
-    Entry::Offset(Offset::Section, FromOffset::VariableValue), // 0xfd GNU_variable_value
-    Entry::Unknown, // 0xfe
-    Entry::Unknown, // 0xff
-];
-
-/// The entry of an opcode.
-#[inline]
-pub(super) fn entry_at(opcode: u8) -> Entry
+/// The entry of an opcode: the table of all opcodes.
+#[tactic(auto, unfolding(dwarf_meaning::specs::Opcodes::row_of))]
+#[inline(always)]
+pub fn entry_at(opcode: u8) -> Entry
     ensures { (encoding : Encoding) → entry_row encoding opcode result ≡ row_of encoding opcode }
 {
-    ENTRIES[usize::from(opcode)]
+    match opcode {
+        0x03 => Entry::Unsigned(Unsigned::Address, FromUnsigned::Address), // addr
+        0x06 => Entry::Deref(false), // deref
+        0x08 => Entry::Byte(FromByte::Constant), // const1u
+        0x09 => Entry::Signed(Signed::I8, FromSigned::Constant), // const1s
+        0x0a => Entry::Unsigned(Unsigned::U16, FromUnsigned::Constant), // const2u
+        0x0b => Entry::Signed(Signed::I16, FromSigned::Constant), // const2s
+        0x0c => Entry::Unsigned(Unsigned::U32, FromUnsigned::Constant), // const4u
+        0x0d => Entry::Signed(Signed::I32, FromSigned::Constant), // const4s
+        0x0e => Entry::Unsigned(Unsigned::U64, FromUnsigned::Constant), // const8u
+        0x0f => Entry::Signed(Signed::I64, FromSigned::Constant), // const8s
+        0x10 => Entry::Unsigned(Unsigned::Uleb128, FromUnsigned::Constant), // constu
+        0x11 => Entry::Signed(Signed::Sleb128, FromSigned::Constant), // consts
+        0x12 => Entry::Pick(0), // dup
+        0x13 => Entry::Plain(Plain::Drop), // drop
+        0x14 => Entry::Pick(1), // over
+        0x15 => Entry::Byte(FromByte::Pick), // pick
+        0x16 => Entry::Plain(Plain::Swap), // swap
+        0x17 => Entry::Plain(Plain::Rot), // rot
+        0x18 => Entry::Deref(true), // xderef
+        0x19 => Entry::Plain(Plain::Abs), // abs
+        0x1a => Entry::Plain(Plain::And), // and
+        0x1b => Entry::Plain(Plain::Div), // div
+        0x1c => Entry::Plain(Plain::Minus), // minus
+        0x1d => Entry::Plain(Plain::Mod), // mod
+        0x1e => Entry::Plain(Plain::Mul), // mul
+        0x1f => Entry::Plain(Plain::Neg), // neg
+        0x20 => Entry::Plain(Plain::Not), // not
+        0x21 => Entry::Plain(Plain::Or), // or
+        0x22 => Entry::Plain(Plain::Plus), // plus
+        0x23 => Entry::Unsigned(Unsigned::Uleb128, FromUnsigned::PlusConstant), // plus_uconst
+        0x24 => Entry::Plain(Plain::Shl), // shl
+        0x25 => Entry::Plain(Plain::Shr), // shr
+        0x26 => Entry::Plain(Plain::Shra), // shra
+        0x27 => Entry::Plain(Plain::Xor), // xor
+        0x28 => Entry::Branch(FromBranch::Bra), // bra
+        0x29 => Entry::Plain(Plain::Eq), // eq
+        0x2a => Entry::Plain(Plain::Ge), // ge
+        0x2b => Entry::Plain(Plain::Gt), // gt
+        0x2c => Entry::Plain(Plain::Le), // le
+        0x2d => Entry::Plain(Plain::Lt), // lt
+        0x2e => Entry::Plain(Plain::Ne), // ne
+        0x2f => Entry::Branch(FromBranch::Skip), // skip
+        0x30..=0x4f => Entry::Literal(opcode - 0x30), // lit0 to lit31
+        0x50..=0x6f => Entry::Register(opcode - 0x50), // reg0 to reg31
+        0x70..=0x8f => Entry::BaseRegister(opcode - 0x70), // breg0 to breg31
+        0x90 => Entry::Rare(Rare::NamedRegister), // regx
+        0x91 => Entry::Signed(Signed::Sleb128, FromSigned::FrameOffset), // fbreg
+        0x92 => Entry::Rare(Rare::NamedBaseRegister), // bregx
+        0x93 => Entry::Piece, // piece
+        0x94 => Entry::Byte(FromByte::Deref), // deref_size
+        0x95 => Entry::Byte(FromByte::SpaceDeref), // xderef_size
+        0x96 => Entry::Plain(Plain::Nop), // nop
+        0x97 => Entry::Plain(Plain::PushObjectAddress), // push_object_address
+        0x98 => Entry::Offset(Offset::U16, FromOffset::UnitCall), // call2
+        0x99 => Entry::Offset(Offset::U32, FromOffset::UnitCall), // call4
+        0x9a => Entry::Offset(Offset::Section, FromOffset::InfoCall), // call_ref
+        0x9b => Entry::Plain(Plain::TLS), // form_tls_address
+        0x9c => Entry::Plain(Plain::CallFrameCFA), // call_frame_cfa
+        0x9d => Entry::Rare(Rare::BitPiece), // bit_piece
+        0x9e => Entry::Rare(Rare::Block(FromBlock::ImplicitValue)), // implicit_value
+        0x9f => Entry::Plain(Plain::StackValue), // stack_value
+        0xa0 => Entry::Rare(Rare::ImplicitPointer), // implicit_pointer
+        0xa1 => Entry::Offset(Offset::Uleb128, FromOffset::AddressIndex), // addrx
+        0xa2 => Entry::Offset(Offset::Uleb128, FromOffset::ConstantIndex), // constx
+        0xa3 => Entry::Rare(Rare::Block(FromBlock::EntryValue)), // entry_value
+        0xa4 => Entry::Rare(Rare::TypedLiteral), // const_type
+        0xa5 => Entry::Rare(Rare::TypedRegister), // regval_type
+        0xa6 => Entry::Rare(Rare::TypedDeref(false)), // deref_type
+        0xa7 => Entry::Rare(Rare::TypedDeref(true)), // xderef_type
+        0xa8 => Entry::Offset(Offset::Uleb128, FromOffset::Convert), // convert
+        0xa9 => Entry::Offset(Offset::Uleb128, FromOffset::Reinterpret), // reinterpret
+        0xe0 => Entry::Plain(Plain::TLS), // GNU_push_tls_address
+        0xed => Entry::Rare(Rare::WasmLocation), // WASM_location
+        0xf0 => Entry::Plain(Plain::Uninitialized), // GNU_uninit
+        0xf2 => Entry::Rare(Rare::ImplicitPointer), // GNU_implicit_pointer
+        0xf3 => Entry::Rare(Rare::Block(FromBlock::EntryValue)), // GNU_entry_value
+        0xf4 => Entry::Rare(Rare::TypedLiteral), // GNU_const_type
+        0xf5 => Entry::Rare(Rare::TypedRegister), // GNU_regval_type
+        0xf6 => Entry::Rare(Rare::TypedDeref(false)), // GNU_deref_type
+        0xf7 => Entry::Offset(Offset::Uleb128, FromOffset::Convert), // GNU_convert
+        0xf9 => Entry::Offset(Offset::Uleb128, FromOffset::Reinterpret), // GNU_reinterpret
+        0xfa => Entry::Offset(Offset::U32, FromOffset::ParameterRef), // GNU_parameter_ref
+        0xfb => Entry::Offset(Offset::Uleb128, FromOffset::AddressIndex), // GNU_addr_index
+        0xfc => Entry::Offset(Offset::Uleb128, FromOffset::ConstantIndex), // GNU_const_index
+        0xfd => Entry::Offset(Offset::Section, FromOffset::VariableValue), // GNU_variable_value
+        _ => Entry::Unknown,
+    }
 }

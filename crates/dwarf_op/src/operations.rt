@@ -14,204 +14,211 @@ pub enum DieReference<T> {
 /// The base type at offset 0 is the generic type.
 #[derive(Clone, Copy, Debug, PartialEq, Eq)]
 pub enum Operation<R: Reader, O = <R as Reader>::Offset> {
-    /// Pop an address and push what memory holds there.
+    /// Pop an address and push what memory holds there: `DW_OP_deref`, `DW_OP_deref_size`, `DW_OP_deref_type` and,
+    /// with an address space, `DW_OP_xderef`, `DW_OP_xderef_size`, `DW_OP_xderef_type`.
     Deref {
-        /// The type of what is pushed.
+        /// The type of what is pushed; 0 is the generic type.
         base_type: UnitOffset<O>,
         /// How many bytes are read.
         size: u8,
-        /// Whether an address space is popped too.
+        /// Whether an address space is popped too, from below the address.
         space: bool,
     },
-    /// Drop the top.
+    /// Drop the top: `DW_OP_drop`.
     Drop,
-    /// Push a copy of the value that is this far below the top.
+    /// Push a copy of the value that is this far below the top: `DW_OP_pick`, `DW_OP_dup` (0), `DW_OP_over` (1).
     Pick {
         /// How far below the top it is.
         index: u8,
     },
-    /// Swap the two on top.
+    /// Swap the two on top: `DW_OP_swap`.
     Swap,
-    /// Move the top under the two below it.
+    /// Move the top under the two below it: `DW_OP_rot`.
     Rot,
-    /// Absolute value.
+    /// Absolute value: `DW_OP_abs`.
     Abs,
-    /// Bitwise and.
+    /// Bitwise and: `DW_OP_and`.
     And,
-    /// Division.
+    /// Division of the second by the top: `DW_OP_div`.
     Div,
-    /// Subtraction.
+    /// The second less the top: `DW_OP_minus`.
     Minus,
-    /// Remainder.
+    /// Remainder of the second by the top: `DW_OP_mod`.
     Mod,
-    /// Multiplication.
+    /// Multiplication: `DW_OP_mul`.
     Mul,
-    /// Negation.
+    /// Negation: `DW_OP_neg`.
     Neg,
-    /// Bitwise complement.
+    /// Bitwise complement: `DW_OP_not`.
     Not,
-    /// Bitwise or.
+    /// Bitwise or: `DW_OP_or`.
     Or,
-    /// Addition.
+    /// Addition: `DW_OP_plus`.
     Plus,
-    /// Add a constant to the top.
+    /// Add a constant to the top: `DW_OP_plus_uconst`.
     PlusConstant {
         /// The constant.
         value: u64,
     },
-    /// Shift left.
+    /// Shift the second left by the top: `DW_OP_shl`.
     Shl,
-    /// Shift right, filling with zeros.
+    /// Shift the second right by the top, filling with zeros: `DW_OP_shr`.
     Shr,
-    /// Shift right, filling with the sign.
+    /// Shift the second right by the top, filling with the sign: `DW_OP_shra`.
     Shra,
-    /// Bitwise exclusive or.
+    /// Bitwise exclusive or: `DW_OP_xor`.
     Xor,
-    /// Pop a value and branch where it isn't zero.
+    /// Pop a value and branch where it isn't zero: `DW_OP_bra`.
     Bra {
-        /// How far, from behind the operation.
+        /// How many bytes, from behind the operation.
         target: i16,
     },
-    /// Equal.
+    /// Whether the second equals the top: `DW_OP_eq`.
     Eq,
-    /// Greater or equal.
+    /// Whether the second is greater than or equals the top: `DW_OP_ge`.
     Ge,
-    /// Greater.
+    /// Whether the second is greater than the top: `DW_OP_gt`.
     Gt,
-    /// Less or equal.
+    /// Whether the second is less than or equals the top: `DW_OP_le`.
     Le,
-    /// Less.
+    /// Whether the second is less than the top: `DW_OP_lt`.
     Lt,
-    /// Not equal.
+    /// Whether the second differs from the top: `DW_OP_ne`.
     Ne,
-    /// Branch.
+    /// Branch: `DW_OP_skip`.
     Skip {
-        /// How far, from behind the operation.
+        /// How many bytes, from behind the operation.
         target: i16,
     },
-    /// Push an unsigned constant.
+    /// Push an unsigned constant: `DW_OP_lit0` to `DW_OP_lit31`, `DW_OP_const1u` to `DW_OP_const8u`, `DW_OP_constu`.
     UnsignedConstant {
         /// The constant.
         value: u64,
     },
-    /// Push a signed constant.
+    /// Push a signed constant: `DW_OP_const1s` to `DW_OP_const8s`, `DW_OP_consts`.
     SignedConstant {
         /// The constant.
         value: i64,
     },
-    /// The variable is in a register.
+    /// The variable is in a register: `DW_OP_reg0` to `DW_OP_reg31`, `DW_OP_regx`. It completes the piece or the
+    /// expression.
     Register {
         /// The register.
         register: Register,
     },
-    /// Push what a register holds, plus an offset.
+    /// Push what a register holds, plus an offset: `DW_OP_breg0` to `DW_OP_breg31`, `DW_OP_bregx` and, of a base type
+    /// and without an offset, `DW_OP_regval_type`.
     RegisterOffset {
         /// The register.
         register: Register,
         /// The offset, in bytes.
         offset: i64,
-        /// The type of the register's value.
+        /// The type of the register's value; 0 is the generic type.
         base_type: UnitOffset<O>,
     },
-    /// Push the frame base plus an offset.
+    /// Push the frame base, which `DW_AT_frame_base` of the function describes, plus an offset: `DW_OP_fbreg`.
     FrameOffset {
         /// The offset, in bytes.
         offset: i64,
     },
-    /// Nothing.
+    /// Nothing: `DW_OP_nop`.
     Nop,
-    /// Push the address of the object that is described.
+    /// Push the address of the object that is described: `DW_OP_push_object_address`.
     PushObjectAddress,
-    /// Evaluate another expression in this one's place.
+    /// Evaluate another expression, the `DW_AT_location` of an entry, in this one's place: `DW_OP_call2`,
+    /// `DW_OP_call4`, `DW_OP_call_ref`.
     Call {
-        /// Where it stands.
+        /// Where the entry stands.
         offset: DieReference<O>,
     },
-    /// Pop an index and push an address in thread-local storage.
+    /// Pop an index and push an address in thread-local storage: `DW_OP_form_tls_address`,
+    /// `DW_OP_GNU_push_tls_address`.
     TLS,
-    /// Push the canonical frame address.
+    /// Push the canonical frame address (DWARF 5, section 6.4): `DW_OP_call_frame_cfa`.
     CallFrameCFA,
-    /// End a piece of the variable.
+    /// End a piece of the variable: `DW_OP_piece`, `DW_OP_bit_piece`.
     Piece {
         /// Its size, in bits.
         size_in_bits: u64,
-        /// Where it begins in its location, in bits, where that is said.
+        /// Where it begins in its location, in bits; `None` for `DW_OP_piece`.
         bit_offset: Option<u64>,
     },
-    /// The variable has no place, and these bytes.
+    /// The variable has no place, and these bytes: `DW_OP_implicit_value`. It completes the piece or the expression.
     ImplicitValue {
         /// The bytes.
         bytes: R,
     },
-    /// The variable has no place; pop its value.
+    /// The variable has no place; pop its value: `DW_OP_stack_value`. It completes the piece or the expression.
     StackValue,
-    /// The variable is a pointer to an object that has no place.
+    /// The variable is a pointer to an object that has no place: `DW_OP_implicit_pointer`,
+    /// `DW_OP_GNU_implicit_pointer`. It completes the piece or the expression.
     ImplicitPointer {
         /// Where the object is described.
         value: DebugInfoOffset<O>,
         /// Where in the object it points to, in bytes.
         byte_offset: i64,
     },
-    /// Push what an expression gave when the function was entered.
+    /// Push what an expression gave when the function was entered: `DW_OP_entry_value`, `DW_OP_GNU_entry_value`.
     EntryValue {
         /// The expression.
         expression: R,
     },
-    /// Push the value of a parameter of the caller.
+    /// Push the value of a parameter that was optimized out, as a call site of the caller gives it:
+    /// `DW_OP_GNU_parameter_ref`.
     ParameterRef {
-        /// Where the parameter is described.
+        /// Where the parameter is described; the call site's entry names the same place.
         offset: UnitOffset<O>,
     },
-    /// Push an address, relocated.
+    /// Push an address, relocated: `DW_OP_addr`.
     Address {
         /// The address, before that.
         address: u64,
     },
-    /// Push an address of `.debug_addr`, relocated.
+    /// Push an address of `.debug_addr`, relocated: `DW_OP_addrx`, `DW_OP_GNU_addr_index`.
     AddressIndex {
-        /// Its index.
+        /// Its index, from `DW_AT_addr_base` of the unit.
         index: DebugAddrIndex<O>,
     },
-    /// Push a constant of `.debug_addr`, as it stands.
+    /// Push a constant of `.debug_addr`, as it stands: `DW_OP_constx`, `DW_OP_GNU_const_index`.
     ConstantIndex {
-        /// Its index.
+        /// Its index, from `DW_AT_addr_base` of the unit.
         index: DebugAddrIndex<O>,
     },
-    /// Push bytes as a value of a base type.
+    /// Push bytes as a value of a base type: `DW_OP_const_type`, `DW_OP_GNU_const_type`.
     TypedLiteral {
         /// The type.
         base_type: UnitOffset<O>,
         /// The bytes.
         value: R,
     },
-    /// Convert the top to a base type.
+    /// Convert the top to a base type: `DW_OP_convert`, `DW_OP_GNU_convert`.
     Convert {
         /// The type.
         base_type: UnitOffset<O>,
     },
-    /// Take the bits on top as a value of a base type.
+    /// Take the bits on top as a value of a base type: `DW_OP_reinterpret`, `DW_OP_GNU_reinterpret`.
     Reinterpret {
         /// The type.
         base_type: UnitOffset<O>,
     },
-    /// The variable isn't initialized.
+    /// The variable isn't initialized: `DW_OP_GNU_uninit`.
     Uninitialized,
-    /// Push a local of WebAssembly.
+    /// Push a local of WebAssembly's running function: `DW_OP_WASM_location` 0.
     WasmLocal {
         /// Its index.
         index: u32,
     },
-    /// Push a global of WebAssembly.
+    /// Push a global of WebAssembly: `DW_OP_WASM_location` 1 and 3.
     WasmGlobal {
         /// Its index.
         index: u32,
     },
-    /// Push an item of WebAssembly's stack.
+    /// Push an item of WebAssembly's operand stack: `DW_OP_WASM_location` 2.
     WasmStack {
-        /// Its index.
+        /// Its index; 0 is the bottom.
         index: u32,
     },
-    /// Push the value of a variable.
+    /// Push the value of a variable: `DW_OP_GNU_variable_value`.
     VariableValue {
         /// Where the variable is described.
         offset: DebugInfoOffset<O>,

@@ -29,8 +29,12 @@ use Rattle.dwarf_op.specs.declared.opcodes.FromOffset.{FromOffset}
 use Rattle.dwarf_op.specs.declared.opcodes.FromOffset.TheVariants as from_offset
 use Rattle.dwarf_op.specs.declared.opcodes.FromBlock.{FromBlock}
 use Rattle.dwarf_op.specs.declared.opcodes.FromBlock.TheVariants as from_block
+use Rattle.dwarf_op.specs.declared.operands.WasmPlace.{WasmPlace}
+use Rattle.dwarf_op.specs.declared.operands.WasmPlace.TheVariants as wasm_place
 use Rattle.dwarf_op.specs.declared.opcodes.Entry.{Entry}
 use Rattle.dwarf_op.specs.declared.opcodes.Entry.TheVariants as entry
+use Rattle.dwarf_op.specs.declared.opcodes.Rare.{Rare}
+use Rattle.dwarf_op.specs.declared.opcodes.Rare.TheVariants as rare_entry
 
 abbrev pub plain_operation : Plain → meaning.Operation
 plain_operation plain.Drop = meaning.Drop
@@ -117,6 +121,23 @@ abbrev pub block_operation : FromBlock → Text → meaning.Operation
 block_operation from_block.ImplicitValue block = meaning.ImplicitValue block
 block_operation from_block.EntryValue block = meaning.EntryValue block
 
+abbrev pub wasm_operation : WasmPlace → ℕ → meaning.Operation
+wasm_operation wasm_place.Local index = meaning.WasmLocal index
+wasm_operation wasm_place.Global index = meaning.WasmGlobal index
+wasm_operation wasm_place.Stack index = meaning.WasmStack index
+
+-- the row that a rare entry is
+abbrev pub rare_row : Rare → Row
+rare_row rare_entry.NamedRegister = unsigned RegisterNumber meaning.Register
+rare_row rare_entry.NamedBaseRegister = unsigned_signed RegisterNumber SignedLeb128 (λ register offset. meaning.RegisterOffset register offset 0)
+rare_row rare_entry.TypedRegister = unsigned_two RegisterNumber form.Offset (λ register base_type. meaning.RegisterOffset register (pos 0) base_type)
+rare_row rare_entry.BitPiece = unsigned_two Leb128 Leb128 (λ size offset. meaning.Piece size (Some offset))
+rare_row (rare_entry.Block make) = sized_block form.Offset (block_operation make)
+rare_row rare_entry.TypedLiteral = Unsigned form.Offset (λ base_type. sized_block (Fixed 1) (meaning.TypedLiteral base_type))
+rare_row (rare_entry.TypedDeref space) = unsigned_two (Fixed 1) form.Offset (λ size base_type. meaning.Deref base_type size space)
+rare_row rare_entry.ImplicitPointer = unsigned_signed InfoReference SignedLeb128 meaning.ImplicitPointer
+rare_row rare_entry.WasmLocation = Unsigned (Fixed 1) wasm_row
+
 -- the row that an entry is at an opcode
 abbrev pub entry_row : Encoding → (opcode : ℕ) → Entry → Row
 entry_row encoding opcode entry.Unknown = Invalid opcode
@@ -131,16 +152,8 @@ entry_row encoding opcode (entry.Signed shape make) = signed (signed_form shape)
 entry_row encoding opcode (entry.Branch make) = signed (SignedFixed 2) (branch_operation make)
 entry_row encoding opcode (entry.Offset shape make) = unsigned (offset_form shape) (offset_operation make)
 entry_row encoding opcode (entry.BaseRegister register) = signed SignedLeb128 (λ offset. meaning.RegisterOffset register offset 0)
-entry_row encoding opcode entry.NamedRegister = unsigned RegisterNumber meaning.Register
-entry_row encoding opcode entry.NamedBaseRegister = unsigned_signed RegisterNumber SignedLeb128 (λ register offset. meaning.RegisterOffset register offset 0)
-entry_row encoding opcode entry.TypedRegister = unsigned_two RegisterNumber form.Offset (λ register base_type. meaning.RegisterOffset register (pos 0) base_type)
 entry_row encoding opcode entry.Piece = unsigned PieceSize (λ size. meaning.Piece (8 * size) None)
-entry_row encoding opcode entry.BitPiece = unsigned_two Leb128 Leb128 (λ size offset. meaning.Piece size (Some offset))
-entry_row encoding opcode (entry.Block make) = sized_block form.Offset (block_operation make)
-entry_row encoding opcode entry.TypedLiteral = Unsigned form.Offset (λ base_type. sized_block (Fixed 1) (meaning.TypedLiteral base_type))
-entry_row encoding opcode (entry.TypedDeref space) = unsigned_two (Fixed 1) form.Offset (λ size base_type. meaning.Deref base_type size space)
-entry_row encoding opcode entry.ImplicitPointer = unsigned_signed InfoReference SignedLeb128 meaning.ImplicitPointer
-entry_row encoding opcode entry.WasmLocation = Unsigned (Fixed 1) wasm_row
+entry_row encoding opcode (entry.Rare rare) = rare_row rare
 
 -- a register's number at the front
 abbrev pub register_at : List ℕ → Result (ℕ × List ℕ) Fault

@@ -1,7 +1,2 @@
-pub mod Answers
-pub mod Bounds
-pub mod Calls
-pub mod Iteration
-pub mod Machine
-pub mod Replays
-pub mod inner
+pub mod Twins
+pub mod Inlined

@@ -1,3 +1,42 @@
 //! Laws over the definitions, each the contract of a function that does nothing.
 
+ghost use Rattle.std.specs.Prelude.{List, [], ◌∷◌};
+ghost use Rattle.dwarf_meaning.specs.Operations.{Text, UnitRef};
+ghost use Rattle.dwarf_meaning.specs.Requests.{Request, Input};
+ghost use Rattle.dwarf_meaning.specs.Meaning.{Outcome};
+ghost use Rattle.dwarf_meaning.specs.Steps.{Step, Evaluate};
+ghost use Rattle.dwarf_laws.specs.Agreement.{Pairwise, AgreeingSteps};
+ghost use Rattle.dwarf_laws.specs.Inlining.{CallSite, outer, inlined};
+ghost use Rattle.dwarf_laws.specs.Rows.{IsWorked};
+ghost use Rattle.dwarf_expr.specs.Inlined.{MayInline, InlinedReplay};
+ghost use Rattle.dwarf_expr.specs.Twins.{fresh_at, MayReplay, BothDone, BothMisplaced, NoneMisplacedAlone, NoRoomThere};
+
+pub use dwarf_laws::{
+    called_rows, high_bits, inlining, premises_of_high_bits, premises_of_inlining, twin_rows,
+};
 pub use dwarf_meaning::{decode_laws, run_laws, worked_rows};
+pub use dwarf_value::value_laws;
+
+/// Bits above an address change nothing that matters, of two evaluations that were replayed.
+///
+/// It does nothing. Its contract is the law, over what `replay` says of each of them, in whatever way each ended; and
+/// that the premises hold of fresh evaluations of one text, as those of `twin_rows`.
+pub fn two_replays()
+    ensures done { BothDone }
+    ensures misplaced { BothMisplaced }
+    ensures not_alone { NoneMisplacedAlone }
+    ensures no_room { NoRoomThere }
+    ensures met { (text : Text) (steps others : List Step) → Pairwise (AgreeingSteps 32) steps others
+        → MayReplay (fresh_at text) (fresh_at text) steps others }
+{}
+
+/// A called text may be written in its call's place, of two evaluations that were replayed.
+///
+/// It does nothing. Its contract is the law, over what `replay` says of each of them; and that the premises hold of
+/// fresh evaluations of the worked texts, those of `called_rows`.
+pub fn inlined_replay()
+    ensures ends { InlinedReplay }
+    ensures met { (site : CallSite) (later : List Input) (behind : List Request) (outcome : Outcome)
+        → IsWorked site [] later [] behind outcome
+        → MayInline (fresh_at (outer site)) (fresh_at (inlined site)) site (UnitRef 5) (Evaluate ∷ []) }
+{}

@@ -1,10 +1,9 @@
 //! DWARF expressions: their operations, and their evaluation.
 #![tactic(auto)]
 
-pub mod eval;
 pub mod laws;
-pub mod op;
-pub mod replay;
 pub mod store;
 
+pub use dwarf_eval::{eval, op};
+pub use dwarf_replay as replay;
 pub use dwarf_value as value;

@@ -1,0 +1,37 @@
+-- What iterators over operations give.
+use Rattle.std.specs.Prelude.{ℕ, Bool, ◌≡◌, ◌≢◌, List, [], ◌∷◌, Result, Ok, Err, Option, Some, None}
+use Rattle.dwarf_base.specs.declared.common.Encoding.{Encoding}
+use Rattle.dwarf_base.specs.declared.errors.Error.{Error}
+use Rattle.dwarf_base.specs.Faults.{Fault, fault_of}
+use Rattle.dwarf_meaning.specs.Operations as meaning
+use Rattle.dwarf_meaning.specs.Splitting.{items_at}
+use Rattle.dwarf_op.specs.Views.{text_of}
+use Rattle.dwarf_eval.specs.declared.op.expressions.OperationIter.{OperationIter}
+
+-- the bytes that are left
+abbrev pub input_of : {R P : Type 0} → OperationIter R P → R
+input_of iterator = iterator.input
+
+abbrev pub encoding_of : {R P : Type 0} → OperationIter R P → Encoding
+encoding_of iterator = iterator.encoding
+
+-- nothing at the end, else what is read, with what is left: after a fault, nothing
+abbrev pub GivesNext : {X : Type 0} → (X → meaning.Operation) → Result (Option X) Error → (left bytes : List ℕ) → Result (meaning.Operation × List ℕ) Fault → Type 0
+GivesNext view (Ok None) left bytes read = (bytes ≡ []) × (left ≡ [])
+GivesNext view (Ok (Some x)) left bytes read = read ≡ Ok (view x, left)
+GivesNext view (Err e) left bytes read = (bytes ≢ []) × (read ≡ Err (fault_of e)) × (left ≡ [])
+
+-- the first of the items, with the items that are left
+abbrev pub GivesItem : {X : Type 0} → (X → meaning.Operation) → Result (Option X) Error → (left items : List (Result meaning.Operation Fault)) → Type 0
+GivesItem view (Ok None) left items = (items ≡ []) × (left ≡ [])
+GivesItem view (Ok (Some x)) left items = items ≡ Ok (view x) ∷ left
+GivesItem view (Err e) left items = (items ≡ Err (fault_of e) ∷ []) × (left ≡ [])
+
+-- an item of the iterator
+abbrev pub item_of : {X : Type 0} → (X → meaning.Operation) → Result X Error → Result meaning.Operation Fault
+item_of view (Ok x) = Ok (view x)
+item_of view (Err e) = Err (fault_of e)
+
+-- the items that are left: those of the splitting of the bytes that are left
+abbrev pub items_left : {R P : Type 0} → (R → List ℕ) → (R → Bool) → (offset_bits : ℕ) → OperationIter R P → List (Result meaning.Operation Fault)
+items_left bytes is_big offset_bits iterator = items_at (encoding_of iterator) offset_bits (text_of bytes is_big (input_of iterator))

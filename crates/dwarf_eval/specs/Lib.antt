@@ -1,0 +1,7 @@
+pub mod Answers
+pub mod Bounds
+pub mod Calls
+pub mod Iteration
+pub mod Machine
+pub mod Paths
+pub mod inner

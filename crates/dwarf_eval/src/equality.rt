@@ -1,0 +1,36 @@
+//! Laws of equality.
+ghost use Rattle.std.specs.Prelude.{ℕ};
+ghost use Rattle.dwarf_base.specs.Equality.{IsEquality, IsEqualityBy, IsEqualityOf};
+ghost use Rattle.dwarf_meaning.specs.Operations.{Text};
+ghost use Rattle.dwarf_eval.specs.Calls.{told_of};
+ghost use Rattle.dwarf_eval.specs.Machine.{location_of, piece_of};
+
+use crate::eval::{Status, WaitingKind};
+use crate::op::{EvaluationResult, Expression, Location, Piece};
+use dwarf_base::Reader;
+
+/// Statuses are equal exactly where contracts see the same. It does nothing; its contract is the law.
+pub fn status_equality_laws()
+    ensures kind { IsEquality ⟦<WaitingKind as PartialEq>⟧.eq }
+    ensures status { IsEquality ⟦<Status as PartialEq>⟧.eq }
+{}
+
+/// Expressions are equal exactly where their readers are. It does nothing; its contract is the law.
+pub fn expression_equality_laws<R: Reader + Eq>()
+    ensures { IsEqualityBy ⟦<Expression<R> as PartialEq>⟧.eq (λ expression. expression.0) R.PartialEq.eq }
+{}
+
+/// Results are equal exactly where they are seen as the same, as far as readers and offsets are. It does nothing;
+/// its contract is the law.
+pub fn result_equality_laws<R: Reader + Eq, O: Eq>()
+    ensures { (text : R → Text) (number : O → ℕ) → IsEqualityOf text R.PartialEq.eq → IsEqualityOf number O.PartialEq.eq
+        → IsEqualityOf (told_of text number) ⟦<EvaluationResult<R, O> as PartialEq>⟧.eq }
+{}
+
+/// The same of locations and of pieces.
+pub fn piece_equality_laws<R: Reader + Eq, O: Eq>()
+    ensures location { (text : R → Text) (number : O → ℕ) → IsEqualityOf text R.PartialEq.eq → IsEqualityOf number O.PartialEq.eq
+        → IsEqualityOf (location_of text number) ⟦<Location<R, O> as PartialEq>⟧.eq }
+    ensures piece { (text : R → Text) (number : O → ℕ) → IsEqualityOf text R.PartialEq.eq → IsEqualityOf number O.PartialEq.eq
+        → IsEqualityOf (piece_of text number) ⟦<Piece<R, O> as PartialEq>⟧.eq }
+{}

@@ -1,0 +1,84 @@
+ghost use Rattle.std.specs.Prelude.{◌≡◌, ◌-◌, length};
+ghost use Rattle.std.specs.Iterator.{YieldsFirstBy, item_count};
+ghost use Rattle.dwarf_base.specs.Reads.{IsSuffix};
+ghost use Rattle.dwarf_meaning.specs.Decoding.{operation_at};
+ghost use Rattle.dwarf_meaning.specs.Splitting.{items_at};
+ghost use Rattle.dwarf_eval.specs.Iteration.{input_of, encoding_of, item_of, items_left, GivesNext, GivesItem};
+ghost use Rattle.dwarf_op.specs.Views.{operation_of, text_of};
+
+use dwarf_base::{Encoding, Reader, Result};
+use dwarf_op::Operation;
+
+/// The bytes of an expression (DWARF 5, section 2.5).
+#[derive(Clone, Copy, Debug, PartialEq, Eq, Hash)]
+pub struct Expression<R: Reader>(pub R);
+
+impl<R: Reader + Copy> Expression<R> {
+    /// Its operations, in order.
+    #[inline]
+    pub fn operations(self, encoding: Encoding) -> OperationIter<R>
+        ensures input { input_of result ≡ self.0 }
+        ensures encoding { encoding_of result ≡ encoding }
+    {
+        OperationIter {
+            input: self.0,
+            encoding,
+        }
+    }
+}
+
+/// The operations of an expression, one after another; the first that is refused is the last.
+#[derive(Clone, Copy, Debug)]
+pub struct OperationIter<R: Reader> {
+    input: R,
+    encoding: Encoding,
+}
+
+impl<R: Reader + Copy> OperationIter<R> {
+    /// The next operation, or `None` at the end.
+    ///
+    /// The errors are those of [`Operation::parse`]. After one nothing is left.
+    #[inline]
+    pub fn next(&mut self) -> Result<Option<Operation<R>>>
+        ensures value { GivesNext (operation_of (text_of R.bytes R.is_big) R.Offset.number) result (R.bytes (input_of self.new)) (R.bytes (input_of self.old)) (operation_at (encoding_of self.old) R.Offset.BITS (text_of R.bytes R.is_big (input_of self.old))) }
+        ensures rest { IsSuffix (R.bytes (input_of self.new)) (R.bytes (input_of self.old)) }
+        ensures order { R.is_big (input_of self.new) ≡ R.is_big (input_of self.old) }
+        ensures encoding { encoding_of self.new ≡ encoding_of self.old }
+        ensures items { GivesItem (operation_of (text_of R.bytes R.is_big) R.Offset.number) result (items_left R.bytes R.is_big R.Offset.BITS self.new) (items_left R.bytes R.is_big R.Offset.BITS self.old) }
+    {
+        if self.input.is_empty() {
+            return Ok(None);
+        }
+        match Operation::parse(&mut self.input, self.encoding) {
+            Ok(operation) => Ok(Some(operation)),
+            Err(error) => {
+                self.input.empty();
+                Err(error)
+            }
+        }
+    }
+
+    /// How many bytes of the expression come before what is left, which is a suffix of it.
+    ///
+    /// Before an error these are the bytes of the operations so far; after one, all of them.
+    #[inline]
+    pub fn offset_from(&self, expression: &Expression<R>) -> R::Offset
+        requires { IsSuffix (R.bytes (input_of self.now)) (R.bytes expression.now.0) }
+        ensures { R.Offset.number result ≡ length (R.bytes expression.now.0) - length (R.bytes (input_of self.now)) }
+    {
+        self.input.offset_from(&expression.0)
+    }
+}
+
+impl<R: Reader + Copy> Iterator for OperationIter<R> {
+    type Item = Result<Operation<R>>;
+
+    ghost next_gives = { YieldsFirstBy (item_of (operation_of (text_of R.bytes R.is_big) R.Offset.number)) (items_left R.bytes R.is_big R.Offset.BITS) };
+
+    ghost remaining = { item_count (items_left R.bytes R.is_big R.Offset.BITS) };
+
+    #[inline]
+    fn next(&mut self) -> Option<Result<Operation<R>>> {
+        OperationIter::next(self).transpose()
+    }
+}

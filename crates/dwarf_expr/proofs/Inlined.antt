@@ -1,0 +1,207 @@
+-- Two replays, of a text with a call and of the inlined text, over the law of called texts.
+use Rattle.std.proofs.Common.{ℕ, ◌≡◌, ◌≢◌, ap, refl, sym, subst, ◌∙◌, List, [], ◌∷◌, ◌++◌, Option, Some, None}
+use Rattle.dwarf_base.specs.declared.errors.Error.{Error}
+use Rattle.dwarf_base.specs.Faults.{Fault}
+use Rattle.dwarf_meaning.specs.Operations.{Text, DieReference, UnitRef}
+use Rattle.dwarf_meaning.specs.Requests.{Request, LocationAnswer, Input}
+use Rattle.dwarf_meaning.specs.Stores.{Setup, Never}
+use Rattle.dwarf_meaning.specs.Meaning.{Outcome, Faults, First, meaning}
+use Rattle.dwarf_meaning.specs.Rest.{State, Stopped}
+use Rattle.dwarf_meaning.specs.Steps.{Step, Evaluate, Resume, Told, Reply, outcome_from, outcome_of, AllAllowed, after_steps}
+use Rattle.dwarf_meaning.specs.Rows.{unset}
+use Rattle.dwarf_laws.specs.Rows.{IsWorked}
+use Rattle.dwarf_laws.specs.TwoRuns.{NoneIsFull}
+use Rattle.dwarf_laws.specs.Inlining as inlining
+use Rattle.dwarf_laws.specs.Inlining.{CallSite, outer, called, inlined, in_force, answered, with_answer, HasNoLimits, completions, requests}
+use Rattle.dwarf_laws.proofs.Inlined.{inlines}
+use Rattle.dwarf_replay.specs.Replays.{told_at, StandsAt, Walks}
+use Rattle.dwarf_expr.specs.Twins.{fresh_at}
+use Rattle.dwarf_expr.specs.Inlined.{tells, MayInline, EndAlike, asking, complete, InlinedReplay}
+use Rattle.dwarf_expr.proofs.Telling.{tells_more, added, tells_inputs, tells_first, told_is, told_comes, unrefused}
+use Rattle.dwarf_expr.proofs.Twins.{asking_of, stopped_of, did}
+
+-- ---- where they stand
+
+sound_outcome : (x : State) (told : Told) (o : Option Outcome) → StandsAt told x o → ((error : Error) → x.status ≢ Stopped error)
+    → (fault : Fault) → o ≢ Some (Faults fault)
+sound_outcome x told o h k fault e =
+    let s = stopped_of fault x.status (subst (λ (p : Option Outcome). StandsAt told x p) e h) in k s.0 s.1
+
+end_alike : (x y : State) (told told' : Told) (o o' : Outcome) → inlining.EndAlike o o' → StandsAt told x (Some o)
+    → StandsAt told' y (Some o') → EndAlike x y
+end_alike x y told told' o o' completions h k = complete _ h.0 k.0 (h.1 ∙ sym k.1)
+end_alike x y told told' o o' (requests {request = request} {frames = frames} {others = others}) h k =
+    let first = asking_of x request frames x.status h.0 in
+    let second = asking_of y request others y.status k.0 in
+    asking request first.0 second.0 first.1 second.1
+
+no_fault : (o o' : Outcome) → inlining.EndAlike o o' → (fault : Fault) → o' ≢ Faults fault
+no_fault o o' completions fault e = cc
+no_fault o o' requests fault e = cc
+
+-- ---- a replay without limits in which no push was refused
+
+-- it was done by the definitions without a refusal
+record Done (setup : Setup) (text : Text) (told : Told) (steps : List Step) (new : State) : Type 0 where
+  allowed : AllAllowed setup Never text told steps
+  stands : StandsAt (after_steps setup Never text told steps) new
+      (outcome_of setup Never text (after_steps setup Never text told steps))
+
+done : (x : State) (steps : List Step) (replies : List Reply) (new : State) → HasNoLimits x.setup
+    → Walks x steps replies new → NoneIsFull replies
+    → Done x.setup x.text (told_at x) steps new
+done x steps replies new h k n =
+    let d = did x steps replies new k in
+    let u =
+    unrefused x.setup h k.refusal x.text (told_at x) steps (λ e. cc) d.allowed (subst NoneIsFull d.replies_are n)
+    in
+    let comes = outcome_of x.setup Never x.text (after_steps x.setup Never x.text (told_at x) steps) in
+    record {
+      allowed = u.allowed;
+      stands =
+          subst (λ (t : Told). StandsAt t new comes) u.told_same
+          (subst (λ (o : Option Outcome). StandsAt (after_steps x.setup k.refusal x.text (told_at x) steps) new o)
+          u.comes_same d.stands);
+    }
+
+-- ---- the law, over plain texts
+
+module _ (setup : Setup) (site : CallSite) (offset : DieReference) (told : Told) (start behind : List Step) (first : First) where
+  abbrev at_call : Told
+  at_call = tells told start
+
+  abbrev later : List Input
+  later = added at_call.settings behind
+
+  abbrev all_steps : List Step
+  all_steps = start ++ (Resume (LocationAnswer (called site)) ∷ behind)
+
+  abbrev means_outer : Outcome
+  means_outer = meaning setup Never (outer site) first (with_answer site first at_call.inputs later)
+
+  abbrev means_inlined : Outcome
+  means_inlined = meaning setup Never (inlined site) first (at_call.inputs ++ later)
+
+  module _ (started : at_call.first ≡ Some first)
+      (object : at_call.settings.object_address ≡ (in_force first at_call.inputs).object_address)
+      (maximum : at_call.settings.maximum ≡ (in_force first at_call.inputs).maximum) where
+    same_answer : record {
+      object_address = at_call.settings.object_address;
+      maximum = at_call.settings.maximum;
+      answer = LocationAnswer (called site);
+    } ≡ answered site (in_force first at_call.inputs)
+    same_answer =
+        ap (λ (o : Option ℕ). record {
+          object_address = o;
+          maximum = at_call.settings.maximum;
+          answer = LocationAnswer
+              (called site);
+        }) object
+        ∙ ap (λ (n : ℕ). record {
+          object_address = (in_force first at_call.inputs).object_address;
+          maximum = n;
+          answer = LocationAnswer (called site);
+        }) maximum
+
+    outer_inputs : (tells told all_steps).inputs ≡ with_answer site first at_call.inputs later
+    outer_inputs =
+        ap (λ (t : Told). t.inputs) (tells_more told start (Resume (LocationAnswer (called site)) ∷ behind))
+        ∙ (tells_inputs at_call (Resume (LocationAnswer (called site)) ∷ behind) ∙ ap
+        (λ (i : Input). at_call.inputs ++ (i ∷ later)) same_answer)
+
+    outer_first : (tells told all_steps).first ≡ Some first
+    outer_first =
+        ap (λ (t : Told). t.first) (tells_more told start (Resume (LocationAnswer (called site)) ∷ behind))
+        ∙ tells_first at_call (Resume (LocationAnswer (called site)) ∷ behind) first started
+
+    inlined_inputs : (tells told (start ++ behind)).inputs ≡ at_call.inputs ++ later
+    inlined_inputs = ap (λ (t : Told). t.inputs) (tells_more told start behind) ∙ tells_inputs at_call behind
+
+    inlined_first : (tells told (start ++ behind)).first ≡ Some first
+    inlined_first = ap (λ (t : Told). t.first) (tells_more told start behind) ∙ tells_first at_call behind first started
+
+    outer_comes : outcome_of setup Never (outer site) (tells told all_steps) ≡ Some means_outer
+    outer_comes =
+        ap (λ (o : Option First). outcome_from setup Never (outer site) (tells told all_steps).inputs o) outer_first
+        ∙ ap (λ (inputs : List Input). Some (meaning setup Never (outer site) first inputs)) outer_inputs
+
+    inlined_comes : outcome_of setup Never (inlined site) (tells told (start ++ behind)) ≡ Some means_inlined
+    inlined_comes =
+        ap (λ (o : Option First). outcome_from setup Never (inlined site) (tells told (start ++ behind)).inputs o) inlined_first
+        ∙ ap (λ (inputs : List Input). Some (meaning setup Never (inlined site) first inputs)) inlined_inputs
+
+    ends : (new other : State)
+        → (((fault : Fault) → means_outer ≢ Faults fault) → inlining.EndAlike means_outer means_inlined)
+        → Done setup (outer site) told all_steps new → ((error : Error) → new.status ≢ Stopped error)
+        → Done setup (inlined site) told (start ++ behind) other → EndAlike new other
+    ends new other law d sound d' =
+        let clear = sound_outcome new _ _ d.stands sound in
+        let outer_told = told_is setup Never (outer site) told all_steps d.allowed clear in
+        let outer_is = ap (λ (t : Told). outcome_of setup Never (outer site) t) outer_told ∙ outer_comes in
+        let alike = law (λ fault e. clear fault (outer_is ∙ ap Some e)) in
+        let inlined_told =
+        told_comes setup Never (inlined site) told (start ++ behind) d'.allowed
+        (λ fault e. no_fault means_outer means_inlined alike fault (let same = sym inlined_comes ∙ e in cc))
+        in
+        let inlined_is = ap (λ (t : Told). outcome_of setup Never (inlined site) t) inlined_told ∙ inlined_comes in
+        end_alike new other (after_steps setup Never (outer site) told all_steps)
+        (after_steps setup Never (inlined site) told (start ++ behind)) means_outer means_inlined alike
+        (subst (λ (o : Option Outcome). StandsAt (after_steps setup Never (outer site) told all_steps) new o) outer_is d.stands)
+        (subst (λ (o : Option Outcome). StandsAt (after_steps setup Never (inlined site) told (start ++ behind)) other
+        o) inlined_is d'.stands)
+
+pub inlined_replays : InlinedReplay
+inlined_replays x y new other site offset start behind replies given h k n sound l m =
+    let y_free = subst HasNoLimits h.setups h.no_limits in
+    let same_told : told_at y ≡ told_at x =
+    ap (λ (o : Option ℕ). record {
+      settings = record
+          { initial_value = None; object_address = o; maximum = y.store.maximum };
+      first = None;
+      inputs = [];
+    })
+    (sym h.object_address)
+    ∙ ap (λ (n : ℕ). record {
+      settings = record
+          { initial_value = None; object_address = x.store.object_address; maximum = n };
+      first = None;
+      inputs = [];
+    })
+    (sym h.maximum)
+    in
+    let first_done =
+    subst (λ (t : Text). Done x.setup t (told_at x) (start ++ (Resume (LocationAnswer (called site)) ∷ behind)) new) h.outer_text
+    (done x (start ++ (Resume (LocationAnswer (called site)) ∷ behind)) replies new h.no_limits k n)
+    in
+    let second_done =
+    subst (λ (s : Setup). Done s (inlined site) (told_at x) (start ++ behind) other) (sym h.setups)
+    (subst (λ (t : Text). Done y.setup t (told_at x) (start ++ behind) other) h.inlined_text
+    (subst (λ (t : Told). Done y.setup y.text t (start ++ behind) other) same_told
+    (done y (start ++ behind) given other y_free l m)))
+    in
+    ends x.setup site offset (told_at x) start behind h.first h.is_started h.object_in_force h.maximum_in_force new other
+    (λ faultless. (inlines x.setup site offset h.first (tells (told_at x) start).inputs
+    (added (tells (told_at x) start).settings behind) h.requests h.no_limits h.stands h.inlinable h.leads faultless).ends)
+    first_done sound second_done
+
+-- ---- the premises, of fresh evaluations
+
+pub may_inline : (site : CallSite) (later : List Input) (behind : List Request) (outcome : Outcome) → IsWorked site [] later [] behind outcome
+    → MayInline (fresh_at (outer site)) (fresh_at (inlined site)) site (UnitRef 5) (Evaluate ∷ [])
+may_inline site later behind outcome h =
+    record {
+      no_limits = h.no_limits;
+      setups = refl;
+      outer_text = refl;
+      inlined_text = refl;
+      object_address = refl;
+      maximum = refl;
+      stands = h.stands;
+      inlinable = h.inlinable;
+      first = unset;
+      is_started = refl;
+      requests = [];
+      leads = h.leads;
+      object_in_force = refl;
+      maximum_in_force = refl;
+    }

@@ -1,0 +1,451 @@
+-- Two replays by agreeing steps, over the law of two runs.
+use Rattle.std.proofs.Common.{ℕ, zero, suc, ◌≡◌, ◌<◌, ◌≤◌, ap, refl, sym, subst, ◌∙◌, ◌⊎◌, inl, inr, List, [], ◌∷◌, ◌++◌, length, take, Option, Some, arith, append_assoc}
+use Rattle.std.proofs.lemmas.List.{take_all}
+use Rattle.std.proofs.lemmas.Option.{slice_get_within}
+use Rattle.std.specs.Prelude.{slice_get}
+use Rattle.dwarf_base.specs.declared.errors.Error.{Error}
+use Rattle.dwarf_base.specs.Faults.{Fault, fault_of}
+use Rattle.dwarf_meaning.specs.Operations.{Text}
+use Rattle.dwarf_meaning.specs.Requests.{Request, Waiting}
+use Rattle.dwarf_meaning.specs.Stores.{Limits, Setup, address_bits, Refusal, Never, After}
+use Rattle.dwarf_meaning.specs.Run.{Frame}
+use Rattle.dwarf_meaning.specs.Meaning.{Outcome}
+use Rattle.dwarf_meaning.specs.Rest.{State, Status, Start, Running, Waits, Complete, Stopped}
+use Rattle.dwarf_meaning.specs.Steps.{Step, Told, Reply, outcome_of, Allows, AllAllowed, step_replies, after_step, after_steps, answers}
+use Rattle.dwarf_laws.specs.Agreement as agreeing
+use Rattle.dwarf_laws.specs.Agreement.{Pairwise, none, more, Both, nothing, something, AgreeingNumbers, AgreeingSteps, AgreeingTold, AgreeingOutcomes}
+use Rattle.dwarf_laws.specs.TwoRuns.{NoneIsFull, AreAlike}
+use Rattle.dwarf_laws.proofs.Pairs.{same_length, get_both}
+use Rattle.dwarf_laws.proofs.Evaluations.{two_runs}
+use Rattle.dwarf_eval.specs.Calls.{HasFreeList, MayPick}
+use Rattle.dwarf_replay.specs.Replays.{told_at, IsAsking, IsStopped, StandsAt, Walks, WalksTo, WalksOver}
+use Rattle.dwarf_expr.specs.Twins.{fresh_at, MayReplay, AreComparable, open_texts, StandAlike, unstarted, asking, stopped, complete, IsFront, BothDone, BothMisplaced, NoneMisplacedAlone, NoRoomThere}
+
+-- ---- fronts of lists
+
+pub take_both : {A : Type 0} {R : A → A → Type 0} (n : ℕ) {xs ys : List A} → Pairwise R xs ys → Pairwise R (take n xs) (take n ys)
+take_both zero h = none
+take_both (suc n) none = none
+take_both (suc n) (more r rs) = more r (take_both n rs)
+
+-- a front of a front
+pub shorter : {A : Type 0} (n m : ℕ) (xs : List A) → n ≤ m → (rest : List A) × (take m xs ≡ take n xs ++ rest)
+shorter zero m xs h = (take m xs, refl)
+shorter (suc n) zero xs h = absurd (omega arith)
+shorter (suc n) (suc m) [] h = ([], refl)
+shorter (suc n) (suc m) (x ∷ xs) h = let r = shorter n m xs (omega arith) in (r.0, ap (λ l. x ∷ l) r.1)
+
+-- a front goes on with the item behind it
+pub next_item : {A : Type 0} (n m : ℕ) (xs : List A) (x : A) → slice_get xs n ≡ Some x → n < m
+    → (rest : List A) × (take m xs ≡ take n xs ++ x ∷ rest)
+next_item n zero xs x e h = absurd (omega arith)
+next_item n (suc m) [] x e h = absurd (cc)
+next_item zero (suc m) (y ∷ xs) x e h = let same : y ≡ x = cc in (take m xs, ap (λ z. z ∷ take m xs) same)
+next_item (suc n) (suc m) (y ∷ xs) x e h = let r = next_item n m xs x e (omega arith) in (r.0, ap (λ l. y ∷ l) r.1)
+
+none_full_front : (xs ys : List Reply) → NoneIsFull (xs ++ ys) → NoneIsFull xs
+none_full_front [] ys h = tt
+none_full_front (x ∷ xs) ys h = (h.0, none_full_front xs ys h.1)
+
+module _ (setup : Setup) (refusal : Refusal) (text : Text) where
+  -- the answers to steps, and to more of them
+  pub answers_front : (told : Told) (steps rest : List Step)
+      → answers setup refusal text told (steps ++ rest) ≡ answers setup refusal text told steps ++ answers setup
+      refusal text (after_steps setup refusal text told steps) rest
+  answers_front told [] rest = refl
+  answers_front told (step ∷ steps) rest =
+      let now = after_step setup refusal text told step in
+      let first = step_replies step (outcome_of setup refusal text now) in
+      ap (λ (l : List Reply). first ++ l) (answers_front now steps rest)
+      ∙ sym (append_assoc first (answers setup refusal text now steps)
+      (answers setup refusal text (after_steps setup refusal text now steps) rest))
+
+  -- of steps that are all allowed, each one is
+  pub allowed_next : (told : Told) (steps rest : List Step) (step : Step)
+      → AllAllowed setup refusal text told (steps ++ step ∷ rest)
+      → Allows (after_steps setup refusal text told steps)
+      (outcome_of setup refusal text (after_steps setup refusal text told steps)) step
+  allowed_next told [] rest step h = h.0
+  allowed_next told (s ∷ steps) rest step h = allowed_next (after_step setup refusal text told s) steps rest step h.1
+
+-- ---- where evaluations stand
+
+pub asking_of : (x : State) (request : Request) (frames : List Frame) (status : Status) → IsAsking request frames x status
+    → (waiting : Waiting) × (status ≡ Waits request waiting) × (frames ≡ open_texts x)
+asking_of x request frames (Waits open_request waiting) h = (waiting, ap (λ r. Waits r waiting) h.0, h.1)
+asking_of x request frames (Start initial_value) h = absurd h
+asking_of x request frames (Complete value) h = absurd h
+asking_of x request frames (Stopped error) h = absurd h
+asking_of x request frames Running h = absurd h
+
+pub stopped_of : (fault : Fault) (status : Status) → IsStopped fault status
+    → (error : Error) × (status ≡ Stopped error) × (fault_of error ≡ fault)
+stopped_of fault (Stopped error) h = (error, refl, h)
+stopped_of fault (Start initial_value) h = absurd h
+stopped_of fault (Waits request waiting) h = absurd h
+stopped_of fault (Complete value) h = absurd h
+stopped_of fault Running h = absurd h
+
+stand_alike : (bits : ℕ) (x y : State) (told told' : Told) (o o' : Option Outcome) → AgreeingTold bits told told'
+    → Both (AgreeingOutcomes bits) o o'
+    → StandsAt told x o → StandsAt told' y o' → StandAlike bits x y
+stand_alike bits x y told told' o o' t nothing h k = unstarted _ _ h.0 k.0 t.settings.initial_value
+stand_alike bits x y told told' o o' t (something (agreeing.requests {request = request} {frames = frames})) h k =
+    let first = asking_of x request frames x.status h.0 in
+    let second = asking_of y request frames y.status k.0 in
+    asking request first.0 second.0 first.1 second.1 (sym first.2 ∙ second.2)
+stand_alike bits x y told told' o o' t (something (agreeing.faults {fault = fault})) h k =
+    let first = stopped_of fault x.status h in
+    let second = stopped_of fault y.status k in
+    stopped first.0 second.0 first.1 second.1 (first.2 ∙ sym second.2)
+stand_alike bits x y told told' o o' t (something (agreeing.completions {pieces = pieces} {others = others} p v)) h k =
+    let q : Pairwise (agreeing.AgreeingPieces bits) x.store.pieces others =
+    subst (λ ps. Pairwise (agreeing.AgreeingPieces bits) ps others) (sym h.1) p
+    in
+    complete _ _ h.0 k.0 v (subst (λ ps. Pairwise (agreeing.AgreeingPieces bits) x.store.pieces ps) (sym k.1) q)
+
+-- ---- steps that were done, of any setup and text
+
+pub record Did (setup : Setup) (text : Text) (told : Told) (steps : List Step) (refusal : Refusal)
+    (replies : List Reply) (new : State) : Type 0 where
+  pub allowed : AllAllowed setup refusal text told steps
+  pub replies_are : replies ≡ answers setup refusal text told steps
+  pub stands : StandsAt (after_steps setup refusal text told steps) new
+      (outcome_of setup refusal text (after_steps setup refusal text told steps))
+
+-- and then this one isn't allowed
+record DidTo (index : ℕ) (setup : Setup) (text : Text) (told : Told) (steps : List Step) (refusal : Refusal)
+    (replies : List Reply) (new : State) : Type 0 where
+  did : Did setup text told (take index steps) refusal replies new
+  step : Step
+  is_next : slice_get steps index ≡ Some step
+  misplaced : Allows (after_steps setup refusal text told (take index steps))
+      (outcome_of setup refusal text (after_steps setup refusal text told (take index steps))) step → ⊥
+
+pub did : (x : State) (steps : List Step) (replies : List Reply) (new : State) (w : Walks x steps replies new)
+    → Did x.setup x.text (told_at x) steps w.refusal replies new
+did x steps replies new w =
+    record {
+      allowed = w.tells.allowed;
+      replies_are = w.tells.replies_are;
+      stands = subst (λ (t : Told). StandsAt t new (outcome_of x.setup w.refusal x.text t)) (sym w.tells.told_is) w.stands;
+    }
+
+did_to : (index : ℕ) (x : State) (steps : List Step) (replies : List Reply) (new : State) (w : WalksTo index x steps replies new)
+    → DidTo index x.setup x.text (told_at x) steps w.walks.refusal replies new
+did_to index x steps replies new w =
+    record {
+      did = did x (take index steps) replies new w.walks;
+      step = w.step;
+      is_next = w.is_next;
+      misplaced =
+          subst (λ (t : Told). Allows t (outcome_of x.setup w.walks.refusal x.text t) w.step → ⊥)
+          (sym w.walks.tells.told_is) w.misplaced;
+    }
+
+-- no more steps than these meet no more refusals
+front_is_clear : (n m : ℕ) (setup : Setup) (text : Text) (told : Told) (steps : List Step) (refusal : Refusal)
+    (replies : List Reply) (new : State) → n ≤ m
+    → Did setup text told (take m steps) refusal replies new → NoneIsFull replies
+    → NoneIsFull (answers setup refusal text told (take n steps))
+front_is_clear n m setup text told steps refusal replies new h d k =
+    let s = shorter n m steps h in
+    none_full_front (answers setup refusal text told (take n steps)) _
+    (subst NoneIsFull (d.replies_are ∙ (ap (λ (l : List Step). answers setup refusal text told l) s.1 ∙ answers_front
+    setup refusal text told (take n steps) s.0)) k)
+
+front_of : (n m : ℕ) (setup : Setup) (text : Text) (told : Told) (steps : List Step) (refusal : Refusal)
+    (replies : List Reply) (new : State) → n ≤ m
+    → Did setup text told (take m steps) refusal replies new → IsFront (answers setup refusal text told (take n steps)) replies
+front_of n m setup text told steps refusal replies new h d =
+    let s = shorter n m steps h in (
+      answers setup refusal text (after_steps setup refusal text told (take n steps)) s.0,
+      sym (d.replies_are ∙ (ap (λ (l : List Step). answers setup refusal text told l) s.1 ∙ answers_front setup
+          refusal text told (take n steps) s.0)),
+    )
+
+same_setup : (a b : Setup) → a.encoding ≡ b.encoding → a.offset_bits ≡ b.offset_bits → b ≡ record a { limits = b.limits }
+same_setup a b e o =
+    ap (λ c. record b { encoding = c }) (sym e) ∙ ap (λ (n : ℕ). record a { offset_bits = n; limits = b.limits }) (sym o)
+
+never_picked : (limits : Limits) (refusal : Refusal) → MayPick limits refusal → (HasFreeList limits → ⊥) → refusal ≡ Never
+never_picked limits Never h k = refl
+never_picked limits (After inputs pushes) h k = absurd (k h)
+
+both_some : {A : Type 0} (R : A → A → Type 0) (o o' : Option A) (x : A) → Both R o o' → o ≡ Some x
+    → (y : A) × (o' ≡ Some y) × R x y
+both_some R o o' x nothing e = absurd (cc)
+both_some R o o' x (something {x = a} {y = b} r) e = let same : a ≡ x = cc in (b, refl, subst (λ c. R c b) same r)
+
+both_some_back : {A : Type 0} (R : A → A → Type 0) (o o' : Option A) (y : A) → Both R o o' → o' ≡ Some y
+    → (x : A) × (o ≡ Some x) × R x y
+both_some_back R o o' y nothing e = absurd (cc)
+both_some_back R o o' y (something {x = a} {y = b} r) e = let same : b ≡ y = cc in (a, refl, subst (λ c. R a c) same r)
+
+-- one number below, equal to or above another
+data Order (i j : ℕ) : Type 0 where
+  below : i < j → Order i j
+  same : i ≡ j → Order i j
+  above : j < i → Order i j
+
+order_more : (i j : ℕ) → Order i j → Order (suc i) (suc j)
+order_more i j (below h) = below (omega arith)
+order_more i j (same e) = same (ap suc e)
+order_more i j (above h) = above (omega arith)
+
+order : (i j : ℕ) → Order i j
+order zero zero = same refl
+order zero (suc j) = below (omega arith)
+order (suc i) zero = above (omega arith)
+order (suc i) (suc j) = order_more i j (order i j)
+
+-- ---- two evaluations
+
+module _ (x y : State) (steps others : List Step) (h : MayReplay x y steps others) where
+  abbrev other_setup : Setup
+  other_setup = record x.setup { limits = y.setup.limits }
+
+  abbrev w : ℕ
+  w = address_bits x.setup
+
+  carry : (P : Setup → Text → Type 0) → P y.setup y.text → P other_setup x.text
+  carry P p =
+      subst (λ (s : Setup). P s x.text) (same_setup x.setup y.setup h.twins.encoding h.twins.offset_bits)
+      (subst (λ (t : Text). P y.setup t) (sym h.twins.text) p)
+
+  told_alike : AgreeingTold w (told_at x) (told_at y)
+  told_alike =
+      record {
+        settings = record {
+          initial_value = nothing;
+          object_address = h.twins.object_address;
+          maximum =
+              h.twins.maximum;
+        };
+        first = nothing;
+        inputs = none;
+      }
+
+  abbrev First : ℕ → Refusal → List Reply → State → Type 0
+  First n refusal replies new = Did x.setup x.text (told_at x) (take n steps) refusal replies new
+
+  abbrev Second : ℕ → Refusal → List Reply → State → Type 0
+  Second n refusal replies new = Did other_setup x.text (told_at y) (take n others) refusal replies new
+
+  second : (n : ℕ) (replies : List Reply) (new : State) (k : Walks y (take n others) replies new) → Second n k.refusal replies new
+  second n replies new k =
+      carry (λ s t. Did s t (told_at y) (take n others) k.refusal replies new) (did y (take n others) replies new k)
+
+  second_to : (n : ℕ) (replies : List Reply) (new : State) (k : WalksTo n y others replies new)
+      → DidTo n other_setup x.text (told_at y) others k.walks.refusal replies new
+  second_to n replies new k =
+      carry (λ s t. DidTo n s t (told_at y) others k.walks.refusal replies new) (did_to n y others replies new k)
+
+  -- the same limits and refusals, or no push that was refused
+  abbrev Terms : Refusal → Refusal → List Reply → List Reply → Type 0
+  Terms r r' replies given = ((x.setup.limits ≡ y.setup.limits) × (r ≡ r')) ⊎ (NoneIsFull replies × NoneIsFull given)
+
+  terms : (r r' : Refusal) (replies given : List Reply) → MayPick x.setup.limits r → MayPick y.setup.limits r'
+      → AreComparable x y replies given → Terms r r' replies given
+  terms r r' replies given m m' (inl e) =
+      inl (
+        e.0,
+        never_picked x.setup.limits r m e.1 ∙ sym
+            (never_picked y.setup.limits r' m' (λ (free : HasFreeList y.setup.limits). e.1 (subst HasFreeList (sym e.0) free))),
+      )
+  terms r r' replies given m m' (inr e) = inr e
+
+  -- no more steps than each side did
+  alike : (n a b : ℕ) (r r' : Refusal) (replies given : List Reply) (new new' : State) → n ≤ a → n ≤ b
+      → First a r replies new → Second b r' given new' → Terms r r' replies given
+      → AreAlike x.setup other_setup r r' x.text (told_at x) (told_at y) (take n steps) (take n others)
+  alike n a b r r' replies given new new' la lb d d' (inl e) =
+      two_runs x.setup y.setup.limits r r' x.text (told_at x) (told_at y) (take n steps) (take n others) h.width
+      told_alike (take_both n h.agreeing) (inl e)
+  alike n a b r r' replies given new new' la lb d d' (inr e) =
+      two_runs x.setup y.setup.limits r r' x.text (told_at x) (told_at y) (take n steps) (take n others) h.width
+      told_alike (take_both n h.agreeing)
+      (inr (
+        front_is_clear n a x.setup x.text (told_at x) steps r replies new la d e.0,
+        front_is_clear n b other_setup
+            x.text (told_at y) others r' given new' lb d' e.1,
+      ))
+
+  -- as many steps on both sides
+  pub equal : (n : ℕ) (r r' : Refusal) (replies given : List Reply) (new new' : State) → First n r replies new
+      → Second n r' given new' → Terms r r' replies given
+      → (replies ≡ given) × StandAlike w new new'
+  equal n r r' replies given new new' d d' t =
+      let a = alike n n n r r' replies given new new' (omega arith) (omega arith) d d' t in (
+        d.replies_are ∙ (a.replies ∙ sym d'.replies_are),
+        stand_alike w new new' _ _ _ _ a.stand.agreeing
+            a.stand.outcomes d.stands d'.stands,
+      )
+
+  -- a step that is misplaced on the first side isn't done on the second
+  not_first : (i m : ℕ) (r r' : Refusal) (replies given : List Reply) (new new' : State) → i < m
+      → DidTo i x.setup x.text (told_at x) steps r replies new → Second m r' given new'
+      → Terms r r' replies given → ⊥
+  not_first i m r r' replies given new new' l d d' t =
+      let a = alike i i m r r' replies given new new' (omega arith) (omega arith) d.did d' t in
+      let s = both_some (AgreeingSteps w) _ _ d.step (get_both (AgreeingSteps w) i h.agreeing) d.is_next in
+      let rest = next_item i m others s.0 s.1 l in
+      d.misplaced
+      ((a.stand.next d.step s.0 s.2).1
+      (allowed_next other_setup r' x.text (told_at y) (take i others) rest.0 s.0
+      (subst (λ (k : List Step). AllAllowed other_setup r' x.text (told_at y) k) rest.1 d'.allowed)))
+
+  not_second : (i m : ℕ) (r r' : Refusal) (replies given : List Reply) (new new' : State) → i < m
+      → First m r replies new → DidTo i other_setup x.text (told_at y) others r' given new'
+      → Terms r r' replies given → ⊥
+  not_second i m r r' replies given new new' l d d' t =
+      let a = alike i m i r r' replies given new new' (omega arith) (omega arith) d d'.did t in
+      let s = both_some_back (AgreeingSteps w) _ _ d'.step (get_both (AgreeingSteps w) i h.agreeing) d'.is_next in
+      let rest = next_item i m steps s.0 s.1 l in
+      d'.misplaced
+      ((a.stand.next s.0 d'.step s.2).0
+      (allowed_next x.setup r x.text (told_at x) (take i steps) rest.0 s.0
+      (subst (λ (k : List Step). AllAllowed x.setup r x.text (told_at x) k) rest.1 d.allowed)))
+
+  -- the second side did no more steps: its answers are the first ones of the other's
+  front : (n m : ℕ) (r r' : Refusal) (replies given : List Reply) (new new' : State) → n ≤ m → First m r replies new
+      → Second n r' given new' → Terms r r' replies given
+      → IsFront given replies
+  front n m r r' replies given new new' l d d' t =
+      let a = alike n m n r r' replies given new new' l (omega arith) d d' t in
+      subst (λ (k : List Reply). IsFront k replies) (a.replies ∙ sym d'.replies_are)
+      (front_of n m x.setup x.text (told_at x) steps r replies new l d)
+
+  -- all steps
+  all_first : (replies : List Reply) (new : State) (k : Walks x steps replies new) → First (length steps) k.refusal replies new
+  all_first replies new k =
+      subst (λ (l : List Step). Did x.setup x.text (told_at x) l k.refusal replies new)
+      (sym (take_all (length steps) steps (omega arith))) (did x steps replies new k)
+
+  all_others : others ≡ take (length steps) others
+  all_others = sym (ap (λ (n : ℕ). take n others) (same_length h.agreeing) ∙ take_all (length others) others (omega arith))
+
+  all_second : (replies : List Reply) (new : State) (k : Walks y others replies new) → Second (length steps) k.refusal replies new
+  all_second replies new k =
+      subst (λ (l : List Step). Did other_setup x.text (told_at y) l k.refusal replies new) all_others
+      (carry (λ s t. Did s t (told_at y) others k.refusal replies new) (did y others replies new k))
+
+  pub done_done : (new other : State) (replies given : List Reply) → Walks x steps replies new
+      → Walks y others given other → AreComparable x y replies given
+      → (replies ≡ given) × StandAlike w new other
+  done_done new other replies given k l c =
+      equal (length steps) k.refusal l.refusal replies given new other (all_first replies new k) (all_second given other l)
+      (terms k.refusal l.refusal replies given k.may l.may c)
+
+  pub to_to : (index second_index : ℕ) (new other : State) (replies given : List Reply)
+      → WalksTo index x steps replies new → WalksTo second_index y others given other
+      → AreComparable x y replies given → (index ≡ second_index) × (replies ≡ given) × StandAlike w new other
+  to_to i j new other replies given k l c = by_order (order i j)
+    where
+      t : Terms k.walks.refusal l.walks.refusal replies given
+      t = terms k.walks.refusal l.walks.refusal replies given k.walks.may l.walks.may c
+
+      by_order : Order i j → (i ≡ j) × (replies ≡ given) × StandAlike w new other
+      by_order (below lt) =
+          absurd (not_first i j k.walks.refusal l.walks.refusal replies given new other lt
+          (did_to i x steps replies new k) (second_to j given other l).did t)
+      by_order (same e) =
+          let both =
+          equal i k.walks.refusal l.walks.refusal replies given new other (did_to i x steps replies new k).did
+          (subst (λ (n : ℕ). Second n l.walks.refusal given other) (sym e) (second_to j given other l).did) t
+          in
+          (e, both.0, both.1)
+      by_order (above gt) =
+          absurd (not_second j i k.walks.refusal l.walks.refusal replies given new other gt
+          (did_to i x steps replies new k).did (second_to j given other l) t)
+
+  pub to_done : (index : ℕ) (new other : State) (replies given : List Reply) → AreComparable x y replies given
+      → WalksTo index x steps replies new → Walks y others given other → ⊥
+  to_done i new other replies given c k l =
+      not_first i (length steps) k.walks.refusal l.refusal replies given new other
+      (slice_get_within steps i k.step k.is_next) (did_to i x steps replies new k) (all_second given other l)
+      (terms k.walks.refusal l.refusal replies given k.walks.may l.may c)
+
+  pub done_to : (index : ℕ) (new other : State) (replies given : List Reply) → AreComparable x y replies given
+      → Walks x steps replies new → WalksTo index y others given other → ⊥
+  done_to i new other replies given c k l =
+      not_second i (length steps) k.refusal l.walks.refusal replies given new other
+      (subst (λ (n : ℕ). i < n) (sym (same_length h.agreeing)) (slice_get_within others i l.step l.is_next))
+      (all_first replies new k) (second_to i given other l)
+      (terms k.refusal l.walks.refusal replies given k.may l.walks.may c)
+
+  module _ (n : ℕ) (told : Reply) (free : Option ℕ) (other : State) (given : List Reply)
+      (l : WalksOver n told free y others given other) where
+    over : Second (suc n) l.walks.refusal (given ++ told ∷ []) other
+    over = second (suc n) (given ++ told ∷ []) other l.walks
+
+    pub done_over : (new : State) (replies : List Reply) → Walks x steps replies new
+        → AreComparable x y replies (given ++ told ∷ []) → IsFront (given ++ told ∷ []) replies
+    done_over new replies k c =
+        let inside : n < length steps = subst (λ (m : ℕ). n < m) (sym (same_length h.agreeing))
+        (slice_get_within others n l.inside.0 l.inside.1) in
+        front (suc n) (length steps) k.refusal l.walks.refusal replies (given ++ told ∷ []) new other (omega arith)
+        (all_first replies new k) over
+        (terms k.refusal l.walks.refusal replies (given ++ told ∷ []) k.may l.walks.may c)
+
+    pub to_over : (index : ℕ) (new : State) (replies : List Reply) → WalksTo index x steps replies new
+        → AreComparable x y replies (given ++ told ∷ [])
+        → (n < index) × IsFront (given ++ told ∷ []) replies
+    to_over i new replies k c = by_order (order n i)
+      where
+        t : Terms k.walks.refusal l.walks.refusal replies (given ++ told ∷ [])
+        t = terms k.walks.refusal l.walks.refusal replies (given ++ told ∷ []) k.walks.may l.walks.may c
+
+        late : i ≤ n → ⊥
+        late le =
+            not_first i (suc n) k.walks.refusal l.walks.refusal replies (given ++ told ∷ []) new other (omega arith)
+            (did_to i x steps replies new k) over t
+
+        by_order : Order n i → (n < i) × IsFront (given ++ told ∷ []) replies
+        by_order (below lt) = (
+          lt,
+          front (suc n) i k.walks.refusal l.walks.refusal replies (given ++ told ∷ []) new other (omega arith)
+              (did_to i x steps replies new k).did over t,
+        )
+        by_order (same e) = absurd (late (omega arith))
+        by_order (above gt) = absurd (late (omega arith))
+
+    pub over_over : (index : ℕ) (answer : Reply) (limit : Option ℕ) (new : State) (replies : List Reply)
+        → WalksOver index answer limit x steps replies new → n ≤ index
+        → AreComparable x y (replies ++ answer ∷ []) (given ++ told ∷ []) → IsFront (given ++ told ∷ []) (replies ++ answer ∷ [])
+    over_over i answer limit new replies k le c =
+        front (suc n) (suc i) k.walks.refusal l.walks.refusal (replies ++ answer ∷ []) (given ++ told ∷ []) new other
+        (omega arith)
+        (did x (take (suc i) steps) (replies ++ answer ∷ []) new k.walks) over
+        (terms k.walks.refusal l.walks.refusal (replies ++ answer ∷ []) (given ++ told ∷ []) k.walks.may l.walks.may c)
+
+-- ---- the laws
+
+pub both_done : BothDone
+both_done x y new other steps others replies given h = done_done x y steps others h new other replies given
+
+pub both_misplaced : BothMisplaced
+both_misplaced index second x y new other steps others replies given h =
+    to_to x y steps others h index second new other replies given
+
+pub none_misplaced_alone : NoneMisplacedAlone
+none_misplaced_alone index x y new other steps others replies given h c =
+    (to_done x y steps others h index new other replies given c, done_to x y steps others h index new other replies given c)
+
+pub no_room_there : NoRoomThere
+no_room_there index second answer told limit free x y new other steps others replies given h l = (
+  done_over x y steps others h second told free other given l new replies,
+  to_over x y steps others h second told free other given l index new replies,
+  over_over x y steps others h second told free other given l index answer limit new replies,
+)
+
+-- ---- the premises, of fresh evaluations
+
+pub may_replay : (text : Text) (steps others : List Step) → Pairwise (AgreeingSteps 32) steps others
+    → MayReplay (fresh_at text) (fresh_at text) steps others
+may_replay text steps others h =
+    record {
+      width = record { some_bit = omega arith; within_64 = omega arith };
+      twins = record { text = refl; encoding = refl; offset_bits = refl; object_address = nothing; maximum = refl };
+      agreeing = h;
+    }

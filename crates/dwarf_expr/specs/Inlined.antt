@@ -1,0 +1,71 @@
+-- Two evaluations, of a text with a call and of the text with the called bytes in its place (DWARF 5, section 2.5.1.5).
+use Rattle.std.specs.Prelude.{◌≡◌, ◌≢◌, List, [], ◌∷◌, ◌++◌, Option, Some}
+use Rattle.dwarf_base.specs.declared.errors.Error.{Error}
+use Rattle.dwarf_value.specs.declared.types.Value.{Value}
+use Rattle.dwarf_meaning.specs.Operations.{DieReference}
+use Rattle.dwarf_meaning.specs.Requests.{Request, Waiting, Answer, LocationAnswer, Input}
+use Rattle.dwarf_meaning.specs.Meaning.{First}
+use Rattle.dwarf_meaning.specs.Rest.{State, Waits, Complete, Stopped}
+use Rattle.dwarf_meaning.specs.Steps.{Step, InitialValue, ObjectAddress, MaxIterations, Evaluate, Resume, Told, begun, Reply}
+use Rattle.dwarf_laws.specs.TwoRuns.{NoneIsFull}
+use Rattle.dwarf_laws.specs.Inlining.{CallSite, outer, called, inlined, in_force, HasNoLimits, StandsIn, IsInlinable, LeadsToCall}
+use Rattle.dwarf_replay.specs.Replays.{told_at, Walks}
+
+-- an answer, with these settings
+abbrev pub input_by : First → Answer → Input
+input_by settings answer =
+    record { object_address = settings.object_address; maximum = settings.maximum; answer = answer }
+
+-- what a step tells, where every answer is awaited
+abbrev pub tell : Told → Step → Told
+tell told (InitialValue number) = record told { settings = record told.settings { initial_value = Some number } }
+tell told (ObjectAddress address) = record told { settings = record told.settings { object_address = Some address } }
+tell told (MaxIterations maximum) = record told { settings = record told.settings { maximum = maximum } }
+tell told Evaluate = record told { first = Some (begun told.settings told.first) }
+tell told (Resume answer) =
+    record told {
+      inputs = told.inputs ++ input_by told.settings answer ∷ [];
+    }
+
+-- what steps tell
+abbrev pub tells : Told → List Step → Told
+tells told [] = told
+tells told (step ∷ steps) = tells (tell told step) steps
+
+-- Two evaluations without limits, of the outer text and of the inlined one, with the same settings. The steps in
+-- `start` lead the first one to the call, and no setting was changed since its last answer, or since it was started.
+pub record MayInline (x y : State) (site : CallSite) (offset : DieReference) (start : List Step) : Type 0 where
+  pub no_limits : HasNoLimits x.setup
+  pub setups : x.setup ≡ y.setup
+  pub outer_text : x.text ≡ outer site
+  pub inlined_text : y.text ≡ inlined site
+  pub object_address : x.store.object_address ≡ y.store.object_address
+  pub maximum : x.store.maximum ≡ y.store.maximum
+  pub stands : StandsIn x.setup site offset
+  pub inlinable : IsInlinable x.setup site
+  pub first : First
+  pub is_started : (tells (told_at x) start).first ≡ Some first
+  pub requests : List Request
+  pub leads : LeadsToCall x.setup site offset first (tells (told_at x) start).inputs requests
+  pub object_in_force : (tells (told_at x) start).settings.object_address
+      ≡ (in_force first (tells (told_at x) start).inputs).object_address
+  pub maximum_in_force : (tells (told_at x) start).settings.maximum ≡ (in_force first (tells (told_at x) start).inputs).maximum
+
+-- both wait in the same request, or are complete with the same pieces and value
+pub data EndAlike (x y : State) : Type 0 where
+  asking : (request : Request) (waiting another : Waiting) → x.status ≡ Waits request waiting
+      → y.status ≡ Waits request another → EndAlike x y
+  complete : (value : Option Value) → x.status ≡ Complete value → y.status ≡ Complete value
+      → x.store.pieces ≡ y.store.pieces → EndAlike x y
+
+-- The outer text is replayed by all steps, without a fault, and the inlined one by those without the call's answer. No
+-- push was refused.
+abbrev pub InlinedReplay : Type 0
+InlinedReplay =
+    (x y new other : State) (site : CallSite) (offset : DieReference) (start behind : List Step)
+    (replies given : List Reply)
+    → MayInline x y site offset start
+    → Walks x (start ++ (Resume (LocationAnswer (called site)) ∷ behind)) replies new
+    → NoneIsFull replies → ((error : Error) → new.status ≢ Stopped error)
+    → Walks y (start ++ behind) given other → NoneIsFull given
+    → EndAlike new other

@@ -1,3 +1,0 @@
-pub mod Operators
-pub mod Stepping
-pub mod Steps

@@ -1,0 +1,247 @@
+-- Calls that answer, one more step each.
+use Rattle.std.proofs.Common.{ℕ, suc, ◌≡◌, ◌⊎◌, inl, inr, List, [], ◌∷◌, ◌++◌, length, Result, Option, Some, None, arith, ap, ◌∙◌, sym, refl, subst, append_assoc}
+use Rattle.std.proofs.lemmas.List.{append-nil, length-append}
+use Rattle.dwarf_base.specs.declared.errors.Error.{Error}
+use Rattle.dwarf_base.specs.Faults.{Fault, fault_of}
+use Rattle.dwarf_value.specs.declared.types.Value.{Value}
+use Rattle.dwarf_meaning.specs.Operations.{Text}
+use Rattle.dwarf_meaning.specs.Requests.{Request, Waiting, Answer, Input}
+use Rattle.dwarf_meaning.specs.Kinds.{kind_of_request, kind_of_answer}
+use Rattle.dwarf_meaning.specs.Stores.{Setup, Refusal}
+use Rattle.dwarf_meaning.specs.Run.{Frame}
+use Rattle.dwarf_meaning.specs.Meaning.{Outcome, Requests, Faults, Completes, First, meaning}
+use Rattle.dwarf_meaning.specs.Rest.{State, Status, Start, Running, Waits, Complete, Stopped, with_refusal, rest_by, rest}
+use Rattle.dwarf_meaning.specs.Steps.{Step, InitialValue, ObjectAddress, MaxIterations, Evaluate, Resume, Told, Reply, Completed, Faulted, reply, replies, IsEvaluable, Awaits, Allows, begun, after, outcome_of, outcome_from, step_replies}
+use Rattle.dwarf_eval.specs.Calls.{IsTold, IsLater, Follows, first_of, means, IsClosed, Evaluates, Resumes, reply_of, MayPick, before_input, IsOpen, after_input, input_of}
+use Rattle.dwarf_replay.specs.Stepping.{IsAskingFor, IsCalled}
+use Rattle.dwarf_replay.specs.Replays.{Tells, before_inputs}
+use Rattle.dwarf_eval.specs.declared.op.results.EvaluationResult.{EvaluationResult}
+use Rattle.dwarf_eval.specs.Bounds.{SpendsInAll, initial_items}
+use Rattle.dwarf_replay.proofs.Rests.{told_rest}
+use Rattle.dwarf_replay.proofs.Spending.{spent_more}
+use Rattle.dwarf_replay.proofs.Rests.{unwound_open}
+use Rattle.dwarf_replay.proofs.Telling.{walked_more}
+use Rattle.dwarf_replay.proofs.Standings.{Holds, Unstarted, Going, Over, WentBy, Went, later_before, may_inputs}
+
+-- ---- calls that answer
+
+pub some_not_none : (settings : First) → Some settings ≡ None → ⊥
+some_not_none settings e = cc
+
+reply_fault : (o : Outcome) (fault : Fault) → reply o ≡ Faulted fault → o ≡ Faults fault
+reply_fault (Requests request frames) fault e = cc
+reply_fault (Completes pieces value) fault e = cc
+reply_fault (Faults other) fault e = cc
+
+module _ (first : State) where
+  -- what the steps come to, in a state that goes on
+  pub going_outcome : (steps : List Step) (given : List Reply) (x : State) (w : Going first steps given x) (r : Refusal) → IsLater r → outcome_of first.setup (before_inputs w.taken r) first.text w.told ≡ Some (rest r x [])
+  going_outcome steps given x w r l =
+      ap (outcome_from first.setup (before_inputs w.taken r) first.text w.told.inputs) w.started
+      ∙ ap Some
+      (ap (meaning first.setup (before_inputs w.taken r) first.text w.settings) (sym (append-nil w.told.inputs))
+      ∙ w.rest_is r [] l)
+
+  -- a call that answered what `outcomes` gives leads on
+  module _ (steps : List Step) (given : List Reply) (step : Step) (x new : State) (told : Reply) (outcomes : Refusal → List Input → Outcome) (h : Follows x outcomes told new) (now : Told) (n : ℕ) (settings : First) (started : now.first ≡ Some settings) (counted : length now.inputs ≡ n) (means_is : (r : Refusal) (inputs : List Input) → outcomes r inputs ≡ meaning first.setup (before_inputs n r) first.text settings (now.inputs ++ inputs)) (answers_one : (o : Outcome) → step_replies step (Some o) ≡ reply o ∷ []) where
+    called_outcome : (r : Refusal) → outcome_of first.setup (before_inputs n r) first.text now ≡ Some (outcomes r [])
+    called_outcome r =
+        ap (outcome_from first.setup (before_inputs n r) first.text now.inputs) started
+        ∙ ap Some
+        (ap (meaning first.setup (before_inputs n r) first.text settings) (sym (append-nil now.inputs))
+        ∙ sym (means_is r []))
+
+    called_replies : (r : Refusal) → told ≡ reply (outcomes r []) → given ++ told ∷ [] ≡ given ++ step_replies step (outcome_of first.setup (before_inputs n r) first.text now)
+    called_replies r e =
+        ap (λ (t : Reply). given ++ t ∷ []) e
+        ∙ ap (λ (l : List Reply). given ++ l) (sym (answers_one (outcomes r [])) ∙ ap (step_replies step) (sym (called_outcome r)))
+
+    called_going : IsOpen new.status → Holds first now new → SpendsInAll (initial_items now.settings.initial_value) first new → ((r : Refusal) → IsLater r → told ≡ reply (outcomes r []) → Tells first (steps ++ step ∷ []) (given ++ told ∷ []) now (before_inputs n r)) → Going first (steps ++ step ∷ []) (given ++ told ∷ []) new
+    called_going o holds spent walked = record {
+      told = now;
+      taken = n;
+      counted = counted;
+      walked = λ r l. walked r l (told_rest r new told h.status ∙ ap reply (sym (h.more o r [] l)));
+      settings = settings;
+      started = started;
+      rest_is = λ r inputs l. sym (means_is r inputs) ∙ h.more o r inputs l;
+      holds = holds;
+      spent = spent;
+    }
+
+    called_over : (error : Error) → new.status ≡ Stopped error → MayPick first.setup.limits (before_inputs n h.refusal) → SpendsInAll (initial_items now.settings.initial_value) first new → Tells first (steps ++ step ∷ []) (given ++ told ∷ []) now (before_inputs n h.refusal) → Over first (steps ++ step ∷ []) (given ++ told ∷ []) new error
+    called_over error e may spent walked = record {
+      told = now;
+      refusal = before_inputs n h.refusal;
+      may = may;
+      walked = walked;
+      settings = settings;
+      started = started;
+      fails =
+          ap (meaning first.setup (before_inputs n h.refusal) first.text settings) (sym (append-nil now.inputs))
+          ∙ (sym (means_is h.refusal [])
+          ∙ reply_fault (outcomes h.refusal []) (fault_of error) (sym h.answer ∙ subst (IsTold told) e h.status));
+      spent = spent;
+    }
+
+    called_by : (status : Status) → new.status ≡ status → MayPick first.setup.limits (before_inputs n h.refusal) → (IsOpen new.status → Holds first now new) → SpendsInAll (initial_items now.settings.initial_value) first new → ((r : Refusal) → (IsLater r ⊎ (r ≡ h.refusal)) → told ≡ reply (outcomes r []) → Tells first (steps ++ step ∷ []) (given ++ told ∷ []) now (before_inputs n r)) → WentBy first (steps ++ step ∷ []) (given ++ told ∷ []) new status
+    called_by (Waits request waiting) e may holds spent walked =
+        let o : IsOpen new.status = subst IsOpen (sym e) tt in
+        called_going o (holds o) spent (λ r l. walked r (inl l))
+    called_by (Complete value) e may holds spent walked =
+        let o : IsOpen new.status = subst IsOpen (sym e) tt in
+        called_going o (holds o) spent (λ r l. walked r (inl l))
+    called_by (Stopped error) e may holds spent walked = called_over error e may spent (walked h.refusal (inr refl) h.answer)
+    called_by (Start initial_value) e may holds spent walked = absurd (subst (IsTold told) e h.status)
+    called_by Running e may holds spent walked = absurd (subst (IsTold told) e h.status)
+
+-- ---- each call
+
+pub rest_by_status : (r : Refusal) (x : State) (inputs : List Input) (status : Status) → x.status ≡ status → rest r x inputs ≡ rest_by x (with_refusal r x.store) inputs status
+unfolding rest
+rest_by_status r x inputs status e = ap (rest_by x (with_refusal r x.store) inputs) e
+
+module _ (first : State) (steps : List Step) (given : List Reply) (x new : State) where
+  -- `evaluate` at the start
+  starts : (told : Reply) (initial_value : Option ℕ) → Unstarted first steps given x initial_value → Follows x (means x initial_value) told new → Went first (steps ++ Evaluate ∷ []) (given ++ told ∷ []) new
+  starts told initial_value w h =
+      let settings = w.told.settings in
+      let now : Told = record { settings = settings; first = Some settings; inputs = w.told.inputs } in
+      let settings_are : first_of x initial_value ≡ settings =
+      ap (λ (v : Option ℕ). record { initial_value = v; object_address = x.store.object_address; maximum = x.store.maximum }) (sym w.initial)
+      ∙ (ap (λ (a : Option ℕ). record { initial_value = settings.initial_value; object_address = a; maximum = x.store.maximum }) w.holds.object_address
+      ∙ ap (λ (m : ℕ). record { initial_value = settings.initial_value; object_address = settings.object_address; maximum = m }) w.holds.maximum) in
+      let means_is : (r : Refusal) (inputs : List Input) → means x initial_value r inputs ≡ meaning first.setup (before_inputs 0 r) first.text settings (now.inputs ++ inputs) = λ r inputs.
+      ap (λ (s : Setup). meaning s r x.text (first_of x initial_value) inputs) w.holds.setup
+      ∙ (ap (λ (t : Text). meaning first.setup r t (first_of x initial_value) inputs) w.text
+      ∙ (ap (λ (f : First). meaning first.setup r first.text f inputs) settings_are
+      ∙ ap (λ (is : List Input). meaning first.setup r first.text settings (is ++ inputs)) (sym w.inputs))) in
+      let unstarted : (r : Refusal) → outcome_of first.setup r first.text w.told ≡ None = λ r. ap (outcome_from first.setup r first.text w.told.inputs) w.started in
+      called_by first steps given Evaluate x new told (means x initial_value) h now 0 settings refl (ap length w.inputs) means_is (λ o. refl) new.status refl
+      (subst (λ (s : Setup). MayPick s.limits h.refusal) w.holds.setup h.may)
+      (λ o. record {
+        setup = (h.kept o).setup ∙ w.holds.setup;
+        object_address = (h.kept o).object_address ∙ w.holds.object_address;
+        maximum = (h.kept o).maximum ∙ w.holds.maximum;
+      })
+      (spent_more (initial_items settings.initial_value) first x new w.spent h.spends)
+      (λ r l e. walked_more first steps given (given ++ told ∷ []) Evaluate r w.told now (w.walked r)
+      (subst IsEvaluable (sym (unstarted r)) tt)
+      (ap (λ (f : Option First). record { settings = settings; first = Some (begun settings f); inputs = w.told.inputs }) w.started)
+      (called_replies first steps given Evaluate x new told (means x initial_value) h now 0 settings refl (ap length w.inputs) means_is (λ o. refl) r e))
+
+  begun_already : (told : Told) (settings : First) (o : Option Outcome) → told.first ≡ Some settings → after told o Evaluate ≡ told
+  begun_already told settings o e =
+      ap (λ (f : Option First). record { settings = told.settings; first = Some (begun told.settings f); inputs = told.inputs }) e
+      ∙ ap (λ (f : Option First). record { settings = told.settings; first = f; inputs = told.inputs }) (sym e)
+
+  -- `evaluate` once it is complete
+  completes_again : (value : Option Value) → x.status ≡ Complete value → Going first steps given x → Going first (steps ++ Evaluate ∷ []) (given ++ Completed ∷ []) x
+  completes_again value e w =
+      let is : (r : Refusal) → IsLater r → outcome_of first.setup (before_inputs w.taken r) first.text w.told ≡ Some (Completes x.store.pieces value) = λ r l.
+      going_outcome first steps given x w r l ∙ ap Some (rest_by_status r x [] (Complete value) e) in
+      record {
+        told = w.told;
+        taken = w.taken;
+        counted = w.counted;
+        walked = λ r l. walked_more first steps given (given ++ Completed ∷ []) Evaluate (before_inputs w.taken r) w.told w.told (w.walked r l)
+            (subst IsEvaluable (sym (is r l)) tt)
+            (begun_already w.told w.settings (outcome_of first.setup (before_inputs w.taken r) first.text w.told) w.started)
+            (ap (λ (o : Option Outcome). given ++ replies o) (sym (is r l)));
+        settings = w.settings;
+        started = w.started;
+        rest_is = w.rest_is;
+        holds = w.holds;
+        spent = w.spent;
+      }
+
+  -- a call after a fault
+  fails_again : (error : Error) (step : Step) (w : Over first steps given x error) → Allows w.told (Some (Faults (fault_of error))) step → after w.told (Some (Faults (fault_of error))) step ≡ w.told → step_replies step (Some (Faults (fault_of error))) ≡ Faulted (fault_of error) ∷ [] → Over first (steps ++ step ∷ []) (given ++ Faulted (fault_of error) ∷ []) x error
+  fails_again error step w allowed after_is replies_are =
+      let is : outcome_of first.setup w.refusal first.text w.told ≡ Some (Faults (fault_of error)) =
+      ap (outcome_from first.setup w.refusal first.text w.told.inputs) w.started ∙ ap Some w.fails in
+      record {
+        told = w.told;
+        refusal = w.refusal;
+        may = w.may;
+        walked = walked_more first steps given (given ++ Faulted (fault_of error) ∷ []) step w.refusal w.told w.told w.walked
+            (subst (λ (o : Option Outcome). Allows w.told o step) (sym is) allowed)
+            (ap (λ (o : Option Outcome). after w.told o step) is ∙ after_is)
+            (ap (λ (l : List Reply). given ++ l) (sym replies_are ∙ ap (step_replies step) (sym is)));
+        settings = w.settings;
+        started = w.started;
+        fails = w.fails;
+        spent = w.spent;
+      }
+
+  -- an answer to an open request
+  goes_on : (told : Reply) (answer : Answer) (request : Request) (waiting : Waiting) → x.status ≡ Waits request waiting → kind_of_request request ≡ kind_of_answer answer → Going first steps given x → Follows x (after_input x (input_of x answer)) told new → Went first (steps ++ Resume answer ∷ []) (given ++ told ∷ []) new
+  goes_on told answer request waiting e kind w h =
+      let input = input_of x answer in
+      let settings = w.told.settings in
+      let now : Told = record { settings = settings; first = w.told.first; inputs = w.told.inputs ++ input ∷ [] } in
+      let frame : Frame = record { text = x.text; place = x.place } in
+      let is : (r : Refusal) → outcome_of first.setup (before_inputs w.taken (before_input r)) first.text w.told ≡ Some (Requests request (frame ∷ x.callers)) = λ r.
+      going_outcome first steps given x w (before_input r) (later_before r)
+      ∙ ap Some (rest_by_status (before_input r) x [] (Waits request waiting) e ∙ unwound_open x.setup x.callers request (frame ∷ []) []) in
+      let input_is : record { object_address = settings.object_address; maximum = settings.maximum; answer = answer } ≡ input =
+      ap (λ (a : Option ℕ). record { object_address = a; maximum = settings.maximum; answer = answer }) (sym w.holds.object_address)
+      ∙ ap (λ (m : ℕ). record { object_address = x.store.object_address; maximum = m; answer = answer }) (sym w.holds.maximum) in
+      let means_is : (r : Refusal) (inputs : List Input) → after_input x input r inputs ≡ meaning first.setup (before_inputs (suc w.taken) r) first.text w.settings (now.inputs ++ inputs) = λ r inputs.
+      sym (w.rest_is (before_input r) (input ∷ inputs) (later_before r))
+      ∙ ap (meaning first.setup (before_inputs (suc w.taken) r) first.text w.settings) (sym (append_assoc w.told.inputs (input ∷ []) inputs)) in
+      let lengths = length-append w.told.inputs (input ∷ []) in
+      let was = w.counted in
+      let counted : length now.inputs ≡ suc w.taken = omega (arith, lengths, was) in
+      called_by first steps given (Resume answer) x new told (after_input x input) h now (suc w.taken) w.settings w.started counted means_is (λ o. refl) new.status refl
+      (may_inputs first.setup.limits (suc w.taken) h.refusal (subst (λ (s : Setup). MayPick s.limits h.refusal) w.holds.setup h.may))
+      (λ o. record {
+        setup = (h.kept o).setup ∙ w.holds.setup;
+        object_address = (h.kept o).object_address ∙ w.holds.object_address;
+        maximum = (h.kept o).maximum ∙ w.holds.maximum;
+      })
+      (spent_more (initial_items settings.initial_value) first x new w.spent h.spends)
+      (λ r l s. walked_more first steps given (given ++ told ∷ []) (Resume answer) (before_inputs (suc w.taken) r) w.told now (w.walked (before_input r) (later_before r))
+      (subst (Awaits answer) (sym (is r)) kind)
+      (ap (λ (o : Option Outcome). after w.told o (Resume answer)) (is r)
+      ∙ ap (λ (i : Input). record { settings = settings; first = w.told.first; inputs = w.told.inputs ++ i ∷ [] }) input_is)
+      (called_replies first steps given (Resume answer) x new told (after_input x input) h now (suc w.taken) w.settings w.started counted means_is (λ o. refl) r s))
+
+module _ {R O P : Type 0} (text : R → Text) (number : O → ℕ) (first : State) (steps : List Step) (given : List Reply) (x new : State) where
+  evaluates : (status : Status) → x.status ≡ status → (told : Result (EvaluationResult R O P) Error) → WentBy first steps given x status → Evaluates text number x new told status → IsClosed status → Went first (steps ++ Evaluate ∷ []) (given ++ reply_of text number told ∷ []) new
+  evaluates (Start initial_value) e told w h c = starts first steps given x new (reply_of text number told) initial_value w h
+  evaluates (Complete value) e told w h c =
+      let again : Went first (steps ++ Evaluate ∷ []) (given ++ Completed ∷ []) x =
+      subst (WentBy first (steps ++ Evaluate ∷ []) (given ++ Completed ∷ []) x) (sym e) (completes_again first steps given x new value e w) in
+      let replied : Went first (steps ++ Evaluate ∷ []) (given ++ reply_of text number told ∷ []) x =
+      subst (λ (t : Result (EvaluationResult R O P) Error). Went first (steps ++ Evaluate ∷ []) (given ++ reply_of text number t ∷ []) x) (sym h.0) again in
+      subst (Went first (steps ++ Evaluate ∷ []) (given ++ reply_of text number told ∷ [])) (sym h.1) replied
+  evaluates (Stopped error) e told w h c =
+      let again : Went first (steps ++ Evaluate ∷ []) (given ++ Faulted (fault_of error) ∷ []) x =
+      subst (WentBy first (steps ++ Evaluate ∷ []) (given ++ Faulted (fault_of error) ∷ []) x) (sym e)
+      (fails_again first steps given x new error Evaluate w tt (begun_already first steps given x new w.told w.settings (Some (Faults (fault_of error))) w.started) refl) in
+      let replied : Went first (steps ++ Evaluate ∷ []) (given ++ reply_of text number told ∷ []) x =
+      subst (λ (t : Result (EvaluationResult R O P) Error). Went first (steps ++ Evaluate ∷ []) (given ++ reply_of text number t ∷ []) x) (sym h.0) again in
+      subst (Went first (steps ++ Evaluate ∷ []) (given ++ reply_of text number told ∷ [])) (sym h.1) replied
+  evaluates (Waits request waiting) e told w h c = absurd c
+  evaluates Running e told w h c = absurd w
+
+  resumes : (status : Status) → x.status ≡ status → (answer : Answer) (told : Result (EvaluationResult R O P) Error) → WentBy first steps given x status → Resumes text number (input_of x answer) x new told status → IsAskingFor (kind_of_answer answer) status → Went first (steps ++ Resume answer ∷ []) (given ++ reply_of text number told ∷ []) new
+  resumes (Waits request waiting) e answer told w h k = goes_on first steps given x new (reply_of text number told) answer request waiting e k w h
+  resumes (Stopped error) e answer told w h k =
+      let again : Went first (steps ++ Resume answer ∷ []) (given ++ Faulted (fault_of error) ∷ []) x =
+      subst (WentBy first (steps ++ Resume answer ∷ []) (given ++ Faulted (fault_of error) ∷ []) x) (sym e)
+      (fails_again first steps given x new error (Resume answer) w tt refl refl) in
+      let replied : Went first (steps ++ Resume answer ∷ []) (given ++ reply_of text number told ∷ []) x =
+      subst (λ (t : Result (EvaluationResult R O P) Error). Went first (steps ++ Resume answer ∷ []) (given ++ reply_of text number t ∷ []) x) (sym h.0) again in
+      subst (Went first (steps ++ Resume answer ∷ []) (given ++ reply_of text number told ∷ [])) (sym h.1) replied
+  resumes (Start initial_value) e answer told w h k = absurd k
+  resumes (Complete value) e answer told w h k = absurd k
+  resumes Running e answer told w h k = absurd k
+
+  pub called_went_on : (step : Step) (told : Result (EvaluationResult R O P) Error) → IsCalled text number step x new told → Went first steps given x → Went first (steps ++ step ∷ []) (given ++ reply_of text number told ∷ []) new
+  called_went_on Evaluate told h w = evaluates x.status refl told w h.1 h.0
+  called_went_on (Resume answer) told h w = resumes x.status refl answer told w h.1 h.0
+  called_went_on (InitialValue value) told h w = absurd h
+  called_went_on (ObjectAddress address) told h w = absurd h
+  called_went_on (MaxIterations maximum) told h w = absurd h

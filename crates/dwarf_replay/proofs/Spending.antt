@@ -1,0 +1,48 @@
+-- What is spent by calls in a row.
+use Rattle.std.proofs.Common.{ℕ, ◌≡◌, ◌+◌, length, Some, None, arith, ap, ◌∙◌}
+use Rattle.dwarf_meaning.specs.Stores.{Last}
+use Rattle.dwarf_meaning.specs.Rest.{State, Start}
+use Rattle.dwarf_eval.specs.Bounds.{piece_due, initial_due, answer_due, Spends, SpendsInAll}
+
+pub spent_here : (x : State) → SpendsInAll 0 x x
+spent_here x = record { items = omega arith; callers = omega arith; decodings = omega arith }
+
+-- one call more
+pub spent_more : (more : ℕ) (a b c : State) → SpendsInAll more a b → Spends b c → SpendsInAll more a c
+spent_more more a b c h i =
+    let items = h.items in
+    let items_then = i.items in
+    let callers = h.callers in
+    let callers_then = i.callers in
+    let decodings = h.decodings in
+    let decodings_then = i.decodings in
+    record { items = omega (arith, items, items_then); callers = omega (arith, callers, callers_then); decodings = omega (arith, decodings, decodings_then) }
+
+-- an initial value
+pub spent_initial : (number : ℕ) (a b c : State) → b.status ≡ Start None → c ≡ record b { status = Start (Some number) } → SpendsInAll 0 a b → SpendsInAll 1 a c
+spent_initial number a b c was is h =
+    let items = h.items in
+    let callers = h.callers in
+    let decodings = h.decodings in
+    let p = ap (piece_due b.store.last) was in
+    let i = ap initial_due was in
+    let d = ap answer_due was in
+    let frames = ap (λ (z : State). length z.callers) is in
+    let count = ap (λ (z : State). z.store.count) is in
+    let q = ap (λ (z : State). piece_due z.store.last z.status) is in
+    let j = ap (λ (z : State). initial_due z.status) is in
+    let e = ap (λ (z : State). answer_due z.status) is in
+    let read = ap (λ (z : State). z.decodings) is in
+    let lists = ap (λ (z : State). length z.store.values + length z.callers + length z.store.pieces) is in
+    record { items = omega (arith, items, p, i, d, lists, count, q, j, e); callers = omega (arith, callers, d, e, frames, count); decodings = omega (arith, decodings, p, q, read, count) }
+
+-- a state with the same lists, status and counts
+pub alike_spends : (old new : State) → new.status ≡ old.status → new.callers ≡ old.callers → new.store.values ≡ old.store.values → new.store.pieces ≡ old.store.pieces → new.store.last ≡ old.store.last → new.store.count ≡ old.store.count → new.decodings ≡ old.decodings → Spends old new
+alike_spends old new status callers values pieces last count decodings =
+    let p = ap (piece_due new.store.last) status ∙ ap (λ (l : Last). piece_due l old.status) last in
+    let i = ap initial_due status in
+    let a = ap answer_due status in
+    let c = ap length callers in
+    let v = ap length values in
+    let s = ap length pieces in
+    record { items = omega (arith, p, i, a, c, v, s, count); callers = omega (arith, a, c, count); decodings = omega (arith, p, count, decodings) }

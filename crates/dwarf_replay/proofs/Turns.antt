@@ -1,0 +1,129 @@
+-- One turn of a replay.
+use Rattle.std.proofs.Common.{ℕ, suc, ◌≡◌, ◌⊎◌, inl, inr, List, [], ◌∷◌, ◌++◌, length, Result, Option, Some, None, take, slice_get, arith, ◌≤◌, ap, ◌∙◌, sym, refl, subst}
+use Rattle.std.proofs.lemmas.List.{length-append, length-map, map-append, take_all}
+use Rattle.std.proofs.lemmas.Option.{slice_get-map, slice_get_within, get_or_from_slice_get}
+use Rattle.std.proofs.Math.Seq.{take-suc, take-append_seam}
+use Rattle.std.specs.Option.{option_map}
+use Rattle.dwarf_base.specs.declared.errors.Error.{Error}
+use Rattle.dwarf_meaning.specs.Operations.{Text}
+use Rattle.dwarf_meaning.specs.Requests.{Answer}
+use Rattle.dwarf_meaning.specs.Stores.{Setup, Refusal}
+use Rattle.dwarf_meaning.specs.Meaning.{First, meaning}
+use Rattle.dwarf_meaning.specs.Rest.{State}
+use Rattle.dwarf_meaning.specs.Steps.{Step, InitialValue, ObjectAddress, MaxIterations, Evaluate, Resume, Told, Reply, reply, replies, Awaits, Allows, AllAllowed, begun, after_step, after_steps, answers, outcome_of, outcome_from, step_replies}
+use Rattle.dwarf_store.specs.Lists.{MayRefuse}
+use Rattle.dwarf_replay.specs.Stepping.{step_of, MayTake, IsSet, IsCalled}
+use Rattle.dwarf_replay.specs.inner.Keeping.{IsKept}
+use Rattle.dwarf_replay.specs.Replays.{told_at, steps_of, reply_in, replies_in, Walks, WalksTo, WalksOver}
+use Rattle.dwarf_replay.specs.declared.steps.Step as code
+use Rattle.dwarf_replay.specs.declared.steps.Answer as kept_answer
+use Rattle.dwarf_eval.specs.declared.op.results.EvaluationResult.{EvaluationResult}
+use Rattle.dwarf_replay.proofs.Telling.{answers_more}
+use Rattle.dwarf_replay.proofs.Standings.{Went}
+use Rattle.dwarf_replay.proofs.Settings.{set_went_on}
+use Rattle.dwarf_replay.proofs.Calling.{called_went_on}
+use Rattle.dwarf_replay.proofs.Leading.{walks_all, walks_to}
+
+-- ---- one turn of a replay
+
+-- two lists that are the same with one more item each
+same_front : {A : Type 0} (xs ys : List A) (a b : A) → xs ++ a ∷ [] ≡ ys ++ b ∷ [] → xs ≡ ys
+same_front xs ys a b e =
+    let left = length-append xs (a ∷ []) in
+    let right = length-append ys (b ∷ []) in
+    let both = ap length e in
+    let same : length xs ≡ length ys = omega (arith, left, right, both) in
+    sym (take-append_seam xs (a ∷ []))
+    ∙ (ap (take (length xs)) e
+    ∙ (ap (λ (n : ℕ). take n (ys ++ b ∷ [])) same
+    ∙ take-append_seam ys (b ∷ [])))
+
+module _ (setup : Setup) (refusal : Refusal) (text : Text) where
+  last_allowed : (told : Told) (steps : List Step) (step : Step) → AllAllowed setup refusal text told (steps ++ step ∷ []) → Allows (after_steps setup refusal text told steps) (outcome_of setup refusal text (after_steps setup refusal text told steps)) step
+  last_allowed told [] step h = h.0
+  last_allowed told (s ∷ steps) step h = last_allowed (after_step setup refusal text told s) steps step h.1
+
+  -- a call that is allowed answers once
+  record Replies (step : Step) (told : Told) : Type 0 where
+    reply_is : Reply
+    one : step_replies step (outcome_of setup refusal text (after_step setup refusal text told step)) ≡ reply_is ∷ []
+
+  started_replies : (answer : Answer) (told : Told) (f : Option First) → told.first ≡ f → Awaits answer (outcome_from setup refusal text told.inputs f) → Replies (Resume answer) told
+  started_replies answer told None e h = absurd h
+  started_replies answer told (Some first) e h =
+      let now = after_step setup refusal text told (Resume answer) in
+      record {
+        reply_is = reply (meaning setup refusal text first now.inputs);
+        one = ap (λ (f : Option First). replies (outcome_from setup refusal text now.inputs f)) e;
+      }
+
+  call_replies : {R O P : Type 0} (view : R → Text) (number : O → ℕ) (step : Step) (told : Told) (x new : State) (given : Result (EvaluationResult R O P) Error) → IsCalled view number step x new given → Allows told (outcome_of setup refusal text told) step → Replies step told
+  call_replies view number Evaluate told x new given c h = record { reply_is = reply (meaning setup refusal text (begun told.settings told.first) told.inputs); one = refl }
+  call_replies view number (Resume answer) told x new given c h = started_replies answer told told.first refl h
+  call_replies view number (InitialValue value) told x new given c h = absurd c
+  call_replies view number (ObjectAddress address) told x new given c h = absurd c
+  call_replies view number (MaxIterations maximum) told x new given c h = absurd c
+
+-- the steps up to one whose answer found no room, in either writing
+walks_over : (first : State) (all : List Step) (index : ℕ) (one : Reply) (limit : Option ℕ) (before : List Reply) (new : State) (done : List Step) → take (suc index) all ≡ done → (whole : Walks first done (before ++ one ∷ []) new) → before ≡ answers first.setup whole.refusal first.text (told_at first) (take index all) → (step : Step) × (slice_get all index ≡ Some step) → MayRefuse limit (length before) → WalksOver index one limit first all before new
+walks_over first all index one limit before new done e whole fits inside full =
+    let Over : List Step → Type 0 = λ l. (w : Walks first l (before ++ one ∷ []) new) → before ≡ answers first.setup w.refusal first.text (told_at first) (take index all) → WalksOver index one limit first all before new in
+    subst Over e (λ w f. record { walks = w; before = f; inside = inside; full = full }) whole fits
+
+module _ {R : Type 0} (view : R → Text) (all : List (code.Step R)) (index : ℕ) (step : code.Step R) (is_next : slice_get all index ≡ Some step) where
+  next_is : slice_get (steps_of view all) index ≡ Some (step_of view step)
+  next_is = slice_get-map (step_of view) all index ∙ ap (option_map (step_of view)) is_next
+
+  take_next : take (suc index) (steps_of view all) ≡ take index (steps_of view all) ++ step_of view step ∷ []
+  take_next =
+      take-suc (steps_of view all) index (step_of view step) (slice_get_within (steps_of view all) index (step_of view step) next_is)
+      ∙ ap (λ (s : Step). take index (steps_of view all) ++ s ∷ []) (get_or_from_slice_get (steps_of view all) index (step_of view step) (step_of view step) next_is)
+
+module _ {R O P : Type 0} (view : R → Text) (number : O → ℕ) (first : State) (all : List (code.Step R)) (index : ℕ) (step : code.Step R) (is_next : slice_get all index ≡ Some step) where
+  module _ (given answers_now : List (kept_answer.Answer R O P)) (x new : State) (w : Went first (take index (steps_of view all)) (replies_in view number given) x) where
+    -- the step was done, and its answer kept
+    pub kept_on : (IsSet (step_of view step) x new × (answers_now ≡ given)) ⊎ IsKept view number (step_of view step) x given new answers_now → Went first (take (suc index) (steps_of view all)) (replies_in view number answers_now) new
+    kept_on (inl h) =
+        subst (λ (steps : List Step). Went first steps (replies_in view number answers_now) new) (sym (take_next view all index step is_next))
+        (subst (λ (l : List (kept_answer.Answer R O P)). Went first (take index (steps_of view all) ++ step_of view step ∷ []) (replies_in view number l) new) (sym h.1)
+        (set_went_on first (take index (steps_of view all)) (replies_in view number given) (step_of view step) x new h.0 w))
+    kept_on (inr h) =
+        subst (λ (steps : List Step). Went first steps (replies_in view number answers_now) new) (sym (take_next view all index step is_next))
+        (subst (λ (l : List Reply). Went first (take index (steps_of view all) ++ step_of view step ∷ []) l new)
+        (sym (ap (replies_in view number) h.kept ∙ map-append (reply_in view number) given (h.answer ∷ [])))
+        (called_went_on view number first (take index (steps_of view all)) (replies_in view number given) x new (step_of view step) h.answer.0 h.called w))
+
+    -- the step isn't allowed
+    pub stopped : (new ≡ x) × (MayTake (step_of view step) x.status → ⊥) × (answers_now ≡ given) → WalksTo index first (steps_of view all) (replies_in view number answers_now) new
+    stopped h =
+        subst (λ (z : State). WalksTo index first (steps_of view all) (replies_in view number answers_now) z) (sym h.0)
+        (subst (λ (l : List (kept_answer.Answer R O P)). WalksTo index first (steps_of view all) (replies_in view number l) x) (sym h.2)
+        (walks_to first (steps_of view all) index (replies_in view number given) x (step_of view step) (next_is view all index step is_next) w h.1))
+
+    -- the step's answer found no room
+    pub overflowed : (limit : Option ℕ) (answer : kept_answer.Answer R O P) → IsCalled view number (step_of view step) x new answer.0 × (answers_now ≡ given) × MayRefuse limit (length given) → WalksOver index (reply_in view number answer) limit first (steps_of view all) (replies_in view number answers_now) new
+    overflowed limit answer h =
+        let done = take index (steps_of view all) in
+        let one = reply_in view number answer in
+        let before = replies_in view number given in
+        let went = called_went_on view number first done before x new (step_of view step) answer.0 h.0 w in
+        let whole = walks_all first (done ++ step_of view step ∷ []) (before ++ one ∷ []) new went in
+        let r = whole.refusal in
+        let told = after_steps first.setup r first.text (told_at first) done in
+        let calls = call_replies first.setup r first.text view number (step_of view step) told x new answer.0 h.0 (last_allowed first.setup r first.text (told_at first) done (step_of view step) whole.tells.allowed) in
+        let fits : before ≡ answers first.setup r first.text (told_at first) done =
+        same_front before (answers first.setup r first.text (told_at first) done) one calls.reply_is
+        (whole.tells.replies_are ∙ (answers_more first.setup r first.text (told_at first) done (step_of view step)
+        ∙ ap (λ (l : List Reply). answers first.setup r first.text (told_at first) done ++ l) calls.one)) in
+        let full = subst (MayRefuse limit) (sym (length-map given (reply_in view number))) h.2 in
+        subst (λ (l : List (kept_answer.Answer R O P)). WalksOver index one limit first (steps_of view all) (replies_in view number l) new) (sym h.1)
+        (walks_over first (steps_of view all) index one limit before new (done ++ step_of view step ∷ []) (take_next view all index step is_next) whole fits
+        (step_of view step, next_is view all index step is_next) full)
+
+-- at the end all steps were taken
+pub taken_all : {R O P : Type 0} (view : R → Text) (number : O → ℕ) (first : State) (all : List (code.Step R)) (index : ℕ) (given : List (kept_answer.Answer R O P)) (x : State) → length all ≤ index → Went first (take index (steps_of view all)) (replies_in view number given) x → Walks first (steps_of view all) (replies_in view number given) x
+taken_all view number first all index given x h w =
+    let lengths = length-map all (step_of view) in
+    let past : length (steps_of view all) ≤ index = omega (arith, lengths, h) in
+    walks_all first (steps_of view all) (replies_in view number given) x
+    (subst (λ (steps : List Step). Went first steps (replies_in view number given) x) (take_all index (steps_of view all) past) w)

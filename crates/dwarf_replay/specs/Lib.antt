@@ -1,0 +1,3 @@
+pub mod Replays
+pub mod Stepping
+pub mod inner

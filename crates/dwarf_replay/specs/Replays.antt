@@ -1,0 +1,130 @@
+-- What a list of steps of an evaluation comes to, one step after another (DWARF 5, section 2.5).
+use Rattle.std.specs.Prelude.{ℕ, zero, suc, ◌≡◌, List, [], ◌∷◌, ◌++◌, Option, Some, None, map, take, length, slice_get}
+use Rattle.dwarf_base.specs.Faults.{Fault, fault_of}
+use Rattle.dwarf_meaning.specs.Operations.{Text}
+use Rattle.dwarf_meaning.specs.Requests.{Request, Input}
+use Rattle.dwarf_meaning.specs.Stores.{Refusal}
+use Rattle.dwarf_meaning.specs.Run.{Frame}
+use Rattle.dwarf_meaning.specs.Meaning.{Outcome, Requests, Faults, Completes}
+use Rattle.dwarf_meaning.specs.Rest.{State, Status, Start, Running, Waits, Complete, Stopped, rest}
+use Rattle.dwarf_meaning.specs.Steps as meaning
+use Rattle.dwarf_meaning.specs.Steps.{Told, Reply, Allows, AllAllowed, answers, after_steps, outcome_of, outcome_from}
+use Rattle.dwarf_eval.specs.Bounds.{initial_items, SpendsInAll}
+use Rattle.dwarf_eval.specs.Calls.{first_of, reply_of, before_input, IsLater, MayPick}
+use Rattle.dwarf_store.specs.Lists.{MayRefuse}
+use Rattle.dwarf_replay.specs.Stepping.{step_of}
+use Rattle.dwarf_replay.specs.declared.steps.Step.{Step}
+use Rattle.dwarf_replay.specs.declared.steps.Answer.{Answer}
+use Rattle.dwarf_replay.specs.declared.steps.Replayed.{Replayed}
+use Rattle.dwarf_replay.specs.declared.steps.Replayed.TheVariants as replayed
+
+abbrev pub steps_of : {R : Type 0} → (R → Text) → List (Step R) → List meaning.Step
+steps_of text steps = map (step_of text) steps
+
+-- what an answer in the list says
+abbrev pub reply_in : {R O P : Type 0} → (R → Text) → (O → ℕ) → Answer R O P → Reply
+reply_in text number answer = reply_of text number answer.0
+
+abbrev pub replies_in : {R O P : Type 0} → (R → Text) → (O → ℕ) → List (Answer R O P) → List Reply
+replies_in text number given = map (reply_in text number) given
+
+-- nothing was told but the settings
+abbrev pub told_at : State → Told
+told_at x = record { settings = first_of x None; first = None; inputs = [] }
+
+-- ---- where an evaluation stands
+
+-- it waits in this request, with these texts open
+abbrev pub IsAsking : Request → List Frame → State → Status → Type 0
+IsAsking request frames x (Waits open_request waiting) = (open_request ≡ request) × (frames ≡ record { text = x.text; place = x.place } ∷ x.callers)
+IsAsking request frames x (Start initial_value) = ⊥
+IsAsking request frames x (Complete value) = ⊥
+IsAsking request frames x (Stopped error) = ⊥
+IsAsking request frames x Running = ⊥
+
+-- it met this fault
+abbrev pub IsStopped : Fault → Status → Type 0
+IsStopped fault (Stopped error) = fault_of error ≡ fault
+IsStopped fault (Start initial_value) = ⊥
+IsStopped fault (Waits request waiting) = ⊥
+IsStopped fault (Complete value) = ⊥
+IsStopped fault Running = ⊥
+
+-- the settings that were told last hold
+pub record AreSet (told : Told) (x : State) : Type 0 where
+  pub object_address : x.store.object_address ≡ told.settings.object_address
+  pub maximum : x.store.maximum ≡ told.settings.maximum
+
+-- it is where the steps lead: not started yet, in a request, at a fault, or complete with pieces and a value
+abbrev pub StandsAt : Told → State → Option Outcome → Type 0
+StandsAt told x None = (x.status ≡ Start told.settings.initial_value) × AreSet told x
+StandsAt told x (Some (Requests request frames)) = IsAsking request frames x x.status × AreSet told x
+StandsAt told x (Some (Faults fault)) = IsStopped fault x.status
+StandsAt told x (Some (Completes pieces value)) = (x.status ≡ Complete value) × (x.store.pieces ≡ pieces)
+
+-- With this refusal each step is allowed when it comes, the replies are theirs, and this is what they told.
+pub record Tells (old : State) (steps : List meaning.Step) (replies : List Reply) (told : Told) (refusal : Refusal) : Type 0 where
+  pub allowed : AllAllowed old.setup refusal old.text (told_at old) steps
+  pub replies_are : replies ≡ answers old.setup refusal old.text (told_at old) steps
+  pub told_is : after_steps old.setup refusal old.text (told_at old) steps ≡ told
+
+-- ---- what is left, for a caller who goes on
+
+-- the refusal, so many inputs before
+abbrev pub before_inputs : ℕ → Refusal → Refusal
+before_inputs zero refusal = refusal
+before_inputs (suc n) refusal = before_inputs n (before_input refusal)
+
+-- It wasn't started: the setup and the text stay, and no refusal changed anything.
+pub record IsUnbegun (old : State) (steps : List meaning.Step) (replies : List Reply) (told : Told) (new : State) : Type 0 where
+  pub setup : new.setup ≡ old.setup
+  pub text : new.text ≡ old.text
+  pub alike : (r : Refusal) → Tells old steps replies told r
+
+-- It isn't over: the setup stays, no refusal behind the inputs so far changed anything, and what is left gives what the
+-- meaning gives for the inputs so far and all that are to come.
+pub record IsLeft (old : State) (steps : List meaning.Step) (replies : List Reply) (told : Told) (new : State) : Type 0 where
+  pub setup : new.setup ≡ old.setup
+  pub alike : (r : Refusal) → IsLater r → Tells old steps replies told (before_inputs (length told.inputs) r)
+  pub more : (r : Refusal) (inputs : List Input) → IsLater r →
+      outcome_from old.setup (before_inputs (length told.inputs) r) old.text (told.inputs ++ inputs) told.first ≡ Some (rest r new inputs)
+
+abbrev pub Leaves : State → List meaning.Step → List Reply → Told → State → Status → Type 0
+Leaves old steps replies told new (Start initial_value) = IsUnbegun old steps replies told new
+Leaves old steps replies told new (Waits request waiting) = IsLeft old steps replies told new
+Leaves old steps replies told new (Complete value) = IsLeft old steps replies told new
+Leaves old steps replies told new (Stopped error) = Unit {0}
+Leaves old steps replies told new Running = ⊥
+
+-- ---- replay
+
+-- Steps that are all allowed were done, for some refusal or for none: the replies are theirs, the evaluation stands
+-- where they lead, and what is left of it is said.
+pub record Walks (old : State) (steps : List meaning.Step) (replies : List Reply) (new : State) : Type 0 where
+  pub refusal : Refusal
+  pub may : MayPick old.setup.limits refusal
+  pub told : Told
+  pub tells : Tells old steps replies told refusal
+  pub stands : StandsAt told new (outcome_of old.setup refusal old.text told)
+  -- it kept and decoded no more than the operations that it counted allow, and an initial value
+  pub spent : SpendsInAll (initial_items told.settings.initial_value) old new
+  pub leaves : Leaves old steps replies told new new.status
+
+-- the steps before this one were done, and it isn't allowed
+pub record WalksTo (index : ℕ) (old : State) (steps : List meaning.Step) (replies : List Reply) (new : State) : Type 0 where
+  pub walks : Walks old (take index steps) replies new
+  pub step : meaning.Step
+  pub is_next : slice_get steps index ≡ Some step
+  pub misplaced : Allows walks.told (outcome_of old.setup walks.refusal old.text walks.told) step → ⊥
+
+-- the steps up to this one were done, and its answer found no room
+pub record WalksOver (index : ℕ) (answer : Reply) (limit : Option ℕ) (old : State) (steps : List meaning.Step) (replies : List Reply) (new : State) : Type 0 where
+  pub walks : Walks old (take (suc index) steps) (replies ++ answer ∷ []) new
+  pub before : replies ≡ answers old.setup walks.refusal old.text (told_at old) (take index steps)
+  pub inside : (step : meaning.Step) × (slice_get steps index ≡ Some step)
+  pub full : MayRefuse limit (length replies)
+
+abbrev pub Replays : {R O P : Type 0} → (R → Text) → (O → ℕ) → Option ℕ → State → List (Step R) → List (Answer R O P) → State → Replayed R O P → Type 0
+Replays text number limit old steps given new replayed.Done = Walks old (steps_of text steps) (replies_in text number given) new
+Replays text number limit old steps given new (replayed.Misplaced index) = WalksTo index old (steps_of text steps) (replies_in text number given) new
+Replays text number limit old steps given new (replayed.NoRoom index answer) = WalksOver index (reply_in text number answer) limit old (steps_of text steps) (replies_in text number given) new

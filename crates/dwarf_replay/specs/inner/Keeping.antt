@@ -1,0 +1,53 @@
+-- The parts of a step and of a replay.
+use Rattle.std.specs.Prelude.{ℕ, ◌≡◌, ◌⊎◌, List, [], ◌∷◌, ◌++◌, Option, Some, None, Result, Ok, Err, length}
+use Rattle.dwarf_base.specs.declared.errors.Error.{Error}
+use Rattle.dwarf_meaning.specs.Operations.{Text}
+use Rattle.dwarf_meaning.specs.Kinds.{kind_of_answer}
+use Rattle.dwarf_meaning.specs.Rest.{State, Status}
+use Rattle.dwarf_meaning.specs.Steps.{Step, InitialValue, ObjectAddress, MaxIterations, Evaluate, Resume}
+use Rattle.dwarf_eval.specs.Answers.{IsOpenFor, kind_of}
+use Rattle.dwarf_eval.specs.Calls.{Resumes, input_of}
+use Rattle.dwarf_eval.specs.declared.eval.states.WaitingKind.{WaitingKind}
+use Rattle.dwarf_eval.specs.declared.op.results.EvaluationResult.{EvaluationResult}
+use Rattle.dwarf_store.specs.Lists.{MayRefuse}
+use Rattle.dwarf_replay.specs.Stepping.{MayTake, IsSet, IsCalled}
+use Rattle.dwarf_replay.specs.declared.steps.Answer.{Answer}
+use Rattle.dwarf_replay.specs.declared.walk.Stop.{Stop}
+use Rattle.dwarf_replay.specs.declared.walk.Stop.TheVariants as stop
+
+-- a call's answer was kept
+pub record IsKept {R O P : Type 0} (text : R → Text) (number : O → ℕ) (step : Step) (old : State) (given : List (Answer R O P)) (new : State) (all : List (Answer R O P)) : Type 0 where
+  pub answer : Answer R O P
+  pub called : IsCalled text number step old new answer.0
+  pub kept : all ≡ given ++ answer ∷ []
+
+-- a setting was set, or a call's answer was kept; or the step isn't allowed, or its answer found no room
+abbrev pub Keeps : {R O P : Type 0} → (R → Text) → (O → ℕ) → Step → Option ℕ → State → List (Answer R O P) → State → List (Answer R O P) → Result (Unit {0}) (Stop R O P) → Type 0
+Keeps text number step limit old given new all (Ok u) = (IsSet step old new × (all ≡ given)) ⊎ IsKept text number step old given new all
+Keeps text number step limit old given new all (Err stop.Misplaced) = (new ≡ old) × (MayTake step old.status → ⊥) × (all ≡ given)
+Keeps text number step limit old given new all (Err (stop.NoRoom answer)) = IsCalled text number step old new answer.0 × (all ≡ given) × MayRefuse limit (length given)
+
+-- the kind of the step's answer, or none where it is a setting or the start
+abbrev pub IsKindOf : Step → Option WaitingKind → Type 0
+IsKindOf (Resume answer) (Some kind) = kind_of kind ≡ kind_of_answer answer
+IsKindOf (Resume answer) None = ⊥
+IsKindOf (InitialValue number) kind = kind ≡ None
+IsKindOf (ObjectAddress address) kind = kind ≡ None
+IsKindOf (MaxIterations maximum) kind = kind ≡ None
+IsKindOf Evaluate kind = kind ≡ None
+
+-- the step is an answer that may come now
+abbrev pub IsOpenAt : Step → Status → Type 0
+IsOpenAt (Resume answer) status = IsOpenFor (kind_of_answer answer) status
+IsOpenAt (InitialValue number) status = ⊥
+IsOpenAt (ObjectAddress address) status = ⊥
+IsOpenAt (MaxIterations maximum) status = ⊥
+IsOpenAt Evaluate status = ⊥
+
+-- the evaluation went on with the step's answer
+abbrev pub IsResumed : {R O P : Type 0} → (R → Text) → (O → ℕ) → Step → State → State → Result (EvaluationResult R O P) Error → Type 0
+IsResumed text number (Resume answer) old new told = Resumes text number (input_of old answer) old new told old.status
+IsResumed text number (InitialValue value) old new told = ⊥
+IsResumed text number (ObjectAddress address) old new told = ⊥
+IsResumed text number (MaxIterations maximum) old new told = ⊥
+IsResumed text number Evaluate old new told = ⊥

@@ -1,0 +1,68 @@
+ghost use Rattle.std.specs.Prelude.{◌≡◌, [], length, slice_get};
+ghost use Rattle.dwarf_meaning.specs.Rest.{Start};
+ghost use Rattle.dwarf_op.specs.Views.{text_of};
+ghost use Rattle.dwarf_replay.specs.Replays.{Replays};
+ghost use Rattle.dwarf_replay.specs.Stepping.{step_of};
+ghost use Rattle.dwarf_replay.specs.inner.Keeping.{Keeps};
+
+use crate::stepping::take_step;
+use crate::steps::{Answer, Replayed, Step, Stepped};
+use dwarf_base::Reader;
+use dwarf_eval::eval::Evaluation;
+use dwarf_store::{ArrayLike, EvaluationStorage};
+
+/// Why a replay ends before its last step.
+#[derive(Clone, Copy)]
+enum Stop<R: Reader, O = <R as Reader>::Offset> {
+    // The step isn't allowed.
+    Misplaced,
+    // The step's answer found no room.
+    NoRoom(Answer<R, O>),
+}
+
+/// Does a step, where it is allowed, and keeps its answer.
+fn keep_step<R: Reader + Copy, S: EvaluationStorage<R>, L: ArrayLike<Item = Answer<R>>>(
+    eval: &mut Evaluation<R, S>,
+    step: Step<R>,
+    answers: &mut L,
+) -> Result<(), Stop<R>>
+    ensures keeps { Keeps (text_of R.bytes R.is_big) R.Offset.number (step_of (text_of R.bytes R.is_big) step) (L.limit answers.old) eval.old (L.items answers.old) eval.new (L.items answers.new) result }
+    ensures limit { L.limit answers.new ≡ L.limit answers.old }
+{
+    match take_step(eval, step) {
+        Stepped::Misplaced => Err(Stop::Misplaced),
+        Stepped::Set => Ok(()),
+        Stepped::Answered(answer) => match answers.push(answer) {
+            Ok(()) => Ok(()),
+            Err(answer) => Err(Stop::NoRoom(answer)),
+        },
+    }
+}
+
+/// Does the steps in order, and keeps what each `Evaluate` and each answer gives (DWARF 5, section 2.5).
+///
+/// The evaluation is fresh, though an object address or a maximum may be set, and `answers` is empty. `Done`: all
+/// steps were done. `Misplaced`: the step at that index isn't allowed after those before it, which were done.
+/// `NoRoom`: the push of that step's answer was refused, and the answer is handed back. The caller may go on with the
+/// evaluation in all three.
+pub fn replay<R: Reader + Copy, S: EvaluationStorage<R>, L: ArrayLike<Item = Answer<R>>>(
+    eval: &mut Evaluation<R, S>,
+    steps: &[Step<R>],
+    answers: &mut L,
+) -> Replayed<R>
+    requires fresh { eval.old.status ≡ Start None }
+    requires empty { L.items answers.old ≡ [] }
+    ensures replays { Replays (text_of R.bytes R.is_big) R.Offset.number (L.limit answers.old) eval.old steps.now (L.items answers.new) eval.new result }
+    ensures limit { L.limit answers.new ≡ L.limit answers.old }
+{
+    let mut index = 0;
+    while index < steps.len() {
+        match keep_step(eval, steps[index], answers) {
+            Ok(()) => {}
+            Err(Stop::Misplaced) => return Replayed::Misplaced(index),
+            Err(Stop::NoRoom(answer)) => return Replayed::NoRoom { index, answer },
+        }
+        index += 1;
+    }
+    Replayed::Done
+}

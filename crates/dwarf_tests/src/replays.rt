@@ -21,6 +21,7 @@ use rows::{
 use std::alloc::{AllocError, Global};
 use std::process::Abort;
 
+mod refusals;
 mod rows;
 
 // An expression that calls another, and ends a piece with its location.

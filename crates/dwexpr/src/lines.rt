@@ -1,3 +1,6 @@
+ghost use Rattle.dwarf_base.specs.Faults.{fault_of};
+ghost use Rattle.dwexpr.specs.Lines.{Prints, fault_line, number_or_none, value_line, value_word};
+
 use dwarf_base::{Error, Reader, ReaderOffset};
 use dwarf_expr::op::{DieReference, EvaluationResult, Location, Piece};
 use dwarf_value::Value;
@@ -10,7 +13,7 @@ pub(crate) fn print_bytes<R: Reader + Copy, W: Write>(output: &mut W, bytes: R) 
         return write!(output, "-");
     }
     let mut left = bytes;
-    for _ in 0..u64::MAX {
+    while !left.is_empty() {
         let Ok(byte) = left.read_u8() else {
             return Ok(());
         };
@@ -20,7 +23,9 @@ pub(crate) fn print_bytes<R: Reader + Copy, W: Write>(output: &mut W, bytes: R) 
 }
 
 /// A fault: its name, and the number that it carries.
-pub(crate) fn print_fault<W: Write>(output: &mut W, error: Error) -> io::Result<()> {
+pub(crate) fn print_fault<W: Write>(output: &mut W, error: Error) -> io::Result<()>
+    ensures { Prints (W.contents output.old) (W.contents output.new) (fault_line (fault_of error)) result }
+{
     match error {
         Error::UnexpectedEof(_) => writeln!(output, "fault UnexpectedEof"),
         Error::BadUnsignedLeb128 => writeln!(output, "fault BadUnsignedLeb128"),
@@ -56,9 +61,11 @@ pub(crate) fn print_fault<W: Write>(output: &mut W, error: Error) -> io::Result<
 }
 
 /// A value: its type and its content.
-fn print_value<W: Write>(output: &mut W, value: Value) -> io::Result<()> {
+fn print_value<W: Write>(output: &mut W, value: Value) -> io::Result<()>
+    ensures { Prints (W.contents output.old) (W.contents output.new) (value_word value) result }
+{
     match value {
-        Value::Generic(content) => write!(output, "generic:{content:#x}"),
+        Value::Generic(content) => write!(output, "generic:0x{content:x}"),
         Value::I8(number) => write!(output, "i8:{number}"),
         Value::U8(number) => write!(output, "u8:{number}"),
         Value::I16(number) => write!(output, "i16:{number}"),
@@ -71,45 +78,52 @@ fn print_value<W: Write>(output: &mut W, value: Value) -> io::Result<()> {
 }
 
 /// The line of the value of a complete evaluation.
-pub(crate) fn print_value_line<W: Write>(output: &mut W, value: Option<Value>) -> io::Result<()> {
+pub(crate) fn print_value_line<W: Write>(output: &mut W, value: Option<Value>) -> io::Result<()>
+    ensures { Prints (W.contents output.old) (W.contents output.new) (value_line value) result }
+{
+    let Some(value) = value else {
+        return writeln!(output, "value none");
+    };
     write!(output, "value ")?;
-    match value {
-        Some(value) => print_value(output, value)?,
-        None => write!(output, "none")?,
-    }
+    print_value(output, value)?;
     writeln!(output)
 }
 
 /// A number, or `none`.
-fn print_number<W: Write>(output: &mut W, number: Option<u64>) -> io::Result<()> {
+fn print_number<W: Write>(output: &mut W, number: Option<u64>) -> io::Result<()>
+    ensures { Prints (W.contents output.old) (W.contents output.new) (number_or_none number) result }
+{
     match number {
         Some(number) => write!(output, "{number}"),
         None => write!(output, "none"),
     }
 }
 
+/// The end of the line of a piece: its location.
 fn print_location<R: Reader + Copy, W: Write>(
     output: &mut W,
     location: Location<R>,
 ) -> io::Result<()> {
     match location {
-        Location::Empty => write!(output, "empty"),
+        Location::Empty => writeln!(output, " empty"),
         Location::Register { register } => {
             let number = register.0;
-            write!(output, "register {number}")
+            writeln!(output, " register {number}")
         }
-        Location::Address { address } => write!(output, "address {address:#x}"),
+        Location::Address { address } => writeln!(output, " address 0x{address:x}"),
         Location::Value { value } => {
-            write!(output, "value ")?;
-            print_value(output, value)
+            write!(output, " value ")?;
+            print_value(output, value)?;
+            writeln!(output)
         }
         Location::Bytes { value } => {
-            write!(output, "bytes ")?;
-            print_bytes(output, value)
+            write!(output, " bytes ")?;
+            print_bytes(output, value)?;
+            writeln!(output)
         }
         Location::ImplicitPointer { value, byte_offset } => {
             let offset = value.0.into_u64();
-            write!(output, "pointer {offset} {byte_offset}")
+            writeln!(output, " pointer {offset} {byte_offset}")
         }
     }
 }
@@ -123,9 +137,7 @@ pub(crate) fn print_piece<R: Reader + Copy, W: Write>(
     print_number(output, piece.size_in_bits)?;
     write!(output, " ")?;
     print_number(output, piece.bit_offset)?;
-    write!(output, " ")?;
-    print_location(output, piece.location)?;
-    writeln!(output)
+    print_location(output, piece.location)
 }
 
 /// The line of what a call of the evaluation answered.
@@ -142,10 +154,9 @@ pub(crate) fn print_result<R: Reader + Copy, W: Write>(
             base_type,
         } => {
             let base = base_type.0.into_u64();
-            write!(output, "memory {address:#x} {size} ")?;
             match space {
-                Some(space) => writeln!(output, "{space:#x} {base}"),
-                None => writeln!(output, "none {base}"),
+                Some(space) => writeln!(output, "memory 0x{address:x} {size} 0x{space:x} {base}"),
+                None => writeln!(output, "memory 0x{address:x} {size} none {base}"),
             }
         }
         EvaluationResult::RequiresRegister {
@@ -160,7 +171,7 @@ pub(crate) fn print_result<R: Reader + Copy, W: Write>(
         EvaluationResult::RequiresWasmGlobal { index } => writeln!(output, "wasm-global {index}"),
         EvaluationResult::RequiresWasmStack { index } => writeln!(output, "wasm-stack {index}"),
         EvaluationResult::RequiresFrameBase => writeln!(output, "frame-base"),
-        EvaluationResult::RequiresTls(index) => writeln!(output, "tls {index:#x}"),
+        EvaluationResult::RequiresTls(index) => writeln!(output, "tls 0x{index:x}"),
         EvaluationResult::RequiresCallFrameCfa => writeln!(output, "cfa"),
         EvaluationResult::RequiresAtLocation(DieReference::UnitRef(offset)) => {
             let number = offset.0.into_u64();
@@ -180,7 +191,7 @@ pub(crate) fn print_result<R: Reader + Copy, W: Write>(
             writeln!(output, "parameter {number}")
         }
         EvaluationResult::RequiresRelocatedAddress(address) => {
-            writeln!(output, "relocated {address:#x}")
+            writeln!(output, "relocated 0x{address:x}")
         }
         EvaluationResult::RequiresIndexedAddress { index, relocate } => {
             let number = index.0.into_u64();

@@ -14,20 +14,22 @@ mod words;
 
 pub use hexadecimal::{HexFault, bytes_of};
 pub use program::run;
+use program::run_without_words;
+use std::alloc::AllocError;
 use std::process::ExitCode;
 use std::{env, io};
 
 fn main(rt: HostRuntime) -> ExitCode {
-    let Ok(mut arguments) = env::args(&rt) else {
-        let _ = println!(rt; "no memory");
-        return ExitCode::from(1);
+    let mut output = io::writer(&rt);
+    let mut arguments = match env::args(&rt) {
+        Ok(arguments) => arguments,
+        Err(error) => return ExitCode::from(run_without_words(error, &mut output)),
     };
     // The first one is the program's name.
     let _ = arguments.next();
-    let collected: Result<Vec<String>, _> = arguments.collect(rt.alloc());
-    let Ok(words) = collected else {
-        let _ = println!(rt; "no memory");
-        return ExitCode::from(1);
-    };
-    ExitCode::from(run(rt.alloc(), words.as_slice(), rt.reader(), io::writer(&rt)))
+    let collected: Result<Vec<String>, AllocError> = arguments.collect(rt.alloc());
+    ExitCode::from(match collected {
+        Ok(words) => run(rt.alloc(), words.as_slice(), rt.reader(), &mut output),
+        Err(refused) => run_without_words(io::Error::from(refused), &mut output),
+    })
 }

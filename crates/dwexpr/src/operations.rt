@@ -1,3 +1,7 @@
+ghost use Rattle.std.specs.Prelude.{◌≡◌};
+ghost use Rattle.dwarf_op.specs.Views.{operation_of, text_of};
+ghost use Rattle.dwexpr.specs.Lines.{operation_name};
+
 use crate::lines::{print_bytes, print_fault};
 use crate::words::Reading;
 use dwarf_base::{EndianSlice, Reader};
@@ -6,7 +10,9 @@ use std::io;
 use std::io::Write;
 
 /// The name of an operation's variant.
-fn name_of<R: Reader + Copy>(operation: Operation<R>) -> &'static str {
+fn name_of<R: Reader + Copy>(operation: Operation<R>) -> &'static str
+    ensures { result.now ≡ operation_name (operation_of (text_of R.bytes R.is_big) R.Offset.number operation) }
+{
     match operation {
         Operation::Deref {
             base_type: _,

@@ -4,7 +4,7 @@ use crate::hexadecimal::{HexFault, bytes_of};
 use crate::lines::{print_fault, print_piece, print_result, print_value_line};
 use crate::operations::print_operations;
 use crate::steps::{StepsFault, borrow_steps, steps_in};
-use crate::words::{Reading, reading_of};
+use crate::words::{Command, Reading, command_of, reading_of};
 use dwarf_base::{EndianSlice, Reader, RunTimeEndian};
 use dwarf_expr::eval::{Evaluation, Status};
 use dwarf_expr::replay::{Answer, Replayed, Step, replay};
@@ -144,24 +144,6 @@ fn run_eval<A: Allocator + Copy, I: Read + Drop, W: Write>(
     }
 }
 
-/// What is to be done with the bytes.
-#[derive(Clone, Copy)]
-enum Command {
-    /// List their operations.
-    Ops,
-    /// Evaluate them.
-    Eval,
-}
-
-/// What the first word says.
-fn command_of(word: &str) -> Option<Command> {
-    match word.as_bytes() {
-        b"ops" => Some(Command::Ops),
-        b"eval" => Some(Command::Eval),
-        _ => None,
-    }
-}
-
 /// Lists the operations of the bytes.
 fn run_ops<W: Write>(bytes: &[u8], reading: Reading, output: &mut W) -> io::Result<u8> {
     if print_operations(output, bytes, reading)? {
@@ -184,12 +166,12 @@ fn run_words<A: Allocator + Copy, I: Read + Drop, W: Write>(
     let Some(command) = command_of(command.as_str()) else {
         return bad_words(output);
     };
-    let Some(reading) = reading_of([
+    let Some(reading) = reading_of(
         size.as_str(),
         offsets.as_str(),
         version.as_str(),
         order.as_str(),
-    ]) else {
+    ) else {
         return bad_words(output);
     };
     match (command, bytes_of(alloc, hexadecimal.as_str())) {
@@ -198,6 +180,15 @@ fn run_words<A: Allocator + Copy, I: Read + Drop, W: Write>(
         (_, Err(HexFault::Bad)) => bad_words(output),
         (_, Err(HexFault::NoMemory)) => no_memory(output),
     }
+}
+
+/// Answers for words that could not be had: one isn't UTF-8, or there was no memory for them.
+pub(crate) fn run_without_words<W: Write>(error: io::Error, output: &mut W) -> u8 {
+    let refused = match error.kind() {
+        ErrorKind::InvalidData => bad_words(output),
+        _ => no_memory(output),
+    };
+    refused.unwrap_or(FAILED)
 }
 
 /// Runs the program on the words behind its name, and answers its exit status.
@@ -209,14 +200,11 @@ fn run_words<A: Allocator + Copy, I: Read + Drop, W: Write>(
 ///
 /// The status is 0; 1 where the evaluation or the decoding failed, a read or a write failed or there was no memory;
 /// and 2 where the words or a line are bad or a step isn't allowed where it stands.
-pub fn run<A: Allocator + Copy, I: Read + Drop, W: Write + Drop>(
+pub fn run<A: Allocator + Copy, I: Read + Drop, W: Write>(
     alloc: A,
     words: &[String<A>],
     input: I,
-    mut output: W,
+    output: &mut W,
 ) -> u8 {
-    match run_words(alloc, words, input, &mut output) {
-        Ok(status) => status,
-        Err(_) => FAILED,
-    }
+    run_words(alloc, words, input, output).unwrap_or(FAILED)
 }

@@ -1,8 +1,8 @@
 ghost use Rattle.std.specs.Prelude.{◌<◌, length};
 
 use crate::hexadecimal::{HexFault, bytes_of};
-use crate::numbers::unsigned_in;
-use crate::values::{type_in, value_in};
+use crate::numbers::number_of;
+use crate::values::{type_of, value_of};
 use dwarf_base::{EndianSlice, RunTimeEndian};
 use dwarf_expr::replay::Step;
 use std::alloc::{AllocError, Allocator};
@@ -81,20 +81,20 @@ impl From<HexFault> for LineFault {
 /// The step of this name, with the word that follows it, unless its text has to be kept.
 fn plain_step<R>(name: &str, word: &str) -> Option<Step<R>> {
     Some(match name.as_bytes() {
-        b"initial" => Step::InitialValue(unsigned_in(word)?),
-        b"object" => Step::ObjectAddress(unsigned_in(word)?),
-        b"max" => Step::MaxIterations(u32::try_from(unsigned_in(word)?).ok()?),
-        b"memory" => Step::Memory(value_in(word)?),
-        b"register" => Step::Register(value_in(word)?),
-        b"wasm" => Step::WasmValue(value_in(word)?),
-        b"entry" => Step::EntryValue(value_in(word)?),
-        b"frame" => Step::FrameBase(unsigned_in(word)?),
-        b"tls" => Step::Tls(unsigned_in(word)?),
-        b"cfa" => Step::CallFrameCfa(unsigned_in(word)?),
-        b"parameter" => Step::ParameterRef(unsigned_in(word)?),
-        b"relocated" => Step::RelocatedAddress(unsigned_in(word)?),
-        b"indexed" => Step::IndexedAddress(unsigned_in(word)?),
-        b"type" => Step::BaseType(type_in(word)?),
+        b"initial" => Step::InitialValue(number_of(word)?),
+        b"object" => Step::ObjectAddress(number_of(word)?),
+        b"max" => Step::MaxIterations(u32::try_from(number_of(word)?).ok()?),
+        b"memory" => Step::Memory(value_of(word)?),
+        b"register" => Step::Register(value_of(word)?),
+        b"wasm" => Step::WasmValue(value_of(word)?),
+        b"entry" => Step::EntryValue(value_of(word)?),
+        b"frame" => Step::FrameBase(number_of(word)?),
+        b"tls" => Step::Tls(number_of(word)?),
+        b"cfa" => Step::CallFrameCfa(number_of(word)?),
+        b"parameter" => Step::ParameterRef(number_of(word)?),
+        b"relocated" => Step::RelocatedAddress(number_of(word)?),
+        b"indexed" => Step::IndexedAddress(number_of(word)?),
+        b"type" => Step::BaseType(type_of(word)?),
         _ => return None,
     })
 }

@@ -1,0 +1,5 @@
+use Rattle.dwarf_eval.specs.Bounds.{calls_left}
+use Rattle.dwarf_example.proofs.zeros.count_requests.Given as goal
+
+abbrev pub decreases-requests : goal.decreases-requests
+decreases-requests g l = calls_left l.evaluation

@@ -1,0 +1,183 @@
+//! Expressions evaluated on the heap and on lists of fixed capacities, in three loops that a user may write.
+#![tactic(auto)]
+
+mod registers;
+mod requests;
+mod zeros;
+
+use crate::registers::complete_with_registers;
+use crate::requests::{Process, complete};
+use crate::zeros::count_requests;
+use arrayvec::ArrayVec;
+use dwarf_base::{
+    DebugAddrIndex, Encoding, EndianSlice, Error, Format, Reader, Register, Result, RunTimeEndian,
+    UnitOffset,
+};
+use dwarf_expr::eval::Evaluation;
+use dwarf_expr::op::{DieReference, Expression, Piece};
+use dwarf_expr::store::EvaluationStorage;
+use dwarf_expr::value::{Value, ValueType};
+use std::io;
+use std::process::ExitCode;
+
+type Bytes<'a> = EndianSlice<'a, RunTimeEndian>;
+
+const ENCODING: Encoding = Encoding {
+    address_size: 4,
+    format: Format::Dwarf32,
+    version: 4,
+};
+
+/// Lists of fixed capacities, which take no memory.
+struct Fixed;
+
+impl<R: Reader + Copy + Default> EvaluationStorage<R> for Fixed {
+    type Stack = ArrayVec<Value, 8>;
+
+    type ExpressionStack = ArrayVec<(R, R), 4>;
+
+    type Result = ArrayVec<Piece<R>, 4>;
+}
+
+/// A process that stands still, in one function.
+#[derive(Clone, Copy)]
+struct Stopped<'a> {
+    registers: [u64; 2],
+    frame_base: u64,
+    cfa: u64,
+    /// The location of every entry that is called.
+    called: Bytes<'a>,
+}
+
+impl<'a> Process<Bytes<'a>> for Stopped<'a> {
+    /// Each byte of memory is 7.
+    fn memory(&self, _address: u64, size: u8, _space: Option<u64>) -> Result<Value> {
+        match size {
+            1 => Ok(Value::U8(0x07)),
+            2 => Ok(Value::U16(0x0707)),
+            _ => Ok(Value::Generic(0x0707_0707)),
+        }
+    }
+
+    fn register(&self, register: Register, _base_type: UnitOffset<usize>) -> Result<Value> {
+        match self.registers.get(usize::from(register.0)) {
+            Some(value) => Ok(Value::Generic(*value)),
+            None => Err(Error::UnsupportedRegister(u64::from(register.0))),
+        }
+    }
+
+    fn wasm_value(&self, index: u32) -> Result<Value> {
+        Ok(Value::U32(index))
+    }
+
+    fn frame_base(&self) -> Result<u64> {
+        Ok(self.frame_base)
+    }
+
+    fn call_frame_cfa(&self) -> Result<u64> {
+        Ok(self.cfa)
+    }
+
+    fn thread_local(&self, offset: u64) -> Result<u64> {
+        Ok(offset)
+    }
+
+    fn expression_at(&self, _entry: DieReference<usize>) -> Result<Bytes<'a>> {
+        Ok(self.called)
+    }
+
+    fn entry_value(&self, _expression: Expression<Bytes<'a>>) -> Result<Value> {
+        Ok(Value::Generic(0))
+    }
+
+    fn parameter(&self, _entry: UnitOffset<usize>) -> Result<u64> {
+        Ok(0)
+    }
+
+    fn relocated(&self, address: u64) -> Result<u64> {
+        Ok(address)
+    }
+
+    fn indexed_address(&self, _index: DebugAddrIndex<usize>, _relocate: bool) -> Result<u64> {
+        Ok(0)
+    }
+
+    fn base_type(&self, _entry: UnitOffset<usize>) -> Result<ValueType> {
+        Ok(ValueType::Generic)
+    }
+}
+
+/// Prints what a debugger's loop makes of the bytes, on the heap and on fixed lists.
+fn show_complete<'a>(rt: &HostRuntime, bytes: Bytes<'a>, process: &Stopped<'a>) -> io::Result<()> {
+    let mut evaluation = Evaluation::new(rt.alloc(), bytes, ENCODING);
+    match complete(&mut evaluation, process) {
+        Ok(()) => println!(rt;
+            "heap: {:?} {:?}",
+            evaluation.value_result(),
+            evaluation.as_result()
+        )?,
+        Err(error) => println!(rt; "heap: {error:?}")?,
+    }
+    let mut evaluation: Evaluation<Bytes<'a>, Fixed> = Evaluation::new_in(
+        bytes,
+        ENCODING,
+        ArrayVec::new(),
+        ArrayVec::new(),
+        ArrayVec::new(),
+    );
+    match complete(&mut evaluation, process) {
+        Ok(()) => println!(rt;
+            "lists: {:?} {:?}",
+            evaluation.value_result(),
+            evaluation.as_result()
+        ),
+        Err(error) => println!(rt; "lists: {error:?}"),
+    }
+}
+
+/// Prints what registers alone make of the bytes, and how often they ask.
+fn show_others<'a>(rt: &HostRuntime, bytes: Bytes<'a>, process: &Stopped<'a>) -> io::Result<()> {
+    let mut evaluation = Evaluation::new(rt.alloc(), bytes, ENCODING);
+    match complete_with_registers(&mut evaluation, &process.registers, 2) {
+        Ok(complete) => println!(rt; "registers alone: {complete}")?,
+        Err(error) => println!(rt; "registers alone: {error:?}")?,
+    }
+    let mut evaluation = Evaluation::new(rt.alloc(), bytes, ENCODING);
+    let nothing = EndianSlice::new(&[], RunTimeEndian::Little);
+    match count_requests(&mut evaluation, nothing) {
+        Ok(asked) => println!(rt; "asked: {asked}"),
+        Err(error) => println!(rt; "asked: {error:?}"),
+    }
+}
+
+/// Prints what comes of some expressions.
+fn show_all(rt: &HostRuntime) -> io::Result<()> {
+    let process = Stopped {
+        registers: [0x1000, 0x2000],
+        frame_base: 0x3000,
+        cfa: 0x4000,
+        // DW_OP_lit3
+        called: EndianSlice::new(&[0x33], RunTimeEndian::Little),
+    };
+    let expressions: [&[u8]; 3] = [
+        // DW_OP_fbreg -16
+        &[0x91, 0x70],
+        // DW_OP_breg0 -1, DW_OP_breg1 1, DW_OP_plus, DW_OP_piece 4
+        &[0x70, 0x7f, 0x71, 0x01, 0x22, 0x93, 0x04],
+        // DW_OP_call2 5, DW_OP_call_frame_cfa, DW_OP_plus, DW_OP_deref
+        &[0x98, 0x05, 0x00, 0x9c, 0x22, 0x06],
+    ];
+    for expression in expressions {
+        let bytes = EndianSlice::new(expression, RunTimeEndian::Little);
+        show_complete(rt, bytes, &process)?;
+        show_others(rt, bytes, &process)?;
+    }
+    Ok(())
+}
+
+fn main(rt: HostRuntime) -> ExitCode {
+    match show_all(&rt) {
+        Ok(()) => ExitCode::SUCCESS,
+        Err(_) => ExitCode::FAILURE,
+    }
+}

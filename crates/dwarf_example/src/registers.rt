@@ -1,0 +1,40 @@
+//! An evaluation that answers some requests alone, and allows itself more operations at each.
+
+ghost use Rattle.std.specs.Prelude.{◌≡◌, IfOk, true};
+ghost use Rattle.dwarf_eval.specs.Calls.{IsClosed, IsComplete};
+
+use dwarf_base::{Reader, Result};
+use dwarf_expr::eval::Evaluation;
+use dwarf_expr::op::EvaluationResult;
+use dwarf_expr::store::EvaluationStorage;
+use dwarf_expr::value::Value;
+
+/// Evaluates with the values of registers, and at most `step` operations more for each; `false` where anything else is
+/// asked, which is left open.
+pub fn complete_with_registers<R: Reader + Copy + PartialEq, S: EvaluationStorage<R>>(
+    evaluation: &mut Evaluation<R, S>,
+    registers: &[u64],
+    step: u32,
+) -> Result<bool>
+    requires { IsClosed evaluation.old.status }
+    ensures { IfOk result (λ complete. complete ≡ true → IsComplete evaluation.new.status) }
+{
+    let mut most = step;
+    evaluation.set_max_iterations(most);
+    let mut request = evaluation.evaluate()?;
+    'requests: while request != EvaluationResult::Complete {
+        match request {
+            EvaluationResult::RequiresRegister { register, .. } => {
+                let value = match registers.get(usize::from(register.0)) {
+                    Some(value) => *value,
+                    None => return Ok(false),
+                };
+                most = most.saturating_add(step);
+                evaluation.set_max_iterations(most);
+                request = evaluation.resume_with_register(Value::Generic(value))?;
+            }
+            _ => return Ok(false),
+        }
+    }
+    Ok(true)
+}

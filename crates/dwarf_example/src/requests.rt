@@ -1,0 +1,108 @@
+//! An evaluation that answers every request: the loop of a debugger.
+
+ghost use Rattle.std.specs.Prelude.{OnOk};
+ghost use Rattle.dwarf_eval.specs.Calls.{IsClosed, IsComplete};
+
+use dwarf_base::{DebugAddrIndex, Reader, Register, Result, UnitOffset};
+use dwarf_expr::eval::Evaluation;
+use dwarf_expr::op::{DieReference, EvaluationResult, Expression};
+use dwarf_expr::store::EvaluationStorage;
+use dwarf_expr::value::{Value, ValueType};
+
+/// What a debugger knows of the process that it looks into.
+pub trait Process<R: Reader> {
+    /// What stands in `size` bytes of memory.
+    fn memory(&self, address: u64, size: u8, space: Option<u64>) -> Result<Value>;
+
+    /// What a register holds.
+    fn register(&self, register: Register, base_type: UnitOffset<R::Offset>) -> Result<Value>;
+
+    /// A local, a global or a value on the stack of a WebAssembly machine.
+    fn wasm_value(&self, index: u32) -> Result<Value>;
+
+    /// What `DW_AT_frame_base` of the function gives.
+    fn frame_base(&self) -> Result<u64>;
+
+    /// The canonical frame address.
+    fn call_frame_cfa(&self) -> Result<u64>;
+
+    /// Where a variable of the thread stands.
+    fn thread_local(&self, offset: u64) -> Result<u64>;
+
+    /// The `DW_AT_location` of an entry, or no bytes where it has none.
+    fn expression_at(&self, entry: DieReference<R::Offset>) -> Result<R>;
+
+    /// What the expression gave when the function was entered.
+    fn entry_value(&self, expression: Expression<R>) -> Result<Value>;
+
+    /// The value of a parameter, as its call site says.
+    fn parameter(&self, entry: UnitOffset<R::Offset>) -> Result<u64>;
+
+    /// Where an address of the file was loaded.
+    fn relocated(&self, address: u64) -> Result<u64>;
+
+    /// What stands in `.debug_addr`.
+    fn indexed_address(&self, index: DebugAddrIndex<R::Offset>, relocate: bool) -> Result<u64>;
+
+    /// The type that an entry describes.
+    fn base_type(&self, entry: UnitOffset<R::Offset>) -> Result<ValueType>;
+}
+
+/// Evaluates to the end, with the process's answer to each request.
+pub fn complete<R: Reader + Copy + PartialEq, S: EvaluationStorage<R>, P: Process<R>>(
+    evaluation: &mut Evaluation<R, S>,
+    process: &P,
+) -> Result<()>
+    requires { IsClosed evaluation.old.status }
+    ensures { OnOk result (IsComplete evaluation.new.status) }
+{
+    let mut request = evaluation.evaluate()?;
+    'requests: while request != EvaluationResult::Complete {
+        request = match request {
+            EvaluationResult::Complete => break,
+            EvaluationResult::RequiresMemory {
+                address,
+                size,
+                space,
+                ..
+            } => { evaluation.resume_with_memory(process.memory(address, size, space)?)? }
+            EvaluationResult::RequiresRegister {
+                register,
+                base_type,
+            } => { evaluation.resume_with_register(process.register(register, base_type)?)? }
+            EvaluationResult::RequiresWasmLocal { index }
+            | EvaluationResult::RequiresWasmGlobal { index }
+            | EvaluationResult::RequiresWasmStack { index } => {
+                evaluation.resume_with_wasm_value(process.wasm_value(index)?)?
+            }
+            EvaluationResult::RequiresFrameBase => {
+                evaluation.resume_with_frame_base(process.frame_base()?)?
+            }
+            EvaluationResult::RequiresTls(offset) => {
+                evaluation.resume_with_tls(process.thread_local(offset)?)?
+            }
+            EvaluationResult::RequiresCallFrameCfa => {
+                evaluation.resume_with_call_frame_cfa(process.call_frame_cfa()?)?
+            }
+            EvaluationResult::RequiresAtLocation(entry) => {
+                evaluation.resume_with_at_location(process.expression_at(entry)?)?
+            }
+            EvaluationResult::RequiresEntryValue(expression) => {
+                evaluation.resume_with_entry_value(process.entry_value(expression)?)?
+            }
+            EvaluationResult::RequiresParameterRef(entry) => {
+                evaluation.resume_with_parameter_ref(process.parameter(entry)?)?
+            }
+            EvaluationResult::RequiresRelocatedAddress(address) => {
+                evaluation.resume_with_relocated_address(process.relocated(address)?)?
+            }
+            EvaluationResult::RequiresIndexedAddress { index, relocate } => {
+                evaluation.resume_with_indexed_address(process.indexed_address(index, relocate)?)?
+            }
+            EvaluationResult::RequiresBaseType(entry) => {
+                evaluation.resume_with_base_type(process.base_type(entry)?)?
+            }
+        };
+    }
+    Ok(())
+}

@@ -2,7 +2,9 @@
 """Runs each row of tests/rows on the built program and compares what it prints and its status.
 
 A row has a name, the program's words, its input (`input`, or `input_hex` for bytes that aren't text), and the output
-and the status that are wanted. It may say besides
+and the status that are wanted. A word, an input or an output is a text; `{"hex": ..}`, its bytes as digits; or a list
+of parts, each a text or a pair of a text and how often it stands. A row may say besides
+- `program`: the program's name, the word before its words;
 - `input_times`: how often the input stands, one after another;
 - `input_from`: in place of an input, a `directory`, whose read fails, or a pipe that stays `open` and gives nothing;
 - `output_to`: `full`, a device on which every write fails;
@@ -30,7 +32,7 @@ PROGRAM = TOP / "crates" / "dwexpr" / "out" / "dwexpr"
 SECONDS = 60
 INPUTS = {"input", "input_hex", "input_from"}
 OUTPUTS = {"output", "output_pattern"}
-FIELDS = {"name", "words", "status", "input_times", "output_to", "megabytes"} | INPUTS | OUTPUTS
+FIELDS = {"name", "words", "program", "status", "input_times", "output_to", "megabytes"} | INPUTS | OUTPUTS
 
 
 def rows_of(file):
@@ -45,9 +47,19 @@ def rows_of(file):
     return rows
 
 
-def bytes_of(row):
+def bytes_of(text):
+    """The bytes that a text, digits or a list of parts stand for."""
+    if isinstance(text, dict):
+        return bytes.fromhex(text["hex"])
+    if isinstance(text, str):
+        return text.encode("utf-8")
+    parts = (part if isinstance(part, list) else (part, 1) for part in text)
+    return b"".join(part.encode("utf-8") * times for part, times in parts)
+
+
+def input_bytes_of(row):
     """The bytes of the row's input."""
-    text = bytes.fromhex(row["input_hex"]) if "input_hex" in row else row.get("input", "").encode("utf-8")
+    text = bytes.fromhex(row["input_hex"]) if "input_hex" in row else bytes_of(row.get("input", ""))
     return text * row.get("input_times", 1)
 
 
@@ -68,7 +80,7 @@ def input_of(row):
             os.close(reader)
             os.close(writer)
     else:
-        yield {"input": bytes_of(row)}
+        yield {"input": input_bytes_of(row)}
 
 
 @contextlib.contextmanager
@@ -92,7 +104,8 @@ def limit_of(row):
 def run(row):
     with input_of(row) as source, output_of(row) as sink:
         return subprocess.run(
-            [str(PROGRAM), *row["words"]],
+            [bytes_of(row.get("program", str(PROGRAM))), *map(bytes_of, row["words"])],
+            executable=str(PROGRAM),
             **source,
             stdout=sink,
             stderr=subprocess.PIPE,
@@ -105,7 +118,7 @@ def run(row):
 def is_wanted(row, printed):
     if "output_pattern" in row:
         return re.fullmatch(row["output_pattern"].encode("utf-8"), printed) is not None
-    return printed == row["output"].encode("utf-8")
+    return printed == bytes_of(row["output"])
 
 
 def complaints_of(row):
@@ -117,7 +130,7 @@ def complaints_of(row):
     complaints = []
     printed = ran.stdout or b""
     if not is_wanted(row, printed):
-        wanted = row.get("output_pattern", row.get("output"))
+        wanted = row["output_pattern"] if "output_pattern" in row else bytes_of(row["output"])[-200:]
         complaints.append(f"it printed {printed[-200:]!r}, and {wanted!r} is wanted")
     if ran.returncode != row["status"]:
         complaints.append(f"it ended with status {ran.returncode}, and {row['status']} is wanted")
@@ -146,7 +159,7 @@ def main():
             passed += not complaints
             failed += bool(complaints)
             for complaint in complaints:
-                print(f"{name} ({' '.join(map(repr, row['words']))}): {complaint}")
+                print(f"{name} ({' '.join(repr(bytes_of(word))[1:60] for word in row['words'])}): {complaint}")
     if passed + failed == 0:
         print("there are no rows")
         failed = 1

@@ -1,0 +1,5 @@
+pub mod Blocks
+pub mod Doing
+pub mod Finished
+pub mod Runs
+pub mod Shown

@@ -1,0 +1,302 @@
+-- The steps that a caller gives, one after another, come to what the meaning of all that they told gives.
+use Rattle.std.proofs.Common.{ℕ, suc, ◌≡◌, ◌∙◌, ◌⊎◌, inl, inr, ◌++◌, ◌≤◌, List, [], ◌∷◌, map, take, slice_get, Option, Some, None, Result, Ok, Err, length, refl, sym, ap, subst, arith}
+use Rattle.std.proofs.lemmas.List.{map-append, take_all}
+use Rattle.std.proofs.lemmas.Option.{slice_get_within, get_or_from_slice_get}
+use Rattle.std.proofs.Math.Seq.{take-suc, take-append_seam}
+use Rattle.dwarf_base.specs.declared.errors.Error.{Error}
+use Rattle.dwarf_base.specs.Faults.{Fault, fault_of}
+use Rattle.dwarf_meaning.specs.Meaning.{Outcome, Requests, Faults, Completes}
+use Rattle.dwarf_meaning.specs.Requests as asked
+use Rattle.dwarf_meaning.specs.Requests.{Request}
+use Rattle.dwarf_meaning.specs.Rest.{State, Status, Start, Running, Waits, Complete, Stopped}
+use Rattle.dwarf_meaning.specs.Steps.{Step, InitialValue, ObjectAddress, MaxIterations, Evaluate, Resume, Told, Reply, Completed, Asked, Faulted, Allows, AllAllowed, after_steps, outcome_of}
+use Rattle.dwarf_meaning.specs.Stores.{Limits, Refusal, Never, After}
+use Rattle.dwarf_meaning.specs.Kinds.{kind_of_answer}
+use Rattle.dwarf_eval.specs.Calls.{Evaluates, IsClosed, IsTold, MayPick, Resumes, input_of, reply_of, told_of}
+use Rattle.dwarf_eval.specs.declared.op.results.EvaluationResult.{EvaluationResult}
+use Rattle.dwarf_replay.specs.Replays.{StandsAt, IsAsking, IsStopped, Tells, WalksTo, told_at}
+use Rattle.dwarf_replay.specs.Stepping.{IsAskingFor, IsCalled, IsSet, MayTake}
+use Rattle.dwarf_replay.proofs.Standings.{Went, went_at_first}
+use Rattle.dwarf_replay.proofs.Settings.{set_went_on}
+use Rattle.dwarf_replay.proofs.Calling.{called_went_on}
+use Rattle.dwarf_replay.proofs.Leading.{walks_all, walks_to}
+use Rattle.dwexpr_c.specs.Codes.{code_of_fault, number_of_fault, misplaced, unplaced}
+use Rattle.dwexpr_c.specs.Evaluated.{AreTaken, AsksBlock, EndsBy, Given, IsEnded, IsMisplaced, IsNoFault, IsUnplaced, MayAll, MeetsFault, capacities, comes_of, told_by}
+use Rattle.dwexpr_c.specs.Outcomes.{AsksOfBlock, ShowsReply, ShowsRequest, asking, ended, untold}
+use Rattle.dwexpr_c.specs.Steps.{step_in}
+use Rattle.dwexpr_c.specs.Texts.{text_of_placed}
+use Rattle.dwexpr_c.specs.inner.Runs.{RanAll, given_at}
+use Rattle.dwexpr_c.specs.inner.Stepping.{Answered, Does, Failed, Misplaced, ShowsStatus, Unplaced, plain_end}
+use Rattle.dwexpr_c.specs.declared.faults.FaultNumbers.{FaultNumbers}
+use Rattle.dwexpr_c.specs.declared.outcomes.DwexprOutcome.{DwexprOutcome}
+use Rattle.dwexpr_c.specs.declared.places.Placed.{Placed}
+use Rattle.dwexpr_c.specs.declared.steps.DwexprStep.{DwexprStep}
+use Rattle.dwexpr_c.specs.declared.steps.DwexprText.{DwexprText}
+
+-- ---- what a call answered, and where the evaluation stands behind it
+
+-- the status is what was answered, where no fault was met before
+module _ (x new : State) (told : Result (EvaluationResult Placed ℕ ℕ) Error) (texts : List DwexprText) (out : DwexprOutcome) where
+  told_evaluated : (status : Status) → x.status ≡ status → ShowsStatus texts status out → IsClosed status → Evaluates text_of_placed (λ x. x) x new told status → IsTold (reply_of text_of_placed (λ x. x) told) new.status
+  told_evaluated (Start initial_value) e s closed h = h.status
+  told_evaluated (Complete value) e s closed h =
+      let stays : new.status ≡ Complete value = ap (λ (z : State). z.status) h.1 ∙ e in
+      subst (λ (t : Status). IsTold (reply_of text_of_placed (λ x. x) told) t) (sym stays) (ap (λ (t : Result (EvaluationResult Placed ℕ ℕ) Error). reply_of text_of_placed (λ x. x) t) h.0)
+  told_evaluated (Waits request waiting) e s closed h = absurd closed
+  told_evaluated (Stopped error) e s closed h = absurd s
+  told_evaluated Running e s closed h = absurd s
+
+  told_resumed : (answer : asked.Answer) (status : Status) → ShowsStatus texts status out → IsAskingFor (kind_of_answer answer) status → Resumes text_of_placed (λ x. x) (input_of x answer) x new told status → IsTold (reply_of text_of_placed (λ x. x) told) new.status
+  told_resumed answer (Waits request waiting) s asking h = h.status
+  told_resumed answer (Start initial_value) s asking h = absurd asking
+  told_resumed answer (Complete value) s asking h = absurd asking
+  told_resumed answer (Stopped error) s asking h = absurd s
+  told_resumed answer Running s asking h = absurd s
+
+  told_by_call : (step : Step) → ShowsStatus texts x.status out → IsCalled text_of_placed (λ x. x) step x new told → IsTold (reply_of text_of_placed (λ x. x) told) new.status
+  told_by_call Evaluate s h = told_evaluated x.status refl s h.0 h.1
+  told_by_call (Resume answer) s h = told_resumed answer x.status s h.0 h.1
+  told_by_call (InitialValue number) s h = absurd h
+  told_by_call (ObjectAddress address) s h = absurd h
+  told_by_call (MaxIterations maximum) s h = absurd h
+
+shows_told : (texts : List DwexprText) (out : DwexprOutcome) (reply : Reply) (status : Status) → IsTold reply status → ShowsReply texts reply out → ShowsStatus texts status out
+shows_told texts out reply (Waits request waiting) e h = subst (λ (r : Reply). ShowsReply texts r out) e h
+shows_told texts out reply (Complete value) e h = subst (λ (r : Reply). ShowsReply texts r out) e h
+shows_told texts out reply (Stopped error) e h = absurd (subst (λ (r : Reply). ShowsReply texts r out) e h)
+shows_told texts out reply (Start initial_value) e h = absurd e
+shows_told texts out reply Running e h = absurd e
+
+-- a setting changes nothing of what is shown
+shows_set : (texts : List DwexprText) (out : DwexprOutcome) (step : Step) (x new : State) → IsSet step x new → ShowsStatus texts x.status out → ShowsStatus texts new.status out
+shows_set texts out (InitialValue number) x new h s =
+    let shown : out ≡ untold = subst (λ (t : Status). ShowsStatus texts t out) h.0 s in
+    subst (λ (z : State). ShowsStatus texts z.status out) (sym h.1) shown
+shows_set texts out (ObjectAddress address) x new h s = subst (λ (z : State). ShowsStatus texts z.status out) (sym h) s
+shows_set texts out (MaxIterations maximum) x new h s = subst (λ (z : State). ShowsStatus texts z.status out) (sym h) s
+shows_set texts out Evaluate x new h s = absurd h
+shows_set texts out (Resume answer) x new h s = absurd h
+
+-- where the evaluation stands is no fault
+pub no_fault : (texts : List DwexprText) (told : Told) (x : State) (o : Option Outcome) (status : Status) (out : DwexprOutcome) → x.status ≡ status → ShowsStatus texts status out → StandsAt told x o → IsNoFault o
+no_fault texts told x None status out e s h = tt
+no_fault texts told x (Some (Requests request frames)) status out e s h = tt
+no_fault texts told x (Some (Completes pieces value)) status out e s h = tt
+no_fault texts told x (Some (Faults fault)) (Stopped error) out e s h = absurd s
+no_fault texts told x (Some (Faults fault)) (Start initial_value) out e s h = absurd (subst (IsStopped fault) e h)
+no_fault texts told x (Some (Faults fault)) (Waits request waiting) out e s h = absurd (subst (IsStopped fault) e h)
+no_fault texts told x (Some (Faults fault)) (Complete value) out e s h = absurd (subst (IsStopped fault) e h)
+no_fault texts told x (Some (Faults fault)) Running out e s h = absurd (subst (IsStopped fault) e h)
+
+stopped_by : (told : Told) (x : State) (o : Option Outcome) (error : Error) → x.status ≡ Stopped error → StandsAt told x o → o ≡ Some (Faults (fault_of error))
+stopped_by told x None error e h = absurd (let s : Stopped error ≡ Start told.settings.initial_value = sym e ∙ h.0 in cc)
+stopped_by told x (Some (Requests request frames)) error e h = absurd (subst (IsAsking request frames x) e h.0)
+stopped_by told x (Some (Faults fault)) error e h = ap (λ (f : Fault). Some (Faults f)) (sym (subst (IsStopped fault) e h))
+stopped_by told x (Some (Completes pieces value)) error e h = absurd (let s : Stopped error ≡ Complete value = sym e ∙ h.0 in cc)
+
+-- it stands at the fault that was told
+stands_at_fault : (told : Told) (x : State) (o : Option Outcome) (fault : Fault) (status : Status) → x.status ≡ status → IsTold (Faulted fault) status → StandsAt told x o → o ≡ Some (Faults fault)
+stands_at_fault told x o fault (Stopped error) e t h =
+    let same : fault_of error ≡ fault = cc in
+    stopped_by told x o error e h ∙ ap (λ (f : Fault). Some (Faults f)) same
+stands_at_fault told x o fault (Waits request waiting) e t h = absurd (let s : Faulted fault ≡ Asked request = t in cc)
+stands_at_fault told x o fault (Complete value) e t h = absurd (let s : Faulted fault ≡ Completed = t in cc)
+stands_at_fault told x o fault (Start initial_value) e t h = absurd t
+stands_at_fault told x o fault Running e t h = absurd t
+
+waiting_asks : (told : Told) (x : State) (o : Option Outcome) (request : Request) (waiting : asked.Waiting) → x.status ≡ Waits request waiting → AsksOfBlock (Asked request) → StandsAt told x o → AsksBlock o
+waiting_asks told x None request waiting e a h = absurd (let s : Waits request waiting ≡ Start told.settings.initial_value = sym e ∙ h.0 in cc)
+waiting_asks told x (Some (Requests other frames)) request waiting e a h =
+    let is : IsAsking other frames x (Waits request waiting) = subst (IsAsking other frames x) e h.0 in
+    subst (λ (r : Request). AsksOfBlock (Asked r)) is.0 a
+waiting_asks told x (Some (Faults fault)) request waiting e a h = absurd (subst (IsStopped fault) e h)
+waiting_asks told x (Some (Completes pieces value)) request waiting e a h = absurd (let s : Waits request waiting ≡ Complete value = sym e ∙ h.0 in cc)
+
+-- it stands at the block that is asked about
+stands_at_block : (told : Told) (x : State) (o : Option Outcome) (reply : Reply) (status : Status) → x.status ≡ status → IsTold reply status → AsksOfBlock reply → StandsAt told x o → AsksBlock o
+stands_at_block told x o reply (Waits request waiting) e t a h = waiting_asks told x o request waiting e (subst AsksOfBlock t a) h
+stands_at_block told x o reply (Complete value) e t a h = absurd (subst AsksOfBlock t a)
+stands_at_block told x o reply (Stopped error) e t a h = absurd (subst AsksOfBlock t a)
+stands_at_block told x o reply (Start initial_value) e t a h = absurd t
+stands_at_block told x o reply Running e t a h = absurd t
+
+-- ---- all lists have limits
+
+none_free : (limits : Limits) (refusal : Refusal) → limits ≡ capacities → MayPick limits refusal → refusal ≡ Never
+none_free limits Never e h = refl
+none_free limits (After inputs pushes) e (inl h) = absurd (let v : Some 64 ≡ None = ap (λ (l : Limits). l.values) (sym e) ∙ h in cc)
+none_free limits (After inputs pushes) e (inr (inl h)) = absurd (let v : Some 16 ≡ None = ap (λ (l : Limits). l.frames) (sym e) ∙ h in cc)
+none_free limits (After inputs pushes) e (inr (inr h)) = absurd (let v : Some 32 ≡ None = ap (λ (l : Limits). l.pieces) (sym e) ∙ h in cc)
+
+-- these steps were done without a refusal
+record Done (first : State) (steps : List Step) (replies : List Reply) (new : State) : Type 0 where
+  allowed : AllAllowed first.setup Never first.text (told_at first) steps
+  stands :
+      let told = after_steps first.setup Never first.text (told_at first) steps in
+      StandsAt told new (outcome_of first.setup Never first.text told)
+
+done_by : (first : State) (steps : List Step) (replies : List Reply) (x : State) (told : Told) (refusal : Refusal)
+    → Tells first steps replies told refusal → StandsAt told x (outcome_of first.setup refusal first.text told) → refusal ≡ Never
+    → Done first steps replies x
+done_by first steps replies x told refusal tells stands never = record {
+  allowed = subst (λ (r : Refusal). AllAllowed first.setup r first.text (told_at first) steps) never tells.allowed;
+  stands =
+      subst (λ (r : Refusal). StandsAt (after_steps first.setup r first.text (told_at first) steps) x (outcome_of first.setup r first.text (after_steps first.setup r first.text (told_at first) steps))) never
+      (subst (λ (t : Told). StandsAt t x (outcome_of first.setup refusal first.text t)) (sym tells.told_is) stands);
+}
+
+done_never : (first : State) (steps : List Step) (replies : List Reply) (x : State) → first.setup.limits ≡ capacities → Went first steps replies x → Done first steps replies x
+done_never first steps replies x limits went =
+    let all = walks_all first steps replies x went in
+    done_by first steps replies x all.told all.refusal all.tells all.stands (none_free first.setup.limits all.refusal limits all.may)
+
+at_seam : (steps : List Step) (step : Step) → slice_get (steps ++ step ∷ []) (length steps) ≡ Some step
+at_seam [] step = refl
+at_seam (s ∷ steps) step = at_seam steps step
+
+some_same : (a b : Step) → Some a ≡ Some b → a ≡ b
+some_same a b e = cc
+
+-- a step that isn't allowed behind these steps
+abbrev Refuses : State → Refusal → Step → List Step → Type 0
+Refuses first refusal step steps =
+    let told = after_steps first.setup refusal first.text (told_at first) steps in
+    Allows told (outcome_of first.setup refusal first.text told) step → ⊥
+
+refused_as : (first : State) (refusal : Refusal) (a b : Step) (steps others : List Step) → refusal ≡ Never → a ≡ b → steps ≡ others → Refuses first refusal a steps → Refuses first Never b others
+refused_as first refusal a b steps others r s l h =
+    subst (λ (z : List Step). Refuses first Never b z) l
+    (subst (λ (z : Step). Refuses first Never z steps) s
+    (subst (λ (z : Refusal). Refuses first z a steps) r h))
+
+-- ---- the loop
+
+-- these steps were done, and the outcome shows where the evaluation stands
+pub record Reached (texts : List DwexprText) (numbers : List DwexprStep) (first x : State) (out : DwexprOutcome) : Type 0 where
+  pub steps : List Step
+  pub said : map (step_in first.text.is_big texts) numbers ≡ map Ok steps
+  pub replies : List Reply
+  pub went : Went first steps replies x
+  pub shown : ShowsStatus texts x.status out
+
+pub at_first : (texts : List DwexprText) (x : State) → x.status ≡ Start None → Reached texts [] x x untold
+at_first texts x fresh = record {
+  steps = [];
+  said = refl;
+  replies = [];
+  went = went_at_first x fresh;
+  shown = subst (λ (s : Status). ShowsStatus texts s untold) (sym fresh) refl;
+}
+
+module _ (texts : List DwexprText) (all : List DwexprStep) (index : ℕ) (at : DwexprStep) (is_there : slice_get all index ≡ Some at) (first : State) (limits : first.setup.limits ≡ capacities) where
+  take_next : take (suc index) all ≡ take index all ++ at ∷ []
+  take_next =
+      take-suc all index at (slice_get_within all index at is_there)
+      ∙ ap (λ (s : DwexprStep). take index all ++ s ∷ []) (get_or_from_slice_get all index at at is_there)
+
+  said_next : (steps : List Step) (step : Step) → map (step_in first.text.is_big texts) (take index all) ≡ map Ok steps → step_in first.text.is_big texts at ≡ Ok step → map (step_in first.text.is_big texts) (take (suc index) all) ≡ map Ok (steps ++ step ∷ [])
+  said_next steps step said one =
+      ap (map (step_in first.text.is_big texts)) take_next
+      ∙ (map-append (step_in first.text.is_big texts) (take index all) (at ∷ [])
+      ∙ (ap (λ (l : List (Result Step ℕ)). l ++ step_in first.text.is_big texts at ∷ []) said
+      ∙ (ap (λ (o : Result Step ℕ). map Ok steps ++ o ∷ []) one
+      ∙ sym (map-append Ok steps (step ∷ [])))))
+
+  module _ (x new : State) (out : DwexprOutcome) (r : Reached texts (take index all) first x out) where
+    next_by : (now : DwexprOutcome) (o : Result Step ℕ) → step_in first.text.is_big texts at ≡ o → Does texts o x new out now (Ok tt) → Reached texts (take (suc index) all) first new now
+    next_by now (Ok step) one (inl h) =
+        subst (Reached texts (take (suc index) all) first new) (sym h.1)
+        (record {
+          steps = r.steps ++ step ∷ [];
+          said = said_next r.steps step r.said one;
+          replies = r.replies;
+          went = set_went_on first r.steps r.replies step x new h.0 r.went;
+          shown = shows_set texts out step x new h.0 r.shown;
+        })
+    next_by now (Ok step) one (inr h) = record {
+      steps = r.steps ++ step ∷ [];
+      said = said_next r.steps step r.said one;
+      replies = r.replies ++ reply_of text_of_placed (λ x. x) (Ok h.told) ∷ [];
+      went = called_went_on text_of_placed (λ x. x) first r.steps r.replies x new step (Ok h.told) h.called r.went;
+      shown = shows_told texts now (told_of text_of_placed (λ x. x) h.told) new.status (told_by_call x new (Ok h.told) texts out step r.shown h.called) h.shown;
+    }
+    next_by now (Err code) one h = absurd h
+
+    -- the step was done
+    pub next : (now : DwexprOutcome) → Does texts (step_in first.text.is_big texts at) x new out now (Ok tt) → Reached texts (take (suc index) all) first new now
+    next now h = next_by now (step_in first.text.is_big texts at) refl h
+
+    abbrev given : Given
+    given = given_at first texts
+
+    walks : Done first r.steps r.replies x
+    walks = done_never first r.steps r.replies x limits r.went
+
+    taken : AreTaken given (take index all) r.steps
+    taken = record { said = r.said; allowed = walks.allowed }
+
+    ends_by : (end : FaultNumbers) → EndsBy given r.steps (step_in first.text.is_big texts at) (ended end.code end.number index) → IsEnded given all (ended end.code end.number index)
+    ends_by end h = record {
+      before = r.steps;
+      taken = taken;
+      no_fault = no_fault texts _ x (comes_of given r.steps) x.status out refl r.shown walks.stands;
+      at = at;
+      is_there = is_there;
+      ends = h;
+    }
+
+    called_walks : (step : Step) (told : Result (EvaluationResult Placed ℕ ℕ) Error) → IsCalled text_of_placed (λ x. x) step x new told → Done first (r.steps ++ step ∷ []) (r.replies ++ reply_of text_of_placed (λ x. x) told ∷ []) new
+    called_walks step told called =
+        done_never first (r.steps ++ step ∷ []) _ new limits (called_went_on text_of_placed (λ x. x) first r.steps r.replies x new step told called r.went)
+
+    misplaced_at : (step : Step) → (MayTake step x.status → ⊥) → Allows (told_by given r.steps) (comes_of given r.steps) step → ⊥
+    misplaced_at step h =
+        let behind = r.steps ++ step ∷ [] in
+        let there : slice_get behind (length r.steps) ≡ Some step = at_seam r.steps step in
+        let front : take (length r.steps) behind ≡ r.steps = take-append_seam r.steps (step ∷ []) in
+        let w = walks_to first behind (length r.steps) r.replies x step there (subst (λ (l : List Step). Went first l r.replies x) (sym front) r.went) h in
+        let same : w.step ≡ step = some_same w.step step (sym w.is_next ∙ there) in
+        let refused : Refuses first w.walks.refusal w.step (take (length r.steps) behind) =
+        subst (λ (t : Told). Allows t (outcome_of first.setup w.walks.refusal first.text t) w.step → ⊥) (sym w.walks.tells.told_is) w.misplaced
+        in
+        refused_as first w.walks.refusal w.step step (take (length r.steps) behind) r.steps (none_free first.setup.limits w.walks.refusal limits w.walks.may) same front refused
+
+    ends_at : (end : FaultNumbers) (step : Step) → Does texts (Ok step) x new out out (Err end) → EndsBy given r.steps (Ok step) (ended end.code end.number index)
+    ends_at end step (inl h) =
+        inl (record { not_allowed = misplaced_at step h.not_taken; shown = ap (λ (e : FaultNumbers). ended e.code e.number index) h.shown })
+    ends_at end step (inr (inl h)) =
+        let w = called_walks step (Err h.error) h.called in
+        let told = told_by_call x new (Err h.error) texts out step r.shown h.called in
+        inr (inl (record {
+          allowed = w.allowed;
+          fault = fault_of h.error;
+          comes = stands_at_fault _ new _ (fault_of h.error) new.status refl told w.stands;
+          shown = ap (λ (e : FaultNumbers). ended e.code e.number index) h.shown;
+        }))
+    ends_at end step (inr (inr h)) =
+        let w = called_walks step (Ok h.told) h.called in
+        let told = told_by_call x new (Ok h.told) texts out step r.shown h.called in
+        inr (inr (record {
+          allowed = w.allowed;
+          asks = stands_at_block _ new _ (told_of text_of_placed (λ x. x) h.told) new.status refl told h.asks w.stands;
+          shown = ap (λ (e : FaultNumbers). ended e.code e.number index) h.shown;
+        }))
+
+    stops_by : (end : FaultNumbers) (now : DwexprOutcome) (o : Result Step ℕ) → step_in first.text.is_big texts at ≡ o → Does texts o x new out now (Err end) → EndsBy given r.steps o (ended end.code end.number index)
+    stops_by end now (Ok step) one h = ends_at end step h
+    stops_by end now (Err code) one h = ap (λ (e : FaultNumbers). ended e.code e.number index) h
+
+    -- it was not
+    pub stops : (end : FaultNumbers) (now : DwexprOutcome) → Does texts (step_in first.text.is_big texts at) x new out now (Err end) → IsEnded given all (ended end.code end.number index)
+    stops end now h = ends_by end (stops_by end now (step_in first.text.is_big texts at) refl h)
+
+-- all were
+pub ran_all : (texts : List DwexprText) (all : List DwexprStep) (index : ℕ) (first x : State) (out : DwexprOutcome) → first.setup.limits ≡ capacities → length all ≤ index → Reached texts (take index all) first x out → RanAll texts all first x out
+ran_all texts all index first x out limits past r =
+    let w = done_never first r.steps r.replies x limits r.went in
+    record {
+      steps = r.steps;
+      taken = record { said = ap (map (step_in first.text.is_big texts)) (sym (take_all index all past)) ∙ r.said; allowed = w.allowed };
+      stands = w.stands;
+      shown = r.shown;
+    }

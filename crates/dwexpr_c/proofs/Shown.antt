@@ -1,0 +1,50 @@
+-- The pieces that were written, one by one.
+use Rattle.std.proofs.Common.{ℕ, zero, suc, ◌≡◌, ◌≢◌, ◌<◌, ◌≤◌, ◌+◌, List, [], ◌∷◌, length, map, set, slice_get, Option, Some, None, refl, sym, ap, subst, ◌∙◌, arith, below_more, ◌⊎◌, inl, inr}
+use Rattle.std.specs.Option.{option_map}
+use Rattle.std.proofs.lemmas.Option.{slice_get-map, slice_get_past, slice_get_within, slice_get-get_or}
+use Rattle.std.proofs.lemmas.List.{length-map}
+use Rattle.dwarf_meaning.specs.Locations.{Piece}
+use Rattle.dwexpr_c.specs.Pieces.{AreWritten, HasBytes, ShowsPiece, ShownAt, SomeBytes}
+use Rattle.dwexpr_c.specs.declared.pieces.DwexprPiece.{DwexprPiece}
+use Rattle.dwexpr_c.specs.declared.steps.DwexprText.{DwexprText}
+
+same_place : {X : Type 0} (xs : List X) (i : ℕ) (v : X) → i < length xs → slice_get (set xs i v) i ≡ Some v
+same_place [] i v h = absurd (omega arith)
+same_place (x ∷ xs) zero v h = refl
+same_place (x ∷ xs) (suc i) v h = same_place xs i v (omega arith)
+
+other_place : {X : Type 0} (xs : List X) (i k : ℕ) (v : X) → k ≢ i → slice_get (set xs i v) k ≡ slice_get xs k
+other_place [] i k v h = refl
+other_place (x ∷ xs) zero zero v h = absurd (h refl)
+other_place (x ∷ xs) zero (suc k) v h = refl
+other_place (x ∷ xs) (suc i) zero v h = refl
+other_place (x ∷ xs) (suc i) (suc k) v h = other_place xs i k v (omega arith)
+
+pub same_length : {X : Type 0} (xs : List X) (i : ℕ) (v : X) → length (set xs i v) ≡ length xs
+same_length [] i v = refl
+same_length (x ∷ xs) zero v = refl
+same_length (x ∷ xs) (suc i) v = ap suc (same_length xs i v)
+
+-- what the code has at an index, as the definitions see it
+pub seen_at : {X Y : Type 0} (view : X → Y) (xs : List X) (index : ℕ) (x : X) → slice_get xs index ≡ Some x → slice_get (map view xs) index ≡ Some (view x)
+seen_at view xs index x e = slice_get-map view xs index ∙ ap (option_map view) e
+
+pub past_end : {X : Type 0} (xs : List X) (index : ℕ) → slice_get xs index ≡ None → length xs ≤ index
+past_end [] index e = omega arith
+past_end (x ∷ xs) zero e = absurd cc
+past_end (x ∷ xs) (suc index) e = let h : length xs ≤ index = past_end xs index e in omega arith
+
+module _ (texts : List DwexprText) (pieces : List Piece) (places : List DwexprPiece) (index : ℕ) (piece : Piece) (shown : DwexprPiece) (is_there : slice_get pieces index ≡ Some piece) (inside : index < length places) (shows : ShowsPiece texts piece shown) where
+  pub shown_next : ((k : ℕ) → k < index → ShownAt texts (slice_get pieces k) (slice_get places k)) → (k : ℕ) → k < index + 1 → ShownAt texts (slice_get pieces k) (slice_get (set places index shown) k)
+  shown_next h =
+      below_more _ _
+      (λ k l.
+      let other : k ≢ index = omega arith in
+      subst (λ (o : Option DwexprPiece). ShownAt texts (slice_get pieces k) o) (sym (other_place places index k shown other)) (h k l))
+      (subst (λ (o : Option Piece). ShownAt texts o (slice_get (set places index shown) index)) (sym is_there)
+      (subst (λ (o : Option DwexprPiece). ShownAt texts (Some piece) o) (sym (same_place places index shown inside)) shows))
+
+pub kept_next : (places old : List DwexprPiece) (index : ℕ) (shown : DwexprPiece) → ((k : ℕ) → index ≤ k → slice_get places k ≡ slice_get old k) → (k : ℕ) → index + 1 ≤ k → slice_get (set places index shown) k ≡ slice_get old k
+kept_next places old index shown h k l =
+    let other : k ≢ index = omega arith in
+    other_place places index k shown other ∙ h k (omega arith)

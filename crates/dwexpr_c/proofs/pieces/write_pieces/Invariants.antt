@@ -1,0 +1,13 @@
+use Rattle.std.proofs.Common.{◌≡◌, ◌<◌, ◌≤◌, ℕ, length, map, slice_get}
+use Rattle.dwarf_eval.specs.Machine.{piece_of}
+use Rattle.dwexpr_c.specs.Pieces.{ShownAt}
+use Rattle.dwexpr_c.specs.Texts.{text_of_placed}
+use Rattle.dwexpr_c.proofs.pieces.write_pieces.Given as goal
+
+-- those before this one are shown, and those from it on are as they were
+abbrev pub invariant-loop-index : goal.invariant-loop-index
+invariant-loop-index l =
+    (length l.places ≡ length l.initial.places)
+    × (l.index ≤ length l.pieces)
+    × ((k : ℕ) → k < l.index → ShownAt l.texts (slice_get (map (piece_of text_of_placed (λ x. x)) l.pieces) k) (slice_get l.places k))
+    × ((k : ℕ) → l.index ≤ k → slice_get l.places k ≡ slice_get l.initial.places k)

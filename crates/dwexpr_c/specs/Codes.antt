@@ -1,0 +1,55 @@
+-- The codes of faults, and the numbers that they carry.
+use Rattle.std.specs.Prelude.{ℕ}
+use Rattle.dwarf_base.specs.Faults.{Fault, UnexpectedEof, BadUnsignedLeb128, BadSignedLeb128, UnsupportedAddressSize, UnsupportedOffset, UnsupportedRegister, InvalidExpression, InvalidPieceSize, UnsupportedTypeOperation, TypeMismatch, DivisionByZero, InvalidShiftExpression, NotEnoughStackItems, InvalidDerefSize, InvalidPushObjectAddress, UnsupportedEvaluation, BadBranchTarget, TooManyIterations, InvalidPiece, InvalidExpressionTerminator, StackFull}
+
+abbrev pub code_of_fault : Fault → ℕ
+code_of_fault UnexpectedEof = 1
+code_of_fault BadUnsignedLeb128 = 2
+code_of_fault BadSignedLeb128 = 3
+code_of_fault (UnsupportedAddressSize size) = 4
+code_of_fault UnsupportedOffset = 5
+code_of_fault (UnsupportedRegister register) = 6
+code_of_fault (InvalidExpression opcode) = 7
+code_of_fault (InvalidPieceSize bytes) = 8
+code_of_fault UnsupportedTypeOperation = 9
+code_of_fault TypeMismatch = 10
+code_of_fault DivisionByZero = 11
+code_of_fault InvalidShiftExpression = 12
+code_of_fault NotEnoughStackItems = 13
+code_of_fault (InvalidDerefSize size) = 14
+code_of_fault InvalidPushObjectAddress = 15
+code_of_fault UnsupportedEvaluation = 16
+code_of_fault (BadBranchTarget target) = 17
+code_of_fault TooManyIterations = 18
+code_of_fault InvalidPiece = 19
+code_of_fault (InvalidExpressionTerminator place) = 20
+code_of_fault StackFull = 21
+
+abbrev pub number_of_fault : Fault → ℕ
+number_of_fault (UnsupportedAddressSize size) = size
+number_of_fault (UnsupportedRegister register) = register
+number_of_fault (InvalidExpression opcode) = opcode
+number_of_fault (InvalidPieceSize bytes) = bytes
+number_of_fault (InvalidDerefSize size) = size
+number_of_fault (BadBranchTarget target) = target
+number_of_fault (InvalidExpressionTerminator place) = place
+number_of_fault _ = 0
+
+-- an argument that isn't allowed
+abbrev pub bad_encoding : ℕ
+bad_encoding = 64
+
+abbrev pub bad_offset : ℕ
+bad_offset = 65
+
+abbrev pub bad_text : ℕ
+bad_text = 66
+
+abbrev pub bad_step : ℕ
+bad_step = 67
+
+abbrev pub misplaced : ℕ
+misplaced = 68
+
+abbrev pub unplaced : ℕ
+unplaced = 69

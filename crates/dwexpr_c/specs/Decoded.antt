@@ -1,0 +1,41 @@
+-- What a decoding gives a caller in C (DWARF 5, sections 2.5 and 7.7.1).
+use Rattle.std.specs.Prelude.{ℕ, ◌+◌, ◌-◌, ◌≡◌, List, Option, Some, None, Result, Ok, Err, length, slice_range}
+use Rattle.dwarf_base.specs.Faults.{Fault}
+use Rattle.dwarf_meaning.specs.Operations.{Operation}
+use Rattle.dwexpr_c.specs.declared.operations.DwexprOperation.{DwexprOperation}
+use Rattle.dwexpr_c.specs.Codes.{code_of_fault, number_of_fault}
+use Rattle.dwexpr_c.specs.Operations.{nothing, operands_of, block_in}
+
+-- nothing was decoded at this offset, for an argument that isn't allowed
+abbrev pub refused : (offset code : ℕ) → DwexprOperation
+refused offset code = record nothing { offset = offset; fault = code }
+
+-- a fault was met behind this opcode
+abbrev pub faulted : (offset opcode : ℕ) → Fault → DwexprOperation
+faulted offset opcode fault =
+    record nothing { offset = offset; opcode = opcode; fault = code_of_fault fault; detail = number_of_fault fault }
+
+-- a block is the last part of its operation, which ends here
+abbrev pub with_block : (end : ℕ) → Option (List ℕ) → DwexprOperation → DwexprOperation
+with_block end None shown = shown
+with_block end (Some block) shown = record shown { block_offset = end - length block; block_length = length block }
+
+-- an operation at this offset, with its opcode and so many bytes
+abbrev pub decoded : (offset opcode size : ℕ) → Operation → DwexprOperation
+decoded offset opcode size op =
+    record (with_block (offset + size) (block_in op) (operands_of op)) { offset = offset; opcode = opcode; size = size }
+
+-- what is shown of what is read from the offset on, where so many bytes are left
+abbrev pub Decodes : (offset opcode left : ℕ) → Result (Operation × List ℕ) Fault → DwexprOperation → Type 0
+Decodes offset opcode left (Ok read) shown = shown ≡ decoded offset opcode (left - length read.1) read.0
+Decodes offset opcode left (Err fault) shown = shown ≡ faulted offset opcode fault
+
+-- the bytes at the place that is shown are the operation's block
+abbrev pub HasBlock : (bytes : List ℕ) → DwexprOperation → Option (List ℕ) → Type 0
+HasBlock bytes shown None = Unit {0}
+HasBlock bytes shown (Some block) =
+    slice_range bytes shown.block_offset (shown.block_offset + shown.block_length) ≡ block
+
+abbrev pub IsBlockAt : (bytes : List ℕ) → DwexprOperation → Result (Operation × List ℕ) Fault → Type 0
+IsBlockAt bytes shown (Ok read) = HasBlock bytes shown (block_in read.0)
+IsBlockAt bytes shown (Err fault) = Unit {0}

@@ -1,0 +1,130 @@
+-- What the steps of a caller in C come to (DWARF 5, sections 2.5 and 2.6).
+use Rattle.std.specs.Prelude.{ℕ, ◌≡◌, ◌⊎◌, ◌++◌, Bool, List, [], ◌∷◌, map, take, slice_get, Option, Some, None, Result, Ok, Err, length}
+use Rattle.dwarf_base.specs.declared.common.Encoding.{Encoding}
+use Rattle.dwarf_base.specs.Faults.{Fault}
+use Rattle.dwarf_value.specs.declared.types.Value.{Value}
+use Rattle.dwarf_meaning.specs.Operations.{Text}
+use Rattle.dwarf_meaning.specs.Locations.{Piece}
+use Rattle.dwarf_meaning.specs.Stores.{Setup, Limits, Never}
+use Rattle.dwarf_meaning.specs.Meaning.{Outcome, Requests, Faults, Completes}
+use Rattle.dwarf_meaning.specs.Steps.{Step, Told, Asked, Allows, AllAllowed, after_steps, outcome_of}
+use Rattle.dwexpr_c.specs.Codes.{misplaced, unplaced}
+use Rattle.dwexpr_c.specs.Outcomes.{AsksOfBlock, ShowsRequest, completed, ended, ended_by, untold}
+use Rattle.dwexpr_c.specs.Pieces.{AreWritten, SomeBytes}
+use Rattle.dwexpr_c.specs.Steps.{step_in}
+use Rattle.dwexpr_c.specs.Texts.{text_in}
+use Rattle.dwexpr_c.specs.declared.outcomes.DwexprOutcome.{DwexprOutcome}
+use Rattle.dwexpr_c.specs.declared.pieces.DwexprPiece.{DwexprPiece}
+use Rattle.dwexpr_c.specs.declared.steps.DwexprStep.{DwexprStep}
+use Rattle.dwexpr_c.specs.declared.steps.DwexprText.{DwexprText}
+
+-- how many values, callers and pieces an evaluation holds at most
+abbrev pub capacities : Limits
+capacities = record { values = Some 64; frames = Some 16; pieces = Some 32 }
+
+abbrev pub setup_in : Encoding → Setup
+setup_in encoding = record { encoding = encoding; offset_bits = 64; limits = capacities }
+
+-- no step was done
+abbrev pub unset : Told
+unset =
+    record { settings = record { initial_value = None; object_address = None; maximum = 4294967295 }; first = None; inputs = [] }
+
+-- an expression, what was told before its steps, and the texts that these may name
+pub record Given : Type 0 where
+  pub setup : Setup
+  pub text : Text
+  pub told : Told
+  pub texts : List DwexprText
+
+abbrev pub told_by : Given → List Step → Told
+told_by given steps = after_steps given.setup Never given.text given.told steps
+
+-- what comes of the steps
+abbrev pub comes_of : Given → List Step → Option Outcome
+comes_of given steps = outcome_of given.setup Never given.text (told_by given steps)
+
+-- each step is allowed when it comes
+abbrev pub MayAll : Given → List Step → Type 0
+MayAll given steps = AllAllowed given.setup Never given.text given.told steps
+
+-- the numbers say these steps, and each is allowed when it comes
+pub record AreTaken (given : Given) (numbers : List DwexprStep) (steps : List Step) : Type 0 where
+  pub said : map (step_in given.text.is_big given.texts) numbers ≡ map Ok steps
+  pub allowed : MayAll given steps
+
+abbrev pub IsNoFault : Option Outcome → Type 0
+IsNoFault (Some (Faults fault)) = ⊥
+IsNoFault _ = Unit {0}
+
+-- what is shown once all steps are done, and of the places for pieces
+abbrev pub ShowsOutcome : List DwexprText → Option Outcome → DwexprOutcome → (old new : List DwexprPiece) → Type 0
+ShowsOutcome texts None out old new = (out ≡ untold) × (new ≡ old)
+ShowsOutcome texts (Some (Requests request frames)) out old new = ShowsRequest texts request out × (new ≡ old)
+ShowsOutcome texts (Some (Completes pieces value)) out old new =
+    (out ≡ completed (length pieces) value) × AreWritten texts pieces old new
+ShowsOutcome texts (Some (Faults fault)) out old new = ⊥
+
+pub record IsDone (given : Given) (numbers : List DwexprStep) (out : DwexprOutcome) (old new : List DwexprPiece) : Type 0 where
+  pub steps : List Step
+  pub taken : AreTaken given numbers steps
+  pub shown : ShowsOutcome given.texts (comes_of given steps) out old new
+
+-- ---- a step that ends the evaluation
+
+-- it isn't allowed
+pub record IsMisplaced (given : Given) (before : List Step) (step : Step) (out : DwexprOutcome) : Type 0 where
+  pub not_allowed : Allows (told_by given before) (comes_of given before) step → ⊥
+  pub shown : out ≡ ended misplaced 0 out.step
+
+-- it is allowed, and meets a fault
+pub record MeetsFault (given : Given) (before : List Step) (step : Step) (out : DwexprOutcome) : Type 0 where
+  pub allowed : MayAll given (before ++ step ∷ [])
+  pub fault : Fault
+  pub comes : comes_of given (before ++ step ∷ []) ≡ Some (Faults fault)
+  pub shown : out ≡ ended_by fault out.step
+
+abbrev pub AsksBlock : Option Outcome → Type 0
+AsksBlock (Some (Requests request frames)) = AsksOfBlock (Asked request)
+AsksBlock _ = ⊥
+
+-- It is allowed, and a block is asked about, whose place isn't known. Nothing says that this ever comes.
+pub record IsUnplaced (given : Given) (before : List Step) (step : Step) (out : DwexprOutcome) : Type 0 where
+  pub allowed : MayAll given (before ++ step ∷ [])
+  pub asks : AsksBlock (comes_of given (before ++ step ∷ []))
+  pub shown : out ≡ ended unplaced 0 out.step
+
+-- the numbers say no step, or one that ends the evaluation
+abbrev pub EndsBy : Given → (before : List Step) → Result Step ℕ → DwexprOutcome → Type 0
+EndsBy given before (Err code) out = out ≡ ended code 0 out.step
+EndsBy given before (Ok step) out = IsMisplaced given before step out ⊎ (MeetsFault given before step out ⊎ IsUnplaced given before step out)
+
+-- the steps before the one that is shown were done without a fault, and that one ended the evaluation
+pub record IsEnded (given : Given) (numbers : List DwexprStep) (out : DwexprOutcome) : Type 0 where
+  pub before : List Step
+  pub taken : AreTaken given (take out.step numbers) before
+  pub no_fault : IsNoFault (comes_of given before)
+  pub at : DwexprStep
+  pub is_there : slice_get numbers out.step ≡ Some at
+  pub ends : EndsBy given before (step_in given.text.is_big given.texts at) out
+
+-- all steps were done, and one of the pieces has bytes whose place isn't known. Nothing says that this ever comes.
+pub record HasUnplaced (given : Given) (numbers : List DwexprStep) (out : DwexprOutcome) : Type 0 where
+  pub steps : List Step
+  pub taken : AreTaken given numbers steps
+  pub pieces : List Piece
+  pub value : Option Value
+  pub comes : comes_of given steps ≡ Some (Completes pieces value)
+  pub some : SomeBytes pieces
+  pub shown : out ≡ ended unplaced 0 (length numbers)
+
+-- what the steps come to, from the first on
+abbrev pub Evaluates : Given → List DwexprStep → DwexprOutcome → (old new : List DwexprPiece) → Type 0
+Evaluates given numbers out old new =
+    IsDone given numbers out old new ⊎ ((IsEnded given numbers out × (new ≡ old)) ⊎ HasUnplaced given numbers out)
+
+-- the first of the texts is evaluated
+abbrev pub EvaluatesFirst : Encoding → (big : Bool) → List DwexprText → List DwexprStep → DwexprOutcome → (old new : List DwexprPiece) → Type 0
+EvaluatesFirst encoding big [] numbers out old new = (out ≡ ended 66 0 0) × (new ≡ old)
+EvaluatesFirst encoding big (text ∷ texts) numbers out old new =
+    Evaluates (record { setup = setup_in encoding; text = text_in big text; told = unset; texts = text ∷ texts }) numbers out old new

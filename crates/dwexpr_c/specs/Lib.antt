@@ -1,0 +1,11 @@
+pub mod Codes
+pub mod Decoded
+pub mod Encodings
+pub mod Evaluated
+pub mod Operations
+pub mod Outcomes
+pub mod Pieces
+pub mod Steps
+pub mod Texts
+pub mod Values
+pub mod inner

@@ -1,0 +1,95 @@
+-- Operations as a caller in C sees them: a kind, and numbers for the operands (DWARF 5, sections 2.5 and 2.6).
+use Rattle.std.specs.Prelude.{ℕ, ℤ, pos, Bool, true, false, List, Option, Some, None}
+use Rattle.dwarf_meaning.specs.Operations as meaning
+use Rattle.dwexpr_c.specs.declared.operations.DwexprOperation.{DwexprOperation}
+
+-- all numbers are 0
+abbrev pub nothing : DwexprOperation
+nothing =
+    record { offset = 0; size = 0; opcode = 0; kind = 0; number = 0; signed_number = pos 0; base_type = 0; register_number = 0; deref_size = 0; flag = 0; fault = 0; block_offset = 0; block_length = 0; detail = 0 }
+
+abbrev pub plain : (kind : ℕ) → DwexprOperation
+plain kind = record nothing { kind = kind }
+
+abbrev pub numbered : (kind number : ℕ) → DwexprOperation
+numbered kind number = record (plain kind) { number = number }
+
+abbrev pub signed : (kind : ℕ) → ℤ → DwexprOperation
+signed kind number = record (plain kind) { signed_number = number }
+
+abbrev pub typed : (kind base_type : ℕ) → DwexprOperation
+typed kind base_type = record (plain kind) { base_type = base_type }
+
+abbrev pub flag_of : Bool → ℕ
+flag_of true = 1
+flag_of false = 0
+
+-- the kind and the operands, but for a block
+abbrev pub operands_of : meaning.Operation → DwexprOperation
+operands_of (meaning.Deref base_type size space) =
+    record (typed 1 base_type) { deref_size = size; flag = flag_of space }
+operands_of meaning.Drop = plain 2
+operands_of (meaning.Pick index) = numbered 3 index
+operands_of meaning.Swap = plain 4
+operands_of meaning.Rot = plain 5
+operands_of meaning.Abs = plain 6
+operands_of meaning.And = plain 7
+operands_of meaning.Div = plain 8
+operands_of meaning.Minus = plain 9
+operands_of meaning.Mod = plain 10
+operands_of meaning.Mul = plain 11
+operands_of meaning.Neg = plain 12
+operands_of meaning.Not = plain 13
+operands_of meaning.Or = plain 14
+operands_of meaning.Plus = plain 15
+operands_of (meaning.PlusConstant value) = numbered 16 value
+operands_of meaning.Shl = plain 17
+operands_of meaning.Shr = plain 18
+operands_of meaning.Shra = plain 19
+operands_of meaning.Xor = plain 20
+operands_of (meaning.Bra target) = signed 21 target
+operands_of meaning.Eq = plain 22
+operands_of meaning.Ge = plain 23
+operands_of meaning.Gt = plain 24
+operands_of meaning.Le = plain 25
+operands_of meaning.Lt = plain 26
+operands_of meaning.Ne = plain 27
+operands_of (meaning.Skip target) = signed 28 target
+operands_of (meaning.UnsignedConstant value) = numbered 29 value
+operands_of (meaning.SignedConstant value) = signed 30 value
+operands_of (meaning.Register register) = record (plain 31) { register_number = register }
+operands_of (meaning.RegisterOffset register offset base_type) =
+    record (signed 32 offset) { register_number = register; base_type = base_type }
+operands_of (meaning.FrameOffset offset) = signed 33 offset
+operands_of meaning.Nop = plain 34
+operands_of meaning.PushObjectAddress = plain 35
+operands_of (meaning.Call (meaning.UnitRef offset)) = numbered 36 offset
+operands_of (meaning.Call (meaning.DebugInfoRef offset)) = record (numbered 36 offset) { flag = 1 }
+operands_of meaning.TLS = plain 37
+operands_of meaning.CallFrameCFA = plain 38
+operands_of (meaning.Piece size_in_bits None) = numbered 39 size_in_bits
+operands_of (meaning.Piece size_in_bits (Some bit_offset)) =
+    record (numbered 39 size_in_bits) { flag = 1; detail = bit_offset }
+operands_of (meaning.ImplicitValue bytes) = plain 40
+operands_of meaning.StackValue = plain 41
+operands_of (meaning.ImplicitPointer value byte_offset) = record (numbered 42 value) { signed_number = byte_offset }
+operands_of (meaning.EntryValue expression) = plain 43
+operands_of (meaning.ParameterRef offset) = numbered 44 offset
+operands_of (meaning.Address address) = numbered 45 address
+operands_of (meaning.AddressIndex index) = numbered 46 index
+operands_of (meaning.ConstantIndex index) = numbered 47 index
+operands_of (meaning.TypedLiteral base_type value) = typed 48 base_type
+operands_of (meaning.Convert base_type) = typed 49 base_type
+operands_of (meaning.Reinterpret base_type) = typed 50 base_type
+operands_of meaning.Uninitialized = plain 51
+operands_of (meaning.WasmLocal index) = numbered 52 index
+operands_of (meaning.WasmGlobal index) = numbered 53 index
+operands_of (meaning.WasmStack index) = numbered 54 index
+operands_of (meaning.VariableValue offset) = numbered 55 offset
+
+-- the block, where the operation has one
+abbrev pub block_in : meaning.Operation → Option (List ℕ)
+block_in (meaning.ImplicitValue bytes) = Some bytes.bytes
+block_in (meaning.EntryValue expression) = Some expression.bytes
+block_in (meaning.TypedLiteral base_type value) = Some value.bytes
+block_in _ = None

@@ -1,0 +1,53 @@
+-- Values of expressions as two numbers, a type and a content (DWARF 5, section 2.5.1).
+use Rattle.std.specs.Prelude.{ℕ, ◌==◌, ◌%◌, ◌^◌, Option, Some, None, if◌then◌else◌}
+use Rattle.dwarf_base.specs.Numbers.{residue, signed_of}
+use Rattle.dwarf_value.specs.declared.types.Value.{Value}
+use Rattle.dwarf_value.specs.declared.types.Value.TheVariants as value
+use Rattle.dwarf_value.specs.declared.types.ValueType.{ValueType}
+use Rattle.dwarf_value.specs.declared.types.ValueType.TheVariants as value_type
+use Rattle.dwexpr_c.specs.declared.values.ValueNumbers.{ValueNumbers}
+
+-- the type of a code
+abbrev pub type_in : (code : ℕ) → Option ValueType
+type_in code =
+    if code == 1 then Some value_type.Generic
+    else if code == 2 then Some value_type.I8
+    else if code == 3 then Some value_type.U8
+    else if code == 4 then Some value_type.I16
+    else if code == 5 then Some value_type.U16
+    else if code == 6 then Some value_type.I32
+    else if code == 7 then Some value_type.U32
+    else if code == 8 then Some value_type.I64
+    else if code == 9 then Some value_type.U64
+    else None
+
+-- the value of a type that has these lowest bits
+abbrev pub value_at : ValueType → (content : ℕ) → Value
+value_at value_type.Generic content = value.Generic content
+value_at value_type.I8 content = value.I8 (signed_of 8 (content % 2 ^ 8))
+value_at value_type.U8 content = value.U8 (content % 2 ^ 8)
+value_at value_type.I16 content = value.I16 (signed_of 16 (content % 2 ^ 16))
+value_at value_type.U16 content = value.U16 (content % 2 ^ 16)
+value_at value_type.I32 content = value.I32 (signed_of 32 (content % 2 ^ 32))
+value_at value_type.U32 content = value.U32 (content % 2 ^ 32)
+value_at value_type.I64 content = value.I64 (signed_of 64 content)
+value_at value_type.U64 content = value.U64 content
+
+abbrev pub value_typed : Option ValueType → (content : ℕ) → Option Value
+value_typed None content = None
+value_typed (Some t) content = Some (value_at t content)
+
+abbrev pub value_in : (code content : ℕ) → Option Value
+value_in code content = value_typed (type_in code) content
+
+-- a value as a caller sees it; a signed content is extended to 64 bits
+abbrev pub shown_value : Value → ValueNumbers
+shown_value (value.Generic content) = record { value_type = 1; content = content }
+shown_value (value.I8 number) = record { value_type = 2; content = residue 64 number }
+shown_value (value.U8 number) = record { value_type = 3; content = number }
+shown_value (value.I16 number) = record { value_type = 4; content = residue 64 number }
+shown_value (value.U16 number) = record { value_type = 5; content = number }
+shown_value (value.I32 number) = record { value_type = 6; content = residue 64 number }
+shown_value (value.U32 number) = record { value_type = 7; content = number }
+shown_value (value.I64 number) = record { value_type = 8; content = residue 64 number }
+shown_value (value.U64 number) = record { value_type = 9; content = number }

@@ -1,0 +1,60 @@
+ghost use Rattle.std.specs.Prelude.{◌≡◌, ◌<◌, ◌≤◌, true, false, length, drop, slice_index};
+ghost use Rattle.dwarf_base.specs.ByteOrder.{is_big_of};
+ghost use Rattle.dwarf_meaning.specs.Decoding.{operation_at};
+ghost use Rattle.dwexpr_c.specs.Codes.{bad_encoding, bad_offset};
+ghost use Rattle.dwexpr_c.specs.Decoded.{Decodes, IsBlockAt, refused};
+ghost use Rattle.dwexpr_c.specs.Encodings.{is_encoding, encoding_in, is_big_in};
+
+use crate::encodings::{DwexprEncoding, Reading, reading_of};
+use crate::faults::{BAD_ENCODING, BAD_OFFSET, numbers_of};
+use crate::operations::{DwexprOperation, refuse, show, show_fault};
+use dwarf_base::{EndianSlice, Reader};
+use dwarf_op::Operation;
+
+/// What stands at an offset, where there is a byte.
+fn decode_at(bytes: &[u8], reading: Reading, offset: usize) -> DwexprOperation
+    requires { offset < length bytes.now }
+    ensures { Decodes offset (slice_index bytes.now offset) (length (drop offset bytes.now)) (operation_at reading.encoding 64 (record { bytes = drop offset bytes.now; is_big = is_big_of reading.order })) result }
+{
+    let opcode = bytes[offset];
+    let front = EndianSlice::new(&bytes[offset..], reading.order);
+    let mut left = front;
+    match Operation::parse(&mut left, reading.encoding) {
+        Ok(operation) => show(operation, offset, opcode, left.offset_from(&front)),
+        Err(error) => show_fault(offset, opcode, numbers_of(error)),
+    }
+}
+
+/// What is shown of the operation at an offset.
+fn decode(bytes: &[u8], numbers: DwexprEncoding, offset: usize) -> DwexprOperation
+    ensures encoding { is_encoding numbers ≡ false → result ≡ refused offset bad_encoding }
+    ensures offset { is_encoding numbers ≡ true → length bytes.now ≤ offset → result ≡ refused offset bad_offset }
+    ensures decodes { is_encoding numbers ≡ true → offset < length bytes.now → Decodes offset (slice_index bytes.now offset) (length (drop offset bytes.now)) (operation_at (encoding_in numbers) 64 (record { bytes = drop offset bytes.now; is_big = is_big_in numbers })) result }
+{
+    match reading_of(numbers) {
+        None => refuse(offset, BAD_ENCODING),
+        Some(_) if offset >= bytes.len() => refuse(offset, BAD_OFFSET),
+        Some(reading) => decode_at(bytes, reading, offset),
+    }
+}
+
+/// Decodes the operation that begins at an offset of the bytes (DWARF 5, sections 2.5 and 7.7.1).
+///
+/// It answers 0, the code of a fault of the bytes, 1 to 21, or of an argument: 64 where the encoding's numbers say none,
+/// then 65 where there is no byte at the offset. `operation` is written in each case; its `fault` is the code.
+#[unsafe(no_mangle)]
+pub extern "C" fn dwexpr_decode(
+    bytes: &[u8],
+    encoding: DwexprEncoding,
+    offset: usize,
+    operation: &mut DwexprOperation,
+) -> u32
+    ensures code { result ≡ operation.new.fault }
+    ensures encoding { is_encoding encoding ≡ false → operation.new ≡ refused offset bad_encoding }
+    ensures offset { is_encoding encoding ≡ true → length bytes.now ≤ offset → operation.new ≡ refused offset bad_offset }
+    ensures decodes { is_encoding encoding ≡ true → offset < length bytes.now → Decodes offset (slice_index bytes.now offset) (length (drop offset bytes.now)) (operation_at (encoding_in encoding) 64 (record { bytes = drop offset bytes.now; is_big = is_big_in encoding })) operation.new }
+    ensures block { is_encoding encoding ≡ true → offset < length bytes.now → IsBlockAt bytes.now operation.new (operation_at (encoding_in encoding) 64 (record { bytes = drop offset bytes.now; is_big = is_big_in encoding })) }
+{
+    *operation = decode(bytes, encoding, offset);
+    operation.fault
+}

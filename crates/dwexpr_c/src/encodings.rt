@@ -1,0 +1,70 @@
+ghost use Rattle.std.specs.Prelude.{◌≡◌, ◌<◌, ◌≤◌, true, false, IfSome, IfNone, ◌==◌, ◌||◌, if◌then◌else◌};
+ghost use Rattle.dwarf_base.specs.ByteOrder.{is_big_of};
+ghost use Rattle.dwexpr_c.specs.Encodings.{is_encoding, encoding_in, is_big_in};
+
+use dwarf_base::{Encoding, Format, RunTimeEndian};
+
+/// How bytes are to be read, in the numbers of a caller, of which any may be wrong.
+#[repr(C)]
+#[derive(Clone, Copy)]
+pub struct DwexprEncoding {
+    /// The size of an address in bytes, 1 to 8.
+    pub address_size: u8,
+    /// The size of an offset in bytes, 4 or 8.
+    pub offset_size: u8,
+    /// 0 where the lowest byte of a number comes first, 1 where the highest does.
+    pub big_endian: u8,
+    /// The version of DWARF, 2 to 5.
+    pub version: u8,
+}
+
+/// How bytes are to be read.
+#[derive(Clone, Copy)]
+pub(crate) struct Reading {
+    pub(crate) encoding: Encoding,
+    pub(crate) order: RunTimeEndian,
+}
+
+fn format_of(offset_size: u8) -> Option<Format>
+    ensures some { IfSome result (λ format. ((offset_size == 4 || offset_size == 8) ≡ true) × (format ≡ (if offset_size == 8 then Format.Dwarf64 else Format.Dwarf32))) }
+    ensures none { IfNone result ((offset_size == 4 || offset_size == 8) ≡ false) }
+{
+    match offset_size {
+        4 => Some(Format::Dwarf32),
+        8 => Some(Format::Dwarf64),
+        _ => None,
+    }
+}
+
+fn order_of(big_endian: u8) -> Option<RunTimeEndian>
+    ensures some { IfSome result (λ order. ((big_endian == 0 || big_endian == 1) ≡ true) × (is_big_of order ≡ (big_endian == 1))) }
+    ensures none { IfNone result ((big_endian == 0 || big_endian == 1) ≡ false) }
+{
+    match big_endian {
+        0 => Some(RunTimeEndian::Little),
+        1 => Some(RunTimeEndian::Big),
+        _ => None,
+    }
+}
+
+/// How bytes are to be read, where the numbers say that.
+pub(crate) fn reading_of(numbers: DwexprEncoding) -> Option<Reading>
+    ensures some { IfSome result (λ reading. (is_encoding numbers ≡ true) × (reading.encoding ≡ encoding_in numbers) × (is_big_of reading.order ≡ is_big_in numbers)) }
+    ensures none { IfNone result (is_encoding numbers ≡ false) }
+    ensures size { IfSome result (λ reading. (0 < reading.encoding.address_size) × (reading.encoding.address_size ≤ 8)) }
+{
+    if numbers.address_size == 0 || numbers.address_size > 8 {
+        return None;
+    }
+    if numbers.version < 2 || numbers.version > 5 {
+        return None;
+    }
+    Some(Reading {
+        encoding: Encoding {
+            address_size: numbers.address_size,
+            format: format_of(numbers.offset_size)?,
+            version: u16::from(numbers.version),
+        },
+        order: order_of(numbers.big_endian)?,
+    })
+}

@@ -1,0 +1,76 @@
+ghost use Rattle.std.specs.Prelude.{◌≡◌};
+ghost use Rattle.dwarf_base.specs.Faults.{fault_of};
+ghost use Rattle.dwexpr_c.specs.Codes.{code_of_fault, number_of_fault};
+
+use dwarf_base::Error;
+
+/// The code of what went well.
+pub(crate) const OK: u32 = 0;
+
+/// The code of an encoding whose numbers say none.
+pub(crate) const BAD_ENCODING: u32 = 64;
+
+/// The code of an offset at which there is no byte.
+pub(crate) const BAD_OFFSET: u32 = 65;
+
+/// The code of a text that isn't there.
+pub(crate) const BAD_TEXT: u32 = 66;
+
+/// The code of a step whose numbers say none.
+pub(crate) const BAD_STEP: u32 = 67;
+
+/// The code of a step that isn't allowed where it stands.
+pub(crate) const MISPLACED: u32 = 68;
+
+/// The code of a block whose place isn't known.
+pub(crate) const UNPLACED: u32 = 69;
+
+/// A fault as callers see it.
+#[derive(Clone, Copy)]
+pub(crate) struct FaultNumbers {
+    pub(crate) code: u32,
+    /// The number that the fault carries, or 0.
+    pub(crate) number: u64,
+}
+
+/// A code that carries no number.
+pub(crate) fn plain(code: u32) -> FaultNumbers
+    ensures { result ≡ record { code = code; number = 0 } }
+{
+    FaultNumbers { code, number: 0 }
+}
+
+fn carrying(code: u32, number: u64) -> FaultNumbers
+    ensures { result ≡ record { code = code; number = number } }
+{
+    FaultNumbers { code, number }
+}
+
+/// The code of a fault, and the number that it carries.
+pub(crate) fn numbers_of(error: Error) -> FaultNumbers
+    ensures { result ≡ record { code = code_of_fault (fault_of error); number = number_of_fault (fault_of error) } }
+{
+    match error {
+        Error::UnexpectedEof(_) => plain(1),
+        Error::BadUnsignedLeb128 => plain(2),
+        Error::BadSignedLeb128 => plain(3),
+        Error::UnsupportedAddressSize(size) => carrying(4, u64::from(size)),
+        Error::UnsupportedOffset => plain(5),
+        Error::UnsupportedRegister(register) => carrying(6, register),
+        Error::InvalidExpression(opcode) => carrying(7, u64::from(opcode.0)),
+        Error::InvalidPieceSize(size) => carrying(8, size),
+        Error::UnsupportedTypeOperation => plain(9),
+        Error::TypeMismatch => plain(10),
+        Error::DivisionByZero => plain(11),
+        Error::InvalidShiftExpression => plain(12),
+        Error::NotEnoughStackItems => plain(13),
+        Error::InvalidDerefSize(size) => carrying(14, u64::from(size)),
+        Error::InvalidPushObjectAddress => plain(15),
+        Error::UnsupportedEvaluation => plain(16),
+        Error::BadBranchTarget(target) => carrying(17, target),
+        Error::TooManyIterations => plain(18),
+        Error::InvalidPiece => plain(19),
+        Error::InvalidExpressionTerminator(place) => carrying(20, place),
+        Error::StackFull => plain(21),
+    }
+}

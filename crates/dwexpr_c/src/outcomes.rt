@@ -1,0 +1,203 @@
+ghost use Rattle.std.specs.Prelude.{◌≡◌, IfSome, IfNone, length};
+ghost use Rattle.dwarf_eval.specs.Calls.{told_of};
+ghost use Rattle.dwexpr_c.specs.Outcomes.{AsksOfBlock, ShowsReply, asking, completed, ended, untold};
+ghost use Rattle.dwexpr_c.specs.Texts.{text_of_placed};
+
+use crate::faults::{FaultNumbers, OK};
+use crate::places::Placed;
+use crate::steps::{DwexprText, is_placed};
+use crate::values::numbers_of_value;
+use dwarf_base::Reader;
+use dwarf_eval::op::EvaluationResult;
+use dwarf_op::DieReference;
+use dwarf_value::Value;
+
+/// What an evaluation came to. What a request doesn't name is 0.
+#[repr(C)]
+#[derive(Clone, Copy)]
+pub struct DwexprOutcome {
+    /// The code that the call answers.
+    pub code: u32,
+    /// What is asked for, or that the evaluation is complete; 0 where nothing was evaluated, or the code isn't 0.
+    pub request: u32,
+    /// The number that a fault carries.
+    pub detail: u64,
+    /// The index of the step that ended the evaluation, where the code isn't 0.
+    pub step: usize,
+    /// An address, an index or an offset of an entry.
+    pub number: u64,
+    /// The offset in the unit of the type that the answer is to have; 0 for the generic type.
+    pub base_type: u64,
+    /// The address space.
+    pub space: u64,
+    /// The register.
+    pub register_number: u32,
+    /// How many bytes are read from memory.
+    pub size: u32,
+    /// 1 where there is an address space, an offset is in `.debug_info`, or an address is to be relocated.
+    pub flag: u32,
+    /// The type of the value of a complete evaluation; 0 where it has none.
+    pub value_type: u32,
+    /// The value of a complete evaluation.
+    pub value: u64,
+    /// The index of the text in which the block is.
+    pub block_text: usize,
+    /// Where in that text the block begins.
+    pub block_offset: usize,
+    /// How many bytes the block has.
+    pub block_length: usize,
+    /// How many pieces a complete evaluation has.
+    pub pieces: usize,
+}
+
+pub(crate) const UNTOLD: DwexprOutcome = DwexprOutcome {
+    code: OK,
+    request: 0,
+    detail: 0,
+    step: 0,
+    number: 0,
+    base_type: 0,
+    space: 0,
+    register_number: 0,
+    size: 0,
+    flag: 0,
+    value_type: 0,
+    value: 0,
+    block_text: 0,
+    block_offset: 0,
+    block_length: 0,
+    pieces: 0,
+};
+
+/// What is shown where a step ended the evaluation.
+pub(crate) fn show_end(fault: FaultNumbers, step: usize) -> DwexprOutcome
+    ensures { result ≡ ended fault.code fault.number step }
+{
+    DwexprOutcome {
+        code: fault.code,
+        detail: fault.number,
+        step,
+        ..UNTOLD
+    }
+}
+
+fn asking(request: u32, number: u64) -> DwexprOutcome
+    ensures { result ≡ asking request number }
+{
+    DwexprOutcome {
+        request,
+        number,
+        ..UNTOLD
+    }
+}
+
+/// A request of memory.
+fn asking_memory(address: u64, size: u8, base_type: usize) -> DwexprOutcome
+    ensures { result ≡ record (asking 2 address) { size = size; base_type = base_type } }
+{
+    DwexprOutcome {
+        size: u32::from(size),
+        base_type: base_type as u64,
+        ..asking(2, address)
+    }
+}
+
+/// The outcome with the place of a block.
+fn with_block(shown: DwexprOutcome, block: Placed<'_>) -> DwexprOutcome
+    ensures { result ≡ record shown { block_text = block.entry.text; block_offset = block.entry.place; block_length = length (text_of_placed block.entry).bytes } }
+{
+    DwexprOutcome {
+        block_text: block.text(),
+        block_offset: block.place(),
+        block_length: block.len(),
+        ..shown
+    }
+}
+
+/// What a call answered; `None` where it asks of a block that isn't at its place.
+pub(crate) fn show_told(
+    texts: &[DwexprText<'_>],
+    told: EvaluationResult<Placed<'_>>,
+) -> Option<DwexprOutcome>
+    ensures some { IfSome result (λ out. ShowsReply texts.now (told_of text_of_placed (λ x. x) told.entry) out) }
+    ensures none { IfNone result (AsksOfBlock (told_of text_of_placed (λ x. x) told.entry)) }
+{
+    Some(match told {
+        EvaluationResult::Complete => asking(1, 0),
+        EvaluationResult::RequiresMemory {
+            address,
+            size,
+            space: None,
+            base_type,
+        } => asking_memory(address, size, base_type.0),
+        EvaluationResult::RequiresMemory {
+            address,
+            size,
+            space: Some(space),
+            base_type,
+        } => DwexprOutcome {
+            flag: 1,
+            space,
+            ..asking_memory(address, size, base_type.0)
+        },
+        EvaluationResult::RequiresRegister {
+            register,
+            base_type,
+        } => DwexprOutcome {
+            register_number: u32::from(register.0),
+            base_type: base_type.0 as u64,
+            ..asking(3, 0)
+        },
+        EvaluationResult::RequiresFrameBase => asking(4, 0),
+        EvaluationResult::RequiresTls(index) => asking(5, index),
+        EvaluationResult::RequiresCallFrameCfa => asking(6, 0),
+        EvaluationResult::RequiresAtLocation(DieReference::UnitRef(offset)) => asking(
+            7,
+            offset.0 as u64,
+        ),
+        EvaluationResult::RequiresAtLocation(DieReference::DebugInfoRef(offset)) => DwexprOutcome {
+            flag: 1,
+            ..asking(7, offset.0 as u64)
+        },
+        EvaluationResult::RequiresEntryValue(expression) => {
+            if !is_placed(texts, expression.0) {
+                return None;
+            }
+            with_block(asking(8, 0), expression.0)
+        }
+        EvaluationResult::RequiresParameterRef(offset) => asking(9, offset.0 as u64),
+        EvaluationResult::RequiresRelocatedAddress(address) => asking(10, address),
+        EvaluationResult::RequiresIndexedAddress { index, relocate } => DwexprOutcome {
+            flag: u32::from(relocate),
+            ..asking(11, index.0 as u64)
+        },
+        EvaluationResult::RequiresBaseType(offset) => DwexprOutcome {
+            base_type: offset.0 as u64,
+            ..asking(12, 0)
+        },
+        EvaluationResult::RequiresWasmLocal { index } => asking(13, u64::from(index)),
+        EvaluationResult::RequiresWasmGlobal { index } => asking(14, u64::from(index)),
+        EvaluationResult::RequiresWasmStack { index } => asking(15, u64::from(index)),
+    })
+}
+
+/// What is shown of a complete evaluation.
+pub(crate) fn show_complete(pieces: usize, value: Option<Value>) -> DwexprOutcome
+    ensures { result ≡ completed pieces value }
+{
+    let complete = DwexprOutcome {
+        pieces,
+        ..asking(1, 0)
+    };
+    match value {
+        None => complete,
+        Some(value) => {
+            let numbers = numbers_of_value(value);
+            DwexprOutcome {
+                value_type: numbers.value_type,
+                value: numbers.content,
+                ..complete
+            }
+        }
+    }
+}

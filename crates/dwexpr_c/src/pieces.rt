@@ -1,0 +1,164 @@
+ghost use Rattle.std.specs.Prelude.{◌≡◌, IfSome, IfNone, true, false, length, map, slice_get};
+ghost use Rattle.dwarf_eval.specs.Machine.{location_of, piece_of};
+ghost use Rattle.dwexpr_c.specs.Pieces.{AreWritten, HasBytes, ShowsLocation, ShowsPiece, SomeBytes, has, or_zero, sized};
+ghost use Rattle.dwexpr_c.specs.Texts.{text_of_placed};
+
+use crate::places::Placed;
+use crate::steps::{DwexprText, is_placed};
+use crate::values::numbers_of_value;
+use dwarf_base::Reader;
+use dwarf_op::{Location, Piece};
+
+/// A piece of a variable. What its kind doesn't name is 0.
+#[repr(C)]
+#[derive(Clone, Copy)]
+pub struct DwexprPiece {
+    /// Where it is, or what it holds.
+    pub kind: u32,
+    /// 1 where it has a size; without one it is the whole variable.
+    pub has_size: u32,
+    /// Its size in bits.
+    pub size_in_bits: u64,
+    /// Where it begins in its location, in bits.
+    pub bit_offset: u64,
+    /// 1 where that is said.
+    pub has_bit_offset: u32,
+    /// The type of its value.
+    pub value_type: u32,
+    /// A register, an address, a value or an offset of an entry.
+    pub number: u64,
+    /// Where in the object it points to, in bytes.
+    pub byte_offset: i64,
+    /// The index of the text in which its bytes are.
+    pub block_text: usize,
+    /// Where in that text they begin.
+    pub block_offset: usize,
+    /// How many they are.
+    pub block_length: usize,
+}
+
+fn flag_of(number: Option<u64>) -> u32
+    ensures { result ≡ has number }
+{
+    match number {
+        None => 0,
+        Some(_) => 1,
+    }
+}
+
+fn or_zero(number: Option<u64>) -> u64
+    ensures { result ≡ or_zero number }
+{
+    match number {
+        None => 0,
+        Some(number) => number,
+    }
+}
+
+fn sized(kind: u32, size_in_bits: Option<u64>, bit_offset: Option<u64>) -> DwexprPiece
+    ensures { result ≡ sized kind size_in_bits bit_offset }
+{
+    DwexprPiece {
+        kind,
+        has_size: flag_of(size_in_bits),
+        size_in_bits: or_zero(size_in_bits),
+        bit_offset: or_zero(bit_offset),
+        has_bit_offset: flag_of(bit_offset),
+        value_type: 0,
+        number: 0,
+        byte_offset: 0,
+        block_text: 0,
+        block_offset: 0,
+        block_length: 0,
+    }
+}
+
+/// The piece with the place of its bytes.
+fn with_bytes(shown: DwexprPiece, block: Placed<'_>) -> DwexprPiece
+    ensures { result ≡ record shown { block_text = block.entry.text; block_offset = block.entry.place; block_length = length (text_of_placed block.entry).bytes } }
+{
+    DwexprPiece {
+        block_text: block.text(),
+        block_offset: block.place(),
+        block_length: block.len(),
+        ..shown
+    }
+}
+
+/// A piece; `None` where its bytes aren't at their place.
+fn show_location(
+    texts: &[DwexprText<'_>],
+    size: Option<u64>,
+    offset: Option<u64>,
+    location: Location<Placed<'_>>,
+) -> Option<DwexprPiece>
+    ensures some { IfSome result (λ out. ShowsLocation texts.now size offset (location_of text_of_placed (λ x. x) location.entry) out) }
+    ensures none { IfNone result (HasBytes (location_of text_of_placed (λ x. x) location.entry)) }
+{
+    Some(match location {
+        Location::Empty => sized(1, size, offset),
+        Location::Register { register } => DwexprPiece {
+            number: u64::from(register.0),
+            ..sized(2, size, offset)
+        },
+        Location::Address { address } => DwexprPiece {
+            number: address,
+            ..sized(3, size, offset)
+        },
+        Location::Value { value } => {
+            let numbers = numbers_of_value(value);
+            DwexprPiece {
+                value_type: numbers.value_type,
+                number: numbers.content,
+                ..sized(4, size, offset)
+            }
+        }
+        Location::Bytes { value } => {
+            if !is_placed(texts, value) {
+                return None;
+            }
+            with_bytes(sized(5, size, offset), value)
+        }
+        Location::ImplicitPointer { value, byte_offset } => DwexprPiece {
+            number: value.0 as u64,
+            byte_offset,
+            ..sized(6, size, offset)
+        },
+    })
+}
+
+/// A piece; `None` where its bytes aren't at their place.
+fn show_piece(texts: &[DwexprText<'_>], piece: Piece<Placed<'_>>) -> Option<DwexprPiece>
+    ensures some { IfSome result (λ out. ShowsPiece texts.now (piece_of text_of_placed (λ x. x) piece.entry) out) }
+    ensures none { IfNone result (HasBytes (piece_of text_of_placed (λ x. x) piece.entry).location) }
+{
+    show_location(texts, piece.size_in_bits, piece.bit_offset, piece.location)
+}
+
+/// The piece at an index, where there is one.
+fn piece_at<'a>(pieces: &[Piece<Placed<'a>>], index: usize) -> Option<Piece<Placed<'a>>>
+    ensures { result ≡ slice_get pieces.now index }
+{
+    pieces.get(index).copied()
+}
+
+/// Writes as many pieces as there is room for; `false` where the bytes of one aren't at their place.
+pub(crate) fn write_pieces(
+    texts: &[DwexprText<'_>],
+    pieces: &[Piece<Placed<'_>>],
+    places: &mut [DwexprPiece],
+) -> bool
+    ensures written { result ≡ true → AreWritten texts.now (map (piece_of text_of_placed (λ x. x)) pieces.now) places.old places.new }
+    ensures unplaced { result ≡ false → SomeBytes (map (piece_of text_of_placed (λ x. x)) pieces.now) }
+{
+    for index in 0..places.len() {
+        let Some(piece) = piece_at(pieces, index) else {
+            return true;
+        };
+        match show_piece(texts, piece) {
+            Some(shown) => places[index] = shown,
+            None => return false,
+        }
+    }
+    true
+}

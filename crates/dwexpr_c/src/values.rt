@@ -1,0 +1,72 @@
+ghost use Rattle.std.specs.Prelude.{◌≡◌};
+ghost use Rattle.dwexpr_c.specs.Values.{shown_value, type_in, value_in};
+
+use dwarf_value::{Value, ValueType};
+
+/// The type of a code.
+pub(crate) fn type_of_code(code: u32) -> Option<ValueType>
+    ensures { result ≡ type_in code }
+{
+    match code {
+        1 => Some(ValueType::Generic),
+        2 => Some(ValueType::I8),
+        3 => Some(ValueType::U8),
+        4 => Some(ValueType::I16),
+        5 => Some(ValueType::U16),
+        6 => Some(ValueType::I32),
+        7 => Some(ValueType::U32),
+        8 => Some(ValueType::I64),
+        9 => Some(ValueType::U64),
+        _ => None,
+    }
+}
+
+/// A value as callers see it.
+#[derive(Clone, Copy)]
+pub(crate) struct ValueNumbers {
+    /// The code of its type.
+    pub(crate) value_type: u32,
+    /// Its content; a signed one is extended to 64 bits.
+    pub(crate) content: u64,
+}
+
+/// The type and the content of a value.
+pub(crate) fn numbers_of_value(value: Value) -> ValueNumbers
+    ensures { result ≡ shown_value value }
+{
+    let (value_type, content) = match value {
+        Value::Generic(content) => (1, content),
+        Value::I8(number) => (2, i64::from(number).cast_unsigned()),
+        Value::U8(number) => (3, u64::from(number)),
+        Value::I16(number) => (4, i64::from(number).cast_unsigned()),
+        Value::U16(number) => (5, u64::from(number)),
+        Value::I32(number) => (6, i64::from(number).cast_unsigned()),
+        Value::U32(number) => (7, u64::from(number)),
+        Value::I64(number) => (8, number.cast_unsigned()),
+        Value::U64(number) => (9, number),
+    };
+    ValueNumbers {
+        value_type,
+        content,
+    }
+}
+
+/// The value of this type whose lowest bits are these.
+pub(crate) fn value_of(code: u32, content: u64) -> Option<Value>
+    ensures { result ≡ value_in code content }
+{
+    let byte = (content % 0x100) as u8;
+    let half = (content % 0x1_0000) as u16;
+    let word = (content % 0x1_0000_0000) as u32;
+    Some(match type_of_code(code)? {
+        ValueType::Generic => Value::Generic(content),
+        ValueType::I8 => Value::I8(byte.cast_signed()),
+        ValueType::U8 => Value::U8(byte),
+        ValueType::I16 => Value::I16(half.cast_signed()),
+        ValueType::U16 => Value::U16(half),
+        ValueType::I32 => Value::I32(word.cast_signed()),
+        ValueType::U32 => Value::U32(word),
+        ValueType::I64 => Value::I64(content.cast_signed()),
+        ValueType::U64 => Value::U64(content),
+    })
+}

@@ -1,0 +1,497 @@
+/* DWARF expressions, decoded and evaluated. Link with libdwexpr_c.a.
+ *
+ * Debug information says by small programs, DWARF expressions, where a variable is, what a frame's base is, or which
+ * value a register had in the caller (DWARF 5, sections 2.5 and 2.6). Here are
+ *
+ *   dwexpr_decode     the operation at an offset of an expression
+ *   dwexpr_evaluate   what an expression comes to, given the answers to what it asked so far
+ *   dwexpr_run        the same in one call, with callbacks that answer
+ *
+ * Of the first two each result is proved; dwexpr_run is plain C below, over dwexpr_evaluate.
+ *
+ * No call takes memory, keeps a pointer, waits, or touches errno, a global or a thread-local variable. So each may be
+ * made from any thread and from a signal handler; 16 KiB of stack suffice.
+ *
+ * What a caller owes, as no call can test it:
+ *   - a pointer that is given with a count points to that many items, aligned, which nothing else writes during the
+ *     call; where the count is 0 it may be NULL;
+ *   - each other pointer is not NULL and points to one item;
+ *   - what a call writes overlaps nothing else that it is given.
+ * All else is tested, and answered by a code: any bits may stand in any struct.
+ */
+#ifndef DWEXPR_H
+#define DWEXPR_H
+
+#include <stddef.h>
+#include <stdint.h>
+
+#ifdef __cplusplus
+extern "C" {
+#endif
+
+/* ---------------------------------------------------------------- codes */
+
+/* What a call answers. 1 to 21 are faults of the expression, 64 and above of the arguments. Some faults carry a number,
+ * which stands in the field `detail` of what the call wrote. */
+enum dwexpr_code {
+    DWEXPR_OK = 0,
+    DWEXPR_UNEXPECTED_EOF = 1,                  /* an operation is cut off */
+    DWEXPR_BAD_UNSIGNED_LEB128 = 2,
+    DWEXPR_BAD_SIGNED_LEB128 = 3,
+    DWEXPR_UNSUPPORTED_ADDRESS_SIZE = 4,        /* carries the size, none of 1, 2, 4 and 8 */
+    DWEXPR_UNSUPPORTED_OFFSET = 5,
+    DWEXPR_UNSUPPORTED_REGISTER = 6,            /* carries the register, above 65535 */
+    DWEXPR_INVALID_EXPRESSION = 7,              /* carries the opcode, of which there is no operation */
+    DWEXPR_INVALID_PIECE_SIZE = 8,              /* carries the size in bytes */
+    DWEXPR_UNSUPPORTED_TYPE_OPERATION = 9,
+    DWEXPR_TYPE_MISMATCH = 10,
+    DWEXPR_DIVISION_BY_ZERO = 11,
+    DWEXPR_INVALID_SHIFT_EXPRESSION = 12,
+    DWEXPR_NOT_ENOUGH_STACK_ITEMS = 13,
+    DWEXPR_INVALID_DEREF_SIZE = 14,             /* carries the size, above that of an address */
+    DWEXPR_INVALID_PUSH_OBJECT_ADDRESS = 15,    /* no object's address was set */
+    DWEXPR_UNSUPPORTED_EVALUATION = 16,
+    DWEXPR_BAD_BRANCH_TARGET = 17,              /* carries the target, modulo 2 to the 64 */
+    DWEXPR_TOO_MANY_ITERATIONS = 18,
+    DWEXPR_INVALID_PIECE = 19,
+    DWEXPR_INVALID_EXPRESSION_TERMINATOR = 20,  /* carries the place */
+    DWEXPR_STACK_FULL = 21,                     /* one of the lists below was full */
+    DWEXPR_BAD_ENCODING = 64,                   /* a number of the encoding is none of those allowed */
+    DWEXPR_BAD_OFFSET = 65,                     /* decode: there is no byte at the offset */
+    DWEXPR_BAD_TEXT = 66,                       /* evaluate: no texts, or a step names one that isn't there */
+    DWEXPR_BAD_STEP = 67,                       /* evaluate: kind or type of a step is none, or its maximum too large */
+    DWEXPR_MISPLACED = 68,                      /* evaluate: the step isn't allowed where it stands */
+    DWEXPR_UNPLACED = 69                        /* evaluate: the place of a block isn't known; it was never seen */
+};
+
+/* How an expression is to be read: what its unit says. */
+typedef struct dwexpr_encoding {
+    uint8_t address_size; /* bytes of an address: 1 to 8 */
+    uint8_t offset_size;  /* bytes of an offset: 4 in the 32-bit format of DWARF, 8 in the 64-bit one */
+    uint8_t big_endian;   /* 1 where the highest byte of a number comes first, else 0 */
+    uint8_t version;      /* of DWARF: 2 to 5 */
+} dwexpr_encoding;
+
+/* ---------------------------------------------------------------- decoding */
+
+/* Kinds of operations. Opcodes that do the same are one kind: DW_OP_lit3 and DW_OP_const1u 3 are both constants. */
+enum dwexpr_operation_kind {
+    DWEXPR_OP_NONE = 0,
+    DWEXPR_OP_DEREF = 1,               /* deref_size, base_type; flag: an address space is popped too */
+    DWEXPR_OP_DROP = 2,
+    DWEXPR_OP_PICK = 3,                /* number: how far below the top */
+    DWEXPR_OP_SWAP = 4,
+    DWEXPR_OP_ROT = 5,
+    DWEXPR_OP_ABS = 6,
+    DWEXPR_OP_AND = 7,
+    DWEXPR_OP_DIV = 8,
+    DWEXPR_OP_MINUS = 9,
+    DWEXPR_OP_MOD = 10,
+    DWEXPR_OP_MUL = 11,
+    DWEXPR_OP_NEG = 12,
+    DWEXPR_OP_NOT = 13,
+    DWEXPR_OP_OR = 14,
+    DWEXPR_OP_PLUS = 15,
+    DWEXPR_OP_PLUS_CONSTANT = 16,      /* number */
+    DWEXPR_OP_SHL = 17,
+    DWEXPR_OP_SHR = 18,
+    DWEXPR_OP_SHRA = 19,
+    DWEXPR_OP_XOR = 20,
+    DWEXPR_OP_BRA = 21,                /* signed_number: bytes from behind the operation */
+    DWEXPR_OP_EQ = 22,
+    DWEXPR_OP_GE = 23,
+    DWEXPR_OP_GT = 24,
+    DWEXPR_OP_LE = 25,
+    DWEXPR_OP_LT = 26,
+    DWEXPR_OP_NE = 27,
+    DWEXPR_OP_SKIP = 28,               /* signed_number: bytes from behind the operation */
+    DWEXPR_OP_UNSIGNED_CONSTANT = 29,  /* number */
+    DWEXPR_OP_SIGNED_CONSTANT = 30,    /* signed_number */
+    DWEXPR_OP_REGISTER = 31,           /* register_number */
+    DWEXPR_OP_REGISTER_OFFSET = 32,    /* register_number, signed_number: bytes, base_type */
+    DWEXPR_OP_FRAME_OFFSET = 33,       /* signed_number: bytes */
+    DWEXPR_OP_NOP = 34,
+    DWEXPR_OP_PUSH_OBJECT_ADDRESS = 35,
+    DWEXPR_OP_CALL = 36,               /* number: offset of an entry in the unit; flag: in .debug_info */
+    DWEXPR_OP_TLS = 37,
+    DWEXPR_OP_CALL_FRAME_CFA = 38,
+    DWEXPR_OP_PIECE = 39,              /* number: bits; flag: it begins at bit `detail` */
+    DWEXPR_OP_IMPLICIT_VALUE = 40,     /* block */
+    DWEXPR_OP_STACK_VALUE = 41,
+    DWEXPR_OP_IMPLICIT_POINTER = 42,   /* number: offset of an entry in .debug_info; signed_number: bytes into it */
+    DWEXPR_OP_ENTRY_VALUE = 43,        /* block: an expression */
+    DWEXPR_OP_PARAMETER_REF = 44,      /* number: offset of an entry in the unit */
+    DWEXPR_OP_ADDRESS = 45,            /* number */
+    DWEXPR_OP_ADDRESS_INDEX = 46,      /* number: index in .debug_addr */
+    DWEXPR_OP_CONSTANT_INDEX = 47,     /* number: index in .debug_addr */
+    DWEXPR_OP_TYPED_LITERAL = 48,      /* base_type, block: a value of that type */
+    DWEXPR_OP_CONVERT = 49,            /* base_type */
+    DWEXPR_OP_REINTERPRET = 50,        /* base_type */
+    DWEXPR_OP_UNINITIALIZED = 51,
+    DWEXPR_OP_WASM_LOCAL = 52,         /* number: index */
+    DWEXPR_OP_WASM_GLOBAL = 53,        /* number: index */
+    DWEXPR_OP_WASM_STACK = 54,         /* number: index */
+    DWEXPR_OP_VARIABLE_VALUE = 55      /* number: offset of an entry in .debug_info */
+};
+
+/* An operation. What its kind doesn't name is 0. */
+typedef struct dwexpr_operation {
+    size_t offset;            /* where it begins: the offset that was given */
+    size_t size;              /* its bytes: the next one begins at offset + size; 0 where the code isn't 0 */
+    uint32_t opcode;          /* its first byte, DW_OP_*; 0 where none was read */
+    uint32_t kind;            /* DWEXPR_OP_*; 0 where the code isn't 0 */
+    uint64_t number;
+    int64_t signed_number;
+    uint64_t base_type;       /* offset of the type's entry in the unit, 0 for the generic type */
+    uint32_t register_number;
+    uint32_t deref_size;      /* bytes */
+    uint32_t flag;            /* 0 or 1 */
+    uint32_t fault;           /* the code that the call answered */
+    size_t block_offset;      /* where its block begins, from the start of the bytes */
+    size_t block_length;
+    uint64_t detail;          /* the bit offset of a piece; where the code isn't 0, the number that it carries */
+} dwexpr_operation;
+
+/* Decodes the operation that begins at `offset` of `length` bytes. All operations of an expression:
+ *
+ *     for (size_t at = 0; at < length; at += operation.size)
+ *         if (dwexpr_decode(bytes, length, encoding, at, &operation) != DWEXPR_OK)
+ *             break;
+ *
+ * Answers 0; a fault of the bytes; DWEXPR_BAD_ENCODING; or DWEXPR_BAD_OFFSET where offset >= length. `operation` is
+ * written in each case. */
+uint32_t dwexpr_decode(const uint8_t *bytes, size_t length, dwexpr_encoding encoding, size_t offset,
+                       dwexpr_operation *operation);
+
+/* ---------------------------------------------------------------- evaluation */
+
+/* An evaluation asks for what only its caller knows: a register, memory, the frame's base. dwexpr_evaluate keeps
+ * nothing between calls. The caller keeps a list of steps, of which the first mostly is DWEXPR_EVALUATE; it adds its
+ * answer to what was asked, and calls again with the longer list, until the evaluation is complete.
+ *
+ * An expression of length 0 says of a variable that it was optimized away. It isn't to be evaluated, which would be
+ * DWEXPR_NOT_ENOUGH_STACK_ITEMS; but a call may be answered by a text of length 0. */
+
+/* The most values, waiting callers and pieces that an evaluation holds. One more is DWEXPR_STACK_FULL. */
+#define DWEXPR_MAX_VALUES 64
+#define DWEXPR_MAX_CALLERS 16
+#define DWEXPR_MAX_PIECES 32
+
+/* Types of values. A generic value has the size of an address, and no sign. */
+enum dwexpr_type {
+    DWEXPR_NO_TYPE = 0,
+    DWEXPR_GENERIC = 1,
+    DWEXPR_I8 = 2,
+    DWEXPR_U8 = 3,
+    DWEXPR_I16 = 4,
+    DWEXPR_U16 = 5,
+    DWEXPR_I32 = 6,
+    DWEXPR_U32 = 7,
+    DWEXPR_I64 = 8,
+    DWEXPR_U64 = 9
+};
+
+/* The bytes of an expression. */
+typedef struct dwexpr_text {
+    const uint8_t *bytes; /* NULL only where the length is 0 */
+    size_t length;
+} dwexpr_text;
+
+enum dwexpr_step_kind {
+    DWEXPR_SET_INITIAL_VALUE = 1,   /* number: it stands on the stack at the start. Once, before the first EVALUATE */
+    DWEXPR_SET_OBJECT_ADDRESS = 2,  /* number: for DW_OP_push_object_address */
+    DWEXPR_SET_MAX_ITERATIONS = 3,  /* number: how many operations there may be, below 2 to the 32 */
+    DWEXPR_EVALUATE = 4,            /* the start */
+    DWEXPR_ANSWER_MEMORY = 5,       /* value_type, number: what memory holds */
+    DWEXPR_ANSWER_REGISTER = 6,     /* value_type, number */
+    DWEXPR_ANSWER_WASM = 7,         /* value_type, number: to each of the three requests of WebAssembly */
+    DWEXPR_ANSWER_ENTRY_VALUE = 8,  /* value_type, number */
+    DWEXPR_ANSWER_FRAME_BASE = 9,   /* number: an address */
+    DWEXPR_ANSWER_TLS = 10,         /* number: an address */
+    DWEXPR_ANSWER_CFA = 11,         /* number: an address */
+    DWEXPR_ANSWER_PARAMETER = 12,   /* number: the parameter's value */
+    DWEXPR_ANSWER_RELOCATED = 13,   /* number: an address */
+    DWEXPR_ANSWER_INDEXED = 14,     /* number: an address or a constant */
+    DWEXPR_ANSWER_LOCATION = 15,    /* text: index of the text that is called; length 0 where there is none */
+    DWEXPR_ANSWER_BASE_TYPE = 16    /* value_type: the type */
+};
+
+typedef struct dwexpr_step {
+    uint32_t kind;       /* DWEXPR_SET_*, DWEXPR_EVALUATE or DWEXPR_ANSWER_* */
+    uint32_t value_type; /* DWEXPR_GENERIC to DWEXPR_U64, where the kind names it */
+    uint64_t number;     /* of a value the lowest bits, as many as its type has */
+    size_t text;
+} dwexpr_step;
+
+enum dwexpr_request {
+    DWEXPR_NOTHING = 0,             /* nothing was evaluated yet, or the code isn't 0 */
+    DWEXPR_COMPLETE = 1,            /* value_type, value, pieces */
+    DWEXPR_WANTS_MEMORY = 2,        /* number: address; size; base_type; flag: in the address space `space` */
+    DWEXPR_WANTS_REGISTER = 3,      /* register_number; base_type */
+    DWEXPR_WANTS_FRAME_BASE = 4,
+    DWEXPR_WANTS_TLS = 5,           /* number: offset in thread-local storage */
+    DWEXPR_WANTS_CFA = 6,           /* the canonical frame address */
+    DWEXPR_WANTS_LOCATION = 7,      /* number: offset of an entry in the unit, or, with flag, in .debug_info */
+    DWEXPR_WANTS_ENTRY_VALUE = 8,   /* block: an expression, whose value on entry of the function is wanted */
+    DWEXPR_WANTS_PARAMETER = 9,     /* number: offset of an entry in the unit */
+    DWEXPR_WANTS_RELOCATED = 10,    /* number: address */
+    DWEXPR_WANTS_INDEXED = 11,      /* number: index in .debug_addr; flag: relocated, as an address */
+    DWEXPR_WANTS_BASE_TYPE = 12,    /* base_type */
+    DWEXPR_WANTS_WASM_LOCAL = 13,   /* number: index */
+    DWEXPR_WANTS_WASM_GLOBAL = 14,  /* number: index */
+    DWEXPR_WANTS_WASM_STACK = 15    /* number: index */
+};
+
+/* What the steps came to. What the request doesn't name is 0. */
+typedef struct dwexpr_outcome {
+    uint32_t code;            /* what the call answered */
+    uint32_t request;         /* DWEXPR_NOTHING, DWEXPR_COMPLETE or DWEXPR_WANTS_* */
+    uint64_t detail;          /* the number that a fault carries */
+    size_t step;              /* where the code isn't 0, the step that ended the evaluation; later ones weren't read */
+    uint64_t number;
+    uint64_t base_type;       /* the type that the answer is to have: offset of its entry in the unit, 0 for generic */
+    uint64_t space;
+    uint32_t register_number;
+    uint32_t size;            /* bytes */
+    uint32_t flag;            /* 0 or 1 */
+    uint32_t value_type;      /* of the value of a complete evaluation, DWEXPR_NO_TYPE where it has none */
+    uint64_t value;           /* a signed one is extended to 64 bits; a generic one may have bits above its size */
+    size_t block_text;        /* the index of the text in which the block is */
+    size_t block_offset;
+    size_t block_length;
+    size_t pieces;            /* how many pieces a complete evaluation has, of which no more are written than fit */
+} dwexpr_outcome;
+
+enum dwexpr_piece_kind {
+    DWEXPR_EMPTY = 1,               /* it was optimized away */
+    DWEXPR_IN_REGISTER = 2,         /* number: the register */
+    DWEXPR_AT_ADDRESS = 3,          /* number: the address */
+    DWEXPR_HOLDS_VALUE = 4,         /* value_type, number: it has this value and no place */
+    DWEXPR_HOLDS_BYTES = 5,         /* block: it has these bytes and no place */
+    DWEXPR_POINTS_INTO = 6          /* number: offset of an object's entry in .debug_info; byte_offset into it */
+};
+
+/* A part of a variable, or all of it. What its kind doesn't name is 0. */
+typedef struct dwexpr_piece {
+    uint32_t kind;
+    uint32_t has_size;        /* 0: it is the whole variable */
+    uint64_t size_in_bits;
+    uint64_t bit_offset;      /* where in its location it begins */
+    uint32_t has_bit_offset;  /* 0: that isn't said */
+    uint32_t value_type;
+    uint64_t number;
+    int64_t byte_offset;
+    size_t block_text;        /* the index of the text in which its bytes are */
+    size_t block_offset;
+    size_t block_length;
+} dwexpr_piece;
+
+/* Evaluates texts[0] from nothing in the steps, one after another, and tells what the last of them answered. The first
+ * step that is none, isn't allowed or meets a fault ends it, and is named by `step`.
+ *
+ * Answers 0; a fault; DWEXPR_BAD_ENCODING; or DWEXPR_BAD_TEXT to DWEXPR_UNPLACED. `outcome` is written in each case; of
+ * `pieces` as many as fit are written once the evaluation is complete, and the others stay. */
+uint32_t dwexpr_evaluate(const dwexpr_text *texts, size_t texts_length, dwexpr_encoding encoding,
+                         const dwexpr_step *steps, size_t steps_length, dwexpr_outcome *outcome,
+                         dwexpr_piece *pieces, size_t pieces_length);
+
+/* ---------------------------------------------------------------- evaluation by callbacks, which isn't proved */
+
+/* What an expression may ask for. Each gives back 0; any other number ends the evaluation, and dwexpr_run gives that
+ * back. One that is NULL is as one that gives -1. */
+typedef struct dwexpr_callbacks {
+    /* `size` bytes at an address; `space` is NULL but where an address space is named */
+    int (*memory)(void *context, uint64_t address, uint32_t size, const uint64_t *space, uint64_t *content);
+    int (*register_content)(void *context, uint32_t register_number, uint64_t *content);
+    int (*frame_base)(void *context, uint64_t *address);
+    int (*cfa)(void *context, uint64_t *address);
+    int (*tls)(void *context, uint64_t offset, uint64_t *address);
+    /* the value that the expression had on entry of the function */
+    int (*entry_value)(void *context, const uint8_t *bytes, size_t length, uint64_t *content);
+    /* the expression of the entry at an offset in the unit, or in .debug_info; it stays until dwexpr_run ends */
+    int (*location)(void *context, int in_debug_info, uint64_t offset, dwexpr_text *text);
+    int (*parameter)(void *context, uint64_t offset, uint64_t *value);
+    /* NULL here is as one that gives the address as it is */
+    int (*relocated)(void *context, uint64_t address, uint64_t *relocated);
+    int (*indexed)(void *context, uint64_t index, int relocate, uint64_t *address);
+    /* the type of the entry at an offset in the unit, DWEXPR_I8 to DWEXPR_U64; it isn't asked for offset 0 */
+    int (*base_type)(void *context, uint64_t offset, uint32_t *value_type);
+} dwexpr_callbacks;
+
+/* How many answers and called texts dwexpr_run has room for; define them before the header for others. */
+#ifndef DWEXPR_RUN_STEPS
+#define DWEXPR_RUN_STEPS 64
+#endif
+#ifndef DWEXPR_RUN_TEXTS
+#define DWEXPR_RUN_TEXTS 17
+#endif
+
+/* What dwexpr_run gives back where it has no room for one more answer or text. */
+#define DWEXPR_RUN_NO_ROOM (-2)
+
+/* Answers what the outcome asks for, into the step. */
+static inline int dwexpr_answer(const dwexpr_outcome *asked, const dwexpr_text *texts, const dwexpr_callbacks *calls,
+                                void *context, dwexpr_step *step, dwexpr_text *called)
+{
+    uint64_t *number = &step->number;
+    if (asked->base_type) {
+        int failed = calls->base_type ? calls->base_type(context, asked->base_type, &step->value_type) : -1;
+        if (failed)
+            return failed;
+    }
+    switch (asked->request) {
+    case DWEXPR_WANTS_MEMORY:
+        step->kind = DWEXPR_ANSWER_MEMORY;
+        return calls->memory ? calls->memory(context, asked->number, asked->size,
+                                             asked->flag ? &asked->space : NULL, number)
+                             : -1;
+    case DWEXPR_WANTS_REGISTER:
+        step->kind = DWEXPR_ANSWER_REGISTER;
+        return calls->register_content ? calls->register_content(context, asked->register_number, number) : -1;
+    case DWEXPR_WANTS_FRAME_BASE:
+        step->kind = DWEXPR_ANSWER_FRAME_BASE;
+        return calls->frame_base ? calls->frame_base(context, number) : -1;
+    case DWEXPR_WANTS_TLS:
+        step->kind = DWEXPR_ANSWER_TLS;
+        return calls->tls ? calls->tls(context, asked->number, number) : -1;
+    case DWEXPR_WANTS_CFA:
+        step->kind = DWEXPR_ANSWER_CFA;
+        return calls->cfa ? calls->cfa(context, number) : -1;
+    case DWEXPR_WANTS_LOCATION:
+        step->kind = DWEXPR_ANSWER_LOCATION;
+        return calls->location ? calls->location(context, asked->flag != 0, asked->number, called) : -1;
+    case DWEXPR_WANTS_ENTRY_VALUE:
+        step->kind = DWEXPR_ANSWER_ENTRY_VALUE;
+        return calls->entry_value ? calls->entry_value(context, texts[asked->block_text].bytes + asked->block_offset,
+                                                       asked->block_length, number)
+                                  : -1;
+    case DWEXPR_WANTS_PARAMETER:
+        step->kind = DWEXPR_ANSWER_PARAMETER;
+        return calls->parameter ? calls->parameter(context, asked->number, number) : -1;
+    case DWEXPR_WANTS_RELOCATED:
+        step->kind = DWEXPR_ANSWER_RELOCATED;
+        *number = asked->number;
+        return calls->relocated ? calls->relocated(context, asked->number, number) : 0;
+    case DWEXPR_WANTS_INDEXED:
+        step->kind = DWEXPR_ANSWER_INDEXED;
+        return calls->indexed ? calls->indexed(context, asked->number, asked->flag != 0, number) : -1;
+    case DWEXPR_WANTS_BASE_TYPE:
+        step->kind = DWEXPR_ANSWER_BASE_TYPE;
+        return 0;
+    default: /* WebAssembly */
+        return -1;
+    }
+}
+
+/* Evaluates an expression. Gives back 0 where it is complete; a code above 0, which the outcome has too; what a
+ * callback gave; or DWEXPR_RUN_NO_ROOM. It takes 2 KiB of stack for its lists. */
+static inline int dwexpr_run(dwexpr_text text, dwexpr_encoding encoding, const dwexpr_callbacks *calls, void *context,
+                             dwexpr_outcome *outcome, dwexpr_piece *pieces, size_t pieces_length)
+{
+    dwexpr_text texts[DWEXPR_RUN_TEXTS];
+    dwexpr_step steps[DWEXPR_RUN_STEPS];
+    size_t texts_length = 1, steps_length = 0;
+    const dwexpr_step empty_step = {DWEXPR_EVALUATE, DWEXPR_GENERIC, 0, 0};
+    texts[0] = text;
+    steps[steps_length++] = empty_step;
+    for (;;) {
+        dwexpr_step *step;
+        dwexpr_text called = {NULL, 0};
+        int failed;
+        uint32_t code =
+            dwexpr_evaluate(texts, texts_length, encoding, steps, steps_length, outcome, pieces, pieces_length);
+        if (code != DWEXPR_OK || outcome->request == DWEXPR_COMPLETE)
+            return (int)code;
+        if (steps_length == DWEXPR_RUN_STEPS)
+            return DWEXPR_RUN_NO_ROOM;
+        step = &steps[steps_length++];
+        *step = empty_step;
+        failed = dwexpr_answer(outcome, texts, calls, context, step, &called);
+        if (failed)
+            return failed;
+        if (step->kind == DWEXPR_ANSWER_LOCATION) {
+            if (texts_length == DWEXPR_RUN_TEXTS)
+                return DWEXPR_RUN_NO_ROOM;
+            step->text = texts_length;
+            texts[texts_length++] = called;
+        }
+    }
+}
+
+#ifdef __cplusplus
+}
+#endif
+
+/* ---------------------------------------------------------------- layout */
+
+/* The library was built for structs of just this layout, with words of 64 bits. */
+#ifdef __cplusplus
+#define DWEXPR_ASSERT(name, holds) static_assert(holds, #name)
+#else
+#define DWEXPR_ASSERT(name, holds) _Static_assert(holds, #name)
+#endif
+#define DWEXPR_AT(type, field, place) DWEXPR_ASSERT(type##_##field, offsetof(type, field) == (place))
+
+DWEXPR_ASSERT(words, sizeof(size_t) == 8 && sizeof(void *) == 8);
+DWEXPR_ASSERT(encoding, sizeof(dwexpr_encoding) == 4);
+DWEXPR_AT(dwexpr_encoding, address_size, 0);
+DWEXPR_AT(dwexpr_encoding, offset_size, 1);
+DWEXPR_AT(dwexpr_encoding, big_endian, 2);
+DWEXPR_AT(dwexpr_encoding, version, 3);
+DWEXPR_ASSERT(operation, sizeof(dwexpr_operation) == 88);
+DWEXPR_AT(dwexpr_operation, offset, 0);
+DWEXPR_AT(dwexpr_operation, size, 8);
+DWEXPR_AT(dwexpr_operation, opcode, 16);
+DWEXPR_AT(dwexpr_operation, kind, 20);
+DWEXPR_AT(dwexpr_operation, number, 24);
+DWEXPR_AT(dwexpr_operation, signed_number, 32);
+DWEXPR_AT(dwexpr_operation, base_type, 40);
+DWEXPR_AT(dwexpr_operation, register_number, 48);
+DWEXPR_AT(dwexpr_operation, deref_size, 52);
+DWEXPR_AT(dwexpr_operation, flag, 56);
+DWEXPR_AT(dwexpr_operation, fault, 60);
+DWEXPR_AT(dwexpr_operation, block_offset, 64);
+DWEXPR_AT(dwexpr_operation, block_length, 72);
+DWEXPR_AT(dwexpr_operation, detail, 80);
+DWEXPR_ASSERT(text, sizeof(dwexpr_text) == 16);
+DWEXPR_AT(dwexpr_text, bytes, 0);
+DWEXPR_AT(dwexpr_text, length, 8);
+DWEXPR_ASSERT(step, sizeof(dwexpr_step) == 24);
+DWEXPR_AT(dwexpr_step, kind, 0);
+DWEXPR_AT(dwexpr_step, value_type, 4);
+DWEXPR_AT(dwexpr_step, number, 8);
+DWEXPR_AT(dwexpr_step, text, 16);
+DWEXPR_ASSERT(outcome, sizeof(dwexpr_outcome) == 104);
+DWEXPR_AT(dwexpr_outcome, code, 0);
+DWEXPR_AT(dwexpr_outcome, request, 4);
+DWEXPR_AT(dwexpr_outcome, detail, 8);
+DWEXPR_AT(dwexpr_outcome, step, 16);
+DWEXPR_AT(dwexpr_outcome, number, 24);
+DWEXPR_AT(dwexpr_outcome, base_type, 32);
+DWEXPR_AT(dwexpr_outcome, space, 40);
+DWEXPR_AT(dwexpr_outcome, register_number, 48);
+DWEXPR_AT(dwexpr_outcome, size, 52);
+DWEXPR_AT(dwexpr_outcome, flag, 56);
+DWEXPR_AT(dwexpr_outcome, value_type, 60);
+DWEXPR_AT(dwexpr_outcome, value, 64);
+DWEXPR_AT(dwexpr_outcome, block_text, 72);
+DWEXPR_AT(dwexpr_outcome, block_offset, 80);
+DWEXPR_AT(dwexpr_outcome, block_length, 88);
+DWEXPR_AT(dwexpr_outcome, pieces, 96);
+DWEXPR_ASSERT(piece, sizeof(dwexpr_piece) == 72);
+DWEXPR_AT(dwexpr_piece, kind, 0);
+DWEXPR_AT(dwexpr_piece, has_size, 4);
+DWEXPR_AT(dwexpr_piece, size_in_bits, 8);
+DWEXPR_AT(dwexpr_piece, bit_offset, 16);
+DWEXPR_AT(dwexpr_piece, has_bit_offset, 24);
+DWEXPR_AT(dwexpr_piece, value_type, 28);
+DWEXPR_AT(dwexpr_piece, number, 32);
+DWEXPR_AT(dwexpr_piece, byte_offset, 40);
+DWEXPR_AT(dwexpr_piece, block_text, 48);
+DWEXPR_AT(dwexpr_piece, block_offset, 56);
+DWEXPR_AT(dwexpr_piece, block_length, 64);
+
+#undef DWEXPR_AT
+#undef DWEXPR_ASSERT
+
+#endif

@@ -1,0 +1,57 @@
+/* What the callers share: counts of checks, encodings, bytes from hexadecimal text. */
+#ifndef CHECK_H
+#define CHECK_H
+
+#include <stdio.h>
+#include <stdlib.h>
+#include <string.h>
+
+#include "dwexpr.h"
+
+static int passed, failed;
+
+static void check(int holds, const char *name, const char *what)
+{
+    if (holds) {
+        passed++;
+    } else {
+        failed++;
+        printf("FAILED %s: %s\n", name, what);
+    }
+}
+
+static int finish(void)
+{
+    printf("%d passed, %d failed\n", passed, failed);
+    return failed != 0;
+}
+
+static dwexpr_encoding encoding_of(int address_size, int offset_size, int version, int big_endian)
+{
+    dwexpr_encoding encoding;
+    encoding.address_size = (uint8_t)address_size;
+    encoding.offset_size = (uint8_t)offset_size;
+    encoding.big_endian = (uint8_t)big_endian;
+    encoding.version = (uint8_t)version;
+    return encoding;
+}
+
+/* How many bytes the hexadecimal digits say; spaces between them are left out. */
+static inline size_t bytes_of(const char *digits, uint8_t *bytes)
+{
+    size_t count = 0;
+    while (*digits) {
+        char two[3] = {0, 0, 0};
+        if (*digits == ' ') {
+            digits++;
+            continue;
+        }
+        two[0] = digits[0];
+        two[1] = digits[1];
+        bytes[count++] = (uint8_t)strtoul(two, NULL, 16);
+        digits += 2;
+    }
+    return count;
+}
+
+#endif

@@ -1,0 +1,460 @@
+/* Each request, answer, kind of piece and code of dwexpr_evaluate, and the callbacks of dwexpr_run. */
+#include "check.h"
+
+#define MANY 40
+
+static uint8_t bytes[256];
+static dwexpr_text texts[3];
+static dwexpr_step steps[80];
+static size_t steps_length;
+static dwexpr_outcome outcome, want;
+static dwexpr_piece pieces[MANY];
+static const char *name;
+
+static void begin(const char *row, const char *digits)
+{
+    name = row;
+    texts[0].bytes = bytes;
+    texts[0].length = bytes_of(digits, bytes);
+    steps_length = 0;
+    memset(steps, 0, sizeof steps);
+}
+
+static void step(uint32_t kind, uint32_t value_type, uint64_t number, size_t text)
+{
+    steps[steps_length].kind = kind;
+    steps[steps_length].value_type = value_type;
+    steps[steps_length].number = number;
+    steps[steps_length].text = text;
+    steps_length++;
+}
+
+static void start(void)
+{
+    step(DWEXPR_EVALUATE, 0, 0, 0);
+}
+
+/* The outcome is all zeros before; its fields are compared one by one, as there is padding nowhere, also as bytes. */
+static void run(dwexpr_encoding encoding, size_t texts_length)
+{
+    uint32_t code;
+    memset(&outcome, 0xa5, sizeof outcome);
+    memset(pieces, 0xa5, sizeof pieces);
+    code = dwexpr_evaluate(texts, texts_length, encoding, steps, steps_length, &outcome, pieces, MANY);
+    check(code == outcome.code, name, "the code that is given back is the outcome's");
+}
+
+static void expect(void)
+{
+    check(!memcmp(&outcome, &want, sizeof want), name, "the outcome");
+    if (memcmp(&outcome, &want, sizeof want))
+        printf("    code %u request %u detail %llu step %zu number %#llx pieces %zu\n", outcome.code, outcome.request,
+               (unsigned long long)outcome.detail, outcome.step, (unsigned long long)outcome.number, outcome.pieces);
+    memset(&want, 0, sizeof want);
+}
+
+static int untouched(const dwexpr_piece *piece)
+{
+    const uint8_t *p = (const uint8_t *)piece;
+    size_t i;
+    for (i = 0; i < sizeof *piece; i++)
+        if (p[i] != 0xa5)
+            return 0;
+    return 1;
+}
+
+static void expect_pieces(size_t count, const dwexpr_piece *wanted)
+{
+    size_t i;
+    for (i = 0; i < count; i++) {
+        /* four bytes of it are no field's */
+        dwexpr_piece got = pieces[i];
+        check(got.kind == wanted[i].kind && got.has_size == wanted[i].has_size &&
+                  got.size_in_bits == wanted[i].size_in_bits && got.bit_offset == wanted[i].bit_offset &&
+                  got.has_bit_offset == wanted[i].has_bit_offset && got.value_type == wanted[i].value_type &&
+                  got.number == wanted[i].number && got.byte_offset == wanted[i].byte_offset &&
+                  got.block_text == wanted[i].block_text && got.block_offset == wanted[i].block_offset &&
+                  got.block_length == wanted[i].block_length,
+              name, "a piece");
+    }
+    check(untouched(&pieces[count]), name, "no more pieces are written");
+}
+
+static void end(uint32_t code, uint64_t detail, size_t at)
+{
+    want.code = code;
+    want.detail = detail;
+    want.step = at;
+}
+
+#define LE8 encoding_of(8, 4, 5, 0)
+#define LE4 encoding_of(4, 4, 4, 0)
+
+static void requests(void)
+{
+    begin("memory", "3a 06"), start(), run(LE8, 1);
+    want.request = DWEXPR_WANTS_MEMORY, want.number = 10, want.size = 8, expect();
+    begin("memory of a type", "3a a6 02 2a"), start(), run(LE8, 1);
+    want.request = DWEXPR_WANTS_MEMORY, want.number = 10, want.size = 2, want.base_type = 42, expect();
+    begin("memory in a space", "37 3a 18"), start(), run(LE8, 1);
+    want.request = DWEXPR_WANTS_MEMORY, want.number = 10, want.size = 8, want.flag = 1, want.space = 7, expect();
+    begin("register", "77 08"), start(), run(LE8, 1);
+    want.request = DWEXPR_WANTS_REGISTER, want.register_number = 7, expect();
+    begin("register of a type", "a5 03 2a"), start(), run(LE8, 1);
+    want.request = DWEXPR_WANTS_REGISTER, want.register_number = 3, want.base_type = 42, expect();
+    begin("frame base", "91 6c"), start(), run(LE8, 1);
+    want.request = DWEXPR_WANTS_FRAME_BASE, expect();
+    begin("tls", "35 9b"), start(), run(LE8, 1);
+    want.request = DWEXPR_WANTS_TLS, want.number = 5, expect();
+    begin("cfa", "9c"), start(), run(LE8, 1);
+    want.request = DWEXPR_WANTS_CFA, expect();
+    begin("location in the unit", "98 3412"), start(), run(LE8, 1);
+    want.request = DWEXPR_WANTS_LOCATION, want.number = 0x1234, expect();
+    begin("location in .debug_info", "9a 78563412"), start(), run(LE8, 1);
+    want.request = DWEXPR_WANTS_LOCATION, want.number = 0x12345678, want.flag = 1, expect();
+    begin("entry value", "96 a3 02 7000"), start(), run(LE8, 1);
+    want.request = DWEXPR_WANTS_ENTRY_VALUE, want.block_offset = 3, want.block_length = 2, expect();
+    begin("parameter", "fa 04030201"), start(), run(LE8, 1);
+    want.request = DWEXPR_WANTS_PARAMETER, want.number = 0x01020304, expect();
+    begin("relocated", "03 0807060504030201"), start(), run(LE8, 1);
+    want.request = DWEXPR_WANTS_RELOCATED, want.number = 0x0102030405060708, expect();
+    begin("indexed address", "a1 05"), start(), run(LE8, 1);
+    want.request = DWEXPR_WANTS_INDEXED, want.number = 5, want.flag = 1, expect();
+    begin("indexed constant", "a2 05"), start(), run(LE8, 1);
+    want.request = DWEXPR_WANTS_INDEXED, want.number = 5, expect();
+    begin("base type", "35 a8 2a"), start(), run(LE8, 1);
+    want.request = DWEXPR_WANTS_BASE_TYPE, want.base_type = 42, expect();
+    begin("wasm local", "ed 00 07"), start(), run(LE8, 1);
+    want.request = DWEXPR_WANTS_WASM_LOCAL, want.number = 7, expect();
+    begin("wasm global", "ed 01 07"), start(), run(LE8, 1);
+    want.request = DWEXPR_WANTS_WASM_GLOBAL, want.number = 7, expect();
+    begin("wasm stack", "ed 02 07"), start(), run(LE8, 1);
+    want.request = DWEXPR_WANTS_WASM_STACK, want.number = 7, expect();
+    begin("no steps", "35"), run(LE8, 1);
+    expect();
+    check(untouched(pieces), name, "no pieces");
+    begin("a setting alone", "35"), step(DWEXPR_SET_MAX_ITERATIONS, 0, 3, 0), run(LE8, 1);
+    expect();
+}
+
+/* evaluated with one answer, the value is complete: an address and a generic value */
+static void answered(const char *row, const char *digits, uint32_t kind, uint64_t number, uint64_t value)
+{
+    dwexpr_piece piece;
+    memset(&piece, 0, sizeof piece);
+    begin(row, digits), start(), step(kind, DWEXPR_GENERIC, number, 0), run(LE8, 1);
+    want.request = DWEXPR_COMPLETE, want.value_type = DWEXPR_GENERIC, want.value = value, want.pieces = 1, expect();
+    piece.kind = DWEXPR_AT_ADDRESS, piece.number = value;
+    expect_pieces(1, &piece);
+}
+
+static void answers(void)
+{
+    dwexpr_piece piece;
+    memset(&piece, 0, sizeof piece);
+    answered("memory is answered", "3a 06", DWEXPR_ANSWER_MEMORY, 99, 99);
+    answered("register is answered", "77 08", DWEXPR_ANSWER_REGISTER, 99, 107);
+    answered("wasm is answered", "ed 01 07", DWEXPR_ANSWER_WASM, 99, 99);
+    answered("entry value is answered", "a3 01 57", DWEXPR_ANSWER_ENTRY_VALUE, 99, 99);
+    answered("frame base is answered", "91 7f", DWEXPR_ANSWER_FRAME_BASE, 99, 98);
+    answered("tls is answered", "35 9b", DWEXPR_ANSWER_TLS, 99, 99);
+    answered("cfa is answered", "9c", DWEXPR_ANSWER_CFA, 99, 99);
+    answered("parameter is answered", "fa 04030201", DWEXPR_ANSWER_PARAMETER, 99, 99);
+    answered("relocated is answered", "03 0807060504030201", DWEXPR_ANSWER_RELOCATED, 99, 99);
+    answered("indexed is answered", "a1 05", DWEXPR_ANSWER_INDEXED, 99, 99);
+
+    begin("location is answered", "98 0500 22"), start(), step(DWEXPR_ANSWER_LOCATION, 0, 0, 1);
+    texts[1].bytes = (const uint8_t *)"\x33\x34", texts[1].length = 2;
+    run(LE8, 2);
+    want.request = DWEXPR_COMPLETE, want.value_type = DWEXPR_GENERIC, want.value = 7, want.pieces = 1, expect();
+
+    begin("location without bytes", "35 98 0500"), start(), step(DWEXPR_ANSWER_LOCATION, 0, 0, 1);
+    texts[1].bytes = NULL, texts[1].length = 0;
+    run(LE8, 2);
+    want.request = DWEXPR_COMPLETE, want.value_type = DWEXPR_GENERIC, want.value = 5, want.pieces = 1, expect();
+
+    begin("base type is answered", "08 ff a8 2a 9f"), start(), step(DWEXPR_ANSWER_BASE_TYPE, DWEXPR_I8, 0, 0);
+    run(LE8, 1);
+    want.request = DWEXPR_COMPLETE, want.pieces = 1, expect();
+    piece.kind = DWEXPR_HOLDS_VALUE, piece.value_type = DWEXPR_I8, piece.number = UINT64_MAX;
+    expect_pieces(1, &piece);
+
+    begin("initial value", "35 22"), step(DWEXPR_SET_INITIAL_VALUE, 0, 4, 0), start(), run(LE8, 1);
+    want.request = DWEXPR_COMPLETE, want.value_type = DWEXPR_GENERIC, want.value = 9, want.pieces = 1, expect();
+    begin("object address", "97"), step(DWEXPR_SET_OBJECT_ADDRESS, 0, 4, 0), start(), run(LE8, 1);
+    want.request = DWEXPR_COMPLETE, want.value_type = DWEXPR_GENERIC, want.value = 4, want.pieces = 1, expect();
+    begin("a setting behind the end", "35"), start(), step(DWEXPR_SET_OBJECT_ADDRESS, 0, 4, 0), run(LE8, 1);
+    want.request = DWEXPR_COMPLETE, want.value_type = DWEXPR_GENERIC, want.value = 5, want.pieces = 1, expect();
+}
+
+static void types(void)
+{
+    static const struct {
+        uint32_t type;
+        uint64_t given, value;
+    } rows[] = {
+        {DWEXPR_GENERIC, 0x1122334455667788, 0x1122334455667788}, {DWEXPR_I8, 0x3ff, UINT64_MAX},
+        {DWEXPR_U8, 0x3ff, 0xff}, {DWEXPR_I16, 0x18000, UINT64_MAX - 0x7fff}, {DWEXPR_U16, 0x18000, 0x8000},
+        {DWEXPR_I32, 0x1ffffffff, UINT64_MAX}, {DWEXPR_U32, 0x1ffffffff, 0xffffffff},
+        {DWEXPR_I64, UINT64_MAX, UINT64_MAX}, {DWEXPR_U64, UINT64_MAX, UINT64_MAX},
+    };
+    size_t i;
+    for (i = 0; i < sizeof rows / sizeof *rows; i++) {
+        dwexpr_piece piece;
+        memset(&piece, 0, sizeof piece);
+        begin("a value of each type", "a5 03 2a 9f"), start();
+        step(DWEXPR_ANSWER_REGISTER, rows[i].type, rows[i].given, 0), run(LE8, 1);
+        want.request = DWEXPR_COMPLETE, want.pieces = 1, expect();
+        piece.kind = DWEXPR_HOLDS_VALUE, piece.value_type = rows[i].type, piece.number = rows[i].value;
+        expect_pieces(1, &piece);
+    }
+}
+
+static void all_pieces(void)
+{
+    dwexpr_piece wanted[6];
+    memset(wanted, 0, sizeof wanted);
+    begin("a piece of each kind", "9304 519304 359308 359f9301 9e02aabb9d1003 a078563412 7e 9304");
+    start(), run(LE8, 1);
+    want.request = DWEXPR_COMPLETE, want.pieces = 6, expect();
+    wanted[0].kind = DWEXPR_EMPTY, wanted[0].size_in_bits = 32;
+    wanted[1].kind = DWEXPR_IN_REGISTER, wanted[1].number = 1, wanted[1].size_in_bits = 32;
+    wanted[2].kind = DWEXPR_AT_ADDRESS, wanted[2].number = 5, wanted[2].size_in_bits = 64;
+    wanted[3].kind = DWEXPR_HOLDS_VALUE, wanted[3].number = 5, wanted[3].value_type = DWEXPR_GENERIC;
+    wanted[3].size_in_bits = 8;
+    wanted[4].kind = DWEXPR_HOLDS_BYTES, wanted[4].size_in_bits = 16, wanted[4].bit_offset = 3;
+    wanted[4].has_bit_offset = 1, wanted[4].block_offset = 14, wanted[4].block_length = 2;
+    wanted[5].kind = DWEXPR_POINTS_INTO, wanted[5].number = 0x12345678, wanted[5].byte_offset = -2;
+    wanted[5].size_in_bits = 32;
+    {
+        size_t i;
+        for (i = 0; i < 6; i++)
+            wanted[i].has_size = 1;
+    }
+    expect_pieces(6, wanted);
+
+    /* with less room the others are counted, and nothing behind is written */
+    name = "room for two pieces";
+    memset(pieces, 0xa5, sizeof pieces);
+    dwexpr_evaluate(texts, 1, LE8, steps, steps_length, &outcome, pieces, 2);
+    check(outcome.pieces == 6, name, "all are counted");
+    expect_pieces(2, wanted);
+    name = "no room";
+    memset(pieces, 0xa5, sizeof pieces);
+    check(dwexpr_evaluate(texts, 1, LE8, steps, steps_length, &outcome, NULL, 0) == 0, name, "the code");
+    check(outcome.pieces == 6, name, "all are counted");
+
+    begin("bytes of a called text", "98 0500 9303"), start(), step(DWEXPR_ANSWER_LOCATION, 0, 0, 2);
+    texts[2].bytes = (const uint8_t *)"\x96\x9e\x03""abc", texts[2].length = 6;
+    run(LE8, 3);
+    want.request = DWEXPR_COMPLETE, want.pieces = 1, expect();
+    check(pieces[0].kind == DWEXPR_HOLDS_BYTES && pieces[0].block_text == 2 && pieces[0].block_offset == 3 &&
+              pieces[0].block_length == 3,
+          name, "the place of the bytes");
+}
+
+static void faults(void)
+{
+    char long_text[400];
+    size_t i;
+    begin("cut off", "0c 01"), start(), run(LE8, 1), end(DWEXPR_UNEXPECTED_EOF, 0, 0), expect();
+    begin("long unsigned", "10 ffffffffffffffffff02"), start(), run(LE8, 1);
+    end(DWEXPR_BAD_UNSIGNED_LEB128, 0, 0), expect();
+    begin("long signed", "11 ffffffffffffffffff01"), start(), run(LE8, 1);
+    end(DWEXPR_BAD_SIGNED_LEB128, 0, 0), expect();
+    begin("address of 3 bytes", "03 010203"), start(), run(encoding_of(3, 4, 5, 0), 1);
+    end(DWEXPR_UNSUPPORTED_ADDRESS_SIZE, 3, 0), expect();
+    begin("register 65536", "90 808004"), start(), run(LE8, 1), end(DWEXPR_UNSUPPORTED_REGISTER, 65536, 0), expect();
+    begin("no such opcode", "01"), start(), run(LE8, 1), end(DWEXPR_INVALID_EXPRESSION, 1, 0), expect();
+    begin("large piece", "93 808080808080808020"), start(), run(LE8, 1);
+    end(DWEXPR_INVALID_PIECE_SIZE, (uint64_t)1 << 61, 0), expect();
+    begin("types differ", "35 a5 03 2a 22"), start(), step(DWEXPR_ANSWER_REGISTER, DWEXPR_U8, 1, 0), run(LE8, 1);
+    end(DWEXPR_TYPE_MISMATCH, 0, 1), expect();
+    begin("divided by zero", "35 30 1b"), start(), run(LE8, 1), end(DWEXPR_DIVISION_BY_ZERO, 0, 0), expect();
+    begin("nothing to add", "35 22"), start(), run(LE8, 1), end(DWEXPR_NOT_ENOUGH_STACK_ITEMS, 0, 0), expect();
+    begin("no bytes", ""), start(), run(LE8, 1), end(DWEXPR_NOT_ENOUGH_STACK_ITEMS, 0, 0), expect();
+    begin("wide deref", "35 94 09"), start(), run(LE8, 1), end(DWEXPR_INVALID_DEREF_SIZE, 9, 0), expect();
+    begin("no object", "97"), start(), run(LE8, 1), end(DWEXPR_INVALID_PUSH_OBJECT_ADDRESS, 0, 0), expect();
+    begin("not evaluated", "fd 04030201"), start(), run(LE8, 1), end(DWEXPR_UNSUPPORTED_EVALUATION, 0, 0), expect();
+    begin("branch behind the end", "2f 0500"), start(), run(LE8, 1), end(DWEXPR_BAD_BRANCH_TARGET, 8, 0), expect();
+    begin("branch for ever", "2f fdff"), step(DWEXPR_SET_MAX_ITERATIONS, 0, 9, 0), start(), run(LE8, 1);
+    end(DWEXPR_TOO_MANY_ITERATIONS, 0, 1), expect();
+    begin("a value behind pieces", "9304 35"), start(), run(LE8, 1), end(DWEXPR_INVALID_PIECE, 0, 0), expect();
+    begin("a location and no piece", "50 96"), start(), run(LE8, 1);
+    end(DWEXPR_INVALID_EXPRESSION_TERMINATOR, 1, 0), expect();
+    begin("a fault behind an answer", "91 00 01"), start(), step(DWEXPR_ANSWER_FRAME_BASE, 0, 1, 0);
+    step(99, 99, 99, 99), run(LE8, 1), end(DWEXPR_INVALID_EXPRESSION, 1, 1), expect();
+
+    for (i = 0; i < DWEXPR_MAX_VALUES + 1; i++)
+        memcpy(long_text + 2 * i, "35", 3);
+    begin("65 values", long_text), start(), run(LE8, 1), end(DWEXPR_STACK_FULL, 0, 0), expect();
+    long_text[2 * DWEXPR_MAX_VALUES] = 0;
+    begin("64 values", long_text), start(), run(LE8, 1);
+    check(outcome.code == 0, name, "the code");
+    for (i = 0; i < DWEXPR_MAX_PIECES + 1; i++)
+        memcpy(long_text + 4 * i, "9301", 5);
+    begin("33 pieces", long_text), start(), run(LE8, 1), end(DWEXPR_STACK_FULL, 0, 0), expect();
+    long_text[4 * DWEXPR_MAX_PIECES] = 0;
+    begin("32 pieces", long_text), start(), run(LE8, 1);
+    want.request = DWEXPR_COMPLETE, want.pieces = DWEXPR_MAX_PIECES, expect();
+    begin("17 callers", "98 0500 96"), start();
+    for (i = 0; i < DWEXPR_MAX_CALLERS; i++)
+        step(DWEXPR_ANSWER_LOCATION, 0, 0, 0);
+    run(LE8, 1), want.request = DWEXPR_WANTS_LOCATION, want.number = 5, expect();
+    step(DWEXPR_ANSWER_LOCATION, 0, 0, 0), run(LE8, 1), end(DWEXPR_STACK_FULL, 0, DWEXPR_MAX_CALLERS + 1), expect();
+}
+
+static void arguments(void)
+{
+    uint32_t kind;
+    begin("bad encoding", "35"), start(), run(encoding_of(0, 4, 5, 0), 1), end(DWEXPR_BAD_ENCODING, 0, 0), expect();
+    begin("no texts", "35"), start(), run(LE8, 0), end(DWEXPR_BAD_TEXT, 0, 0), expect();
+    name = "no texts, no steps";
+    check(dwexpr_evaluate(NULL, 0, LE8, NULL, 0, &outcome, NULL, 0) == DWEXPR_BAD_TEXT, name, "the code");
+    name = "a text without bytes";
+    texts[1].bytes = NULL, texts[1].length = 0;
+    steps[0].kind = DWEXPR_EVALUATE;
+    check(dwexpr_evaluate(&texts[1], 1, LE8, steps, 1, &outcome, NULL, 0) == DWEXPR_NOT_ENOUGH_STACK_ITEMS, name,
+          "the code");
+    begin("no kind", "35"), start(), step(0, 0, 0, 0), run(LE8, 1), end(DWEXPR_BAD_STEP, 0, 1), expect();
+    begin("kind 17", "35"), start(), step(17, 0, 0, 0), run(LE8, 1), end(DWEXPR_BAD_STEP, 0, 1), expect();
+    begin("large maximum", "35"), step(DWEXPR_SET_MAX_ITERATIONS, 0, (uint64_t)1 << 32, 0), run(LE8, 1);
+    end(DWEXPR_BAD_STEP, 0, 0), expect();
+    begin("no type", "70 00"), start(), step(DWEXPR_ANSWER_REGISTER, 0, 0, 0), run(LE8, 1);
+    end(DWEXPR_BAD_STEP, 0, 1), expect();
+    begin("type 10", "70 00"), start(), step(DWEXPR_ANSWER_REGISTER, 10, 0, 0), run(LE8, 1);
+    end(DWEXPR_BAD_STEP, 0, 1), expect();
+    begin("no base type", "35 a8 2a"), start(), step(DWEXPR_ANSWER_BASE_TYPE, 10, 0, 0), run(LE8, 1);
+    end(DWEXPR_BAD_STEP, 0, 1), expect();
+    begin("no such text", "98 0500"), start(), step(DWEXPR_ANSWER_LOCATION, 0, 0, 1), run(LE8, 1);
+    end(DWEXPR_BAD_TEXT, 0, 1), expect();
+    begin("initial value twice", "35"), step(DWEXPR_SET_INITIAL_VALUE, 0, 1, 0);
+    step(DWEXPR_SET_INITIAL_VALUE, 0, 1, 0), run(LE8, 1), end(DWEXPR_MISPLACED, 0, 1), expect();
+    begin("evaluate in a request", "70 00"), start(), start(), run(LE8, 1), end(DWEXPR_MISPLACED, 0, 1), expect();
+    for (kind = DWEXPR_ANSWER_MEMORY; kind <= DWEXPR_ANSWER_BASE_TYPE; kind++) {
+        begin("an answer before the start", "70 00"), step(kind, DWEXPR_GENERIC, 0, 0), run(LE8, 1);
+        end(DWEXPR_MISPLACED, 0, 0), expect();
+        begin("an answer of another kind", kind == DWEXPR_ANSWER_REGISTER ? "9c" : "70 00"), start();
+        step(kind, DWEXPR_GENERIC, 0, 0), run(LE8, 1), end(DWEXPR_MISPLACED, 0, 1), expect();
+        begin("an answer behind the end", "35"), start(), step(kind, DWEXPR_GENERIC, 0, 0), run(LE8, 1);
+        end(DWEXPR_MISPLACED, 0, 1), expect();
+    }
+    begin("evaluate behind the end", "35"), start(), start(), run(LE8, 1);
+    want.request = DWEXPR_COMPLETE, want.value_type = DWEXPR_GENERIC, want.value = 5, want.pieces = 1, expect();
+}
+
+/* ---- callbacks */
+
+static int give(void *context, uint64_t *number)
+{
+    *number = *(uint64_t *)context;
+    return 0;
+}
+
+static int give_memory(void *context, uint64_t address, uint32_t size, const uint64_t *space, uint64_t *content)
+{
+    *content = *(uint64_t *)context + address + size + (space ? *space : 0);
+    return 0;
+}
+
+static int give_register(void *context, uint32_t register_number, uint64_t *content)
+{
+    *content = *(uint64_t *)context + register_number;
+    return 0;
+}
+
+static int give_more(void *context, uint64_t number, uint64_t *more)
+{
+    *more = *(uint64_t *)context + number;
+    return 0;
+}
+
+static int give_entry(void *context, const uint8_t *expression, size_t length, uint64_t *content)
+{
+    *content = *(uint64_t *)context + expression[0] + length;
+    return 0;
+}
+
+static int give_text(void *context, int in_debug_info, uint64_t offset, dwexpr_text *text)
+{
+    (void)context;
+    (void)offset;
+    text->bytes = (const uint8_t *)(in_debug_info ? "\x37" : "\x36");
+    text->length = 1;
+    return 0;
+}
+
+static int give_indexed(void *context, uint64_t index, int relocate, uint64_t *address)
+{
+    *address = *(uint64_t *)context + index + (relocate ? 1000 : 0);
+    return 0;
+}
+
+static int give_type(void *context, uint64_t offset, uint32_t *value_type)
+{
+    (void)context;
+    *value_type = (uint32_t)offset;
+    return 0;
+}
+
+static int refuse(void *context, uint64_t *number)
+{
+    (void)context;
+    (void)number;
+    return 77;
+}
+
+static void callbacks(void)
+{
+    static const struct {
+        const char *name, *bytes;
+        uint64_t value;
+    } rows[] = {
+        {"memory", "3a 06", 118}, {"memory in a space", "37 3a 18", 125}, {"register", "77 08", 115},
+        {"frame base", "91 02", 102}, {"cfa", "9c", 100}, {"tls", "35 9b", 105}, {"entry value", "a3 01 57", 188},
+        {"location in the unit", "98 0500", 6}, {"location in .debug_info", "9a 05000000", 7},
+        {"parameter", "fa 01000000", 101}, {"relocated", "03 0100000000000000", 101},
+        {"indexed address", "a1 05", 1105},
+        {"indexed constant", "a2 05", 105}, {"two requests", "77 00 9c 22", 207},
+    };
+    uint64_t context = 100;
+    dwexpr_callbacks calls, none;
+    size_t i;
+    memset(&none, 0, sizeof none);
+    calls = none;
+    calls.memory = give_memory, calls.register_content = give_register, calls.frame_base = give, calls.cfa = give;
+    calls.tls = give_more, calls.entry_value = give_entry, calls.location = give_text, calls.parameter = give_more;
+    calls.relocated = give_more, calls.indexed = give_indexed, calls.base_type = give_type;
+    for (i = 0; i < sizeof rows / sizeof *rows; i++) {
+        begin(rows[i].name, rows[i].bytes);
+        check(dwexpr_run(texts[0], LE8, &calls, &context, &outcome, pieces, MANY) == 0, name, "a callback: the result");
+        check(outcome.request == DWEXPR_COMPLETE && outcome.value == rows[i].value, name, "a callback: the value");
+        if (strcmp(rows[i].name, "relocated"))
+            check(dwexpr_run(texts[0], LE8, &none, &context, &outcome, pieces, MANY) == -1, name, "no callback");
+    }
+    begin("relocated without a callback", "03 0100000000000000");
+    check(dwexpr_run(texts[0], LE8, &none, NULL, &outcome, pieces, MANY) == 0 && outcome.value == 1, name, "the value");
+    begin("a type", "09 ff a8 02 9f");
+    check(dwexpr_run(texts[0], LE8, &calls, &context, &outcome, pieces, MANY) == 0, name, "the result");
+    check(pieces[0].kind == DWEXPR_HOLDS_VALUE && pieces[0].value_type == DWEXPR_I8, name, "the piece");
+    begin("a refusal", "9c");
+    calls.cfa = refuse;
+    check(dwexpr_run(texts[0], LE8, &calls, &context, &outcome, pieces, MANY) == 77, name, "the result");
+    begin("a fault", "01");
+    check(dwexpr_run(texts[0], LE8, &calls, &context, &outcome, pieces, MANY) == DWEXPR_INVALID_EXPRESSION, name, "it");
+    begin("too many answers", "77 00 13 2f faff");
+    check(dwexpr_run(texts[0], LE8, &calls, &context, &outcome, pieces, MANY) == DWEXPR_RUN_NO_ROOM, name, "it");
+}
+
+int main(void)
+{
+    memset(&want, 0, sizeof want);
+    requests();
+    answers();
+    types();
+    all_pieces();
+    faults();
+    arguments();
+    callbacks();
+    return finish();
+}

@@ -1,0 +1,209 @@
+#!/usr/bin/env python3
+"""Builds the callers of libdwexpr_c.a in C and Rust, and runs them.
+
+- tests/c/*.c: each field of each operation and outcome, each code, guard pages, a signal handler; as they are, and
+  built with the sanitizers of addresses and of undefined behaviour.
+- include/dwexpr.h: without a warning as C11, C17 and C++17.
+- wrapper/: its tests, by rustc alone.
+- examples/: decode is compared with what it is to print. expressions and where need libdw, and are run where it is.
+
+It wants cc; what else is missing is left out, and said so. The last line is `N passed, M failed`.
+"""
+
+import pathlib
+import re
+import shutil
+import subprocess
+import sys
+import tempfile
+
+TOP = pathlib.Path(__file__).resolve().parent.parent
+CRATE = TOP / "crates" / "dwexpr_c"
+ARCHIVE = CRATE / "out" / "libdwexpr_c.a"
+WARNINGS = ["-Wall", "-Wextra", "-Werror", f"-I{TOP / 'include'}"]
+SANITIZERS = ["-g", "-fsanitize=address,undefined", "-fno-sanitize-recover=all"]
+SECONDS = 300
+# For the archive, which is proved from nothing where nothing of it is kept.
+PROOF_SECONDS = 3600
+
+passed = failed = 0
+
+
+def count(good, bad, name, said=""):
+    global passed, failed
+    passed += good
+    failed += bad
+    if bad:
+        print(f"FAILED {name}\n{said}".rstrip())
+
+
+def run(words, seconds=SECONDS, **more):
+    try:
+        return subprocess.run(
+            [str(word) for word in words],
+            text=True,
+            capture_output=True,
+            timeout=seconds,
+            stdin=subprocess.DEVNULL,
+            **more,
+        )
+    except (OSError, subprocess.TimeoutExpired) as error:
+        return subprocess.CompletedProcess(words, 1, "", str(error))
+
+
+def check(name, words, **more):
+    done = run(words, **more)
+    count(done.returncode == 0, done.returncode != 0, name, done.stdout + done.stderr)
+    return done.returncode == 0
+
+
+def left_out(what, lack):
+    print(f"left out: {what}: there is no {lack}")
+
+
+def build_archive():
+    newest = max(path.stat().st_mtime for path in TOP.glob("crates/*/src/**/*.rt"))
+    if ARCHIVE.exists() and ARCHIVE.stat().st_mtime >= newest:
+        return True
+    return check("rt lib", ["rt", "lib"], seconds=PROOF_SECONDS, cwd=CRATE) and ARCHIVE.exists()
+
+
+def header():
+    text = '#include "dwexpr.h"\nint main(void) { return 0; }\n'
+    for compiler, words in [
+        ("cc", ["-std=c11"]),
+        ("cc", ["-std=c17"]),
+        ("c++", ["-std=c++17", "-x", "c++"]),
+        ("clang", ["-std=c11"]),
+        ("clang++", ["-std=c++17", "-x", "c++"]),
+    ]:
+        name = f"dwexpr.h by {compiler} {words[0]}"
+        if not shutil.which(compiler):
+            left_out(name, compiler)
+            continue
+        with tempfile.NamedTemporaryFile("w", suffix=".c") as file:
+            file.write(text)
+            file.flush()
+            check(name, [compiler, *words, "-pedantic", *WARNINGS, "-fsyntax-only", file.name])
+
+
+def callers(folder):
+    for source in sorted((TOP / "tests" / "c").glob("*.c")):
+        for kind, words in [("", ["-O2"]), (" with sanitizers", SANITIZERS)]:
+            # A sanitizer keeps what it knows of memory on the stack, which then has to be larger than 16 KiB.
+            if kind and source.stem == "signal":
+                continue
+            program = folder / (source.stem + kind.replace(" ", "_"))
+            build = ["cc", "-std=c11", *words, *WARNINGS, source, ARCHIVE, "-o", program]
+            if not check(f"{source.name}{kind}: build", build):
+                continue
+            done = run([program])
+            said = re.search(r"(\d+) passed, (\d+) failed\n\Z", done.stdout)
+            if not said or (done.returncode != 0) != (said.group(2) != "0"):
+                count(0, 1, f"{source.name}{kind}", done.stdout + done.stderr)
+            else:
+                count(int(said.group(1)), int(said.group(2)), f"{source.name}{kind}", done.stdout + done.stderr)
+
+
+def wrapper(folder):
+    if not shutil.which("rustc"):
+        return left_out("the wrapper's tests", "rustc")
+    library, tests = folder / "libdwexpr.rlib", folder / "calls"
+    words = ["rustc", "--edition", "2024", "-D", "warnings", "-L", ARCHIVE.parent]
+    build = [*words, "--crate-name", "dwexpr", "--crate-type", "lib", TOP / "wrapper/src/lib.rs", "-o", library]
+    build_tests = [*words, "--test", "--extern", f"dwexpr={library}", TOP / "wrapper/tests/calls.rs", "-o", tests]
+    if check("wrapper: build", build) and check("wrapper: tests build", build_tests):
+        done = run([tests])
+        said = re.search(r"(\d+) passed; (\d+) failed", done.stdout)
+        good, bad = map(int, said.groups()) if said else (0, 1)
+        count(good, bad, "wrapper: tests", done.stdout + done.stderr)
+
+
+DECODED = """\
+0 DW_OP_fbreg: -20
+2 DW_OP_deref
+3 DW_OP_entry_value
+  0 DW_OP_reg5
+6 DW_OP_implicit_value 2 byte block: aa bb
+10 DW_OP_bit_piece: size: 3 offset: 5
+13 fault 7 (1)
+"""
+
+
+def decode(folder):
+    program = folder / "decode"
+    build = ["cc", "-std=c11", "-pedantic", *WARNINGS, TOP / "examples/decode.c", ARCHIVE, "-o", program]
+    if check("examples/decode.c: build", build):
+        done = run([program, "8", "4", "5", "le", "916c06a301559e02aabb9d030501"])
+        good = done.stdout == DECODED and done.returncode == 1
+        count(good, not good, "examples/decode.c", done.stdout + done.stderr)
+
+
+# Its variables are in registers, in memory, constants, and one in two pieces.
+STOPPED = """\
+struct pair { long first, second; };
+static volatile int sink;
+__attribute__((noinline)) static int stop(int given, struct pair both)
+{
+    int twice = 2 * given;
+    long sum = both.first - both.second;
+    __asm__ volatile("ud2" : : "r"(given), "r"(twice), "r"(sum) : "memory");
+    return sink = twice + (int)sum;
+}
+int main(int count, char **words) { struct pair both = {6 + count, 8 + count}; return stop(20 + count, both) == !words; }
+"""
+
+WANTED = ["given = 21", "twice = 42", "sum = -2", "sink = 0"]
+
+
+def with_libdw(folder):
+    links = ["-ldw", "-lelf"]
+    with tempfile.NamedTemporaryFile("w", suffix=".c") as file:
+        file.write("#include <elfutils/libdwfl.h>\nint main(void) { return dwfl_errno(); }\n")
+        file.flush()
+        if run(["cc", file.name, *links, "-o", folder / "has_libdw"]).returncode != 0:
+            return left_out("examples/expressions.c, examples/where.c", "libdw")
+    words = ["cc", "-std=c11", *WARNINGS, f"-I{TOP / 'examples'}"]
+    source = folder / "stopped.c"
+    source.write_text(STOPPED)
+    expressions, where = folder / "expressions", folder / "where"
+    built, stops = (
+        check(f"{name}: build", [*words, TOP / name, ARCHIVE, *links, "-o", program])
+        for name, program in [("examples/expressions.c", expressions), ("examples/where.c", where)]
+    )
+    for compiler in ["gcc", "clang"]:
+        if not shutil.which(compiler):
+            left_out(f"programs of {compiler}", compiler)
+            continue
+        for level in ["-O0", "-O1", "-O2", "-O3"]:
+            for version in ["4", "5"]:
+                name = f"{compiler} {level} -gdwarf-{version}"
+                program = folder / "stopped"
+                if not check(name, [compiler, level, "-g", f"-gdwarf-{version}", source, "-o", program]):
+                    continue
+                if built:
+                    check(f"examples/expressions.c on {name}", [expressions, program])
+                if stops:
+                    lines = run([where, program]).stdout.splitlines()
+                    good = all(line in lines for line in WANTED)
+                    count(good, not good, f"examples/where.c on {name}", "\n".join(lines))
+
+
+def main():
+    if not shutil.which("cc"):
+        print("tests/run_c.py: cc isn't on PATH: add a C compiler")
+        count(0, 1, "cc")
+    elif build_archive():
+        with tempfile.TemporaryDirectory() as name:
+            folder = pathlib.Path(name)
+            header()
+            callers(folder)
+            wrapper(folder)
+            decode(folder)
+            with_libdw(folder)
+    print(f"{passed} passed, {failed} failed")
+    return 1 if failed else 0
+
+
+if __name__ == "__main__":
+    sys.exit(main())

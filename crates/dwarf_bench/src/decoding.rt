@@ -1,0 +1,33 @@
+//! Decoding, from the first operation to the end or to a fault.
+
+use crate::jobs::Job;
+use crate::sums::{mix, mix_operation};
+use dwarf_base::Reader;
+use dwarf_eval::op::Operation;
+
+/// The number of operations before the end or the first fault, and a checksum of those that aren't only counted.
+pub fn decode(bytes: &[u8], job: Job) -> u64 {
+    let encoding = job.encoding();
+    let mut text = job.text(bytes);
+    let mut count = 0u64;
+    let mut sum = 0u64;
+    'operations: while !text.is_empty() {
+        let parsed = Operation::parse(&mut text, encoding);
+        match &parsed {
+            Ok(operation) => {
+                // That this may be so at any operation makes the compiler build each of them.
+                if count >= u64::from(job.counted) {
+                    sum = mix_operation(sum, operation);
+                }
+                count = count.wrapping_add(1);
+            }
+            Err(_) => {
+                if count >= u64::from(job.counted) {
+                    sum = mix(sum, 99);
+                }
+                break;
+            }
+        }
+    }
+    sum.wrapping_add(count)
+}

@@ -1,0 +1,164 @@
+//! Evaluation with made-up answers, from the making of its lists to their end.
+
+ghost use Rattle.std.specs.Prelude.{◌<◌, ◌≤◌, ◌↔◌, IfOk, IsTrue};
+ghost use Rattle.dwarf_eval.specs.Answers.{Admits};
+ghost use Rattle.dwarf_eval.specs.Calls.{IsClosed};
+
+use crate::jobs::{Job, Text};
+use crate::sums::{mix, mix_location, mix_option, mix_request, mix_value};
+use arrayvec::ArrayVec;
+use dwarf_base::Result;
+use dwarf_eval::eval::{Evaluation, Status};
+use dwarf_eval::op::{EvaluationResult, Piece};
+use dwarf_store::{EvaluationStorage, StoreOnHeap};
+use dwarf_value::{Value, ValueType};
+use std::alloc::Global;
+
+/// Lists of fixed capacities.
+struct Arrays;
+
+impl<'a> EvaluationStorage<Text<'a>> for Arrays {
+    type Stack = ArrayVec<Value, 64>;
+
+    type ExpressionStack = ArrayVec<(Text<'a>, Text<'a>), 8>;
+
+    type Result = ArrayVec<Piece<Text<'a>>, 16>;
+}
+
+pub fn evaluate_on_heap(alloc: Global, bytes: &[u8], job: Job) -> u64 {
+    if !is_evaluated(job) {
+        return 0;
+    }
+    let text = job.text(bytes);
+    let mut evaluation: Evaluation<_, StoreOnHeap<Global>> = Evaluation::new(
+        alloc,
+        text,
+        job.encoding(),
+    );
+    complete(&mut evaluation, text, job)
+}
+
+pub fn evaluate_in_arrays(bytes: &[u8], job: Job) -> u64 {
+    if !is_evaluated(job) {
+        return 0;
+    }
+    let text = job.text(bytes);
+    let mut evaluation: Evaluation<_, Arrays> = Evaluation::new_in(
+        text,
+        job.encoding(),
+        ArrayVec::new(),
+        ArrayVec::new(),
+        ArrayVec::new(),
+    );
+    complete(&mut evaluation, text, job)
+}
+
+/// Whether there is evaluation at this size of addresses.
+fn is_evaluated(job: Job) -> bool
+    ensures { IsTrue result ↔ (0 < job.address_size × job.address_size ≤ 8) }
+{
+    0 < job.address_size && job.address_size <= 8
+}
+
+/// Evaluates to the end, to a fault or until no more answers are given: the number of answers that were given, and a
+/// checksum of the requests that aren't only counted and, where none is, of the pieces and of the value.
+#[inline(always)]
+fn complete<'a, S: EvaluationStorage<Text<'a>>>(
+    evaluation: &mut Evaluation<Text<'a>, S>,
+    text: Text<'a>,
+    job: Job,
+) -> u64
+    requires { IsClosed evaluation.old.status }
+{
+    evaluation.set_max_iterations(job.maximum);
+    evaluation.set_object_address(0x7000);
+    let nothing = job.text(&[]);
+    let mut sum = 0u64;
+    let mut met = 0u32;
+    let mut answer = evaluation.evaluate();
+    'requests: while met < job.answers {
+        let Ok(request) = answer else {
+            break;
+        };
+        if met >= job.counted {
+            sum = mix_request(sum, &request);
+        }
+        if matches!(request, EvaluationResult::Complete) {
+            break;
+        }
+        let called = if met < job.depth { text } else { nothing };
+        met += 1;
+        answer = respond(evaluation, request, called);
+    }
+    if job.counted == 0 {
+        sum = mix_end(sum, evaluation);
+    }
+    sum.wrapping_add(u64::from(met))
+}
+
+/// Gives the open request a made-up answer.
+#[inline(always)]
+fn respond<'a, S: EvaluationStorage<Text<'a>>>(
+    evaluation: &mut Evaluation<Text<'a>, S>,
+    request: EvaluationResult<Text<'a>>,
+    called: Text<'a>,
+) -> Result<EvaluationResult<Text<'a>>>
+    requires { Admits request evaluation.old.status }
+    ensures { IfOk result (λ told. Admits told evaluation.new.status) }
+{
+    match request {
+        EvaluationResult::Complete => Ok(EvaluationResult::Complete),
+        EvaluationResult::RequiresMemory { .. } => {
+            evaluation.resume_with_memory(Value::Generic(0x1234))
+        }
+        EvaluationResult::RequiresRegister { .. } => {
+            evaluation.resume_with_register(Value::Generic(0x7ffe_0000))
+        }
+        EvaluationResult::RequiresWasmLocal { index }
+        | EvaluationResult::RequiresWasmGlobal { index }
+        | EvaluationResult::RequiresWasmStack { index } => {
+            evaluation.resume_with_wasm_value(Value::U32(index))
+        }
+        EvaluationResult::RequiresFrameBase => evaluation.resume_with_frame_base(0x7ffe_1000),
+        EvaluationResult::RequiresTls(_) => evaluation.resume_with_tls(0x10),
+        EvaluationResult::RequiresCallFrameCfa => {
+            evaluation.resume_with_call_frame_cfa(0x7ffe_2000)
+        }
+        EvaluationResult::RequiresAtLocation(_) => evaluation.resume_with_at_location(called),
+        EvaluationResult::RequiresEntryValue(_) => {
+            evaluation.resume_with_entry_value(Value::Generic(5))
+        }
+        EvaluationResult::RequiresParameterRef(_) => evaluation.resume_with_parameter_ref(5),
+        EvaluationResult::RequiresRelocatedAddress(address) => {
+            evaluation.resume_with_relocated_address(address)
+        }
+        EvaluationResult::RequiresIndexedAddress { .. } => {
+            evaluation.resume_with_indexed_address(5)
+        }
+        EvaluationResult::RequiresBaseType(_) => {
+            evaluation.resume_with_base_type(ValueType::Generic)
+        }
+    }
+}
+
+/// Adds what a complete evaluation gives, or that it failed.
+#[inline(never)]
+fn mix_end<'a, S: EvaluationStorage<Text<'a>>>(
+    mut sum: u64,
+    evaluation: &Evaluation<Text<'a>, S>,
+) -> u64 {
+    match evaluation.status() {
+        Status::Complete => {
+            for piece in evaluation.as_result() {
+                sum = mix_option(mix_option(sum, piece.size_in_bits), piece.bit_offset);
+                sum = mix_location(sum, piece.location);
+            }
+            match evaluation.value_result() {
+                None => mix(sum, 0),
+                Some(value) => mix_value(sum, value),
+            }
+        }
+        Status::Failed(_) => mix(sum, 98),
+        _ => sum,
+    }
+}

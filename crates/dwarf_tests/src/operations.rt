@@ -815,7 +815,12 @@ fn iteration(rt: HostRuntime) {
     let one = Operation::UnsignedConstant { value: 1 };
     assert!(rt; Iterator::next(&mut operations) == Some(Ok(one)));
     assert!(rt; operations.offset_from(&expression) == 1);
-    assert!(rt; matches!(Iterator::next(&mut operations), Some(Err(Error::UnexpectedEof(_)))));
+    assert!(rt;
+        matches!(
+            Iterator::next(&mut operations),
+            Some(Err(Error::UnexpectedEof(_)))
+        )
+    );
     assert!(rt; operations.offset_from(&expression) == 2);
     assert!(rt; Iterator::next(&mut operations) == None);
     assert!(rt; operations.offset_from(&expression) == 2);

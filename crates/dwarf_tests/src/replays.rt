@@ -15,8 +15,8 @@ use dwarf_expr::replay::{Answer, Replayed, Step, replay};
 use dwarf_expr::store::EvaluationStorage;
 use dwarf_value::Value;
 use rows::{
-    BRANCHES, CALLS, CUT, End, FIXED, HIGH_BITS, LOCATIONS, MISPLACED, OTHERS, REQUESTS, Row, STACK,
-    Told,
+    BRANCHES, CALLS, CUT, End, FIXED, HIGH_BITS, LOCATIONS, MISPLACED, OTHERS, REQUESTS, Row,
+    STACK, Told,
 };
 use std::alloc::{AllocError, Global};
 use std::process::Abort;

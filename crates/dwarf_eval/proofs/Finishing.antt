@@ -16,9 +16,11 @@ use Rattle.dwarf_meaning.specs.Rest.{State, Status, Start, Running, Waits, Compl
 use Rattle.dwarf_meaning.proofs.Choices.{choose_true, choose_false, top_none, top_some}
 use Rattle.dwarf_meaning.proofs.Counts.{HasTally, OnStore, Tally, tally_of, tally-push_piece}
 use Rattle.dwarf_meaning.proofs.Turns.{run_turn}
+use Rattle.dwarf_eval.specs.Bounds.{endings, faults_in}
 use Rattle.dwarf_eval.specs.Calls.{Keeps, with_status}
 use Rattle.dwarf_eval.specs.inner.Steps.{Does, Refused, Stays, Pops, before_pushes, total, ComesBy, GoesBack, Adds, ClosesBy, Closes, Turns, with_store, with_values}
 use Rattle.dwarf_eval.proofs.Reaching.{may_along}
+use Rattle.dwarf_eval.proofs.Endings.{EndsAlike, finish_alike}
 use Rattle.dwarf_eval.proofs.Loads.{Extended, piece_extends}
 use Rattle.dwarf_eval.proofs.Nearing.{nears_by}
 use Rattle.dwarf_eval.proofs.Spending.{back_spends, fallen_spends, over_spends}
@@ -197,7 +199,8 @@ module _ (x : State) (runs : x.status ≡ Running) (end : (x.place == length x.t
           ∙ (ap (closed (Completes new.store.pieces value)) (sym h.adds.count)
           ∙ sym (total_complete r new inputs value e));
       kept = h.kept;
-      spends = over_spends x new value runs e (ap (λ (z : State). length z.callers) h.alone) h.adds.count (ap (λ (z : State). z.decodings) h.alone) h.adds.items;
+      spends = over_spends x new value runs e (ap (λ (z : State). length z.callers) h.alone) h.adds.count (ap (λ (z : State). z.decodings) h.alone) h.adds.items
+          (subst (EndsAlike (endings x.store.pieces)) (h.steps.same Never) (finish_alike x.setup (with_refusal (before_pushes h.steps.pushes Never) x.store)));
       nears = nears_by x new Running (Complete value) runs e (omega arith);
     });
     less = less_stopped x new (Complete value) runs e refl;
@@ -212,7 +215,7 @@ module _ (x : State) (runs : x.status ≡ Running) (end : (x.place == length x.t
         may = h.gets.may;
         same = λ inputs. outer_total h.gets.refusal inputs (Faults (fault_of error)) none h.gets.same ∙ ap (closed (Faults (fault_of error))) (sym h.stays.count);
         kept = h.stays.kept;
-        spends = fallen_spends x new error e (omega (arith, callers)) (omega (arith, count)) (omega (arith, items)) (omega (arith, decodings, count));
+        spends = fallen_spends x new error (ap faults_in runs) e (omega (arith, callers)) (omega (arith, count)) (omega (arith, items)) (omega (arith, decodings, count)) h.stays.pieces (omega (arith, decodings, count)) (omega (arith, decodings, count));
       })
   finish_turned new Running none e h = absurd h
   finish_turned new (Start initial_value) none e h = absurd h

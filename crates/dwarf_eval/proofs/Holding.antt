@@ -12,9 +12,10 @@ use Rattle.dwarf_meaning.specs.Run.{led, holds, held, piece_of, read, run, turn_
 use Rattle.dwarf_meaning.specs.Meaning.{Faults}
 use Rattle.dwarf_meaning.specs.Rest.{State, Running, Stopped, with_refusal}
 use Rattle.dwarf_meaning.proofs.Counts.{OnStore, KeepsBoth, Tally, tally_of, both-push_piece}
-use Rattle.dwarf_eval.specs.Bounds.{piece_due}
+use Rattle.dwarf_eval.specs.Bounds.{piece_due, located_by, endings, located, faults_in}
 use Rattle.dwarf_eval.specs.Calls.{with_status}
 use Rattle.dwarf_eval.specs.inner.Steps.{Does, Refused, Tries, Reads, Holds, before_pushes, total, ComesBy, Turns, read_to, with_last}
+use Rattle.dwarf_eval.proofs.Endings.{Ending, piece_ends}
 use Rattle.dwarf_eval.proofs.Loads.{Keeping, kept_in, piece_adds}
 use Rattle.dwarf_eval.proofs.Nearing.{nears_by}
 use Rattle.dwarf_eval.proofs.Spending.{fallen_spends, held_spends}
@@ -47,7 +48,7 @@ module _ (x : State) (location : Location) (runs : x.status ≡ Running) (inside
           may = tt;
           same = λ inputs. same inputs ∙ ap (closed (Faults (fault_of error))) (sym count);
           kept = record { setup = ap (λ (z : State). z.setup) is; object_address = ap (λ (z : State). z.store.object_address) is; maximum = ap (λ (z : State). z.store.maximum) is };
-          spends = fallen_spends x new error stopped (omega (arith, callers)) (omega (arith, count)) (omega (arith, lists)) (omega (arith, decodings, count, due, waited));
+          spends = fallen_spends x new error (ap faults_in runs) stopped (omega (arith, callers)) (omega (arith, count)) (omega (arith, lists)) (omega (arith, decodings, count, due, waited)) (ap (λ (z : State). z.store.pieces) is) (omega (arith, decodings, count)) (omega (arith, decodings, count));
         })
 
     pub held_unread : read x.setup x.text x.place ≡ Err (fault_of error) → Turns x new
@@ -86,6 +87,8 @@ module _ (x : State) (location : Location) (runs : x.status ≡ Running) (inside
           let callers : length new.callers ≡ length x.callers = ap (λ (z : State). length z.callers) d.alone in
           let added : kept_in new.store ≡ kept_in mid.store + 1 = subst (OnStore (Keeping (kept_in s + 1))) (d.steps.same Never) (piece_adds x.setup piece s) in
           let kept : kept_in new.store ≡ kept_in x.store = omega (arith, added, waited) in
+          let more : endings new.store.pieces ≡ endings x.store.pieces + located_by location = subst (OnStore (Ending (endings s.pieces + located_by location))) (d.steps.same Never) (piece_ends x.setup piece s) in
+          let ended : endings new.store.pieces ≡ endings x.store.pieces + located x.store.last = more ∙ ap (λ (l : Last). endings x.store.pieces + located l) (sym waits) in
           let was = effort_running x runs in
           let is = effort_running new still in
           record {
@@ -100,7 +103,7 @@ module _ (x : State) (location : Location) (runs : x.status ≡ Running) (inside
                 object_address = ap (λ (m : Tally). m.object_address) tally;
                 maximum = ap (λ (m : Tally). m.maximum) tally;
               };
-              spends = held_spends x new runs still callers count (ap (λ (z : State). z.decodings) d.alone) waited last kept;
+              spends = held_spends x new runs still callers count (ap (λ (z : State). z.decodings) d.alone) waited last kept ended;
               nears = nears_by x new Running Running runs still (omega (arith, count));
             });
             less = omega (arith, was, is, callers, count, last, waited);
@@ -120,7 +123,7 @@ module _ (x : State) (location : Location) (runs : x.status ≡ Running) (inside
                 held_led h.gets.refusal inputs (Some size) (Fails (fault_of h.error)) some (ap (goes place_then) h.gets.same)
                 ∙ (through_failed x.store.count x.setup x.callers (fault_of h.error) ∙ ap (closed (Faults (fault_of h.error))) (sym count));
             kept = record { setup = h.stays.kept.setup; object_address = h.stays.kept.object_address; maximum = h.stays.kept.maximum };
-            spends = fallen_spends x new h.error h.stopped (omega (arith, callers)) (omega (arith, count)) (omega (arith, items)) (omega (arith, decodings, count, due, waited));
+            spends = fallen_spends x new h.error (ap faults_in runs) h.stopped (omega (arith, callers)) (omega (arith, count)) (omega (arith, items)) (omega (arith, decodings, count, due, waited)) h.stays.pieces (omega (arith, decodings, count)) (omega (arith, decodings, count));
           })
 
       piece_turns : (new : State) (done : Bool) → Tries 0 (push_piece x.setup piece) mid new done → Turns x new

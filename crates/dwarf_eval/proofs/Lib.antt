@@ -25,6 +25,7 @@ pub mod Resuming
 pub mod Items
 pub mod Light
 pub mod Loads
+pub mod Endings
 pub mod Spending
 pub mod Nearing
 pub mod AddressMasks

@@ -6,14 +6,16 @@ use Rattle.dwarf_value.specs.declared.types.Value.{Value}
 use Rattle.dwarf_meaning.specs.Operations as operation
 use Rattle.dwarf_meaning.specs.Operations.{Operation}
 use Rattle.dwarf_meaning.specs.Acts.{Act, Pushes, Branches, Locates, Ends, Asks, Refuses, choose, on_top, on_some, on_answer, answer_of, short, push, unary, binary, act, Use, Gives, Calls, Denies, Misfits, use_of}
+use Rattle.dwarf_eval.specs.Bounds.{located_by, ending_by}
 use Rattle.dwarf_meaning.specs.Requests.{Waiting, Memory, Register, WasmValue, EntryValue, FrameBase, Tls, CallFrameCfa, ParameterRef, RelocatedAddress, IndexedAddress, AtLocation, TypedLiteral, Convert, Reinterpret, Answer}
 
--- of so many values an act leaves as many and no more, and pushes one more at most
+-- Of so many values an act leaves as many and no more, and pushes one more at most; a location that it gives waits for a piece, and a
+-- piece of its own ended none.
 abbrev pub IsLight : ℕ → Act → Type 0
 IsLight n (Pushes rest pushed) = length rest + length pushed ≤ n + 1
 IsLight n (Branches rest target) = length rest ≤ n
-IsLight n (Locates rest location) = length rest ≤ n
-IsLight n (Ends rest piece) = length rest ≤ n
+IsLight n (Locates rest location) = (length rest ≤ n) × (located_by location ≡ 1)
+IsLight n (Ends rest piece) = (length rest ≤ n) × (ending_by piece.size_in_bits piece.location ≡ 0)
 IsLight n (Asks rest request waiting) = length rest ≤ n
 IsLight n (Refuses fault) = Unit {0}
 
@@ -99,11 +101,11 @@ act_light bits object (operation.Reinterpret base_type) values = omega arith
 act_light bits object (operation.WasmLocal index) values = omega arith
 act_light bits object (operation.WasmGlobal index) values = omega arith
 act_light bits object (operation.WasmStack index) values = omega arith
-act_light bits object (operation.Register register) values = omega arith
-act_light bits object (operation.ImplicitValue bytes) values = omega arith
-act_light bits object operation.StackValue values = top_light (length values) values short _ tt (λ x rest e. omega (arith, e))
-act_light bits object (operation.ImplicitPointer value byte_offset) values = omega arith
-act_light bits object (operation.Piece size_in_bits bit_offset) values = top_light (length values) values _ _ (omega arith) (λ x rest e. omega (arith, e))
+act_light bits object (operation.Register register) values = (omega arith, refl)
+act_light bits object (operation.ImplicitValue bytes) values = (omega arith, refl)
+act_light bits object operation.StackValue values = top_light (length values) values short _ tt (λ x rest e. (omega (arith, e), refl))
+act_light bits object (operation.ImplicitPointer value byte_offset) values = (omega arith, refl)
+act_light bits object (operation.Piece size_in_bits bit_offset) values = top_light (length values) values _ _ (omega arith, refl) (λ x rest e. (omega (arith, e), refl))
 
 -- ---- answers
 

@@ -41,6 +41,18 @@ pub value_last : (setup : Setup) (value : Value) (s : Store) → OnStore (HasLas
 unfolding push_value
 value_last setup value s = bound_store (HasLast s.last) (room setup.limits.values (length s.values) s.refusal) (λ left. record s { values = value ∷ s.values; refusal = left }) (λ left. refl)
 
+-- and the pieces
+abbrev pub HasPieces : List Piece → Store → Type 0
+HasPieces pieces t = t.pieces ≡ pieces
+
+pub value_pieces : (setup : Setup) (value : Value) (s : Store) → OnStore (HasPieces s.pieces) (push_value setup value s)
+unfolding push_value
+value_pieces setup value s = bound_store (HasPieces s.pieces) (room setup.limits.values (length s.values) s.refusal) (λ left. record s { values = value ∷ s.values; refusal = left }) (λ left. refl)
+
+pub frame_pieces : (setup : Setup) (depth : ℕ) (s : Store) → OnStore (HasPieces s.pieces) (push_frame setup depth s)
+unfolding push_frame
+frame_pieces setup depth s = bound_store (HasPieces s.pieces) (room setup.limits.frames depth s.refusal) (λ left. record s { refusal = left }) (λ left. refl)
+
 pub frame_last : (setup : Setup) (depth : ℕ) (s : Store) → OnStore (HasLast s.last) (push_frame setup depth s)
 unfolding push_frame
 frame_last setup depth s = bound_store (HasLast s.last) (room setup.limits.frames depth s.refusal) (λ left. record s { refusal = left }) (λ left. refl)
@@ -81,8 +93,11 @@ pub done_lighter : (setup : Setup) (place len : ℕ) (a : Act) (s : Store) → I
 done_lighter setup place len (Pushes rest pushed) s h =
     goes_lighter (length rest + length s.pieces + 0 + length pushed) (kept_in s) place _ (omega (arith, h)) (values_add setup pushed (record s { values = rest; last = Plain }))
 done_lighter setup place len (Branches rest target) s h = choose_both (IsLighter (kept_in s)) _ _ _ (λ e. tt) (λ e. omega (arith, h))
-done_lighter setup place len (Locates rest location) s h = omega (arith, h)
+done_lighter setup place len (Locates rest location) s h =
+    let fewer = h.0 in
+    omega (arith, fewer)
 done_lighter setup place len (Ends rest piece) s h =
-    goes_lighter (length rest + length s.pieces + 0 + 1) (kept_in s) place _ (omega (arith, h)) (piece_adds setup piece (record s { values = rest; last = Pieced }))
+    let fewer = h.0 in
+    goes_lighter (length rest + length s.pieces + 0 + 1) (kept_in s) place _ (omega (arith, fewer)) (piece_adds setup piece (record s { values = rest; last = Pieced }))
 done_lighter setup place len (Asks rest request waiting) s h = omega (arith, h)
 done_lighter setup place len (Refuses fault) s h = tt

@@ -4,15 +4,15 @@ use Rattle.dwarf_base.specs.Faults.{Fault, fault_of}
 use Rattle.dwarf_value.specs.declared.types.Value.{Value}
 use Rattle.dwarf_value.specs.declared.types.Value.TheVariants.{Generic}
 use Rattle.dwarf_meaning.specs.Requests.{Input}
-use Rattle.dwarf_meaning.specs.RunLaws.{waits_of}
 use Rattle.dwarf_meaning.specs.Stores.{Setup, Store, Refusal, Never, push_value}
 use Rattle.dwarf_meaning.specs.Meaning.{Faults}
 use Rattle.dwarf_meaning.specs.Rest.{State, Status, Start, Running, Waits, Complete, Stopped, with_refusal}
 use Rattle.dwarf_meaning.proofs.Counts.{HasTally, OnStore, Tally, tally_of, tally-push_value}
+use Rattle.dwarf_eval.specs.Bounds.{faults_in}
 use Rattle.dwarf_eval.specs.Calls.{MayPick, Keeps, with_status}
 use Rattle.dwarf_eval.specs.inner.Steps.{before_pushes, Total, total, Tries, Reaches, Falls, ComesBy, Comes, BeginsBy, Begins, EndsBy, Ends, IsOver, is_running}
 use Rattle.dwarf_eval.proofs.Refusals.{before_more, may_before}
-use Rattle.dwarf_eval.proofs.Loads.{HasLast, Keeping, kept_in, value_adds, value_last}
+use Rattle.dwarf_eval.proofs.Loads.{HasLast, HasPieces, Keeping, kept_in, value_adds, value_last, value_pieces}
 use Rattle.dwarf_eval.proofs.Nearing.{nears_by, nears_more}
 use Rattle.dwarf_eval.proofs.Spending.{begun_spends, fallen_spends, spends_here, spends_more}
 use Rattle.dwarf_eval.proofs.Staying.{keeps_here, keeps_more}
@@ -135,7 +135,7 @@ begins_none x new starts e =
       kept = record { setup = ap (λ (z : State). z.setup) e; object_address = ap (λ (z : State). z.store.object_address) e; maximum = ap (λ (z : State). z.store.maximum) e };
       spends =
           let kept = ap (λ (z : State). kept_in z.store) e in
-          begun_spends x new None starts runs (ap (λ (z : State). length z.callers) e) (ap (λ (z : State). z.store.count) e) (ap (λ (z : State). z.decodings) e) (ap (λ (z : State). waits_of z.store.last) e) (omega (arith, kept));
+          begun_spends x new None starts runs (ap (λ (z : State). length z.callers) e) (ap (λ (z : State). z.store.count) e) (ap (λ (z : State). z.decodings) e) (ap (λ (z : State). z.store.last) e) (omega (arith, kept)) (ap (λ (z : State). z.store.pieces) e);
       nears =
           let count : new.store.count ≡ x.store.count = ap (λ (z : State). z.store.count) e in
           nears_by x new (Start None) Running starts runs (omega (arith, count));
@@ -165,7 +165,8 @@ begins_pushed v x new true starts d =
         object_address = ap (λ (m : Tally). m.object_address) tally;
         maximum = ap (λ (m : Tally). m.maximum) tally;
       };
-      spends = begun_spends x new (Some v) starts still (ap (λ (z : State). length z.callers) d.alone) count (ap (λ (z : State). z.decodings) d.alone) (ap waits_of last) (omega (arith, kept));
+      spends = begun_spends x new (Some v) starts still (ap (λ (z : State). length z.callers) d.alone) count (ap (λ (z : State). z.decodings) d.alone) last (omega (arith, kept))
+          (subst (OnStore (HasPieces s.pieces)) (d.steps.same Never) (value_pieces x.setup (Generic v) s));
       nears = nears_by x new (Start (Some v)) Running starts still (omega (arith, count));
     })
 begins_pushed v x new false starts d =
@@ -181,7 +182,7 @@ begins_pushed v x new false starts d =
           ∙ (ap (started_total x inputs) d.gets.same
           ∙ (started_fails x inputs (fault_of d.error) ∙ ap (closed (Faults (fault_of d.error))) (sym d.stays.count)));
       kept = record { setup = d.stays.kept.setup; object_address = d.stays.kept.object_address; maximum = d.stays.kept.maximum };
-      spends = fallen_spends x new d.error d.stopped (omega (arith, callers)) (omega (arith, count)) (omega (arith, items)) (omega (arith, decodings, count));
+      spends = fallen_spends x new d.error (ap faults_in starts) d.stopped (omega (arith, callers)) (omega (arith, count)) (omega (arith, items)) (omega (arith, decodings, count)) d.stays.pieces (omega (arith, decodings, count)) (omega (arith, decodings, count));
     })
 
 pub begins_some : (v : ℕ) (x mid new : State) (done : Bool) → x.status ≡ Start (Some v) → mid ≡ with_status Running x → Tries 0 (push_value mid.setup (Generic v)) mid new done → Begins x (total x) new

@@ -12,10 +12,11 @@ use Rattle.dwarf_meaning.specs.Run.{Frame, Course, Asking, ended, called, entere
 use Rattle.dwarf_meaning.specs.Meaning.{Faults}
 use Rattle.dwarf_meaning.specs.Rest.{State, Running, Waits, Stopped, with_refusal}
 use Rattle.dwarf_meaning.proofs.Counts.{HasTally, OnStore, Tally, tally_of, tally-push_frame}
+use Rattle.dwarf_eval.specs.Bounds.{located, faults_in}
 use Rattle.dwarf_eval.specs.Calls.{MayPick, before_input, input_of, with_status}
 use Rattle.dwarf_eval.specs.inner.Steps.{before_pushes, Total, total_after, Does, Refused, Stays, Tries, Tried, Enters, TriesToEnter, BeginsBy, Takes, with_last, with_values}
 use Rattle.dwarf_eval.proofs.Light.{IsLightUse, use_light}
-use Rattle.dwarf_eval.proofs.Loads.{HasLast, Keeping, kept_in, value_adds, value_last, frame_adds, frame_last}
+use Rattle.dwarf_eval.proofs.Loads.{HasLast, HasPieces, Keeping, kept_in, value_adds, value_last, value_pieces, frame_adds, frame_last, frame_pieces}
 use Rattle.dwarf_eval.proofs.Nearing.{nears_by}
 use Rattle.dwarf_eval.proofs.Spending.{answered_spends, fallen_spends}
 use Rattle.dwarf_eval.proofs.Reaching.{value_tally}
@@ -55,7 +56,7 @@ module _ (x : State) (request : Request) (waiting : Waiting) (open_now : x.statu
         may = may;
         same = λ inputs. same inputs ∙ ap (closed (Faults (fault_of error))) (sym stays.count);
         kept = stays.kept;
-        spends = fallen_spends x new error stopped (omega (arith, callers)) (omega (arith, count)) (omega (arith, items)) (omega (arith, decodings, count));
+        spends = fallen_spends x new error (ap faults_in open_now) stopped (omega (arith, callers)) (omega (arith, count)) (omega (arith, items)) (omega (arith, decodings, count)) stays.pieces (omega (arith, decodings, count)) (omega (arith, decodings, count));
       })
 
   pub denies : (error : Error) (mid new : State) → use_of (address_bits x.setup) waiting answer x.store.values ≡ Denies (fault_of error) → Stays 0 x mid → new ≡ with_status (Stopped error) mid → Takes answer x new
@@ -93,7 +94,8 @@ module _ (x : State) (request : Request) (waiting : Waiting) (open_now : x.statu
             object_address = ap (λ (m : Tally). m.object_address) tally;
             maximum = ap (λ (m : Tally). m.maximum) tally;
           };
-          spends = answered_spends x new request waiting open_now runs (omega (arith, callers)) (omega (arith, callers, kept, low)) count (ap (λ (z : State). z.decodings) d.alone) (omega (arith, last));
+          spends = answered_spends x new request waiting open_now runs (omega (arith, callers)) (omega (arith, callers, kept, low)) count (ap (λ (z : State). z.decodings) d.alone) (omega (arith, last))
+              (subst (OnStore (HasPieces s.pieces)) (d.steps.same Never) (value_pieces x.setup value s)) (λ given. omega (arith, last));
           nears = nears_by x new (Waits request waiting) Running open_now runs (omega (arith, count));
         })
 
@@ -131,7 +133,7 @@ module _ (x : State) (request : Request) (waiting : Waiting) (open_now : x.statu
             ∙ (ap (λ (bytes : List ℕ). through x.store.count x.setup x.callers (called (run x.setup) x.setup frame (length x.callers) callee bytes (with_refusal r x.store) inputs)) none
             ∙ sym (total_running r new inputs runs ∙ ap (λ (z : State). going z (with_refusal r z.store) inputs) e));
         kept = record { setup = ap (λ (z : State). z.setup) e; object_address = ap (λ (z : State). z.store.object_address) e; maximum = ap (λ (z : State). z.store.maximum) e };
-        spends = answered_spends x new request waiting open_now runs (omega (arith, callers)) (omega (arith, callers, kept)) count (ap (λ (z : State). z.decodings) e) (omega (arith, last));
+        spends = answered_spends x new request waiting open_now runs (omega (arith, callers)) (omega (arith, callers, kept)) count (ap (λ (z : State). z.decodings) e) (omega (arith, last)) (ap (λ (z : State). z.store.pieces) e) (λ given. omega (arith, last));
         nears = nears_by x new (Waits request waiting) Running open_now runs (omega (arith, count));
       })
 
@@ -148,7 +150,9 @@ module _ (x : State) (request : Request) (waiting : Waiting) (open_now : x.statu
         let tally : tally_of new.store ≡ tally_of x.store = subst (OnStore (HasTally (tally_of s))) (d.steps.same Never) (tally-push_frame x.setup (length x.callers) s) in
         let runs : new.status ≡ Running = ap (λ (z : State). z.status) d.alone in
         let kept : kept_in new.store ≡ kept_in x.store = subst (OnStore (Keeping (kept_in s))) (d.steps.same Never) (frame_adds x.setup (length x.callers) s) in
-        let last : waits_of new.store.last ≡ waits_of x.store.last = ap waits_of (subst (OnStore (HasLast s.last)) (d.steps.same Never) (frame_last x.setup (length x.callers) s)) in
+        let stays : new.store.last ≡ x.store.last = subst (OnStore (HasLast s.last)) (d.steps.same Never) (frame_last x.setup (length x.callers) s) in
+        let last : waits_of new.store.last ≡ waits_of x.store.last = ap waits_of stays in
+        let gave : located new.store.last ≡ located x.store.last = ap located stays in
         let callers : length new.callers ≡ suc (length x.callers) = ap (λ (z : State). length z.callers) d.alone in
         let count : new.store.count ≡ x.store.count = ap (λ (m : Tally). m.count) tally in
         subst (BeginsBy x totals new) (sym runs) (record {
@@ -165,7 +169,8 @@ module _ (x : State) (request : Request) (waiting : Waiting) (open_now : x.statu
             object_address = ap (λ (m : Tally). m.object_address) tally;
             maximum = ap (λ (m : Tally). m.maximum) tally;
           };
-          spends = answered_spends x new request waiting open_now runs (omega (arith, callers)) (omega (arith, callers, kept)) count (ap (λ (z : State). z.decodings) d.alone) (omega (arith, last));
+          spends = answered_spends x new request waiting open_now runs (omega (arith, callers)) (omega (arith, callers, kept)) count (ap (λ (z : State). z.decodings) d.alone) (omega (arith, last))
+              (subst (OnStore (HasPieces s.pieces)) (d.steps.same Never) (frame_pieces x.setup (length x.callers) s)) (λ given. omega (arith, last, gave, given));
           nears = nears_by x new (Waits request waiting) Running open_now runs (omega (arith, count));
         })
 

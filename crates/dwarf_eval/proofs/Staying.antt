@@ -7,7 +7,7 @@ use Rattle.dwarf_meaning.specs.Rest.{State, Status, with_refusal}
 use Rattle.dwarf_meaning.proofs.Counts.{HasTally, OnStore, Tally, tally_of, tally-push_value}
 use Rattle.dwarf_eval.specs.Calls.{Keeps, with_status}
 use Rattle.dwarf_eval.specs.inner.Steps.{Does, Pops, PopsNumber, Stays, before_pushes, with_last, with_values}
-use Rattle.dwarf_eval.proofs.Loads.{HasLast, Keeping, kept_in, value_adds, value_last}
+use Rattle.dwarf_eval.proofs.Loads.{HasLast, HasPieces, Keeping, kept_in, value_adds, value_last, value_pieces}
 
 pub keeps_here : (x : State) → Keeps x x
 keeps_here x = record { setup = refl; object_address = refl; maximum = refl }
@@ -20,7 +20,7 @@ keeps_more a b c h i = record {
 }
 
 pub stays_here : (x : State) → Stays 0 x x
-stays_here x = record { kept = keeps_here x; callers = refl; count = refl; decodings = refl; items = omega arith }
+stays_here x = record { kept = keeps_here x; callers = refl; count = refl; decodings = refl; pieces = refl; items = omega arith }
 
 pub stays_more : (n m : ℕ) (a b c : State) → Stays n a b → Stays m b c → Stays (n + m) a c
 stays_more n m a b c h i =
@@ -31,6 +31,7 @@ stays_more n m a b c h i =
       callers = i.callers ∙ h.callers;
       count = i.count ∙ h.count;
       decodings = i.decodings ∙ h.decodings;
+      pieces = i.pieces ∙ h.pieces;
       items = omega (arith, items, items_then);
     }
 
@@ -43,6 +44,7 @@ stays_from n m rest last status old new fits h =
       callers = h.callers;
       count = h.count;
       decodings = h.decodings;
+      pieces = h.pieces;
       items = omega (arith, fits, items);
     }
 
@@ -85,5 +87,6 @@ stays_pushed setup value old new d =
       callers = ap (λ (z : State). length z.callers) d.alone;
       count = ap (λ (m : Tally). m.count) tally;
       decodings = ap (λ (z : State). z.decodings) d.alone;
+      pieces = subst (OnStore (HasPieces s.pieces)) (d.steps.same Never) (value_pieces setup value s);
       items = omega (arith, kept, last);
     }

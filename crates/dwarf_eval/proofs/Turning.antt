@@ -13,8 +13,10 @@ use Rattle.dwarf_meaning.specs.Rest.{State, Status, Start, Running, Waits, Compl
 use Rattle.dwarf_meaning.proofs.Choices.{choose_true, choose_false}
 use Rattle.dwarf_meaning.proofs.Counts.{HasTally, OnNext, Tally, tally_of, tally-done}
 use Rattle.dwarf_meaning.proofs.Turns.{run_turn, below_most}
+use Rattle.dwarf_eval.specs.Bounds.{endings, faults_in}
 use Rattle.dwarf_eval.specs.Calls.{Keeps, with_status}
 use Rattle.dwarf_eval.specs.inner.Steps.{total, CountsOne, Reads, before_pushes, act_of, done_at, GoesOn, AsksFor, FailsBy, LeadsBy, Performs, read_to, with_store, Falls, ComesBy, IsFree, IsReady, Turns, effort, effort_by}
+use Rattle.dwarf_eval.proofs.Endings.{EndsNoMore, done_ends, free_waits}
 use Rattle.dwarf_eval.proofs.Light.{act_light}
 use Rattle.dwarf_eval.proofs.Loads.{IsLighter, kept_in, done_lighter}
 use Rattle.dwarf_eval.proofs.Nearing.{nears_by}
@@ -91,7 +93,7 @@ module _ (x : State) (ready : IsReady x) where
             ∙ (ap (through x.store.count x.setup x.callers) (choose_false (can_count x.store) _ (ended (Failed TooManyIterations)) h.0)
             ∙ (through_failed x.store.count x.setup x.callers TooManyIterations ∙ ap (closed (Faults TooManyIterations)) (sym count)));
         kept = record { setup = ap (λ (z : State). z.setup) h.1; object_address = ap (λ (z : State). z.store.object_address) h.1; maximum = ap (λ (z : State). z.store.maximum) h.1 };
-        spends = fallen_spends x new error.TooManyIterations stopped (omega (arith, callers)) (omega (arith, count)) (omega (arith, lists)) (omega (arith, decodings, count));
+        spends = fallen_spends x new error.TooManyIterations (ap faults_in ready.runs) stopped (omega (arith, callers)) (omega (arith, count)) (omega (arith, lists)) (omega (arith, decodings, count)) (ap (λ (z : State). z.store.pieces) h.1) (omega (arith, decodings, count)) (omega (arith, decodings, count));
       })
 
   module _ (can : can_count x.store ≡ true) where
@@ -118,7 +120,7 @@ module _ (x : State) (ready : IsReady x) where
               ready_read Never inputs (Err (fault_of error)) e
               ∙ (through_failed (x.store.count + 1) x.setup x.callers (fault_of error) ∙ ap (closed (Faults (fault_of error))) (sym count));
           kept = record { setup = ap (λ (z : State). z.setup) is; object_address = ap (λ (z : State). z.store.object_address) is; maximum = ap (λ (z : State). z.store.maximum) is };
-          spends = fallen_spends x new error stopped (omega (arith, callers)) (omega (arith, count)) (omega (arith, lists)) (omega (arith, decodings, count));
+          spends = fallen_spends x new error (ap faults_in ready.runs) stopped (omega (arith, callers)) (omega (arith, count)) (omega (arith, lists)) (omega (arith, decodings, count)) (ap (λ (z : State). z.store.pieces) is) (omega (arith, decodings, count)) (omega (arith, decodings, count));
         })
 
     module _ (op : Operation) (behind : List ℕ) (was : read x.setup x.text x.place ≡ Ok (op, behind)) where
@@ -146,7 +148,7 @@ module _ (x : State) (ready : IsReady x) where
                 ready_led h.gets.refusal inputs (Fails (fault_of error)) h.gets.same
                 ∙ (through_failed (x.store.count + 1) x.setup x.callers (fault_of error) ∙ ap (closed (Faults (fault_of error))) (sym count));
             kept = record { setup = h.stays.kept.setup; object_address = h.stays.kept.object_address; maximum = h.stays.kept.maximum };
-            spends = fallen_spends x new error stopped (omega (arith, callers)) (omega (arith, count)) (omega (arith, items)) (omega (arith, decodings, count));
+            spends = fallen_spends x new error (ap faults_in ready.runs) stopped (omega (arith, callers)) (omega (arith, count)) (omega (arith, items)) (omega (arith, decodings, count)) h.stays.pieces (omega (arith, decodings, count)) (omega (arith, decodings, count));
           })
 
       -- an operation leaves the count and the settings
@@ -165,6 +167,13 @@ module _ (x : State) (ready : IsReady x) where
           subst (IsLighter (kept_in there.store)) e
           (done_lighter x.setup place_then (length x.text.bytes) (act_of there op) (with_refusal r there.store) (act_light (address_bits there.setup) there.store.object_address op there.store.values))
 
+      -- no piece that it gives ended a location, and it gave the one that waits
+      next_ends : (r : Refusal) (next : Next) → done_at (act_of there op) there (with_refusal r there.store) ≡ next → OnNext (EndsNoMore (endings x.store.pieces)) next
+      next_ends r next e =
+          subst (OnNext (EndsNoMore (endings x.store.pieces))) e
+          (done_ends x.setup place_then (length x.text.bytes) (act_of there op) (with_refusal r there.store) (act_light (address_bits there.setup) there.store.object_address op there.store.values)
+          (free_waits x.store.last ready.free))
+
       keeps_by : (new : State) → new.setup ≡ x.setup → tally_of new.store ≡ tally_of there.store → Keeps x new
       keeps_by new setup tally = record { setup = setup; object_address = ap (λ (m : Tally). m.object_address) tally; maximum = ap (λ (m : Tally). m.maximum) tally }
 
@@ -172,6 +181,7 @@ module _ (x : State) (ready : IsReady x) where
       ready_goes new runs goes =
           let tally = goes_tally new goes in
           let count : new.store.count ≡ x.store.count + 1 = ap (λ (m : Tally). m.count) tally in
+          let ends : EndsNoMore (endings x.store.pieces) (with_refusal Never new.store) = next_ends (before_pushes goes.steps.pushes Never) (Goes new.place (with_refusal Never new.store)) (goes.steps.same Never) in
           record {
             comes = subst (ComesBy x (total x) new) (sym runs) (record {
               pushes = goes.steps.pushes;
@@ -182,7 +192,7 @@ module _ (x : State) (ready : IsReady x) where
                   ∙ sym (total_running r new inputs runs ∙ ap (λ (y : State). going y (with_refusal r new.store) inputs) goes.alone));
               kept = keeps_by new (ap (λ (z : State). z.setup) goes.alone) tally;
               spends = counted_spends x new ready.runs runs (ap (λ (z : State). length z.callers) goes.alone) count (ap (λ (z : State). z.decodings) goes.alone)
-                  (next_lighter (before_pushes goes.steps.pushes Never) (Goes new.place (with_refusal Never new.store)) (goes.steps.same Never));
+                  (next_lighter (before_pushes goes.steps.pushes Never) (Goes new.place (with_refusal Never new.store)) (goes.steps.same Never)) ends.pieces ends.waits;
               nears = nears_by x new Running Running ready.runs runs (omega (arith, count));
             });
             less = less_counted x new ready.runs runs can (ap (λ (z : State). z.callers) goes.alone) count;
@@ -192,6 +202,7 @@ module _ (x : State) (ready : IsReady x) where
       ready_asks new request waiting open_now asks =
           let tally = asks_tally new request waiting asks in
           let count : new.store.count ≡ x.store.count + 1 = ap (λ (m : Tally). m.count) tally in
+          let ends : EndsNoMore (endings x.store.pieces) (with_refusal Never new.store) = next_ends (before_pushes asks.steps.pushes Never) (Stops request waiting (with_refusal Never new.store)) (asks.steps.same Never) in
           record {
             comes = subst (ComesBy x (total x) new) (sym open_now) (record {
               pushes = asks.steps.pushes;
@@ -201,7 +212,7 @@ module _ (x : State) (ready : IsReady x) where
                   ∙ sym (total_waits r new inputs request waiting open_now ∙ ap (λ (y : State). waiting_total y request waiting (with_refusal r new.store) inputs) asks.alone));
               kept = keeps_by new (ap (λ (z : State). z.setup) asks.alone) tally;
               spends = asked_spends x new request waiting ready.runs open_now (ap (λ (z : State). length z.callers) asks.alone) count (ap (λ (z : State). z.decodings) asks.alone)
-                  (next_lighter (before_pushes asks.steps.pushes Never) (Stops request waiting (with_refusal Never new.store)) (asks.steps.same Never));
+                  (next_lighter (before_pushes asks.steps.pushes Never) (Stops request waiting (with_refusal Never new.store)) (asks.steps.same Never)) ends.pieces ends.waits;
               nears =
                   let below = below_most x.store can in
                   nears_by x new Running (Waits request waiting) ready.runs open_now (omega (arith, count, below));

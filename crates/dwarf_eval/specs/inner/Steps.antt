@@ -56,12 +56,13 @@ with_last last x = record x { store = record x.store { last = last } }
 abbrev pub with_place : ℕ → State → State
 with_place place x = record x { place = place }
 
--- The setup, the settings and the callers stay, nothing is counted or decoded, and of values and pieces there are so many more at most.
+-- The setup, the settings, the callers and the pieces stay, nothing is counted or decoded, and of values there are so many more at most.
 pub record Stays (more : ℕ) (old new : State) : Type 0 where
   pub kept : Keeps old new
   pub callers : length new.callers ≡ length old.callers
   pub count : new.store.count ≡ old.store.count
   pub decodings : new.decodings ≡ old.decodings
+  pub pieces : new.store.pieces ≡ old.store.pieces
   pub items : length new.store.values + length new.store.pieces ≤ length old.store.values + length old.store.pieces + more
 
 -- f was done to what is kept, and to nothing else

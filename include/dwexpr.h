@@ -39,7 +39,7 @@ enum dwexpr_code {
     DWEXPR_BAD_UNSIGNED_LEB128 = 2,
     DWEXPR_BAD_SIGNED_LEB128 = 3,
     DWEXPR_UNSUPPORTED_ADDRESS_SIZE = 4,        /* carries the size, none of 1, 2, 4 and 8 */
-    DWEXPR_UNSUPPORTED_OFFSET = 5,
+    DWEXPR_UNSUPPORTED_OFFSET = 5,              /* an offset of more than 64 bits, of which there is none */
     DWEXPR_UNSUPPORTED_REGISTER = 6,            /* carries the register, above 65535 */
     DWEXPR_INVALID_EXPRESSION = 7,              /* carries the opcode, of which there is no operation */
     DWEXPR_INVALID_PIECE_SIZE = 8,              /* carries the size in bytes */

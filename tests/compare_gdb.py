@@ -2,9 +2,10 @@
 """Compares what examples/where.c prints of stopped programs with what gdb says of the same variables.
 
 It wants cc, gdb with Python and libdw, and gcc or clang. Each program of tests/stopped is built at -O0 to -O3 in
-versions 4 and 5 of DWARF, and stopped at each of its places. Numbers, characters, enumerations and pointers are
-compared by value, and structs and arrays of at most 32 bytes by their bytes. Each variable that differs is a line.
-No part of the gate: a newer gdb or compiler may say otherwise.
+versions 4 and 5 of DWARF, and stopped at each of its places; words choose compilers and levels, as gcc -O0 -O2. Numbers,
+characters, enumerations and pointers are compared by value, structs and arrays by their first 32 bytes but for padding.
+Each variable that differs, or is an entry value, is a line. The status is 1 where one differs, and 2 where nothing was
+compared. The gate compares gcc's at -O0 and -O2 where gdb and libdw are there.
 """
 
 import collections
@@ -43,7 +44,7 @@ def content(value):
     if kind.code in SCALARS:
         return int(value) % (1 << 8 * kind.sizeof)
     if kind.sizeof > 256:
-        return "large"
+        return "too large"
     # padding may be anything
     return [dict(parts(value, 0)).get(place) for place in range(kind.sizeof)]
 def variables(frame):
@@ -105,20 +106,32 @@ def of_where(where, program, place):
     return found
 
 
+SAME = {"equal", "optimized away on both sides", "refused by both"}
+
+
+def kind_of(theirs, ours, size):
+    """What is said of a variable, in words; gdb also names those of an inlined function that nothing is said of."""
+    if theirs is None and (ours in ("optimized away", "nothing") or ours.startswith(("not whole", "unknown: request 8"))):
+        return "optimized away on both sides"
+    if isinstance(theirs, str) and theirs.startswith("error") and ours.startswith(("unknown: fault", "not whole")):
+        return "refused by both"
+    if isinstance(ours, str) and ours.startswith("unknown: request 8"):
+        return "an entry value, which needs the caller's frame"
+    return "equal" if is_same(theirs, ours, size) else "different"
+
+
 def is_same(theirs, ours, size):
-    if theirs is None:
-        return ours == "optimized away" or ours.startswith("not whole") or ours.startswith("unknown: request 8")
     if isinstance(theirs, int):
         return isinstance(ours, int) and ours % (1 << 8 * size) == theirs
-    if not isinstance(theirs, list):
-        return theirs == "large" or ours.startswith("not whole")
     if isinstance(ours, int):
         ours = (ours % (1 << 8 * size)).to_bytes(size, "little")
     elif re.fullmatch(r"[0-9a-f]+(\.\.)?", ours):
         ours = bytes.fromhex(ours.removesuffix(".."))
-    else:
-        return False
-    return all(byte in (None, other) for byte, other in zip(theirs, ours))
+    return isinstance(theirs, list) and isinstance(ours, bytes) and all(map(is_byte, theirs, ours))
+
+
+def is_byte(theirs, ours):
+    return theirs in (None, ours)
 
 
 def compare(where, program, places, name, folder, sums):
@@ -128,12 +141,14 @@ def compare(where, program, places, name, folder, sums):
         ours = of_where(where, program, place)
         for variable, theirs, size in variables:
             said = ours[variable].pop(0) if ours[variable] else "nothing"
-            if is_same(theirs, said, size):
-                sums["optimized away on both sides" if theirs is None else "equal"] += 1
-                continue
-            word = said if isinstance(said, str) and " " in said else "another value"
-            sums[f"gdb {'has none' if theirs is None else 'has a value'}, here {word}"] += 1
-            print(f"{name}, place {place}: {variable}: gdb {theirs}, here {said}")
+            what = kind_of(theirs, said, size)
+            sums[what] += 1
+            if what not in SAME:
+                print(f"{name}, place {place}: {variable}: gdb {theirs}, here {said}")
+
+
+def chosen(words):
+    return [word for word in words if word in sys.argv] or words
 
 
 def main():
@@ -147,8 +162,8 @@ def main():
             return 2
         for source in sorted((TOP / "tests" / "stopped").glob("*.c")):
             places = max(int(number) for number in re.findall(r"STOP\((\d+)\)", source.read_text()))
-            for compiler in filter(shutil.which, ["gcc", "clang"]):
-                for level in ["-O0", "-O1", "-O2", "-O3"]:
+            for compiler in filter(shutil.which, chosen(["gcc", "clang"])):
+                for level in chosen(["-O0", "-O1", "-O2", "-O3"]):
                     for version in ["-gdwarf-4", "-gdwarf-5"]:
                         name = f"{source.stem} {compiler} {level} {version}"
                         program = folder / "stopped"
@@ -157,7 +172,7 @@ def main():
                             compare(where, program, places, name, folder, sums)
     for what, count in sums.most_common():
         print(f"{count} {what}")
-    return 0
+    return 1 if sums["different"] else 0 if sums["equal"] else 2
 
 
 if __name__ == "__main__":

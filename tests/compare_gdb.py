@@ -2,8 +2,9 @@
 """Compares what examples/where.c prints of stopped programs with what gdb says of the same variables.
 
 It wants cc, gdb with Python and libdw, and gcc or clang. Each program of tests/stopped is built at -O0 to -O3 in
-versions 4 and 5 of DWARF, and stopped at each of its places; words choose compilers and levels, as gcc -O0 -O2. Numbers,
-characters, enumerations and pointers are compared by value, structs and arrays by their first 32 bytes but for padding.
+versions 4 and 5 of DWARF, and stopped at each of its places; words choose compilers and levels, as gcc -O0 -O2.
+Numbers, characters, enumerations and pointers are compared by value, structs and arrays by their first 32 bytes but for
+padding.
 Each variable that differs, or is an entry value, is a line. The status is 1 where one differs, and 2 where nothing was
 compared. The gate compares gcc's at -O0 and -O2 where gdb and libdw are there.
 """
@@ -30,7 +31,8 @@ SCALARS = {gdb.TYPE_CODE_INT, gdb.TYPE_CODE_CHAR, gdb.TYPE_CODE_BOOL, gdb.TYPE_C
 def parts(value, place):
     kind = value.type.strip_typedefs()
     if kind.code in SCALARS:
-        yield from zip(range(place, place + kind.sizeof), (int(value) % (1 << 8 * kind.sizeof)).to_bytes(kind.sizeof, "little"))
+        number = int(value) % (1 << 8 * kind.sizeof)
+        yield from zip(range(place, place + kind.sizeof), number.to_bytes(kind.sizeof, "little"))
     elif kind.code == gdb.TYPE_CODE_ARRAY:
         for index in range(kind.range()[1] + 1):
             yield from parts(value[index], place + index * kind.target().sizeof)

@@ -5,13 +5,14 @@
   built with the sanitizers of addresses and of undefined behaviour.
 - include/dwexpr.h: without a warning as C11, C17 and C++17. The structs of the crate and of wrapper/ have its fields, by
   name, type and order, and so the places that it asserts.
-- wrapper/: its tests, by rustc alone.
+- wrapper/: its tests, by rustc alone and by cargo.
 - examples/: decode is compared with what it is to print. expressions and where need libdw, and are run where it is;
   what where prints is compared with gdb, where that is.
 
 It wants cc; what else is missing is left out, and said so. The last line is `N passed, M failed`.
 """
 
+import os
 import pathlib
 import re
 import shutil
@@ -174,6 +175,10 @@ def wrapper(folder):
         said = re.search(r"(\d+) passed; (\d+) failed", done.stdout)
         good, bad = map(int, said.groups()) if said else (0, 1)
         count(good, bad, "wrapper: tests", done.stdout + done.stderr)
+    if not shutil.which("cargo"):
+        return left_out("the wrapper's tests by cargo", "cargo")
+    words = ["cargo", "test", "--offline", "--quiet", "--manifest-path", TOP / "wrapper/Cargo.toml"]
+    check("wrapper: tests by cargo", words, env={**os.environ, "CARGO_TARGET_DIR": str(folder / "target")})
 
 
 DECODED = """\

@@ -288,8 +288,8 @@ typedef struct dwexpr_piece {
 /* Evaluates texts[0] from nothing in the steps, one after another, and tells what the last of them answered. The first
  * step that is none, isn't allowed or meets a fault ends it, and is named by `step`.
  *
- * Answers 0; a fault; DWEXPR_BAD_ENCODING; or DWEXPR_BAD_TEXT to DWEXPR_MISPLACED. `outcome` is written in each case; of
- * `pieces` as many as fit are written once the evaluation is complete, and the others stay. */
+ * Answers 0; a fault; DWEXPR_BAD_ENCODING; or DWEXPR_BAD_TEXT to DWEXPR_MISPLACED. `outcome` is written in each case;
+ * of `pieces` as many as fit are written once the evaluation is complete, and the others stay. */
 uint32_t dwexpr_evaluate(const dwexpr_text *texts, size_t texts_length, dwexpr_encoding encoding,
                          const dwexpr_step *steps, size_t steps_length, dwexpr_outcome *outcome,
                          dwexpr_piece *pieces, size_t pieces_length);

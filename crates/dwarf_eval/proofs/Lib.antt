@@ -1,6 +1,8 @@
 pub mod EqualPieces
 pub mod Allowed
 pub mod Frames
+pub mod Generics
+pub mod PiecesRead
 pub mod Gives
 pub mod Pops
 pub mod Pushes

@@ -39,7 +39,7 @@ enum dwexpr_code {
     DWEXPR_BAD_UNSIGNED_LEB128 = 2,
     DWEXPR_BAD_SIGNED_LEB128 = 3,
     DWEXPR_UNSUPPORTED_ADDRESS_SIZE = 4,        /* carries the size, none of 1, 2, 4 and 8 */
-    DWEXPR_UNSUPPORTED_OFFSET = 5,
+    DWEXPR_UNSUPPORTED_OFFSET = 5,              /* an offset of more than 64 bits, of which there is none */
     DWEXPR_UNSUPPORTED_REGISTER = 6,            /* carries the register, above 65535 */
     DWEXPR_INVALID_EXPRESSION = 7,              /* carries the opcode, of which there is no operation */
     DWEXPR_INVALID_PIECE_SIZE = 8,              /* carries the size in bytes */
@@ -60,8 +60,7 @@ enum dwexpr_code {
     DWEXPR_BAD_OFFSET = 65,                     /* decode: there is no byte at the offset */
     DWEXPR_BAD_TEXT = 66,                       /* evaluate: no texts, or a step names one that isn't there */
     DWEXPR_BAD_STEP = 67,                       /* evaluate: kind or type of a step is none, or its maximum too large */
-    DWEXPR_MISPLACED = 68,                      /* evaluate: the step isn't allowed where it stands */
-    DWEXPR_UNPLACED = 69                        /* evaluate: the place of a block isn't known; it was never seen */
+    DWEXPR_MISPLACED = 68                       /* evaluate: the step isn't allowed where it stands */
 };
 
 /* How an expression is to be read: what its unit says. */
@@ -289,7 +288,7 @@ typedef struct dwexpr_piece {
 /* Evaluates texts[0] from nothing in the steps, one after another, and tells what the last of them answered. The first
  * step that is none, isn't allowed or meets a fault ends it, and is named by `step`.
  *
- * Answers 0; a fault; DWEXPR_BAD_ENCODING; or DWEXPR_BAD_TEXT to DWEXPR_UNPLACED. `outcome` is written in each case; of
+ * Answers 0; a fault; DWEXPR_BAD_ENCODING; or DWEXPR_BAD_TEXT to DWEXPR_MISPLACED. `outcome` is written in each case; of
  * `pieces` as many as fit are written once the evaluation is complete, and the others stay. */
 uint32_t dwexpr_evaluate(const dwexpr_text *texts, size_t texts_length, dwexpr_encoding encoding,
                          const dwexpr_step *steps, size_t steps_length, dwexpr_outcome *outcome,

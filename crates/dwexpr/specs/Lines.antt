@@ -1,50 +1,21 @@
 -- The lines that the program prints.
-use Rattle.std.specs.Prelude.{ℕ, codes, false, List, [], ◌∷◌, ◌++◌, Option, Some, None, Result, OnOk, decimal}
-use Rattle.std.specs.Fmt.{digits, signed_decimal}
+use Rattle.std.specs.Prelude.{ℕ, ◌≡◌, zero, suc, ◌+◌, ◌-◌, Bool, true, false, codes, List, [], ◌∷◌, ◌++◌, map, length, take, Option, Some, None, Result, Ok, Err, decimal}
+use Rattle.std.specs.Fmt.{signed_decimal}
 use Rattle.std.specs.Io.KnownBytes.{Appends}
+use Rattle.std.specs.List.{concat}
+use Rattle.dwarf_base.specs.declared.common.Encoding.{Encoding}
 use Rattle.dwarf_base.specs.Faults as fault
 use Rattle.dwarf_base.specs.Faults.{Fault}
 use Rattle.dwarf_value.specs.declared.types.Value.{Value}
-use Rattle.dwarf_value.specs.declared.types.Value.TheVariants as value
+use Rattle.dwarf_meaning.specs.Decoding.{operation_at}
+use Rattle.dwarf_meaning.specs.Locations.{Location, Empty, InRegister, AtAddress, HoldsValue, HoldsBytes, PointsInto, Piece}
 use Rattle.dwarf_meaning.specs.Operations as op
 use Rattle.dwarf_meaning.specs.Operations.{Operation}
+use Rattle.dwarf_meaning.specs.Requests.{Request, RequiresMemory, RequiresRegister, RequiresWasmLocal, RequiresWasmGlobal, RequiresWasmStack, RequiresFrameBase, RequiresTls, RequiresCallFrameCfa, RequiresAtLocation, RequiresEntryValue, RequiresParameterRef, RequiresRelocatedAddress, RequiresIndexedAddress, RequiresBaseType}
+use Rattle.dwarf_meaning.specs.Steps.{Reply, Completed, Asked, Faulted}
+use Rattle.dwexpr.specs.Writing.{AppendsFront, bytes_word, hexadecimal, line, value_word}
 
--- ---- what is written
-
--- where no write was refused, the known bytes grew by the text
-abbrev pub Prints : {T E : Type 0} → Option (List ℕ) → Option (List ℕ) → List ℕ → Result T E → Type 0
-Prints old new text result = OnOk result (Appends old new text)
-
--- ---- words of a line
-
--- lower case digits behind `0x`
-abbrev pub hexadecimal : ℕ → List ℕ
-hexadecimal number = codes "0x" ++ digits 16 false number
-
-abbrev pub value_word : Value → List ℕ
-value_word (value.Generic content) = codes "generic:" ++ hexadecimal content
-value_word (value.I8 number) = codes "i8:" ++ signed_decimal number
-value_word (value.U8 number) = codes "u8:" ++ decimal number
-value_word (value.I16 number) = codes "i16:" ++ signed_decimal number
-value_word (value.U16 number) = codes "u16:" ++ decimal number
-value_word (value.I32 number) = codes "i32:" ++ signed_decimal number
-value_word (value.U32 number) = codes "u32:" ++ decimal number
-value_word (value.I64 number) = codes "i64:" ++ signed_decimal number
-value_word (value.U64 number) = codes "u64:" ++ decimal number
-
-abbrev pub number_or_none : Option ℕ → List ℕ
-number_or_none None = codes "none"
-number_or_none (Some number) = decimal number
-
--- ---- lines
-
--- each further word behind a blank (32), and a line feed (10)
-abbrev pub ending : List (List ℕ) → List ℕ
-ending [] = 10 ∷ []
-ending (word ∷ words) = 32 ∷ (word ++ ending words)
-
-abbrev pub line : (first : List ℕ) → List (List ℕ) → List ℕ
-line first words = first ++ ending words
+-- ---- faults
 
 -- a fault's name, and the number that it carries
 abbrev pub fault_words : Fault → List (List ℕ)
@@ -73,10 +44,70 @@ fault_words fault.StackFull = codes "StackFull" ∷ []
 abbrev pub fault_line : Fault → List ℕ
 fault_line fault = line (codes "fault") (fault_words fault)
 
+-- ---- requests
+
+-- the space of an address, where one is named
+abbrev pub space_word : Option ℕ → List ℕ
+space_word None = codes "none"
+space_word (Some space) = hexadecimal space
+
+abbrev pub relocate_word : Bool → List ℕ
+relocate_word true = codes "relocate"
+relocate_word false = codes "keep"
+
+abbrev pub request_line : Request → List ℕ
+request_line (RequiresMemory address size space base_type) =
+    line (codes "memory") (hexadecimal address ∷ decimal size ∷ space_word space ∷ decimal base_type ∷ [])
+request_line (RequiresRegister register base_type) = line (codes "register") (decimal register ∷ decimal base_type ∷ [])
+request_line (RequiresWasmLocal index) = line (codes "wasm-local") (decimal index ∷ [])
+request_line (RequiresWasmGlobal index) = line (codes "wasm-global") (decimal index ∷ [])
+request_line (RequiresWasmStack index) = line (codes "wasm-stack") (decimal index ∷ [])
+request_line RequiresFrameBase = line (codes "frame-base") []
+request_line (RequiresTls index) = line (codes "tls") (hexadecimal index ∷ [])
+request_line RequiresCallFrameCfa = line (codes "cfa") []
+request_line (RequiresAtLocation (op.UnitRef offset)) = line (codes "location") (codes "unit" ∷ decimal offset ∷ [])
+request_line (RequiresAtLocation (op.DebugInfoRef offset)) = line (codes "location") (codes "info" ∷ decimal offset ∷ [])
+request_line (RequiresEntryValue expression) = line (codes "entry") (bytes_word expression.bytes ∷ [])
+request_line (RequiresParameterRef offset) = line (codes "parameter") (decimal offset ∷ [])
+request_line (RequiresRelocatedAddress address) = line (codes "relocated") (hexadecimal address ∷ [])
+request_line (RequiresIndexedAddress index relocate) = line (codes "indexed") (decimal index ∷ relocate_word relocate ∷ [])
+request_line (RequiresBaseType base_type) = line (codes "type") (decimal base_type ∷ [])
+
+-- what a call answers
+abbrev pub reply_line : Reply → List ℕ
+reply_line Completed = line (codes "complete") []
+reply_line (Asked request) = request_line request
+reply_line (Faulted fault) = fault_line fault
+
+-- ---- what comes out
+
+abbrev pub number_or_none : Option ℕ → List ℕ
+number_or_none None = codes "none"
+number_or_none (Some number) = decimal number
+
+abbrev pub location_words : Location → List (List ℕ)
+location_words Empty = codes "empty" ∷ []
+location_words (InRegister register) = codes "register" ∷ decimal register ∷ []
+location_words (AtAddress address) = codes "address" ∷ hexadecimal address ∷ []
+location_words (HoldsValue value) = codes "value" ∷ value_word value ∷ []
+location_words (HoldsBytes value) = codes "bytes" ∷ bytes_word value.bytes ∷ []
+location_words (PointsInto value byte_offset) = codes "pointer" ∷ decimal value ∷ signed_decimal byte_offset ∷ []
+
+abbrev pub piece_line : Piece → List ℕ
+piece_line piece =
+    line (codes "piece") (number_or_none piece.size_in_bits ∷ number_or_none piece.bit_offset ∷ location_words piece.location)
+
 -- the line behind the pieces
 abbrev pub value_line : Option Value → List ℕ
 value_line None = line (codes "value") (codes "none" ∷ [])
 value_line (Some value) = line (codes "value") (value_word value ∷ [])
+
+-- one line after another
+abbrev pub reply_lines : List Reply → List ℕ
+reply_lines replies = concat (map reply_line replies)
+
+abbrev pub piece_lines : List Piece → List ℕ
+piece_lines pieces = concat (map piece_line pieces)
 
 -- ---- listed operations
 
@@ -136,3 +167,39 @@ operation_name (op.WasmLocal _) = codes "WasmLocal"
 operation_name (op.WasmGlobal _) = codes "WasmGlobal"
 operation_name (op.WasmStack _) = codes "WasmStack"
 operation_name (op.VariableValue _) = codes "VariableValue"
+
+-- the place and the bytes of an operation, and its name
+abbrev pub operation_line : (place : ℕ) → List ℕ → Operation → List ℕ
+operation_line place bytes operation = line (decimal place) (bytes_word bytes ∷ operation_name operation ∷ [])
+
+-- lines, and whether they end at no fault
+pub record Listing : Type 0 where
+  pub text : List ℕ
+  pub is_whole : Bool
+
+abbrev pub behind : List ℕ → Listing → Listing
+behind first listing = record listing { text = first ++ listing.text }
+
+-- what is read at the front, and then what is listed behind it
+abbrev pub listing_then : (place : ℕ) → List ℕ → Result (Operation × List ℕ) Fault → (ℕ → List ℕ → Listing) → Listing
+listing_then place bytes (Ok x) next =
+    let size = length bytes - length x.1 in behind (operation_line place (take size bytes) x.0) (next (place + size) x.1)
+listing_then place bytes (Err fault) next =
+    record { text = line (decimal place) (codes "fault" ∷ fault_words fault); is_whole = false }
+
+-- up to so many operations, from this place on
+abbrev pub listing_within : (most : ℕ) → Encoding → (is_big : Bool) → (place : ℕ) → List ℕ → Listing
+listing_within zero encoding is_big place bytes = record { text = []; is_whole = true }
+listing_within (suc most) encoding is_big place [] = record { text = []; is_whole = true }
+listing_within (suc most) encoding is_big place (byte ∷ bytes) =
+    listing_then place (byte ∷ bytes) (operation_at encoding 64 (record { bytes = byte ∷ bytes; is_big = is_big }))
+    (listing_within most encoding is_big)
+
+-- all of them: no more than there are bytes
+abbrev pub listing_of : Encoding → (is_big : Bool) → List ℕ → Listing
+listing_of encoding is_big bytes = listing_within (length bytes) encoding is_big 0 bytes
+
+-- what was written, and whether it was all
+abbrev pub Lists : {E : Type 0} → (old new : Option (List ℕ)) → Listing → Result Bool E → Type 0
+Lists old new listing (Ok is_whole) = Appends old new listing.text × (is_whole ≡ listing.is_whole)
+Lists old new listing (Err e) = AppendsFront old new listing.text

@@ -11,6 +11,7 @@ mod steps;
 mod tests;
 mod values;
 mod words;
+mod writing;
 
 pub use hexadecimal::{HexFault, bytes_of};
 pub use program::run;

@@ -1,9 +1,12 @@
-ghost use Rattle.std.specs.Prelude.{◌≡◌};
+ghost use Rattle.std.specs.Prelude.{◌≡◌, ◌≤◌, length, take};
+ghost use Rattle.dwarf_base.specs.ByteOrder.{is_big_of};
+ghost use Rattle.dwarf_base.specs.EndianSlice.{slice_bytes};
 ghost use Rattle.dwarf_op.specs.Views.{operation_of, text_of};
-ghost use Rattle.dwexpr.specs.Lines.{operation_name};
+ghost use Rattle.dwexpr.specs.Lines.{Lists, listing_of, operation_name};
 
-use crate::lines::{print_bytes, print_fault};
+use crate::lines::print_fault;
 use crate::words::Reading;
+use crate::writing::{Text, Word, put_number_word, put_numbered_line};
 use dwarf_base::{EndianSlice, Reader};
 use dwarf_expr::op::Operation;
 use std::io;
@@ -89,28 +92,40 @@ fn name_of<R: Reader + Copy>(operation: Operation<R>) -> &'static str
     }
 }
 
+/// The first bytes.
+fn front_of(bytes: Text<'_>, size: usize) -> Text<'_>
+    requires { size ≤ length (slice_bytes bytes) }
+    ensures { slice_bytes result ≡ take size (slice_bytes bytes.entry) }
+{
+    let mut left = bytes;
+    match left.split(size) {
+        Ok(front) => front,
+        Err(_) => left,
+    }
+}
+
 /// Prints the operations, one a line, up to the first fault. Answers whether there was none.
 pub(crate) fn print_operations<W: Write>(
     output: &mut W,
     bytes: &[u8],
     reading: Reading,
-) -> io::Result<bool> {
+) -> io::Result<bool>
+    ensures { Lists (W.contents output.old) (W.contents output.new) (listing_of reading.encoding (is_big_of reading.order) bytes.now) result }
+{
     let mut left = EndianSlice::new(bytes, reading.order);
     let mut place: usize = 0;
     while !left.is_empty() {
-        let mut front = left;
-        write!(output, "{place} ")?;
+        let front = left;
         match Operation::parse(&mut left, reading.encoding) {
             Ok(operation) => {
                 let size = left.offset_from(&front);
-                if let Ok(spelling) = front.split(size) {
-                    print_bytes(output, spelling)?;
-                }
-                let name = name_of(operation);
-                writeln!(output, " {name}")?;
-                place = place.saturating_add(size);
+                let spelling = Word::Bytes(front_of(front, size));
+                let name = Word::Name(name_of(operation));
+                put_numbered_line(output, place as u64, &[spelling, name])?;
+                place += size;
             }
             Err(error) => {
+                put_number_word(output, place as u64)?;
                 print_fault(output, error)?;
                 return Ok(false);
             }

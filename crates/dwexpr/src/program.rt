@@ -1,13 +1,14 @@
 ghost use Rattle.std.specs.Prelude.{◌<◌, ◌≤◌};
 
 use crate::hexadecimal::{HexFault, bytes_of};
-use crate::lines::{print_fault, print_piece, print_result, print_value_line};
+use crate::lines::{print_answer, print_piece, print_value_line};
 use crate::operations::print_operations;
 use crate::steps::{StepsFault, borrow_steps, steps_in};
 use crate::words::{Command, Reading, command_of, reading_of};
-use dwarf_base::{EndianSlice, Reader, RunTimeEndian};
+use crate::writing::Text;
+use dwarf_base::EndianSlice;
 use dwarf_expr::eval::{Evaluation, Status};
-use dwarf_expr::replay::{Answer, Replayed, Step, replay};
+use dwarf_expr::replay::{Replayed, Step, replay};
 use dwarf_expr::store::StoreOnHeap;
 use std::alloc::Allocator;
 use std::io;
@@ -20,9 +21,6 @@ const FAILED: u8 = 1;
 
 const MISUSED: u8 = 2;
 
-/// A text in the byte order of the words.
-type Text<'a> = EndianSlice<'a, RunTimeEndian>;
-
 /// Prints that the words are not those of the program.
 fn bad_words<W: Write>(output: &mut W) -> io::Result<u8> {
     writeln!(output, "bad words")?;
@@ -33,14 +31,6 @@ fn bad_words<W: Write>(output: &mut W) -> io::Result<u8> {
 fn no_memory<W: Write>(output: &mut W) -> io::Result<u8> {
     writeln!(output, "no memory")?;
     Ok(FAILED)
-}
-
-/// Prints what one call of the evaluation gave.
-fn print_answer<R: Reader + Copy, W: Write>(output: &mut W, answer: Answer<R>) -> io::Result<()> {
-    match answer.0 {
-        Ok(result) => print_result(output, result),
-        Err(error) => print_fault(output, error),
-    }
 }
 
 /// Prints what came out of the evaluation, where it is complete.

@@ -4,7 +4,7 @@ use Rattle.std.specs.Option.{option_map}
 use Rattle.std.proofs.lemmas.Option.{slice_get-map, slice_get_past, slice_get_within, slice_get-get_or}
 use Rattle.std.proofs.lemmas.List.{length-map}
 use Rattle.dwarf_meaning.specs.Locations.{Piece}
-use Rattle.dwexpr_c.specs.Pieces.{AreWritten, HasBytes, ShowsPiece, ShownAt, SomeBytes}
+use Rattle.dwexpr_c.specs.Pieces.{AreWritten, ShowsPiece, ShownAt}
 use Rattle.dwexpr_c.specs.declared.pieces.DwexprPiece.{DwexprPiece}
 use Rattle.dwexpr_c.specs.declared.steps.DwexprText.{DwexprText}
 

@@ -29,5 +29,5 @@ returns-in-None-clause-unplaced c e =
       index = index;
       piece = piece_of text_of_placed (λ x. x) c.in-Some.piece;
       is_there = seen_at (piece_of text_of_placed (λ x. x)) pieces index c.in-Some.piece there;
-      has_bytes = c.in-None.ensures.none;
+      nowhere = c.in-None.ensures.none;
     }

@@ -14,7 +14,7 @@ use Rattle.dwarf_meaning.specs.Rest.{State, Running, Stopped, with_refusal}
 use Rattle.dwarf_meaning.proofs.Counts.{OnStore, KeepsBoth, Tally, tally_of, both-push_piece}
 use Rattle.dwarf_machine.specs.Bounds.{piece_due, located_by, endings, located, faults_in}
 use Rattle.dwarf_machine.specs.Inputs.{with_status}
-use Rattle.dwarf_machine.specs.inner.Steps.{Does, Refused, Tries, Reads, Holds, before_pushes, total, ComesBy, Turns, read_to, with_last}
+use Rattle.dwarf_machine.specs.inner.Steps.{Does, Refused, Tries, Reads, ReadsPiece, Holds, before_pushes, total, ComesBy, Turns, read_to, with_last}
 use Rattle.dwarf_machine.proofs.Endings.{Ending, piece_ends}
 use Rattle.dwarf_machine.proofs.Loads.{Keeping, kept_in, piece_adds}
 use Rattle.dwarf_machine.proofs.Nearing.{nears_by}
@@ -140,5 +140,5 @@ module _ (x : State) (location : Location) (runs : x.status ≡ Running) (inside
   pub hold_unread : (error : Error) → read x.setup x.text x.place ≡ Err (fault_of error) → behind ≡ read_to behind.place x → new ≡ with_status (Stopped error) behind → Turns x new
   hold_unread error was moved is = held_unread x location runs inside waits behind.place new error (is ∙ ap (with_status (Stopped error)) moved) was
 
-  pub hold_turns : (op : Operation) → Reads op x behind → Holds location (piece_of op) behind new → Turns x new
-  hold_turns op reads h = held_turns x location runs inside waits op reads.behind reads.was new (piece_of op) refl (subst (λ (z : State). Holds location (piece_of op) z new) reads.moved h)
+  pub hold_turns : (piece : Option (ℕ × Option ℕ)) → ReadsPiece piece x behind → Holds location piece behind new → Turns x new
+  hold_turns piece r h = held_turns x location runs inside waits r.op r.reads.behind r.reads.was new piece r.is (subst (λ (z : State). Holds location piece z new) r.reads.moved h)

@@ -1,5 +1,7 @@
 pub mod Allowed
 pub mod Frames
+pub mod Generics
+pub mod PiecesRead
 pub mod Gives
 pub mod Pops
 pub mod Pushes

@@ -1,19 +1,19 @@
-ghost use Rattle.std.specs.Prelude.{◌≡◌, ◌==◌, ◌<◌, ◌≤◌, ◌*◌, ℕ, [], None, Some, Err, map, length, slice_get, OnOk, IfOk, IfErr};
+ghost use Rattle.std.specs.Prelude.{◌≡◌, ◌==◌, ◌<◌, ◌≤◌, ◌*◌, ℕ, [], None, Some, Err, map, length, slice_get, OnOk, IfOk, IfErr, IfSome, IfNone};
 ghost use Rattle.dwarf_base.specs.Faults.{fault_of};
 ghost use Rattle.dwarf_value.specs.Values.{IsAddressMask, width_of};
 ghost use Rattle.dwarf_meaning.specs.Meaning.{has_pieces};
 ghost use Rattle.dwarf_meaning.specs.Rest.{Start, Stopped};
 ghost use Rattle.dwarf_meaning.specs.Run.{read};
-ghost use Rattle.dwarf_meaning.specs.Stores.{address_bits, push_value, push_piece};
+ghost use Rattle.dwarf_meaning.specs.Stores.{Located, address_bits, push_value, push_piece};
 ghost use Rattle.dwarf_machine.specs.Bounds.{IsUnspent};
 ghost use Rattle.dwarf_machine.specs.Inputs.{IsFresh, most_iterations, with_maximum, with_object, with_status};
-ghost use Rattle.dwarf_machine.specs.Machine.{last_of, piece_of, setup_of, status_of};
-ghost use Rattle.dwarf_machine.specs.inner.Steps.{CountsOne, GoesBack, Jumps, Pops, Reads, Tries, TriesToEnter, is_running, read_to, with_last};
+ghost use Rattle.dwarf_machine.specs.Machine.{last_of, location_of, piece_of, setup_of, status_of};
+ghost use Rattle.dwarf_machine.specs.inner.Steps.{CountsOne, GoesBack, IsFree, Jumps, Pops, PopsGenerics, Reads, ReadsPiece, Tries, TriesToEnter, is_running, read_to, with_last};
 ghost use Rattle.dwarf_op.specs.Views.{operation_of, text_of};
 
 use crate::states::{EvaluationState, LastOperation};
 use dwarf_base::{Encoding, Error, Reader, ReaderOffset, Result};
-use dwarf_op::{Operation, Piece};
+use dwarf_op::{Location, Operation, Piece, parse_piece};
 use dwarf_store::{ArrayLike, EvaluationStorage};
 use dwarf_ticks::Ticks;
 use dwarf_value::Value;
@@ -82,6 +82,22 @@ impl<R: Reader + Copy, S: EvaluationStorage<R>> Machine<R, S> {
         self.stack.pop()
     }
 
+    /// Pops the two on top where both are generic: the second, and the top.
+    #[inline(always)]
+    pub(crate) fn pop_generics(&mut self) -> Option<(u64, u64)>
+        ensures { PopsGenerics result self.old self.new }
+    {
+        let Some(Value::Generic(right)) = self.value_at(0) else {
+            return None;
+        };
+        let Some(Value::Generic(left)) = self.value_at(1) else {
+            return None;
+        };
+        self.pop();
+        self.pop();
+        Some((left, right))
+    }
+
     /// The value that is this far below the top.
     #[inline(always)]
     pub(crate) fn value_at(&self, index: u8) -> Option<Value>
@@ -133,6 +149,22 @@ impl<R: Reader + Copy, S: EvaluationStorage<R>> Machine<R, S> {
         ensures { last_of (text_of R.bytes R.is_big) R.Offset.number result ≡ self.now.store.last }
     {
         self.last
+    }
+
+    /// The location that waits for its piece.
+    #[inline(always)]
+    pub(crate) fn located(&self) -> Option<Location<R>>
+        ensures some { IfSome result (λ location. self.now.store.last ≡ Located (location_of (text_of R.bytes R.is_big) R.Offset.number location)) }
+        ensures none { IfNone result (IsFree self.now.store.last) }
+    {
+        match self.last {
+            LastOperation::Located(location) => Some(location),
+            LastOperation::Nothing
+            | LastOperation::Plain
+            | LastOperation::Pieced
+            | LastOperation::Pushed
+            | LastOperation::Called => None,
+        }
     }
 
     /// Goes over to another state.
@@ -209,7 +241,7 @@ impl<R: Reader + Copy, S: EvaluationStorage<R>> Machine<R, S> {
         self.pc.offset_from(&self.bytecode)
     }
 
-    /// Decodes the operation at the place, and goes behind it. No other function of evaluation decodes.
+    /// Decodes the operation at the place, and goes behind it. But for `read_piece` no other function of evaluation decodes.
     #[inline(always)]
     pub(crate) fn read(&mut self) -> Result<Operation<R>>
         ensures ok { IfOk result (λ op. Reads (operation_of (text_of R.bytes R.is_big) R.Offset.number op) self.old self.new) }
@@ -219,6 +251,19 @@ impl<R: Reader + Copy, S: EvaluationStorage<R>> Machine<R, S> {
     {
         self.decodings.tick();
         Operation::parse(&mut self.pc, self.encoding)
+    }
+
+    /// Decodes the operation at the place where a location waits: the size and the offset of the piece that it ends, in
+    /// bits, where it ends one.
+    #[inline(always)]
+    pub(crate) fn read_piece(&mut self) -> Result<Option<(u64, Option<u64>)>>
+        ensures ok { IfOk result (λ piece. ReadsPiece piece self.old self.new) }
+        ensures behind { OnOk result (0 < self.new.place) }
+        ensures err { IfErr result (λ e. read self.old.setup self.old.text self.old.place ≡ Err (fault_of e)) }
+        ensures alone { self.new ≡ read_to self.new.place self.old }
+    {
+        self.decodings.tick();
+        parse_piece(&mut self.pc, self.encoding)
     }
 
     /// Goes to a place of the running text, or keeps the fault of a place that it doesn't have.

@@ -7,12 +7,12 @@ ghost use Rattle.dwarf_base.specs.declared.errors.Error.TheVariants.{NotEnoughSt
 ghost use Rattle.dwarf_value.specs.Values.{add_of, from_u64_of, to_u64_of, type_of};
 ghost use Rattle.dwarf_machine.specs.Inputs.{with_status};
 ghost use Rattle.dwarf_machine.specs.Machine.{location_of, request_of, waiting_of};
-ghost use Rattle.dwarf_machine.specs.inner.Operators.{binary_of, unary_of};
+ghost use Rattle.dwarf_machine.specs.inner.Operators.{Computes, IsCallable, unary_of};
 ghost use Rattle.dwarf_machine.specs.inner.Steps.{Performs, PopsNumber, Tried, Tries, act_of};
 ghost use Rattle.dwarf_op.specs.Views.{operation_of, text_of};
 
 use crate::machine::Machine;
-use crate::operators::{BinaryOperator, UnaryOperator};
+use crate::operators::UnaryOperator;
 use crate::states::{EvaluationState, LastOperation, OpenRequest};
 use dwarf_base::{Error, Reader, ReaderOffset, Result, UnitOffset};
 use dwarf_op::{Location, Operation, Piece};
@@ -86,10 +86,32 @@ impl<R: Reader + Copy, S: EvaluationStorage<R>> Machine<R, S> {
     }
 
     /// Puts the call's answer in the place of the two on top.
-    #[inline(always)]
-    fn compute_binary(&mut self, operator: BinaryOperator)
-        requires { self.old.status ≡ Running }
-        ensures { Performs (binary (binary_of operator (address_bits self.old.setup)) self.old.store.values) self.old self.new }
+    #[inline(never)]
+    fn compute_binary<F: Fn(Value, Value, u64) -> Result<Value>>(&mut self, call: F)
+        requires runs { self.old.status ≡ Running }
+        requires callable { IsCallable (F.pre call) }
+        ensures { (f : _) → Computes (F.post call) (address_bits self.old.setup) f → Performs (binary f self.old.store.values) self.old self.new }
+    {
+        let Some((left, right)) = self.pop_generics() else {
+            self.compute_typed(call);
+            return;
+        };
+        match call(
+            Value::Generic(left),
+            Value::Generic(right),
+            self.addr_mask(),
+        ) {
+            Ok(answer) => self.push_plain(answer),
+            Err(error) => self.fail(error),
+        }
+    }
+
+    /// The same, of values of any types.
+    #[inline(never)]
+    fn compute_typed<F: Fn(Value, Value, u64) -> Result<Value>>(&mut self, call: F)
+        requires runs { self.old.status ≡ Running }
+        requires callable { IsCallable (F.pre call) }
+        ensures { (f : _) → Computes (F.post call) (address_bits self.old.setup) f → Performs (binary f self.old.store.values) self.old self.new }
     {
         let Some(right) = self.pop() else {
             self.fall_short();
@@ -99,7 +121,7 @@ impl<R: Reader + Copy, S: EvaluationStorage<R>> Machine<R, S> {
             self.fall_short();
             return;
         };
-        match operator.apply(left, right, self.addr_mask()) {
+        match call(left, right, self.addr_mask()) {
             Ok(answer) => self.push_plain(answer),
             Err(error) => self.fail(error),
         }
@@ -395,27 +417,27 @@ impl<R: Reader + Copy, S: EvaluationStorage<R>> Machine<R, S> {
             Operation::Swap => self.swap(),
             Operation::Rot => self.rotate(),
             Operation::Abs => self.compute_unary(UnaryOperator::Abs),
-            Operation::And => self.compute_binary(BinaryOperator::And),
-            Operation::Div => self.compute_binary(BinaryOperator::Div),
-            Operation::Minus => self.compute_binary(BinaryOperator::Sub),
-            Operation::Mod => self.compute_binary(BinaryOperator::Rem),
-            Operation::Mul => self.compute_binary(BinaryOperator::Mul),
+            Operation::And => self.compute_binary(Value::and),
+            Operation::Div => self.compute_binary(Value::div),
+            Operation::Minus => self.compute_binary(Value::sub),
+            Operation::Mod => self.compute_binary(Value::rem),
+            Operation::Mul => self.compute_binary(Value::mul),
             Operation::Neg => self.compute_unary(UnaryOperator::Neg),
             Operation::Not => self.compute_unary(UnaryOperator::Not),
-            Operation::Or => self.compute_binary(BinaryOperator::Or),
-            Operation::Plus => self.compute_binary(BinaryOperator::Add),
+            Operation::Or => self.compute_binary(Value::or),
+            Operation::Plus => self.compute_binary(Value::add),
             Operation::PlusConstant { value } => self.add_constant(value),
-            Operation::Shl => self.compute_binary(BinaryOperator::Shl),
-            Operation::Shr => self.compute_binary(BinaryOperator::Shr),
-            Operation::Shra => self.compute_binary(BinaryOperator::Shra),
-            Operation::Xor => self.compute_binary(BinaryOperator::Xor),
+            Operation::Shl => self.compute_binary(Value::shl),
+            Operation::Shr => self.compute_binary(Value::shr),
+            Operation::Shra => self.compute_binary(Value::shra),
+            Operation::Xor => self.compute_binary(Value::xor),
             Operation::Bra { target } => self.branch_if(target),
-            Operation::Eq => self.compute_binary(BinaryOperator::Eq),
-            Operation::Ge => self.compute_binary(BinaryOperator::Ge),
-            Operation::Gt => self.compute_binary(BinaryOperator::Gt),
-            Operation::Le => self.compute_binary(BinaryOperator::Le),
-            Operation::Lt => self.compute_binary(BinaryOperator::Lt),
-            Operation::Ne => self.compute_binary(BinaryOperator::Ne),
+            Operation::Eq => self.compute_binary(Value::eq),
+            Operation::Ge => self.compute_binary(Value::ge),
+            Operation::Gt => self.compute_binary(Value::gt),
+            Operation::Le => self.compute_binary(Value::le),
+            Operation::Lt => self.compute_binary(Value::lt),
+            Operation::Ne => self.compute_binary(Value::ne),
             Operation::Skip { target } => self.take_branch(target),
             Operation::UnsignedConstant { value } => self.push_constant(Value::Generic(value)),
             Operation::SignedConstant { value } => self.push_signed(value),

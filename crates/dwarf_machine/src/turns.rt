@@ -1,33 +1,18 @@
 ghost use Rattle.std.specs.Prelude.{◌≡◌, ◌==◌, ◌<◌, length, true, false};
 ghost use Rattle.dwarf_meaning.specs.Meaning.{whole as meant_whole, completed, finish, finish_free, finish_judged, finish_located, finish_value};
 ghost use Rattle.dwarf_meaning.specs.Rest.{Running, Start};
-ghost use Rattle.dwarf_meaning.specs.Run.{piece_of as meant_piece};
 ghost use Rattle.dwarf_meaning.specs.RunLaws.{waits_of};
 ghost use Rattle.dwarf_meaning.specs.Stores.{Located, push_piece};
 ghost use Rattle.dwarf_machine.specs.Machine.{location_of, piece_of};
 ghost use Rattle.dwarf_machine.specs.inner.Steps.{Begins, Closes, Ends, Holds, IsReady, Turns, total};
-ghost use Rattle.dwarf_op.specs.Views.{operation_of, text_of};
+ghost use Rattle.dwarf_op.specs.Views.{text_of};
 
 use crate::machine::Machine;
 use crate::states::{EvaluationState, LastOperation};
 use dwarf_base::{Error, Reader, ReaderOffset};
-use dwarf_op::{Location, Operation, Piece};
+use dwarf_op::{Location, Piece};
 use dwarf_store::EvaluationStorage;
 use dwarf_value::Value;
-
-/// The size and the offset of a piece, in bits, where the operation ends one.
-#[inline(always)]
-fn piece_size<R: Reader + Copy>(operation: Operation<R>) -> Option<(u64, Option<u64>)>
-    ensures { result ≡ meant_piece (operation_of (text_of R.bytes R.is_big) R.Offset.number operation) }
-{
-    match operation {
-        Operation::Piece {
-            size_in_bits,
-            bit_offset,
-        } => Some((size_in_bits, bit_offset)),
-        _ => None,
-    }
-}
 
 /// A piece that is the whole variable.
 #[inline(always)]
@@ -57,13 +42,13 @@ impl<R: Reader + Copy, S: EvaluationStorage<R>> Machine<R, S> {
         }
     }
 
-    /// Ends the piece of a location that waits for it.
+    /// Ends the piece of a location that waits for it, if the operation that was read ends one.
     #[inline(always)]
-    fn end_located(&mut self, location: Location<R>, operation: Operation<R>)
+    fn end_located(&mut self, location: Location<R>, piece: Option<(u64, Option<u64>)>)
         requires { 0 < self.old.place }
-        ensures { Holds (location_of (text_of R.bytes R.is_big) R.Offset.number location) (meant_piece (operation_of (text_of R.bytes R.is_big) R.Offset.number operation)) self.old self.new }
+        ensures { Holds (location_of (text_of R.bytes R.is_big) R.Offset.number location) piece self.old self.new }
     {
-        let Some(size) = piece_size(operation) else {
+        let Some(size) = piece else {
             let place = self.place().into_u64();
             self.fail(Error::InvalidExpressionTerminator(place - 1));
             return;
@@ -83,8 +68,8 @@ impl<R: Reader + Copy, S: EvaluationStorage<R>> Machine<R, S> {
         requires waits { self.old.store.last ≡ Located (location_of (text_of R.bytes R.is_big) R.Offset.number location) }
         ensures { Turns self.old self.new }
     {
-        match self.read() {
-            Ok(operation) => self.end_located(location, operation),
+        match self.read_piece() {
+            Ok(piece) => self.end_located(location, piece),
             Err(error) => self.fail(error),
         }
     }
@@ -184,14 +169,12 @@ impl<R: Reader + Copy, S: EvaluationStorage<R>> Machine<R, S> {
             self.leave();
             return;
         }
-        match self.last() {
-            LastOperation::Located(location) => self.hold(location),
-            LastOperation::Nothing => self.count_operation(),
-            LastOperation::Plain => self.count_operation(),
-            LastOperation::Pieced => self.count_operation(),
-            LastOperation::Pushed => self.count_operation(),
-            LastOperation::Called => self.count_operation(),
-        }
+        // One call of it alone: then it is inlined, however large it is.
+        let Some(location) = self.located() else {
+            self.count_operation();
+            return;
+        };
+        self.hold(location);
     }
 
     /// Runs on to a request, to the end, or to a fault, which it keeps.

@@ -4,6 +4,7 @@ use Rattle.dwarf_base.specs.declared.errors.Error.{Error}
 use Rattle.dwarf_base.specs.declared.errors.Error.TheVariants.{BadBranchTarget, InvalidExpressionTerminator, TooManyIterations}
 use Rattle.dwarf_base.specs.Faults.{Fault, fault_of}
 use Rattle.dwarf_value.specs.declared.types.Value.{Value}
+use Rattle.dwarf_value.specs.declared.types.Value.TheVariants.{Generic}
 use Rattle.dwarf_value.specs.Values.{to_u64_of}
 use Rattle.dwarf_meaning.specs.Operations.{Operation, Text}
 use Rattle.dwarf_meaning.specs.Locations.{Location}
@@ -11,7 +12,7 @@ use Rattle.dwarf_meaning.specs.Requests.{Request, Waiting, Answer, Input}
 use Rattle.dwarf_meaning.specs.Acts.{Act, act}
 use Rattle.dwarf_meaning.specs.RunLaws.{waits_of}
 use Rattle.dwarf_meaning.specs.Stores.{Limits, address_bits, Store, Last, Pieced, Located, Refusal, Never, After, push_piece, push_frame, Next, Goes, Stops, Fails, done}
-use Rattle.dwarf_meaning.specs.Run.{Frame, can_count, counted, read, most}
+use Rattle.dwarf_meaning.specs.Run.{Frame, can_count, counted, piece_of, read, most}
 use Rattle.dwarf_meaning.specs.Meaning.{Outcome, Faults, Completes}
 use Rattle.dwarf_meaning.specs.Rest.{State, Status, Start, Running, Waits, Complete, Stopped, with_refusal, rest}
 use Rattle.dwarf_machine.specs.Bounds.{Spends, calls_left}
@@ -90,6 +91,12 @@ abbrev pub Pops : Option Value → State → State → Type 0
 Pops None old new = (old.store.values ≡ []) × (new ≡ old)
 Pops (Some v) old new = (rest : List Value) × (old.store.values ≡ v ∷ rest) × (new ≡ with_values rest old)
 
+-- both on top were popped, the right one was the top and both are generic; or nothing was done
+abbrev pub PopsGenerics : Option (ℕ × ℕ) → State → State → Type 0
+PopsGenerics None old new = new ≡ old
+PopsGenerics (Some both) old new =
+    (rest : List Value) × (old.store.values ≡ Generic both.1 ∷ Generic both.0 ∷ rest) × (new ≡ with_values rest old)
+
 -- the top was popped, and is this number as far as an address goes
 pub record PopsTo (number : ℕ) (old new : State) : Type 0 where
   pub value : Value
@@ -121,6 +128,12 @@ pub record Reads (op : Operation) (old new : State) : Type 0 where
   pub behind : List ℕ
   pub was : read old.setup old.text old.place ≡ Ok (op, behind)
   pub moved : new ≡ read_to (length old.text.bytes - length behind) old
+
+-- an operation at the place was read that ends this piece, or none
+pub record ReadsPiece (piece : Option (ℕ × Option ℕ)) (old new : State) : Type 0 where
+  pub op : Operation
+  pub is : piece_of op ≡ piece
+  pub reads : Reads op old new
 
 -- ---- operations
 

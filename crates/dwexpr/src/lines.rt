@@ -28,7 +28,8 @@ fn print_numbered_fault<W: Write>(
     name: &'static str,
     number: u64,
 ) -> io::Result<()>
-    ensures { Prints (W.contents output.old) (W.contents output.new) (line (codes "fault") (name.now ∷ decimal number ∷ [])) result }
+    ensures { Prints (W.contents output.old) (W.contents output.new)
+        (line (codes "fault") (name.now ∷ decimal number ∷ [])) result }
 {
     put_line(output, "fault", &[Word::Name(name), Word::Number(number)])
 }
@@ -94,7 +95,8 @@ fn number_word(number: Option<u64>) -> Word<'static>
 
 /// The line of a piece.
 pub(crate) fn print_piece<W: Write>(output: &mut W, piece: Piece<Text<'_>>) -> io::Result<()>
-    ensures { Prints (W.contents output.old) (W.contents output.new) (piece_line (piece_of text_in (λ x. x) piece.entry)) result }
+    ensures { Prints (W.contents output.old) (W.contents output.new)
+        (piece_line (piece_of text_in (λ x. x) piece.entry)) result }
 {
     let size = number_word(piece.size_in_bits);
     let offset = number_word(piece.bit_offset);
@@ -154,7 +156,8 @@ fn print_numbered<W: Write>(output: &mut W, name: &str, number: u64) -> io::Resu
 
 /// The request of an expression at an entry.
 fn print_reference<W: Write>(output: &mut W, reference: DieReference<usize>) -> io::Result<()>
-    ensures { Prints (W.contents output.old) (W.contents output.new) (request_line (RequiresAtLocation (reference_of (λ x. x) reference))) result }
+    ensures { Prints (W.contents output.old) (W.contents output.new)
+        (request_line (RequiresAtLocation (reference_of (λ x. x) reference))) result }
 {
     match reference {
         DieReference::UnitRef(offset) => {
@@ -170,7 +173,8 @@ fn print_reference<W: Write>(output: &mut W, reference: DieReference<usize>) -> 
 
 /// The line of what a call of the evaluation answered.
 fn print_result<W: Write>(output: &mut W, answer: EvaluationResult<Text<'_>>) -> io::Result<()>
-    ensures { Prints (W.contents output.old) (W.contents output.new) (reply_line (told_of text_in (λ x. x) answer.entry)) result }
+    ensures { Prints (W.contents output.old) (W.contents output.new)
+        (reply_line (told_of text_in (λ x. x) answer.entry)) result }
 {
     match answer {
         EvaluationResult::Complete => put_line(output, "complete", &[]),
@@ -232,7 +236,8 @@ pub(crate) fn print_answer<W: Write>(
     output: &mut W,
     answer: Answer<Text<'_>>,
 ) -> io::Result<()>
-    ensures { Prints (W.contents output.old) (W.contents output.new) (reply_line (reply_of text_in (λ x. x) answer.entry.0)) result }
+    ensures { Prints (W.contents output.old) (W.contents output.new)
+        (reply_line (reply_of text_in (λ x. x) answer.entry.0)) result }
 {
     match answer.0 {
         Ok(result) => print_result(output, result),

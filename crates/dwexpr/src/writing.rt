@@ -209,7 +209,8 @@ pub(crate) fn put_numbered_line<W: Write>(
     first: u64,
     words: &[Word<'_>],
 ) -> io::Result<()>
-    ensures { Prints (W.contents output.old) (W.contents output.new) (line (decimal first) (map word_text words.now)) result }
+    ensures { Prints (W.contents output.old) (W.contents output.new)
+        (line (decimal first) (map word_text words.now)) result }
 {
     put_digits(output, 10, first)?;
     put_ending(output, words)

@@ -34,7 +34,7 @@ fault_listed most encoding big at_big place [] fault e h some enough = cc some
 fault_listed zero encoding big at_big place (byte ∷ bytes) fault e h some enough = absurd (omega (arith, enough))
 fault_listed (suc most) encoding big at_big place (byte ∷ bytes) fault e h some enough = (
   rw (← e, h) (sym (append_assoc (decimal place) (codes " ") (fault_line fault))
-    ∙ ap (λ z. (decimal place ++ codes " ") ++ z) (sym (append-nil (fault_line fault)))),
+      ∙ ap (λ z. (decimal place ++ codes " ") ++ z) (sym (append-nil (fault_line fault)))),
   rw (← e, h) refl,
 )
 

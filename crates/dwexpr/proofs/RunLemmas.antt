@@ -53,7 +53,7 @@ evaluates_to text number limit old new steps given replayed.Done w = inl (record
   refusal = w.refusal;
   allowed = w.tells.allowed;
   ending_is = ap (λ z. behind_answers z (standing new new.status)) w.tells.replies_are
-    ∙ ap (behind_answers _) (stands_ending w.told new _ w.stands ∙ ap (λ told. outcome_ending (outcome_of old.setup w.refusal old.text told)) (sym w.tells.told_is));
+      ∙ ap (behind_answers _) (stands_ending w.told new _ w.stands ∙ ap (λ told. outcome_ending (outcome_of old.setup w.refusal old.text told)) (sym w.tells.told_is));
 })
 evaluates_to text number limit old new steps given (replayed.Misplaced index) w = inr (inl (record {
   refusal = w.walks.refusal;

@@ -23,11 +23,7 @@ fn print_plain_fault<W: Write>(output: &mut W, name: &'static str) -> io::Result
 }
 
 /// A fault that carries a number.
-fn print_numbered_fault<W: Write>(
-    output: &mut W,
-    name: &'static str,
-    number: u64,
-) -> io::Result<()>
+fn print_numbered_fault<W: Write>(output: &mut W, name: &'static str, number: u64) -> io::Result<()>
     ensures { Prints (W.contents output.old) (W.contents output.new)
         (line (codes "fault") (name.now ∷ decimal number ∷ [])) result }
 {
@@ -104,15 +100,27 @@ pub(crate) fn print_piece<W: Write>(output: &mut W, piece: Piece<Text<'_>>) -> i
         Location::Empty => put_line(output, "piece", &[size, offset, Word::Name("empty")]),
         Location::Register { register } => {
             let number = Word::Number(u64::from(register.0));
-            put_line(output, "piece", &[size, offset, Word::Name("register"), number])
+            put_line(
+                output,
+                "piece",
+                &[size, offset, Word::Name("register"), number],
+            )
         }
         Location::Address { address } => {
             let number = Word::Hexadecimal(address);
-            put_line(output, "piece", &[size, offset, Word::Name("address"), number])
+            put_line(
+                output,
+                "piece",
+                &[size, offset, Word::Name("address"), number],
+            )
         }
         Location::Value { value } => {
             let content = Word::Value(value);
-            put_line(output, "piece", &[size, offset, Word::Name("value"), content])
+            put_line(
+                output,
+                "piece",
+                &[size, offset, Word::Name("value"), content],
+            )
         }
         Location::Bytes { value } => {
             let block = Word::Bytes(value);
@@ -121,7 +129,11 @@ pub(crate) fn print_piece<W: Write>(output: &mut W, piece: Piece<Text<'_>>) -> i
         Location::ImplicitPointer { value, byte_offset } => {
             let object = Word::Number(value.0.into_u64());
             let into = Word::Integer(byte_offset);
-            put_line(output, "piece", &[size, offset, Word::Name("pointer"), object, into])
+            put_line(
+                output,
+                "piece",
+                &[size, offset, Word::Name("pointer"), object, into],
+            )
         }
     }
 }
@@ -232,10 +244,7 @@ fn print_result<W: Write>(output: &mut W, answer: EvaluationResult<Text<'_>>) ->
 }
 
 /// The line of what one call of the evaluation gave.
-pub(crate) fn print_answer<W: Write>(
-    output: &mut W,
-    answer: Answer<Text<'_>>,
-) -> io::Result<()>
+pub(crate) fn print_answer<W: Write>(output: &mut W, answer: Answer<Text<'_>>) -> io::Result<()>
     ensures { Prints (W.contents output.old) (W.contents output.new)
         (reply_line (reply_of text_in (λ x. x) answer.entry.0)) result }
 {

@@ -12,14 +12,13 @@ print_replay-requires g c = has_line _ _ _ _ _ _ _ _ c.requires.few c.replay-rep
 pub returns : goal.returns
 returns g c =
     let fresh = c.new-evaluation.ensures in
-    let ended = ending_of c.replay-replayed.new.eval c.replay-replayed.result in
-    (
+    let ended = ending_of c.replay-replayed.new.eval c.replay-replayed.result in (
       behind_answers (replies_in text_in (λ x. x) c.as_slice.result.now) ended,
       subst
-      (λ z. Evaluates (setup_in c.args.reading.encoding) (text_by c.args.bytes.now c.args.reading.order) unset (steps_of text_in c.args.steps.now) (behind_answers (replies_in text_in (λ x. x) z) ended))
-      (sym c.as_slice.ensures.value)
-      (evaluates_as _ _ _ _ _ _ _ _ fresh.setup (fresh.text ∙ text_as _ _ _ _ c.new-text.ensures.bytes c.new-text.ensures.order)
-      (told_as c.new-evaluation.result fresh.object_address fresh.maximum)
-      (evaluates_to text_in (λ x. x) _ _ _ _ _ _ c.replay-replayed.ensures.replays)),
+          (λ z. Evaluates (setup_in c.args.reading.encoding) (text_by c.args.bytes.now c.args.reading.order) unset (steps_of text_in c.args.steps.now) (behind_answers (replies_in text_in (λ x. x) z) ended))
+          (sym c.as_slice.ensures.value)
+          (evaluates_as _ _ _ _ _ _ _ _ fresh.setup (fresh.text ∙ text_as _ _ _ _ c.new-text.ensures.bytes c.new-text.ensures.order)
+          (told_as c.new-evaluation.result fresh.object_address fresh.maximum)
+          (evaluates_to text_in (λ x. x) _ _ _ _ _ _ c.replay-replayed.ensures.replays)),
       c.print_replay.ensures,
     )

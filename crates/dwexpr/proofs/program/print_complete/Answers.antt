@@ -21,6 +21,6 @@ returns-in_err-print_value_line g c =
 pub returns : goal.returns
 returns g c = (
   appends_both _ _ _ (piece_lines (map (piece_of text_in (λ x. x)) c.args.pieces.now)) (value_line c.args.value) _ refl
-  c.in_ok-print_pieces.ensures c.in_ok-print_value_line.ensures,
+      c.in_ok-print_pieces.ensures c.in_ok-print_value_line.ensures,
   refl,
 )

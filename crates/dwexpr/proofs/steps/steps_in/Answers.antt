@@ -17,7 +17,7 @@ returns-in-Err-Bad g c = λ big.
     let before = c.loop-left.invariant in
     let steps = map (step_owned big) c.loop-left.steps.items in
     let next = next_line before.most c.loop-left.left.now c.first_line-line.result.text.now c.first_line-line.result.rest.now
-      (some_left c.loop-left.left.now c.loop-left-test.ensures) before.enough c.first_line-line.ensures.line in
+    (some_left c.loop-left.left.now c.loop-left-test.ensures) before.enough c.first_line-line.ensures.line in
     let more = spec.steps_in big (lines_within next.0 c.first_line-line.result.rest.now) in
     before.so_far big ∙ ap (λ lines. said_after steps (spec.steps_in big lines)) next.2
     ∙ ap (λ said. said_after steps (said_then said more)) (rw c.in-Err-Bad.field-0-is at (c.in-Err-Bad.ensures big))
@@ -28,17 +28,17 @@ pub loop-left-preserved : goal.loop-left-preserved
 loop-left-preserved g c =
     let before = c.loop-left.invariant in
     let next = next_line before.most c.loop-left.left.now c.first_line-line.result.text.now c.first_line-line.result.rest.now
-      (some_left c.loop-left.left.now c.loop-left-test.ensures) before.enough c.first_line-line.ensures.line in
+    (some_left c.loop-left.left.now c.loop-left-test.ensures) before.enough c.first_line-line.ensures.line in
     record {
       most = next.0;
       enough = next.1 c.first_line-line.ensures.less;
       so_far = λ big.
-        let steps = map (step_owned big) c.loop-left.steps.items in
-        let more = spec.steps_in big (lines_within next.0 c.first_line-line.result.rest.now) in
-        before.so_far big ∙ ap (λ lines. said_after steps (spec.steps_in big lines)) next.2
-        ∙ ap (λ said. said_after steps (said_then said more)) (c.in-Ok.ensures big)
-        ∙ said_more steps (step_owned big c.in-Ok.step) more
-        ∙ ap (λ said. said_after said more)
+          let steps = map (step_owned big) c.loop-left.steps.items in
+          let more = spec.steps_in big (lines_within next.0 c.first_line-line.result.rest.now) in
+          before.so_far big ∙ ap (λ lines. said_after steps (spec.steps_in big lines)) next.2
+          ∙ ap (λ said. said_after steps (said_then said more)) (c.in-Ok.ensures big)
+          ∙ said_more steps (step_owned big c.in-Ok.step) more
+          ∙ ap (λ said. said_after said more)
           (sym (ap (map (step_owned big)) c.in-Ok-push.ensures.items ∙ map-append (step_owned big) c.loop-left.steps.items (c.in-Ok.step ∷ [])));
     }
 

@@ -5,28 +5,10 @@
  *
  * For x86-64 under Linux. Variables whose places need the caller's frame are named with what is wanted. */
 #define _DEFAULT_SOURCE
-#include <dwarf.h>
-#include <elfutils/libdwfl.h>
 #include <inttypes.h>
 #include <stdio.h>
-#include <stdlib.h>
-#include <string.h>
 
-#include "dwexpr.h"
-#include "lists.h"
-#include "process.h"
-
-struct place {
-    pid_t process;
-    struct user_regs_struct registers;
-    Dwfl_Module *module;
-    Dwarf_Addr bias; /* from addresses of the debug information to those of the process */
-    Dwarf_Die unit;
-    Dwarf_Die function;
-    Dwarf *dwarf;
-    struct section lists;
-    dwexpr_encoding encoding;
-};
+#include "place.h"
 
 /* ---- what expressions ask for */
 
@@ -41,33 +23,9 @@ static int read_memory(void *context, uint64_t address, uint32_t size, const uin
     return space || size > 8 ? -1 : read_bytes(((struct place *)context)->process, address, (uint8_t *)content, size);
 }
 
-/* the canonical frame address, where the frame's description says it by a register and an offset */
 static int read_cfa(void *context, uint64_t *address)
 {
-    struct place *place = context;
-    Dwarf_Addr bias;
-    Dwarf_CFI *tables[2];
-    int i;
-    tables[0] = dwfl_module_eh_cfi(place->module, &bias);
-    tables[1] = dwfl_module_dwarf_cfi(place->module, &bias);
-    for (i = 0; i < 2; i++) {
-        Dwarf_Frame *frame;
-        Dwarf_Op *ops;
-        size_t count;
-        if (!tables[i] || dwarf_cfi_addrframe(tables[i], place->registers.rip - bias, &frame))
-            continue;
-        if (!dwarf_frame_cfa(frame, &ops, &count) && count == 1 && ops->atom >= DW_OP_breg0 &&
-            ops->atom <= DW_OP_bregx) {
-            int far = ops->atom == DW_OP_bregx;
-            uint32_t number = far ? (uint32_t)ops->number : (uint32_t)ops->atom - DW_OP_breg0;
-            int failed = read_register(context, number, address);
-            *address += far ? ops->number2 : ops->number;
-            free(frame);
-            return failed;
-        }
-        free(frame);
-    }
-    return -1;
+    return find_cfa(context, address);
 }
 
 static int relocate(void *context, uint64_t address, uint64_t *relocated)
@@ -126,7 +84,7 @@ static const dwexpr_callbacks callbacks = {
 
 static int find_here(const struct place *place, Dwarf_Attribute *attribute, dwexpr_text *text)
 {
-    return find_expression(attribute, place->lists, place->encoding, place->registers.rip - place->bias, text);
+    return find_expression(attribute, place->lists, place->encoding, address_of(place), text);
 }
 
 static int read_frame_base(void *context, uint64_t *address)
@@ -189,13 +147,11 @@ static void print_bytes(const uint8_t *bytes, size_t length, Dwarf_Word sign)
         printf("%" PRIu64 " (0x%" PRIx64 ")\n", number, number);
 }
 
-static void print_value(struct place *place, dwexpr_text text, Dwarf_Die *type)
+/* the content of a variable; -1, and why, where there is none */
+static int read_value(struct place *place, dwexpr_text text, uint8_t *bytes, size_t size)
 {
     static dwexpr_piece pieces[DWEXPR_MAX_PIECES];
-    static uint8_t bytes[4096];
     dwexpr_outcome outcome;
-    Dwarf_Attribute attribute;
-    Dwarf_Word size, sign = 0;
     size_t i, done = 0;
     int ended = dwexpr_run(text, place->encoding, &callbacks, place, &outcome, pieces, DWEXPR_MAX_PIECES);
     if (ended) {
@@ -203,11 +159,7 @@ static void print_value(struct place *place, dwexpr_text text, Dwarf_Die *type)
             printf("unknown: request %" PRIu32 " isn't answered\n", outcome.request);
         else
             printf("unknown: fault %d\n", ended);
-        return;
-    }
-    if (dwarf_aggregate_size(type, &size) || size == 0 || size > sizeof bytes) {
-        printf("of another size\n");
-        return;
+        return -1;
     }
     for (i = 0; i < outcome.pieces && done < size; i++) {
         size_t length = pieces[i].has_size ? pieces[i].size_in_bits / 8 : size;
@@ -215,34 +167,40 @@ static void print_value(struct place *place, dwexpr_text text, Dwarf_Die *type)
             length = size - done;
         if (read_piece(place, text, &pieces[i], bytes + done, length)) {
             printf("not whole: piece %zu is of kind %" PRIu32 "\n", i, pieces[i].kind);
-            return;
+            return -1;
         }
         done += length;
     }
-    dwarf_formudata(dwarf_attr(type, DW_AT_encoding, &attribute), &sign);
-    print_bytes(bytes, size, sign);
+    return 0;
 }
 
 static void print_variable(struct place *place, Dwarf_Die *variable)
 {
+    static uint8_t bytes[4096];
     Dwarf_Attribute attribute;
     Dwarf_Die type;
+    Dwarf_Word size, sign = 0, constant;
     dwexpr_text text;
     const char *name = dwarf_diename(variable);
     if (!name || !dwarf_formref_die(dwarf_attr_integrate(variable, DW_AT_type, &attribute), &type))
         return;
     dwarf_peel_type(&type, &type);
+    dwarf_formudata(dwarf_attr(&type, DW_AT_encoding, &attribute), &sign);
     printf("%s = ", name);
-    if (!dwarf_attr(variable, DW_AT_location, &attribute) || !find_here(place, &attribute, &text) || !text.length)
+    if (dwarf_aggregate_size(&type, &size) || size == 0 || size > sizeof bytes)
+        printf("of another size\n");
+    else if (!dwarf_formudata(dwarf_attr_integrate(variable, DW_AT_const_value, &attribute), &constant) && size <= 8)
+        print_bytes(memcpy(bytes, &constant, sizeof constant), size, sign);
+    else if (!dwarf_attr(variable, DW_AT_location, &attribute) || !find_here(place, &attribute, &text) || !text.length)
         printf("optimized away\n");
-    else
-        print_value(place, text, &type);
+    else if (!read_value(place, text, bytes, size))
+        print_bytes(bytes, size, sign);
 }
 
 static void print_scopes(struct place *place)
 {
     Dwarf_Die *scopes = NULL;
-    int i, count = dwarf_getscopes(&place->unit, place->registers.rip - place->bias, &scopes);
+    int i, count = find_scopes(place, &scopes);
     for (i = 0; i < count; i++)
         if (dwarf_tag(&scopes[i]) == DW_TAG_subprogram)
             place->function = scopes[i];
@@ -261,54 +219,11 @@ static void print_scopes(struct place *place)
     free(scopes);
 }
 
-static int unit_has(Dwarf_Die *unit, Dwarf_Addr address)
-{
-    return unit && dwarf_haspc(unit, address) > 0;
-}
-
-static int print_place(pid_t process)
-{
-    static const Dwfl_Callbacks finders = {
-        .find_elf = dwfl_linux_proc_find_elf,
-        .find_debuginfo = dwfl_standard_find_debuginfo,
-    };
-    static struct place place;
-    Dwfl *dwfl = dwfl_begin(&finders);
-    Dwarf_Die *unit;
-    Dwarf_Half version;
-    uint8_t address_size, offset_size;
-    place.process = process;
-    if (dwfl_linux_proc_report(dwfl, process) || dwfl_report_end(dwfl, NULL, NULL) ||
-        ptrace(PTRACE_GETREGS, process, NULL, &place.registers))
-        return 1;
-    place.module = dwfl_addrmodule(dwfl, place.registers.rip);
-    unit = place.module ? dwfl_module_addrdie(place.module, place.registers.rip, &place.bias) : NULL;
-    /* some compilers write no table of addresses */
-    while (place.module && !unit_has(unit, place.registers.rip - place.bias)) {
-        unit = dwfl_module_nextcu(place.module, unit, &place.bias);
-        if (!unit)
-            break;
-    }
-    if (!unit) {
-        printf("stopped at 0x%llx, of which nothing is known\n", place.registers.rip);
-        return 1;
-    }
-    place.unit = *unit;
-    place.dwarf = dwfl_module_getdwarf(place.module, &place.bias);
-    dwarf_cu_die(place.unit.cu, &place.unit, &version, NULL, &address_size, &offset_size, NULL, NULL);
-    place.encoding.address_size = address_size;
-    place.encoding.offset_size = offset_size;
-    place.encoding.version = (uint8_t)version;
-    place.lists = section_of(dwarf_getelf(place.dwarf), version >= 5 ? ".debug_loclists" : ".debug_loc");
-    print_scopes(&place);
-    dwfl_end(dwfl);
-    return 0;
-}
-
 int main(int argc, char **argv)
 {
+    static struct place place;
     pid_t process;
-    int status, result;
+    int status, known;
     if (argc < 2) {
         fprintf(stderr, "usage: %s PROGRAM ARGUMENT..\n", argv[0]);
         return 2;
@@ -319,7 +234,12 @@ int main(int argc, char **argv)
         return 1;
     }
     printf("stopped by signal %d\n", WSTOPSIG(status));
-    result = print_place(process);
+    known = !find_place(process, &place);
+    if (known)
+        print_scopes(&place);
+    else
+        printf("of its place nothing is known\n");
+    dwfl_end(place.libraries);
     end_process(process);
-    return result;
+    return !known;
 }

@@ -3,13 +3,16 @@
 
 - tests/c/*.c: each field of each operation and outcome, each code, guard pages, a signal handler; as they are, and
   built with the sanitizers of addresses and of undefined behaviour.
-- include/dwexpr.h: without a warning as C11, C17 and C++17.
-- wrapper/: its tests, by rustc alone.
-- examples/: decode is compared with what it is to print. expressions and where need libdw, and are run where it is.
+- include/dwexpr.h: without a warning as C11, C17 and C++17. The structs of the crate and of wrapper/ have its fields,
+  by name, type and order, and so the places that it asserts.
+- wrapper/: its tests, by rustc alone and by cargo.
+- examples/: decode is compared with what it is to print. expressions and where need libdw, and are run where it is;
+  what where prints is compared with gdb, where that is.
 
 It wants cc; what else is missing is left out, and said so. The last line is `N passed, M failed`.
 """
 
+import os
 import pathlib
 import re
 import shutil
@@ -87,6 +90,63 @@ def header():
             check(name, [compiler, *words, "-pedantic", *WARNINGS, "-fsyntax-only", file.name])
 
 
+STRUCTS = ["encoding", "operation", "text", "step", "outcome", "piece"]
+C_TYPES = {
+    "u8": "uint8_t",
+    "u32": "uint32_t",
+    "u64": "uint64_t",
+    "i64": "int64_t",
+    "usize": "size_t",
+    "*const u8": "const uint8_t *",
+}
+
+
+def fields_of(text, name):
+    """The fields of a repr(C) struct of Rattle or Rust, as C declares them: a slice is a pointer and a length."""
+    head = r"#\[repr\(C\)\]\n#\[derive[^\n]*\n(?:pub )?struct "
+    body = re.search(rf"{head}{name}(?:<'a>)? {{\n(.*?)\n}}", text, re.DOTALL)
+    fields = []
+    for field, kind in re.findall(r"^    (?:pub )?(\w+): (.*),$", body.group(1) if body else "", re.MULTILINE):
+        if kind == "&'a [u8]":
+            fields += [(field, C_TYPES["*const u8"]), ("length", "size_t")]
+        else:
+            fields.append((field, C_TYPES[kind]))
+    return fields
+
+
+def places_of(fields):
+    """Where each field is by C's rule, and how large the whole is."""
+    places, place, widest = [], 0, 1
+    for name, kind in fields:
+        size = {"uint8_t": 1, "uint32_t": 4}.get(kind, 8)
+        place = -(-place // size) * size
+        places.append((name, place))
+        place, widest = place + size, max(widest, size)
+    return places, -(-place // widest) * widest
+
+
+def layout():
+    header = (TOP / "include/dwexpr.h").read_text()
+    crate = "\n".join(path.read_text() for path in sorted((CRATE / "src").glob("*.rt")))
+    wrapper = (TOP / "wrapper/src/raw.rs").read_text()
+    for name in STRUCTS:
+        body = re.search(rf"typedef struct dwexpr_{name} {{\n(.*?)\n}} dwexpr_{name};", header, re.DOTALL)
+        declared = re.findall(r"^    (const uint8_t \*|\w+)\s*(\w+);", body.group(1), re.MULTILINE)
+        wanted = [(field, kind) for kind, field in declared]
+        places, size = places_of(wanted)
+        asserted = re.findall(rf"DWEXPR_AT\(dwexpr_{name}, (\w+), (\d+)\);", header)
+        in_crate = re.findall(rf"size_of::<Dwexpr{name.title()}>\(\) == (\d+)", crate)
+        in_header = re.findall(rf"sizeof\(dwexpr_{name}\) == (\d+)", header)
+        count_one(f"layout of {name}: the crate", fields_of(crate, f"Dwexpr{name.title()}"), wanted)
+        count_one(f"layout of {name}: the wrapper", fields_of(wrapper, f"Raw{name.title()}"), wanted)
+        count_one(f"layout of {name}: places", [(field, int(place)) for field, place in asserted], places)
+        count_one(f"layout of {name}: sizes", in_crate + in_header, [str(size)] * 2)
+
+
+def count_one(name, got, wanted):
+    count(got == wanted, got != wanted, name, f"{got} is not {wanted}")
+
+
 def callers(folder):
     for source in sorted((TOP / "tests" / "c").glob("*.c")):
         for kind, words in [("", ["-O2"]), (" with sanitizers", SANITIZERS)]:
@@ -117,6 +177,10 @@ def wrapper(folder):
         said = re.search(r"(\d+) passed; (\d+) failed", done.stdout)
         good, bad = map(int, said.groups()) if said else (0, 1)
         count(good, bad, "wrapper: tests", done.stdout + done.stderr)
+    if not shutil.which("cargo"):
+        return left_out("the wrapper's tests by cargo", "cargo")
+    words = ["cargo", "test", "--offline", "--quiet", "--manifest-path", TOP / "wrapper/Cargo.toml"]
+    check("wrapper: tests by cargo", words, env={**os.environ, "CARGO_TARGET_DIR": str(folder / "target")})
 
 
 DECODED = """\
@@ -187,6 +251,20 @@ def with_libdw(folder):
                     lines = run([where, program]).stdout.splitlines()
                     good = all(line in lines for line in WANTED)
                     count(good, not good, f"examples/where.c on {name}", "\n".join(lines))
+    if stops:
+        with_gdb()
+
+
+def with_gdb():
+    if not shutil.which("gdb"):
+        return left_out("tests/compare_gdb.py", "gdb")
+    done = run([sys.executable, TOP / "tests/compare_gdb.py", "gcc", "-O0", "-O2"])
+    said = re.search(r"^(\d+) equal$", done.stdout, re.MULTILINE)
+    if done.returncode == 2 or not said:
+        return left_out("tests/compare_gdb.py", "gdb with Python, or gcc")
+    different = re.search(r"^(\d+) different$", done.stdout, re.MULTILINE)
+    bad = int(different.group(1)) if different else 0
+    count(int(said.group(1)), bad, "examples/where.c and gdb", done.stdout)
 
 
 def main():
@@ -197,6 +275,7 @@ def main():
         with tempfile.TemporaryDirectory() as name:
             folder = pathlib.Path(name)
             header()
+            layout()
             callers(folder)
             wrapper(folder)
             decode(folder)

@@ -2,6 +2,7 @@
 
 mod clock;
 mod expressions;
+mod from_c;
 mod job;
 mod ours;
 mod sums;

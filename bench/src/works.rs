@@ -1,7 +1,7 @@
 //! The works that are timed. To add one, add a line to `all`, or a `Way` with a function on each side.
 
 use crate::job::{Case, Job, Work};
-use crate::{ours, theirs};
+use crate::{from_c, ours, theirs};
 
 /// How gimli does a work, and how this repository's library does.
 #[derive(Clone, Copy)]
@@ -13,6 +13,9 @@ pub struct Way {
 const DECODE: Way = Way { theirs: theirs::decode, ours: ours::decode };
 const ON_HEAP: Way = Way { theirs: theirs::evaluate_on_heap, ours: ours::evaluate_on_heap };
 const IN_ARRAYS: Way = Way { theirs: theirs::evaluate_in_arrays, ours: ours::evaluate_in_arrays };
+const DECODE_FROM_C: Way = Way { theirs: theirs::decode, ours: from_c::decode };
+const FROM_C: Way = Way { theirs: theirs::evaluate_on_heap, ours: from_c::evaluate };
+const FROM_C_IN_ARRAYS: Way = Way { theirs: theirs::evaluate_in_arrays, ours: from_c::evaluate };
 const OURS_IN_ARRAYS: Way = Way { theirs: theirs::evaluate_on_heap, ours: ours::evaluate_in_arrays };
 
 /// A list of expressions, and what is done with each of them.
@@ -101,6 +104,13 @@ pub fn all<'a>(cases: &'a [Case], made: &'a Made) -> Vec<Timed<'a>> {
     add("evaluate on the heap, each 16 times".into(), ON_HEAP, cases, 16, 16 * expressions, "expression");
     add("evaluate in arrays, gimli on the heap".into(), OURS_IN_ARRAYS, cases, 1, expressions, "expression");
     add("evaluate in arrays, both".into(), IN_ARRAYS, cases, 1, expressions, "expression");
+    add("from C: decode, in order".into(), DECODE_FROM_C, cases, 1, operations, "operation");
+    add("from C: decode, each 16 times".into(), DECODE_FROM_C, cases, 16, 16 * operations, "operation");
+    for (count, text) in &made.texts {
+        add(format!("from C: decode {count} operations"), DECODE_FROM_C, text, 1, *count, "operation");
+    }
+    add("from C: evaluate, gimli on the heap".into(), FROM_C, cases, 1, expressions, "expression");
+    add("from C: evaluate, gimli in arrays".into(), FROM_C_IN_ARRAYS, cases, 1, expressions, "expression");
     for (name, text) in &made.loops {
         add(format!("loop: {name}"), ON_HEAP, text, 1, u64::from(TURNS), "operation");
     }

@@ -34,7 +34,7 @@ static void start(void)
     step(DWEXPR_EVALUATE, 0, 0, 0);
 }
 
-/* The outcome is all zeros before; its fields are compared one by one, as there is padding nowhere, also as bytes. */
+/* No struct has padding, so that they are compared as bytes. */
 static void run(dwexpr_encoding encoding, size_t texts_length)
 {
     uint32_t code;
@@ -66,17 +66,8 @@ static int untouched(const dwexpr_piece *piece)
 static void expect_pieces(size_t count, const dwexpr_piece *wanted)
 {
     size_t i;
-    for (i = 0; i < count; i++) {
-        /* four bytes of it are no field's */
-        dwexpr_piece got = pieces[i];
-        check(got.kind == wanted[i].kind && got.has_size == wanted[i].has_size &&
-                  got.size_in_bits == wanted[i].size_in_bits && got.bit_offset == wanted[i].bit_offset &&
-                  got.has_bit_offset == wanted[i].has_bit_offset && got.value_type == wanted[i].value_type &&
-                  got.number == wanted[i].number && got.byte_offset == wanted[i].byte_offset &&
-                  got.block_text == wanted[i].block_text && got.block_offset == wanted[i].block_offset &&
-                  got.block_length == wanted[i].block_length,
-              name, "a piece");
-    }
+    for (i = 0; i < count; i++)
+        check(!memcmp(&pieces[i], &wanted[i], sizeof *pieces), name, "a piece");
     check(untouched(&pieces[count]), name, "no more pieces are written");
 }
 
@@ -244,6 +235,11 @@ static void all_pieces(void)
     check(dwexpr_evaluate(texts, 1, LE8, steps, steps_length, &outcome, NULL, 0) == 0, name, "the code");
     check(outcome.pieces == 6, name, "all are counted");
 
+    begin("the same block twice", "a3 01 55 a3 01 55"), start(), run(LE8, 1);
+    want.request = DWEXPR_WANTS_ENTRY_VALUE, want.block_offset = 2, want.block_length = 1, expect();
+    step(DWEXPR_ANSWER_ENTRY_VALUE, DWEXPR_GENERIC, 1, 0), run(LE8, 1);
+    want.request = DWEXPR_WANTS_ENTRY_VALUE, want.block_offset = 5, want.block_length = 1, expect();
+
     begin("bytes of a called text", "98 0500 9303"), start(), step(DWEXPR_ANSWER_LOCATION, 0, 0, 2);
     texts[2].bytes = (const uint8_t *)"\x96\x9e\x03""abc", texts[2].length = 6;
     run(LE8, 3);
@@ -270,6 +266,12 @@ static void faults(void)
     end(DWEXPR_INVALID_PIECE_SIZE, (uint64_t)1 << 61, 0), expect();
     begin("types differ", "35 a5 03 2a 22"), start(), step(DWEXPR_ANSWER_REGISTER, DWEXPR_U8, 1, 0), run(LE8, 1);
     end(DWEXPR_TYPE_MISMATCH, 0, 1), expect();
+    begin("a literal of the generic type", "a4 00 01 05 9f"), start();
+    step(DWEXPR_ANSWER_BASE_TYPE, DWEXPR_GENERIC, 0, 0), run(LE8, 1);
+    end(DWEXPR_UNSUPPORTED_TYPE_OPERATION, 0, 1), expect();
+    begin("shifted by less than nothing", "35 a5 03 2a 24"), start();
+    step(DWEXPR_ANSWER_REGISTER, DWEXPR_I8, 0xff, 0), run(LE8, 1);
+    end(DWEXPR_INVALID_SHIFT_EXPRESSION, 0, 1), expect();
     begin("divided by zero", "35 30 1b"), start(), run(LE8, 1), end(DWEXPR_DIVISION_BY_ZERO, 0, 0), expect();
     begin("nothing to add", "35 22"), start(), run(LE8, 1), end(DWEXPR_NOT_ENOUGH_STACK_ITEMS, 0, 0), expect();
     begin("no bytes", ""), start(), run(LE8, 1), end(DWEXPR_NOT_ENOUGH_STACK_ITEMS, 0, 0), expect();
@@ -442,6 +444,14 @@ static void callbacks(void)
     check(dwexpr_run(texts[0], LE8, &calls, &context, &outcome, pieces, MANY) == 77, name, "the result");
     begin("a fault", "01");
     check(dwexpr_run(texts[0], LE8, &calls, &context, &outcome, pieces, MANY) == DWEXPR_INVALID_EXPRESSION, name, "it");
+    begin("a branch for ever", "2f fdff");
+    check(dwexpr_run(texts[0], LE8, &calls, &context, &outcome, pieces, MANY) == DWEXPR_TOO_MANY_ITERATIONS, name, "it");
+    begin("settings", "97 22"), step(DWEXPR_SET_INITIAL_VALUE, 0, 3, 0), step(DWEXPR_SET_OBJECT_ADDRESS, 0, 4, 0);
+    check(dwexpr_run_with(steps, 2, texts[0], LE8, &none, NULL, &outcome, pieces, MANY) == 0, name, "the result");
+    check(outcome.value == 7 && pieces[0].number == 7, name, "the value");
+    check(dwexpr_run_with(steps, DWEXPR_RUN_STEPS, texts[0], LE8, &none, NULL, &outcome, pieces, MANY) ==
+              DWEXPR_RUN_NO_ROOM,
+          name, "too many");
     begin("too many answers", "77 00 13 2f faff");
     check(dwexpr_run(texts[0], LE8, &calls, &context, &outcome, pieces, MANY) == DWEXPR_RUN_NO_ROOM, name, "it");
 }

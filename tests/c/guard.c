@@ -83,7 +83,7 @@ int main(void)
         }
         for (i = 1; i <= count; i++) {
             uint32_t code = dwexpr_evaluate(texts, 2, encoding, steps, i, outcome, pieces, room);
-            bad += code != outcome->code || code == DWEXPR_UNPLACED || outcome->request > 15;
+            bad += code != outcome->code || code > DWEXPR_MISPLACED || outcome->request > 15;
             bad += bad_block(texts, outcome->block_text, outcome->block_offset, outcome->block_length);
             if (code || outcome->request == DWEXPR_COMPLETE) {
                 size_t piece, shown = outcome->pieces < room ? outcome->pieces : room;

@@ -38,60 +38,115 @@ pub type BaseType = Option<u64>;
 #[derive(Clone, Copy, Debug, PartialEq, Eq)]
 #[allow(missing_docs)]
 pub enum Operation<'a> {
+    /// Memory at the address that is popped; with `space`, in the address space that is popped behind it.
     Deref { base_type: BaseType, size: u32, space: bool },
+    /// The top is dropped.
     Drop,
+    /// The value so many below the top is pushed.
     Pick { index: u64 },
+    /// The two on top change places.
     Swap,
+    /// The top goes below the next two.
     Rot,
+    /// The absolute value.
     Abs,
+    /// Bitwise and.
     And,
+    /// The quotient.
     Div,
+    /// The difference.
     Minus,
+    /// The remainder.
     Mod,
+    /// The product.
     Mul,
+    /// The negation.
     Neg,
+    /// Bitwise not.
     Not,
+    /// Bitwise or.
     Or,
+    /// The sum.
     Plus,
+    /// The sum with a constant.
     PlusConstant { value: u64 },
+    /// A shift to the left.
     Shl,
+    /// A shift to the right that fills with zeros.
     Shr,
+    /// A shift to the right that keeps the sign.
     Shra,
+    /// Bitwise exclusive or.
     Xor,
+    /// A branch where the value that is popped isn't 0, in bytes from behind the operation.
     Bra { target: i64 },
+    /// Whether they are equal.
     Eq,
+    /// Whether the first is no less.
     Ge,
+    /// Whether the first is greater.
     Gt,
+    /// Whether the first is no greater.
     Le,
+    /// Whether the first is less.
     Lt,
+    /// Whether they differ.
     Ne,
+    /// A branch, in bytes from behind the operation.
     Skip { target: i64 },
+    /// A constant.
     UnsignedConstant { value: u64 },
+    /// A signed constant.
     SignedConstant { value: i64 },
+    /// The location is a register.
     Register { register: u32 },
+    /// What a register holds, and an offset in bytes.
     RegisterOffset { register: u32, offset: i64, base_type: BaseType },
+    /// The frame base and an offset in bytes.
     FrameOffset { offset: i64 },
+    /// Nothing.
     Nop,
+    /// The address of the object that is described.
     PushObjectAddress,
+    /// The expression of an entry, by its offset in the unit or in `.debug_info`.
     Call { offset: u64, in_debug_info: bool },
+    /// The address of what is at an offset in thread-local storage.
     Tls,
+    /// The canonical frame address.
     CallFrameCfa,
+    /// A piece ends, of so many bits.
     Piece { size_in_bits: u64, bit_offset: Option<u64> },
+    /// The location has these bytes and no place.
     ImplicitValue { bytes: &'a [u8] },
+    /// The location has the value on top and no place.
     StackValue,
+    /// A pointer into the object of an entry of `.debug_info`, by so many bytes.
     ImplicitPointer { value: u64, byte_offset: i64 },
+    /// The value that an expression had on entry of the function.
     EntryValue { expression: &'a [u8] },
+    /// The value of a parameter, by its entry's offset in the unit.
     ParameterRef { offset: u64 },
+    /// An address of the file.
     Address { address: u64 },
+    /// An address of `.debug_addr`.
     AddressIndex { index: u64 },
+    /// A constant of `.debug_addr`.
     ConstantIndex { index: u64 },
+    /// The bytes of a value of a type.
     TypedLiteral { base_type: BaseType, value: &'a [u8] },
+    /// The value in another type.
     Convert { base_type: BaseType },
+    /// The bits in another type.
     Reinterpret { base_type: BaseType },
+    /// The value isn't initialized.
     Uninitialized,
+    /// A local variable of WebAssembly.
     WasmLocal { index: u64 },
+    /// A global variable of WebAssembly.
     WasmGlobal { index: u64 },
+    /// A place of WebAssembly's stack.
     WasmStack { index: u64 },
+    /// The value of a variable, by its entry's offset in `.debug_info`.
     VariableValue { offset: u64 },
 }
 
@@ -110,14 +165,23 @@ pub struct Decoded<'a> {
 #[derive(Clone, Copy, Debug, PartialEq, Eq)]
 #[allow(missing_docs)]
 pub enum ValueType {
+    /// The size of an address, and no sign.
     Generic,
+    /// 8 bits, signed.
     I8,
+    /// 8 bits.
     U8,
+    /// 16 bits, signed.
     I16,
+    /// 16 bits.
     U16,
+    /// 32 bits, signed.
     I32,
+    /// 32 bits.
     U32,
+    /// 64 bits, signed.
     I64,
+    /// 64 bits.
     U64,
 }
 
@@ -134,22 +198,37 @@ pub struct Value {
 #[derive(Clone, Copy, Debug, PartialEq, Eq)]
 #[allow(missing_docs)]
 pub enum Step {
+    /// A value on the stack at the start; once, and before it.
     InitialValue(u64),
+    /// The address of the object that is described.
     ObjectAddress(u64),
+    /// How many operations there may be.
     MaxIterations(u32),
+    /// The start.
     Evaluate,
+    /// What memory holds.
     Memory(Value),
+    /// What the register holds.
     Register(Value),
+    /// What WebAssembly's machine holds.
     Wasm(Value),
+    /// The value on entry of the function.
     EntryValue(Value),
+    /// The frame base.
     FrameBase(u64),
+    /// The address in thread-local storage.
     Tls(u64),
+    /// The canonical frame address.
     Cfa(u64),
+    /// The parameter's value.
     Parameter(u64),
+    /// Where the address was loaded.
     Relocated(u64),
+    /// The address or constant at the index.
     Indexed(u64),
     /// The index of the text that is called.
     Location(usize),
+    /// The type.
     BaseType(ValueType),
 }
 
@@ -157,19 +236,33 @@ pub enum Step {
 #[derive(Clone, Copy, Debug, PartialEq, Eq)]
 #[allow(missing_docs)]
 pub enum Request<'a> {
+    /// So many bytes at an address, in a space where one is named.
     Memory { address: u64, size: u32, space: Option<u64>, base_type: BaseType },
+    /// What a register holds.
     Register { register: u32, base_type: BaseType },
+    /// The frame base of the function.
     FrameBase,
+    /// The address of what is at this offset in thread-local storage.
     Tls { offset: u64 },
+    /// The canonical frame address.
     Cfa,
+    /// The expression of an entry, by its offset in the unit or in `.debug_info`.
     Location { offset: u64, in_debug_info: bool },
+    /// The value that the expression had on entry of the function.
     EntryValue { expression: &'a [u8] },
+    /// The value of the parameter, by its entry's offset in the unit.
     Parameter { offset: u64 },
+    /// Where this address of the file was loaded.
     Relocated { address: u64 },
+    /// What `.debug_addr` holds at the index, relocated or not.
     Indexed { index: u64, relocate: bool },
+    /// The type of the entry at this offset in the unit.
     BaseType { offset: u64 },
+    /// A local variable of WebAssembly.
     WasmLocal { index: u64 },
+    /// A global variable of WebAssembly.
     WasmGlobal { index: u64 },
+    /// A place of WebAssembly's stack.
     WasmStack { index: u64 },
 }
 
@@ -177,11 +270,17 @@ pub enum Request<'a> {
 #[derive(Clone, Copy, Debug, PartialEq, Eq)]
 #[allow(missing_docs)]
 pub enum Location<'a> {
+    /// It was optimized away.
     Empty,
+    /// In a register.
     Register { register: u64 },
+    /// At an address.
     Address { address: u64 },
+    /// It has this value and no place.
     Value { value: Value },
+    /// It has these bytes and no place.
     Bytes { bytes: &'a [u8] },
+    /// It points into the object of an entry of `.debug_info`, by so many bytes.
     ImplicitPointer { value: u64, byte_offset: i64 },
 }
 
@@ -242,6 +341,8 @@ pub fn operations(bytes: &[u8], encoding: Encoding) -> impl Iterator<Item = Resu
 }
 
 /// Evaluates the first of the texts in the steps, from nothing.
+///
+/// An expression may loop: without [`Step::MaxIterations`] it ends after 4294967295 operations, which takes a minute.
 ///
 /// # Errors
 ///

@@ -11,8 +11,8 @@ use Rattle.dwarf_meaning.specs.Rest.{State, Status, Start, Running, Waits, Compl
 use Rattle.dwarf_meaning.specs.Steps.{Reply, Asked, reply}
 use Rattle.dwarf_eval.specs.Calls.{Counts, Follows, IsFresh, IsLater, IsOpen, IsTold, after_input, means, means_path, path_after}
 use Rattle.dwarf_eval.specs.Paths.{path, path_behind, path_by, path_started, path_through}
-use Rattle.dwarf_eval.specs.inner.Steps.{before_pushes, Total, total, total_after, Reaches, Falls, EndsBy, Ends}
-use Rattle.dwarf_eval.proofs.Refusals.{before_never, before_later}
+use Rattle.dwarf_machine.specs.inner.Steps.{before_pushes, Total, total, total_after, Reaches, Falls, EndsBy, Ends}
+use Rattle.dwarf_machine.proofs.Refusals.{before_never, before_later}
 
 open_reply : (setup : Setup) (callers : List Frame) (request : Request) (frames : List Frame) (inputs : List Input) → reply (unwound setup callers (Asking request frames inputs)) ≡ Asked request
 open_reply setup [] request frames inputs = refl

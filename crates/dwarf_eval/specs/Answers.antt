@@ -1,34 +1,17 @@
 -- What resumes are given, and where an evaluation stands as its caller sees it.
+pub use Rattle.dwarf_machine.specs.Answers.{answer_of, IsWaitingFor, IsWaitingTo}
 use Rattle.std.specs.Prelude.{◌≡◌, Bool, true, false, None, is_some}
-use Rattle.dwarf_meaning.specs.Operations.{Text}
 use Rattle.dwarf_meaning.specs.Kinds as meaning
 use Rattle.dwarf_meaning.specs.Kinds.{Kind, kind_of_request, kind_of_waiting}
-use Rattle.dwarf_meaning.specs.Requests as asked
 use Rattle.dwarf_meaning.specs.Rest as rest
 use Rattle.dwarf_meaning.specs.Rest.{Start, Running, Waits, Complete, Stopped}
 use Rattle.dwarf_eval.specs.Calls.{IsClosed, IsComplete}
 use Rattle.dwarf_eval.specs.declared.op.results.EvaluationResult.{EvaluationResult}
 use Rattle.dwarf_eval.specs.declared.op.results.EvaluationResult.TheVariants as result
-use Rattle.dwarf_eval.specs.declared.eval.states.Given.{Given}
-use Rattle.dwarf_eval.specs.declared.eval.states.Given.TheVariants as given
 use Rattle.dwarf_eval.specs.declared.eval.states.WaitingKind.{WaitingKind}
 use Rattle.dwarf_eval.specs.declared.eval.states.WaitingKind.TheVariants as kind
 use Rattle.dwarf_eval.specs.declared.eval.states.Status.{Status}
 use Rattle.dwarf_eval.specs.declared.eval.states.Status.TheVariants as status
-
-abbrev pub answer_of : {R : Type 0} → (R → Text) → Given R → asked.Answer
-answer_of text (given.Memory value) = asked.MemoryAnswer value
-answer_of text (given.Register value) = asked.RegisterAnswer value
-answer_of text (given.WasmValue value) = asked.WasmAnswer value
-answer_of text (given.EntryValue value) = asked.EntryAnswer value
-answer_of text (given.FrameBase number) = asked.FrameBaseAnswer number
-answer_of text (given.Tls number) = asked.TlsAnswer number
-answer_of text (given.CallFrameCfa number) = asked.CfaAnswer number
-answer_of text (given.ParameterRef number) = asked.ParameterAnswer number
-answer_of text (given.RelocatedAddress number) = asked.RelocatedAnswer number
-answer_of text (given.IndexedAddress number) = asked.IndexedAnswer number
-answer_of text (given.AtLocation expression) = asked.LocationAnswer (text expression)
-answer_of text (given.BaseType value_type) = asked.BaseTypeAnswer value_type
 
 abbrev pub kind_of : WaitingKind → Kind
 kind_of kind.Memory = meaning.Memory
@@ -52,22 +35,6 @@ Shows (Waits request waiting) _ = ⊥
 Shows (Complete value) shown = shown ≡ status.Complete
 Shows (Stopped error) shown = shown ≡ status.Failed error
 Shows Running shown = ⊥
-
--- a request of this kind is open
-abbrev pub IsWaitingFor : Kind → rest.Status → Type 0
-IsWaitingFor kind (Waits request waiting) = kind_of_waiting waiting ≡ kind
-IsWaitingFor kind (Start initial_value) = ⊥
-IsWaitingFor kind (Complete value) = ⊥
-IsWaitingFor kind (Stopped error) = ⊥
-IsWaitingFor kind Running = ⊥
-
--- the open request waits to do this with its answer
-abbrev pub IsWaitingTo : asked.Waiting → rest.Status → Type 0
-IsWaitingTo wanted (Waits request waiting) = waiting ≡ wanted
-IsWaitingTo wanted (Start initial_value) = ⊥
-IsWaitingTo wanted (Complete value) = ⊥
-IsWaitingTo wanted (Stopped error) = ⊥
-IsWaitingTo wanted Running = ⊥
 
 -- a request of this kind is open, or the evaluation met a fault
 abbrev pub IsOpenFor : Kind → rest.Status → Type 0

@@ -1,14 +1,15 @@
 -- What a call of an evaluation answers: the nested meaning, and what is left of it.
-use Rattle.std.specs.Prelude.{ℕ, zero, suc, ◌≡◌, ◌+◌, ◌⊎◌, List, [], ◌∷◌, Option, None, Result, Ok, Err, length}
+pub use Rattle.dwarf_machine.specs.Inputs.{HasFreeList, MayPick, before_input, input_of, Keeps, with_status, first_of, IsFresh, most_iterations, with_object, with_maximum}
+use Rattle.std.specs.Prelude.{ℕ, zero, suc, ◌≡◌, ◌+◌, List, [], ◌∷◌, Option, Result, Ok, Err, length}
 use Rattle.dwarf_base.specs.declared.errors.Error.{Error}
 use Rattle.dwarf_base.specs.Faults.{fault_of}
 use Rattle.dwarf_value.specs.declared.types.Value.{Value}
 use Rattle.dwarf_meaning.specs.Operations.{Text}
 use Rattle.dwarf_meaning.specs.Requests as asked
-use Rattle.dwarf_meaning.specs.Requests.{Request, Waiting, Answer, Input}
-use Rattle.dwarf_meaning.specs.Stores.{Limits, Refusal, Never, After}
+use Rattle.dwarf_meaning.specs.Requests.{Input}
+use Rattle.dwarf_meaning.specs.Stores.{Refusal, Never, After}
 use Rattle.dwarf_meaning.specs.Run.{Frame}
-use Rattle.dwarf_meaning.specs.Meaning.{Outcome, First, course_of, fresh, meaning}
+use Rattle.dwarf_meaning.specs.Meaning.{Outcome, course_of, meaning}
 use Rattle.dwarf_meaning.specs.Rest.{State, Status, Start, Running, Waits, Complete, Stopped, rest}
 use Rattle.dwarf_meaning.specs.Steps.{Reply, Completed, Asked, Faulted, reply}
 use Rattle.dwarf_op.specs.Views.{reference_of}
@@ -17,35 +18,9 @@ use Rattle.dwarf_eval.specs.Paths.{path}
 use Rattle.dwarf_eval.specs.declared.op.results.EvaluationResult.{EvaluationResult}
 use Rattle.dwarf_eval.specs.declared.op.results.EvaluationResult.TheVariants as result
 
--- ---- refusals, inputs and settings
-
--- one of the lists has no limit
-abbrev pub HasFreeList : Limits → Type 0
-HasFreeList limits = (limits.values ≡ None) ⊎ (limits.frames ≡ None) ⊎ (limits.pieces ≡ None)
-
--- only a push on a list without a limit may be refused before a limit is met
-abbrev pub MayPick : Limits → Refusal → Type 0
-MayPick limits Never = Unit {0}
-MayPick limits (After inputs pushes) = HasFreeList limits
-
--- the refusal before an input is taken
-abbrev pub before_input : Refusal → Refusal
-before_input Never = Never
-before_input (After inputs pushes) = After (suc inputs) pushes
-
--- an answer, with the settings as they stand
-abbrev pub input_of : State → Answer → Input
-input_of x answer = record { object_address = x.store.object_address; maximum = x.store.maximum; answer = answer }
-
 -- what comes of a state and its next input
 abbrev pub after_input : State → Input → Refusal → List Input → Outcome
 after_input x input r inputs = rest (before_input r) x (input ∷ inputs)
-
--- the setup and the settings stay
-pub record Keeps (old new : State) : Type 0 where
-  pub setup : new.setup ≡ old.setup
-  pub object_address : new.store.object_address ≡ old.store.object_address
-  pub maximum : new.store.maximum ≡ old.store.maximum
 
 -- it waits or is complete
 abbrev pub IsOpen : Status → Type 0
@@ -54,9 +29,6 @@ IsOpen (Complete value) = Unit {0}
 IsOpen Running = ⊥
 IsOpen (Start initial_value) = ⊥
 IsOpen (Stopped error) = ⊥
-
-abbrev pub with_status : Status → State → State
-with_status status x = record x { status = status }
 
 -- ---- answers
 
@@ -115,10 +87,6 @@ pub record Counts (old : State) (outcomes : Refusal → List Input → Outcome) 
   pub count : new.store.count ≡ old.store.count + length (paths refusal [])
   pub more : IsOpen new.status → (r : Refusal) (inputs : List Input) → IsLater r → old.store.count + length (paths r inputs) ≡ new.store.count + length (path r new inputs)
 
--- the settings as they stand when the evaluation starts
-abbrev pub first_of : State → Option ℕ → First
-first_of x initial_value = record { initial_value = initial_value; object_address = x.store.object_address; maximum = x.store.maximum }
-
 abbrev pub means : State → Option ℕ → Refusal → List Input → Outcome
 means x initial_value r inputs = meaning x.setup r x.text (first_of x initial_value) inputs
 
@@ -162,12 +130,6 @@ ResumesPath input old new told (Start initial_value) = Unit {0}
 ResumesPath input old new told (Complete value) = Unit {0}
 ResumesPath input old new told Running = Unit {0}
 
--- nothing is done yet
-pub record IsFresh (x : State) (initial_value : Option ℕ) : Type 0 where
-  pub place : x.place ≡ 0
-  pub callers : x.callers ≡ []
-  pub store : x.store ≡ fresh (first_of x initial_value) Never
-
 abbrev pub IsSettledBy : State → Status → Type 0
 IsSettledBy x (Start initial_value) = IsFresh x initial_value
 IsSettledBy x Running = ⊥
@@ -183,17 +145,6 @@ IsSettled x = IsSettledBy x x.status
 abbrev pub IsClosed : Status → Type 0
 IsClosed (Waits request waiting) = ⊥
 IsClosed _ = Unit {0}
-
--- ---- settings and results
-
-abbrev pub most_iterations : ℕ
-most_iterations = 4294967295
-
-abbrev pub with_object : Option ℕ → State → State
-with_object address x = record x { store = record x.store { object_address = address } }
-
-abbrev pub with_maximum : ℕ → State → State
-with_maximum maximum x = record x { store = record x.store { maximum = maximum } }
 
 abbrev pub IsComplete : Status → Type 0
 IsComplete (Complete value) = Unit {0}

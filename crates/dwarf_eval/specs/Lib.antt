@@ -4,4 +4,3 @@ pub mod Calls
 pub mod Iteration
 pub mod Machine
 pub mod Paths
-pub mod inner

@@ -1,3 +1,4 @@
+pub mod EqualEnds
 pub mod Calling
 pub mod Leading
 pub mod Rests

@@ -2,10 +2,10 @@
 use Rattle.std.proofs.Common.{ℕ, ◌≡◌, ◌+◌, length, Some, None, arith, ap, ◌∙◌}
 use Rattle.dwarf_meaning.specs.Stores.{Last}
 use Rattle.dwarf_meaning.specs.Rest.{State, Start}
-use Rattle.dwarf_eval.specs.Bounds.{piece_due, initial_due, answer_due, Spends, SpendsInAll}
+use Rattle.dwarf_eval.specs.Bounds.{piece_due, initial_due, answer_due, endings, located, faults_in, DecodesOnce, Spends, SpendsInAll}
 
 pub spent_here : (x : State) → SpendsInAll 0 x x
-spent_here x = record { items = omega arith; callers = omega arith; decodings = omega arith }
+spent_here x = record { items = omega arith; callers = omega arith; decodings = omega arith; once = λ d. d }
 
 -- one call more
 pub spent_more : (more : ℕ) (a b c : State) → SpendsInAll more a b → Spends b c → SpendsInAll more a c
@@ -16,7 +16,17 @@ spent_more more a b c h i =
     let callers_then = i.callers in
     let decodings = h.decodings in
     let decodings_then = i.decodings in
-    record { items = omega (arith, items, items_then); callers = omega (arith, callers, callers_then); decodings = omega (arith, decodings, decodings_then) }
+    record { items = omega (arith, items, items_then); callers = omega (arith, callers, callers_then); decodings = omega (arith, decodings, decodings_then); once = λ d. i.once (h.once d) }
+
+-- a state with the same pieces, status and counts
+once_alike : (old new : State) → faults_in new.status ≡ faults_in old.status → new.store.pieces ≡ old.store.pieces → new.store.count ≡ old.store.count → new.decodings ≡ old.decodings → piece_due new.store.last new.status ≡ piece_due old.store.last old.status → new.store.last ≡ old.store.last → DecodesOnce old → DecodesOnce new
+once_alike old new faults pieces count decodings due last d =
+    let each = d.each in
+    let no_other = d.no_other in
+    let waits = d.waits in
+    let ended = ap endings pieces in
+    let gave = ap located last in
+    record { each = omega (arith, each, ended, count, decodings); no_other = omega (arith, no_other, ended, count, decodings, faults); waits = omega (arith, waits, due, gave) }
 
 -- an initial value
 pub spent_initial : (number : ℕ) (a b c : State) → b.status ≡ Start None → c ≡ record b { status = Start (Some number) } → SpendsInAll 0 a b → SpendsInAll 1 a c
@@ -34,7 +44,17 @@ spent_initial number a b c was is h =
     let e = ap (λ (z : State). answer_due z.status) is in
     let read = ap (λ (z : State). z.decodings) is in
     let lists = ap (λ (z : State). length z.store.values + length z.callers + length z.store.pieces) is in
-    record { items = omega (arith, items, p, i, d, lists, count, q, j, e); callers = omega (arith, callers, d, e, frames, count); decodings = omega (arith, decodings, p, q, read, count) }
+    record {
+      items = omega (arith, items, p, i, d, lists, count, q, j, e);
+      callers = omega (arith, callers, d, e, frames, count);
+      decodings = omega (arith, decodings, p, q, read, count);
+      once = λ was_once.
+          let met = ap faults_in was in
+          let meets = ap (λ (z : State). faults_in z.status) is in
+          let pieces = ap (λ (z : State). z.store.pieces) is in
+          let last = ap (λ (z : State). z.store.last) is in
+          once_alike b c (omega (arith, met, meets)) pieces count read (omega (arith, p, q)) last (h.once was_once);
+    }
 
 -- a state with the same lists, status and counts
 pub alike_spends : (old new : State) → new.status ≡ old.status → new.callers ≡ old.callers → new.store.values ≡ old.store.values → new.store.pieces ≡ old.store.pieces → new.store.last ≡ old.store.last → new.store.count ≡ old.store.count → new.decodings ≡ old.decodings → Spends old new
@@ -45,4 +65,4 @@ alike_spends old new status callers values pieces last count decodings =
     let c = ap length callers in
     let v = ap length values in
     let s = ap length pieces in
-    record { items = omega (arith, p, i, a, c, v, s, count); callers = omega (arith, a, c, count); decodings = omega (arith, p, count, decodings) }
+    record { items = omega (arith, p, i, a, c, v, s, count); callers = omega (arith, a, c, count); decodings = omega (arith, p, count, decodings); once = once_alike old new (ap faults_in status) pieces count decodings p last }

@@ -1,3 +1,4 @@
+pub mod Equality
 pub mod Replays
 pub mod Stepping
 pub mod inner

@@ -504,9 +504,12 @@ fn answer_of(kind: WaitingKind) -> Step<Slice<'static>> {
     }
 }
 
-/// With at most 16 operations the evaluation ends after at most 16 answers.
-pub(crate) fn expect_end(rt: &impl Abort, alloc: Global, text: &[u8]) {
-    let mut eval = on_heap(alloc, text);
+/// With at most 16 operations the evaluation of the text ends after at most 16 answers.
+pub(crate) fn expect_end<'a>(
+    rt: &impl Abort,
+    mut eval: Evaluation<Slice<'a>, StoreOnHeap<Global>>,
+    text: &'a [u8],
+) {
     eval.set_max_iterations(16);
     let mut last = evaluate(rt, &mut eval);
     for _ in 0..16 {
@@ -527,11 +530,13 @@ pub(crate) fn expect_end(rt: &impl Abort, alloc: Global, text: &[u8]) {
 
 #[test]
 fn short_expressions(rt: HostRuntime) {
-    expect_end(&rt, rt.alloc(), &[]);
+    expect_end(&rt, on_heap(rt.alloc(), &[]), &[]);
     for first in 0..=255u8 {
-        expect_end(&rt, rt.alloc(), &[first]);
+        let one = [first];
+        expect_end(&rt, on_heap(rt.alloc(), &one), &one);
         for second in 0..=255u8 {
-            expect_end(&rt, rt.alloc(), &[first, second]);
+            let two = [first, second];
+            expect_end(&rt, on_heap(rt.alloc(), &two), &two);
         }
     }
 }

@@ -811,6 +811,20 @@ fn iteration(rt: HostRuntime) {
     assert!(rt; operations.next() == Ok(None));
     assert!(rt; operations.offset_from(&expression) == 2);
 
+    let mut operations = expression.operations(SMALL);
+    let one = Operation::UnsignedConstant { value: 1 };
+    assert!(rt; Iterator::next(&mut operations) == Some(Ok(one)));
+    assert!(rt; operations.offset_from(&expression) == 1);
+    assert!(rt;
+        matches!(
+            Iterator::next(&mut operations),
+            Some(Err(Error::UnexpectedEof(_)))
+        )
+    );
+    assert!(rt; operations.offset_from(&expression) == 2);
+    assert!(rt; Iterator::next(&mut operations) == None);
+    assert!(rt; operations.offset_from(&expression) == 2);
+
     let expression = Expression(little(&[0x0a, 0x01, 0x02, 0x96, 0xa8, 0xe5, 0x0e]));
     let items = [
         Operation::UnsignedConstant { value: 513 },

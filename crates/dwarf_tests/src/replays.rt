@@ -15,8 +15,8 @@ use dwarf_expr::replay::{Answer, Replayed, Step, replay};
 use dwarf_expr::store::EvaluationStorage;
 use dwarf_value::Value;
 use rows::{
-    BRANCHES, CALLS, End, FIXED, HIGH_BITS, LOCATIONS, MISPLACED, OTHERS, REQUESTS, Row, STACK,
-    Told,
+    BRANCHES, CALLS, CUT, End, FIXED, HIGH_BITS, LOCATIONS, MISPLACED, OTHERS, REQUESTS, Row,
+    STACK, Told,
 };
 use std::alloc::{AllocError, Global};
 use std::process::Abort;
@@ -425,15 +425,27 @@ fn refused_answer(rt: HostRuntime) {
 }
 
 // Each front of the expression that lacks a byte has at most as many operations as bytes, and comes to an end.
-fn expect_fronts(rt: &impl Abort, alloc: Global, text: &'static [u8]) {
+fn expect_fronts(
+    rt: &impl Abort,
+    alloc: Global,
+    address_size: u8,
+    version: u16,
+    text: &'static [u8],
+) {
+    assert!(rt; 0 < address_size && address_size <= 8);
+    let encoding = Encoding {
+        address_size,
+        version,
+        ..SMALL
+    };
     for len in 0..text.len() {
         let front = &text[..len];
         let mut count = 0;
-        for _ in Expression(little(front)).operations(SMALL) {
+        for _ in Expression(little(front)).operations(encoding) {
             assert!(rt; count < len, "{text:?}");
             count += 1;
         }
-        expect_end(rt, alloc, front);
+        expect_end(rt, Evaluation::new(alloc, little(front), encoding), front);
     }
 }
 
@@ -442,7 +454,16 @@ fn fronts(rt: HostRuntime) {
     let tables: [&[Row]; 6] = [&STACK, &BRANCHES, &REQUESTS, &HIGH_BITS, &CALLS, &LOCATIONS];
     for rows in tables {
         for row in rows {
-            expect_fronts(&rt, rt.alloc(), row.0);
+            expect_fronts(&rt, rt.alloc(), 4, 4, row.0);
         }
+    }
+    for (_, row) in &FIXED {
+        expect_fronts(&rt, rt.alloc(), 4, 4, row.0);
+    }
+    for (address_size, version, row) in &OTHERS {
+        expect_fronts(&rt, rt.alloc(), *address_size, *version, row.0);
+    }
+    for text in &CUT {
+        expect_fronts(&rt, rt.alloc(), 4, 4, *text);
     }
 }

@@ -1,5 +1,5 @@
 -- The block of an operation is the last part of its bytes.
-use Rattle.std.proofs.Common.{ℕ, ◌≡◌, ◌∙◌, ◌≤◌, ◌-◌, ◌+◌, ◌&&◌, ◌==◌, nat_le, ℤ, Bool, true, false, cond, List, [], ◌∷◌, ◌++◌, length, take, drop, Option, Some, None, Result, Ok, Err, ◌<◌, arith, refl, sym, ap, subst, append_assoc, length-append}
+use Rattle.std.proofs.Common.{ℕ, ◌≡◌, ◌∙◌, ◌-◌, ◌+◌, ◌&&◌, ◌==◌, nat_le, ℤ, Bool, true, false, cond, List, [], ◌∷◌, ◌++◌, length, take, drop, Option, Some, None, Result, Ok, Err, ◌<◌, arith, refl, sym, ap, subst, append_assoc, length-append}
 use Rattle.std.specs.List.{slice_range}
 use Rattle.std.proofs.Math.Seq.{drop-append_seam, drop-append-add, take-append_seam}
 use Rattle.std.proofs.lemmas.List.{take-append-drop, length-take-le}
@@ -151,7 +151,7 @@ last_in_row encoding opcode = last_among opcode (lines encoding) (last_in_lines 
 -- ---- what is spelled
 
 -- the bytes end in the block, where there is one
-abbrev EndIn : List ℕ → Option (List ℕ) → Type 0
+abbrev pub EndIn : List ℕ → Option (List ℕ) → Type 0
 EndIn bytes None = Unit {0}
 EndIn bytes (Some block) = (front : List ℕ) × (front ++ block ≡ bytes)
 
@@ -182,13 +182,13 @@ spelled_end context row bytes op h (spelling.block next front rest op' more) =
     let whole : front ≡ front ++ rest = sym (append_none front) ∙ ap (λ (xs : List ℕ). front ++ xs) (sym last.0) in
     subst (λ (o : Option (List ℕ)). EndIn (front ++ rest) o) (sym last.1) (subst (λ (xs : List ℕ). EndIn xs (Some front)) whole ends)
 
-operation_ends : (encoding : Encoding) (bits : ℕ) (big : Bool) (bytes : List ℕ) (op : Operation) → Spells encoding bits big bytes op → EndIn bytes (block_in op)
+pub operation_ends : (encoding : Encoding) (bits : ℕ) (big : Bool) (bytes : List ℕ) (op : Operation) → Spells encoding bits big bytes op → EndIn bytes (block_in op)
 operation_ends encoding bits big bytes op (spelling.spelled opcode operands op' s) =
     more_before (opcode ∷ []) operands (block_in op') (spelled_end _ (row_of encoding opcode) operands op' (last_in_row encoding opcode) s)
 
 -- ---- where the block is
 
-slice_between : (a front block rest whole : List ℕ) (place : ℕ) → a ++ ((front ++ block) ++ rest) ≡ whole → place ≡ length a + length front → slice_range whole place (place + length block) ≡ block
+pub slice_between : (a front block rest whole : List ℕ) (place : ℕ) → a ++ ((front ++ block) ++ rest) ≡ whole → place ≡ length a + length front → slice_range whole place (place + length block) ≡ block
 slice_between a front block rest whole place is_whole at =
     let width : (place + length block) - place ≡ length block = omega arith in
     let joined : drop place whole ≡ block ++ rest =

@@ -1,16 +1,17 @@
 -- What came of a step, by its cases.
-use Rattle.std.proofs.Common.{ℕ, ◌≡◌, ◌⊎◌, inl, inr, List, Result, Ok, Err, refl, sym, subst}
+use Rattle.std.proofs.Common.{ℕ, ◌≡◌, inl, inr, List, Result, Ok, Err, sym, subst}
 use Rattle.dwarf_base.specs.declared.errors.Error.{Error}
 use Rattle.dwarf_base.specs.Faults.{fault_of}
 use Rattle.dwarf_meaning.specs.Rest.{State}
 use Rattle.dwarf_meaning.specs.Steps.{Step}
 use Rattle.dwarf_eval.specs.Calls.{told_of}
 use Rattle.dwarf_eval.specs.declared.op.results.EvaluationResult.{EvaluationResult}
-use Rattle.dwarf_replay.specs.Stepping.{IsCalled, IsSet, MayTake}
-use Rattle.dwexpr_c.specs.Codes.{code_of_fault, number_of_fault, misplaced, unplaced}
-use Rattle.dwexpr_c.specs.Outcomes.{AsksOfBlock, ShowsReply}
+use Rattle.dwarf_replay.specs.Stepping.{IsCalled, MayTake}
+use Rattle.dwexpr_c.specs.Codes.{code_of_fault, number_of_fault, misplaced}
+use Rattle.dwexpr_c.specs.Outcomes.{ShowsReply}
 use Rattle.dwexpr_c.specs.Texts.{text_of_placed}
-use Rattle.dwexpr_c.specs.inner.Stepping.{Does, plain_end}
+use Rattle.dwexpr_c.specs.inner.Places.{AsksNowhere}
+use Rattle.dwexpr_c.specs.inner.Stepping.{Does, plain_end, unplaced}
 use Rattle.dwexpr_c.specs.declared.faults.FaultNumbers.{FaultNumbers}
 use Rattle.dwexpr_c.specs.declared.outcomes.DwexprOutcome.{DwexprOutcome}
 use Rattle.dwexpr_c.specs.declared.places.Placed.{Placed}
@@ -25,7 +26,7 @@ module _ (texts : List DwexprText) (said : Result Step ℕ) (step : Step) (old n
   does_fail end error called e =
       subst (λ (r : Result Step ℕ). Does texts r old new before before (Err end)) (sym is) (inr (inl (record { error = error; called = called; shown = e })))
 
-  pub does_unplaced : (end : FaultNumbers) (told : EvaluationResult Placed ℕ ℕ) → IsCalled text_of_placed (λ x. x) step old new (Ok told) → AsksOfBlock (told_of text_of_placed (λ x. x) told) → end ≡ plain_end unplaced → Does texts said old new before before (Err end)
+  pub does_unplaced : (end : FaultNumbers) (told : EvaluationResult Placed ℕ ℕ) → IsCalled text_of_placed (λ x. x) step old new (Ok told) → AsksNowhere texts (told_of text_of_placed (λ x. x) told) → end ≡ plain_end unplaced → Does texts said old new before before (Err end)
   does_unplaced end told called asks e =
       subst (λ (r : Result Step ℕ). Does texts r old new before before (Err end)) (sym is) (inr (inr (record { told = told; called = called; asks = asks; shown = e })))
 

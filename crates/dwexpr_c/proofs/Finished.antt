@@ -1,5 +1,5 @@
 -- What is shown at the end, from where the evaluation stands.
-use Rattle.std.proofs.Common.{ℕ, ◌≡◌, ◌∙◌, ◌⊎◌, inl, inr, Bool, List, [], ◌∷◌, Option, Some, None, Result, Ok, Err, length, slice_get, refl, sym, ap, subst}
+use Rattle.std.proofs.Common.{ℕ, ◌≡◌, ◌∙◌, inl, inr, Bool, List, [], ◌∷◌, Option, Some, None, Result, Ok, Err, length, slice_get, refl, sym, ap, subst}
 use Rattle.dwarf_base.specs.declared.common.Encoding.{Encoding}
 use Rattle.dwarf_meaning.specs.Locations.{Piece}
 use Rattle.dwarf_meaning.specs.Meaning.{Outcome, Requests, Faults, Completes}
@@ -9,10 +9,9 @@ use Rattle.dwarf_meaning.specs.Rest.{State, Status, Start, Running, Waits, Compl
 use Rattle.dwarf_meaning.specs.Stores.{Setup}
 use Rattle.dwarf_replay.specs.Replays.{StandsAt, IsAsking, told_at}
 use Rattle.dwexpr_c.specs.Evaluated.{Evaluates, EvaluatesFirst, Given, IsEnded, ShowsOutcome, comes_of, setup_in, told_by, unset}
-use Rattle.dwexpr_c.specs.Outcomes.{ShowsRequest, completed, ended}
-use Rattle.dwexpr_c.specs.Pieces.{AreWritten, SomeBytes}
-use Rattle.dwexpr_c.specs.Codes.{unplaced}
-use Rattle.dwexpr_c.specs.Texts.{TextAt, text_in, text_of_placed}
+use Rattle.dwexpr_c.specs.Outcomes.{ShowsRequest}
+use Rattle.dwexpr_c.specs.Texts.{TextAt}
+use Rattle.dwexpr_c.specs.inner.Places.{IsGiven}
 use Rattle.dwexpr_c.specs.inner.Runs.{EvaluatesFound, RanAll, Runs, given_at}
 use Rattle.dwexpr_c.specs.inner.Stepping.{Ends, Finishes, ShowsStatus}
 use Rattle.dwexpr_c.specs.declared.outcomes.DwexprOutcome.{DwexprOutcome}
@@ -20,9 +19,10 @@ use Rattle.dwexpr_c.specs.declared.pieces.DwexprPiece.{DwexprPiece}
 use Rattle.dwexpr_c.specs.declared.places.Placed.{Placed}
 use Rattle.dwexpr_c.specs.declared.steps.DwexprStep.{DwexprStep}
 use Rattle.dwexpr_c.specs.declared.steps.DwexprText.{DwexprText}
+use Rattle.dwexpr_c.proofs.Given.{pieces_somewhere}
 use Rattle.dwexpr_c.proofs.Runs.{no_fault}
 
-module _ (texts : List DwexprText) (numbers : List DwexprStep) (first new : State) (out after : DwexprOutcome) (old places : List DwexprPiece) (ran : RanAll texts numbers first new out) where
+module _ (texts : List DwexprText) (numbers : List DwexprStep) (first new : State) (out after : DwexprOutcome) (old places : List DwexprPiece) (ran : RanAll texts numbers first new out) (is_given : IsGiven texts first.text.bytes) where
   abbrev given : Given
   given = given_at first texts
 
@@ -45,7 +45,7 @@ module _ (texts : List DwexprText) (numbers : List DwexprStep) (first new : Stat
   completes_as : (pieces : List Piece) (value : Option _) → comes_of given ran.steps ≡ Some (Completes pieces value) → Finishes texts (length numbers) pieces out after old places (Complete value) → Evaluates given numbers after old places
   completes_as pieces value e (inl f) = done (Some (Completes pieces value)) e f
   completes_as pieces value e (inr f) =
-      inr (inr (record { steps = ran.steps; taken = ran.taken; pieces = pieces; value = value; comes = e; some = f.1; shown = f.0 }))
+      absurd (pieces_somewhere texts first is_given numbers ran.steps ran.taken.said pieces value e f.1)
 
   finished : (o : Option Outcome) → comes_of given ran.steps ≡ o → StandsAt (told_by given ran.steps) new o → Finishes texts (length numbers) new.store.pieces out after old places new.status → Evaluates given numbers after old places
   finished None e h f =
@@ -64,10 +64,10 @@ module _ (texts : List DwexprText) (numbers : List DwexprStep) (first new : Stat
   all_done f = finished (comes_of given ran.steps) refl ran.stands f
 
 -- they were done, or one ended it
-pub all_ends : (texts : List DwexprText) (numbers : List DwexprStep) (first new : State) (done : Result DwexprOutcome DwexprOutcome) (after : DwexprOutcome) (old places : List DwexprPiece) → Runs texts numbers first new done → Ends texts (length numbers) new.store.pieces done after old places new.status → Evaluates (given_at first texts) numbers after old places
-all_ends texts numbers first new (Ok out) after old places ran f = all_done texts numbers first new out after old places ran f
-all_ends texts numbers first new (Err end) after old places ran f =
-    inr (inl (subst (λ (o : DwexprOutcome). IsEnded (given_at first texts) numbers o) (sym f.0) ran, f.1))
+pub all_ends : (texts : List DwexprText) (numbers : List DwexprStep) (first new : State) (done : Result DwexprOutcome DwexprOutcome) (after : DwexprOutcome) (old places : List DwexprPiece) → IsGiven texts first.text.bytes → Runs texts numbers first new done → Ends texts (length numbers) new.store.pieces done after old places new.status → Evaluates (given_at first texts) numbers after old places
+all_ends texts numbers first new (Ok out) after old places is_given ran f = all_done texts numbers first new out after old places ran is_given f
+all_ends texts numbers first new (Err end) after old places is_given ran f =
+    inr (subst (λ (o : DwexprOutcome). IsEnded (given_at first texts) numbers o) (sym f.0) ran, f.1)
 
 -- a fresh evaluation
 pub given_is : (first : State) (texts : List DwexprText) (encoding : Encoding) (text : Text) → first.setup ≡ setup_in encoding → first.text ≡ text → first.store.object_address ≡ None → first.store.maximum ≡ 4294967295 → given_at first texts ≡ record { setup = setup_in encoding; text = text; told = unset; texts = texts }

@@ -1,5 +1,7 @@
 pub mod Blocks
+pub mod Carried
 pub mod Doing
 pub mod Finished
+pub mod Given
 pub mod Runs
 pub mod Shown

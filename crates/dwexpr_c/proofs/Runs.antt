@@ -1,5 +1,5 @@
 -- The steps that a caller gives, one after another, come to what the meaning of all that they told gives.
-use Rattle.std.proofs.Common.{ℕ, suc, ◌≡◌, ◌∙◌, ◌⊎◌, inl, inr, ◌++◌, ◌≤◌, List, [], ◌∷◌, map, take, slice_get, Option, Some, None, Result, Ok, Err, length, refl, sym, ap, subst, arith}
+use Rattle.std.proofs.Common.{ℕ, suc, ◌≡◌, ◌∙◌, inl, inr, ◌++◌, ◌≤◌, List, [], ◌∷◌, map, take, slice_get, Option, Some, None, Result, Ok, Err, length, refl, sym, ap, subst}
 use Rattle.std.proofs.lemmas.List.{map-append, take_all}
 use Rattle.std.proofs.lemmas.Option.{slice_get_within, get_or_from_slice_get}
 use Rattle.std.proofs.Math.Seq.{take-suc, take-append_seam}
@@ -14,24 +14,25 @@ use Rattle.dwarf_meaning.specs.Stores.{Limits, Refusal, Never, After}
 use Rattle.dwarf_meaning.specs.Kinds.{kind_of_answer}
 use Rattle.dwarf_eval.specs.Calls.{Evaluates, IsClosed, IsTold, MayPick, Resumes, input_of, reply_of, told_of}
 use Rattle.dwarf_eval.specs.declared.op.results.EvaluationResult.{EvaluationResult}
-use Rattle.dwarf_replay.specs.Replays.{StandsAt, IsAsking, IsStopped, Tells, WalksTo, told_at}
+use Rattle.dwarf_replay.specs.Replays.{StandsAt, IsAsking, IsStopped, Tells, told_at}
 use Rattle.dwarf_replay.specs.Stepping.{IsAskingFor, IsCalled, IsSet, MayTake}
 use Rattle.dwarf_replay.proofs.Standings.{Went, went_at_first}
 use Rattle.dwarf_replay.proofs.Settings.{set_went_on}
 use Rattle.dwarf_replay.proofs.Calling.{called_went_on}
 use Rattle.dwarf_replay.proofs.Leading.{walks_all, walks_to}
-use Rattle.dwexpr_c.specs.Codes.{code_of_fault, number_of_fault, misplaced, unplaced}
-use Rattle.dwexpr_c.specs.Evaluated.{AreTaken, AsksBlock, EndsBy, Given, IsEnded, IsMisplaced, IsNoFault, IsUnplaced, MayAll, MeetsFault, capacities, comes_of, told_by}
-use Rattle.dwexpr_c.specs.Outcomes.{AsksOfBlock, ShowsReply, ShowsRequest, asking, ended, untold}
+use Rattle.dwexpr_c.specs.Evaluated.{AreTaken, EndsBy, Given, IsEnded, IsNoFault, capacities, comes_of, told_by}
+use Rattle.dwexpr_c.specs.Outcomes.{ShowsReply, asking, ended, untold}
 use Rattle.dwexpr_c.specs.Steps.{step_in}
 use Rattle.dwexpr_c.specs.Texts.{text_of_placed}
 use Rattle.dwexpr_c.specs.inner.Runs.{RanAll, given_at}
-use Rattle.dwexpr_c.specs.inner.Stepping.{Answered, Does, Failed, Misplaced, ShowsStatus, Unplaced, plain_end}
+use Rattle.dwexpr_c.specs.inner.Places.{AsksNowhere, IsGiven}
+use Rattle.dwexpr_c.specs.inner.Stepping.{Does, ShowsStatus}
 use Rattle.dwexpr_c.specs.declared.faults.FaultNumbers.{FaultNumbers}
 use Rattle.dwexpr_c.specs.declared.outcomes.DwexprOutcome.{DwexprOutcome}
 use Rattle.dwexpr_c.specs.declared.places.Placed.{Placed}
 use Rattle.dwexpr_c.specs.declared.steps.DwexprStep.{DwexprStep}
 use Rattle.dwexpr_c.specs.declared.steps.DwexprText.{DwexprText}
+use Rattle.dwexpr_c.proofs.Given.{asks_somewhere}
 
 -- ---- what a call answered, and where the evaluation stands behind it
 
@@ -104,21 +105,26 @@ stands_at_fault told x o fault (Complete value) e t h = absurd (let s : Faulted 
 stands_at_fault told x o fault (Start initial_value) e t h = absurd t
 stands_at_fault told x o fault Running e t h = absurd t
 
-waiting_asks : (told : Told) (x : State) (o : Option Outcome) (request : Request) (waiting : asked.Waiting) → x.status ≡ Waits request waiting → AsksOfBlock (Asked request) → StandsAt told x o → AsksBlock o
-waiting_asks told x None request waiting e a h = absurd (let s : Waits request waiting ≡ Start told.settings.initial_value = sym e ∙ h.0 in cc)
-waiting_asks told x (Some (Requests other frames)) request waiting e a h =
+-- a block is asked about that is nowhere
+abbrev BlockNowhere : List DwexprText → Option Outcome → Type 0
+BlockNowhere texts (Some (Requests request frames)) = AsksNowhere texts (Asked request)
+BlockNowhere texts _ = ⊥
+
+waiting_asks : (texts : List DwexprText) (told : Told) (x : State) (o : Option Outcome) (request : Request) (waiting : asked.Waiting) → x.status ≡ Waits request waiting → AsksNowhere texts (Asked request) → StandsAt told x o → BlockNowhere texts o
+waiting_asks texts told x None request waiting e a h = absurd (let s : Waits request waiting ≡ Start told.settings.initial_value = sym e ∙ h.0 in cc)
+waiting_asks texts told x (Some (Requests other frames)) request waiting e a h =
     let is : IsAsking other frames x (Waits request waiting) = subst (IsAsking other frames x) e h.0 in
-    subst (λ (r : Request). AsksOfBlock (Asked r)) is.0 a
-waiting_asks told x (Some (Faults fault)) request waiting e a h = absurd (subst (IsStopped fault) e h)
-waiting_asks told x (Some (Completes pieces value)) request waiting e a h = absurd (let s : Waits request waiting ≡ Complete value = sym e ∙ h.0 in cc)
+    subst (λ (r : Request). AsksNowhere texts (Asked r)) is.0 a
+waiting_asks texts told x (Some (Faults fault)) request waiting e a h = absurd (subst (IsStopped fault) e h)
+waiting_asks texts told x (Some (Completes pieces value)) request waiting e a h = absurd (let s : Waits request waiting ≡ Complete value = sym e ∙ h.0 in cc)
 
 -- it stands at the block that is asked about
-stands_at_block : (told : Told) (x : State) (o : Option Outcome) (reply : Reply) (status : Status) → x.status ≡ status → IsTold reply status → AsksOfBlock reply → StandsAt told x o → AsksBlock o
-stands_at_block told x o reply (Waits request waiting) e t a h = waiting_asks told x o request waiting e (subst AsksOfBlock t a) h
-stands_at_block told x o reply (Complete value) e t a h = absurd (subst AsksOfBlock t a)
-stands_at_block told x o reply (Stopped error) e t a h = absurd (subst AsksOfBlock t a)
-stands_at_block told x o reply (Start initial_value) e t a h = absurd t
-stands_at_block told x o reply Running e t a h = absurd t
+stands_at_block : (texts : List DwexprText) (told : Told) (x : State) (o : Option Outcome) (reply : Reply) (status : Status) → x.status ≡ status → IsTold reply status → AsksNowhere texts reply → StandsAt told x o → BlockNowhere texts o
+stands_at_block texts told x o reply (Waits request waiting) e t a h = waiting_asks texts told x o request waiting e (subst (AsksNowhere texts) t a) h
+stands_at_block texts told x o reply (Complete value) e t a h = absurd (subst (AsksNowhere texts) t a)
+stands_at_block texts told x o reply (Stopped error) e t a h = absurd (subst (AsksNowhere texts) t a)
+stands_at_block texts told x o reply (Start initial_value) e t a h = absurd t
+stands_at_block texts told x o reply Running e t a h = absurd t
 
 -- ---- all lists have limits
 
@@ -188,7 +194,7 @@ at_first texts x fresh = record {
   shown = subst (λ (s : Status). ShowsStatus texts s untold) (sym fresh) refl;
 }
 
-module _ (texts : List DwexprText) (all : List DwexprStep) (index : ℕ) (at : DwexprStep) (is_there : slice_get all index ≡ Some at) (first : State) (limits : first.setup.limits ≡ capacities) where
+module _ (texts : List DwexprText) (all : List DwexprStep) (index : ℕ) (at : DwexprStep) (is_there : slice_get all index ≡ Some at) (first : State) (limits : first.setup.limits ≡ capacities) (is_given : IsGiven texts first.text.bytes) where
   take_next : take (suc index) all ≡ take index all ++ at ∷ []
   take_next =
       take-suc all index at (slice_get_within all index at is_there)
@@ -261,29 +267,32 @@ module _ (texts : List DwexprText) (all : List DwexprStep) (index : ℕ) (at : D
         in
         refused_as first w.walks.refusal w.step step (take (length r.steps) behind) r.steps (none_free first.setup.limits w.walks.refusal limits w.walks.may) same front refused
 
-    ends_at : (end : FaultNumbers) (step : Step) → Does texts (Ok step) x new out out (Err end) → EndsBy given r.steps (Ok step) (ended end.code end.number index)
-    ends_at end step (inl h) =
+    nowhere_never : (step : Step) → step_in first.text.is_big texts at ≡ Ok step → (o : Option Outcome) → comes_of given (r.steps ++ step ∷ []) ≡ o → BlockNowhere texts o → ⊥
+    nowhere_never step one (Some (Requests request frames)) e a =
+        asks_somewhere texts first is_given (take (suc index) all) (r.steps ++ step ∷ []) (said_next r.steps step r.said one) request frames e a
+    nowhere_never step one (Some (Faults fault)) e a = a
+    nowhere_never step one (Some (Completes pieces value)) e a = a
+    nowhere_never step one None e a = a
+
+    ends_at : (end : FaultNumbers) (step : Step) → step_in first.text.is_big texts at ≡ Ok step → Does texts (Ok step) x new out out (Err end) → EndsBy given r.steps (Ok step) (ended end.code end.number index)
+    ends_at end step one (inl h) =
         inl (record { not_allowed = misplaced_at step h.not_taken; shown = ap (λ (e : FaultNumbers). ended e.code e.number index) h.shown })
-    ends_at end step (inr (inl h)) =
+    ends_at end step one (inr (inl h)) =
         let w = called_walks step (Err h.error) h.called in
         let told = told_by_call x new (Err h.error) texts out step r.shown h.called in
-        inr (inl (record {
+        inr (record {
           allowed = w.allowed;
           fault = fault_of h.error;
           comes = stands_at_fault _ new _ (fault_of h.error) new.status refl told w.stands;
           shown = ap (λ (e : FaultNumbers). ended e.code e.number index) h.shown;
-        }))
-    ends_at end step (inr (inr h)) =
+        })
+    ends_at end step one (inr (inr h)) =
         let w = called_walks step (Ok h.told) h.called in
         let told = told_by_call x new (Ok h.told) texts out step r.shown h.called in
-        inr (inr (record {
-          allowed = w.allowed;
-          asks = stands_at_block _ new _ (told_of text_of_placed (λ x. x) h.told) new.status refl told h.asks w.stands;
-          shown = ap (λ (e : FaultNumbers). ended e.code e.number index) h.shown;
-        }))
+        absurd (nowhere_never step one _ refl (stands_at_block texts _ new _ (told_of text_of_placed (λ x. x) h.told) new.status refl told h.asks w.stands))
 
     stops_by : (end : FaultNumbers) (now : DwexprOutcome) (o : Result Step ℕ) → step_in first.text.is_big texts at ≡ o → Does texts o x new out now (Err end) → EndsBy given r.steps o (ended end.code end.number index)
-    stops_by end now (Ok step) one h = ends_at end step h
+    stops_by end now (Ok step) one h = ends_at end step one h
     stops_by end now (Err code) one h = ap (λ (e : FaultNumbers). ended e.code e.number index) h
 
     -- it was not

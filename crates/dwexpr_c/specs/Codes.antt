@@ -50,6 +50,3 @@ bad_step = 67
 
 abbrev pub misplaced : ℕ
 misplaced = 68
-
-abbrev pub unplaced : ℕ
-unplaced = 69

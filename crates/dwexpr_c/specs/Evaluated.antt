@@ -2,15 +2,13 @@
 use Rattle.std.specs.Prelude.{ℕ, ◌≡◌, ◌⊎◌, ◌++◌, Bool, List, [], ◌∷◌, map, take, slice_get, Option, Some, None, Result, Ok, Err, length}
 use Rattle.dwarf_base.specs.declared.common.Encoding.{Encoding}
 use Rattle.dwarf_base.specs.Faults.{Fault}
-use Rattle.dwarf_value.specs.declared.types.Value.{Value}
 use Rattle.dwarf_meaning.specs.Operations.{Text}
-use Rattle.dwarf_meaning.specs.Locations.{Piece}
 use Rattle.dwarf_meaning.specs.Stores.{Setup, Limits, Never}
 use Rattle.dwarf_meaning.specs.Meaning.{Outcome, Requests, Faults, Completes}
-use Rattle.dwarf_meaning.specs.Steps.{Step, Told, Asked, Allows, AllAllowed, after_steps, outcome_of}
-use Rattle.dwexpr_c.specs.Codes.{misplaced, unplaced}
-use Rattle.dwexpr_c.specs.Outcomes.{AsksOfBlock, ShowsRequest, completed, ended, ended_by, untold}
-use Rattle.dwexpr_c.specs.Pieces.{AreWritten, SomeBytes}
+use Rattle.dwarf_meaning.specs.Steps.{Step, Told, Allows, AllAllowed, after_steps, outcome_of}
+use Rattle.dwexpr_c.specs.Codes.{misplaced}
+use Rattle.dwexpr_c.specs.Outcomes.{ShowsRequest, completed, ended, ended_by, untold}
+use Rattle.dwexpr_c.specs.Pieces.{AreWritten}
 use Rattle.dwexpr_c.specs.Steps.{step_in}
 use Rattle.dwexpr_c.specs.Texts.{text_in}
 use Rattle.dwexpr_c.specs.declared.outcomes.DwexprOutcome.{DwexprOutcome}
@@ -84,20 +82,10 @@ pub record MeetsFault (given : Given) (before : List Step) (step : Step) (out : 
   pub comes : comes_of given (before ++ step ∷ []) ≡ Some (Faults fault)
   pub shown : out ≡ ended_by fault out.step
 
-abbrev pub AsksBlock : Option Outcome → Type 0
-AsksBlock (Some (Requests request frames)) = AsksOfBlock (Asked request)
-AsksBlock _ = ⊥
-
--- It is allowed, and a block is asked about, whose place isn't known. Nothing says that this ever comes.
-pub record IsUnplaced (given : Given) (before : List Step) (step : Step) (out : DwexprOutcome) : Type 0 where
-  pub allowed : MayAll given (before ++ step ∷ [])
-  pub asks : AsksBlock (comes_of given (before ++ step ∷ []))
-  pub shown : out ≡ ended unplaced 0 out.step
-
 -- the numbers say no step, or one that ends the evaluation
 abbrev pub EndsBy : Given → (before : List Step) → Result Step ℕ → DwexprOutcome → Type 0
 EndsBy given before (Err code) out = out ≡ ended code 0 out.step
-EndsBy given before (Ok step) out = IsMisplaced given before step out ⊎ (MeetsFault given before step out ⊎ IsUnplaced given before step out)
+EndsBy given before (Ok step) out = IsMisplaced given before step out ⊎ MeetsFault given before step out
 
 -- the steps before the one that is shown were done without a fault, and that one ended the evaluation
 pub record IsEnded (given : Given) (numbers : List DwexprStep) (out : DwexprOutcome) : Type 0 where
@@ -108,20 +96,10 @@ pub record IsEnded (given : Given) (numbers : List DwexprStep) (out : DwexprOutc
   pub is_there : slice_get numbers out.step ≡ Some at
   pub ends : EndsBy given before (step_in given.text.is_big given.texts at) out
 
--- all steps were done, and one of the pieces has bytes whose place isn't known. Nothing says that this ever comes.
-pub record HasUnplaced (given : Given) (numbers : List DwexprStep) (out : DwexprOutcome) : Type 0 where
-  pub steps : List Step
-  pub taken : AreTaken given numbers steps
-  pub pieces : List Piece
-  pub value : Option Value
-  pub comes : comes_of given steps ≡ Some (Completes pieces value)
-  pub some : SomeBytes pieces
-  pub shown : out ≡ ended unplaced 0 (length numbers)
-
 -- what the steps come to, from the first on
 abbrev pub Evaluates : Given → List DwexprStep → DwexprOutcome → (old new : List DwexprPiece) → Type 0
 Evaluates given numbers out old new =
-    IsDone given numbers out old new ⊎ ((IsEnded given numbers out × (new ≡ old)) ⊎ HasUnplaced given numbers out)
+    IsDone given numbers out old new ⊎ (IsEnded given numbers out × (new ≡ old))
 
 -- the first of the texts is evaluated
 abbrev pub EvaluatesFirst : Encoding → (big : Bool) → List DwexprText → List DwexprStep → DwexprOutcome → (old new : List DwexprPiece) → Type 0

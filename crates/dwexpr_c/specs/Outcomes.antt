@@ -66,11 +66,6 @@ ShowsReply texts Completed out = out ≡ asking 1 0
 ShowsReply texts (Asked request) out = ShowsRequest texts request out
 ShowsReply texts (Faulted fault) out = ⊥
 
--- a block is asked about
-abbrev pub AsksOfBlock : Reply → Type 0
-AsksOfBlock (Asked (asked.RequiresEntryValue expression)) = Unit {0}
-AsksOfBlock _ = ⊥
-
 -- the value of a complete evaluation, and how many pieces it has
 abbrev pub completed : (pieces : ℕ) → Option Value → DwexprOutcome
 completed pieces None = record (asking 1 0) { pieces = pieces }

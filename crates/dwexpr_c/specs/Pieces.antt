@@ -38,11 +38,6 @@ ShowsLocation texts size offset (PointsInto value byte_offset) out =
 abbrev pub ShowsPiece : List DwexprText → Piece → DwexprPiece → Type 0
 ShowsPiece texts piece out = ShowsLocation texts piece.size_in_bits piece.bit_offset piece.location out
 
--- the piece has bytes
-abbrev pub HasBytes : Location → Type 0
-HasBytes (HoldsBytes value) = Unit {0}
-HasBytes _ = ⊥
-
 -- at this index the piece is shown, where there is one
 abbrev pub ShownAt : List DwexprText → Option Piece → Option DwexprPiece → Type 0
 ShownAt texts (Some piece) (Some shown) = ShowsPiece texts piece shown
@@ -53,10 +48,3 @@ pub record AreWritten (texts : List DwexprText) (pieces : List Piece) (old new :
   pub room : length new ≡ length old
   pub shown : (k : ℕ) → k < length pieces → ShownAt texts (slice_get pieces k) (slice_get new k)
   pub kept : (k : ℕ) → length pieces ≤ k → slice_get new k ≡ slice_get old k
-
--- one of the pieces has bytes
-pub record SomeBytes (pieces : List Piece) : Type 0 where
-  pub index : ℕ
-  pub piece : Piece
-  pub is_there : slice_get pieces index ≡ Some piece
-  pub has_bytes : HasBytes piece.location

@@ -10,6 +10,7 @@ ghost use Rattle.dwexpr_c.specs.Evaluated.{Evaluates, EvaluatesFirst, capacities
 ghost use Rattle.dwexpr_c.specs.Outcomes.{ended};
 ghost use Rattle.dwexpr_c.specs.Steps.{step_in};
 ghost use Rattle.dwexpr_c.specs.Texts.{text_of_placed};
+ghost use Rattle.dwexpr_c.specs.inner.Places.{IsGiven};
 ghost use Rattle.dwexpr_c.specs.inner.Stepping.{Does, Ends, Finishes};
 ghost use Rattle.dwexpr_c.specs.inner.Runs.{EvaluatesFound, Runs};
 
@@ -85,6 +86,7 @@ fn do_steps<'a, S: EvaluationStorage<Placed<'a>>>(
     requires fresh { evaluation.old.status ≡ Start None }
     requires limits { evaluation.old.setup.limits ≡ capacities }
     requires order { evaluation.old.text.is_big ≡ is_big_of order }
+    requires given { IsGiven texts.now evaluation.old.text.bytes }
     ensures { Runs texts.now steps.now evaluation.old evaluation.new result }
 {
     let mut outcome = UNTOLD;
@@ -102,7 +104,7 @@ fn do_steps<'a, S: EvaluationStorage<Placed<'a>>>(
     Ok(outcome)
 }
 
-/// What is shown of a complete evaluation, or that the place of some bytes isn't known.
+/// What is shown of a complete evaluation, or that some bytes are nowhere, which never comes.
 fn show_result(
     texts: &[DwexprText<'_>],
     count: usize,
@@ -168,6 +170,7 @@ fn evaluate_text<'a>(
     requires some { 0 < reading.encoding.address_size }
     requires fits { reading.encoding.address_size ≤ 8 }
     requires order { (text_of_placed text).is_big ≡ is_big_of reading.order }
+    requires given { IsGiven texts.now (text_of_placed text).bytes }
     ensures { Evaluates (record { setup = setup_in reading.encoding; text = text_of_placed text.entry; told = unset; texts = texts.now }) steps.now result places.old places.new }
 {
     let mut evaluation: Evaluation<Placed<'a>, Fixed> = Evaluation::new_in(
@@ -192,6 +195,7 @@ fn evaluate_found<'a>(
     requires some { 0 < reading.encoding.address_size }
     requires fits { reading.encoding.address_size ≤ 8 }
     requires order { IfSome found (λ text. (text_of_placed text).is_big ≡ is_big_of reading.order) }
+    requires given { IfSome found (λ text. IsGiven texts.now (text_of_placed text).bytes) }
     ensures { EvaluatesFound reading.encoding texts.now steps.now result places.old places.new found.entry }
 {
     match found {

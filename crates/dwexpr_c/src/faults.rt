@@ -22,7 +22,7 @@ pub(crate) const BAD_STEP: u32 = 67;
 /// The code of a step that isn't allowed where it stands.
 pub(crate) const MISPLACED: u32 = 68;
 
-/// The code of a block whose place isn't known.
+/// The code of a block that is nowhere in the texts. No call answers it: each block is somewhere, and is found.
 pub(crate) const UNPLACED: u32 = 69;
 
 /// A fault as callers see it.

@@ -1,11 +1,12 @@
-ghost use Rattle.std.specs.Prelude.{◌≡◌, IfSome, IfNone, length};
+ghost use Rattle.std.specs.Prelude.{◌≡◌, IfSome, IfNone};
 ghost use Rattle.dwarf_eval.specs.Calls.{told_of};
-ghost use Rattle.dwexpr_c.specs.Outcomes.{AsksOfBlock, ShowsReply, asking, completed, ended, untold};
+ghost use Rattle.dwexpr_c.specs.Outcomes.{ShowsReply, asking, completed, ended, untold};
 ghost use Rattle.dwexpr_c.specs.Texts.{text_of_placed};
+ghost use Rattle.dwexpr_c.specs.inner.Places.{AsksNowhere};
 
 use crate::faults::{FaultNumbers, OK};
 use crate::places::Placed;
-use crate::steps::{DwexprText, is_placed};
+use crate::steps::{DwexprText, Place, place_of};
 use crate::values::numbers_of_value;
 use dwarf_base::Reader;
 use dwarf_eval::op::EvaluationResult;
@@ -103,24 +104,24 @@ fn asking_memory(address: u64, size: u8, base_type: usize) -> DwexprOutcome
 }
 
 /// The outcome with the place of a block.
-fn with_block(shown: DwexprOutcome, block: Placed<'_>) -> DwexprOutcome
-    ensures { result ≡ record shown { block_text = block.entry.text; block_offset = block.entry.place; block_length = length (text_of_placed block.entry).bytes } }
+fn with_block(shown: DwexprOutcome, place: Place, size: usize) -> DwexprOutcome
+    ensures { result ≡ record shown { block_text = place.text; block_offset = place.offset; block_length = size } }
 {
     DwexprOutcome {
-        block_text: block.text(),
-        block_offset: block.place(),
-        block_length: block.len(),
+        block_text: place.text,
+        block_offset: place.offset,
+        block_length: size,
         ..shown
     }
 }
 
-/// What a call answered; `None` where it asks of a block that isn't at its place.
+/// What a call answered; `None` where it asks of a block that is nowhere.
 pub(crate) fn show_told(
     texts: &[DwexprText<'_>],
     told: EvaluationResult<Placed<'_>>,
 ) -> Option<DwexprOutcome>
     ensures some { IfSome result (λ out. ShowsReply texts.now (told_of text_of_placed (λ x. x) told.entry) out) }
-    ensures none { IfNone result (AsksOfBlock (told_of text_of_placed (λ x. x) told.entry)) }
+    ensures none { IfNone result (AsksNowhere texts.now (told_of text_of_placed (λ x. x) told.entry)) }
 {
     Some(match told {
         EvaluationResult::Complete => asking(1, 0),
@@ -160,10 +161,8 @@ pub(crate) fn show_told(
             ..asking(7, offset.0 as u64)
         },
         EvaluationResult::RequiresEntryValue(expression) => {
-            if !is_placed(texts, expression.0) {
-                return None;
-            }
-            with_block(asking(8, 0), expression.0)
+            let place = place_of(texts, expression.0)?;
+            with_block(asking(8, 0), place, expression.0.len())
         }
         EvaluationResult::RequiresParameterRef(offset) => asking(9, offset.0 as u64),
         EvaluationResult::RequiresRelocatedAddress(address) => asking(10, address),

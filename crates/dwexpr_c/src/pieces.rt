@@ -1,10 +1,11 @@
-ghost use Rattle.std.specs.Prelude.{◌≡◌, IfSome, IfNone, true, false, length, map, slice_get};
+ghost use Rattle.std.specs.Prelude.{◌≡◌, IfSome, IfNone, true, false, map, slice_get};
 ghost use Rattle.dwarf_eval.specs.Machine.{location_of, piece_of};
-ghost use Rattle.dwexpr_c.specs.Pieces.{AreWritten, HasBytes, ShowsLocation, ShowsPiece, SomeBytes, has, or_zero, sized};
+ghost use Rattle.dwexpr_c.specs.Pieces.{AreWritten, ShowsLocation, ShowsPiece, has, or_zero, sized};
 ghost use Rattle.dwexpr_c.specs.Texts.{text_of_placed};
+ghost use Rattle.dwexpr_c.specs.inner.Places.{HoldsNowhere, SomeNowhere};
 
 use crate::places::Placed;
-use crate::steps::{DwexprText, is_placed};
+use crate::steps::{DwexprText, Place, place_of};
 use crate::values::numbers_of_value;
 use dwarf_base::Reader;
 use dwarf_op::{Location, Piece};
@@ -74,18 +75,18 @@ fn sized(kind: u32, size_in_bits: Option<u64>, bit_offset: Option<u64>) -> Dwexp
 }
 
 /// The piece with the place of its bytes.
-fn with_bytes(shown: DwexprPiece, block: Placed<'_>) -> DwexprPiece
-    ensures { result ≡ record shown { block_text = block.entry.text; block_offset = block.entry.place; block_length = length (text_of_placed block.entry).bytes } }
+fn with_bytes(shown: DwexprPiece, place: Place, size: usize) -> DwexprPiece
+    ensures { result ≡ record shown { block_text = place.text; block_offset = place.offset; block_length = size } }
 {
     DwexprPiece {
-        block_text: block.text(),
-        block_offset: block.place(),
-        block_length: block.len(),
+        block_text: place.text,
+        block_offset: place.offset,
+        block_length: size,
         ..shown
     }
 }
 
-/// A piece; `None` where its bytes aren't at their place.
+/// A piece; `None` where its bytes are nowhere.
 fn show_location(
     texts: &[DwexprText<'_>],
     size: Option<u64>,
@@ -93,7 +94,7 @@ fn show_location(
     location: Location<Placed<'_>>,
 ) -> Option<DwexprPiece>
     ensures some { IfSome result (λ out. ShowsLocation texts.now size offset (location_of text_of_placed (λ x. x) location.entry) out) }
-    ensures none { IfNone result (HasBytes (location_of text_of_placed (λ x. x) location.entry)) }
+    ensures none { IfNone result (HoldsNowhere texts.now (location_of text_of_placed (λ x. x) location.entry)) }
 {
     Some(match location {
         Location::Empty => sized(1, size, offset),
@@ -114,10 +115,8 @@ fn show_location(
             }
         }
         Location::Bytes { value } => {
-            if !is_placed(texts, value) {
-                return None;
-            }
-            with_bytes(sized(5, size, offset), value)
+            let place = place_of(texts, value)?;
+            with_bytes(sized(5, size, offset), place, value.len())
         }
         Location::ImplicitPointer { value, byte_offset } => DwexprPiece {
             number: value.0 as u64,
@@ -127,10 +126,10 @@ fn show_location(
     })
 }
 
-/// A piece; `None` where its bytes aren't at their place.
+/// A piece; `None` where its bytes are nowhere.
 fn show_piece(texts: &[DwexprText<'_>], piece: Piece<Placed<'_>>) -> Option<DwexprPiece>
     ensures some { IfSome result (λ out. ShowsPiece texts.now (piece_of text_of_placed (λ x. x) piece.entry) out) }
-    ensures none { IfNone result (HasBytes (piece_of text_of_placed (λ x. x) piece.entry).location) }
+    ensures none { IfNone result (HoldsNowhere texts.now (piece_of text_of_placed (λ x. x) piece.entry).location) }
 {
     show_location(texts, piece.size_in_bits, piece.bit_offset, piece.location)
 }
@@ -142,14 +141,14 @@ fn piece_at<'a>(pieces: &[Piece<Placed<'a>>], index: usize) -> Option<Piece<Plac
     pieces.get(index).copied()
 }
 
-/// Writes as many pieces as there is room for; `false` where the bytes of one aren't at their place.
+/// Writes as many pieces as there is room for; `false` where the bytes of one are nowhere.
 pub(crate) fn write_pieces(
     texts: &[DwexprText<'_>],
     pieces: &[Piece<Placed<'_>>],
     places: &mut [DwexprPiece],
 ) -> bool
     ensures written { result ≡ true → AreWritten texts.now (map (piece_of text_of_placed (λ x. x)) pieces.now) places.old places.new }
-    ensures unplaced { result ≡ false → SomeBytes (map (piece_of text_of_placed (λ x. x)) pieces.now) }
+    ensures unplaced { result ≡ false → SomeNowhere texts.now (map (piece_of text_of_placed (λ x. x)) pieces.now) }
 {
     for index in 0..places.len() {
         let Some(piece) = piece_at(pieces, index) else {

@@ -1,8 +1,9 @@
-ghost use Rattle.std.specs.Prelude.{◌≡◌, ◌+◌, ◌≤◌, Some, None, IfSome, IfNone, IfOk, IfErr, Ok, Err, slice_get, slice_range, length, true};
+ghost use Rattle.std.specs.Prelude.{◌≡◌, Some, None, IfSome, IfNone, IfOk, IfErr, Ok, Err, slice_get, length, true, false};
 ghost use Rattle.dwarf_base.specs.ByteOrder.{is_big_of};
 ghost use Rattle.dwarf_replay.specs.Stepping as stepping;
 ghost use Rattle.dwexpr_c.specs.Steps.{step_in};
 ghost use Rattle.dwexpr_c.specs.Texts.{IsPlaced, TextAt, text_of_placed};
+ghost use Rattle.dwexpr_c.specs.inner.Places.{IsAt, IsGiven, IsNotAt, IsNotIn, IsNowhere};
 
 use crate::faults::{BAD_STEP, BAD_TEXT};
 use crate::places::Placed;
@@ -32,6 +33,15 @@ pub struct DwexprStep {
     pub text: usize,
 }
 
+/// Where bytes are in the texts of a caller.
+#[derive(Clone, Copy)]
+pub(crate) struct Place {
+    /// The index of the text.
+    pub(crate) text: usize,
+    /// Where in it they begin.
+    pub(crate) offset: usize,
+}
+
 /// The bytes of a text. A caller in C may give a null pointer where there are none, which a slice never has.
 fn bytes_of<'a>(text: &DwexprText<'a>) -> &'a [u8]
     ensures { result.now ≡ text.now.bytes.now }
@@ -51,6 +61,7 @@ pub(crate) fn text_at<'a>(
 ) -> Option<Placed<'a>>
     ensures text { TextAt (is_big_of order) (slice_get texts.now index) result }
     ensures order { IfSome result (λ placed. (text_of_placed placed).is_big ≡ is_big_of order) }
+    ensures given { IfSome result (λ placed. IsGiven texts.now (text_of_placed placed).bytes) }
 {
     let text = texts.get(index)?;
     Some(Placed::new(bytes_of(text), order, index))
@@ -58,19 +69,73 @@ pub(crate) fn text_at<'a>(
 
 /// Whether the bytes at a place of a text are these.
 fn is_there(text: &[u8], place: usize, block: &[u8]) -> bool
-    ensures { result ≡ true → (place + length block.now ≤ length text.now) × (slice_range text.now place (place + length block.now) ≡ block.now) }
+    ensures yes { result ≡ true → IsAt text.now place block.now }
+    ensures no { result ≡ false → IsAt text.now place block.now → ⊥ }
 {
     place <= text.len() && text[place..].starts_with(block)
 }
 
 /// Whether the bytes stand where they should.
-pub(crate) fn is_placed(texts: &[DwexprText<'_>], block: Placed<'_>) -> bool
+fn is_placed(texts: &[DwexprText<'_>], block: Placed<'_>) -> bool
     ensures { result ≡ true → IsPlaced texts.now block.entry.text block.entry.place (length (text_of_placed block.entry).bytes) (text_of_placed block.entry).bytes }
 {
     match texts.get(block.text()) {
-        Some(text) => is_there(text.bytes, block.place(), block.bytes()),
+        Some(text) => is_there(bytes_of(text), block.place(), block.bytes()),
         None => false,
     }
+}
+
+/// The first place of a text at which the bytes are.
+fn find_in(text: &[u8], block: &[u8]) -> Option<usize>
+    ensures some { IfSome result (λ place. IsAt text.now place block.now) }
+    ensures none { IfNone result (IsNotIn text.now block.now) }
+{
+    for place in 0..text.len() {
+        if is_there(text, place, block) {
+            return Some(place);
+        }
+    }
+    if is_there(text, text.len(), block) {
+        return Some(text.len());
+    }
+    None
+}
+
+/// The first place of the text at an index at which the bytes are.
+fn find_at(texts: &[DwexprText<'_>], text: usize, block: &[u8]) -> Option<Place>
+    ensures some { IfSome result (λ place. IsPlaced texts.now place.text place.offset (length block.now) block.now) }
+    ensures none { IfNone result (IsNotAt texts.now text block.now) }
+{
+    let offset = find_in(bytes_of(texts.get(text)?), block)?;
+    Some(Place { text, offset })
+}
+
+/// The first place of the texts at which the bytes are.
+fn find(texts: &[DwexprText<'_>], block: &[u8]) -> Option<Place>
+    ensures some { IfSome result (λ place. IsPlaced texts.now place.text place.offset (length block.now) block.now) }
+    ensures none { IfNone result (IsNowhere texts.now block.now) }
+{
+    for text in 0..texts.len() {
+        if let Some(place) = find_at(texts, text, block) {
+            return Some(place);
+        }
+    }
+    None
+}
+
+/// Where the bytes are: at the place that was counted, which no contract of a reader tells; else at the first that has
+/// the same.
+pub(crate) fn place_of(texts: &[DwexprText<'_>], block: Placed<'_>) -> Option<Place>
+    ensures some { IfSome result (λ place. IsPlaced texts.now place.text place.offset (length (text_of_placed block.entry).bytes) (text_of_placed block.entry).bytes) }
+    ensures none { IfNone result (IsNowhere texts.now (text_of_placed block.entry).bytes) }
+{
+    if is_placed(texts, block) {
+        return Some(Place {
+            text: block.text(),
+            offset: block.place(),
+        });
+    }
+    find(texts, block.bytes())
 }
 
 /// The step that the numbers say, or the code where they say none.

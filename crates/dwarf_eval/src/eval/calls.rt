@@ -9,10 +9,12 @@ ghost use Rattle.dwarf_eval.specs.Calls.{Evaluates, EvaluatesPath, HasResult, Is
 ghost use Rattle.dwarf_eval.specs.Machine.{piece_of, setup_of};
 ghost use Rattle.dwarf_op.specs.Views.{text_of};
 
-use crate::eval::machine::Machine;
-use crate::eval::states::{EvaluationState, Given, Status};
+use crate::eval::requests::{answer, kind_of_open};
+use crate::eval::states::Status;
 use crate::op::{EvaluationResult, Expression, Piece};
 use dwarf_base::{Encoding, Reader, Result};
+use dwarf_machine::machine::Machine;
+use dwarf_machine::states::{EvaluationState, Given};
 use dwarf_store::{EvaluationStorage, StoreOnHeap};
 use dwarf_value::{Value, ValueType};
 use std::alloc::Allocator;
@@ -131,7 +133,7 @@ impl<R: Reader + Copy, S: EvaluationStorage<R>> Evaluation<R, S> {
             EvaluationState::Start(initial_value) => Status::Start {
                 initial: initial_value.is_some(),
             },
-            EvaluationState::Waiting(request) => Status::Waiting(request.kind()),
+            EvaluationState::Waiting(request) => Status::Waiting(kind_of_open(request)),
             EvaluationState::Complete(_) => Status::Complete,
             EvaluationState::Failed(error) => Status::Failed(error),
             EvaluationState::Running => unreachable!(),
@@ -174,7 +176,7 @@ impl<R: Reader + Copy, S: EvaluationStorage<R>> Evaluation<R, S> {
         match self.machine.state() {
             EvaluationState::Start(initial_value) => {
                 self.machine.start(initial_value);
-                return self.machine.answer();
+                return answer(&self.machine);
             }
             EvaluationState::Complete(_) => return Ok(EvaluationResult::Complete),
             EvaluationState::Failed(error) => return Err(error),
@@ -194,7 +196,7 @@ impl<R: Reader + Copy, S: EvaluationStorage<R>> Evaluation<R, S> {
         match self.machine.state() {
             EvaluationState::Waiting(_) => {
                 self.machine.resume(given);
-                return self.machine.answer();
+                return answer(&self.machine);
             }
             EvaluationState::Failed(error) => return Err(error),
             EvaluationState::Start(_) => unreachable!(),

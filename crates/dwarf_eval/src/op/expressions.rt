@@ -1,9 +1,9 @@
 ghost use Rattle.std.specs.Prelude.{◌≡◌, ◌-◌, length};
-ghost use Rattle.std.specs.Iterator.{YieldsFirstBy, item_count};
+ghost use Rattle.std.specs.Iterator.{item_count};
 ghost use Rattle.dwarf_base.specs.Reads.{IsSuffix};
 ghost use Rattle.dwarf_meaning.specs.Decoding.{operation_at};
 ghost use Rattle.dwarf_meaning.specs.Splitting.{items_at};
-ghost use Rattle.dwarf_eval.specs.Iteration.{input_of, encoding_of, item_of, items_left, GivesNext, GivesItem};
+ghost use Rattle.dwarf_eval.specs.Iteration.{input_of, encoding_of, items_left, GivesFirst, GivesNext, GivesItem};
 ghost use Rattle.dwarf_op.specs.Views.{operation_of, text_of};
 
 use dwarf_base::{Encoding, Reader, Result};
@@ -73,7 +73,7 @@ impl<R: Reader + Copy> OperationIter<R> {
 impl<R: Reader + Copy> Iterator for OperationIter<R> {
     type Item = Result<Operation<R>>;
 
-    ghost next_gives = { YieldsFirstBy (item_of (operation_of (text_of R.bytes R.is_big) R.Offset.number)) (items_left R.bytes R.is_big R.Offset.BITS) };
+    ghost next_gives = { GivesFirst R.bytes R.is_big R.Offset.BITS (operation_of (text_of R.bytes R.is_big) R.Offset.number) };
 
     ghost remaining = { item_count (items_left R.bytes R.is_big R.Offset.BITS) };
 

@@ -1,5 +1,5 @@
 -- What one step of a caller does, and where an evaluation stands.
-use Rattle.std.specs.Prelude.{ℕ, ◌≡◌, ◌⊎◌, List, Option, Some, None, Result, Ok, Err, length}
+use Rattle.std.specs.Prelude.{ℕ, ◌≡◌, ◌⊎◌, List, Result, Ok, Err, length}
 use Rattle.dwarf_base.specs.declared.errors.Error.{Error}
 use Rattle.dwarf_base.specs.Faults.{fault_of}
 use Rattle.dwarf_meaning.specs.Locations.{Piece}
@@ -8,15 +8,20 @@ use Rattle.dwarf_meaning.specs.Steps.{Step}
 use Rattle.dwarf_eval.specs.Calls.{told_of}
 use Rattle.dwarf_eval.specs.declared.op.results.EvaluationResult.{EvaluationResult}
 use Rattle.dwarf_replay.specs.Stepping.{IsCalled, IsSet, MayTake}
-use Rattle.dwexpr_c.specs.Codes.{code_of_fault, number_of_fault, misplaced, unplaced}
-use Rattle.dwexpr_c.specs.Outcomes.{AsksOfBlock, ShowsReply, ShowsRequest, asking, completed, ended, untold}
-use Rattle.dwexpr_c.specs.Pieces.{AreWritten, SomeBytes}
+use Rattle.dwexpr_c.specs.Codes.{code_of_fault, number_of_fault, misplaced}
+use Rattle.dwexpr_c.specs.Outcomes.{ShowsReply, ShowsRequest, asking, completed, ended, untold}
+use Rattle.dwexpr_c.specs.Pieces.{AreWritten}
 use Rattle.dwexpr_c.specs.Texts.{text_of_placed}
+use Rattle.dwexpr_c.specs.inner.Places.{AsksNowhere, SomeNowhere}
 use Rattle.dwexpr_c.specs.declared.faults.FaultNumbers.{FaultNumbers}
 use Rattle.dwexpr_c.specs.declared.outcomes.DwexprOutcome.{DwexprOutcome}
 use Rattle.dwexpr_c.specs.declared.pieces.DwexprPiece.{DwexprPiece}
 use Rattle.dwexpr_c.specs.declared.places.Placed.{Placed}
 use Rattle.dwexpr_c.specs.declared.steps.DwexprText.{DwexprText}
+
+-- A block is nowhere in the caller's texts. No evaluation comes to that, so that no call answers this code.
+abbrev pub unplaced : ℕ
+unplaced = 69
 
 abbrev pub plain_end : (code : ℕ) → FaultNumbers
 plain_end code = record { code = code; number = 0 }
@@ -33,11 +38,11 @@ pub record Failed (step : Step) (old new : State) (end : FaultNumbers) : Type 0 
   pub called : IsCalled {R = Placed} {O = ℕ} {P = ℕ} text_of_placed (λ x. x) step old new (Err error)
   pub shown : end ≡ record { code = code_of_fault (fault_of error); number = number_of_fault (fault_of error) }
 
--- a call asks of a block whose place isn't known
-pub record Unplaced (step : Step) (old new : State) (end : FaultNumbers) : Type 0 where
+-- a call asks of a block that is nowhere
+pub record Unplaced (texts : List DwexprText) (step : Step) (old new : State) (end : FaultNumbers) : Type 0 where
   pub told : EvaluationResult Placed ℕ ℕ
   pub called : IsCalled text_of_placed (λ x. x) step old new (Ok told)
-  pub asks : AsksOfBlock (told_of text_of_placed (λ x. x) told)
+  pub asks : AsksNowhere texts (told_of text_of_placed (λ x. x) told)
   pub shown : end ≡ plain_end unplaced
 
 pub record Misplaced (step : Step) (old new : State) (end : FaultNumbers) : Type 0 where
@@ -48,7 +53,7 @@ pub record Misplaced (step : Step) (old new : State) (end : FaultNumbers) : Type
 -- what came of a step that the numbers say, or of its code where they say none
 abbrev pub Does : List DwexprText → Result Step ℕ → (old new : State) → (before after : DwexprOutcome) → Result (Unit {0}) FaultNumbers → Type 0
 Does texts (Ok step) old new before after (Ok _) = (IsSet step old new × (after ≡ before)) ⊎ Answered texts step old new after
-Does texts (Ok step) old new before after (Err end) = Misplaced step old new end ⊎ (Failed step old new end ⊎ Unplaced step old new end)
+Does texts (Ok step) old new before after (Err end) = Misplaced step old new end ⊎ (Failed step old new end ⊎ Unplaced texts step old new end)
 Does texts (Err code) old new before after (Ok _) = ⊥
 Does texts (Err code) old new before after (Err end) = end ≡ plain_end code
 
@@ -63,7 +68,7 @@ ShowsStatus texts Running out = ⊥
 -- the outcome gets the pieces and the value of a complete evaluation
 abbrev pub Finishes : List DwexprText → (count : ℕ) → List Piece → (before after : DwexprOutcome) → (old new : List DwexprPiece) → Status → Type 0
 Finishes texts count pieces before after old new (Complete value) =
-    ((after ≡ completed (length pieces) value) × AreWritten texts pieces old new) ⊎ ((after ≡ ended unplaced 0 count) × SomeBytes pieces)
+    ((after ≡ completed (length pieces) value) × AreWritten texts pieces old new) ⊎ ((after ≡ ended unplaced 0 count) × SomeNowhere texts pieces)
 Finishes texts count pieces before after old new (Start initial_value) = (after ≡ before) × (new ≡ old)
 Finishes texts count pieces before after old new (Waits request waiting) = (after ≡ before) × (new ≡ old)
 Finishes texts count pieces before after old new (Stopped error) = (after ≡ before) × (new ≡ old)

@@ -21,7 +21,7 @@ loop-index-preserved g c =
     let there = sym c.step_at.ensures ∙ c.in-Some.is in
     let does = subst (λ (b : Bool). Does texts (step_in b texts c.in-Some.step) x new c.loop-index.outcome c.do_step.new.outcome (Ok tt)) (sym c.requires.order) c.in-Ok.ensures in
     let one : suc index ≡ index + 1 = omega arith in
-    let reached = next texts steps index c.in-Some.step there first c.requires.limits x new c.loop-index.outcome c.loop-index.invariant.0 c.do_step.new.outcome does in
+    let reached = next texts steps index c.in-Some.step there first c.requires.limits c.requires.given x new c.loop-index.outcome c.loop-index.invariant.0 c.do_step.new.outcome does in
     (subst (λ (n : ℕ). Reached texts (take n steps) first new c.do_step.new.outcome) one reached, omega (arith, c.loop-index-test.true))
 
 pub returns-in-Err : goal.returns-in-Err
@@ -34,7 +34,7 @@ returns-in-Err g c =
     let there = sym c.step_at.ensures ∙ c.in-Some.is in
     let does = subst (λ (b : Bool). Does texts (step_in b texts c.in-Some.step) x new c.loop-index.outcome c.do_step.new.outcome (Err c.in-Err.end)) (sym c.requires.order) c.in-Err.ensures in
     subst (λ (o : DwexprOutcome). IsEnded (given_at first texts) steps o) (sym c.show_end.ensures)
-    (stops texts steps c.loop-index.index c.in-Some.step there first c.requires.limits x new c.loop-index.outcome c.loop-index.invariant.0 c.in-Err.end c.do_step.new.outcome does)
+    (stops texts steps c.loop-index.index c.in-Some.step there first c.requires.limits c.requires.given x new c.loop-index.outcome c.loop-index.invariant.0 c.in-Err.end c.do_step.new.outcome does)
 
 pub returns : goal.returns
 returns g c =

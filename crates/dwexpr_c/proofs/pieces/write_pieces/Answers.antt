@@ -1,4 +1,4 @@
-use Rattle.std.proofs.Common.{ℕ, ◌<◌, ◌≤◌, ◌+◌, ◌≡◌, length, map, slice_get, Some, arith, ◌∙◌, sym}
+use Rattle.std.proofs.Common.{◌<◌, ◌≡◌, length, slice_get, Some, arith, ◌∙◌, sym}
 use Rattle.std.proofs.lemmas.Option.{slice_get_within}
 use Rattle.dwarf_eval.specs.Machine.{piece_of}
 use Rattle.dwexpr_c.specs.Texts.{text_of_placed}
@@ -29,5 +29,5 @@ returns-in-None-clause-unplaced c e =
       index = index;
       piece = piece_of text_of_placed (λ x. x) c.in-Some.piece;
       is_there = seen_at (piece_of text_of_placed (λ x. x)) pieces index c.in-Some.piece there;
-      has_bytes = c.in-None.ensures.none;
+      nowhere = c.in-None.ensures.none;
     }

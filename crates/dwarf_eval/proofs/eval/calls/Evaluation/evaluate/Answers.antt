@@ -1,10 +1,10 @@
 use Rattle.std.proofs.Common.{sym, subst}
 use Rattle.dwarf_meaning.specs.Rest.{State}
 use Rattle.dwarf_eval.specs.Calls.{Evaluates, EvaluatesPath, IsSettledBy, reply_of}
-use Rattle.dwarf_eval.specs.inner.Steps.{total}
+use Rattle.dwarf_machine.specs.inner.Steps.{total}
 use Rattle.dwarf_op.specs.Views.{text_of}
 use Rattle.dwarf_eval.proofs.Following.{start_follows, start_counts}
-use Rattle.dwarf_eval.proofs.Reaching.{ends_over}
+use Rattle.dwarf_machine.proofs.Reaching.{ends_over}
 use Rattle.dwarf_eval.proofs.eval.calls.Evaluation.evaluate.Goals as goal
 
 pub answer-requires : goal.answer-requires

@@ -3,11 +3,11 @@ use Rattle.dwarf_meaning.specs.Rest.{State}
 use Rattle.dwarf_eval.specs.Answers.{answer_of}
 use Rattle.dwarf_eval.specs.Bounds.{calls_left}
 use Rattle.dwarf_eval.specs.Calls.{Resumes, ResumesPath, reply_of, input_of}
-use Rattle.dwarf_eval.specs.inner.Steps.{total_after}
+use Rattle.dwarf_machine.specs.inner.Steps.{total_after}
 use Rattle.dwarf_op.specs.Views.{text_of}
 use Rattle.dwarf_eval.proofs.Following.{resume_follows, resume_counts}
-use Rattle.dwarf_eval.proofs.Nearing.{ends_fewer, if_ok}
-use Rattle.dwarf_eval.proofs.Reaching.{ends_over}
+use Rattle.dwarf_machine.proofs.Nearing.{ends_fewer, if_ok}
+use Rattle.dwarf_machine.proofs.Reaching.{ends_over}
 use Rattle.dwarf_eval.proofs.eval.calls.Evaluation.resume.Goals as goal
 
 pub answer-requires : goal.answer-requires

@@ -1,5 +1,0 @@
-use Rattle.std.proofs.Common.{rules}
-use Rattle.dwarf_eval.proofs.eval.machine.Machine.operate.Goals as goal
-
-pub returns-in-Bra : goal.returns-in-Bra
-returns-in-Bra g c = search rules

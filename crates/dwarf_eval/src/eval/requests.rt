@@ -1,0 +1,108 @@
+ghost use Rattle.std.specs.Prelude.{◌≡◌, IfOk};
+ghost use Rattle.dwarf_meaning.specs.Kinds.{kind_of_request, kind_of_waiting};
+ghost use Rattle.dwarf_meaning.specs.Rest.{Waits};
+ghost use Rattle.dwarf_meaning.specs.Steps.{Asked};
+ghost use Rattle.dwarf_machine.specs.Machine.{request_of, waiting_of};
+ghost use Rattle.dwarf_machine.specs.inner.Steps.{IsOver};
+ghost use Rattle.dwarf_op.specs.Views.{text_of};
+ghost use Rattle.dwarf_eval.specs.Answers.{Admits, kind_of};
+ghost use Rattle.dwarf_eval.specs.Calls.{IsTold, reply_of, told_of};
+
+use crate::eval::states::WaitingKind;
+use crate::op::{EvaluationResult, Expression};
+use dwarf_base::{Reader, Result};
+use dwarf_machine::machine::Machine;
+use dwarf_machine::states::{EvaluationState, OpenRequest};
+use dwarf_store::EvaluationStorage;
+
+/// What is asked.
+pub(crate) fn result_of<R: Reader + Copy>(request: OpenRequest<R>) -> EvaluationResult<R>
+    ensures told { told_of (text_of R.bytes R.is_big) R.Offset.number result ≡ Asked (request_of (text_of R.bytes R.is_big) R.Offset.number request) }
+    ensures admits { Admits result (Waits (request_of (text_of R.bytes R.is_big) R.Offset.number request) (waiting_of (text_of R.bytes R.is_big) request)) }
+{
+    match request {
+        OpenRequest::Memory {
+            address,
+            size,
+            space,
+            base_type,
+        } => EvaluationResult::RequiresMemory {
+            address,
+            size,
+            space,
+            base_type,
+        },
+        OpenRequest::Register {
+            register,
+            offset: _,
+            base_type,
+        } => EvaluationResult::RequiresRegister {
+            register,
+            base_type,
+        },
+        OpenRequest::WasmLocal(index) => EvaluationResult::RequiresWasmLocal { index },
+        OpenRequest::WasmGlobal(index) => EvaluationResult::RequiresWasmGlobal { index },
+        OpenRequest::WasmStack(index) => EvaluationResult::RequiresWasmStack { index },
+        OpenRequest::FrameBase { offset: _ } => EvaluationResult::RequiresFrameBase,
+        OpenRequest::Tls(index) => EvaluationResult::RequiresTls(index),
+        OpenRequest::CallFrameCfa => EvaluationResult::RequiresCallFrameCfa,
+        OpenRequest::AtLocation(offset) => EvaluationResult::RequiresAtLocation(offset),
+        OpenRequest::EntryValue(expression) => {
+            EvaluationResult::RequiresEntryValue(Expression(expression))
+        }
+        OpenRequest::ParameterRef(offset) => EvaluationResult::RequiresParameterRef(offset),
+        OpenRequest::RelocatedAddress(address) => {
+            EvaluationResult::RequiresRelocatedAddress(address)
+        }
+        OpenRequest::IndexedAddress { index, relocate } => {
+            EvaluationResult::RequiresIndexedAddress { index, relocate }
+        }
+        OpenRequest::TypedLiteral {
+            base_type,
+            value: _,
+        } => EvaluationResult::RequiresBaseType(base_type),
+        OpenRequest::Convert { base_type } => EvaluationResult::RequiresBaseType(base_type),
+        OpenRequest::Reinterpret { base_type } => { EvaluationResult::RequiresBaseType(base_type) }
+    }
+}
+
+/// The kind of its answer.
+pub(crate) fn kind_of_open<R: Reader + Copy>(request: OpenRequest<R>) -> WaitingKind
+    ensures waits { kind_of result ≡ kind_of_waiting (waiting_of (text_of R.bytes R.is_big) request) }
+    ensures asks { kind_of result ≡ kind_of_request (request_of (text_of R.bytes R.is_big) R.Offset.number request) }
+{
+    match request {
+        OpenRequest::Memory { .. } => WaitingKind::Memory,
+        OpenRequest::Register { .. } => WaitingKind::Register,
+        OpenRequest::WasmLocal(_) => WaitingKind::WasmValue,
+        OpenRequest::WasmGlobal(_) => WaitingKind::WasmValue,
+        OpenRequest::WasmStack(_) => WaitingKind::WasmValue,
+        OpenRequest::FrameBase { .. } => WaitingKind::FrameBase,
+        OpenRequest::Tls(_) => WaitingKind::Tls,
+        OpenRequest::CallFrameCfa => WaitingKind::CallFrameCfa,
+        OpenRequest::AtLocation(_) => WaitingKind::AtLocation,
+        OpenRequest::EntryValue(_) => WaitingKind::EntryValue,
+        OpenRequest::ParameterRef(_) => WaitingKind::ParameterRef,
+        OpenRequest::RelocatedAddress(_) => WaitingKind::RelocatedAddress,
+        OpenRequest::IndexedAddress { .. } => WaitingKind::IndexedAddress,
+        OpenRequest::TypedLiteral { .. } => WaitingKind::BaseType,
+        OpenRequest::Convert { .. } => WaitingKind::BaseType,
+        OpenRequest::Reinterpret { .. } => WaitingKind::BaseType,
+    }
+}
+
+/// What the state answers to the caller.
+pub(crate) fn answer<R: Reader + Copy, S: EvaluationStorage<R>>(
+    machine: &Machine<R, S>,
+) -> Result<EvaluationResult<R>>
+    requires { IsOver machine.now.status }
+    ensures told { IsTold (reply_of (text_of R.bytes R.is_big) R.Offset.number result) machine.now.status }
+    ensures admits { IfOk result (λ told. Admits told machine.now.status) }
+{
+    match machine.state() {
+        EvaluationState::Complete(_) => Ok(EvaluationResult::Complete),
+        EvaluationState::Waiting(request) => Ok(result_of(request)),
+        EvaluationState::Failed(error) => Err(error),
+        _ => unreachable!(),
+    }
+}

@@ -1,0 +1,144 @@
+-- A location that waits for its piece.
+use Rattle.std.proofs.Common.{ℕ, ◌≡◌, ◌+◌, ◌-◌, ◌==◌, Bool, true, false, List, length, Result, Ok, Err, Option, Some, None, arith, ap, ◌∙◌, sym, refl, subst}
+use Rattle.dwarf_base.specs.declared.errors.Error.{Error}
+use Rattle.dwarf_base.specs.declared.errors.Error.TheVariants as error
+use Rattle.dwarf_base.specs.Faults.{Fault, InvalidExpressionTerminator, fault_of}
+use Rattle.dwarf_meaning.specs.Operations.{Operation}
+use Rattle.dwarf_meaning.specs.Locations.{Location, Piece}
+use Rattle.dwarf_meaning.specs.Requests.{Input}
+use Rattle.dwarf_meaning.specs.RunLaws.{waits_of}
+use Rattle.dwarf_meaning.specs.Stores.{Store, Last, Pieced, Located, Refusal, Never, push_piece, Next, Goes, Fails, goes}
+use Rattle.dwarf_meaning.specs.Run.{led, holds, held, piece_of, read, run, turn_by}
+use Rattle.dwarf_meaning.specs.Meaning.{Faults}
+use Rattle.dwarf_meaning.specs.Rest.{State, Running, Stopped, with_refusal}
+use Rattle.dwarf_meaning.proofs.Counts.{OnStore, KeepsBoth, Tally, tally_of, both-push_piece}
+use Rattle.dwarf_machine.specs.Bounds.{piece_due, located_by, endings, located, faults_in}
+use Rattle.dwarf_machine.specs.Inputs.{with_status}
+use Rattle.dwarf_machine.specs.inner.Steps.{Does, Refused, Tries, Reads, Holds, before_pushes, total, ComesBy, Turns, read_to, with_last}
+use Rattle.dwarf_machine.proofs.Endings.{Ending, piece_ends}
+use Rattle.dwarf_machine.proofs.Loads.{Keeping, kept_in, piece_adds}
+use Rattle.dwarf_machine.proofs.Nearing.{nears_by}
+use Rattle.dwarf_machine.proofs.Spending.{fallen_spends, held_spends}
+use Rattle.dwarf_machine.proofs.Totals.{closed, through, going, total_running, through_failed}
+use Rattle.dwarf_machine.proofs.Turning.{total_inside, effort_running, falls_turns}
+
+module _ (x : State) (location : Location) (runs : x.status ≡ Running) (inside : (x.place == length x.text.bytes) ≡ false) (waits : x.store.last ≡ Located location) where
+  held_total : (r : Refusal) (inputs : List Input) (z : Result (Operation × List ℕ) Fault) → read x.setup x.text x.place ≡ z → total x r inputs ≡ through x.store.count x.setup x.callers (held (run x.setup) x.setup x.text (length x.callers) location (with_refusal r x.store) inputs z)
+  held_total r inputs z e =
+      let s : Store = with_refusal r x.store in
+      total_inside x r inputs runs inside
+      ∙ (ap (λ (last : Last). through x.store.count x.setup x.callers (turn_by (run x.setup) x.setup x.text x.place (length x.callers) s inputs last)) waits
+      ∙ ap (λ (y : Result (Operation × List ℕ) Fault). through x.store.count x.setup x.callers (held (run x.setup) x.setup x.text (length x.callers) location s inputs y)) e)
+
+  waited : waits_of x.store.last ≡ 1
+  waited = ap waits_of waits
+
+  -- a fault of what was read: nothing is counted
+  module _ (place : ℕ) (new : State) (error : Error) (is : new ≡ with_status (Stopped error) (read_to place x)) where
+    read_falls : ((inputs : List Input) → total x Never inputs ≡ closed (Faults (fault_of error)) x.store.count) → Turns x new
+    read_falls same =
+        let stopped : new.status ≡ Stopped error = ap (λ (z : State). z.status) is in
+        let count : new.store.count ≡ x.store.count = ap (λ (z : State). z.store.count) is in
+        let callers = ap (λ (z : State). length z.callers) is in
+        let lists = ap (λ (z : State). length z.store.values + length z.store.pieces) is in
+        let decodings = ap (λ (z : State). z.decodings) is in
+        let due = ap (piece_due x.store.last) runs in
+        falls_turns x new error runs stopped (record {
+          refusal = Never;
+          may = tt;
+          same = λ inputs. same inputs ∙ ap (closed (Faults (fault_of error))) (sym count);
+          kept = record { setup = ap (λ (z : State). z.setup) is; object_address = ap (λ (z : State). z.store.object_address) is; maximum = ap (λ (z : State). z.store.maximum) is };
+          spends = fallen_spends x new error (ap faults_in runs) stopped (omega (arith, callers)) (omega (arith, count)) (omega (arith, lists)) (omega (arith, decodings, count, due, waited)) (ap (λ (z : State). z.store.pieces) is) (omega (arith, decodings, count)) (omega (arith, decodings, count));
+        })
+
+    pub held_unread : read x.setup x.text x.place ≡ Err (fault_of error) → Turns x new
+    held_unread e = read_falls (λ inputs. held_total Never inputs (Err (fault_of error)) e ∙ through_failed x.store.count x.setup x.callers (fault_of error))
+
+  module _ (op : Operation) (behind : List ℕ) (was : read x.setup x.text x.place ≡ Ok (op, behind)) where
+    abbrev place_then : ℕ
+    place_then = length x.text.bytes - length behind
+
+    held_led : (r : Refusal) (inputs : List Input) (o : Option (ℕ × Option ℕ)) (next : Next) → piece_of op ≡ o → holds x.setup location place_then (with_refusal r x.store) o ≡ next → total x r inputs ≡ through x.store.count x.setup x.callers (led (run x.setup) x.setup x.text (length x.callers) place_then inputs next)
+    held_led r inputs o next e f =
+        held_total r inputs (Ok (op, behind)) was
+        ∙ (ap (λ (p : Option (ℕ × Option ℕ)). through x.store.count x.setup x.callers (led (run x.setup) x.setup x.text (length x.callers) place_then inputs (holds x.setup location place_then (with_refusal r x.store) p))) e
+        ∙ ap (λ (n : Next). through x.store.count x.setup x.callers (led (run x.setup) x.setup x.text (length x.callers) place_then inputs n)) f)
+
+    held_other : (new : State) → piece_of op ≡ None → new ≡ with_status (Stopped (error.InvalidExpressionTerminator (place_then - 1))) (read_to place_then x) → Turns x new
+    held_other new none is =
+        read_falls place_then new (error.InvalidExpressionTerminator (place_then - 1)) is
+        (λ inputs. held_led Never inputs None (Fails (InvalidExpressionTerminator (place_then - 1))) none refl ∙ through_failed x.store.count x.setup x.callers (InvalidExpressionTerminator (place_then - 1)))
+
+    module _ (size : ℕ × Option ℕ) (some : piece_of op ≡ Some size) where
+      abbrev piece : Piece
+      piece = record { size_in_bits = Some size.0; bit_offset = size.1; location = location }
+
+      abbrev mid : State
+      mid = with_last Pieced (read_to place_then x)
+
+      piece_turned : (new : State) → Does (push_piece x.setup piece) mid new → Turns x new
+      piece_turned new d =
+          let still : new.status ≡ Running = ap (λ (z : State). z.status) d.alone ∙ runs in
+          let s : Store = with_refusal (before_pushes d.steps.pushes Never) mid.store in
+          let both : KeepsBoth (tally_of s) Pieced (with_refusal Never new.store) = subst (OnStore (KeepsBoth (tally_of s) Pieced)) (d.steps.same Never) (both-push_piece x.setup piece s) in
+          let tally : tally_of new.store ≡ tally_of x.store = both.tally in
+          let count : new.store.count ≡ x.store.count = ap (λ (m : Tally). m.count) tally in
+          let last : waits_of new.store.last ≡ 0 = ap waits_of both.last in
+          let callers : length new.callers ≡ length x.callers = ap (λ (z : State). length z.callers) d.alone in
+          let added : kept_in new.store ≡ kept_in mid.store + 1 = subst (OnStore (Keeping (kept_in s + 1))) (d.steps.same Never) (piece_adds x.setup piece s) in
+          let kept : kept_in new.store ≡ kept_in x.store = omega (arith, added, waited) in
+          let more : endings new.store.pieces ≡ endings x.store.pieces + located_by location = subst (OnStore (Ending (endings s.pieces + located_by location))) (d.steps.same Never) (piece_ends x.setup piece s) in
+          let ended : endings new.store.pieces ≡ endings x.store.pieces + located x.store.last = more ∙ ap (λ (l : Last). endings x.store.pieces + located l) (sym waits) in
+          let was = effort_running x runs in
+          let is = effort_running new still in
+          record {
+            comes = subst (ComesBy x (total x) new) (sym still) (record {
+              pushes = d.steps.pushes;
+              same = λ r inputs.
+                  held_led (before_pushes d.steps.pushes r) inputs (Some size) (Goes place_then (with_refusal r new.store)) some (ap (goes place_then) (d.steps.same r))
+                  ∙ (ap (λ (n : ℕ). going (record mid { store = record mid.store { count = n } }) (with_refusal r new.store) inputs) (sym count)
+                  ∙ sym (total_running r new inputs still ∙ ap (λ (z : State). going z (with_refusal r new.store) inputs) d.alone));
+              kept = record {
+                setup = ap (λ (z : State). z.setup) d.alone;
+                object_address = ap (λ (m : Tally). m.object_address) tally;
+                maximum = ap (λ (m : Tally). m.maximum) tally;
+              };
+              spends = held_spends x new runs still callers count (ap (λ (z : State). z.decodings) d.alone) waited last kept ended;
+              nears = nears_by x new Running Running runs still (omega (arith, count));
+            });
+            less = omega (arith, was, is, callers, count, last, waited);
+          }
+
+      piece_falls : (new : State) → Refused 0 (push_piece x.setup piece) mid new → Turns x new
+      piece_falls new h =
+          let count : new.store.count ≡ x.store.count = h.stays.count in
+          let callers = h.stays.callers in
+          let items = h.stays.items in
+          let decodings = h.stays.decodings in
+          let due = ap (piece_due x.store.last) runs in
+          falls_turns x new h.error runs h.stopped (record {
+            refusal = h.gets.refusal;
+            may = h.gets.may;
+            same = λ inputs.
+                held_led h.gets.refusal inputs (Some size) (Fails (fault_of h.error)) some (ap (goes place_then) h.gets.same)
+                ∙ (through_failed x.store.count x.setup x.callers (fault_of h.error) ∙ ap (closed (Faults (fault_of h.error))) (sym count));
+            kept = record { setup = h.stays.kept.setup; object_address = h.stays.kept.object_address; maximum = h.stays.kept.maximum };
+            spends = fallen_spends x new h.error (ap faults_in runs) h.stopped (omega (arith, callers)) (omega (arith, count)) (omega (arith, items)) (omega (arith, decodings, count, due, waited)) h.stays.pieces (omega (arith, decodings, count)) (omega (arith, decodings, count));
+          })
+
+      piece_turns : (new : State) (done : Bool) → Tries 0 (push_piece x.setup piece) mid new done → Turns x new
+      piece_turns new true h = piece_turned new h
+      piece_turns new false h = piece_falls new h
+
+    pub held_turns : (new : State) (o : Option (ℕ × Option ℕ)) → piece_of op ≡ o → Holds location o (read_to place_then x) new → Turns x new
+    held_turns new None e h = held_other new e h
+    held_turns new (Some size) e h = piece_turns size e new h.0 h.1
+
+-- ---- as the machine does it
+
+module _ (x : State) (location : Location) (runs : x.status ≡ Running) (inside : (x.place == length x.text.bytes) ≡ false) (waits : x.store.last ≡ Located location) (behind new : State) where
+  pub hold_unread : (error : Error) → read x.setup x.text x.place ≡ Err (fault_of error) → behind ≡ read_to behind.place x → new ≡ with_status (Stopped error) behind → Turns x new
+  hold_unread error was moved is = held_unread x location runs inside waits behind.place new error (is ∙ ap (with_status (Stopped error)) moved) was
+
+  pub hold_turns : (op : Operation) → Reads op x behind → Holds location (piece_of op) behind new → Turns x new
+  hold_turns op reads h = held_turns x location runs inside waits op reads.behind reads.was new (piece_of op) refl (subst (λ (z : State). Holds location (piece_of op) z new) reads.moved h)

@@ -1,0 +1,47 @@
+-- How the calls that are left fall.
+use Rattle.std.proofs.Common.{◌≡◌, ◌+◌, ◌≤◌, ◌<◌, List, Result, Ok, Err, IfOk, arith, ap, refl}
+use Rattle.dwarf_base.specs.declared.errors.Error.{Error}
+use Rattle.dwarf_meaning.specs.Requests.{Input, Request, Waiting}
+use Rattle.dwarf_meaning.specs.Stores.{Refusal}
+use Rattle.dwarf_meaning.specs.Rest.{State, Status, Start, Running, Waits, Complete, Stopped}
+use Rattle.dwarf_machine.specs.Bounds.{calls_left, calls_left_by}
+use Rattle.dwarf_machine.specs.inner.Steps.{EndsBy, Ends, Nears, Total, stop_of}
+
+pub nears_by : (old new : State) (was is : Status) → old.status ≡ was → new.status ≡ is → calls_left_by new is + stop_of is ≤ calls_left_by old was → Nears old new
+nears_by old new was is e f h =
+    let before = ap (calls_left_by old) e in
+    let after = ap (calls_left_by new) f in
+    let stop = ap stop_of f in
+    omega (arith, before, after, stop, h)
+
+pub nears_more : (a b c : State) → Nears a b → Nears b c → Nears a c
+nears_more a b c h i = omega (arith, h, i)
+
+-- a call that stops
+pub fewer_stopped : (old new : State) (status : Status) → new.status ≡ status → stop_of status ≡ 1 → Nears old new → calls_left new < calls_left old
+fewer_stopped old new status is stops h =
+    let stop = ap stop_of is in
+    omega (arith, h, stop, stops)
+
+-- a call that met a fault
+pub fewer_fallen : (old new : State) (request : Request) (waiting : Waiting) (error : Error) → old.status ≡ Waits request waiting → new.status ≡ Stopped error → calls_left new < calls_left old
+fewer_fallen old new request waiting error was is =
+    let before = ap (calls_left_by old) was in
+    let after = ap (calls_left_by new) is in
+    omega (arith, before, after)
+
+pub if_ok : {Y : Type 0} (P : Type 0) (told : Result Y Error) → P → IfOk told (λ t. P)
+if_ok P (Ok t) h = h
+if_ok P (Err e) h = tt
+
+module _ (old : State) (totals : Refusal → List Input → Total) (new : State) (request : Request) (waiting : Waiting) (was : old.status ≡ Waits request waiting) where
+  fewer_by : (status : Status) → new.status ≡ status → EndsBy old totals new status → calls_left new < calls_left old
+  fewer_by (Waits request waiting) e h = fewer_stopped old new (Waits request waiting) e (omega arith) h.nears
+  fewer_by (Complete value) e h = fewer_stopped old new (Complete value) e (omega arith) h.nears
+  fewer_by (Stopped error) e h = fewer_fallen old new request waiting error was e
+  fewer_by Running e h = absurd h
+  fewer_by (Start initial_value) e h = absurd h
+
+  -- an answer leaves fewer calls
+  pub ends_fewer : Ends old totals new → calls_left new < calls_left old
+  ends_fewer h = fewer_by new.status refl h

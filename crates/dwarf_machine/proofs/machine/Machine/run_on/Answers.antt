@@ -1,0 +1,14 @@
+use Rattle.std.proofs.Common.{sym, ◌∙◌}
+use Rattle.dwarf_machine.specs.inner.Steps.{total}
+use Rattle.dwarf_machine.proofs.Reaching.{comes_here, comes_more, comes_end}
+use Rattle.dwarf_machine.proofs.machine.Machine.run_on.Goals as goal
+
+pub loop-self-init : goal.loop-self-init
+loop-self-init g c = comes_here c.args.self.now c.requires
+
+pub loop-self-preserved : goal.loop-self-preserved
+loop-self-preserved g c =
+    comes_more c.args.self.now (total c.args.self.now) c.loop-self.self c.turn.new.self (sym c.is_running.ensures ∙ c.loop-self-test.true) c.loop-self.invariant c.turn.ensures.comes
+
+pub returns : goal.returns
+returns g c = comes_end c.args.self.now (total c.args.self.now) c.loop-self.self (sym c.is_running.ensures ∙ c.loop-self-test.false) c.loop-self.invariant

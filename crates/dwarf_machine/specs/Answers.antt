@@ -1,0 +1,39 @@
+-- What a machine is given, and what it waits for.
+use Rattle.std.specs.Prelude.{◌≡◌}
+use Rattle.dwarf_meaning.specs.Operations.{Text}
+use Rattle.dwarf_meaning.specs.Kinds.{Kind, kind_of_waiting}
+use Rattle.dwarf_meaning.specs.Requests as asked
+use Rattle.dwarf_meaning.specs.Rest as rest
+use Rattle.dwarf_meaning.specs.Rest.{Start, Running, Waits, Complete, Stopped}
+use Rattle.dwarf_machine.specs.declared.states.Given.{Given}
+use Rattle.dwarf_machine.specs.declared.states.Given.TheVariants as given
+
+abbrev pub answer_of : {R : Type 0} → (R → Text) → Given R → asked.Answer
+answer_of text (given.Memory value) = asked.MemoryAnswer value
+answer_of text (given.Register value) = asked.RegisterAnswer value
+answer_of text (given.WasmValue value) = asked.WasmAnswer value
+answer_of text (given.EntryValue value) = asked.EntryAnswer value
+answer_of text (given.FrameBase number) = asked.FrameBaseAnswer number
+answer_of text (given.Tls number) = asked.TlsAnswer number
+answer_of text (given.CallFrameCfa number) = asked.CfaAnswer number
+answer_of text (given.ParameterRef number) = asked.ParameterAnswer number
+answer_of text (given.RelocatedAddress number) = asked.RelocatedAnswer number
+answer_of text (given.IndexedAddress number) = asked.IndexedAnswer number
+answer_of text (given.AtLocation expression) = asked.LocationAnswer (text expression)
+answer_of text (given.BaseType value_type) = asked.BaseTypeAnswer value_type
+
+-- a request of this kind is open
+abbrev pub IsWaitingFor : Kind → rest.Status → Type 0
+IsWaitingFor kind (Waits request waiting) = kind_of_waiting waiting ≡ kind
+IsWaitingFor kind (Start initial_value) = ⊥
+IsWaitingFor kind (Complete value) = ⊥
+IsWaitingFor kind (Stopped error) = ⊥
+IsWaitingFor kind Running = ⊥
+
+-- the open request waits to do this with its answer
+abbrev pub IsWaitingTo : asked.Waiting → rest.Status → Type 0
+IsWaitingTo wanted (Waits request waiting) = waiting ≡ wanted
+IsWaitingTo wanted (Start initial_value) = ⊥
+IsWaitingTo wanted (Complete value) = ⊥
+IsWaitingTo wanted (Stopped error) = ⊥
+IsWaitingTo wanted Running = ⊥

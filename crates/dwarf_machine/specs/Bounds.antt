@@ -1,0 +1,122 @@
+-- How much an evaluation keeps, and how often it decodes, against the operations that it counted (DWARF 5, section 2.5).
+use Rattle.std.specs.Prelude.{ℕ, ◌+◌, ◌-◌, ◌*◌, ◌≤◌, ◌≡◌, List, [], ◌∷◌, Option, Some, None, length}
+use Rattle.dwarf_meaning.specs.Locations.{Location, Empty, InRegister, AtAddress, HoldsValue, HoldsBytes, PointsInto, Piece}
+use Rattle.dwarf_meaning.specs.Run.{most}
+use Rattle.dwarf_meaning.specs.RunLaws.{waits_of}
+use Rattle.dwarf_meaning.specs.Stores.{Last, Located}
+use Rattle.dwarf_meaning.specs.Rest.{State, Status, Start, Running, Waits, Complete, Stopped}
+
+-- 1 where a location waits for its piece, until the evaluation is over
+abbrev pub piece_due : Last → Status → ℕ
+piece_due last (Start initial_value) = waits_of last
+piece_due last Running = waits_of last
+piece_due last (Waits request waiting) = waits_of last
+piece_due last (Complete value) = 0
+piece_due last (Stopped error) = 0
+
+-- 1 where an initial value is still to be pushed
+abbrev pub initial_due : Status → ℕ
+initial_due (Start (Some number)) = 1
+initial_due (Start None) = 0
+initial_due Running = 0
+initial_due (Waits request waiting) = 0
+initial_due (Complete value) = 0
+initial_due (Stopped error) = 0
+
+-- 1 where an answer is still to come: a value, or a called text with a frame for its caller
+abbrev pub answer_due : Status → ℕ
+answer_due (Waits request waiting) = 1
+answer_due (Start initial_value) = 0
+answer_due Running = 0
+answer_due (Complete value) = 0
+answer_due (Stopped error) = 0
+
+-- how many items the three lists hold together, with those that are due
+abbrev pub items_of : State → ℕ
+items_of x =
+    length x.store.values + length x.callers + length x.store.pieces
+    + piece_due x.store.last x.status + initial_due x.status + answer_due x.status
+
+-- how many callers there are, with one that is due
+abbrev pub callers_of : State → ℕ
+callers_of x = length x.callers + answer_due x.status
+
+-- how often it decoded, with a piece that is due
+abbrev pub decodings_of : State → ℕ
+decodings_of x = x.decodings + piece_due x.store.last x.status
+
+-- 1 for a location that an operation gives; a piece by itself is empty or at an address (section 2.6.1.2)
+abbrev pub located_by : Location → ℕ
+located_by Empty = 0
+located_by (AtAddress address) = 0
+located_by (InRegister register) = 1
+located_by (HoldsValue value) = 1
+located_by (HoldsBytes value) = 1
+located_by (PointsInto value byte_offset) = 1
+
+-- 1 for a piece that ended a location; one without a size is the whole variable
+abbrev pub ending_by : Option ℕ → Location → ℕ
+ending_by None location = 0
+ending_by (Some size_in_bits) location = located_by location
+
+-- how many of the pieces ended a location
+abbrev pub endings : List Piece → ℕ
+endings [] = 0
+endings (piece ∷ pieces) = ending_by piece.size_in_bits piece.location + endings pieces
+
+-- 1 where an operation gave the location that waits
+abbrev pub located : Last → ℕ
+located (Located location) = located_by location
+located _ = 0
+
+-- 1 where a fault was met
+abbrev pub faults_in : Status → ℕ
+faults_in (Stopped error) = 1
+faults_in (Start initial_value) = 0
+faults_in Running = 0
+faults_in (Waits request waiting) = 0
+faults_in (Complete value) = 0
+
+-- Each operation that was counted was decoded once, and so was each piece that ended a location; nothing else
+-- was, but for what stands in the piece's place where that is a fault.
+pub record DecodesOnce (x : State) : Type 0 where
+  pub each : x.store.count + endings x.store.pieces ≤ x.decodings
+  pub no_other : x.decodings ≤ x.store.count + endings x.store.pieces + faults_in x.status
+  pub waits : piece_due x.store.last x.status ≤ located x.store.last
+
+-- From the one state to the other each operation that was counted added one item at most, one caller at most, and two
+-- decodings at most, beside so many items more; and what was decoded once still is.
+pub record SpendsInAll (more : ℕ) (old new : State) : Type 0 where
+  pub items : items_of new + old.store.count ≤ items_of old + new.store.count + more
+  pub callers : callers_of new + old.store.count ≤ callers_of old + new.store.count
+  pub decodings : decodings_of new + 2 * old.store.count ≤ decodings_of old + 2 * new.store.count
+  pub once : DecodesOnce old → DecodesOnce new
+
+-- the same of one call
+abbrev pub Spends : (old new : State) → Type 0
+Spends old new = SpendsInAll 0 old new
+
+-- Nothing is counted, kept or decoded, and nothing is due.
+pub record IsUnspent (x : State) : Type 0 where
+  pub items : items_of x ≡ 0
+  pub callers : callers_of x ≡ 0
+  pub decodings : decodings_of x ≡ 0
+  pub count : x.store.count ≡ 0
+  pub once : DecodesOnce x
+
+-- 1 where an initial value was set
+abbrev pub initial_items : Option ℕ → ℕ
+initial_items (Some number) = 1
+initial_items None = 0
+
+-- Each request is asked by an operation that is counted, so this falls from one request to the next, and at the end.
+abbrev pub calls_left_by : State → Status → ℕ
+calls_left_by x (Start initial_value) = most - x.store.count + 1
+calls_left_by x Running = most - x.store.count + 1
+calls_left_by x (Waits request waiting) = most - x.store.count + 1
+calls_left_by x (Complete value) = 0
+calls_left_by x (Stopped error) = 0
+
+-- how many more resumes there may be
+abbrev pub calls_left : State → ℕ
+calls_left x = calls_left_by x x.status

@@ -1,0 +1,52 @@
+-- Refusals, the inputs of a state, and its settings.
+use Rattle.std.specs.Prelude.{ℕ, suc, ◌≡◌, ◌⊎◌, [], Option, None}
+use Rattle.dwarf_meaning.specs.Requests.{Answer, Input}
+use Rattle.dwarf_meaning.specs.Stores.{Limits, Refusal, Never, After}
+use Rattle.dwarf_meaning.specs.Meaning.{First, fresh}
+use Rattle.dwarf_meaning.specs.Rest.{State, Status}
+
+-- one of the lists has no limit
+abbrev pub HasFreeList : Limits → Type 0
+HasFreeList limits = (limits.values ≡ None) ⊎ (limits.frames ≡ None) ⊎ (limits.pieces ≡ None)
+
+-- only a push on a list without a limit may be refused before a limit is met
+abbrev pub MayPick : Limits → Refusal → Type 0
+MayPick limits Never = Unit {0}
+MayPick limits (After inputs pushes) = HasFreeList limits
+
+-- the refusal before an input is taken
+abbrev pub before_input : Refusal → Refusal
+before_input Never = Never
+before_input (After inputs pushes) = After (suc inputs) pushes
+
+-- an answer, with the settings as they stand
+abbrev pub input_of : State → Answer → Input
+input_of x answer = record { object_address = x.store.object_address; maximum = x.store.maximum; answer = answer }
+
+-- the setup and the settings stay
+pub record Keeps (old new : State) : Type 0 where
+  pub setup : new.setup ≡ old.setup
+  pub object_address : new.store.object_address ≡ old.store.object_address
+  pub maximum : new.store.maximum ≡ old.store.maximum
+
+abbrev pub with_status : Status → State → State
+with_status status x = record x { status = status }
+
+-- the settings as they stand when the evaluation starts
+abbrev pub first_of : State → Option ℕ → First
+first_of x initial_value = record { initial_value = initial_value; object_address = x.store.object_address; maximum = x.store.maximum }
+
+-- nothing is done yet
+pub record IsFresh (x : State) (initial_value : Option ℕ) : Type 0 where
+  pub place : x.place ≡ 0
+  pub callers : x.callers ≡ []
+  pub store : x.store ≡ fresh (first_of x initial_value) Never
+
+abbrev pub most_iterations : ℕ
+most_iterations = 4294967295
+
+abbrev pub with_object : Option ℕ → State → State
+with_object address x = record x { store = record x.store { object_address = address } }
+
+abbrev pub with_maximum : ℕ → State → State
+with_maximum maximum x = record x { store = record x.store { maximum = maximum } }

@@ -1,0 +1,127 @@
+-- What an evaluation stands for: a state of the nested meaning, its readers seen as texts and places.
+use Rattle.std.specs.Prelude.{ℕ, Bool, List, Option, ◌*◌, ◌-◌, ◌≡◌, length, reverse, map}
+use Rattle.std.specs.List.{AllByRecursion}
+use Rattle.dwarf_base.specs.declared.common.Encoding.{Encoding}
+use Rattle.dwarf_base.specs.Reads.{IsSuffix}
+use Rattle.dwarf_value.specs.declared.types.Value.{Value}
+use Rattle.dwarf_value.specs.Values.{IsAddressMask, width_of}
+use Rattle.dwarf_meaning.specs.Operations.{Text}
+use Rattle.dwarf_meaning.specs.Locations as meaning
+use Rattle.dwarf_meaning.specs.Requests as asked
+use Rattle.dwarf_meaning.specs.Stores.{Setup, Store, Last, Nothing, Plain, Pieced, Pushed, Called, Located, Never}
+use Rattle.dwarf_meaning.specs.Run.{Frame}
+use Rattle.dwarf_meaning.specs.Rest.{Status, Start, Running, Waits, Complete, Stopped}
+use Rattle.dwarf_op.specs.Views.{text_of, reference_of}
+use Rattle.dwarf_op.specs.declared.locations.Location.{Location}
+use Rattle.dwarf_op.specs.declared.locations.Location.TheVariants as location
+use Rattle.dwarf_op.specs.declared.locations.Piece.{Piece}
+use Rattle.dwarf_machine.specs.declared.states.LastOperation.{LastOperation}
+use Rattle.dwarf_machine.specs.declared.states.LastOperation.TheVariants as last
+use Rattle.dwarf_machine.specs.declared.states.OpenRequest.{OpenRequest}
+use Rattle.dwarf_machine.specs.declared.states.OpenRequest.TheVariants as request
+use Rattle.dwarf_machine.specs.declared.states.EvaluationState.{EvaluationState}
+use Rattle.dwarf_machine.specs.declared.states.EvaluationState.TheVariants as state
+
+abbrev pub location_of : {R O P : Type 0} → (R → Text) → (O → ℕ) → Location R O P → meaning.Location
+location_of text number location.Empty = meaning.Empty
+location_of text number (location.Register register) = meaning.InRegister register.0
+location_of text number (location.Address address) = meaning.AtAddress address
+location_of text number (location.Value value) = meaning.HoldsValue value
+location_of text number (location.Bytes value) = meaning.HoldsBytes (text value)
+location_of text number (location.ImplicitPointer value byte_offset) = meaning.PointsInto (number value.0) byte_offset
+
+abbrev pub piece_of : {R O P : Type 0} → (R → Text) → (O → ℕ) → Piece R O P → meaning.Piece
+piece_of text number piece =
+    record { size_in_bits = piece.size_in_bits; bit_offset = piece.bit_offset; location = location_of text number piece.location }
+
+abbrev pub last_of : {R O P : Type 0} → (R → Text) → (O → ℕ) → LastOperation R O P → Last
+last_of text number last.Nothing = Nothing
+last_of text number last.Plain = Plain
+last_of text number last.Pieced = Pieced
+last_of text number last.Pushed = Pushed
+last_of text number last.Called = Called
+last_of text number (last.Located location) = Located (location_of text number location)
+
+-- what an open request asks
+abbrev pub request_of : {R O P : Type 0} → (R → Text) → (O → ℕ) → OpenRequest R O P → asked.Request
+request_of text number (request.Memory address size space base_type) = asked.RequiresMemory address size space (number base_type.0)
+request_of text number (request.Register register offset base_type) = asked.RequiresRegister register.0 (number base_type.0)
+request_of text number (request.WasmLocal index) = asked.RequiresWasmLocal index
+request_of text number (request.WasmGlobal index) = asked.RequiresWasmGlobal index
+request_of text number (request.WasmStack index) = asked.RequiresWasmStack index
+request_of text number (request.FrameBase offset) = asked.RequiresFrameBase
+request_of text number (request.Tls index) = asked.RequiresTls index
+request_of text number request.CallFrameCfa = asked.RequiresCallFrameCfa
+request_of text number (request.AtLocation offset) = asked.RequiresAtLocation (reference_of number offset)
+request_of text number (request.EntryValue expression) = asked.RequiresEntryValue (text expression)
+request_of text number (request.ParameterRef offset) = asked.RequiresParameterRef (number offset.0)
+request_of text number (request.RelocatedAddress address) = asked.RequiresRelocatedAddress address
+request_of text number (request.IndexedAddress index relocate) = asked.RequiresIndexedAddress (number index.0) relocate
+request_of text number (request.TypedLiteral base_type value) = asked.RequiresBaseType (number base_type.0)
+request_of text number (request.Convert base_type) = asked.RequiresBaseType (number base_type.0)
+request_of text number (request.Reinterpret base_type) = asked.RequiresBaseType (number base_type.0)
+
+-- what is to be done with its answer
+abbrev pub waiting_of : {R O P : Type 0} → (R → Text) → OpenRequest R O P → asked.Waiting
+waiting_of text (request.Memory address size space base_type) = asked.Memory
+waiting_of text (request.Register register offset base_type) = asked.Register offset
+waiting_of text (request.WasmLocal index) = asked.WasmValue
+waiting_of text (request.WasmGlobal index) = asked.WasmValue
+waiting_of text (request.WasmStack index) = asked.WasmValue
+waiting_of text (request.FrameBase offset) = asked.FrameBase offset
+waiting_of text (request.Tls index) = asked.Tls
+waiting_of text request.CallFrameCfa = asked.CallFrameCfa
+waiting_of text (request.AtLocation offset) = asked.AtLocation
+waiting_of text (request.EntryValue expression) = asked.EntryValue
+waiting_of text (request.ParameterRef offset) = asked.ParameterRef
+waiting_of text (request.RelocatedAddress address) = asked.RelocatedAddress
+waiting_of text (request.IndexedAddress index relocate) = asked.IndexedAddress
+waiting_of text (request.TypedLiteral base_type value) = asked.TypedLiteral (text value)
+waiting_of text (request.Convert base_type) = asked.Convert
+waiting_of text (request.Reinterpret base_type) = asked.Reinterpret
+
+abbrev pub status_of : {R O P : Type 0} → (R → Text) → (O → ℕ) → EvaluationState R O P → Status
+status_of text number (state.Start initial_value) = Start initial_value
+status_of text number state.Running = Running
+status_of text number (state.Waiting request) = Waits (request_of text number request) (waiting_of text request)
+status_of text number (state.Complete value) = Complete value
+status_of text number (state.Failed error) = Stopped error
+
+-- how many bytes of the text come before what is left of it
+abbrev pub place_of : {R : Type 0} → (R → List ℕ) → (text left : R) → ℕ
+place_of bytes text left = length (bytes text) - length (bytes left)
+
+-- a caller: what is left of it, and the whole of it
+abbrev pub frame_of : {R : Type 0} → (R → List ℕ) → (R → Bool) → R × R → Frame
+frame_of bytes is_big f = record { text = text_of bytes is_big f.1; place = place_of bytes f.1 f.0 }
+
+-- the innermost caller first
+abbrev pub frames_of : {R : Type 0} → (R → List ℕ) → (R → Bool) → List (R × R) → List Frame
+frames_of bytes is_big frames = reverse (map (frame_of bytes is_big) frames)
+
+abbrev pub setup_of : Encoding → ℕ → Option ℕ → Option ℕ → Option ℕ → Setup
+setup_of encoding offset_bits values frames pieces =
+    record { encoding = encoding; offset_bits = offset_bits; limits = record { values = values; frames = frames; pieces = pieces } }
+
+abbrev pub store_of : {R O P : Type 0} → (R → Text) → (O → ℕ) → List Value → List (Piece R O P) → ℕ → Option ℕ → ℕ → LastOperation R O P → Store
+store_of text number values pieces count object_address maximum last = record {
+  values = reverse values;
+  pieces = map (piece_of text number) pieces;
+  count = count;
+  object_address = object_address;
+  maximum = maximum;
+  last = last_of text number last;
+  refusal = Never;
+}
+
+-- what is left belongs to the text
+pub record IsLeftOf {R : Type 0} (bytes : R → List ℕ) (is_big : R → Bool) (text left : R) : Type 0 where
+  pub rest : IsSuffix (bytes left) (bytes text)
+  pub order : is_big left ≡ is_big text
+
+-- the mask is that of the encoding's addresses, and all that is left belongs to its text
+pub record IsSound {R : Type 0} (bytes : R → List ℕ) (is_big : R → Bool) (encoding : Encoding) (addr_mask : ℕ) (text left : R) (frames : List (R × R)) : Type 0 where
+  pub mask : IsAddressMask addr_mask
+  pub width : width_of addr_mask ≡ 8 * encoding.address_size
+  pub here : IsLeftOf bytes is_big text left
+  pub callers : AllByRecursion (λ (f : R × R). IsLeftOf bytes is_big f.1 f.0) frames

@@ -1,0 +1,328 @@
+-- What the parts of an evaluation do to its state. Contracts of this crate alone cite this file, and private ones above it.
+use Rattle.std.specs.Prelude.{ℕ, zero, suc, ◌+◌, ◌-◌, ◌*◌, ◌<◌, ◌≤◌, ◌≡◌, ◌==◌, Bool, true, false, List, [], ◌∷◌, Option, Some, None, Result, Ok, Err, length}
+use Rattle.dwarf_base.specs.declared.errors.Error.{Error}
+use Rattle.dwarf_base.specs.declared.errors.Error.TheVariants.{BadBranchTarget, InvalidExpressionTerminator, TooManyIterations}
+use Rattle.dwarf_base.specs.Faults.{Fault, fault_of}
+use Rattle.dwarf_value.specs.declared.types.Value.{Value}
+use Rattle.dwarf_value.specs.Values.{to_u64_of}
+use Rattle.dwarf_meaning.specs.Operations.{Operation, Text}
+use Rattle.dwarf_meaning.specs.Locations.{Location}
+use Rattle.dwarf_meaning.specs.Requests.{Request, Waiting, Answer, Input}
+use Rattle.dwarf_meaning.specs.Acts.{Act, act}
+use Rattle.dwarf_meaning.specs.RunLaws.{waits_of}
+use Rattle.dwarf_meaning.specs.Stores.{Limits, address_bits, Store, Last, Pieced, Located, Refusal, Never, After, push_piece, push_frame, Next, Goes, Stops, Fails, done}
+use Rattle.dwarf_meaning.specs.Run.{Frame, can_count, counted, read, most}
+use Rattle.dwarf_meaning.specs.Meaning.{Outcome, Faults, Completes}
+use Rattle.dwarf_meaning.specs.Rest.{State, Status, Start, Running, Waits, Complete, Stopped, with_refusal, rest}
+use Rattle.dwarf_machine.specs.Bounds.{Spends, calls_left}
+use Rattle.dwarf_machine.specs.Inputs.{MayPick, before_input, input_of, Keeps, with_status}
+use Rattle.dwarf_machine.specs.Paths.{path}
+
+-- ---- refusals
+
+-- the refusal before a push on a list without a limit
+abbrev pub before_push : Refusal → Refusal
+before_push Never = Never
+before_push (After zero pushes) = After zero (suc pushes)
+before_push (After (suc inputs) pushes) = After (suc inputs) pushes
+
+-- the refusal before so many of them
+abbrev pub before_pushes : ℕ → Refusal → Refusal
+before_pushes zero refusal = refusal
+before_pushes (suc pushes) refusal = before_push (before_pushes pushes refusal)
+
+-- ---- steps
+
+-- what f makes of what was kept before some pushes is what g makes of what is kept after them
+pub record Steps {A : Type 0} (f : Store → A) (old : Store) (g : Store → A) (new : Store) : Type 0 where
+  pub pushes : ℕ
+  pub same : (r : Refusal) → f (with_refusal (before_pushes pushes r) old) ≡ g (with_refusal r new)
+
+-- for some refusal, f gives this
+pub record Gets {A : Type 0} (limits : Limits) (f : Store → A) (old : Store) (a : A) : Type 0 where
+  pub refusal : Refusal
+  pub may : MayPick limits refusal
+  pub same : f (with_refusal refusal old) ≡ a
+
+abbrev pub with_store : Store → State → State
+with_store s x = record x { store = s }
+
+abbrev pub with_values : List Value → State → State
+with_values values x = record x { store = record x.store { values = values } }
+
+abbrev pub with_last : Last → State → State
+with_last last x = record x { store = record x.store { last = last } }
+
+abbrev pub with_place : ℕ → State → State
+with_place place x = record x { place = place }
+
+-- The setup, the settings, the callers and the pieces stay, nothing is counted or decoded, and of values there are so many more at most.
+pub record Stays (more : ℕ) (old new : State) : Type 0 where
+  pub kept : Keeps old new
+  pub callers : length new.callers ≡ length old.callers
+  pub count : new.store.count ≡ old.store.count
+  pub decodings : new.decodings ≡ old.decodings
+  pub pieces : new.store.pieces ≡ old.store.pieces
+  pub items : length new.store.values + length new.store.pieces ≤ length old.store.values + length old.store.pieces + more
+
+-- f was done to what is kept, and to nothing else
+pub record Does (f : Store → Result Store Fault) (old new : State) : Type 0 where
+  pub steps : Steps f old.store Ok new.store
+  pub alone : new ≡ with_store new.store old
+
+-- f gives a fault for some refusal, and the state keeps it
+pub record Refused (more : ℕ) (f : Store → Result Store Fault) (old new : State) : Type 0 where
+  pub error : Error
+  pub stopped : new.status ≡ Stopped error
+  pub gets : Gets old.setup.limits f old.store (Err (fault_of error))
+  pub stays : Stays more old new
+
+-- f was done, or the state keeps its fault
+abbrev pub Tries : (more : ℕ) → (Store → Result Store Fault) → State → State → Bool → Type 0
+Tries more f old new true = Does f old new
+Tries more f old new false = Refused more f old new
+
+abbrev pub Tried : (more : ℕ) → (Store → Result Store Fault) → State → State → Type 0
+Tried more f old new = (done : Bool) × Tries more f old new done
+
+-- the top was popped, or there is none
+abbrev pub Pops : Option Value → State → State → Type 0
+Pops None old new = (old.store.values ≡ []) × (new ≡ old)
+Pops (Some v) old new = (rest : List Value) × (old.store.values ≡ v ∷ rest) × (new ≡ with_values rest old)
+
+-- the top was popped, and is this number as far as an address goes
+pub record PopsTo (number : ℕ) (old new : State) : Type 0 where
+  pub value : Value
+  pub rest : List Value
+  pub values : old.store.values ≡ value ∷ rest
+  pub alone : new ≡ with_values rest old
+  pub is : number ≡ to_u64_of (address_bits old.setup) value
+
+abbrev pub PopsNumber : State → State → Option ℕ → Type 0
+PopsNumber old new (Some number) = PopsTo number old new
+PopsNumber old new None = (old.store.values ≡ []) × (new ≡ old)
+
+-- one more operation is counted, or the maximum doesn't allow it
+abbrev pub CountsOne : State → State → Bool → Type 0
+CountsOne old new true = (can_count old.store ≡ true) × (new ≡ with_store (counted old.store) old)
+CountsOne old new false = (can_count old.store ≡ false) × (new ≡ with_status (Stopped TooManyIterations) old)
+
+-- went to a place of the text, or there is no such place
+abbrev pub Jumps : ℕ → State → State → Bool → Type 0
+Jumps place old new true = (place ≤ length old.text.bytes) × (new ≡ with_place place old)
+Jumps place old new false = (length old.text.bytes < place) × (new ≡ with_status (Stopped (BadBranchTarget place)) old)
+
+-- the same state at this place, once one more operation was decoded
+abbrev pub read_to : ℕ → State → State
+read_to place x = record x { place = place; decodings = x.decodings + 1 }
+
+-- the operation at the place was read
+pub record Reads (op : Operation) (old new : State) : Type 0 where
+  pub behind : List ℕ
+  pub was : read old.setup old.text old.place ≡ Ok (op, behind)
+  pub moved : new ≡ read_to (length old.text.bytes - length behind) old
+
+-- ---- operations
+
+-- what an operation does with the stack as it is
+abbrev pub act_of : State → Operation → Act
+act_of x op = act (address_bits x.setup) x.store.object_address op x.store.values
+
+-- what an operation does to what is kept, where it was read
+abbrev pub done_at : Act → State → Store → Next
+done_at a x s = done x.setup x.place (length x.text.bytes) a s
+
+-- f, of what is kept, leads to a place
+pub record GoesOn (f : Store → Next) (old new : State) : Type 0 where
+  pub steps : Steps f old.store (Goes new.place) new.store
+  pub alone : new ≡ with_store new.store (with_place new.place old)
+
+-- f leads to a request
+pub record AsksFor (f : Store → Next) (request : Request) (waiting : Waiting) (old new : State) : Type 0 where
+  pub steps : Steps f old.store (Stops request waiting) new.store
+  pub alone : new ≡ with_store new.store (with_status (Waits request waiting) old)
+
+-- f leads to the fault for some refusal
+pub record FailsBy (f : Store → Next) (error : Error) (old new : State) : Type 0 where
+  pub gets : Gets old.setup.limits f old.store (Fails (fault_of error))
+  pub stays : Stays 0 old new
+
+abbrev pub LeadsBy : (Store → Next) → State → State → Status → Type 0
+LeadsBy f old new Running = GoesOn f old new
+LeadsBy f old new (Waits request waiting) = AsksFor f request waiting old new
+LeadsBy f old new (Stopped error) = FailsBy f error old new
+LeadsBy f old new (Start initial_value) = ⊥
+LeadsBy f old new (Complete value) = ⊥
+
+-- f leads on, or to a request, or for some refusal to a fault, which the state keeps
+abbrev pub Leads : (Store → Next) → State → State → Type 0
+Leads f old new = LeadsBy f old new new.status
+
+-- the operation was done
+abbrev pub Performs : Act → State → State → Type 0
+Performs a old new = Leads (done_at a old) old new
+
+-- a piece behind a location: it is ended, or the state keeps the fault
+abbrev pub Holds : Location → Option (ℕ × Option ℕ) → State → State → Type 0
+Holds location (Some size) old new =
+    Tried 0 (push_piece old.setup (record { size_in_bits = Some size.0; bit_offset = size.1; location = location })) (with_last Pieced old) new
+Holds location None old new = new ≡ with_status (Stopped (InvalidExpressionTerminator (old.place - 1))) old
+
+-- ---- turns
+
+-- what comes of an evaluation, and how many operations are counted by then
+pub record Total : Type 0 where
+  pub outcome : Outcome
+  pub count : ℕ
+
+abbrev pub total : State → Refusal → List Input → Total
+total x r inputs = record { outcome = rest r x inputs; count = x.store.count + length (path r x inputs) }
+
+-- what comes of a state and its next input
+abbrev pub total_after : State → Input → Refusal → List Input → Total
+total_after x input r inputs = total x (before_input r) (input ∷ inputs)
+
+-- 1 where a call stops
+abbrev pub stop_of : Status → ℕ
+stop_of (Waits request waiting) = 1
+stop_of (Complete value) = 1
+stop_of (Start initial_value) = 0
+stop_of Running = 0
+stop_of (Stopped error) = 0
+
+-- where the call stops, fewer calls are left
+abbrev pub Nears : State → State → Type 0
+Nears old new = calls_left new + stop_of new.status ≤ calls_left old
+
+-- what comes of the old state is what comes of the new one, to which it came by so many pushes
+pub record Reaches (old : State) (totals : Refusal → List Input → Total) (new : State) : Type 0 where
+  pub pushes : ℕ
+  pub same : (r : Refusal) (inputs : List Input) → totals (before_pushes pushes r) inputs ≡ total new r inputs
+  pub kept : Keeps old new
+  pub spends : Spends old new
+  pub nears : Nears old new
+
+-- for some refusal, the old state ends in the fault, and no more is counted than the new one has
+pub record Falls (old : State) (totals : Refusal → List Input → Total) (fault : Fault) (new : State) : Type 0 where
+  pub refusal : Refusal
+  pub may : MayPick old.setup.limits refusal
+  pub same : (inputs : List Input) → totals refusal inputs ≡ record { outcome = Faults fault; count = new.store.count }
+  pub kept : Keeps old new
+  pub spends : Spends old new
+
+abbrev pub ComesBy : State → (Refusal → List Input → Total) → State → Status → Type 0
+ComesBy old totals new Running = Reaches old totals new
+ComesBy old totals new (Waits request waiting) = Reaches old totals new
+ComesBy old totals new (Complete value) = Reaches old totals new
+ComesBy old totals new (Stopped error) = Falls old totals (fault_of error) new
+ComesBy old totals new (Start initial_value) = ⊥
+
+-- it came to the new state, or to a fault, which the new state keeps
+abbrev pub Comes : State → (Refusal → List Input → Total) → State → Type 0
+Comes old totals new = ComesBy old totals new new.status
+
+abbrev pub BeginsBy : State → (Refusal → List Input → Total) → State → Status → Type 0
+BeginsBy old totals new Running = Reaches old totals new
+BeginsBy old totals new (Stopped error) = Falls old totals (fault_of error) new
+BeginsBy old totals new (Waits request waiting) = ⊥
+BeginsBy old totals new (Complete value) = ⊥
+BeginsBy old totals new (Start initial_value) = ⊥
+
+-- the run begins, or goes on behind an answer
+abbrev pub Begins : State → (Refusal → List Input → Total) → State → Type 0
+Begins old totals new = BeginsBy old totals new new.status
+
+abbrev pub EndsBy : State → (Refusal → List Input → Total) → State → Status → Type 0
+EndsBy old totals new (Waits request waiting) = Reaches old totals new
+EndsBy old totals new (Complete value) = Reaches old totals new
+EndsBy old totals new (Stopped error) = Falls old totals (fault_of error) new
+EndsBy old totals new Running = ⊥
+EndsBy old totals new (Start initial_value) = ⊥
+
+-- the call ends in a request, at the end, or in a fault
+abbrev pub Ends : State → (Refusal → List Input → Total) → State → Type 0
+Ends old totals new = EndsBy old totals new new.status
+
+-- no location waits
+abbrev pub IsFree : Last → Type 0
+IsFree (Located location) = ⊥
+IsFree _ = Unit {0}
+
+-- about to do one more operation that is counted
+pub record IsReady (x : State) : Type 0 where
+  pub runs : x.status ≡ Running
+  pub inside : (x.place == length x.text.bytes) ≡ false
+  pub free : IsFree x.store.last
+
+-- back in the innermost caller, where there is one
+abbrev pub GoesBack : Bool → State → State → Type 0
+GoesBack true old new = (f : Frame) × (fs : List Frame) × (old.callers ≡ f ∷ fs) × (new ≡ record old { text = f.text; place = f.place; callers = fs })
+GoesBack false old new = (old.callers ≡ []) × (new ≡ old)
+
+-- Nothing is counted, and of values and pieces there are so many more at most.
+pub record Adds (more : ℕ) (old new : State) : Type 0 where
+  pub items : length new.store.values + length new.store.pieces ≤ length old.store.values + length old.store.pieces + more
+  pub count : new.store.count ≡ old.store.count
+
+-- the run is over, as f says, with this value, and so many more items at most
+pub record Finishes (more : ℕ) (f : Store → Outcome) (value : Option Value) (old new : State) : Type 0 where
+  pub steps : Steps f old.store (λ s. Completes s.pieces value) new.store
+  pub alone : new ≡ with_store new.store (with_status (Complete value) old)
+  pub kept : Keeps old new
+  pub adds : Adds more old new
+
+-- f gives the fault for some refusal
+pub record Denies (f : Store → Outcome) (error : Error) (old new : State) : Type 0 where
+  pub gets : Gets old.setup.limits f old.store (Faults (fault_of error))
+  pub stays : Stays 0 old new
+
+abbrev pub ClosesBy : ℕ → (Store → Outcome) → State → State → Status → Type 0
+ClosesBy more f old new (Complete value) = Finishes more f value old new
+ClosesBy more f old new (Stopped error) = Denies f error old new
+ClosesBy more f old new Running = ⊥
+ClosesBy more f old new (Start initial_value) = ⊥
+ClosesBy more f old new (Waits request waiting) = ⊥
+
+-- the run is over, as f says, with so many more items at most, or for some refusal in a fault, which the state keeps
+abbrev pub Closes : ℕ → (Store → Outcome) → State → State → Type 0
+Closes more f old new = ClosesBy more f old new new.status
+
+abbrev pub effort_by : State → Status → ℕ
+effort_by x Running = 3 * (most - x.store.count) + length x.callers + waits_of x.store.last + 1
+effort_by x _ = 0
+
+-- a number that falls at each turn
+abbrev pub effort : State → ℕ
+effort x = effort_by x x.status
+
+-- one turn of the run
+pub record Turns (old new : State) : Type 0 where
+  pub comes : Comes old (total old) new
+  pub less : effort new < effort old
+
+abbrev pub is_running : Status → Bool
+is_running Running = true
+is_running _ = false
+
+-- it waits, is complete, or a fault was met
+abbrev pub IsOver : Status → Type 0
+IsOver (Waits request waiting) = Unit {0}
+IsOver (Complete value) = Unit {0}
+IsOver (Stopped error) = Unit {0}
+IsOver Running = ⊥
+IsOver (Start initial_value) = ⊥
+
+-- ---- answers
+
+-- a called text runs, its caller one more frame
+pub record Enters (callee : Text) (old new : State) : Type 0 where
+  pub steps : Steps (push_frame old.setup (length old.callers)) old.store Ok new.store
+  pub alone : new ≡ record old { text = callee; place = 0; callers = record { text = old.text; place = old.place } ∷ old.callers; store = new.store }
+
+abbrev pub TriesToEnter : Text → State → State → Bool → Type 0
+TriesToEnter callee old new true = Enters callee old new
+TriesToEnter callee old new false = Refused 0 (push_frame old.setup (length old.callers)) old new
+
+-- the answer is taken
+abbrev pub Takes : Answer → State → State → Type 0
+Takes answer old new = Begins old (total_after old (input_of old answer)) new

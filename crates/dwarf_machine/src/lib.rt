@@ -1,0 +1,12 @@
+//! The machine of an evaluation: its state, what each operation and each answer does to it, and its run.
+//!
+//! `dwarf_eval` stands on it, and what it gives is no promise to others: the calls that users make are those of
+//! `dwarf_eval`.
+#![tactic(auto)]
+
+mod answers;
+pub mod machine;
+mod operate;
+mod operators;
+pub mod states;
+mod turns;

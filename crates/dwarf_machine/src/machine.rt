@@ -1,0 +1,340 @@
+ghost use Rattle.std.specs.Prelude.{◌≡◌, ◌==◌, ◌<◌, ◌≤◌, ◌*◌, ℕ, [], None, Some, Err, map, length, slice_get, OnOk, IfOk, IfErr};
+ghost use Rattle.dwarf_base.specs.Faults.{fault_of};
+ghost use Rattle.dwarf_value.specs.Values.{IsAddressMask, width_of};
+ghost use Rattle.dwarf_meaning.specs.Meaning.{has_pieces};
+ghost use Rattle.dwarf_meaning.specs.Rest.{Start, Stopped};
+ghost use Rattle.dwarf_meaning.specs.Run.{read};
+ghost use Rattle.dwarf_meaning.specs.Stores.{address_bits, push_value, push_piece};
+ghost use Rattle.dwarf_machine.specs.Bounds.{IsUnspent};
+ghost use Rattle.dwarf_machine.specs.Inputs.{IsFresh, most_iterations, with_maximum, with_object, with_status};
+ghost use Rattle.dwarf_machine.specs.Machine.{last_of, piece_of, setup_of, status_of};
+ghost use Rattle.dwarf_machine.specs.inner.Steps.{CountsOne, GoesBack, Jumps, Pops, Reads, Tries, TriesToEnter, is_running, read_to, with_last};
+ghost use Rattle.dwarf_op.specs.Views.{operation_of, text_of};
+
+use crate::states::{EvaluationState, LastOperation};
+use dwarf_base::{Encoding, Error, Reader, ReaderOffset, Result};
+use dwarf_op::{Operation, Piece};
+use dwarf_store::{ArrayLike, EvaluationStorage};
+use dwarf_ticks::Ticks;
+use dwarf_value::Value;
+use std::marker::Model;
+
+/// The state of an evaluation, and its smallest steps: these alone see bytes and lists.
+#[derive(Drop)]
+pub struct Machine<R: Reader + Copy, S: EvaluationStorage<R>> {
+    state: EvaluationState<R>,
+    encoding: Encoding,
+    addr_mask: u64,
+    object_address: Option<u64>,
+    max_iterations: u32,
+    iteration: u32,
+    // The running text, and what is left of it.
+    bytecode: R,
+    pc: R,
+    last: LastOperation<R>,
+    stack: S::Stack,
+    expression_stack: S::ExpressionStack,
+    pieces: S::Result,
+    // Contracts alone see it.
+    decodings: Ticks,
+}
+
+impl<R: Reader + Copy, S: EvaluationStorage<R>> Model for Machine<R, S> {
+    ghost use Rattle.dwarf_meaning.specs.Rest.{State};
+
+    ghost Value = { State };
+
+    ghost use Rattle.dwarf_machine.specs.Machine.{setup_of, status_of, store_of, place_of, frames_of, IsSound};
+    ghost use Rattle.dwarf_op.specs.Views.{text_of};
+
+    ghost view = { λ e. record { status = status_of (text_of R.bytes R.is_big) R.Offset.number e.state; setup = setup_of e.encoding R.Offset.BITS (S.Stack.limit e.stack) (S.ExpressionStack.limit e.expression_stack) (S.Result.limit e.pieces); text = text_of R.bytes R.is_big e.bytecode; place = place_of R.bytes e.bytecode e.pc; callers = frames_of R.bytes R.is_big (S.ExpressionStack.items e.expression_stack); store = store_of (text_of R.bytes R.is_big) R.Offset.number (S.Stack.items e.stack) (S.Result.items e.pieces) e.iteration e.object_address e.max_iterations e.last; decodings = e.decodings.count } };
+
+    ghost invariant = { λ e. IsSound R.bytes R.is_big e.encoding e.addr_mask e.bytecode e.pc (S.ExpressionStack.items e.expression_stack) };
+}
+
+impl<R: Reader + Copy, S: EvaluationStorage<R>> Machine<R, S> {
+    /// Keeps a fault, which ends the run.
+    #[cold]
+    #[inline(never)]
+    pub(crate) fn fail(&mut self, error: Error)
+        ensures { self.new ≡ with_status (Stopped error) self.old }
+    {
+        self.state = EvaluationState::Failed(error);
+    }
+
+    /// Pushes a value, or keeps the fault of a stack that doesn't take it.
+    #[inline(always)]
+    pub(crate) fn push(&mut self, value: Value) -> bool
+        ensures { Tries 0 (push_value self.old.setup value) self.old self.new result }
+    {
+        let Ok(()) = self.stack.push(value) else {
+            self.fail(Error::StackFull);
+            return false;
+        };
+        true
+    }
+
+    /// Pops the top.
+    #[inline(always)]
+    pub(crate) fn pop(&mut self) -> Option<Value>
+        ensures { Pops result self.old self.new }
+    {
+        self.stack.pop()
+    }
+
+    /// The value that is this far below the top.
+    #[inline(always)]
+    pub(crate) fn value_at(&self, index: u8) -> Option<Value>
+        ensures { result ≡ slice_get self.now.store.values index }
+    {
+        let len = self.stack.len();
+        if usize::from(index) >= len {
+            return None;
+        }
+        self.stack.get(len - 1 - usize::from(index))
+    }
+
+    /// Adds a piece, or keeps the fault of a list that doesn't take it.
+    #[inline(always)]
+    pub(crate) fn push_piece(&mut self, piece: Piece<R>) -> bool
+        ensures { Tries 0 (push_piece self.old.setup (piece_of (text_of R.bytes R.is_big) R.Offset.number piece)) self.old self.new result }
+    {
+        let Ok(()) = self.pieces.push(piece) else {
+            self.fail(Error::StackFull);
+            return false;
+        };
+        true
+    }
+
+    /// Counts one more operation, or keeps the fault of a maximum that doesn't allow it.
+    #[inline(always)]
+    pub(crate) fn count(&mut self) -> bool
+        ensures { CountsOne self.old self.new result }
+    {
+        if self.iteration >= self.max_iterations {
+            self.fail(Error::TooManyIterations);
+            return false;
+        }
+        self.iteration += 1;
+        true
+    }
+
+    /// Notes of what sort the last operation was.
+    #[inline(always)]
+    pub(crate) fn mark(&mut self, last: LastOperation<R>)
+        ensures { self.new ≡ with_last (last_of (text_of R.bytes R.is_big) R.Offset.number last) self.old }
+    {
+        self.last = last;
+    }
+
+    /// Of what sort the last operation was.
+    #[inline(always)]
+    pub(crate) fn last(&self) -> LastOperation<R>
+        ensures { last_of (text_of R.bytes R.is_big) R.Offset.number result ≡ self.now.store.last }
+    {
+        self.last
+    }
+
+    /// Goes over to another state.
+    #[inline(always)]
+    pub fn enter(&mut self, state: EvaluationState<R>)
+        ensures { self.new ≡ with_status (status_of (text_of R.bytes R.is_big) R.Offset.number state) self.old }
+    {
+        self.state = state;
+    }
+
+    /// Where the evaluation stands.
+    #[inline(always)]
+    pub fn state(&self) -> EvaluationState<R>
+        ensures { status_of (text_of R.bytes R.is_big) R.Offset.number result ≡ self.now.status }
+    {
+        self.state
+    }
+
+    /// Whether the run goes on.
+    #[inline(always)]
+    pub(crate) fn is_running(&self) -> bool
+        ensures { result ≡ is_running self.now.status }
+    {
+        matches!(self.state, EvaluationState::Running)
+    }
+
+    /// Whether the running text is at its end.
+    #[inline(always)]
+    pub(crate) fn is_at_end(&self) -> bool
+        ensures { result ≡ (self.now.place == length self.now.text.bytes) }
+    {
+        self.pc.is_empty()
+    }
+
+    /// Whether there are pieces.
+    #[inline(always)]
+    pub(crate) fn has_pieces(&self) -> bool
+        ensures { result ≡ has_pieces self.now.store.pieces }
+    {
+        self.pieces.len() != 0
+    }
+
+    /// The mask of an address.
+    #[inline(always)]
+    pub(crate) fn addr_mask(&self) -> u64
+        ensures mask { IsAddressMask result }
+        ensures width { width_of result ≡ address_bits self.now.setup }
+    {
+        self.addr_mask
+    }
+
+    /// The size of an address, in bytes.
+    #[inline(always)]
+    pub(crate) fn address_size(&self) -> u8
+        ensures { result ≡ self.now.setup.encoding.address_size }
+    {
+        self.encoding.address_size
+    }
+
+    /// The address of the object that is described, where it is set.
+    #[inline(always)]
+    pub(crate) fn object_address(&self) -> Option<u64>
+        ensures { result ≡ self.now.store.object_address }
+    {
+        self.object_address
+    }
+
+    /// The place in the running text.
+    #[inline(always)]
+    pub(crate) fn place(&self) -> R::Offset
+        ensures value { R.Offset.number result ≡ self.now.place }
+        ensures bits { self.now.setup.offset_bits ≡ R.Offset.BITS }
+    {
+        self.pc.offset_from(&self.bytecode)
+    }
+
+    /// Decodes the operation at the place, and goes behind it. No other function of evaluation decodes.
+    #[inline(always)]
+    pub(crate) fn read(&mut self) -> Result<Operation<R>>
+        ensures ok { IfOk result (λ op. Reads (operation_of (text_of R.bytes R.is_big) R.Offset.number op) self.old self.new) }
+        ensures behind { OnOk result (0 < self.new.place) }
+        ensures err { IfErr result (λ e. read self.old.setup self.old.text self.old.place ≡ Err (fault_of e)) }
+        ensures alone { self.new ≡ read_to self.new.place self.old }
+    {
+        self.decodings.tick();
+        Operation::parse(&mut self.pc, self.encoding)
+    }
+
+    /// Goes to a place of the running text, or keeps the fault of a place that it doesn't have.
+    #[inline(always)]
+    pub(crate) fn jump(&mut self, place: R::Offset) -> bool
+        ensures { Jumps (R.Offset.number place) self.old self.new result }
+    {
+        let mut left = self.bytecode;
+        let Ok(()) = left.skip(place) else {
+            self.fail(Error::BadBranchTarget(place.into_u64()));
+            return false;
+        };
+        self.pc = left;
+        true
+    }
+
+    /// Runs a called text, with a frame for its caller, or keeps the fault of a list that doesn't take the frame.
+    pub(crate) fn push_frame(&mut self, callee: R) -> bool
+        ensures { TriesToEnter (text_of R.bytes R.is_big callee) self.old self.new result }
+    {
+        let frame = (self.pc, self.bytecode);
+        let Ok(()) = self.expression_stack.push(frame) else {
+            self.fail(Error::StackFull);
+            return false;
+        };
+        self.pc = callee;
+        self.bytecode = callee;
+        true
+    }
+
+    /// Goes back to the innermost caller, if there is one.
+    pub(crate) fn pop_frame(&mut self) -> bool
+        ensures { GoesBack result self.old self.new }
+    {
+        let Some(frame) = self.expression_stack.pop() else {
+            return false;
+        };
+        self.pc = frame.0;
+        self.bytecode = frame.1;
+        true
+    }
+
+    /// Sets the address of the object that is described.
+    pub fn set_object_address(&mut self, value: u64)
+        ensures { self.new ≡ with_object (Some value) self.old }
+    {
+        self.object_address = Some(value);
+    }
+
+    /// Sets how many operations may be counted in all.
+    pub fn set_max_iterations(&mut self, value: u32)
+        ensures { self.new ≡ with_maximum value self.old }
+    {
+        self.max_iterations = value;
+    }
+
+    /// The pieces.
+    #[inline(always)]
+    pub fn pieces(&self) -> &[Piece<R>]
+        ensures { map (piece_of (text_of R.bytes R.is_big) R.Offset.number) result.now ≡ self.now.store.pieces }
+    {
+        self.pieces.as_slice()
+    }
+
+    /// The list of the pieces.
+    pub fn into_pieces(self) -> S::Result
+        ensures { map (piece_of (text_of R.bytes R.is_big) R.Offset.number) (S.Result.items result) ≡ self.store.pieces }
+    {
+        self.pieces
+    }
+
+    /// A fresh evaluation.
+    pub fn new_in(
+        bytecode: R,
+        encoding: Encoding,
+        stack: S::Stack,
+        expression_stack: S::ExpressionStack,
+        pieces: S::Result,
+    ) -> Self
+        requires some { 0 < encoding.address_size }
+        requires fits { encoding.address_size ≤ 8 }
+        requires stack { S.Stack.items stack ≡ [] }
+        requires expression_stack { S.ExpressionStack.items expression_stack ≡ [] }
+        requires pieces { S.Result.items pieces ≡ [] }
+        ensures status { result.status ≡ Start None }
+        ensures setup { result.setup ≡ setup_of encoding R.Offset.BITS (S.Stack.limit stack) (S.ExpressionStack.limit expression_stack) (S.Result.limit pieces) }
+        ensures text { result.text ≡ text_of R.bytes R.is_big bytecode }
+        ensures object_address { result.store.object_address ≡ None }
+        ensures maximum { result.store.maximum ≡ most_iterations }
+        ensures fresh { IsFresh result None }
+        ensures unspent { IsUnspent result }
+    {
+        Machine {
+            state: EvaluationState::Start(None),
+            encoding,
+            addr_mask: mask_of(encoding.address_size),
+            object_address: None,
+            max_iterations: u32::MAX,
+            iteration: 0,
+            bytecode,
+            pc: bytecode,
+            last: LastOperation::Nothing,
+            stack,
+            expression_stack,
+            pieces,
+            decodings: Ticks::new(),
+        }
+    }
+}
+
+/// The mask of an address of this many bytes.
+fn mask_of(address_size: u8) -> u64
+    requires some { 0 < address_size }
+    requires fits { address_size ≤ 8 }
+    ensures mask { IsAddressMask result }
+    ensures width { width_of result ≡ 8 * address_size }
+{
+    u64::MAX >> (64 - 8 * u32::from(address_size))
+}

@@ -1,0 +1,472 @@
+ghost use Rattle.std.specs.Prelude.{◌≡◌, [], ◌∷◌};
+ghost use Rattle.dwarf_meaning.specs.Acts.{Asks, Branches, Locates, Pushes, act, binary, push, unary};
+ghost use Rattle.dwarf_meaning.specs.Operations as meaning;
+ghost use Rattle.dwarf_meaning.specs.Rest.{Running, Stopped};
+ghost use Rattle.dwarf_meaning.specs.Stores.{Plain, address_bits, push_value, push_values};
+ghost use Rattle.dwarf_base.specs.declared.errors.Error.TheVariants.{NotEnoughStackItems};
+ghost use Rattle.dwarf_value.specs.Values.{add_of, from_u64_of, to_u64_of, type_of};
+ghost use Rattle.dwarf_machine.specs.Inputs.{with_status};
+ghost use Rattle.dwarf_machine.specs.Machine.{location_of, request_of, waiting_of};
+ghost use Rattle.dwarf_machine.specs.inner.Operators.{binary_of, unary_of};
+ghost use Rattle.dwarf_machine.specs.inner.Steps.{Performs, PopsNumber, Tried, Tries, act_of};
+ghost use Rattle.dwarf_op.specs.Views.{operation_of, text_of};
+
+use crate::machine::Machine;
+use crate::operators::{BinaryOperator, UnaryOperator};
+use crate::states::{EvaluationState, LastOperation, OpenRequest};
+use dwarf_base::{Error, Reader, ReaderOffset, Result, UnitOffset};
+use dwarf_op::{Location, Operation, Piece};
+use dwarf_store::EvaluationStorage;
+use dwarf_value::Value;
+
+impl<R: Reader + Copy, S: EvaluationStorage<R>> Machine<R, S> {
+    /// Pushes the value of a plain operation.
+    #[inline(always)]
+    fn push_plain(&mut self, value: Value)
+        ensures { Tried 0 (λ s. push_value self.old.setup value (record s { last = Plain })) self.old self.new }
+    {
+        self.mark(LastOperation::Plain);
+        self.push(value);
+    }
+
+    /// Pushes two values, the second on top.
+    #[inline(always)]
+    fn push_two(&mut self, first: Value, second: Value) -> bool
+        ensures { Tries 1 (push_values self.old.setup (first ∷ second ∷ [])) self.old self.new result }
+    {
+        if !self.push(first) {
+            return false;
+        }
+        self.push(second)
+    }
+
+    /// Pushes two values of a plain operation, the second on top.
+    #[inline(always)]
+    fn push_both(&mut self, first: Value, second: Value)
+        ensures { Tried 1 (λ s. push_values self.old.setup (first ∷ second ∷ []) (record s { last = Plain })) self.old self.new }
+    {
+        self.mark(LastOperation::Plain);
+        self.push_two(first, second);
+    }
+
+    /// Pushes three values of a plain operation, the third on top.
+    #[inline(always)]
+    fn push_three(&mut self, first: Value, second: Value, third: Value)
+        ensures { Tried 2 (λ s. push_values self.old.setup (first ∷ second ∷ third ∷ []) (record s { last = Plain })) self.old self.new }
+    {
+        self.mark(LastOperation::Plain);
+        if self.push(first) {
+            self.push_two(second, third);
+        }
+    }
+
+    /// Pushes a constant.
+    #[inline(always)]
+    fn push_constant(&mut self, value: Value)
+        requires { self.old.status ≡ Running }
+        ensures { Performs (push self.old.store.values value) self.old self.new }
+    {
+        self.push_plain(value)
+    }
+
+    /// Puts the call's answer in the place of the top.
+    #[inline(always)]
+    fn compute_unary(&mut self, operator: UnaryOperator)
+        requires { self.old.status ≡ Running }
+        ensures { Performs (unary (unary_of operator (address_bits self.old.setup)) self.old.store.values) self.old self.new }
+    {
+        let Some(value) = self.pop() else {
+            self.fall_short();
+            return;
+        };
+        match operator.apply(value, self.addr_mask()) {
+            Ok(answer) => self.push_plain(answer),
+            Err(error) => self.fail(error),
+        }
+    }
+
+    /// Puts the call's answer in the place of the two on top.
+    #[inline(always)]
+    fn compute_binary(&mut self, operator: BinaryOperator)
+        requires { self.old.status ≡ Running }
+        ensures { Performs (binary (binary_of operator (address_bits self.old.setup)) self.old.store.values) self.old self.new }
+    {
+        let Some(right) = self.pop() else {
+            self.fall_short();
+            return;
+        };
+        let Some(left) = self.pop() else {
+            self.fall_short();
+            return;
+        };
+        match operator.apply(left, right, self.addr_mask()) {
+            Ok(answer) => self.push_plain(answer),
+            Err(error) => self.fail(error),
+        }
+    }
+
+    /// A value plus a constant of its type.
+    #[inline(always)]
+    pub(crate) fn sum(&self, value: Value, constant: u64) -> Result<Value>
+        ensures { result ≡ add_of (address_bits self.now.setup) value (from_u64_of (type_of value) constant) }
+    {
+        let addend = Value::from_u64(value.value_type(), constant)?;
+        value.add(addend, self.addr_mask())
+    }
+
+    /// The number of an address's bits that a value is.
+    #[inline(always)]
+    pub(crate) fn number_of(&self, value: Value) -> u64
+        ensures { result ≡ to_u64_of (address_bits self.now.setup) value }
+    {
+        value.to_u64(self.addr_mask()).unwrap_or(0)
+    }
+
+    /// Pops the top as a number of an address's bits.
+    #[inline(always)]
+    fn pop_number(&mut self) -> Option<u64>
+        ensures { PopsNumber self.old self.new result }
+    {
+        let value = self.pop()?;
+        Some(self.number_of(value))
+    }
+
+    /// Keeps the fault of a value that isn't there.
+    #[cold]
+    #[inline(never)]
+    pub(crate) fn fall_short(&mut self)
+        ensures { self.new ≡ with_status (Stopped NotEnoughStackItems) self.old }
+    {
+        self.fail(Error::NotEnoughStackItems);
+    }
+
+    /// Does nothing more than a plain operation.
+    #[inline(always)]
+    fn pass(&mut self)
+        requires { self.old.status ≡ Running }
+        ensures { Performs (Pushes self.old.store.values []) self.old self.new }
+    {
+        self.mark(LastOperation::Plain);
+    }
+
+    /// Drops the top.
+    #[inline(always)]
+    fn drop_top(&mut self)
+        requires { self.old.status ≡ Running }
+        ensures { Performs (act_of self.old meaning.Drop) self.old self.new }
+    {
+        let Some(_) = self.pop() else {
+            self.fall_short();
+            return;
+        };
+        self.mark(LastOperation::Plain);
+    }
+
+    /// Pushes a copy of the value that is this far below the top.
+    #[inline(always)]
+    fn pick(&mut self, index: u8)
+        requires { self.old.status ≡ Running }
+        ensures { Performs (act_of self.old (meaning.Pick index)) self.old self.new }
+    {
+        let Some(value) = self.value_at(index) else {
+            self.fall_short();
+            return;
+        };
+        self.push_plain(value)
+    }
+
+    /// Swaps the two on top.
+    #[inline(always)]
+    fn swap(&mut self)
+        requires { self.old.status ≡ Running }
+        ensures { Performs (act_of self.old meaning.Swap) self.old self.new }
+    {
+        let Some(top) = self.pop() else {
+            self.fall_short();
+            return;
+        };
+        let Some(next) = self.pop() else {
+            self.fall_short();
+            return;
+        };
+        self.push_both(top, next)
+    }
+
+    /// Moves the top under the two below it.
+    #[inline(always)]
+    fn rotate(&mut self)
+        requires { self.old.status ≡ Running }
+        ensures { Performs (act_of self.old meaning.Rot) self.old self.new }
+    {
+        let Some(top) = self.pop() else {
+            self.fall_short();
+            return;
+        };
+        let Some(second) = self.pop() else {
+            self.fall_short();
+            return;
+        };
+        let Some(third) = self.pop() else {
+            self.fall_short();
+            return;
+        };
+        self.push_three(top, third, second)
+    }
+
+    /// Adds a constant to the top.
+    #[inline(always)]
+    fn add_constant(&mut self, constant: u64)
+        requires { self.old.status ≡ Running }
+        ensures { Performs (act_of self.old (meaning.PlusConstant constant)) self.old self.new }
+    {
+        let Some(value) = self.pop() else {
+            self.fall_short();
+            return;
+        };
+        match self.sum(value, constant) {
+            Ok(sum) => self.push_plain(sum),
+            Err(error) => self.fail(error),
+        }
+    }
+
+    /// Pushes a signed constant.
+    #[inline(always)]
+    fn push_signed(&mut self, constant: i64)
+        requires { self.old.status ≡ Running }
+        ensures { Performs (act_of self.old (meaning.SignedConstant constant)) self.old self.new }
+    {
+        self.push_plain(Value::Generic(constant.cast_unsigned()))
+    }
+
+    /// Pushes the address of the object that is described.
+    #[inline(always)]
+    fn push_object_address(&mut self)
+        requires { self.old.status ≡ Running }
+        ensures { Performs (act_of self.old meaning.PushObjectAddress) self.old self.new }
+    {
+        let Some(address) = self.object_address() else {
+            self.fail(Error::InvalidPushObjectAddress);
+            return;
+        };
+        self.push_plain(Value::Generic(address))
+    }
+
+    /// Goes on so many bytes behind the operation.
+    #[inline(always)]
+    fn take_branch(&mut self, target: i16)
+        requires { self.old.status ≡ Running }
+        ensures { Performs (Branches self.old.store.values target) self.old self.new }
+    {
+        self.mark(LastOperation::Plain);
+        let place = self.place();
+        self.jump(place.wrapping_add(R::Offset::from_i16(target)));
+    }
+
+    /// Branches where the top isn't zero.
+    #[inline(always)]
+    fn branch_if(&mut self, target: i16)
+        requires { self.old.status ≡ Running }
+        ensures { Performs (act_of self.old (meaning.Bra target)) self.old self.new }
+    {
+        let Some(number) = self.pop_number() else {
+            self.fall_short();
+            return;
+        };
+        if number == 0 {
+            self.pass();
+            return;
+        }
+        self.take_branch(target)
+    }
+
+    /// Lets a location wait for its piece.
+    #[inline(always)]
+    fn locate(&mut self, location: Location<R>)
+        requires { self.old.status ≡ Running }
+        ensures { Performs (Locates self.old.store.values (location_of (text_of R.bytes R.is_big) R.Offset.number location)) self.old self.new }
+    {
+        self.mark(LastOperation::Located(location));
+    }
+
+    /// Lets the top wait for its piece, as a value that has no place.
+    #[inline(always)]
+    fn locate_value(&mut self)
+        requires { self.old.status ≡ Running }
+        ensures { Performs (act_of self.old meaning.StackValue) self.old self.new }
+    {
+        let Some(value) = self.pop() else {
+            self.fall_short();
+            return;
+        };
+        self.locate(Location::Value { value })
+    }
+
+    /// Ends a piece at the address on top, or nowhere where the stack is empty.
+    #[inline(always)]
+    fn end_piece(&mut self, size_in_bits: u64, bit_offset: Option<u64>)
+        requires { self.old.status ≡ Running }
+        ensures { Performs (act_of self.old (meaning.Piece size_in_bits bit_offset)) self.old self.new }
+    {
+        self.mark(LastOperation::Pieced);
+        let Some(address) = self.pop_number() else {
+            self.push_piece(Piece {
+                size_in_bits: Some(size_in_bits),
+                bit_offset,
+                location: Location::Empty,
+            });
+            return;
+        };
+        self.push_piece(Piece {
+            size_in_bits: Some(size_in_bits),
+            bit_offset,
+            location: Location::Address { address },
+        });
+    }
+
+    /// Opens a request.
+    #[inline(always)]
+    fn ask(&mut self, request: OpenRequest<R>)
+        ensures { Performs (Asks self.old.store.values (request_of (text_of R.bytes R.is_big) R.Offset.number request) (waiting_of (text_of R.bytes R.is_big) request)) self.old self.new }
+    {
+        self.enter(EvaluationState::Waiting(request));
+    }
+
+    /// Asks for what memory holds at the address on top, in the space below it where one is named.
+    #[inline(always)]
+    fn dereference(&mut self, base_type: UnitOffset<R::Offset>, size: u8, space: bool)
+        ensures { Performs (act_of self.old (meaning.Deref (R.Offset.number base_type.0) size space)) self.old self.new }
+    {
+        if size > self.address_size() {
+            self.fail(Error::InvalidDerefSize(size));
+            return;
+        }
+        let Some(address) = self.pop_number() else {
+            self.fall_short();
+            return;
+        };
+        if !space {
+            self.ask(OpenRequest::Memory {
+                address,
+                size,
+                space: None,
+                base_type,
+            });
+            return;
+        }
+        let Some(space) = self.pop_number() else {
+            self.fall_short();
+            return;
+        };
+        self.ask(OpenRequest::Memory {
+            address,
+            size,
+            space: Some(space),
+            base_type,
+        })
+    }
+
+    /// Asks for the address of the thread-local slot on top.
+    #[inline(always)]
+    fn ask_tls(&mut self)
+        ensures { Performs (act_of self.old meaning.TLS) self.old self.new }
+    {
+        let Some(index) = self.pop_number() else {
+            self.fall_short();
+            return;
+        };
+        self.ask(OpenRequest::Tls(index))
+    }
+
+    /// Does an operation that was read.
+    #[inline(always)]
+    #[tactic(auto, unfolding(dwarf_meaning::specs::Acts::act))]
+    pub(crate) fn operate(&mut self, operation: Operation<R>)
+        requires { self.old.status ≡ Running }
+        ensures { Performs (act_of self.old (operation_of (text_of R.bytes R.is_big) R.Offset.number operation)) self.old self.new }
+    {
+        match operation {
+            Operation::Deref {
+                base_type,
+                size,
+                space,
+            } => self.dereference(base_type, size, space),
+            Operation::Drop => self.drop_top(),
+            Operation::Pick { index } => self.pick(index),
+            Operation::Swap => self.swap(),
+            Operation::Rot => self.rotate(),
+            Operation::Abs => self.compute_unary(UnaryOperator::Abs),
+            Operation::And => self.compute_binary(BinaryOperator::And),
+            Operation::Div => self.compute_binary(BinaryOperator::Div),
+            Operation::Minus => self.compute_binary(BinaryOperator::Sub),
+            Operation::Mod => self.compute_binary(BinaryOperator::Rem),
+            Operation::Mul => self.compute_binary(BinaryOperator::Mul),
+            Operation::Neg => self.compute_unary(UnaryOperator::Neg),
+            Operation::Not => self.compute_unary(UnaryOperator::Not),
+            Operation::Or => self.compute_binary(BinaryOperator::Or),
+            Operation::Plus => self.compute_binary(BinaryOperator::Add),
+            Operation::PlusConstant { value } => self.add_constant(value),
+            Operation::Shl => self.compute_binary(BinaryOperator::Shl),
+            Operation::Shr => self.compute_binary(BinaryOperator::Shr),
+            Operation::Shra => self.compute_binary(BinaryOperator::Shra),
+            Operation::Xor => self.compute_binary(BinaryOperator::Xor),
+            Operation::Bra { target } => self.branch_if(target),
+            Operation::Eq => self.compute_binary(BinaryOperator::Eq),
+            Operation::Ge => self.compute_binary(BinaryOperator::Ge),
+            Operation::Gt => self.compute_binary(BinaryOperator::Gt),
+            Operation::Le => self.compute_binary(BinaryOperator::Le),
+            Operation::Lt => self.compute_binary(BinaryOperator::Lt),
+            Operation::Ne => self.compute_binary(BinaryOperator::Ne),
+            Operation::Skip { target } => self.take_branch(target),
+            Operation::UnsignedConstant { value } => self.push_constant(Value::Generic(value)),
+            Operation::SignedConstant { value } => self.push_signed(value),
+            Operation::Register { register } => self.locate(Location::Register { register }),
+            Operation::RegisterOffset {
+                register,
+                offset,
+                base_type,
+            } => self.ask(OpenRequest::Register {
+                register,
+                offset,
+                base_type,
+            }),
+            Operation::FrameOffset { offset } => self.ask(OpenRequest::FrameBase { offset }),
+            Operation::Nop => self.pass(),
+            Operation::PushObjectAddress => self.push_object_address(),
+            Operation::Call { offset } => self.ask(OpenRequest::AtLocation(offset)),
+            Operation::TLS => self.ask_tls(),
+            Operation::CallFrameCFA => self.ask(OpenRequest::CallFrameCfa),
+            Operation::Piece {
+                size_in_bits,
+                bit_offset,
+            } => self.end_piece(size_in_bits, bit_offset),
+            Operation::ImplicitValue { bytes } => self.locate(Location::Bytes { value: bytes }),
+            Operation::StackValue => self.locate_value(),
+            Operation::ImplicitPointer { value, byte_offset } => {
+                self.locate(Location::ImplicitPointer { value, byte_offset })
+            }
+            Operation::EntryValue { expression } => self.ask(OpenRequest::EntryValue(expression)),
+            Operation::ParameterRef { offset } => self.ask(OpenRequest::ParameterRef(offset)),
+            Operation::Address { address } => self.ask(OpenRequest::RelocatedAddress(address)),
+            Operation::AddressIndex { index } => self.ask(OpenRequest::IndexedAddress {
+                index,
+                relocate: true,
+            }),
+            Operation::ConstantIndex { index } => self.ask(OpenRequest::IndexedAddress {
+                index,
+                relocate: false,
+            }),
+            Operation::TypedLiteral { base_type, value } => {
+                self.ask(OpenRequest::TypedLiteral { base_type, value })
+            }
+            Operation::Convert { base_type } => self.ask(OpenRequest::Convert { base_type }),
+            Operation::Reinterpret { base_type } => {
+                self.ask(OpenRequest::Reinterpret { base_type })
+            }
+            Operation::Uninitialized => self.fail(Error::UnsupportedEvaluation),
+            Operation::WasmLocal { index } => self.ask(OpenRequest::WasmLocal(index)),
+            Operation::WasmGlobal { index } => self.ask(OpenRequest::WasmGlobal(index)),
+            Operation::WasmStack { index } => self.ask(OpenRequest::WasmStack(index)),
+            Operation::VariableValue { offset: _ } => self.fail(Error::UnsupportedEvaluation),
+        }
+    }
+}

@@ -1,0 +1,80 @@
+ghost use Rattle.std.specs.Prelude.{◌≡◌};
+ghost use Rattle.dwarf_value.specs.Values.{IsAddressMask, width_of};
+ghost use Rattle.dwarf_machine.specs.inner.Operators.{binary_of, unary_of};
+
+use dwarf_base::Result;
+use dwarf_value::Value;
+
+/// A call on one value.
+#[derive(Clone, Copy, Debug, PartialEq, Eq)]
+pub(crate) enum UnaryOperator {
+    Abs,
+    Neg,
+    Not,
+}
+
+/// A call on two values.
+#[derive(Clone, Copy, Debug, PartialEq, Eq)]
+pub(crate) enum BinaryOperator {
+    Add,
+    Sub,
+    Mul,
+    Div,
+    Rem,
+    And,
+    Or,
+    Xor,
+    Shl,
+    Shr,
+    Shra,
+    Eq,
+    Ge,
+    Gt,
+    Le,
+    Lt,
+    Ne,
+}
+
+impl UnaryOperator {
+    /// What the call answers.
+    #[inline(always)]
+    pub(crate) fn apply(self, value: Value, addr_mask: u64) -> Result<Value>
+        requires { IsAddressMask addr_mask }
+        ensures { result ≡ unary_of self (width_of addr_mask) value }
+    {
+        match self {
+            UnaryOperator::Abs => value.abs(addr_mask),
+            UnaryOperator::Neg => value.neg(addr_mask),
+            UnaryOperator::Not => value.not(addr_mask),
+        }
+    }
+}
+
+impl BinaryOperator {
+    /// What the call answers.
+    #[inline(always)]
+    pub(crate) fn apply(self, left: Value, right: Value, addr_mask: u64) -> Result<Value>
+        requires { IsAddressMask addr_mask }
+        ensures { result ≡ binary_of self (width_of addr_mask) left right }
+    {
+        match self {
+            BinaryOperator::Add => left.add(right, addr_mask),
+            BinaryOperator::Sub => left.sub(right, addr_mask),
+            BinaryOperator::Mul => left.mul(right, addr_mask),
+            BinaryOperator::Div => left.div(right, addr_mask),
+            BinaryOperator::Rem => left.rem(right, addr_mask),
+            BinaryOperator::And => left.and(right, addr_mask),
+            BinaryOperator::Or => left.or(right, addr_mask),
+            BinaryOperator::Xor => left.xor(right, addr_mask),
+            BinaryOperator::Shl => left.shl(right, addr_mask),
+            BinaryOperator::Shr => left.shr(right, addr_mask),
+            BinaryOperator::Shra => left.shra(right, addr_mask),
+            BinaryOperator::Eq => left.eq(right, addr_mask),
+            BinaryOperator::Ge => left.ge(right, addr_mask),
+            BinaryOperator::Gt => left.gt(right, addr_mask),
+            BinaryOperator::Le => left.le(right, addr_mask),
+            BinaryOperator::Lt => left.lt(right, addr_mask),
+            BinaryOperator::Ne => left.ne(right, addr_mask),
+        }
+    }
+}

@@ -1,0 +1,46 @@
+-- Where in a caller's texts the bytes of a block are, if anywhere.
+use Rattle.std.specs.Prelude.{ℕ, ◌+◌, ◌≡◌, ◌≤◌, List, Some, length, slice_get, slice_range}
+use Rattle.dwarf_meaning.specs.Locations.{Location, HoldsBytes, Piece}
+use Rattle.dwarf_meaning.specs.Requests as asked
+use Rattle.dwarf_meaning.specs.Steps.{Reply, Asked}
+use Rattle.dwexpr_c.specs.Texts.{IsPlaced}
+use Rattle.dwexpr_c.specs.declared.steps.DwexprText.{DwexprText}
+
+-- the block is at this place of a text
+abbrev pub IsAt : (text : List ℕ) (place : ℕ) (block : List ℕ) → Type 0
+IsAt text place block = (place + length block ≤ length text) × (slice_range text place (place + length block) ≡ block)
+
+abbrev pub IsNotIn : (text block : List ℕ) → Type 0
+IsNotIn text block = (place : ℕ) → IsAt text place block → ⊥
+
+-- these are the bytes of one of the texts
+pub record IsGiven (texts : List DwexprText) (bytes : List ℕ) : Type 0 where
+  pub index : ℕ
+  pub at : DwexprText
+  pub is_there : slice_get texts index ≡ Some at
+  pub same : at.bytes.now ≡ bytes
+
+-- the block is at no place of the text at this index
+abbrev pub IsNotAt : List DwexprText → (text : ℕ) → (block : List ℕ) → Type 0
+IsNotAt texts text block = (offset : ℕ) → IsPlaced texts text offset (length block) block → ⊥
+
+-- it is at no place of any text
+abbrev pub IsNowhere : List DwexprText → (block : List ℕ) → Type 0
+IsNowhere texts block = (text : ℕ) → IsNotAt texts text block
+
+-- a block is asked about that is nowhere
+abbrev pub AsksNowhere : List DwexprText → Reply → Type 0
+AsksNowhere texts (Asked (asked.RequiresEntryValue expression)) = IsNowhere texts expression.bytes
+AsksNowhere texts _ = ⊥
+
+-- the location has bytes that are nowhere
+abbrev pub HoldsNowhere : List DwexprText → Location → Type 0
+HoldsNowhere texts (HoldsBytes value) = IsNowhere texts value.bytes
+HoldsNowhere texts _ = ⊥
+
+-- one of the pieces has
+pub record SomeNowhere (texts : List DwexprText) (pieces : List Piece) : Type 0 where
+  pub index : ℕ
+  pub piece : Piece
+  pub is_there : slice_get pieces index ≡ Some piece
+  pub nowhere : HoldsNowhere texts piece.location

@@ -70,7 +70,7 @@ impl<R: Reader + Copy, S: EvaluationStorage<R>> Machine<R, S> {
     }
 
     /// Puts the call's answer in the place of the top.
-    #[inline(always)]
+    #[inline(never)]
     fn compute_unary(&mut self, operator: UnaryOperator)
         requires { self.old.status ≡ Running }
         ensures { Performs (unary (unary_of operator (address_bits self.old.setup)) self.old.store.values) self.old self.new }
@@ -198,7 +198,7 @@ impl<R: Reader + Copy, S: EvaluationStorage<R>> Machine<R, S> {
     }
 
     /// Swaps the two on top.
-    #[inline(always)]
+    #[inline(never)]
     fn swap(&mut self)
         requires { self.old.status ≡ Running }
         ensures { Performs (act_of self.old meaning.Swap) self.old self.new }
@@ -215,7 +215,7 @@ impl<R: Reader + Copy, S: EvaluationStorage<R>> Machine<R, S> {
     }
 
     /// Moves the top under the two below it.
-    #[inline(always)]
+    #[inline(never)]
     fn rotate(&mut self)
         requires { self.old.status ≡ Running }
         ensures { Performs (act_of self.old meaning.Rot) self.old self.new }
@@ -236,7 +236,7 @@ impl<R: Reader + Copy, S: EvaluationStorage<R>> Machine<R, S> {
     }
 
     /// Adds a constant to the top.
-    #[inline(always)]
+    #[inline(never)]
     fn add_constant(&mut self, constant: u64)
         requires { self.old.status ≡ Running }
         ensures { Performs (act_of self.old (meaning.PlusConstant constant)) self.old self.new }
@@ -324,7 +324,7 @@ impl<R: Reader + Copy, S: EvaluationStorage<R>> Machine<R, S> {
     }
 
     /// Ends a piece at the address on top, or nowhere where the stack is empty.
-    #[inline(always)]
+    #[inline(never)]
     fn end_piece(&mut self, size_in_bits: u64, bit_offset: Option<u64>)
         requires { self.old.status ≡ Running }
         ensures { Performs (act_of self.old (meaning.Piece size_in_bits bit_offset)) self.old self.new }
@@ -354,7 +354,7 @@ impl<R: Reader + Copy, S: EvaluationStorage<R>> Machine<R, S> {
     }
 
     /// Asks for what memory holds at the address on top, in the space below it where one is named.
-    #[inline(always)]
+    #[inline(never)]
     fn dereference(&mut self, base_type: UnitOffset<R::Offset>, size: u8, space: bool)
         ensures { Performs (act_of self.old (meaning.Deref (R.Offset.number base_type.0) size space)) self.old self.new }
     {
@@ -388,7 +388,7 @@ impl<R: Reader + Copy, S: EvaluationStorage<R>> Machine<R, S> {
     }
 
     /// Asks for the address of the thread-local slot on top.
-    #[inline(always)]
+    #[inline(never)]
     fn ask_tls(&mut self)
         ensures { Performs (act_of self.old meaning.TLS) self.old self.new }
     {

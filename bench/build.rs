@@ -1,4 +1,5 @@
-//! Links the proved library, the three functions of the kit by which it takes memory, and the archive for C with a caller.
+//! Links the proved library, the three functions of the kit by which it takes memory, and the archive for C with its
+//! caller.
 
 use std::path::{Path, PathBuf};
 use std::process::Command;

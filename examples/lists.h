@@ -99,7 +99,8 @@ static inline int next_of_5(size_t address_size, const uint8_t **at, const uint8
     return 0;
 }
 
-static inline int next_expression(dwexpr_encoding encoding, const uint8_t **at, const uint8_t *end, struct expression *found)
+static inline int next_expression(dwexpr_encoding encoding, const uint8_t **at, const uint8_t *end,
+                                  struct expression *found)
 {
     found->bytes = NULL, found->length = 0;
     return encoding.version >= 5 ? next_of_5(encoding.address_size, at, end, found)

@@ -288,8 +288,8 @@ typedef struct dwexpr_piece {
 /* Evaluates texts[0] from nothing in the steps, one after another, and tells what the last of them answered. The first
  * step that is none, isn't allowed or meets a fault ends it, and is named by `step`.
  *
- * Answers 0; a fault; DWEXPR_BAD_ENCODING; or DWEXPR_BAD_TEXT to DWEXPR_MISPLACED. `outcome` is written in each case; of
- * `pieces` as many as fit are written once the evaluation is complete, and the others stay. */
+ * Answers 0; a fault; DWEXPR_BAD_ENCODING; or DWEXPR_BAD_TEXT to DWEXPR_MISPLACED. `outcome` is written in each case;
+ * of `pieces` as many as fit are written once the evaluation is complete, and the others stay. */
 uint32_t dwexpr_evaluate(const dwexpr_text *texts, size_t texts_length, dwexpr_encoding encoding,
                          const dwexpr_step *steps, size_t steps_length, dwexpr_outcome *outcome,
                          dwexpr_piece *pieces, size_t pieces_length);
@@ -317,12 +317,16 @@ typedef struct dwexpr_callbacks {
     int (*base_type)(void *context, uint64_t offset, uint32_t *value_type);
 } dwexpr_callbacks;
 
-/* How many answers and called texts dwexpr_run has room for; define them before the header for others. */
+/* How many steps and texts dwexpr_run has room for, and how many operations there may be; define them before the header
+ * for others. An expression may loop: with no maximum it ends after 4294967295 operations, which takes a minute. */
 #ifndef DWEXPR_RUN_STEPS
 #define DWEXPR_RUN_STEPS 64
 #endif
 #ifndef DWEXPR_RUN_TEXTS
 #define DWEXPR_RUN_TEXTS 17
+#endif
+#ifndef DWEXPR_RUN_OPERATIONS
+#define DWEXPR_RUN_OPERATIONS 100000
 #endif
 
 /* What dwexpr_run gives back where it has no room for one more answer or text. */
@@ -382,15 +386,21 @@ static inline int dwexpr_answer(const dwexpr_outcome *asked, const dwexpr_text *
     }
 }
 
-/* Evaluates an expression. Gives back 0 where it is complete; a code above 0, which the outcome has too; what a
- * callback gave; or DWEXPR_RUN_NO_ROOM. It takes 2 KiB of stack for its lists. */
-static inline int dwexpr_run(dwexpr_text text, dwexpr_encoding encoding, const dwexpr_callbacks *calls, void *context,
-                             dwexpr_outcome *outcome, dwexpr_piece *pieces, size_t pieces_length)
+/* Evaluates an expression, with the settings of the caller's before the start, DWEXPR_SET_*. Gives back 0 where it is
+ * complete; a code above 0, which the outcome has too; what a callback gave; or DWEXPR_RUN_NO_ROOM. It takes 2 KiB of
+ * stack for its lists. */
+static inline int dwexpr_run_with(const dwexpr_step *settings, size_t settings_length, dwexpr_text text,
+                                  dwexpr_encoding encoding, const dwexpr_callbacks *calls, void *context,
+                                  dwexpr_outcome *outcome, dwexpr_piece *pieces, size_t pieces_length)
 {
     dwexpr_text texts[DWEXPR_RUN_TEXTS];
     dwexpr_step steps[DWEXPR_RUN_STEPS];
-    size_t texts_length = 1, steps_length = 0;
+    size_t texts_length = 1, steps_length;
     const dwexpr_step empty_step = {DWEXPR_EVALUATE, DWEXPR_GENERIC, 0, 0};
+    if (settings_length >= DWEXPR_RUN_STEPS)
+        return DWEXPR_RUN_NO_ROOM;
+    for (steps_length = 0; steps_length < settings_length; steps_length++)
+        steps[steps_length] = settings[steps_length];
     texts[0] = text;
     steps[steps_length++] = empty_step;
     for (;;) {
@@ -415,6 +425,14 @@ static inline int dwexpr_run(dwexpr_text text, dwexpr_encoding encoding, const d
             texts[texts_length++] = called;
         }
     }
+}
+
+/* The same with one setting, a maximum of DWEXPR_RUN_OPERATIONS. */
+static inline int dwexpr_run(dwexpr_text text, dwexpr_encoding encoding, const dwexpr_callbacks *calls, void *context,
+                             dwexpr_outcome *outcome, dwexpr_piece *pieces, size_t pieces_length)
+{
+    const dwexpr_step maximum = {DWEXPR_SET_MAX_ITERATIONS, DWEXPR_NO_TYPE, DWEXPR_RUN_OPERATIONS, 0};
+    return dwexpr_run_with(&maximum, 1, text, encoding, calls, context, outcome, pieces, pieces_length);
 }
 
 #ifdef __cplusplus

@@ -108,16 +108,18 @@ def of_where(where, program, place):
     return found
 
 
+ENTRY_VALUE = "unknown: request 8"
 SAME = {"equal", "optimized away on both sides", "refused by both"}
 
 
 def kind_of(theirs, ours, size):
     """What is said of a variable, in words; gdb also names those of an inlined function that nothing is said of."""
-    if theirs is None and (ours in ("optimized away", "nothing") or ours.startswith(("not whole", "unknown: request 8"))):
+    word = str(ours)
+    if theirs is None and word.startswith(("optimized away", "nothing", "not whole", ENTRY_VALUE)):
         return "optimized away on both sides"
-    if isinstance(theirs, str) and theirs.startswith("error") and ours.startswith(("unknown: fault", "not whole")):
+    if isinstance(theirs, str) and theirs.startswith("error") and word.startswith(("unknown: fault", "not whole")):
         return "refused by both"
-    if isinstance(ours, str) and ours.startswith("unknown: request 8"):
+    if word.startswith(ENTRY_VALUE):
         return "an entry value, which needs the caller's frame"
     return "equal" if is_same(theirs, ours, size) else "different"
 

@@ -3,8 +3,8 @@
 
 - tests/c/*.c: each field of each operation and outcome, each code, guard pages, a signal handler; as they are, and
   built with the sanitizers of addresses and of undefined behaviour.
-- include/dwexpr.h: without a warning as C11, C17 and C++17. The structs of the crate and of wrapper/ have its fields, by
-  name, type and order, and so the places that it asserts.
+- include/dwexpr.h: without a warning as C11, C17 and C++17. The structs of the crate and of wrapper/ have its fields,
+  by name, type and order, and so the places that it asserts.
 - wrapper/: its tests, by rustc alone and by cargo.
 - examples/: decode is compared with what it is to print. expressions and where need libdw, and are run where it is;
   what where prints is compared with gdb, where that is.
@@ -103,7 +103,8 @@ C_TYPES = {
 
 def fields_of(text, name):
     """The fields of a repr(C) struct of Rattle or Rust, as C declares them: a slice is a pointer and a length."""
-    body = re.search(rf"#\[repr\(C\)\]\n#\[derive[^\n]*\n(?:pub )?struct {name}(?:<'a>)? {{\n(.*?)\n}}", text, re.DOTALL)
+    head = r"#\[repr\(C\)\]\n#\[derive[^\n]*\n(?:pub )?struct "
+    body = re.search(rf"{head}{name}(?:<'a>)? {{\n(.*?)\n}}", text, re.DOTALL)
     fields = []
     for field, kind in re.findall(r"^    (?:pub )?(\w+): (.*),$", body.group(1) if body else "", re.MULTILINE):
         if kind == "&'a [u8]":
@@ -134,11 +135,12 @@ def layout():
         wanted = [(field, kind) for kind, field in declared]
         places, size = places_of(wanted)
         asserted = re.findall(rf"DWEXPR_AT\(dwexpr_{name}, (\w+), (\d+)\);", header)
-        sizes = re.findall(rf"sizeof\(dwexpr_{name}\) == (\d+)|size_of::<Dwexpr{name.title()}>\(\) == (\d+)", header + crate)
+        in_crate = re.findall(rf"size_of::<Dwexpr{name.title()}>\(\) == (\d+)", crate)
+        in_header = re.findall(rf"sizeof\(dwexpr_{name}\) == (\d+)", header)
         count_one(f"layout of {name}: the crate", fields_of(crate, f"Dwexpr{name.title()}"), wanted)
         count_one(f"layout of {name}: the wrapper", fields_of(wrapper, f"Raw{name.title()}"), wanted)
         count_one(f"layout of {name}: places", [(field, int(place)) for field, place in asserted], places)
-        count_one(f"layout of {name}: sizes", [int(one or other) for one, other in sizes], [size, size])
+        count_one(f"layout of {name}: sizes", in_crate + in_header, [str(size)] * 2)
 
 
 def count_one(name, got, wanted):

@@ -444,6 +444,14 @@ static void callbacks(void)
     check(dwexpr_run(texts[0], LE8, &calls, &context, &outcome, pieces, MANY) == 77, name, "the result");
     begin("a fault", "01");
     check(dwexpr_run(texts[0], LE8, &calls, &context, &outcome, pieces, MANY) == DWEXPR_INVALID_EXPRESSION, name, "it");
+    begin("a branch for ever", "2f fdff");
+    check(dwexpr_run(texts[0], LE8, &calls, &context, &outcome, pieces, MANY) == DWEXPR_TOO_MANY_ITERATIONS, name, "it");
+    begin("settings", "97 22"), step(DWEXPR_SET_INITIAL_VALUE, 0, 3, 0), step(DWEXPR_SET_OBJECT_ADDRESS, 0, 4, 0);
+    check(dwexpr_run_with(steps, 2, texts[0], LE8, &none, NULL, &outcome, pieces, MANY) == 0, name, "the result");
+    check(outcome.value == 7 && pieces[0].number == 7, name, "the value");
+    check(dwexpr_run_with(steps, DWEXPR_RUN_STEPS, texts[0], LE8, &none, NULL, &outcome, pieces, MANY) ==
+              DWEXPR_RUN_NO_ROOM,
+          name, "too many");
     begin("too many answers", "77 00 13 2f faff");
     check(dwexpr_run(texts[0], LE8, &calls, &context, &outcome, pieces, MANY) == DWEXPR_RUN_NO_ROOM, name, "it");
 }

@@ -14,7 +14,8 @@ static int counter = 5;
 static const char *word = "word";
 uint64_t shared = 0x123456789abcdef0u;
 
-__attribute__((noinline)) static int widths(int8_t a, uint8_t b, int16_t c, uint16_t d, int32_t e, uint32_t f, int64_t g)
+__attribute__((noinline)) static int widths(int8_t a, uint8_t b, int16_t c, uint16_t d, int32_t e, uint32_t f,
+                                            int64_t g)
 {
     int8_t small = (int8_t)(a - 3);
     uint16_t half = (uint16_t)(d + b);

@@ -342,6 +342,8 @@ pub fn operations(bytes: &[u8], encoding: Encoding) -> impl Iterator<Item = Resu
 
 /// Evaluates the first of the texts in the steps, from nothing.
 ///
+/// An expression may loop: without [`Step::MaxIterations`] it ends after 4294967295 operations, which takes a minute.
+///
 /// # Errors
 ///
 /// A fault, or an argument that isn't allowed; `step` names the step that ended the evaluation.

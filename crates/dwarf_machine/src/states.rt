@@ -20,41 +20,71 @@ pub(crate) enum LastOperation<R: Reader, O = <R as Reader>::Offset> {
 /// An open request, with what is to be done with the answer.
 #[derive(Clone, Copy, Debug, PartialEq, Eq)]
 pub enum OpenRequest<R: Reader, O = <R as Reader>::Offset> {
+    /// Push what memory holds.
     Memory {
+        /// The address.
         address: u64,
+        /// How many bytes.
         size: u8,
+        /// The address space, where one is named.
         space: Option<u64>,
+        /// The type of the value; offset 0 is the generic type.
         base_type: UnitOffset<O>,
     },
+    /// Push what a register holds, plus the offset.
     Register {
+        /// The register.
         register: Register,
+        /// The offset, in bytes.
         offset: i64,
+        /// The type of the register's value; offset 0 is the generic type.
         base_type: UnitOffset<O>,
     },
+    /// Push the local of WebAssembly with this index.
     WasmLocal(u32),
+    /// Push the global of WebAssembly with this index.
     WasmGlobal(u32),
+    /// Push the item of WebAssembly's operand stack with this index; 0 is the bottom.
     WasmStack(u32),
+    /// Push the frame base, plus the offset.
     FrameBase {
+        /// The offset, in bytes.
         offset: i64,
     },
+    /// Push the address of this slot in thread-local storage.
     Tls(u64),
+    /// Push the canonical frame address.
     CallFrameCfa,
+    /// Run the expression in `DW_AT_location` of this entry.
     AtLocation(DieReference<O>),
+    /// Push the value of this expression when the function was entered.
     EntryValue(R),
+    /// Push the value of this parameter.
     ParameterRef(UnitOffset<O>),
+    /// Push this address relocated.
     RelocatedAddress(u64),
+    /// Push what stands in `.debug_addr`.
     IndexedAddress {
+        /// Its index, from `DW_AT_addr_base` of the unit.
         index: DebugAddrIndex<O>,
+        /// Whether it is wanted relocated.
         relocate: bool,
     },
+    /// Push the bytes as a value of this type.
     TypedLiteral {
+        /// The type.
         base_type: UnitOffset<O>,
+        /// The bytes.
         value: R,
     },
+    /// Convert the top to this type.
     Convert {
+        /// The type.
         base_type: UnitOffset<O>,
     },
+    /// Take the bits on top as a value of this type.
     Reinterpret {
+        /// The type.
         base_type: UnitOffset<O>,
     },
 }
@@ -62,26 +92,43 @@ pub enum OpenRequest<R: Reader, O = <R as Reader>::Offset> {
 /// Where an evaluation stands.
 #[derive(Clone, Copy, Debug, PartialEq, Eq)]
 pub enum EvaluationState<R: Reader, O = <R as Reader>::Offset> {
+    /// Nothing was evaluated yet; the initial value, where one is set.
     Start(Option<u64>),
+    /// It runs. Between calls it never does.
     Running,
+    /// A request is open.
     Waiting(OpenRequest<R, O>),
+    /// It is complete; its value, where it ended with the value on top of the stack.
     Complete(Option<Value>),
+    /// It met a fault.
     Failed(Error),
 }
 
-/// What a resume is given.
+/// What a resume is given, by the request that it answers.
 #[derive(Clone, Copy, Debug, PartialEq, Eq)]
 pub enum Given<R> {
+    /// What memory holds.
     Memory(Value),
+    /// What a register holds.
     Register(Value),
+    /// A local, a global or an item of the operand stack of WebAssembly.
     WasmValue(Value),
+    /// What an expression gave when the function was entered.
     EntryValue(Value),
+    /// The frame base.
     FrameBase(u64),
+    /// An address in thread-local storage.
     Tls(u64),
+    /// The canonical frame address.
     CallFrameCfa(u64),
+    /// The value of a parameter.
     ParameterRef(u64),
+    /// A relocated address.
     RelocatedAddress(u64),
+    /// An address or a constant of `.debug_addr`.
     IndexedAddress(u64),
+    /// An expression to be run.
     AtLocation(R),
+    /// A type.
     BaseType(ValueType),
 }

@@ -6,31 +6,31 @@ use dwarf_value::Value;
 /// Where a piece of a variable is, or what it holds (DWARF 5, section 2.6.1).
 #[derive(Clone, Copy, Debug, PartialEq, Eq)]
 pub enum Location<R: Reader, O = <R as Reader>::Offset> {
-    /// Nowhere: the piece was optimized away.
+    /// Nowhere: the piece was optimized away. It is a piece with nothing in front of it.
     Empty,
-    /// In a register.
+    /// In a register: `DW_OP_reg0` to `DW_OP_reg31`, `DW_OP_regx`.
     Register {
         /// The register.
         register: Register,
     },
-    /// In memory.
+    /// In memory: the value on top of the stack is its address.
     Address {
         /// The address.
         address: u64,
     },
-    /// It has no place, and this value.
+    /// It has no place, and this value: `DW_OP_stack_value`.
     Value {
         /// The value.
         value: Value,
     },
-    /// It has no place, and these bytes.
+    /// It has no place, and these bytes: `DW_OP_implicit_value`.
     Bytes {
         /// The bytes.
         value: R,
     },
-    /// It is a pointer to an object that has no place.
+    /// It is a pointer to an object that has no place: `DW_OP_implicit_pointer`, `DW_OP_GNU_implicit_pointer`.
     ImplicitPointer {
-        /// Where the object is described.
+        /// The entry that describes the object: its `DW_AT_location` or `DW_AT_const_value` says what it holds.
         value: DebugInfoOffset<O>,
         /// Where in the object it points to, in bytes.
         byte_offset: i64,

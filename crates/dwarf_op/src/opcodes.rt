@@ -8,62 +8,104 @@ ghost use Rattle.dwarf_op.specs.Entries.{entry_row};
 /// An operation without fields.
 #[derive(Clone, Copy)]
 pub enum Plain {
+    /// `DW_OP_drop`.
     Drop,
+    /// `DW_OP_swap`.
     Swap,
+    /// `DW_OP_rot`.
     Rot,
+    /// `DW_OP_abs`.
     Abs,
+    /// `DW_OP_and`.
     And,
+    /// `DW_OP_div`.
     Div,
+    /// `DW_OP_minus`.
     Minus,
+    /// `DW_OP_mod`.
     Mod,
+    /// `DW_OP_mul`.
     Mul,
+    /// `DW_OP_neg`.
     Neg,
+    /// `DW_OP_not`.
     Not,
+    /// `DW_OP_or`.
     Or,
+    /// `DW_OP_plus`.
     Plus,
+    /// `DW_OP_shl`.
     Shl,
+    /// `DW_OP_shr`.
     Shr,
+    /// `DW_OP_shra`.
     Shra,
+    /// `DW_OP_xor`.
     Xor,
+    /// `DW_OP_eq`.
     Eq,
+    /// `DW_OP_ge`.
     Ge,
+    /// `DW_OP_gt`.
     Gt,
+    /// `DW_OP_le`.
     Le,
+    /// `DW_OP_lt`.
     Lt,
+    /// `DW_OP_ne`.
     Ne,
+    /// `DW_OP_nop`.
     Nop,
+    /// `DW_OP_push_object_address`.
     PushObjectAddress,
+    /// `DW_OP_form_tls_address`, `DW_OP_GNU_push_tls_address`.
     TLS,
+    /// `DW_OP_call_frame_cfa`.
     CallFrameCFA,
+    /// `DW_OP_stack_value`.
     StackValue,
+    /// `DW_OP_GNU_uninit`.
     Uninitialized,
 }
 
 /// How an operand stands that is an unsigned number of up to 64 bits.
 #[derive(Clone, Copy)]
 pub enum Unsigned {
+    /// Two bytes.
     U16,
+    /// Four bytes.
     U32,
+    /// Eight bytes.
     U64,
+    /// An unsigned LEB128 number.
     Uleb128,
+    /// As many bytes as an address has.
     Address,
 }
 
 /// How an operand stands that is a signed number.
 #[derive(Clone, Copy)]
 pub enum Signed {
+    /// One byte.
     I8,
+    /// Two bytes.
     I16,
+    /// Four bytes.
     I32,
+    /// Eight bytes.
     I64,
+    /// A signed LEB128 number.
     Sleb128,
 }
 
 /// How an operand stands that has to fit the reader's offsets.
 #[derive(Clone, Copy)]
 pub enum Offset {
+    /// Two bytes.
     U16,
+    /// Four bytes.
     U32,
+    /// An unsigned LEB128 number.
     Uleb128,
     /// As wide as the format says.
     Section,
@@ -74,74 +116,98 @@ pub enum Offset {
 /// What is made of one byte.
 #[derive(Clone, Copy)]
 pub enum FromByte {
+    /// The constant of `DW_OP_const1u`.
     Constant,
+    /// The index of `DW_OP_pick`.
     Pick,
+    /// The size of `DW_OP_deref_size`.
     Deref,
+    /// The size of `DW_OP_xderef_size`.
     SpaceDeref,
 }
 
 /// What is made of an unsigned number.
 #[derive(Clone, Copy)]
 pub enum FromUnsigned {
+    /// The constant of `DW_OP_const2u`, `DW_OP_const4u`, `DW_OP_const8u` or `DW_OP_constu`.
     Constant,
+    /// The constant of `DW_OP_plus_uconst`.
     PlusConstant,
+    /// The address of `DW_OP_addr`.
     Address,
 }
 
 /// What is made of a signed number.
 #[derive(Clone, Copy)]
 pub enum FromSigned {
+    /// The constant of `DW_OP_const1s` to `DW_OP_const8s` or `DW_OP_consts`.
     Constant,
+    /// The offset of `DW_OP_fbreg`.
     FrameOffset,
 }
 
 /// What is made of the two bytes of a branch.
 #[derive(Clone, Copy)]
 pub enum FromBranch {
+    /// `DW_OP_bra`.
     Bra,
+    /// `DW_OP_skip`.
     Skip,
 }
 
 /// What is made of an offset.
 #[derive(Clone, Copy)]
 pub enum FromOffset {
+    /// The entry of `DW_OP_call2` or `DW_OP_call4`.
     UnitCall,
+    /// The entry of `DW_OP_call_ref`.
     InfoCall,
+    /// The parameter of `DW_OP_GNU_parameter_ref`.
     ParameterRef,
+    /// The index of `DW_OP_addrx` or `DW_OP_GNU_addr_index`.
     AddressIndex,
+    /// The index of `DW_OP_constx` or `DW_OP_GNU_const_index`.
     ConstantIndex,
+    /// The type of `DW_OP_convert` or `DW_OP_GNU_convert`.
     Convert,
+    /// The type of `DW_OP_reinterpret` or `DW_OP_GNU_reinterpret`.
     Reinterpret,
+    /// The variable of `DW_OP_GNU_variable_value`.
     VariableValue,
 }
 
 /// What is made of a block.
 #[derive(Clone, Copy)]
 pub enum FromBlock {
+    /// The bytes of `DW_OP_implicit_value`.
     ImplicitValue,
+    /// The expression of `DW_OP_entry_value` or `DW_OP_GNU_entry_value`.
     EntryValue,
 }
 
 /// What stands behind an opcode that compilers seldom write, and what is made of it.
 #[derive(Clone, Copy)]
 pub enum Rare {
-    /// A register.
+    /// A register: `DW_OP_regx`.
     NamedRegister,
-    /// A register and a signed LEB128 number.
+    /// A register and a signed LEB128 number: `DW_OP_bregx`.
     NamedBaseRegister,
-    /// A register and the offset of a base type.
+    /// A register and the offset of a base type: `DW_OP_regval_type`, `DW_OP_GNU_regval_type`.
     TypedRegister,
-    /// A size and an offset in bits.
+    /// A size and an offset in bits: `DW_OP_bit_piece`.
     BitPiece,
     /// The size of a block, and the block.
     Block(FromBlock),
-    /// The offset of a base type, the size of a block in one byte, and the block.
+    /// The offset of a base type, the size of a block in one byte, and the block: `DW_OP_const_type`,
+    /// `DW_OP_GNU_const_type`.
     TypedLiteral,
-    /// One byte and the offset of a base type. Whether there is an address space.
+    /// One byte and the offset of a base type: `DW_OP_deref_type`, `DW_OP_GNU_deref_type` and, with an address space,
+    /// `DW_OP_xderef_type`. Whether there is an address space.
     TypedDeref(bool),
-    /// A reference into `.debug_info` and a signed LEB128 number.
+    /// A reference into `.debug_info` and a signed LEB128 number: `DW_OP_implicit_pointer`,
+    /// `DW_OP_GNU_implicit_pointer`.
     ImplicitPointer,
-    /// A kind in one byte, and an index that stands as the kind says.
+    /// A kind in one byte, and an index that stands as the kind says: `DW_OP_WASM_location`.
     WasmLocation,
 }
 

@@ -123,7 +123,8 @@ pub enum Operation<R: Reader, O = <R as Reader>::Offset> {
     },
     /// Nothing: `DW_OP_nop`.
     Nop,
-    /// Push the address of the object that is described: `DW_OP_push_object_address`.
+    /// Push the address of the object that is described, which `set_object_address` of the evaluation has set:
+    /// `DW_OP_push_object_address`.
     PushObjectAddress,
     /// Evaluate another expression, the `DW_AT_location` of an entry, in this one's place: `DW_OP_call2`,
     /// `DW_OP_call4`, `DW_OP_call_ref`.
@@ -136,11 +137,13 @@ pub enum Operation<R: Reader, O = <R as Reader>::Offset> {
     TLS,
     /// Push the canonical frame address (DWARF 5, section 6.4): `DW_OP_call_frame_cfa`.
     CallFrameCFA,
-    /// End a piece of the variable: `DW_OP_piece`, `DW_OP_bit_piece`.
+    /// End a piece of the variable: `DW_OP_piece`, `DW_OP_bit_piece`. Behind an operation that gives a location the
+    /// piece is there; else it is at the address that it pops, or nowhere where the stack is empty.
     Piece {
         /// Its size, in bits.
         size_in_bits: u64,
-        /// Where it begins in its location, in bits; `None` for `DW_OP_piece`.
+        /// Where it begins in its location, in bits; `None` for `DW_OP_piece`. In a register or a value it counts from
+        /// the least significant bit end.
         bit_offset: Option<u64>,
     },
     /// The variable has no place, and these bytes: `DW_OP_implicit_value`. It completes the piece or the expression.
@@ -201,7 +204,7 @@ pub enum Operation<R: Reader, O = <R as Reader>::Offset> {
         /// The type.
         base_type: UnitOffset<O>,
     },
-    /// The variable isn't initialized: `DW_OP_GNU_uninit`.
+    /// The variable isn't initialized: `DW_OP_GNU_uninit`. An evaluation answers `UnsupportedEvaluation`.
     Uninitialized,
     /// Push a local of WebAssembly's running function: `DW_OP_WASM_location` 0.
     WasmLocal {
@@ -218,7 +221,7 @@ pub enum Operation<R: Reader, O = <R as Reader>::Offset> {
         /// Its index; 0 is the bottom.
         index: u32,
     },
-    /// Push the value of a variable: `DW_OP_GNU_variable_value`.
+    /// Push the value of a variable: `DW_OP_GNU_variable_value`. An evaluation answers `UnsupportedEvaluation`.
     VariableValue {
         /// Where the variable is described.
         offset: DebugInfoOffset<O>,

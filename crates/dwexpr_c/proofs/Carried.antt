@@ -1,18 +1,18 @@
 -- Each block that an evaluation gives is a block of an operation of one of its texts.
-use Rattle.std.proofs.Common.{ℕ, zero, suc, ◌≡◌, ◌==◌, ◌-◌, Bool, true, false, List, [], ◌∷◌, ◌++◌, length, Option, Some, None, Result, Ok, Err, refl}
+use Rattle.std.proofs.Common.{ℕ, zero, suc, ◌==◌, true, false, List, [], ◌∷◌, ◌++◌, length, Option, Some, None, Result, Ok, Err}
 use Rattle.dwarf_base.specs.declared.errors.Error.{Error}
-use Rattle.dwarf_base.specs.Faults.{Fault, TooManyIterations, InvalidPiece, NotEnoughStackItems, ◌>>=◌}
+use Rattle.dwarf_base.specs.Faults.{Fault}
 use Rattle.dwarf_value.specs.declared.types.Value.{Value}
 use Rattle.dwarf_value.specs.declared.types.Value.TheVariants.{Generic}
 use Rattle.dwarf_meaning.specs.Operations as operation
 use Rattle.dwarf_meaning.specs.Operations.{Operation, Text}
-use Rattle.dwarf_meaning.specs.Locations.{Location, Empty, InRegister, AtAddress, HoldsValue, HoldsBytes, PointsInto, Piece}
+use Rattle.dwarf_meaning.specs.Locations.{Location, HoldsBytes, Piece}
 use Rattle.dwarf_meaning.specs.Requests as asked_for
 use Rattle.dwarf_meaning.specs.Requests.{Request, Waiting, Memory, Register, WasmValue, EntryValue, FrameBase, Tls, CallFrameCfa, ParameterRef, RelocatedAddress, IndexedAddress, AtLocation, TypedLiteral, Convert, Reinterpret, Answer, LocationAnswer, Input, location_of}
-use Rattle.dwarf_meaning.specs.Acts.{choose, on_top, on_some, on_answer, answer_of, Act, Pushes, Branches, Locates, Ends, Asks, Refuses, short, unary, binary, push, act, Use, Gives, Calls, Denies, Misfits, use_of}
+use Rattle.dwarf_meaning.specs.Acts.{on_top, on_some, on_answer, answer_of, Act, Pushes, Branches, Locates, Ends, Asks, Refuses, short, unary, binary, push, act, Use, Gives, Calls, Denies, Misfits, use_of}
 use Rattle.dwarf_meaning.specs.Stores.{Setup, address_bits, Refusal, Store, Last, Nothing, Plain, Pieced, Pushed, Called, Located, room, push_value, push_piece, push_frame, push_values, Next, Goes, Stops, Fails, goes, done}
-use Rattle.dwarf_meaning.specs.Run.{Frame, End, Finished, Asking, Failed, Course, ended, passing, Continues, back, resumed, entered, called, used, with_input, asked, led, read, can_count, counted, does, counts, piece_of, holds, held, turn_by, turn, out_of_turns, run_for, enough, run}
-use Rattle.dwarf_meaning.specs.Meaning.{Outcome, Requests, Faults, Completes, completed, has_pieces, whole, finish_located, finish_value, finish_judged, finish_free, finish_by, First, fresh, with_initial, course_from, course_of, unwound, meaning}
+use Rattle.dwarf_meaning.specs.Run.{Frame, End, Finished, Asking, Failed, Course, ended, Continues, back, resumed, entered, called, used, with_input, asked, led, read, can_count, counted, does, counts, piece_of, holds, held, turn_by, turn, out_of_turns, run_for, enough}
+use Rattle.dwarf_meaning.specs.Meaning.{Outcome, Requests, Faults, Completes, completed, has_pieces, whole, finish_value, finish_judged, finish_free, finish_by, First, fresh, with_initial, course_from, unwound, meaning}
 use Rattle.dwarf_meaning.proofs.Choices.{choose_both}
 use Rattle.dwarf_meaning.proofs.Counts.{OnStore, bound_store, on_bound}
 use Rattle.dwexpr_c.specs.Operations.{block_in}

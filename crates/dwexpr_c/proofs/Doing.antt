@@ -1,12 +1,12 @@
 -- What came of a step, by its cases.
-use Rattle.std.proofs.Common.{ℕ, ◌≡◌, ◌⊎◌, inl, inr, List, Result, Ok, Err, refl, sym, subst}
+use Rattle.std.proofs.Common.{ℕ, ◌≡◌, inl, inr, List, Result, Ok, Err, sym, subst}
 use Rattle.dwarf_base.specs.declared.errors.Error.{Error}
 use Rattle.dwarf_base.specs.Faults.{fault_of}
 use Rattle.dwarf_meaning.specs.Rest.{State}
 use Rattle.dwarf_meaning.specs.Steps.{Step}
 use Rattle.dwarf_eval.specs.Calls.{told_of}
 use Rattle.dwarf_eval.specs.declared.op.results.EvaluationResult.{EvaluationResult}
-use Rattle.dwarf_replay.specs.Stepping.{IsCalled, IsSet, MayTake}
+use Rattle.dwarf_replay.specs.Stepping.{IsCalled, MayTake}
 use Rattle.dwexpr_c.specs.Codes.{code_of_fault, number_of_fault, misplaced}
 use Rattle.dwexpr_c.specs.Outcomes.{ShowsReply}
 use Rattle.dwexpr_c.specs.Texts.{text_of_placed}

@@ -1,5 +1,5 @@
 -- What is shown at the end, from where the evaluation stands.
-use Rattle.std.proofs.Common.{ℕ, ◌≡◌, ◌∙◌, ◌⊎◌, inl, inr, Bool, List, [], ◌∷◌, Option, Some, None, Result, Ok, Err, length, slice_get, refl, sym, ap, subst}
+use Rattle.std.proofs.Common.{ℕ, ◌≡◌, ◌∙◌, inl, inr, Bool, List, [], ◌∷◌, Option, Some, None, Result, Ok, Err, length, slice_get, refl, sym, ap, subst}
 use Rattle.dwarf_base.specs.declared.common.Encoding.{Encoding}
 use Rattle.dwarf_meaning.specs.Locations.{Piece}
 use Rattle.dwarf_meaning.specs.Meaning.{Outcome, Requests, Faults, Completes}
@@ -9,9 +9,8 @@ use Rattle.dwarf_meaning.specs.Rest.{State, Status, Start, Running, Waits, Compl
 use Rattle.dwarf_meaning.specs.Stores.{Setup}
 use Rattle.dwarf_replay.specs.Replays.{StandsAt, IsAsking, told_at}
 use Rattle.dwexpr_c.specs.Evaluated.{Evaluates, EvaluatesFirst, Given, IsEnded, ShowsOutcome, comes_of, setup_in, told_by, unset}
-use Rattle.dwexpr_c.specs.Outcomes.{ShowsRequest, completed, ended}
-use Rattle.dwexpr_c.specs.Pieces.{AreWritten}
-use Rattle.dwexpr_c.specs.Texts.{TextAt, text_in, text_of_placed}
+use Rattle.dwexpr_c.specs.Outcomes.{ShowsRequest}
+use Rattle.dwexpr_c.specs.Texts.{TextAt}
 use Rattle.dwexpr_c.specs.inner.Places.{IsGiven}
 use Rattle.dwexpr_c.specs.inner.Runs.{EvaluatesFound, RanAll, Runs, given_at}
 use Rattle.dwexpr_c.specs.inner.Stepping.{Ends, Finishes, ShowsStatus}

@@ -1,5 +1,5 @@
 -- Each block that an evaluation gives is at some place of the texts that the caller gave.
-use Rattle.std.proofs.Common.{ℕ, zero, suc, ◌≡◌, ◌∙◌, ◌+◌, ◌-◌, ◌≤◌, ◌==◌, ◌^◌, nat_lt, Bool, true, false, cond, List, [], ◌∷◌, ◌++◌, map, take, drop, length, slice_get, Option, Some, None, Result, Ok, Err, refl, sym, ap, subst, arith, length-append}
+use Rattle.std.proofs.Common.{ℕ, zero, suc, ◌≡◌, ◌∙◌, ◌+◌, ◌≤◌, ◌==◌, ◌^◌, nat_lt, Bool, true, false, cond, List, [], ◌∷◌, ◌++◌, map, take, drop, length, slice_get, Option, Some, None, Result, Ok, Err, refl, sym, ap, subst, arith, length-append}
 use Rattle.std.specs.List.{slice_range}
 use Rattle.std.proofs.lemmas.List.{take-append-drop}
 use Rattle.dwarf_base.specs.Faults.{Fault}
@@ -12,17 +12,17 @@ use Rattle.dwarf_meaning.specs.Requests.{Request, Answer, Input}
 use Rattle.dwarf_meaning.specs.Meaning.{Outcome, Requests, Faults, Completes, First}
 use Rattle.dwarf_meaning.specs.Rest.{State}
 use Rattle.dwarf_meaning.specs.Run.{read}
-use Rattle.dwarf_meaning.specs.Steps.{Step, InitialValue, ObjectAddress, MaxIterations, Evaluate, Resume, Told, Reply, Asked, heard, after, after_step, after_steps, outcome_from, outcome_of}
+use Rattle.dwarf_meaning.specs.Steps.{Step, InitialValue, ObjectAddress, MaxIterations, Evaluate, Resume, Told, Asked, heard, after, after_step, after_steps, outcome_from, outcome_of}
 use Rattle.dwarf_meaning.specs.Stores.{Setup, Refusal, Never}
 use Rattle.dwarf_meaning.proofs.Decoded.{operation_begins}
 use Rattle.dwarf_replay.specs.Replays.{told_at}
 use Rattle.dwexpr_c.specs.Codes.{bad_step}
-use Rattle.dwexpr_c.specs.Evaluated.{Given, comes_of}
+use Rattle.dwexpr_c.specs.Evaluated.{comes_of}
 use Rattle.dwexpr_c.specs.Operations.{block_in}
 use Rattle.dwexpr_c.specs.Steps.{step_in, with_value, with_type, with_text}
 use Rattle.dwexpr_c.specs.Texts.{IsPlaced}
 use Rattle.dwexpr_c.specs.Values.{type_in, value_in}
-use Rattle.dwexpr_c.specs.inner.Places.{IsGiven, IsNowhere, AsksNowhere, HoldsNowhere, SomeNowhere}
+use Rattle.dwexpr_c.specs.inner.Places.{IsGiven, AsksNowhere, HoldsNowhere, SomeNowhere}
 use Rattle.dwexpr_c.specs.inner.Runs.{given_at}
 use Rattle.dwexpr_c.specs.declared.steps.DwexprStep.{DwexprStep}
 use Rattle.dwexpr_c.specs.declared.steps.DwexprText.{DwexprText}

@@ -1,5 +1,5 @@
 -- The steps that a caller gives, one after another, come to what the meaning of all that they told gives.
-use Rattle.std.proofs.Common.{ℕ, suc, ◌≡◌, ◌∙◌, ◌⊎◌, inl, inr, ◌++◌, ◌≤◌, List, [], ◌∷◌, map, take, slice_get, Option, Some, None, Result, Ok, Err, length, refl, sym, ap, subst, arith}
+use Rattle.std.proofs.Common.{ℕ, suc, ◌≡◌, ◌∙◌, inl, inr, ◌++◌, ◌≤◌, List, [], ◌∷◌, map, take, slice_get, Option, Some, None, Result, Ok, Err, length, refl, sym, ap, subst}
 use Rattle.std.proofs.lemmas.List.{map-append, take_all}
 use Rattle.std.proofs.lemmas.Option.{slice_get_within, get_or_from_slice_get}
 use Rattle.std.proofs.Math.Seq.{take-suc, take-append_seam}
@@ -14,20 +14,19 @@ use Rattle.dwarf_meaning.specs.Stores.{Limits, Refusal, Never, After}
 use Rattle.dwarf_meaning.specs.Kinds.{kind_of_answer}
 use Rattle.dwarf_eval.specs.Calls.{Evaluates, IsClosed, IsTold, MayPick, Resumes, input_of, reply_of, told_of}
 use Rattle.dwarf_eval.specs.declared.op.results.EvaluationResult.{EvaluationResult}
-use Rattle.dwarf_replay.specs.Replays.{StandsAt, IsAsking, IsStopped, Tells, WalksTo, told_at}
+use Rattle.dwarf_replay.specs.Replays.{StandsAt, IsAsking, IsStopped, Tells, told_at}
 use Rattle.dwarf_replay.specs.Stepping.{IsAskingFor, IsCalled, IsSet, MayTake}
 use Rattle.dwarf_replay.proofs.Standings.{Went, went_at_first}
 use Rattle.dwarf_replay.proofs.Settings.{set_went_on}
 use Rattle.dwarf_replay.proofs.Calling.{called_went_on}
 use Rattle.dwarf_replay.proofs.Leading.{walks_all, walks_to}
-use Rattle.dwexpr_c.specs.Codes.{code_of_fault, number_of_fault, misplaced}
-use Rattle.dwexpr_c.specs.Evaluated.{AreTaken, EndsBy, Given, IsEnded, IsMisplaced, IsNoFault, MayAll, MeetsFault, capacities, comes_of, told_by}
-use Rattle.dwexpr_c.specs.Outcomes.{ShowsReply, ShowsRequest, asking, ended, untold}
+use Rattle.dwexpr_c.specs.Evaluated.{AreTaken, EndsBy, Given, IsEnded, IsNoFault, capacities, comes_of, told_by}
+use Rattle.dwexpr_c.specs.Outcomes.{ShowsReply, asking, ended, untold}
 use Rattle.dwexpr_c.specs.Steps.{step_in}
 use Rattle.dwexpr_c.specs.Texts.{text_of_placed}
 use Rattle.dwexpr_c.specs.inner.Runs.{RanAll, given_at}
 use Rattle.dwexpr_c.specs.inner.Places.{AsksNowhere, IsGiven}
-use Rattle.dwexpr_c.specs.inner.Stepping.{Answered, Does, Failed, Misplaced, ShowsStatus, Unplaced, plain_end}
+use Rattle.dwexpr_c.specs.inner.Stepping.{Does, ShowsStatus}
 use Rattle.dwexpr_c.specs.declared.faults.FaultNumbers.{FaultNumbers}
 use Rattle.dwexpr_c.specs.declared.outcomes.DwexprOutcome.{DwexprOutcome}
 use Rattle.dwexpr_c.specs.declared.places.Placed.{Placed}

@@ -1,5 +1,5 @@
 -- Where in a caller's texts the bytes of a block are, if anywhere.
-use Rattle.std.specs.Prelude.{ℕ, ◌+◌, ◌≡◌, ◌≤◌, List, Option, Some, length, slice_get, slice_range}
+use Rattle.std.specs.Prelude.{ℕ, ◌+◌, ◌≡◌, ◌≤◌, List, Some, length, slice_get, slice_range}
 use Rattle.dwarf_meaning.specs.Locations.{Location, HoldsBytes, Piece}
 use Rattle.dwarf_meaning.specs.Requests as asked
 use Rattle.dwarf_meaning.specs.Steps.{Reply, Asked}

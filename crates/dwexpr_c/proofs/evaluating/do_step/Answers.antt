@@ -1,4 +1,4 @@
-use Rattle.std.proofs.Common.{Ok, Err, Result, subst}
+use Rattle.std.proofs.Common.{Result, subst}
 use Rattle.dwarf_base.specs.declared.errors.Error.{Error}
 use Rattle.dwarf_eval.specs.declared.op.results.EvaluationResult.{EvaluationResult}
 use Rattle.dwarf_replay.specs.Stepping.{IsCalled, step_of}

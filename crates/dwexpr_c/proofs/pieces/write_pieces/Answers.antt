@@ -1,4 +1,4 @@
-use Rattle.std.proofs.Common.{ℕ, ◌<◌, ◌≤◌, ◌+◌, ◌≡◌, length, map, slice_get, Some, arith, ◌∙◌, sym}
+use Rattle.std.proofs.Common.{◌<◌, ◌≡◌, length, slice_get, Some, arith, ◌∙◌, sym}
 use Rattle.std.proofs.lemmas.Option.{slice_get_within}
 use Rattle.dwarf_eval.specs.Machine.{piece_of}
 use Rattle.dwexpr_c.specs.Texts.{text_of_placed}

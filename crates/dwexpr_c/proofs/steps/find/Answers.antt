@@ -1,4 +1,4 @@
-use Rattle.std.proofs.Common.{ℕ, ◌<◌, ◌≤◌, length, arith, below_more}
+use Rattle.std.proofs.Common.{◌<◌, length, arith, below_more}
 use Rattle.std.proofs.lemmas.Option.{slice_get_within}
 use Rattle.dwexpr_c.proofs.steps.find.Goals as goal
 

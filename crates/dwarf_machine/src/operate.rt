@@ -25,7 +25,7 @@ impl<R: Reader + Copy, S: EvaluationStorage<R>> Machine<R, S> {
     fn push_plain(&mut self, value: Value)
         ensures { Tried 0 (λ s. push_value self.old.setup value (record s { last = Plain })) self.old self.new }
     {
-        self.mark(LastOperation::Plain);
+        self.mark_plain();
         self.push(value);
     }
 
@@ -45,7 +45,7 @@ impl<R: Reader + Copy, S: EvaluationStorage<R>> Machine<R, S> {
     fn push_both(&mut self, first: Value, second: Value)
         ensures { Tried 1 (λ s. push_values self.old.setup (first ∷ second ∷ []) (record s { last = Plain })) self.old self.new }
     {
-        self.mark(LastOperation::Plain);
+        self.mark_plain();
         self.push_two(first, second);
     }
 
@@ -54,7 +54,7 @@ impl<R: Reader + Copy, S: EvaluationStorage<R>> Machine<R, S> {
     fn push_three(&mut self, first: Value, second: Value, third: Value)
         ensures { Tried 2 (λ s. push_values self.old.setup (first ∷ second ∷ third ∷ []) (record s { last = Plain })) self.old self.new }
     {
-        self.mark(LastOperation::Plain);
+        self.mark_plain();
         if self.push(first) {
             self.push_two(second, third);
         }
@@ -168,7 +168,7 @@ impl<R: Reader + Copy, S: EvaluationStorage<R>> Machine<R, S> {
         requires { self.old.status ≡ Running }
         ensures { Performs (Pushes self.old.store.values []) self.old self.new }
     {
-        self.mark(LastOperation::Plain);
+        self.mark_plain();
     }
 
     /// Drops the top.
@@ -181,7 +181,7 @@ impl<R: Reader + Copy, S: EvaluationStorage<R>> Machine<R, S> {
             self.fall_short();
             return;
         };
-        self.mark(LastOperation::Plain);
+        self.mark_plain();
     }
 
     /// Pushes a copy of the value that is this far below the top.
@@ -279,7 +279,7 @@ impl<R: Reader + Copy, S: EvaluationStorage<R>> Machine<R, S> {
         requires { self.old.status ≡ Running }
         ensures { Performs (Branches self.old.store.values target) self.old self.new }
     {
-        self.mark(LastOperation::Plain);
+        self.mark_plain();
         let place = self.place();
         self.jump(place.wrapping_add(R::Offset::from_i16(target)));
     }

@@ -54,7 +54,7 @@ refused_in a b c text x rest (Err u) h k refused = record {
   front = h.done ++ k.front;
   rest = k.rest ++ rest;
   whole = h.whole ∙ ap (λ z. h.done ++ (z ++ rest)) k.whole ∙ ap (λ z. h.done ++ z) (append_assoc k.front k.rest rest)
-    ∙ sym (append_assoc h.done k.front (k.rest ++ rest));
+      ∙ sym (append_assoc h.done k.front (k.rest ++ rest));
   written = appends_both a b c h.done k.front (h.done ++ k.front) refl h.written k.written;
 }
 

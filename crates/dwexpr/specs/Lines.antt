@@ -66,11 +66,13 @@ request_line RequiresFrameBase = line (codes "frame-base") []
 request_line (RequiresTls index) = line (codes "tls") (hexadecimal index ∷ [])
 request_line RequiresCallFrameCfa = line (codes "cfa") []
 request_line (RequiresAtLocation (op.UnitRef offset)) = line (codes "location") (codes "unit" ∷ decimal offset ∷ [])
-request_line (RequiresAtLocation (op.DebugInfoRef offset)) = line (codes "location") (codes "info" ∷ decimal offset ∷ [])
+request_line (RequiresAtLocation (op.DebugInfoRef offset)) =
+    line (codes "location") (codes "info" ∷ decimal offset ∷ [])
 request_line (RequiresEntryValue expression) = line (codes "entry") (bytes_word expression.bytes ∷ [])
 request_line (RequiresParameterRef offset) = line (codes "parameter") (decimal offset ∷ [])
 request_line (RequiresRelocatedAddress address) = line (codes "relocated") (hexadecimal address ∷ [])
-request_line (RequiresIndexedAddress index relocate) = line (codes "indexed") (decimal index ∷ relocate_word relocate ∷ [])
+request_line (RequiresIndexedAddress index relocate) =
+    line (codes "indexed") (decimal index ∷ relocate_word relocate ∷ [])
 request_line (RequiresBaseType base_type) = line (codes "type") (decimal base_type ∷ [])
 
 -- what a call answers

@@ -23,12 +23,9 @@ fn print_plain_fault<W: Write>(output: &mut W, name: &'static str) -> io::Result
 }
 
 /// A fault that carries a number.
-fn print_numbered_fault<W: Write>(
-    output: &mut W,
-    name: &'static str,
-    number: u64,
-) -> io::Result<()>
-    ensures { Prints (W.contents output.old) (W.contents output.new) (line (codes "fault") (name.now ∷ decimal number ∷ [])) result }
+fn print_numbered_fault<W: Write>(output: &mut W, name: &'static str, number: u64) -> io::Result<()>
+    ensures { Prints (W.contents output.old) (W.contents output.new)
+        (line (codes "fault") (name.now ∷ decimal number ∷ [])) result }
 {
     put_line(output, "fault", &[Word::Name(name), Word::Number(number)])
 }
@@ -94,7 +91,8 @@ fn number_word(number: Option<u64>) -> Word<'static>
 
 /// The line of a piece.
 pub(crate) fn print_piece<W: Write>(output: &mut W, piece: Piece<Text<'_>>) -> io::Result<()>
-    ensures { Prints (W.contents output.old) (W.contents output.new) (piece_line (piece_of text_in (λ x. x) piece.entry)) result }
+    ensures { Prints (W.contents output.old) (W.contents output.new)
+        (piece_line (piece_of text_in (λ x. x) piece.entry)) result }
 {
     let size = number_word(piece.size_in_bits);
     let offset = number_word(piece.bit_offset);
@@ -102,15 +100,27 @@ pub(crate) fn print_piece<W: Write>(output: &mut W, piece: Piece<Text<'_>>) -> i
         Location::Empty => put_line(output, "piece", &[size, offset, Word::Name("empty")]),
         Location::Register { register } => {
             let number = Word::Number(u64::from(register.0));
-            put_line(output, "piece", &[size, offset, Word::Name("register"), number])
+            put_line(
+                output,
+                "piece",
+                &[size, offset, Word::Name("register"), number],
+            )
         }
         Location::Address { address } => {
             let number = Word::Hexadecimal(address);
-            put_line(output, "piece", &[size, offset, Word::Name("address"), number])
+            put_line(
+                output,
+                "piece",
+                &[size, offset, Word::Name("address"), number],
+            )
         }
         Location::Value { value } => {
             let content = Word::Value(value);
-            put_line(output, "piece", &[size, offset, Word::Name("value"), content])
+            put_line(
+                output,
+                "piece",
+                &[size, offset, Word::Name("value"), content],
+            )
         }
         Location::Bytes { value } => {
             let block = Word::Bytes(value);
@@ -119,7 +129,11 @@ pub(crate) fn print_piece<W: Write>(output: &mut W, piece: Piece<Text<'_>>) -> i
         Location::ImplicitPointer { value, byte_offset } => {
             let object = Word::Number(value.0.into_u64());
             let into = Word::Integer(byte_offset);
-            put_line(output, "piece", &[size, offset, Word::Name("pointer"), object, into])
+            put_line(
+                output,
+                "piece",
+                &[size, offset, Word::Name("pointer"), object, into],
+            )
         }
     }
 }
@@ -154,7 +168,8 @@ fn print_numbered<W: Write>(output: &mut W, name: &str, number: u64) -> io::Resu
 
 /// The request of an expression at an entry.
 fn print_reference<W: Write>(output: &mut W, reference: DieReference<usize>) -> io::Result<()>
-    ensures { Prints (W.contents output.old) (W.contents output.new) (request_line (RequiresAtLocation (reference_of (λ x. x) reference))) result }
+    ensures { Prints (W.contents output.old) (W.contents output.new)
+        (request_line (RequiresAtLocation (reference_of (λ x. x) reference))) result }
 {
     match reference {
         DieReference::UnitRef(offset) => {
@@ -170,7 +185,8 @@ fn print_reference<W: Write>(output: &mut W, reference: DieReference<usize>) -> 
 
 /// The line of what a call of the evaluation answered.
 fn print_result<W: Write>(output: &mut W, answer: EvaluationResult<Text<'_>>) -> io::Result<()>
-    ensures { Prints (W.contents output.old) (W.contents output.new) (reply_line (told_of text_in (λ x. x) answer.entry)) result }
+    ensures { Prints (W.contents output.old) (W.contents output.new)
+        (reply_line (told_of text_in (λ x. x) answer.entry)) result }
 {
     match answer {
         EvaluationResult::Complete => put_line(output, "complete", &[]),
@@ -228,11 +244,9 @@ fn print_result<W: Write>(output: &mut W, answer: EvaluationResult<Text<'_>>) ->
 }
 
 /// The line of what one call of the evaluation gave.
-pub(crate) fn print_answer<W: Write>(
-    output: &mut W,
-    answer: Answer<Text<'_>>,
-) -> io::Result<()>
-    ensures { Prints (W.contents output.old) (W.contents output.new) (reply_line (reply_of text_in (λ x. x) answer.entry.0)) result }
+pub(crate) fn print_answer<W: Write>(output: &mut W, answer: Answer<Text<'_>>) -> io::Result<()>
+    ensures { Prints (W.contents output.old) (W.contents output.new)
+        (reply_line (reply_of text_in (λ x. x) answer.entry.0)) result }
 {
     match answer.0 {
         Ok(result) => print_result(output, result),

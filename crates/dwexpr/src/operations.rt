@@ -110,7 +110,8 @@ pub(crate) fn print_operations<W: Write>(
     bytes: &[u8],
     reading: Reading,
 ) -> io::Result<bool>
-    ensures { Lists (W.contents output.old) (W.contents output.new) (listing_of reading.encoding (is_big_of reading.order) bytes.now) result }
+    ensures { Lists (W.contents output.old) (W.contents output.new)
+        (listing_of reading.encoding (is_big_of reading.order) bytes.now) result }
 {
     let mut left = EndianSlice::new(bytes, reading.order);
     let mut place: usize = 0;

@@ -1,15 +1,26 @@
-ghost use Rattle.std.specs.Prelude.{◌<◌, ◌≤◌};
+ghost use Rattle.std.specs.Prelude.{◌<◌, ◌≤◌, ◌-◌, ◌^◌, length, map};
+ghost use Rattle.dwarf_base.specs.ByteOrder.{is_big_of};
+ghost use Rattle.dwarf_eval.specs.Machine.{piece_of};
+ghost use Rattle.dwarf_replay.specs.Replays.{replies_in, steps_of};
+ghost use Rattle.dwexpr.specs.Evaluates.{Evaluates, behind_answers, setup_in, unset};
+ghost use Rattle.dwexpr.specs.Lines.{listing_of, piece_lines, reply_lines};
+ghost use Rattle.dwexpr.specs.Runs as runs;
+ghost use Rattle.dwexpr.specs.Runs.{Ending, Ends, complete, listed, standing};
+ghost use Rattle.dwexpr.specs.inner.Replayed.{HasLine, ending_of};
+ghost use Rattle.dwexpr.specs.Writing.{Prints, text_in};
 
 use crate::hexadecimal::{HexFault, bytes_of};
 use crate::lines::{print_answer, print_piece, print_value_line};
 use crate::operations::print_operations;
 use crate::steps::{StepsFault, borrow_steps, steps_in};
 use crate::words::{Command, Reading, command_of, reading_of};
-use crate::writing::Text;
+use crate::writing::{Text, Word, put_line};
 use dwarf_base::EndianSlice;
 use dwarf_expr::eval::{Evaluation, Status};
-use dwarf_expr::replay::{Replayed, Step, replay};
+use dwarf_expr::op::Piece;
+use dwarf_expr::replay::{Answer, Replayed, Step, replay};
 use dwarf_expr::store::StoreOnHeap;
+use dwarf_value::Value;
 use std::alloc::Allocator;
 use std::io;
 use std::io::{ErrorKind, Read, Write};
@@ -22,34 +33,125 @@ const FAILED: u8 = 1;
 const MISUSED: u8 = 2;
 
 /// Prints that the words are not those of the program.
-fn bad_words<W: Write>(output: &mut W) -> io::Result<u8> {
-    writeln!(output, "bad words")?;
+fn bad_words<W: Write>(output: &mut W) -> io::Result<u8>
+    ensures { Ends (W.contents output.old) (W.contents output.new) runs.bad_words result }
+{
+    put_line(output, "bad words", &[])?;
     Ok(MISUSED)
 }
 
 /// Prints that there was no memory.
-fn no_memory<W: Write>(output: &mut W) -> io::Result<u8> {
-    writeln!(output, "no memory")?;
+fn no_memory<W: Write>(output: &mut W) -> io::Result<u8>
+    ensures { Ends (W.contents output.old) (W.contents output.new) runs.no_memory result }
+{
+    put_line(output, "no memory", &[])?;
     Ok(FAILED)
+}
+
+/// Prints that the line of this number is no step.
+fn bad_step<W: Write>(output: &mut W, number: usize) -> io::Result<u8>
+    ensures { Ends (W.contents output.old) (W.contents output.new) (runs.bad_step number) result }
+{
+    put_line(output, "bad step", &[Word::Number(number as u64)])?;
+    Ok(MISUSED)
+}
+
+/// Prints that the step at this index, from 0, isn't allowed.
+fn misplaced<W: Write>(output: &mut W, index: usize) -> io::Result<u8>
+    requires { index < 2 ^ 64 - 1 }
+    ensures { Ends (W.contents output.old) (W.contents output.new) (runs.misplaced index) result }
+{
+    put_line(output, "misplaced", &[Word::Number(index as u64 + 1)])?;
+    Ok(MISUSED)
+}
+
+/// Prints what each call of the evaluation gave.
+fn print_answers<W: Write>(output: &mut W, answers: &[Answer<Text<'_>>]) -> io::Result<()>
+    ensures { Prints (W.contents output.old) (W.contents output.new)
+        (reply_lines (replies_in text_in (λ x. x) answers.now)) result }
+{
+    for answer in answers {
+        print_answer(output, *answer)?;
+    }
+    Ok(())
+}
+
+fn print_pieces<W: Write>(output: &mut W, pieces: &[Piece<Text<'_>>]) -> io::Result<()>
+    ensures { Prints (W.contents output.old) (W.contents output.new)
+        (piece_lines (map (piece_of text_in (λ x. x)) pieces.now)) result }
+{
+    for piece in pieces {
+        print_piece(output, *piece)?;
+    }
+    Ok(())
+}
+
+/// Prints the pieces and the value of a complete evaluation.
+fn print_complete<W: Write>(
+    output: &mut W,
+    value: Option<Value>,
+    pieces: &[Piece<Text<'_>>],
+) -> io::Result<u8>
+    ensures { Ends (W.contents output.old) (W.contents output.new)
+        (complete (map (piece_of text_in (λ x. x)) pieces.now) value) result }
+{
+    print_pieces(output, pieces)?;
+    print_value_line(output, value)?;
+    Ok(DONE)
 }
 
 /// Prints what came out of the evaluation, where it is complete.
 fn print_outcome<A: Allocator + Copy, W: Write>(
     output: &mut W,
     evaluation: &Evaluation<Text<'_>, StoreOnHeap<A>>,
-) -> io::Result<u8> {
+) -> io::Result<u8>
+    ensures { Ends (W.contents output.old) (W.contents output.new)
+        (standing evaluation.now evaluation.now.status) result }
+{
     match evaluation.status() {
-        Status::Complete => {
-            for piece in evaluation.as_result() {
-                print_piece(output, *piece)?;
-            }
-            print_value_line(output, evaluation.value_result())?;
-            Ok(DONE)
-        }
+        Status::Complete => print_complete(
+            output,
+            evaluation.value_result(),
+            evaluation.as_result(),
+        ),
         Status::Failed(_) => Ok(FAILED),
         Status::Start { initial: _ } => Ok(DONE),
         Status::Waiting(_) => Ok(DONE),
     }
+}
+
+/// Prints what stands behind the answers.
+fn print_end<A: Allocator + Copy, W: Write>(
+    output: &mut W,
+    evaluation: &Evaluation<Text<'_>, StoreOnHeap<A>>,
+    replayed: Replayed<Text<'_>>,
+) -> io::Result<u8>
+    requires { HasLine replayed }
+    ensures { Ends (W.contents output.old) (W.contents output.new) (ending_of evaluation.now replayed.entry) result }
+{
+    match replayed {
+        Replayed::Done => print_outcome(output, evaluation),
+        Replayed::Misplaced(index) => misplaced(output, index),
+        Replayed::NoRoom {
+            index: _,
+            answer: _,
+        } => no_memory(output),
+    }
+}
+
+/// Prints the answers, and what stands behind them.
+fn print_replay<A: Allocator + Copy, W: Write>(
+    output: &mut W,
+    answers: &[Answer<Text<'_>>],
+    evaluation: &Evaluation<Text<'_>, StoreOnHeap<A>>,
+    replayed: Replayed<Text<'_>>,
+) -> io::Result<u8>
+    requires { HasLine replayed }
+    ensures { Ends (W.contents output.old) (W.contents output.new)
+        (behind_answers (replies_in text_in (λ x. x) answers.now) (ending_of evaluation.now replayed.entry)) result }
+{
+    print_answers(output, answers)?;
+    print_end(output, evaluation, replayed)
 }
 
 /// Does the steps on the bytes, and prints each answer and what comes out.
@@ -62,6 +164,12 @@ fn evaluate<'a, A: Allocator + Copy, W: Write>(
 ) -> io::Result<u8>
     requires some { 0 < reading.encoding.address_size }
     requires fits { reading.encoding.address_size ≤ 8 }
+    requires few { length steps.now < 2 ^ 63 }
+    ensures { (ending : Ending)
+        × Evaluates (setup_in reading.encoding)
+        (record { bytes = bytes.now; is_big = is_big_of reading.order }) unset
+        (steps_of text_in steps.now) ending
+        × Ends (W.contents output.old) (W.contents output.new) ending result }
 {
     let text = EndianSlice::new(bytes, reading.order);
     let mut evaluation: Evaluation<_, StoreOnHeap<A>> = Evaluation::new(
@@ -71,21 +179,7 @@ fn evaluate<'a, A: Allocator + Copy, W: Write>(
     );
     let mut answers = Vec::new(alloc);
     let replayed = replay(&mut evaluation, steps, &mut answers);
-    for answer in answers.as_slice() {
-        print_answer(output, *answer)?;
-    }
-    match replayed {
-        Replayed::Done => print_outcome(output, &evaluation),
-        Replayed::Misplaced(index) => {
-            let line = index.saturating_add(1);
-            writeln!(output, "misplaced {line}")?;
-            Ok(MISUSED)
-        }
-        Replayed::NoRoom {
-            index: _,
-            answer: _,
-        } => no_memory(output),
-    }
+    print_replay(output, answers.as_slice(), &evaluation, replayed)
 }
 
 /// Judges the lines, and evaluates the bytes in the steps that they say.
@@ -101,10 +195,7 @@ fn run_lines<A: Allocator + Copy, W: Write>(
 {
     let owned = match steps_in(alloc, lines) {
         Ok(steps) => steps,
-        Err(StepsFault::Bad(line)) => {
-            writeln!(output, "bad step {line}")?;
-            return Ok(MISUSED);
-        }
+        Err(StepsFault::Bad(number)) => return bad_step(output, number),
         Err(StepsFault::NoMemory) => return no_memory(output),
     };
     match borrow_steps(alloc, owned.as_slice(), reading.order) {
@@ -135,7 +226,10 @@ fn run_eval<A: Allocator + Copy, I: Read + Drop, W: Write>(
 }
 
 /// Lists the operations of the bytes.
-fn run_ops<W: Write>(bytes: &[u8], reading: Reading, output: &mut W) -> io::Result<u8> {
+fn run_ops<W: Write>(bytes: &[u8], reading: Reading, output: &mut W) -> io::Result<u8>
+    ensures { Ends (W.contents output.old) (W.contents output.new)
+        (listed (listing_of reading.encoding (is_big_of reading.order) bytes.now)) result }
+{
     if print_operations(output, bytes, reading)? {
         Ok(DONE)
     } else {

@@ -1,8 +1,17 @@
-ghost use Rattle.std.specs.Prelude.{◌<◌, length};
+ghost use Rattle.std.specs.Prelude.{◌≡◌, ◌==◌, ◌<◌, Bool, ℕ, length, map, None, Some, IfOk, IsSome, Ok, option_map};
+ghost use Rattle.std.specs.List.{position};
+ghost use Rattle.std.specs.Str.Lines.{strip_carriage_return};
+ghost use Rattle.dwarf_base.specs.ByteOrder.{is_big_of};
+ghost use Rattle.dwarf_replay.specs.Replays.{steps_of};
+ghost use Rattle.dwarf_replay.specs.Stepping.{step_of};
+ghost use Rattle.dwexpr.specs.Steps as spec;
+ghost use Rattle.dwexpr.specs.Steps.{ReadsStep, ReadsSteps, lines_in, step_owned};
+ghost use Rattle.dwexpr.specs.Writing.{text_in};
 
 use crate::hexadecimal::{HexFault, bytes_of};
 use crate::numbers::number_of;
 use crate::values::{type_of, value_of};
+use crate::writing::Text;
 use dwarf_base::{EndianSlice, RunTimeEndian};
 use dwarf_expr::replay::Step;
 use std::alloc::{AllocError, Allocator};
@@ -15,19 +24,29 @@ struct Line<'a> {
 }
 
 /// The text without a carriage return at its end.
-fn without_return(text: &[u8]) -> &[u8] {
+fn without_return(text: &[u8]) -> &[u8]
+    ensures { result.now ≡ strip_carriage_return text.now }
+{
     match text {
         [front @ .., b'\r'] => front,
         _ => text,
     }
 }
 
+/// Where the first line feed stands.
+fn line_feed_in(input: &[u8]) -> Option<usize>
+    ensures { result ≡ position (λ byte. byte == 10) input.now }
+{
+    input.iter().position(|byte| *byte == b'\n')
+}
+
 /// The first line: up to a line feed, or all of the input where there is none.
 fn first_line(input: &[u8]) -> Line<'_>
     requires { 0 < length input.now }
-    ensures { length result.rest.now < length input.now }
+    ensures line { (result.text.now, result.rest.now) ≡ spec.first_line input.now }
+    ensures less { length result.rest.now < length input.now }
 {
-    match input.iter().position(|byte| *byte == b'\n') {
+    match line_feed_in(input) {
         Some(end) => Line {
             text: without_return(&input[..end]),
             rest: &input[end + 1..],
@@ -43,14 +62,16 @@ fn first_line(input: &[u8]) -> Line<'_>
 #[derive(Drop)]
 pub(crate) enum OwnedStep<A: Allocator> {
     /// A step that has none.
-    Plain(Step<EndianSlice<'static, RunTimeEndian>>),
+    Plain(Step<Text<'static>>),
     /// The answer that is a text.
     Location(Vec<u8, A>),
 }
 
 impl<A: Allocator> OwnedStep<A> {
     /// The step, with its text read in this order.
-    fn borrowed(&self, order: RunTimeEndian) -> Step<EndianSlice<'_, RunTimeEndian>> {
+    fn borrowed(&self, order: RunTimeEndian) -> Step<Text<'_>>
+        ensures { step_of text_in result ≡ step_owned (is_big_of order) self.now }
+    {
         match self {
             OwnedStep::Plain(step) => *step,
             OwnedStep::Location(bytes) => {
@@ -69,53 +90,66 @@ enum LineFault {
     NoMemory,
 }
 
-impl From<HexFault> for LineFault {
-    fn from(fault: HexFault) -> LineFault {
-        match fault {
-            HexFault::Bad => LineFault::Bad,
-            HexFault::NoMemory => LineFault::NoMemory,
-        }
-    }
-}
-
 /// The step of this name, with the word that follows it, unless its text has to be kept.
-fn plain_step<R>(name: &str, word: &str) -> Option<Step<R>> {
-    Some(match name.as_bytes() {
-        b"initial" => Step::InitialValue(number_of(word)?),
-        b"object" => Step::ObjectAddress(number_of(word)?),
-        b"max" => Step::MaxIterations(u32::try_from(number_of(word)?).ok()?),
-        b"memory" => Step::Memory(value_of(word)?),
-        b"register" => Step::Register(value_of(word)?),
-        b"wasm" => Step::WasmValue(value_of(word)?),
-        b"entry" => Step::EntryValue(value_of(word)?),
-        b"frame" => Step::FrameBase(number_of(word)?),
-        b"tls" => Step::Tls(number_of(word)?),
-        b"cfa" => Step::CallFrameCfa(number_of(word)?),
-        b"parameter" => Step::ParameterRef(number_of(word)?),
-        b"relocated" => Step::RelocatedAddress(number_of(word)?),
-        b"indexed" => Step::IndexedAddress(number_of(word)?),
-        b"type" => Step::BaseType(type_of(word)?),
+fn plain_step(name: &str, word: &str) -> Option<Step<Text<'static>>>
+    ensures { option_map (step_of text_in) result ≡ spec.plain_step_in name.now word.now }
+{
+    Some(match name {
+        "initial" => Step::InitialValue(number_of(word)?),
+        "object" => Step::ObjectAddress(number_of(word)?),
+        "max" => Step::MaxIterations(u32::try_from(number_of(word)?).ok()?),
+        "memory" => Step::Memory(value_of(word)?),
+        "register" => Step::Register(value_of(word)?),
+        "wasm" => Step::WasmValue(value_of(word)?),
+        "entry" => Step::EntryValue(value_of(word)?),
+        "frame" => Step::FrameBase(number_of(word)?),
+        "tls" => Step::Tls(number_of(word)?),
+        "cfa" => Step::CallFrameCfa(number_of(word)?),
+        "parameter" => Step::ParameterRef(number_of(word)?),
+        "relocated" => Step::RelocatedAddress(number_of(word)?),
+        "indexed" => Step::IndexedAddress(number_of(word)?),
+        "type" => Step::BaseType(type_of(word)?),
         _ => return None,
     })
 }
 
-/// The step that a line says, in words parted by one space.
-fn step_in<A: Allocator>(alloc: A, line: &[u8]) -> Result<OwnedStep<A>, LineFault> {
-    let Ok(line) = str::from_utf8(line) else {
-        return Err(LineFault::Bad);
-    };
-    if line == "evaluate" {
-        return Ok(OwnedStep::Plain(Step::Evaluate));
-    }
-    let Some((name, word)) = line.split_once(' ') else {
-        return Err(LineFault::Bad);
-    };
+/// The step of this name, with the word that follows it.
+fn named_step<A: Allocator>(alloc: A, name: &str, word: &str) -> Result<OwnedStep<A>, LineFault>
+    ensures { (big : Bool) → ReadsStep big (spec.named_step_in big name.now word.now) result }
+{
     if name == "location" {
-        return Ok(OwnedStep::Location(bytes_of(alloc, word)?));
+        return match bytes_of(alloc, word) {
+            Ok(bytes) => Ok(OwnedStep::Location(bytes)),
+            Err(HexFault::Bad) => Err(LineFault::Bad),
+            Err(HexFault::NoMemory) => Err(LineFault::NoMemory),
+        };
     }
     match plain_step(name, word) {
         Some(step) => Ok(OwnedStep::Plain(step)),
         None => Err(LineFault::Bad),
+    }
+}
+
+/// The step that a text says, in words parted by one space.
+fn text_step<A: Allocator>(alloc: A, text: &str) -> Result<OwnedStep<A>, LineFault>
+    ensures { (big : Bool) → ReadsStep big (spec.text_step_in big text.now) result }
+{
+    if text == "evaluate" {
+        return Ok(OwnedStep::Plain(Step::Evaluate));
+    }
+    match text.split_once(' ') {
+        Some((name, word)) => named_step(alloc, name, word),
+        None => Err(LineFault::Bad),
+    }
+}
+
+/// The step that a line says.
+fn step_in<A: Allocator>(alloc: A, line: &[u8]) -> Result<OwnedStep<A>, LineFault>
+    ensures { (big : Bool) → ReadsStep big (spec.step_in big line.now) result }
+{
+    match str::from_utf8(line) {
+        Ok(text) => text_step(alloc, text),
+        Err(_) => Err(LineFault::Bad),
     }
 }
 
@@ -132,7 +166,9 @@ pub(crate) enum StepsFault {
 pub(crate) fn steps_in<A: Allocator + Copy>(
     alloc: A,
     input: &[u8],
-) -> Result<Vec<OwnedStep<A>, A>, StepsFault> {
+) -> Result<Vec<OwnedStep<A>, A>, StepsFault>
+    ensures { (big : Bool) → ReadsSteps big (spec.steps_in big (lines_in input.now)) result }
+{
     let mut steps = Vec::new(alloc);
     let mut left = input;
     while !left.is_empty() {
@@ -142,10 +178,10 @@ pub(crate) fn steps_in<A: Allocator + Copy>(
             Err(LineFault::Bad) => return Err(StepsFault::Bad(steps.len().saturating_add(1))),
             Err(LineFault::NoMemory) => return Err(StepsFault::NoMemory),
         };
-        if steps.push(step).is_err() {
-            return Err(StepsFault::NoMemory);
+        match steps.push(step) {
+            Ok(()) => left = line.rest,
+            Err(_) => return Err(StepsFault::NoMemory),
         }
-        left = line.rest;
     }
     Ok(steps)
 }
@@ -155,6 +191,13 @@ pub(crate) fn borrow_steps<A: Allocator + Copy>(
     alloc: A,
     steps: &[OwnedStep<A>],
     order: RunTimeEndian,
-) -> Result<Vec<Step<EndianSlice<'_, RunTimeEndian>>, A>, AllocError> {
-    steps.iter().map(|step| step.borrowed(order)).collect(alloc)
+) -> Result<Vec<Step<Text<'_>>, A>, AllocError>
+    ensures { IfOk result (λ borrowed.
+        steps_of text_in borrowed.items ≡ map (step_owned (is_big_of order)) steps.now) }
+{
+    let mut borrowed = Vec::new(alloc);
+    for step in steps {
+        borrowed.push(step.borrowed(order))?;
+    }
+    Ok(borrowed)
 }

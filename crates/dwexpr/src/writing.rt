@@ -83,12 +83,7 @@ fn put_digits<W: Write>(output: &mut W, base: u64, number: u64) -> io::Result<()
 }
 
 /// Lower case digits behind the prefix.
-fn put_number<W: Write>(
-    output: &mut W,
-    prefix: &str,
-    base: u64,
-    number: u64,
-) -> io::Result<()>
+fn put_number<W: Write>(output: &mut W, prefix: &str, base: u64, number: u64) -> io::Result<()>
     requires least { 2 ≤ base }
     requires most { base ≤ 16 }
     ensures { Prints (W.contents output.old) (W.contents output.new) (prefix.now ++ digits base false number) result }
@@ -137,7 +132,10 @@ fn put_bytes<W: Write>(output: &mut W, bytes: Text<'_>) -> io::Result<()>
         let Ok(byte) = left.read_u8() else {
             return Ok(());
         };
-        put(output, &[digit(u64::from(byte / 16)), digit(u64::from(byte % 16))])?;
+        put(
+            output,
+            &[digit(u64::from(byte / 16)), digit(u64::from(byte % 16))],
+        )?;
     }
     Ok(())
 }
@@ -192,11 +190,7 @@ fn put_ending<W: Write>(output: &mut W, words: &[Word<'_>]) -> io::Result<()>
 }
 
 /// A line: the first word, each further one behind a blank, and a line feed.
-pub(crate) fn put_line<W: Write>(
-    output: &mut W,
-    first: &str,
-    words: &[Word<'_>],
-) -> io::Result<()>
+pub(crate) fn put_line<W: Write>(output: &mut W, first: &str, words: &[Word<'_>]) -> io::Result<()>
     ensures { Prints (W.contents output.old) (W.contents output.new) (line first.now (map word_text words.now)) result }
 {
     put_text(output, first)?;
@@ -209,7 +203,8 @@ pub(crate) fn put_numbered_line<W: Write>(
     first: u64,
     words: &[Word<'_>],
 ) -> io::Result<()>
-    ensures { Prints (W.contents output.old) (W.contents output.new) (line (decimal first) (map word_text words.now)) result }
+    ensures { Prints (W.contents output.old) (W.contents output.new)
+        (line (decimal first) (map word_text words.now)) result }
 {
     put_digits(output, 10, first)?;
     put_ending(output, words)

@@ -13,7 +13,7 @@ pub returns-then-number-lt0 : goal.returns-then-number-lt0
 returns-then-number-lt0 g c =
     let same = to_z-of_z {w = w64} {z = c.args.number} c.ranges.number in
     let text = ap (λ n. codes "-" ++ decimal n) (c.unsigned_abs.ensures.value ∙ ap unsigned_abs same)
-      ∙ minus_before c.args.number (ap (λ z. int_lt z (pos 0)) (sym same) ∙ c.if-number-lt0.true) in
+    ∙ minus_before c.args.number (ap (λ z. int_lt z (pos 0)) (sym same) ∙ c.if-number-lt0.true) in
     last_of _ _ _ _ (signed_decimal c.args.number) _
     (more_of _ _ _ _ c.args.prefix.now _ (begun _ _) c.in_ok-put_text.ensures)
     (prints_as _ _ _ _ _ text c.put_number.ensures)
@@ -22,7 +22,7 @@ pub returns-else-number-lt0 : goal.returns-else-number-lt0
 returns-else-number-lt0 g c =
     let same = to_z-of_z {w = w64} {z = c.args.number} c.ranges.number in
     let text = ap decimal (c.unsigned_abs-else-number-lt0.ensures.value ∙ ap unsigned_abs same)
-      ∙ no_minus c.args.number (ap (λ z. int_lt z (pos 0)) (sym same) ∙ c.if-number-lt0.false) in
+    ∙ no_minus c.args.number (ap (λ z. int_lt z (pos 0)) (sym same) ∙ c.if-number-lt0.false) in
     last_of _ _ _ _ (signed_decimal c.args.number) _
     (more_of _ _ _ _ c.args.prefix.now _ (begun _ _) c.in_ok-put_text.ensures)
     (prints_as _ _ _ _ _ text c.put_digits.ensures)

@@ -1,0 +1,24 @@
+use Rattle.std.proofs.Common.{sym, ◌∙◌, subst}
+use Rattle.dwarf_replay.specs.Replays.{replies_in, steps_of}
+use Rattle.dwexpr.specs.Evaluates.{Evaluates, behind_answers, setup_in, unset}
+use Rattle.dwexpr.specs.Writing.{text_in}
+use Rattle.dwexpr.specs.inner.Replayed.{ending_of}
+use Rattle.dwexpr.proofs.RunLemmas.{evaluates_as, evaluates_to, has_line, text_as, text_by, told_as}
+use Rattle.dwexpr.proofs.program.evaluate.Goals as goal
+
+pub print_replay-requires : goal.print_replay-requires
+print_replay-requires g c = has_line _ _ _ _ _ _ _ _ c.requires.few c.replay-replayed.ensures.replays
+
+pub returns : goal.returns
+returns g c =
+    let fresh = c.new-evaluation.ensures in
+    let ended = ending_of c.replay-replayed.new.eval c.replay-replayed.result in (
+      behind_answers (replies_in text_in (λ x. x) c.as_slice.result.now) ended,
+      subst
+          (λ z. Evaluates (setup_in c.args.reading.encoding) (text_by c.args.bytes.now c.args.reading.order) unset (steps_of text_in c.args.steps.now) (behind_answers (replies_in text_in (λ x. x) z) ended))
+          (sym c.as_slice.ensures.value)
+          (evaluates_as _ _ _ _ _ _ _ _ fresh.setup (fresh.text ∙ text_as _ _ _ _ c.new-text.ensures.bytes c.new-text.ensures.order)
+          (told_as c.new-evaluation.result fresh.object_address fresh.maximum)
+          (evaluates_to text_in (λ x. x) _ _ _ _ _ _ c.replay-replayed.ensures.replays)),
+      c.print_replay.ensures,
+    )

@@ -1,0 +1,65 @@
+-- What `eval` prints for the steps of its input (DWARF 5, section 2.5).
+use Rattle.std.specs.Prelude.{ℕ, suc, ◌≡◌, ◌⊎◌, ◌++◌, List, [], take, slice_get, Option, Some, None}
+use Rattle.dwarf_base.specs.declared.common.Encoding.{Encoding}
+use Rattle.dwarf_meaning.specs.Operations.{Text}
+use Rattle.dwarf_meaning.specs.Stores.{Setup, Refusal}
+use Rattle.dwarf_meaning.specs.Meaning.{Outcome, Requests, Faults, Completes}
+use Rattle.dwarf_meaning.specs.Steps.{Step, Told, Reply, Allows, AllAllowed, answers, after_steps, outcome_of}
+use Rattle.dwexpr.specs.Lines.{reply_lines}
+use Rattle.dwexpr.specs.Runs.{Ending, complete, misplaced, no_memory}
+
+-- no list has a limit
+abbrev pub setup_in : Encoding → Setup
+setup_in encoding =
+    record { encoding = encoding; offset_bits = 64; limits = record { values = None; frames = None; pieces = None } }
+
+-- no step was done
+abbrev pub unset : Told
+unset = record {
+  settings = record { initial_value = None; object_address = None; maximum = 4294967295 };
+  first = None;
+  inputs = [];
+}
+
+-- what comes out, behind the answers: pieces and a value, the status of a fault, or nothing
+abbrev pub outcome_ending : Option Outcome → Ending
+outcome_ending None = record { text = []; status = 0 }
+outcome_ending (Some (Requests request frames)) = record { text = []; status = 0 }
+outcome_ending (Some (Faults fault)) = record { text = []; status = 1 }
+outcome_ending (Some (Completes pieces value)) = complete pieces value
+
+-- the answers, one a line, and what is behind them
+abbrev pub behind_answers : List Reply → Ending → Ending
+behind_answers replies ending = record ending { text = reply_lines replies ++ ending.text }
+
+-- each step was allowed when it came, for some push that memory was refused to, or for none
+pub record AllDone (setup : Setup) (text : Text) (told : Told) (steps : List Step) (ending : Ending) : Type 0 where
+  pub refusal : Refusal
+  pub allowed : AllAllowed setup refusal text told steps
+  pub ending_is : ending ≡ behind_answers (answers setup refusal text told steps)
+      (outcome_ending (outcome_of setup refusal text (after_steps setup refusal text told steps)))
+
+-- the steps before one were done, and that one isn't allowed
+pub record EndsMisplaced (setup : Setup) (text : Text) (told : Told) (steps : List Step) (ending : Ending)
+    : Type 0 where
+  pub refusal : Refusal
+  pub index : ℕ
+  pub allowed : AllAllowed setup refusal text told (take index steps)
+  pub step : Step
+  pub is_next : slice_get steps index ≡ Some step
+  pub not_allowed : Allows (after_steps setup refusal text told (take index steps))
+      (outcome_of setup refusal text (after_steps setup refusal text told (take index steps))) step → ⊥
+  pub ending_is : ending ≡ behind_answers (answers setup refusal text told (take index steps)) (misplaced index)
+
+-- the steps up to one were done, and there was no memory for its answer
+pub record EndsWithoutMemory (setup : Setup) (text : Text) (told : Told) (steps : List Step) (ending : Ending)
+    : Type 0 where
+  pub refusal : Refusal
+  pub index : ℕ
+  pub allowed : AllAllowed setup refusal text told (take (suc index) steps)
+  pub ending_is : ending ≡ behind_answers (answers setup refusal text told (take index steps)) no_memory
+
+abbrev pub Evaluates : Setup → Text → Told → List Step → Ending → Type 0
+Evaluates setup text told steps ending =
+    AllDone setup text told steps ending
+    ⊎ (EndsMisplaced setup text told steps ending ⊎ EndsWithoutMemory setup text told steps ending)

@@ -1,0 +1,18 @@
+-- What is printed of an evaluation that was replayed.
+use Rattle.std.specs.Prelude.{ℕ, ◌<◌, ◌-◌, ◌^◌}
+use Rattle.dwarf_meaning.specs.Rest.{State}
+use Rattle.dwarf_replay.specs.declared.steps.Replayed.{Replayed}
+use Rattle.dwarf_replay.specs.declared.steps.Replayed.TheVariants as replayed
+use Rattle.dwexpr.specs.Runs.{Ending, misplaced, no_memory, standing}
+
+-- behind the answers
+abbrev pub ending_of : {R O P : Type 0} → State → Replayed R O P → Ending
+ending_of x replayed.Done = standing x x.status
+ending_of x (replayed.Misplaced index) = misplaced index
+ending_of x (replayed.NoRoom index answer) = no_memory
+
+-- the line of a step has a number of 64 bits
+abbrev pub HasLine : {R O P : Type 0} → Replayed R O P → Type 0
+HasLine replayed.Done = Unit {0}
+HasLine (replayed.Misplaced index) = index < 2 ^ 64 - 1
+HasLine (replayed.NoRoom index answer) = Unit {0}

@@ -1,5 +1,5 @@
 -- Two generic values on top are popped.
-use Rattle.std.proofs.Common.{ℕ, ◌≡◌, Option, Some, None, List, [], ◌∷◌, ap, ◌∙◌, sym, refl, arith, length}
+use Rattle.std.proofs.Common.{ℕ, ◌≡◌, Option, Some, None, List, [], ◌∷◌, ap, ◌∙◌, sym, arith, length}
 use Rattle.std.proofs.lemmas.Option.{none-some}
 use Rattle.std.specs.Prelude.{slice_get}
 use Rattle.std.specs.Option.{unwrap_or}
@@ -7,7 +7,7 @@ use Rattle.dwarf_value.specs.declared.types.Value.{Value}
 use Rattle.dwarf_value.specs.declared.types.Value.TheVariants.{Generic}
 use Rattle.dwarf_meaning.specs.Rest.{State}
 use Rattle.dwarf_machine.specs.inner.Steps.{Pops, PopsGenerics, with_values}
-use Rattle.dwarf_machine.proofs.Performances.{PopsTwo, pops_two}
+use Rattle.dwarf_machine.proofs.Performances.{PopsTwo}
 
 two_are : (values : List Value) (y x : Value) → slice_get values 0 ≡ Some y → slice_get values 1 ≡ Some x → (rest : List Value) × (values ≡ y ∷ x ∷ rest)
 two_are [] y x e f = absurd (none-some y e)

@@ -14,7 +14,7 @@ use Rattle.dwarf_meaning.specs.Rest.{State, Running, Stopped, with_refusal}
 use Rattle.dwarf_meaning.proofs.Counts.{OnStore, KeepsBoth, Tally, tally_of, both-push_piece}
 use Rattle.dwarf_machine.specs.Bounds.{piece_due, located_by, endings, located, faults_in}
 use Rattle.dwarf_machine.specs.Inputs.{with_status}
-use Rattle.dwarf_machine.specs.inner.Steps.{Does, Refused, Tries, Reads, ReadsPiece, Holds, before_pushes, total, ComesBy, Turns, read_to, with_last}
+use Rattle.dwarf_machine.specs.inner.Steps.{Does, Refused, Tries, ReadsPiece, Holds, before_pushes, total, ComesBy, Turns, read_to, with_last}
 use Rattle.dwarf_machine.proofs.Endings.{Ending, piece_ends}
 use Rattle.dwarf_machine.proofs.Loads.{Keeping, kept_in, piece_adds}
 use Rattle.dwarf_machine.proofs.Nearing.{nears_by}

@@ -1,5 +1,5 @@
 -- Where a location waits, the piece was read that an operation ends.
-use Rattle.std.proofs.Common.{◌≡◌, ℕ, ◌∙◌, List, Option, Some, None, Result, Ok, Err, refl, ap, sym, subst}
+use Rattle.std.proofs.Common.{◌≡◌, ℕ, List, Option, Result, Ok, Err, ap, sym, subst}
 use Rattle.dwarf_base.specs.Faults.{Fault}
 use Rattle.dwarf_meaning.specs.Operations.{Operation}
 use Rattle.dwarf_meaning.specs.Run.{piece_of}

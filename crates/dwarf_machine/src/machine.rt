@@ -4,7 +4,7 @@ ghost use Rattle.dwarf_value.specs.Values.{IsAddressMask, width_of};
 ghost use Rattle.dwarf_meaning.specs.Meaning.{has_pieces};
 ghost use Rattle.dwarf_meaning.specs.Rest.{Start, Stopped};
 ghost use Rattle.dwarf_meaning.specs.Run.{read};
-ghost use Rattle.dwarf_meaning.specs.Stores.{Located, address_bits, push_value, push_piece};
+ghost use Rattle.dwarf_meaning.specs.Stores.{Located, Plain, address_bits, push_value, push_piece};
 ghost use Rattle.dwarf_machine.specs.Bounds.{IsUnspent};
 ghost use Rattle.dwarf_machine.specs.Inputs.{IsFresh, most_iterations, with_maximum, with_object, with_status};
 ghost use Rattle.dwarf_machine.specs.Machine.{last_of, location_of, piece_of, setup_of, status_of};
@@ -141,6 +141,16 @@ impl<R: Reader + Copy, S: EvaluationStorage<R>> Machine<R, S> {
         ensures { self.new ≡ with_last (last_of (text_of R.bytes R.is_big) R.Offset.number last) self.old }
     {
         self.last = last;
+    }
+
+    /// Notes that the last operation was a plain one. Most are, so it is seldom written.
+    #[inline(always)]
+    pub(crate) fn mark_plain(&mut self)
+        ensures { self.new ≡ with_last Plain self.old }
+    {
+        if !matches!(self.last, LastOperation::Plain) {
+            self.last = LastOperation::Plain;
+        }
     }
 
     /// Of what sort the last operation was.

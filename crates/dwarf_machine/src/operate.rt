@@ -25,7 +25,7 @@ impl<R: Reader + Copy, S: EvaluationStorage<R>> Machine<R, S> {
     fn push_plain(&mut self, value: Value)
         ensures { Tried 0 (λ s. push_value self.old.setup value (record s { last = Plain })) self.old self.new }
     {
-        self.mark(LastOperation::Plain);
+        self.mark_plain();
         self.push(value);
     }
 
@@ -45,7 +45,7 @@ impl<R: Reader + Copy, S: EvaluationStorage<R>> Machine<R, S> {
     fn push_both(&mut self, first: Value, second: Value)
         ensures { Tried 1 (λ s. push_values self.old.setup (first ∷ second ∷ []) (record s { last = Plain })) self.old self.new }
     {
-        self.mark(LastOperation::Plain);
+        self.mark_plain();
         self.push_two(first, second);
     }
 
@@ -54,7 +54,7 @@ impl<R: Reader + Copy, S: EvaluationStorage<R>> Machine<R, S> {
     fn push_three(&mut self, first: Value, second: Value, third: Value)
         ensures { Tried 2 (λ s. push_values self.old.setup (first ∷ second ∷ third ∷ []) (record s { last = Plain })) self.old self.new }
     {
-        self.mark(LastOperation::Plain);
+        self.mark_plain();
         if self.push(first) {
             self.push_two(second, third);
         }
@@ -70,7 +70,7 @@ impl<R: Reader + Copy, S: EvaluationStorage<R>> Machine<R, S> {
     }
 
     /// Puts the call's answer in the place of the top.
-    #[inline(always)]
+    #[inline(never)]
     fn compute_unary(&mut self, operator: UnaryOperator)
         requires { self.old.status ≡ Running }
         ensures { Performs (unary (unary_of operator (address_bits self.old.setup)) self.old.store.values) self.old self.new }
@@ -168,7 +168,7 @@ impl<R: Reader + Copy, S: EvaluationStorage<R>> Machine<R, S> {
         requires { self.old.status ≡ Running }
         ensures { Performs (Pushes self.old.store.values []) self.old self.new }
     {
-        self.mark(LastOperation::Plain);
+        self.mark_plain();
     }
 
     /// Drops the top.
@@ -181,7 +181,7 @@ impl<R: Reader + Copy, S: EvaluationStorage<R>> Machine<R, S> {
             self.fall_short();
             return;
         };
-        self.mark(LastOperation::Plain);
+        self.mark_plain();
     }
 
     /// Pushes a copy of the value that is this far below the top.
@@ -198,7 +198,7 @@ impl<R: Reader + Copy, S: EvaluationStorage<R>> Machine<R, S> {
     }
 
     /// Swaps the two on top.
-    #[inline(always)]
+    #[inline(never)]
     fn swap(&mut self)
         requires { self.old.status ≡ Running }
         ensures { Performs (act_of self.old meaning.Swap) self.old self.new }
@@ -215,7 +215,7 @@ impl<R: Reader + Copy, S: EvaluationStorage<R>> Machine<R, S> {
     }
 
     /// Moves the top under the two below it.
-    #[inline(always)]
+    #[inline(never)]
     fn rotate(&mut self)
         requires { self.old.status ≡ Running }
         ensures { Performs (act_of self.old meaning.Rot) self.old self.new }
@@ -236,7 +236,7 @@ impl<R: Reader + Copy, S: EvaluationStorage<R>> Machine<R, S> {
     }
 
     /// Adds a constant to the top.
-    #[inline(always)]
+    #[inline(never)]
     fn add_constant(&mut self, constant: u64)
         requires { self.old.status ≡ Running }
         ensures { Performs (act_of self.old (meaning.PlusConstant constant)) self.old self.new }
@@ -279,7 +279,7 @@ impl<R: Reader + Copy, S: EvaluationStorage<R>> Machine<R, S> {
         requires { self.old.status ≡ Running }
         ensures { Performs (Branches self.old.store.values target) self.old self.new }
     {
-        self.mark(LastOperation::Plain);
+        self.mark_plain();
         let place = self.place();
         self.jump(place.wrapping_add(R::Offset::from_i16(target)));
     }
@@ -324,7 +324,7 @@ impl<R: Reader + Copy, S: EvaluationStorage<R>> Machine<R, S> {
     }
 
     /// Ends a piece at the address on top, or nowhere where the stack is empty.
-    #[inline(always)]
+    #[inline(never)]
     fn end_piece(&mut self, size_in_bits: u64, bit_offset: Option<u64>)
         requires { self.old.status ≡ Running }
         ensures { Performs (act_of self.old (meaning.Piece size_in_bits bit_offset)) self.old self.new }
@@ -354,7 +354,7 @@ impl<R: Reader + Copy, S: EvaluationStorage<R>> Machine<R, S> {
     }
 
     /// Asks for what memory holds at the address on top, in the space below it where one is named.
-    #[inline(always)]
+    #[inline(never)]
     fn dereference(&mut self, base_type: UnitOffset<R::Offset>, size: u8, space: bool)
         ensures { Performs (act_of self.old (meaning.Deref (R.Offset.number base_type.0) size space)) self.old self.new }
     {
@@ -388,7 +388,7 @@ impl<R: Reader + Copy, S: EvaluationStorage<R>> Machine<R, S> {
     }
 
     /// Asks for the address of the thread-local slot on top.
-    #[inline(always)]
+    #[inline(never)]
     fn ask_tls(&mut self)
         ensures { Performs (act_of self.old meaning.TLS) self.old self.new }
     {

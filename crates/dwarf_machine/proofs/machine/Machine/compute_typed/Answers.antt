@@ -1,4 +1,4 @@
-use Rattle.std.proofs.Common.{None, Some, sym}
+use Rattle.std.proofs.Common.{None, Some}
 use Rattle.dwarf_base.specs.declared.errors.Error.TheVariants.{NotEnoughStackItems}
 use Rattle.dwarf_machine.proofs.Performances.{performs_refuses, pops_one, pops_two}
 use Rattle.dwarf_machine.proofs.Computes.{binary_none, binary_one, binary_pushes, binary_refuses}

@@ -1,4 +1,4 @@
-use Rattle.std.proofs.Common.{◌∙◌, ◌-◌, ℕ, Option, Some, None, ap, subst, sym}
+use Rattle.std.proofs.Common.{◌∙◌, ◌-◌, ℕ, Option, Some, ap, subst, sym}
 use Rattle.dwarf_base.specs.declared.errors.Error.TheVariants.{InvalidExpressionTerminator}
 use Rattle.dwarf_meaning.specs.Locations.{Piece}
 use Rattle.dwarf_meaning.specs.Rest.{State, Stopped}

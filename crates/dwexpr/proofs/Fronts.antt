@@ -11,7 +11,7 @@ appends_both (Some a) None c x y text e h k = absurd h
 appends_both (Some a) (Some b) None x y text e h k = absurd k
 appends_both (Some a) (Some b) (Some c) x y text e h k = grind (arith, append_assoc a x y)
 
-appends_nothing : (known : Option (List ℕ)) → Appends known known []
+pub appends_nothing : (known : Option (List ℕ)) → Appends known known []
 appends_nothing None = tt
 appends_nothing (Some bytes) = sym (append-nil bytes)
 

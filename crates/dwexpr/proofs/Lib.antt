@@ -1,4 +1,5 @@
 pub mod DigitLemmas
+pub mod EndLemmas
 pub mod Fronts
 pub mod ListingLemmas
 pub mod NumberLemmas

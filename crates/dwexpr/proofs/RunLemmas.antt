@@ -1,5 +1,5 @@
 -- What is printed of an evaluation that was replayed is what its steps come to.
-use Rattle.std.proofs.Common.{◌≡◌, ◌⊎◌, inl, inr, ℕ, suc, List, ◌∷◌, [], ◌++◌, Option, Some, None, refl, sym, ◌∙◌, ap, subst, take, length, ◌<◌, ◌^◌, arith, ap₂}
+use Rattle.std.proofs.Common.{◌≡◌, ◌⊎◌, inl, inr, ℕ, suc, List, ◌∷◌, [], ◌++◌, Option, Some, None, refl, sym, ◌∙◌, ap, subst, take, length, ◌<◌, ◌^◌, arith, ap₂, Result, Ok, Err, Bool}
 use Rattle.std.proofs.lemmas.List.{length-map}
 use Rattle.std.proofs.lemmas.Option.{slice_get_within}
 use Rattle.dwarf_replay.specs.Stepping.{step_of}
@@ -19,8 +19,11 @@ use Rattle.dwarf_replay.specs.declared.steps.Answer.{Answer}
 use Rattle.dwarf_replay.specs.declared.steps.Replayed.{Replayed}
 use Rattle.dwarf_replay.specs.declared.steps.Replayed.TheVariants as replayed
 use Rattle.dwarf_replay.specs.declared.steps.Step.{Step}
-use Rattle.dwexpr.specs.Evaluates.{Evaluates, behind_answers, outcome_ending, unset}
-use Rattle.dwexpr.specs.Runs.{Ending, misplaced, no_memory, standing}
+use Rattle.dwexpr.specs.Evaluates.{Evaluates, Follows, behind_answers, outcome_ending, refused_steps, unset}
+use Rattle.dwexpr.specs.Steps.{ReadsSteps}
+use Rattle.dwexpr.specs.declared.steps.StepsFault.{StepsFault}
+use Rattle.dwexpr.specs.declared.steps.StepsFault.TheVariants as fault
+use Rattle.dwexpr.specs.Runs.{Ending, bad_step, misplaced, no_memory, standing}
 use Rattle.dwexpr.specs.inner.Replayed.{HasLine, ending_of}
 
 asking_ending : (request : Request) (frames : List Frame) (x : State) (status : Status) → IsAsking request frames x status
@@ -104,3 +107,16 @@ told_by object_address maximum = record {
 
 pub told_as : (x : State) → x.store.object_address ≡ None → x.store.maximum ≡ 4294967295 → told_at x ≡ unset
 told_as x e f = ap₂ told_by e f
+
+-- ---- what lines say
+
+pub follows_refused : (big : Bool) (setup : Setup) (text : Text) (said : Result (List meaning.Step) ℕ) (A B : Type 0) (refused : StepsFault)
+    → ReadsSteps {A = A} {B = B} big said (Err refused)
+    → Follows setup text said (refused_steps refused) ⊎ (refused_steps refused ≡ no_memory)
+follows_refused big setup text said A B (fault.Bad number) e = inl (rw e refl)
+follows_refused big setup text said A B fault.NoMemory e = inr refl
+
+pub follows_steps : (setup : Setup) (text : Text) (said : Result (List meaning.Step) ℕ) (steps told : List meaning.Step) (ending : Ending)
+    → said ≡ Ok steps → told ≡ steps → Evaluates setup text unset told ending
+    → Follows setup text said ending
+follows_steps setup text said steps told ending e f h = rw e (subst (λ z. Evaluates setup text unset z ending) f h)

@@ -1,12 +1,15 @@
 -- What `eval` prints for the steps of its input (DWARF 5, section 2.5).
-use Rattle.std.specs.Prelude.{ℕ, suc, ◌≡◌, ◌⊎◌, ◌++◌, List, [], take, slice_get, Option, Some, None}
+use Rattle.std.specs.Prelude.{ℕ, suc, ◌≡◌, ◌⊎◌, ◌++◌, List, [], take, slice_get, Option, Some, None, Result, Ok, Err}
 use Rattle.dwarf_base.specs.declared.common.Encoding.{Encoding}
 use Rattle.dwarf_meaning.specs.Operations.{Text}
 use Rattle.dwarf_meaning.specs.Stores.{Setup, Refusal}
 use Rattle.dwarf_meaning.specs.Meaning.{Outcome, Requests, Faults, Completes}
 use Rattle.dwarf_meaning.specs.Steps.{Step, Told, Reply, Allows, AllAllowed, answers, after_steps, outcome_of}
 use Rattle.dwexpr.specs.Lines.{reply_lines}
-use Rattle.dwexpr.specs.Runs.{Ending, complete, misplaced, no_memory}
+use Rattle.dwexpr.specs.declared.steps.StepsFault.{StepsFault}
+use Rattle.dwexpr.specs.declared.steps.StepsFault.TheVariants as fault
+use Rattle.dwexpr.specs.Steps.{lines_in, steps_in}
+use Rattle.dwexpr.specs.Runs.{Ending, bad_step, complete, misplaced, no_memory}
 
 -- no list has a limit
 abbrev pub setup_in : Encoding → Setup
@@ -63,3 +66,18 @@ abbrev pub Evaluates : Setup → Text → Told → List Step → Ending → Type
 Evaluates setup text told steps ending =
     AllDone setup text told steps ending
     ⊎ (EndsMisplaced setup text told steps ending ⊎ EndsWithoutMemory setup text told steps ending)
+
+-- what lines come to that say these steps, or of which one says none
+abbrev pub Follows : Setup → Text → Result (List Step) ℕ → Ending → Type 0
+Follows setup text (Ok steps) ending = Evaluates setup text unset steps ending
+Follows setup text (Err number) ending = ending ≡ bad_step number
+
+-- the same of an input, or there was no memory for its steps
+abbrev pub EvaluatesLines : Encoding → Text → (input : List ℕ) → Ending → Type 0
+EvaluatesLines encoding text input ending =
+    Follows (setup_in encoding) text (steps_in text.is_big (lines_in input)) ending ⊎ (ending ≡ no_memory)
+
+-- why lines give no steps, as it is printed
+abbrev pub refused_steps : StepsFault → Ending
+refused_steps (fault.Bad number) = bad_step number
+refused_steps fault.NoMemory = no_memory

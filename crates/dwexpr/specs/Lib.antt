@@ -1,5 +1,6 @@
 pub mod Evaluates
 pub mod Lines
+pub mod Program
 pub mod Runs
 pub mod Steps
 pub mod Values

@@ -23,6 +23,10 @@ bad_words = record { text = line (codes "bad words") []; status = 2 }
 abbrev pub no_memory : Ending
 no_memory = record { text = line (codes "no memory") []; status = 1 }
 
+-- the input could not be read
+abbrev pub unread : Ending
+unread = record { text = []; status = 1 }
+
 -- the line of this number is no step
 abbrev pub bad_step : (number : ℕ) → Ending
 bad_step number = record { text = line (codes "bad step") (decimal number ∷ []); status = 2 }

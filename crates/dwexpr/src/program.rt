@@ -1,9 +1,10 @@
-ghost use Rattle.std.specs.Prelude.{◌<◌, ◌≤◌, ◌-◌, ◌^◌, length, map};
+ghost use Rattle.std.specs.Prelude.{◌<◌, ◌≤◌, ◌-◌, ◌^◌, length, map, string_bytes};
 ghost use Rattle.dwarf_base.specs.ByteOrder.{is_big_of};
 ghost use Rattle.dwarf_eval.specs.Machine.{piece_of};
 ghost use Rattle.dwarf_replay.specs.Replays.{replies_in, steps_of};
-ghost use Rattle.dwexpr.specs.Evaluates.{Evaluates, behind_answers, setup_in, unset};
+ghost use Rattle.dwexpr.specs.Evaluates.{Evaluates, EvaluatesLines, behind_answers, refused_steps, setup_in, unset};
 ghost use Rattle.dwexpr.specs.Lines.{listing_of, piece_lines, reply_lines};
+ghost use Rattle.dwexpr.specs.Program.{EndsFor, EvaluatesInput, Exits};
 ghost use Rattle.dwexpr.specs.Runs as runs;
 ghost use Rattle.dwexpr.specs.Runs.{Ending, Ends, complete, listed, standing};
 ghost use Rattle.dwexpr.specs.inner.Replayed.{HasLine, ending_of};
@@ -182,6 +183,16 @@ fn evaluate<'a, A: Allocator + Copy, W: Write>(
     print_replay(output, answers.as_slice(), &evaluation, replayed)
 }
 
+/// Prints why the lines give no steps.
+fn refuse_steps<W: Write>(output: &mut W, fault: StepsFault) -> io::Result<u8>
+    ensures { Ends (W.contents output.old) (W.contents output.new) (refused_steps fault) result }
+{
+    match fault {
+        StepsFault::Bad(number) => bad_step(output, number),
+        StepsFault::NoMemory => no_memory(output),
+    }
+}
+
 /// Judges the lines, and evaluates the bytes in the steps that they say.
 fn run_lines<A: Allocator + Copy, W: Write>(
     alloc: A,
@@ -192,11 +203,14 @@ fn run_lines<A: Allocator + Copy, W: Write>(
 ) -> io::Result<u8>
     requires some { 0 < reading.encoding.address_size }
     requires fits { reading.encoding.address_size ≤ 8 }
+    ensures { (ending : Ending)
+        × EvaluatesLines reading.encoding
+        (record { bytes = bytes.now; is_big = is_big_of reading.order }) lines.now ending
+        × Ends (W.contents output.old) (W.contents output.new) ending result }
 {
     let owned = match steps_in(alloc, lines) {
         Ok(steps) => steps,
-        Err(StepsFault::Bad(number)) => return bad_step(output, number),
-        Err(StepsFault::NoMemory) => return no_memory(output),
+        Err(fault) => return refuse_steps(output, fault),
     };
     match borrow_steps(alloc, owned.as_slice(), reading.order) {
         Ok(steps) => evaluate(alloc, bytes, reading, steps.as_slice(), output),
@@ -214,6 +228,10 @@ fn run_eval<A: Allocator + Copy, I: Read + Drop, W: Write>(
 ) -> io::Result<u8>
     requires some { 0 < reading.encoding.address_size }
     requires fits { reading.encoding.address_size ≤ 8 }
+    ensures { (ending : Ending)
+        × EvaluatesInput reading.encoding
+        (record { bytes = bytes.now; is_big = is_big_of reading.order }) (I.remaining input) ending
+        × Ends (W.contents output.old) (W.contents output.new) ending result }
 {
     let mut lines = Vec::new(alloc);
     match input.read_to_end(&mut lines) {
@@ -243,7 +261,11 @@ fn run_words<A: Allocator + Copy, I: Read + Drop, W: Write>(
     words: &[String<A>],
     input: I,
     output: &mut W,
-) -> io::Result<u8> {
+) -> io::Result<u8>
+    ensures { (ending : Ending)
+        × EndsFor (map string_bytes words.now) (I.remaining input) ending
+        × Ends (W.contents output.old) (W.contents output.new) ending result }
+{
     let [command, size, offsets, version, order, hexadecimal] = words else {
         return bad_words(output);
     };
@@ -258,11 +280,14 @@ fn run_words<A: Allocator + Copy, I: Read + Drop, W: Write>(
     ) else {
         return bad_words(output);
     };
-    match (command, bytes_of(alloc, hexadecimal.as_str())) {
-        (Command::Ops, Ok(bytes)) => run_ops(bytes.as_slice(), reading, output),
-        (Command::Eval, Ok(bytes)) => run_eval(alloc, bytes.as_slice(), reading, input, output),
-        (_, Err(HexFault::Bad)) => bad_words(output),
-        (_, Err(HexFault::NoMemory)) => no_memory(output),
+    let bytes = match bytes_of(alloc, hexadecimal.as_str()) {
+        Ok(bytes) => bytes,
+        Err(HexFault::Bad) => return bad_words(output),
+        Err(HexFault::NoMemory) => return no_memory(output),
+    };
+    match command {
+        Command::Ops => run_ops(bytes.as_slice(), reading, output),
+        Command::Eval => run_eval(alloc, bytes.as_slice(), reading, input, output),
     }
 }
 
@@ -289,6 +314,10 @@ pub fn run<A: Allocator + Copy, I: Read + Drop, W: Write>(
     words: &[String<A>],
     input: I,
     output: &mut W,
-) -> u8 {
+) -> u8
+    ensures { (ending : Ending)
+        × EndsFor (map string_bytes words.now) (I.remaining input) ending
+        × Exits (W.contents output.old) (W.contents output.new) ending result }
+{
     run_words(alloc, words, input, output).unwrap_or(FAILED)
 }

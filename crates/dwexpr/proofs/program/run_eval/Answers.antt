@@ -1,0 +1,10 @@
+use Rattle.std.proofs.Common.{refl, inl, inr}
+use Rattle.dwexpr.specs.Runs.{no_memory, unread}
+use Rattle.dwexpr.proofs.Fronts.{appends_nothing}
+use Rattle.dwexpr.proofs.program.run_eval.Goals as goal
+
+pub returns-in-OutOfMemory : goal.returns-in-OutOfMemory
+returns-in-OutOfMemory g c = (no_memory, inr (inr refl), c.no_memory.ensures)
+
+pub returns : goal.returns
+returns g c = (unread, inr (inl refl), (appends_nothing _, refl))

@@ -1,0 +1,40 @@
+-- What the program ends with, by its words and its input.
+use Rattle.std.specs.Prelude.{ℕ, ◌≡◌, ◌⊎◌, List, Option, Some, None, IfSome}
+use Rattle.std.specs.Io.KnownBytes.{Appends}
+use Rattle.dwarf_base.specs.ByteOrder.{is_big_of}
+use Rattle.dwarf_base.specs.declared.common.Encoding.{Encoding}
+use Rattle.dwarf_meaning.specs.Operations.{Text}
+use Rattle.dwexpr.specs.Evaluates.{EvaluatesLines}
+use Rattle.dwexpr.specs.Lines.{listing_of}
+use Rattle.dwexpr.specs.Runs.{Ending, bad_words, listed, no_memory, unread}
+use Rattle.dwexpr.specs.Words.{Asked, asked_in}
+use Rattle.dwexpr.specs.Writing.{AppendsFront}
+use Rattle.dwexpr.specs.declared.words.Command.{Command}
+use Rattle.dwexpr.specs.declared.words.Command.TheVariants.{Ops, Eval}
+
+-- an input was read whole, which is what the reader had left where that is known; or it wasn't
+abbrev pub EvaluatesInput : Encoding → Text → (left : Option (List ℕ)) → Ending → Type 0
+EvaluatesInput encoding text left ending =
+    ((input : List ℕ) × IfSome left (λ bytes. input ≡ bytes) × EvaluatesLines encoding text input ending)
+    ⊎ ((ending ≡ unread) ⊎ (ending ≡ no_memory))
+
+-- what a command ends with
+abbrev pub EndsCommand : Command → Asked → (left : Option (List ℕ)) → Ending → Type 0
+EndsCommand Ops asked left ending =
+    ending ≡ listed (listing_of asked.reading.encoding (is_big_of asked.reading.order) asked.bytes)
+EndsCommand Eval asked left ending =
+    EvaluatesInput asked.reading.encoding
+    (record { bytes = asked.bytes; is_big = is_big_of asked.reading.order }) left ending
+
+-- what words end with that ask for this, or are bad: there may be no memory for their bytes
+abbrev pub EndsAsked : Option Asked → (left : Option (List ℕ)) → Ending → Type 0
+EndsAsked None left ending = ending ≡ bad_words
+EndsAsked (Some asked) left ending = EndsCommand asked.command asked left ending ⊎ (ending ≡ no_memory)
+
+abbrev pub EndsFor : (words : List (List ℕ)) → (left : Option (List ℕ)) → Ending → Type 0
+EndsFor words left ending = EndsAsked (asked_in words) left ending
+
+-- all was written, and the status is the ending's; or a front was, where a write was refused, and it is 1
+abbrev pub Exits : (old new : Option (List ℕ)) → Ending → (status : ℕ) → Type 0
+Exits old new ending status =
+    (Appends old new ending.text × (status ≡ ending.status)) ⊎ (AppendsFront old new ending.text × (status ≡ 1))

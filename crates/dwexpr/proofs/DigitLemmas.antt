@@ -1,5 +1,5 @@
 -- The digits of a number, the last one first.
-use Rattle.std.proofs.Common.{◌≡◌, ℕ, zero, suc, ◌+◌, ◌-◌, ◌/◌, ◌%◌, ◌<◌, ◌≤◌, Bool, true, false, List, [], ◌∷◌, ◌==◌, if◌then◌else◌, length, drop, set, refl, sym, ◌∙◌, ap, arith, eq-eqb, ne_eqb, drop-cons, get_or-set_same, drop-set-lt, length-set}
+use Rattle.std.proofs.Common.{◌≡◌, ℕ, zero, suc, ◌-◌, ◌/◌, ◌%◌, ◌<◌, ◌≤◌, Bool, true, false, List, [], ◌∷◌, ◌==◌, if◌then◌else◌, length, drop, set, refl, ◌∙◌, ap, arith, eq-eqb, ne_eqb, drop-cons, get_or-set_same, drop-set-lt, length-set}
 use Rattle.std.specs.Fmt.{digit_glyph, digits_onto, digits}
 
 pub digits_all : (base : ℕ) (n : ℕ) → digits_onto 64 base false n [] ≡ digits base false n

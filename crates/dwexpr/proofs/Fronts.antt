@@ -1,5 +1,5 @@
 -- What was written, one part after another.
-use Rattle.std.proofs.Common.{◌≡◌, ℕ, List, [], ◌∷◌, ◌++◌, Option, Some, None, Result, Ok, Err, refl, sym, ◌∙◌, ap, subst, append_assoc, append-nil, rules, arith, take, drop, take-append-drop, take_all, length-drop, length, ◌-◌, IsErr, true≢false}
+use Rattle.std.proofs.Common.{◌≡◌, ℕ, List, [], ◌++◌, Option, Some, None, Result, Ok, Err, refl, sym, ◌∙◌, ap, subst, append_assoc, append-nil, arith, take, drop, take-append-drop, take_all, length-drop, length, ◌-◌, IsErr, true≢false}
 use Rattle.std.specs.Io.KnownBytes.{Appends, Keeps}
 use Rattle.dwexpr.specs.Writing.{AppendsFront, Prints}
 

@@ -1,5 +1,5 @@
 -- The lines of operations, one after another.
-use Rattle.std.proofs.Common.{◌≡◌, ℕ, zero, suc, ◌+◌, ◌-◌, ◌<◌, ◌≤◌, ◌==◌, Bool, true, false, List, [], ◌∷◌, ◌++◌, length, take, codes, decimal, Option, Result, Ok, Err, IsErr, refl, sym, ◌∙◌, ap, arith, true≢false, append_assoc, append-nil, drop, drop-cons, get_or, map}
+use Rattle.std.proofs.Common.{◌≡◌, ℕ, zero, suc, ◌+◌, ◌-◌, ◌<◌, ◌≤◌, ◌==◌, Bool, false, List, [], ◌∷◌, ◌++◌, length, take, codes, decimal, Option, Result, Ok, Err, IsErr, refl, sym, ◌∙◌, ap, arith, true≢false, append_assoc, append-nil, drop, drop-cons, get_or, map}
 use Rattle.std.specs.List.{concat}
 use Rattle.std.specs.Io.KnownBytes.{Appends}
 use Rattle.dwarf_base.specs.declared.common.Encoding.{Encoding}

@@ -1,10 +1,10 @@
 -- What the words of numbers say, next to what std's calls answer for them.
-use Rattle.std.proofs.Common.{◌≡◌, ◌≢◌, ℕ, zero, suc, ◌+◌, ◌^◌, ◌<◌, ◌≤◌, ◌==◌, Bool, true, false, ◌&&◌, List, [], ◌∷◌, length, drop, get_or, Option, Some, None, Result, Ok, Err, OkIff, option_map, option_and_then, nat_lt, refl, sym, ◌∙◌, ap, arith, ltb-true, lt-ltb, le-ltb, lit≤, codes, ◌-◌, ℤ, pos, negsuc, neg_ℤ, FitsSigned, slice_index, w8, w16, w32, w64, if◌then◌else◌}
+use Rattle.std.proofs.Common.{◌≡◌, ◌≢◌, ℕ, ◌^◌, ◌<◌, ◌≤◌, ◌==◌, Bool, true, false, ◌&&◌, List, [], ◌∷◌, drop, get_or, Some, None, Result, Ok, Err, OkIff, option_map, option_and_then, nat_lt, refl, sym, ◌∙◌, ap, arith, ltb-true, lt-ltb, le-ltb, lit≤, codes, ◌-◌, ℤ, pos, negsuc, neg_ℤ, FitsSigned, slice_index, w8, w16, w32, w64, if◌then◌else◌}
 use Rattle.std.specs.Result.{result_ok}
-use Rattle.std.specs.Char.{digit_value, is_digit}
-use Rattle.std.specs.Str.Parse.{AllDigits, IsNumeral, digits_value, without_leading_plus, ParsesUnsigned}
+use Rattle.std.specs.Char.{digit_value}
+use Rattle.std.specs.Str.Parse.{AllDigits, IsNumeral, digits_value, ParsesUnsigned}
 use Rattle.std.proofs.lemmas.Str.Parse.{without_leading_plus_none}
-use Rattle.std.specs.Str.Parse.{ParsesSigned, without_leading_sign, signed_digits_value}
+use Rattle.std.specs.Str.Parse.{ParsesSigned}
 use Rattle.std.specs.Str.Pattern.{FindsTextPrefix}
 use Rattle.std.proofs.lemmas.Str.Pattern.{starts_text}
 use Rattle.std.specs.Int.{FitsUnsignedBits}

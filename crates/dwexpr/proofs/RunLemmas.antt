@@ -1,5 +1,5 @@
 -- What is printed of an evaluation that was replayed is what its steps come to.
-use Rattle.std.proofs.Common.{◌≡◌, ◌⊎◌, inl, inr, ℕ, suc, List, ◌∷◌, [], ◌++◌, Option, Some, None, refl, sym, ◌∙◌, ap, subst, take, length, ◌<◌, ◌^◌, arith, ap₂, Result, Ok, Err, Bool}
+use Rattle.std.proofs.Common.{◌≡◌, ◌⊎◌, inl, inr, ℕ, List, [], Option, Some, None, refl, sym, ◌∙◌, ap, subst, length, ◌<◌, ◌^◌, arith, ap₂, Result, Ok, Err, Bool}
 use Rattle.std.proofs.lemmas.List.{length-map}
 use Rattle.std.proofs.lemmas.Option.{slice_get_within}
 use Rattle.dwarf_replay.specs.Stepping.{step_of}
@@ -23,7 +23,7 @@ use Rattle.dwexpr.specs.Evaluates.{Evaluates, Follows, behind_answers, outcome_e
 use Rattle.dwexpr.specs.Steps.{ReadsSteps}
 use Rattle.dwexpr.specs.declared.steps.StepsFault.{StepsFault}
 use Rattle.dwexpr.specs.declared.steps.StepsFault.TheVariants as fault
-use Rattle.dwexpr.specs.Runs.{Ending, bad_step, misplaced, no_memory, standing}
+use Rattle.dwexpr.specs.Runs.{Ending, misplaced, no_memory, standing}
 use Rattle.dwexpr.specs.inner.Replayed.{HasLine, ending_of}
 
 asking_ending : (request : Request) (frames : List Frame) (x : State) (status : Status) → IsAsking request frames x status

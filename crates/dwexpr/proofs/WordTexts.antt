@@ -1,7 +1,6 @@
 -- The texts of words, part by part.
-use Rattle.std.proofs.Common.{◌≡◌, ℕ, suc, ◌+◌, ◌<◌, ◌/◌, ◌%◌, ◌==◌, List, [], ◌∷◌, ◌++◌, length, map, drop, get_or, Result, Ok, Err, ℤ, pos, negsuc, int_lt, unsigned_abs, codes, decimal, false, true, refl, sym, ◌∙◌, ap, drop-cons, arith, eqb-true, ltb-true, ap₂}
+use Rattle.std.proofs.Common.{◌≡◌, ℕ, suc, ◌+◌, ◌<◌, ◌/◌, ◌%◌, ◌==◌, List, [], ◌∷◌, ◌++◌, length, map, drop, get_or, Ok, ℤ, pos, negsuc, int_lt, unsigned_abs, codes, decimal, false, true, refl, sym, ◌∙◌, ap, drop-cons, arith, eqb-true, ltb-true, ap₂}
 use Rattle.std.specs.Fmt.{digit_glyph, signed_decimal}
-use Rattle.dwarf_base.specs.Faults.{Fault}
 use Rattle.dwarf_base.specs.Reads.{u8_at}
 use Rattle.dwexpr.specs.Writing.{bytes_word, ending, pairs, word_text}
 use Rattle.dwexpr.specs.declared.writing.Word.{Word}

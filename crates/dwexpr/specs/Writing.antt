@@ -1,5 +1,5 @@
 -- What is handed to a writer: bytes, words and lines.
-use Rattle.std.specs.Prelude.{ℕ, ◌≡◌, codes, false, List, [], ◌∷◌, ◌++◌, ◌/◌, ◌%◌, map, Option, Result, Ok, Err, decimal}
+use Rattle.std.specs.Prelude.{ℕ, ◌≡◌, codes, false, List, [], ◌∷◌, ◌++◌, ◌/◌, ◌%◌, Option, Result, Ok, Err, decimal}
 use Rattle.std.specs.Fmt.{digit_glyph, digits, signed_decimal}
 use Rattle.std.specs.Io.KnownBytes.{Appends}
 use Rattle.dwarf_base.specs.ByteOrder.{is_big_of}

@@ -1,5 +1,5 @@
 -- What is printed of an evaluation that was replayed.
-use Rattle.std.specs.Prelude.{ℕ, ◌<◌, ◌-◌, ◌^◌}
+use Rattle.std.specs.Prelude.{◌<◌, ◌-◌, ◌^◌}
 use Rattle.dwarf_meaning.specs.Rest.{State}
 use Rattle.dwarf_replay.specs.declared.steps.Replayed.{Replayed}
 use Rattle.dwarf_replay.specs.declared.steps.Replayed.TheVariants as replayed

@@ -1,4 +1,4 @@
-use Rattle.std.proofs.Common.{◌≡◌, ◌≢◌, ℕ, [], ◌∷◌, sym, ◌∙◌, arith}
+use Rattle.std.proofs.Common.{◌≢◌, [], ◌∷◌, sym, ◌∙◌}
 use Rattle.std.proofs.Common.{rules}
 use Rattle.dwexpr.proofs.WordLemmas.{bytes_in-other, IsSome-bytes_in}
 use Rattle.dwexpr.proofs.hexadecimal.bytes_of.Goals as goal

@@ -1,4 +1,4 @@
-use Rattle.std.proofs.Common.{◌≡◌, ℕ, sym, ◌∙◌, lit<, arith}
+use Rattle.std.proofs.Common.{sym, ◌∙◌, lit<}
 use Rattle.std.proofs.lemmas.Str.Pattern.{starts_char}
 use Rattle.dwexpr.proofs.NumberLemmas.{integer_parsed, integer_in-plus}
 use Rattle.dwexpr.proofs.numbers.integer_of.Goals as goal

@@ -1,4 +1,4 @@
-use Rattle.std.proofs.Common.{◌≡◌, ℕ, sym, ◌∙◌, arith}
+use Rattle.std.proofs.Common.{◌∙◌}
 use Rattle.dwexpr.proofs.NumberLemmas.{number_in-prefix, number_in-plain}
 use Rattle.dwexpr.proofs.numbers.number_of.Goals as goal
 

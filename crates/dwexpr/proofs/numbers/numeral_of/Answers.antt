@@ -1,4 +1,4 @@
-use Rattle.std.proofs.Common.{◌≡◌, ◌≢◌, ℕ, get_or, refl, sym, ◌∙◌, lit<, arith}
+use Rattle.std.proofs.Common.{refl, sym, ◌∙◌, lit<}
 use Rattle.std.proofs.lemmas.Str.Pattern.{starts_char}
 use Rattle.dwexpr.proofs.NumberLemmas.{unsigned_parsed, numeral_in-plus}
 use Rattle.dwexpr.proofs.numbers.numeral_of.Goals as goal

@@ -1,9 +1,8 @@
-use Rattle.std.proofs.Common.{◌+◌, [], ◌∷◌, ◌++◌, codes, decimal, append-nil, sym, ◌∙◌, ap, arith}
+use Rattle.std.proofs.Common.{[], ◌++◌, codes, decimal, sym, ◌∙◌, ap, arith}
 use Rattle.dwarf_base.specs.ByteOrder.{is_big_of}
-use Rattle.dwarf_base.specs.EndianSlice.{slice_bytes, slice_order}
+use Rattle.dwarf_base.specs.EndianSlice.{slice_bytes}
 use Rattle.dwarf_base.specs.Faults.{fault_of}
-use Rattle.dwexpr.specs.Lines.{fault_line, listing_within}
-use Rattle.dwexpr.specs.Writing.{bytes_word, line}
+use Rattle.dwexpr.specs.Lines.{fault_line}
 use Rattle.dwexpr.proofs.Fronts.{all_of, as_rest, more_of}
 use Rattle.dwexpr.proofs.ListingLemmas.{fault_listed, lists_refused, next_listed}
 use Rattle.dwexpr.proofs.operations.print_operations.Goals as goal

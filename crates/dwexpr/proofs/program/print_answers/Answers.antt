@@ -1,4 +1,4 @@
-use Rattle.std.proofs.Common.{◌+◌, ap, map, drop, drop_of_length-le}
+use Rattle.std.proofs.Common.{◌+◌, ap, drop, drop_of_length-le}
 use Rattle.dwarf_replay.specs.Replays.{replies_in, reply_in}
 use Rattle.dwexpr.specs.Lines.{reply_line, reply_lines}
 use Rattle.dwexpr.specs.Writing.{text_in}

@@ -1,4 +1,4 @@
-use Rattle.std.proofs.Common.{[], append-nil, map, refl, sym, ◌++◌, ap}
+use Rattle.std.proofs.Common.{[], append-nil, map, refl, sym}
 use Rattle.dwarf_eval.specs.Machine.{piece_of}
 use Rattle.dwexpr.specs.Lines.{piece_lines, value_line}
 use Rattle.dwexpr.specs.Writing.{text_in}

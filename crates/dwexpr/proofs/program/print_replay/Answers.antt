@@ -1,4 +1,3 @@
-use Rattle.std.proofs.Common.{refl}
 use Rattle.dwarf_replay.specs.Replays.{replies_in}
 use Rattle.dwexpr.specs.Lines.{reply_lines}
 use Rattle.dwexpr.specs.Writing.{text_in}

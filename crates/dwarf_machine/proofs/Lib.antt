@@ -18,11 +18,14 @@ pub mod Dereferences
 pub mod Totals
 pub mod Reaching
 pub mod Turning
+pub mod Performing
 pub mod Finishing
 pub mod Holding
 pub mod AnswerUses
 pub mod Resuming
 pub mod Light
+pub mod Behind
+pub mod OneOperand
 pub mod Loads
 pub mod Endings
 pub mod Spending

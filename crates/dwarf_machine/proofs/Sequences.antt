@@ -10,7 +10,7 @@ use Rattle.dwarf_machine.specs.inner.Steps.{Refused, Stays}
 stays_wide : (n : ℕ) (old new : State) → Stays 0 old new → Stays n old new
 stays_wide n old new h =
     let items = h.items in
-    record { kept = h.kept; callers = h.callers; count = h.count; decodings = h.decodings; pieces = h.pieces; items = omega (arith, items) }
+    record { kept = h.kept; text = h.text; callers = h.callers; count = h.count; decodings = h.decodings; pieces = h.pieces; items = omega (arith, items) }
 
 -- the first is refused, and so are all of them
 pub refused_values : (n : ℕ) (first : Value) (others : List Value) (old new : State) → Refused 0 (push_value old.setup first) old new → Refused n (push_values old.setup (first ∷ others)) old new

@@ -20,7 +20,7 @@ keeps_more a b c h i = record {
 }
 
 pub stays_here : (x : State) → Stays 0 x x
-stays_here x = record { kept = keeps_here x; callers = refl; count = refl; decodings = refl; pieces = refl; items = omega arith }
+stays_here x = record { kept = keeps_here x; text = refl; callers = refl; count = refl; decodings = refl; pieces = refl; items = omega arith }
 
 pub stays_more : (n m : ℕ) (a b c : State) → Stays n a b → Stays m b c → Stays (n + m) a c
 stays_more n m a b c h i =
@@ -28,6 +28,7 @@ stays_more n m a b c h i =
     let items_then = i.items in
     record {
       kept = keeps_more a b c h.kept i.kept;
+      text = i.text ∙ h.text;
       callers = i.callers ∙ h.callers;
       count = i.count ∙ h.count;
       decodings = i.decodings ∙ h.decodings;
@@ -41,6 +42,7 @@ stays_from n m rest last status old new fits h =
     let items = h.items in
     record {
       kept = record { setup = h.kept.setup; object_address = h.kept.object_address; maximum = h.kept.maximum };
+      text = h.text;
       callers = h.callers;
       count = h.count;
       decodings = h.decodings;
@@ -84,6 +86,7 @@ stays_pushed setup value old new d =
     let last : waits_of new.store.last ≡ waits_of old.store.last = ap waits_of (subst (OnStore (HasLast s.last)) (d.steps.same Never) (value_last setup value s)) in
     record {
       kept = record { setup = ap (λ (z : State). z.setup) d.alone; object_address = ap (λ (m : Tally). m.object_address) tally; maximum = ap (λ (m : Tally). m.maximum) tally };
+      text = ap (λ (z : State). z.text) d.alone;
       callers = ap (λ (z : State). length z.callers) d.alone;
       count = ap (λ (m : Tally). m.count) tally;
       decodings = ap (λ (z : State). z.decodings) d.alone;

@@ -8,12 +8,12 @@ ghost use Rattle.dwarf_meaning.specs.Stores.{Located, Plain, address_bits, push_
 ghost use Rattle.dwarf_machine.specs.Bounds.{IsUnspent};
 ghost use Rattle.dwarf_machine.specs.Inputs.{IsFresh, most_iterations, with_maximum, with_object, with_status};
 ghost use Rattle.dwarf_machine.specs.Machine.{last_of, location_of, piece_of, setup_of, status_of};
-ghost use Rattle.dwarf_machine.specs.inner.Steps.{CountsOne, GoesBack, IsFree, Jumps, Pops, PopsGenerics, Reads, ReadsPiece, Tries, TriesToEnter, is_running, read_to, with_last};
-ghost use Rattle.dwarf_op.specs.Views.{operation_of, text_of};
+ghost use Rattle.dwarf_machine.specs.inner.Steps.{CountsOne, GoesBack, IsFree, IsRest, Jumps, Pops, PopsGenerics, ReadsPiece, Tries, TriesToEnter, at, is_free, is_running, read_to, with_last};
+ghost use Rattle.dwarf_op.specs.Views.{text_of};
 
 use crate::states::{EvaluationState, LastOperation};
 use dwarf_base::{Encoding, Error, Reader, ReaderOffset, Result};
-use dwarf_op::{Location, Operation, Piece, parse_piece};
+use dwarf_op::{Location, Piece, parse_piece};
 use dwarf_store::{ArrayLike, EvaluationStorage};
 use dwarf_ticks::Ticks;
 use dwarf_value::Value;
@@ -201,6 +201,14 @@ impl<R: Reader + Copy, S: EvaluationStorage<R>> Machine<R, S> {
         matches!(self.state, EvaluationState::Running)
     }
 
+    /// Whether no location waits for its piece.
+    #[inline(always)]
+    pub(crate) fn is_free(&self) -> bool
+        ensures { result ≡ is_free self.now.store.last }
+    {
+        !matches!(self.last, LastOperation::Located(_))
+    }
+
     /// Whether the running text is at its end.
     #[inline(always)]
     pub(crate) fn is_at_end(&self) -> bool
@@ -246,21 +254,53 @@ impl<R: Reader + Copy, S: EvaluationStorage<R>> Machine<R, S> {
     #[inline(always)]
     pub(crate) fn place(&self) -> R::Offset
         ensures value { R.Offset.number result ≡ self.now.place }
-        ensures bits { self.now.setup.offset_bits ≡ R.Offset.BITS }
     {
         self.pc.offset_from(&self.bytecode)
     }
 
-    /// Decodes the operation at the place, and goes behind it. But for `read_piece` no other function of evaluation decodes.
+    /// The place that is in front of what is left of the running text.
     #[inline(always)]
-    pub(crate) fn read(&mut self) -> Result<Operation<R>>
-        ensures ok { IfOk result (λ op. Reads (operation_of (text_of R.bytes R.is_big) R.Offset.number op) self.old self.new) }
-        ensures behind { OnOk result (0 < self.new.place) }
-        ensures err { IfErr result (λ e. read self.old.setup self.old.text self.old.place ≡ Err (fault_of e)) }
-        ensures alone { self.new ≡ read_to self.new.place self.old }
+    pub(crate) fn place_of(&self, left: R) -> R::Offset
+        requires { IsRest (R.bytes left) (R.is_big left) self.now }
+        ensures value { R.Offset.number result ≡ (at (R.bytes left) self.now).place }
+        ensures bits { self.now.setup.offset_bits ≡ R.Offset.BITS }
+    {
+        left.offset_from(&self.bytecode)
+    }
+
+    /// What is left of the running text.
+    #[inline(always)]
+    pub(crate) fn left(&self) -> R
+        ensures rest { IsRest (R.bytes result) (R.is_big result) self.now }
+        ensures here { at (R.bytes result) self.now ≡ self.now }
+    {
+        self.pc
+    }
+
+    /// Goes to what is left of the running text.
+    #[inline(always)]
+    pub(crate) fn go_to(&mut self, left: R)
+        requires { IsRest (R.bytes left) (R.is_big left) self.old }
+        ensures { self.new ≡ at (R.bytes left) self.old }
+    {
+        self.pc = left;
+    }
+
+    /// The unit's encoding.
+    #[inline(always)]
+    pub(crate) fn encoding(&self) -> Encoding
+        ensures value { result ≡ self.now.setup.encoding }
+        ensures bits { self.now.setup.offset_bits ≡ R.Offset.BITS }
+    {
+        self.encoding
+    }
+
+    /// Notes that an operation is decoded, for contracts alone.
+    #[inline(always)]
+    pub(crate) fn tick(&mut self)
+        ensures { self.new ≡ read_to self.old.place self.old }
     {
         self.decodings.tick();
-        Operation::parse(&mut self.pc, self.encoding)
     }
 
     /// Decodes the operation at the place where a location waits: the size and the offset of the piece that it ends, in
@@ -278,15 +318,17 @@ impl<R: Reader + Copy, S: EvaluationStorage<R>> Machine<R, S> {
 
     /// Goes to a place of the running text, or keeps the fault of a place that it doesn't have.
     #[inline(always)]
-    pub(crate) fn jump(&mut self, place: R::Offset) -> bool
-        ensures { Jumps (R.Offset.number place) self.old self.new result }
+    pub(crate) fn jump(&mut self, place: R::Offset, left: &mut R) -> bool
+        requires { IsRest (R.bytes left.old) (R.is_big left.old) self.old }
+        ensures jumps { Jumps (R.Offset.number place) (at (R.bytes left.old) self.old) (at (R.bytes left.new) self.new) result }
+        ensures rest { IsRest (R.bytes left.new) (R.is_big left.new) self.new }
     {
-        let mut left = self.bytecode;
-        let Ok(()) = left.skip(place) else {
+        let mut target = self.bytecode;
+        let Ok(()) = target.skip(place) else {
             self.fail(Error::BadBranchTarget(place.into_u64()));
             return false;
         };
-        self.pc = left;
+        *left = target;
         true
     }
 

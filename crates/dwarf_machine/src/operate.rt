@@ -1,21 +1,22 @@
 ghost use Rattle.std.specs.Prelude.{◌≡◌, [], ◌∷◌};
-ghost use Rattle.dwarf_meaning.specs.Acts.{Asks, Branches, Locates, Pushes, act, binary, push, unary};
+ghost use Rattle.dwarf_meaning.specs.Acts.{Asks, Branches, Locates, Pushes, Refuses, binary, push, unary};
 ghost use Rattle.dwarf_meaning.specs.Operations as meaning;
 ghost use Rattle.dwarf_meaning.specs.Rest.{Running, Stopped};
 ghost use Rattle.dwarf_meaning.specs.Stores.{Plain, address_bits, push_value, push_values};
 ghost use Rattle.dwarf_base.specs.declared.errors.Error.TheVariants.{NotEnoughStackItems};
+ghost use Rattle.dwarf_base.specs.Faults.{UnsupportedEvaluation};
 ghost use Rattle.dwarf_value.specs.Values.{add_of, from_u64_of, to_u64_of, type_of};
 ghost use Rattle.dwarf_machine.specs.Inputs.{with_status};
 ghost use Rattle.dwarf_machine.specs.Machine.{location_of, request_of, waiting_of};
 ghost use Rattle.dwarf_machine.specs.inner.Operators.{Computes, IsCallable, unary_of};
-ghost use Rattle.dwarf_machine.specs.inner.Steps.{Performs, PopsNumber, Tried, Tries, act_of};
-ghost use Rattle.dwarf_op.specs.Views.{operation_of, text_of};
+ghost use Rattle.dwarf_machine.specs.inner.Steps.{IsRest, Performs, PopsNumber, Tried, Tries, act_of, at};
+ghost use Rattle.dwarf_op.specs.Views.{text_of};
 
 use crate::machine::Machine;
 use crate::operators::UnaryOperator;
 use crate::states::{EvaluationState, LastOperation, OpenRequest};
 use dwarf_base::{Error, Reader, ReaderOffset, Result, UnitOffset};
-use dwarf_op::{Location, Operation, Piece};
+use dwarf_op::{Location, Piece};
 use dwarf_store::EvaluationStorage;
 use dwarf_value::Value;
 
@@ -62,7 +63,7 @@ impl<R: Reader + Copy, S: EvaluationStorage<R>> Machine<R, S> {
 
     /// Pushes a constant.
     #[inline(always)]
-    fn push_constant(&mut self, value: Value)
+    pub(crate) fn push_constant(&mut self, value: Value)
         requires { self.old.status ≡ Running }
         ensures { Performs (push self.old.store.values value) self.old self.new }
     {
@@ -71,7 +72,7 @@ impl<R: Reader + Copy, S: EvaluationStorage<R>> Machine<R, S> {
 
     /// Puts the call's answer in the place of the top.
     #[inline(never)]
-    fn compute_unary(&mut self, operator: UnaryOperator)
+    pub(crate) fn compute_unary(&mut self, operator: UnaryOperator)
         requires { self.old.status ≡ Running }
         ensures { Performs (unary (unary_of operator (address_bits self.old.setup)) self.old.store.values) self.old self.new }
     {
@@ -87,7 +88,7 @@ impl<R: Reader + Copy, S: EvaluationStorage<R>> Machine<R, S> {
 
     /// Puts the call's answer in the place of the two on top.
     #[inline(never)]
-    fn compute_binary<F: Fn(Value, Value, u64) -> Result<Value>>(&mut self, call: F)
+    pub(crate) fn compute_binary<F: Fn(Value, Value, u64) -> Result<Value>>(&mut self, call: F)
         requires runs { self.old.status ≡ Running }
         requires callable { IsCallable (F.pre call) }
         ensures { (f : _) → Computes (F.post call) (address_bits self.old.setup) f → Performs (binary f self.old.store.values) self.old self.new }
@@ -162,9 +163,18 @@ impl<R: Reader + Copy, S: EvaluationStorage<R>> Machine<R, S> {
         self.fail(Error::NotEnoughStackItems);
     }
 
+    /// Keeps the fault of an operation that isn't supported.
+    #[cold]
+    #[inline(never)]
+    pub(crate) fn refuse(&mut self)
+        ensures { Performs (Refuses UnsupportedEvaluation) self.old self.new }
+    {
+        self.fail(Error::UnsupportedEvaluation);
+    }
+
     /// Does nothing more than a plain operation.
     #[inline(always)]
-    fn pass(&mut self)
+    pub(crate) fn pass(&mut self)
         requires { self.old.status ≡ Running }
         ensures { Performs (Pushes self.old.store.values []) self.old self.new }
     {
@@ -173,7 +183,7 @@ impl<R: Reader + Copy, S: EvaluationStorage<R>> Machine<R, S> {
 
     /// Drops the top.
     #[inline(always)]
-    fn drop_top(&mut self)
+    pub(crate) fn drop_top(&mut self)
         requires { self.old.status ≡ Running }
         ensures { Performs (act_of self.old meaning.Drop) self.old self.new }
     {
@@ -186,7 +196,7 @@ impl<R: Reader + Copy, S: EvaluationStorage<R>> Machine<R, S> {
 
     /// Pushes a copy of the value that is this far below the top.
     #[inline(always)]
-    fn pick(&mut self, index: u8)
+    pub(crate) fn pick(&mut self, index: u8)
         requires { self.old.status ≡ Running }
         ensures { Performs (act_of self.old (meaning.Pick index)) self.old self.new }
     {
@@ -199,7 +209,7 @@ impl<R: Reader + Copy, S: EvaluationStorage<R>> Machine<R, S> {
 
     /// Swaps the two on top.
     #[inline(never)]
-    fn swap(&mut self)
+    pub(crate) fn swap(&mut self)
         requires { self.old.status ≡ Running }
         ensures { Performs (act_of self.old meaning.Swap) self.old self.new }
     {
@@ -216,7 +226,7 @@ impl<R: Reader + Copy, S: EvaluationStorage<R>> Machine<R, S> {
 
     /// Moves the top under the two below it.
     #[inline(never)]
-    fn rotate(&mut self)
+    pub(crate) fn rotate(&mut self)
         requires { self.old.status ≡ Running }
         ensures { Performs (act_of self.old meaning.Rot) self.old self.new }
     {
@@ -237,7 +247,7 @@ impl<R: Reader + Copy, S: EvaluationStorage<R>> Machine<R, S> {
 
     /// Adds a constant to the top.
     #[inline(never)]
-    fn add_constant(&mut self, constant: u64)
+    pub(crate) fn add_constant(&mut self, constant: u64)
         requires { self.old.status ≡ Running }
         ensures { Performs (act_of self.old (meaning.PlusConstant constant)) self.old self.new }
     {
@@ -253,7 +263,7 @@ impl<R: Reader + Copy, S: EvaluationStorage<R>> Machine<R, S> {
 
     /// Pushes a signed constant.
     #[inline(always)]
-    fn push_signed(&mut self, constant: i64)
+    pub(crate) fn push_signed(&mut self, constant: i64)
         requires { self.old.status ≡ Running }
         ensures { Performs (act_of self.old (meaning.SignedConstant constant)) self.old self.new }
     {
@@ -262,7 +272,7 @@ impl<R: Reader + Copy, S: EvaluationStorage<R>> Machine<R, S> {
 
     /// Pushes the address of the object that is described.
     #[inline(always)]
-    fn push_object_address(&mut self)
+    pub(crate) fn push_object_address(&mut self)
         requires { self.old.status ≡ Running }
         ensures { Performs (act_of self.old meaning.PushObjectAddress) self.old self.new }
     {
@@ -275,20 +285,24 @@ impl<R: Reader + Copy, S: EvaluationStorage<R>> Machine<R, S> {
 
     /// Goes on so many bytes behind the operation.
     #[inline(always)]
-    fn take_branch(&mut self, target: i16)
-        requires { self.old.status ≡ Running }
-        ensures { Performs (Branches self.old.store.values target) self.old self.new }
+    pub(crate) fn take_branch(&mut self, target: i16, left: &mut R)
+        requires runs { self.old.status ≡ Running }
+        requires rest { IsRest (R.bytes left.old) (R.is_big left.old) self.old }
+        ensures performs { Performs (Branches self.old.store.values target) (at (R.bytes left.old) self.old) (at (R.bytes left.new) self.new) }
+        ensures rest { IsRest (R.bytes left.new) (R.is_big left.new) self.new }
     {
         self.mark_plain();
-        let place = self.place();
-        self.jump(place.wrapping_add(R::Offset::from_i16(target)));
+        let place = self.place_of(*left);
+        self.jump(place.wrapping_add(R::Offset::from_i16(target)), left);
     }
 
     /// Branches where the top isn't zero.
     #[inline(always)]
-    fn branch_if(&mut self, target: i16)
-        requires { self.old.status ≡ Running }
-        ensures { Performs (act_of self.old (meaning.Bra target)) self.old self.new }
+    pub(crate) fn branch_if(&mut self, target: i16, left: &mut R)
+        requires runs { self.old.status ≡ Running }
+        requires rest { IsRest (R.bytes left.old) (R.is_big left.old) self.old }
+        ensures performs { Performs (act_of self.old (meaning.Bra target)) (at (R.bytes left.old) self.old) (at (R.bytes left.new) self.new) }
+        ensures rest { IsRest (R.bytes left.new) (R.is_big left.new) self.new }
     {
         let Some(number) = self.pop_number() else {
             self.fall_short();
@@ -298,12 +312,12 @@ impl<R: Reader + Copy, S: EvaluationStorage<R>> Machine<R, S> {
             self.pass();
             return;
         }
-        self.take_branch(target)
+        self.take_branch(target, left)
     }
 
     /// Lets a location wait for its piece.
     #[inline(always)]
-    fn locate(&mut self, location: Location<R>)
+    pub(crate) fn locate(&mut self, location: Location<R>)
         requires { self.old.status ≡ Running }
         ensures { Performs (Locates self.old.store.values (location_of (text_of R.bytes R.is_big) R.Offset.number location)) self.old self.new }
     {
@@ -312,7 +326,7 @@ impl<R: Reader + Copy, S: EvaluationStorage<R>> Machine<R, S> {
 
     /// Lets the top wait for its piece, as a value that has no place.
     #[inline(always)]
-    fn locate_value(&mut self)
+    pub(crate) fn locate_value(&mut self)
         requires { self.old.status ≡ Running }
         ensures { Performs (act_of self.old meaning.StackValue) self.old self.new }
     {
@@ -325,7 +339,7 @@ impl<R: Reader + Copy, S: EvaluationStorage<R>> Machine<R, S> {
 
     /// Ends a piece at the address on top, or nowhere where the stack is empty.
     #[inline(never)]
-    fn end_piece(&mut self, size_in_bits: u64, bit_offset: Option<u64>)
+    pub(crate) fn end_piece(&mut self, size_in_bits: u64, bit_offset: Option<u64>)
         requires { self.old.status ≡ Running }
         ensures { Performs (act_of self.old (meaning.Piece size_in_bits bit_offset)) self.old self.new }
     {
@@ -347,7 +361,7 @@ impl<R: Reader + Copy, S: EvaluationStorage<R>> Machine<R, S> {
 
     /// Opens a request.
     #[inline(always)]
-    fn ask(&mut self, request: OpenRequest<R>)
+    pub(crate) fn ask(&mut self, request: OpenRequest<R>)
         ensures { Performs (Asks self.old.store.values (request_of (text_of R.bytes R.is_big) R.Offset.number request) (waiting_of (text_of R.bytes R.is_big) request)) self.old self.new }
     {
         self.enter(EvaluationState::Waiting(request));
@@ -355,7 +369,7 @@ impl<R: Reader + Copy, S: EvaluationStorage<R>> Machine<R, S> {
 
     /// Asks for what memory holds at the address on top, in the space below it where one is named.
     #[inline(never)]
-    fn dereference(&mut self, base_type: UnitOffset<R::Offset>, size: u8, space: bool)
+    pub(crate) fn dereference(&mut self, base_type: UnitOffset<R::Offset>, size: u8, space: bool)
         ensures { Performs (act_of self.old (meaning.Deref (R.Offset.number base_type.0) size space)) self.old self.new }
     {
         if size > self.address_size() {
@@ -389,7 +403,7 @@ impl<R: Reader + Copy, S: EvaluationStorage<R>> Machine<R, S> {
 
     /// Asks for the address of the thread-local slot on top.
     #[inline(never)]
-    fn ask_tls(&mut self)
+    pub(crate) fn ask_tls(&mut self)
         ensures { Performs (act_of self.old meaning.TLS) self.old self.new }
     {
         let Some(index) = self.pop_number() else {
@@ -397,98 +411,5 @@ impl<R: Reader + Copy, S: EvaluationStorage<R>> Machine<R, S> {
             return;
         };
         self.ask(OpenRequest::Tls(index))
-    }
-
-    /// Does an operation that was read.
-    #[inline(always)]
-    #[tactic(auto, unfolding(dwarf_meaning::specs::Acts::act))]
-    pub(crate) fn operate(&mut self, operation: Operation<R>)
-        requires { self.old.status ≡ Running }
-        ensures { Performs (act_of self.old (operation_of (text_of R.bytes R.is_big) R.Offset.number operation)) self.old self.new }
-    {
-        match operation {
-            Operation::Deref {
-                base_type,
-                size,
-                space,
-            } => self.dereference(base_type, size, space),
-            Operation::Drop => self.drop_top(),
-            Operation::Pick { index } => self.pick(index),
-            Operation::Swap => self.swap(),
-            Operation::Rot => self.rotate(),
-            Operation::Abs => self.compute_unary(UnaryOperator::Abs),
-            Operation::And => self.compute_binary(Value::and),
-            Operation::Div => self.compute_binary(Value::div),
-            Operation::Minus => self.compute_binary(Value::sub),
-            Operation::Mod => self.compute_binary(Value::rem),
-            Operation::Mul => self.compute_binary(Value::mul),
-            Operation::Neg => self.compute_unary(UnaryOperator::Neg),
-            Operation::Not => self.compute_unary(UnaryOperator::Not),
-            Operation::Or => self.compute_binary(Value::or),
-            Operation::Plus => self.compute_binary(Value::add),
-            Operation::PlusConstant { value } => self.add_constant(value),
-            Operation::Shl => self.compute_binary(Value::shl),
-            Operation::Shr => self.compute_binary(Value::shr),
-            Operation::Shra => self.compute_binary(Value::shra),
-            Operation::Xor => self.compute_binary(Value::xor),
-            Operation::Bra { target } => self.branch_if(target),
-            Operation::Eq => self.compute_binary(Value::eq),
-            Operation::Ge => self.compute_binary(Value::ge),
-            Operation::Gt => self.compute_binary(Value::gt),
-            Operation::Le => self.compute_binary(Value::le),
-            Operation::Lt => self.compute_binary(Value::lt),
-            Operation::Ne => self.compute_binary(Value::ne),
-            Operation::Skip { target } => self.take_branch(target),
-            Operation::UnsignedConstant { value } => self.push_constant(Value::Generic(value)),
-            Operation::SignedConstant { value } => self.push_signed(value),
-            Operation::Register { register } => self.locate(Location::Register { register }),
-            Operation::RegisterOffset {
-                register,
-                offset,
-                base_type,
-            } => self.ask(OpenRequest::Register {
-                register,
-                offset,
-                base_type,
-            }),
-            Operation::FrameOffset { offset } => self.ask(OpenRequest::FrameBase { offset }),
-            Operation::Nop => self.pass(),
-            Operation::PushObjectAddress => self.push_object_address(),
-            Operation::Call { offset } => self.ask(OpenRequest::AtLocation(offset)),
-            Operation::TLS => self.ask_tls(),
-            Operation::CallFrameCFA => self.ask(OpenRequest::CallFrameCfa),
-            Operation::Piece {
-                size_in_bits,
-                bit_offset,
-            } => self.end_piece(size_in_bits, bit_offset),
-            Operation::ImplicitValue { bytes } => self.locate(Location::Bytes { value: bytes }),
-            Operation::StackValue => self.locate_value(),
-            Operation::ImplicitPointer { value, byte_offset } => {
-                self.locate(Location::ImplicitPointer { value, byte_offset })
-            }
-            Operation::EntryValue { expression } => self.ask(OpenRequest::EntryValue(expression)),
-            Operation::ParameterRef { offset } => self.ask(OpenRequest::ParameterRef(offset)),
-            Operation::Address { address } => self.ask(OpenRequest::RelocatedAddress(address)),
-            Operation::AddressIndex { index } => self.ask(OpenRequest::IndexedAddress {
-                index,
-                relocate: true,
-            }),
-            Operation::ConstantIndex { index } => self.ask(OpenRequest::IndexedAddress {
-                index,
-                relocate: false,
-            }),
-            Operation::TypedLiteral { base_type, value } => {
-                self.ask(OpenRequest::TypedLiteral { base_type, value })
-            }
-            Operation::Convert { base_type } => self.ask(OpenRequest::Convert { base_type }),
-            Operation::Reinterpret { base_type } => {
-                self.ask(OpenRequest::Reinterpret { base_type })
-            }
-            Operation::Uninitialized => self.fail(Error::UnsupportedEvaluation),
-            Operation::WasmLocal { index } => self.ask(OpenRequest::WasmLocal(index)),
-            Operation::WasmGlobal { index } => self.ask(OpenRequest::WasmGlobal(index)),
-            Operation::WasmStack { index } => self.ask(OpenRequest::WasmStack(index)),
-            Operation::VariableValue { offset: _ } => self.fail(Error::UnsupportedEvaluation),
-        }
     }
 }

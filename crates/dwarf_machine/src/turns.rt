@@ -4,7 +4,7 @@ ghost use Rattle.dwarf_meaning.specs.Rest.{Running, Start};
 ghost use Rattle.dwarf_meaning.specs.RunLaws.{waits_of};
 ghost use Rattle.dwarf_meaning.specs.Stores.{Located, push_piece};
 ghost use Rattle.dwarf_machine.specs.Machine.{location_of, piece_of};
-ghost use Rattle.dwarf_machine.specs.inner.Steps.{Begins, Closes, Ends, Holds, IsReady, Turns, total};
+ghost use Rattle.dwarf_machine.specs.inner.Steps.{Begins, Closes, Ends, Holds, IsReady, IsRest, Turns, at, goes_on, total};
 ghost use Rattle.dwarf_op.specs.Views.{text_of};
 
 use crate::machine::Machine;
@@ -27,19 +27,43 @@ fn whole<R: Reader + Copy>(location: Location<R>) -> Piece<R>
 }
 
 impl<R: Reader + Copy, S: EvaluationStorage<R>> Machine<R, S> {
-    /// Does the operation at the place, which is counted.
-    #[inline(always)]
-    fn count_operation(&mut self)
-        requires { IsReady self.old }
-        ensures { Turns self.old self.new }
+    /// Counts the operation in front of what is left, and does it.
+    fn perform(&mut self, left: &mut R)
+        requires ready { IsReady (at (R.bytes left.old) self.old) }
+        requires rest { IsRest (R.bytes left.old) (R.is_big left.old) self.old }
+        ensures turns { Turns (at (R.bytes left.old) self.old) (at (R.bytes left.new) self.new) }
+        ensures rest { IsRest (R.bytes left.new) (R.is_big left.new) self.new }
     {
         if !self.count() {
             return;
         }
-        match self.read() {
-            Ok(operation) => self.operate(operation),
-            Err(error) => self.fail(error),
+        if let Err(error) = self.perform_opcode(left, self.encoding()) {
+            self.fail(error);
         }
+    }
+
+    /// Whether the operation in front of what is left comes next.
+    #[inline(always)]
+    fn goes_on(&self, left: R) -> bool
+        requires { IsRest (R.bytes left) (R.is_big left) self.now }
+        ensures { result ≡ goes_on (at (R.bytes left) self.now) }
+    {
+        self.is_running() && self.is_free() && !left.is_empty()
+    }
+
+    /// Does operations until something else comes next. What is left of the text is a local meanwhile.
+    #[inline(never)]
+    fn run_operations(&mut self)
+        requires { IsReady self.old }
+        ensures { Turns self.old self.new }
+    {
+        let mut left = self.left();
+        let mut goes_on = true;
+        while goes_on {
+            self.perform(&mut left);
+            goes_on = self.goes_on(left);
+        }
+        self.go_to(left);
     }
 
     /// Ends the piece of a location that waits for it, if the operation that was read ends one.
@@ -169,9 +193,8 @@ impl<R: Reader + Copy, S: EvaluationStorage<R>> Machine<R, S> {
             self.leave();
             return;
         }
-        // One call of it alone: then it is inlined, however large it is.
         let Some(location) = self.located() else {
-            self.count_operation();
+            self.run_operations();
             return;
         };
         self.hold(location);

@@ -1,8 +1,9 @@
 -- What the parts of an evaluation do to its state. Contracts of this crate alone cite this file, and private ones above it.
-use Rattle.std.specs.Prelude.{ℕ, zero, suc, ◌+◌, ◌-◌, ◌*◌, ◌<◌, ◌≤◌, ◌≡◌, ◌==◌, Bool, true, false, List, [], ◌∷◌, Option, Some, None, Result, Ok, Err, length}
+use Rattle.std.specs.Prelude.{ℕ, zero, suc, ◌+◌, ◌-◌, ◌*◌, ◌<◌, ◌≤◌, ◌≡◌, ◌==◌, ◌&&◌, not, Bool, true, false, List, [], ◌∷◌, Option, Some, None, Result, Ok, Err, length}
 use Rattle.dwarf_base.specs.declared.errors.Error.{Error}
 use Rattle.dwarf_base.specs.declared.errors.Error.TheVariants.{BadBranchTarget, InvalidExpressionTerminator, TooManyIterations}
 use Rattle.dwarf_base.specs.Faults.{Fault, fault_of}
+use Rattle.dwarf_base.specs.Reads.{IsSuffix}
 use Rattle.dwarf_value.specs.declared.types.Value.{Value}
 use Rattle.dwarf_value.specs.declared.types.Value.TheVariants.{Generic}
 use Rattle.dwarf_value.specs.Values.{to_u64_of}
@@ -57,9 +58,10 @@ with_last last x = record x { store = record x.store { last = last } }
 abbrev pub with_place : ℕ → State → State
 with_place place x = record x { place = place }
 
--- The setup, the settings, the callers and the pieces stay, nothing is counted or decoded, and of values there are so many more at most.
+-- The setup, the settings, the text, the callers and the pieces stay, nothing is counted or decoded, and of values there are so many more at most.
 pub record Stays (more : ℕ) (old new : State) : Type 0 where
   pub kept : Keeps old new
+  pub text : new.text ≡ old.text
   pub callers : length new.callers ≡ length old.callers
   pub count : new.store.count ≡ old.store.count
   pub decodings : new.decodings ≡ old.decodings
@@ -119,6 +121,15 @@ abbrev pub Jumps : ℕ → State → State → Bool → Type 0
 Jumps place old new true = (place ≤ length old.text.bytes) × (new ≡ with_place place old)
 Jumps place old new false = (length old.text.bytes < place) × (new ≡ with_status (Stopped (BadBranchTarget place)) old)
 
+-- what is left belongs to the running text
+pub record IsRest (left : List ℕ) (is_big : Bool) (x : State) : Type 0 where
+  pub rest : IsSuffix left x.text.bytes
+  pub order : is_big ≡ x.text.is_big
+
+-- the state in front of what is left of its text
+abbrev pub at : (left : List ℕ) → State → State
+at left x = with_place (length x.text.bytes - length left) x
+
 -- the same state at this place, once one more operation was decoded
 abbrev pub read_to : ℕ → State → State
 read_to place x = record x { place = place; decodings = x.decodings + 1 }
@@ -174,6 +185,18 @@ Leads f old new = LeadsBy f old new new.status
 -- the operation was done
 abbrev pub Performs : Act → State → State → Type 0
 Performs a old new = Leads (done_at a old) old new
+
+-- An operation was read, and done behind its bytes; this is left of the text.
+pub record PerformsRead (read : Result (Operation × List ℕ) Fault) (left : List ℕ) (old new : State) : Type 0 where
+  pub op : Operation
+  pub behind : List ℕ
+  pub was : read ≡ Ok (op, behind)
+  pub performs : Performs (act_of old op) (at behind old) (at left new)
+
+-- an operation was read and done, or it can't be read, and nothing was done
+abbrev pub TriesToPerform : {X : Type 0} → Result (Operation × List ℕ) Fault → (left : List ℕ) → State → State → Result X Error → Type 0
+TriesToPerform read left old new (Ok done) = PerformsRead read left old new
+TriesToPerform read left old new (Err error) = (read ≡ Err (fault_of error)) × (new ≡ old)
 
 -- a piece behind a location: it is ended, or the state keeps the fault
 abbrev pub Holds : Location → Option (ℕ × Option ℕ) → State → State → Type 0
@@ -316,6 +339,14 @@ pub record Turns (old new : State) : Type 0 where
 abbrev pub is_running : Status → Bool
 is_running Running = true
 is_running _ = false
+
+abbrev pub is_free : Last → Bool
+is_free (Located location) = false
+is_free _ = true
+
+-- whether one more operation is counted next
+abbrev pub goes_on : State → Bool
+goes_on x = is_running x.status && is_free x.store.last && not (x.place == length x.text.bytes)
 
 -- it waits, is complete, or a fault was met
 abbrev pub IsOver : Status → Type 0

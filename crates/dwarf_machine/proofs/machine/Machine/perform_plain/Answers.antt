@@ -2,10 +2,7 @@ use Rattle.std.proofs.Common.{rules}
 use Rattle.dwarf_value.specs.Values.{add_of, and_of, div_of, eq_of, ge_of, gt_of, le_of, lt_of, mul_of, ne_of, or_of, rem_of, shl_of, shr_of, shra_of, sub_of, xor_of}
 use Rattle.dwarf_meaning.specs.Acts.{act}
 use Rattle.dwarf_meaning.specs.Stores.{address_bits}
-use Rattle.dwarf_machine.proofs.machine.Machine.operate.Goals as goal
-
-pub returns-in-Bra : goal.returns-in-Bra
-returns-in-Bra g c = search rules
+use Rattle.dwarf_machine.proofs.machine.Machine.perform_plain.Goals as goal
 
 pub returns-in-And : goal.returns-in-And
 unfolding act

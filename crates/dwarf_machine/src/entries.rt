@@ -1,0 +1,328 @@
+//! Doing the operation in front of what is left of the running text: by the entry of its opcode in the table, with no
+//! operation made of it.
+
+ghost use Rattle.std.specs.Prelude.{◌≡◌};
+ghost use Rattle.dwarf_meaning.specs.Decoding.{operands_at, operation_at};
+ghost use Rattle.dwarf_meaning.specs.Operands.{context_of};
+ghost use Rattle.dwarf_meaning.specs.Rest.{Running};
+ghost use Rattle.dwarf_machine.specs.inner.Steps.{IsRest, Performs, TriesToPerform, act_of, at, read_to};
+ghost use Rattle.dwarf_op.specs.Entries as entries;
+ghost use Rattle.dwarf_op.specs.Entries.{entry_row, rare_row};
+ghost use Rattle.dwarf_op.specs.Views.{text_of};
+
+use crate::machine::Machine;
+use crate::operators::UnaryOperator;
+use crate::states::OpenRequest;
+use dwarf_base::{
+    DebugAddrIndex, DebugInfoOffset, DwOp, Encoding, Error, Reader, Register, Result, UnitOffset,
+};
+use dwarf_op::{
+    DieReference, Entry, FromBlock, FromBranch, FromByte, FromOffset, FromSigned, FromUnsigned,
+    Location, Plain, Rare, WasmPlace, entry_at, generic_type, read_bit_piece, read_block,
+    read_implicit_pointer, read_named_base_register, read_offset, read_piece, read_register,
+    read_signed, read_sleb128, read_typed_deref, read_typed_literal, read_typed_register,
+    read_unsigned, read_wasm_location,
+};
+use dwarf_store::EvaluationStorage;
+use dwarf_value::Value;
+
+impl<R: Reader + Copy, S: EvaluationStorage<R>> Machine<R, S> {
+    /// Does an operation without fields.
+    #[inline(always)]
+    #[tactic(auto, unfolding(dwarf_meaning::specs::Acts::act))]
+    fn perform_plain(&mut self, operation: Plain)
+        requires { self.old.status ≡ Running }
+        ensures { Performs (act_of self.old (entries.plain_operation operation)) self.old self.new }
+    {
+        match operation {
+            Plain::Drop => self.drop_top(),
+            Plain::Swap => self.swap(),
+            Plain::Rot => self.rotate(),
+            Plain::Abs => self.compute_unary(UnaryOperator::Abs),
+            Plain::And => self.compute_binary(Value::and),
+            Plain::Div => self.compute_binary(Value::div),
+            Plain::Minus => self.compute_binary(Value::sub),
+            Plain::Mod => self.compute_binary(Value::rem),
+            Plain::Mul => self.compute_binary(Value::mul),
+            Plain::Neg => self.compute_unary(UnaryOperator::Neg),
+            Plain::Not => self.compute_unary(UnaryOperator::Not),
+            Plain::Or => self.compute_binary(Value::or),
+            Plain::Plus => self.compute_binary(Value::add),
+            Plain::Shl => self.compute_binary(Value::shl),
+            Plain::Shr => self.compute_binary(Value::shr),
+            Plain::Shra => self.compute_binary(Value::shra),
+            Plain::Xor => self.compute_binary(Value::xor),
+            Plain::Eq => self.compute_binary(Value::eq),
+            Plain::Ge => self.compute_binary(Value::ge),
+            Plain::Gt => self.compute_binary(Value::gt),
+            Plain::Le => self.compute_binary(Value::le),
+            Plain::Lt => self.compute_binary(Value::lt),
+            Plain::Ne => self.compute_binary(Value::ne),
+            Plain::Nop => self.pass(),
+            Plain::PushObjectAddress => self.push_object_address(),
+            Plain::TLS => self.ask_tls(),
+            Plain::CallFrameCFA => self.ask(OpenRequest::CallFrameCfa),
+            Plain::StackValue => self.locate_value(),
+            Plain::Uninitialized => self.refuse(),
+        }
+    }
+
+    /// Does an operation made of one byte.
+    #[inline(always)]
+    #[tactic(auto, unfolding(dwarf_meaning::specs::Acts::act))]
+    fn perform_byte(&mut self, make: FromByte, byte: u8)
+        requires { self.old.status ≡ Running }
+        ensures { Performs (act_of self.old (entries.byte_operation make byte)) self.old self.new }
+    {
+        match make {
+            FromByte::Constant => self.push_constant(Value::Generic(u64::from(byte))),
+            FromByte::Pick => self.pick(byte),
+            FromByte::Deref => self.dereference(generic_type(), byte, false),
+            FromByte::SpaceDeref => self.dereference(generic_type(), byte, true),
+        }
+    }
+
+    /// Does an operation made of an unsigned number.
+    #[inline(always)]
+    #[tactic(auto, unfolding(dwarf_meaning::specs::Acts::act))]
+    fn perform_unsigned(&mut self, make: FromUnsigned, number: u64)
+        requires { self.old.status ≡ Running }
+        ensures { Performs (act_of self.old (entries.unsigned_operation make number)) self.old self.new }
+    {
+        match make {
+            FromUnsigned::Constant => self.push_constant(Value::Generic(number)),
+            FromUnsigned::PlusConstant => self.add_constant(number),
+            FromUnsigned::Address => self.ask(OpenRequest::RelocatedAddress(number)),
+        }
+    }
+
+    /// Does an operation made of a signed number.
+    #[inline(always)]
+    #[tactic(auto, unfolding(dwarf_meaning::specs::Acts::act))]
+    fn perform_signed(&mut self, make: FromSigned, number: i64)
+        requires { self.old.status ≡ Running }
+        ensures { Performs (act_of self.old (entries.signed_operation make number)) self.old self.new }
+    {
+        match make {
+            FromSigned::Constant => self.push_signed(number),
+            FromSigned::FrameOffset => self.ask(OpenRequest::FrameBase { offset: number }),
+        }
+    }
+
+    /// Does a branch.
+    #[inline(always)]
+    #[tactic(auto, unfolding(dwarf_meaning::specs::Acts::act))]
+    fn perform_branch(&mut self, make: FromBranch, target: i16, left: &mut R)
+        requires runs { self.old.status ≡ Running }
+        requires rest { IsRest (R.bytes left.old) (R.is_big left.old) self.old }
+        ensures performs { Performs (act_of self.old (entries.branch_operation make target)) (at (R.bytes left.old) self.old) (at (R.bytes left.new) self.new) }
+        ensures rest { IsRest (R.bytes left.new) (R.is_big left.new) self.new }
+    {
+        match make {
+            FromBranch::Bra => self.branch_if(target, left),
+            FromBranch::Skip => self.take_branch(target, left),
+        }
+    }
+
+    /// Does an operation made of an offset.
+    #[inline(always)]
+    #[tactic(auto, unfolding(dwarf_meaning::specs::Acts::act))]
+    fn perform_offset(&mut self, make: FromOffset, offset: R::Offset)
+        requires { self.old.status ≡ Running }
+        ensures { Performs (act_of self.old (entries.offset_operation make (R.Offset.number offset))) self.old self.new }
+    {
+        match make {
+            FromOffset::UnitCall => self.ask(OpenRequest::AtLocation(DieReference::UnitRef(
+                UnitOffset(offset),
+            ))),
+            FromOffset::InfoCall => self.ask(OpenRequest::AtLocation(DieReference::DebugInfoRef(
+                DebugInfoOffset(offset),
+            ))),
+            FromOffset::ParameterRef => self.ask(OpenRequest::ParameterRef(UnitOffset(offset))),
+            FromOffset::AddressIndex => self.ask(OpenRequest::IndexedAddress {
+                index: DebugAddrIndex(offset),
+                relocate: true,
+            }),
+            FromOffset::ConstantIndex => self.ask(OpenRequest::IndexedAddress {
+                index: DebugAddrIndex(offset),
+                relocate: false,
+            }),
+            FromOffset::Convert => self.ask(OpenRequest::Convert {
+                base_type: UnitOffset(offset),
+            }),
+            FromOffset::Reinterpret => self.ask(OpenRequest::Reinterpret {
+                base_type: UnitOffset(offset),
+            }),
+            FromOffset::VariableValue => self.refuse(),
+        }
+    }
+
+    /// Does an operation made of a block.
+    #[inline(always)]
+    #[tactic(auto, unfolding(dwarf_meaning::specs::Acts::act))]
+    fn perform_block(&mut self, make: FromBlock, block: R)
+        requires { self.old.status ≡ Running }
+        ensures { Performs (act_of self.old (entries.block_operation make (text_of R.bytes R.is_big block))) self.old self.new }
+    {
+        match make {
+            FromBlock::ImplicitValue => self.locate(Location::Bytes { value: block }),
+            FromBlock::EntryValue => self.ask(OpenRequest::EntryValue(block)),
+        }
+    }
+
+    /// Asks for what stands in a place of WebAssembly.
+    #[inline(always)]
+    #[tactic(auto, unfolding(dwarf_meaning::specs::Acts::act))]
+    fn perform_wasm(&mut self, place: WasmPlace, index: u32)
+        ensures { Performs (act_of self.old (entries.wasm_operation place index)) self.old self.new }
+    {
+        match place {
+            WasmPlace::Local => self.ask(OpenRequest::WasmLocal(index)),
+            WasmPlace::Global => self.ask(OpenRequest::WasmGlobal(index)),
+            WasmPlace::Stack => self.ask(OpenRequest::WasmStack(index)),
+        }
+    }
+
+    /// Reads the operands of an entry that compilers seldom write, and does its operation.
+    #[inline(never)]
+    fn perform_rare(&mut self, entry: Rare, left: &mut R, encoding: Encoding) -> Result<()>
+        requires runs { self.old.status ≡ Running }
+        requires rest { IsRest (R.bytes left.old) (R.is_big left.old) self.old }
+        ensures performs { TriesToPerform (operands_at (context_of encoding R.Offset.BITS (R.is_big left.old)) (rare_row entry) (R.bytes left.old)) (R.bytes left.new) self.old self.new result }
+        ensures rest { IsRest (R.bytes left.new) (R.is_big left.new) self.new }
+    {
+        match entry {
+            Rare::NamedRegister => {
+                let register = read_register(left)?;
+                self.locate(Location::Register { register });
+            }
+            Rare::NamedBaseRegister => {
+                let (register, offset) = read_named_base_register(left)?;
+                self.ask(OpenRequest::Register {
+                    register,
+                    offset,
+                    base_type: generic_type(),
+                });
+            }
+            Rare::TypedRegister => {
+                let (register, base_type) = read_typed_register(left, encoding)?;
+                self.ask(OpenRequest::Register {
+                    register,
+                    offset: 0,
+                    base_type: UnitOffset(base_type),
+                });
+            }
+            Rare::BitPiece => {
+                let (size_in_bits, bit_offset) = read_bit_piece(left)?;
+                self.end_piece(size_in_bits, Some(bit_offset));
+            }
+            Rare::Block(make) => {
+                let block = read_block(left, encoding)?;
+                self.perform_block(make, block);
+            }
+            Rare::TypedLiteral => {
+                let (base_type, value) = read_typed_literal(left, encoding)?;
+                self.ask(OpenRequest::TypedLiteral {
+                    base_type: UnitOffset(base_type),
+                    value,
+                });
+            }
+            Rare::TypedDeref(space) => {
+                let (size, base_type) = read_typed_deref(left, encoding)?;
+                self.dereference(UnitOffset(base_type), size, space);
+            }
+            Rare::ImplicitPointer => {
+                let (value, byte_offset) = read_implicit_pointer(left, encoding)?;
+                self.locate(Location::ImplicitPointer {
+                    value: DebugInfoOffset(value),
+                    byte_offset,
+                });
+            }
+            Rare::WasmLocation => {
+                let (place, index) = read_wasm_location(left)?;
+                self.perform_wasm(place, index);
+            }
+        }
+        Ok(())
+    }
+
+    /// Reads the operands of an entry, and does its operation.
+    fn perform_entry(
+        &mut self,
+        entry: Entry,
+        opcode: u8,
+        left: &mut R,
+        encoding: Encoding,
+    ) -> Result<()>
+        requires runs { self.old.status ≡ Running }
+        requires rest { IsRest (R.bytes left.old) (R.is_big left.old) self.old }
+        ensures performs { TriesToPerform (operands_at (context_of encoding R.Offset.BITS (R.is_big left.old)) (entry_row encoding opcode entry) (R.bytes left.old)) (R.bytes left.new) self.old self.new result }
+        ensures rest { IsRest (R.bytes left.new) (R.is_big left.new) self.new }
+    {
+        match entry {
+            Entry::Unknown => return Err(Error::InvalidExpression(DwOp(opcode))),
+            Entry::Plain(operation) => self.perform_plain(operation),
+            Entry::Literal(number) => self.push_constant(Value::Generic(u64::from(number))),
+            Entry::Register(register) => self.locate(Location::Register {
+                register: Register(u16::from(register)),
+            }),
+            Entry::Pick(index) => self.pick(index),
+            Entry::Deref(space) => {
+                self.dereference(generic_type(), encoding.address_size, space);
+            }
+            Entry::Byte(make) => {
+                let byte = left.read_u8()?;
+                self.perform_byte(make, byte);
+            }
+            Entry::Unsigned(shape, make) => {
+                let number = read_unsigned(shape, left, encoding)?;
+                self.perform_unsigned(make, number);
+            }
+            Entry::Signed(shape, make) => {
+                let number = read_signed(shape, left)?;
+                self.perform_signed(make, number);
+            }
+            Entry::Branch(make) => {
+                let target = left.read_i16()?;
+                self.perform_branch(make, target, left);
+            }
+            Entry::Offset(shape, make) => {
+                let offset = read_offset(shape, left, encoding)?;
+                self.perform_offset(make, offset);
+            }
+            Entry::BaseRegister(register) => {
+                let offset = read_sleb128(left)?;
+                self.ask(OpenRequest::Register {
+                    register: Register(u16::from(register)),
+                    offset,
+                    base_type: generic_type(),
+                });
+            }
+            Entry::Piece => {
+                let size_in_bits = read_piece(left)?;
+                self.end_piece(size_in_bits, None);
+            }
+            Entry::Rare(entry) => {
+                let mut apart = *left;
+                let done = self.perform_rare(entry, &mut apart, encoding);
+                *left = apart;
+                return done;
+            }
+        }
+        Ok(())
+    }
+
+    /// Reads the operation in front of what is left, and does it. But for `read_piece` no other function of evaluation
+    /// decodes.
+    #[inline(always)]
+    pub(crate) fn perform_opcode(&mut self, left: &mut R, encoding: Encoding) -> Result<()>
+        requires runs { self.old.status ≡ Running }
+        requires rest { IsRest (R.bytes left.old) (R.is_big left.old) self.old }
+        ensures performs { TriesToPerform (operation_at encoding R.Offset.BITS (text_of R.bytes R.is_big left.old)) (R.bytes left.new) (read_to self.old.place self.old) self.new result }
+        ensures rest { IsRest (R.bytes left.new) (R.is_big left.new) self.new }
+    {
+        self.tick();
+        let opcode = left.read_u8()?;
+        self.perform_entry(entry_at(opcode), opcode, left, encoding)
+    }
+}

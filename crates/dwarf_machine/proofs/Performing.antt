@@ -1,17 +1,17 @@
 -- One operation that is counted, read and done in front of what is left of a text is one turn of the nested run.
-use Rattle.std.proofs.Common.{ℕ, ◌≡◌, ◌+◌, ◌-◌, ◌<◌, ◌≤◌, ◌==◌, ◌&&◌, not, Bool, true, false, List, length, drop, Result, Ok, Err, arith, ap, ◌∙◌, sym, refl, subst}
+use Rattle.std.proofs.Common.{ℕ, ◌≡◌, ◌-◌, ◌<◌, ◌≤◌, ◌==◌, ◌&&◌, not, Bool, true, false, List, length, drop, Result, Ok, Err, arith, ap, ◌∙◌, sym, refl, subst}
 use Rattle.std.proofs.lemmas.Bool.Decides.{nat_tests}
 use Rattle.dwarf_base.specs.declared.common.Encoding.{Encoding}
 use Rattle.dwarf_base.specs.declared.errors.Error.{Error}
 use Rattle.dwarf_base.specs.Faults.{Fault, fault_of}
 use Rattle.dwarf_base.specs.Reads.{IsSuffix}
 use Rattle.dwarf_meaning.specs.Decoding.{operation_at}
-use Rattle.dwarf_meaning.specs.Operations.{Operation, Text}
-use Rattle.dwarf_meaning.specs.Run.{read, counted, can_count}
-use Rattle.dwarf_meaning.specs.Stores.{Setup, Last, Nothing, Plain, Pieced, Pushed, Called, Located}
+use Rattle.dwarf_meaning.specs.Operations.{Operation}
+use Rattle.dwarf_meaning.specs.Run.{read}
+use Rattle.dwarf_meaning.specs.Stores.{Last, Nothing, Plain, Pieced, Pushed, Called, Located}
 use Rattle.dwarf_meaning.specs.Rest.{State, Status, Start, Running, Waits, Complete, Stopped}
 use Rattle.dwarf_machine.specs.Inputs.{with_status}
-use Rattle.dwarf_machine.specs.inner.Steps.{Comes, CountsOne, IsFree, IsReady, IsRest, PerformsRead, Performs, Reads, Turns, act_of, at, effort, goes_on, is_free, is_running, read_to, total, with_store}
+use Rattle.dwarf_machine.specs.inner.Steps.{Comes, CountsOne, IsFree, IsReady, IsRest, PerformsRead, Turns, at, effort, goes_on, is_free, is_running, read_to, total}
 use Rattle.dwarf_machine.proofs.Reaching.{comes_here, comes_more}
 use Rattle.dwarf_machine.proofs.Turning.{counted_turns, ready_none, unread_turns}
 

@@ -1,6 +1,6 @@
-use Rattle.std.proofs.Common.{ℕ, ◌≡◌, Bool, List, Result, Ok, Err, ap, ◌∙◌, subst, sym}
+use Rattle.std.proofs.Common.{ℕ, ◌≡◌, Bool, List, Result, ap, ◌∙◌, subst, sym}
 use Rattle.std.proofs.lemmas.Result.{err_from_is_err_and}
-use Rattle.dwarf_base.specs.Faults.{Fault, fault_of, ◌>>=◌}
+use Rattle.dwarf_base.specs.Faults.{Fault, ◌>>=◌}
 use Rattle.dwarf_meaning.specs.Decoding.{operands_at, operation_at}
 use Rattle.dwarf_meaning.specs.Opcodes.{Row, row_of}
 use Rattle.dwarf_meaning.specs.Operands.{context_of}

@@ -1,4 +1,4 @@
-use Rattle.std.proofs.Common.{Bool, subst, sym, ◌∙◌}
+use Rattle.std.proofs.Common.{Bool, subst}
 use Rattle.dwarf_machine.specs.inner.Steps.{at}
 use Rattle.dwarf_machine.proofs.Performing.{StillRuns, runs_here, runs_more, runs_out}
 use Rattle.dwarf_machine.proofs.machine.Machine.run_operations.Goals as goal

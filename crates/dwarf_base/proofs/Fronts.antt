@@ -5,7 +5,7 @@ use Rattle.std.proofs.lemmas.List.{length-take-le, take-append-drop}
 use Rattle.std.proofs.Math.Seq.{take-append_seam, drop-append_seam}
 use Rattle.dwarf_base.specs.declared.common.Format.{Format}
 use Rattle.dwarf_base.specs.Faults.{Fault, UnexpectedEof, UnsupportedAddressSize, ◌>>=◌}
-use Rattle.dwarf_base.specs.Fronts.{Begins, ReadsExactly, TakesFront, ReadsFronts, SpellsBlock, SpellsFixed, RefusedBlock}
+use Rattle.dwarf_base.specs.Fronts.{Begins, ReadsExactly, TakesFront, ReadsFronts, SpellsBlock, SpellsFixed, MalformedBlock}
 use Rattle.dwarf_base.specs.Numbers.{number_of, signed_of, offset_of}
 use Rattle.dwarf_base.specs.Reads.{u8_at, split_at, fixed_at, signed_at, address_at, format_at, offset_size, is_fixed_size}
 use Rattle.dwarf_base.proofs.Splits.{ok_pair, split_short, split_long}
@@ -107,7 +107,7 @@ split_joined n front rest length_is =
     let long : n ≤ length (front ++ rest) = simp length-append (omega arith) in
     split_long n (front ++ rest) long ∙ rw (← length_is, take-append_seam front rest, drop-append_seam front rest) refl
 
-pub split_exactly : (n : ℕ) → ReadsExactly (SpellsBlock n) (RefusedBlock n) (split_at n)
+pub split_exactly : (n : ℕ) → ReadsExactly (SpellsBlock n) (MalformedBlock n) (split_at n)
 split_exactly n = record {
   ok = λ bytes block rest. (
     λ h. elim (cases_lt (length bytes) n) [
@@ -136,7 +136,7 @@ shorter_front shorter byte lost n h = omega (arith, length-append shorter (byte 
 
 pub split_fronts : (n : ℕ) → ReadsFronts (split_at n)
 split_fronts n =
-    fronts_exactly (SpellsBlock n) (RefusedBlock n) (split_at n) (split_exactly n)
+    fronts_exactly (SpellsBlock n) (MalformedBlock n) (split_at n) (split_exactly n)
     (λ shorter byte lost block spells. record { shorter = shorter_front shorter byte lost n spells.length_is; fault_is = refl })
 
 -- ---- numbers of fixed size
@@ -145,7 +145,7 @@ refused_before : {A B : Type 0} (r : Result A Fault) (value_of : A → B) (fault
 refused_before (Ok a) value_of fault h = absurd cc
 refused_before (Err other) value_of fault h = cc
 
-pub fixed_exactly : (big : Bool) (n : ℕ) → ReadsExactly (SpellsFixed big n) (RefusedBlock n) (fixed_at big n)
+pub fixed_exactly : (big : Bool) (n : ℕ) → ReadsExactly (SpellsFixed big n) (MalformedBlock n) (fixed_at big n)
 unfolding fixed_at
 fixed_exactly big n = record {
   ok = λ bytes value rest. (
@@ -168,7 +168,7 @@ fixed_exactly big n = record {
 
 pub fixed_fronts : (big : Bool) (n : ℕ) → ReadsFronts (fixed_at big n)
 fixed_fronts big n =
-    fronts_exactly (SpellsFixed big n) (RefusedBlock n) (fixed_at big n) (fixed_exactly big n)
+    fronts_exactly (SpellsFixed big n) (MalformedBlock n) (fixed_at big n) (fixed_exactly big n)
     (λ shorter byte lost value spells. record { shorter = shorter_front shorter byte lost n spells.length_is; fault_is = refl })
 
 pub signed_fronts : (big : Bool) (n : ℕ) → ReadsFronts (signed_at big n)

@@ -4,7 +4,7 @@ use Rattle.std.proofs.lemmas.Bool.{cases_lt, cases_eq}
 use Rattle.std.proofs.lemmas.Bool.Decides.{nat_tests}
 use Rattle.dwarf_base.specs.Faults.{Fault, UnexpectedEof, ◌>>=◌}
 use Rattle.dwarf_base.specs.Fronts.{Begins, ReadsExactly, ReadsFronts}
-use Rattle.dwarf_base.specs.Leb.{LebForm, unsigned_leb, signed_leb, low_sum, IsEnded, last_of, SpellsLeb, GoesOn, RefusedLeb, leb_from, uleb_at, uleb_u32_at, sleb_at, within_u32}
+use Rattle.dwarf_base.specs.Leb.{LebForm, unsigned_leb, signed_leb, low_sum, IsEnded, last_byte_of, SpellsLeb, GoesOn, MalformedLeb, leb_from, uleb_at, uleb_u32_at, sleb_at, within_u32}
 use Rattle.dwarf_base.proofs.Fronts.{fronts_exactly, fronts_then, fronts_checked}
 use Rattle.dwarf_base.proofs.LebSteps.{goes_on, ends}
 use Rattle.dwarf_base.proofs.Splits.{ok_pair}
@@ -23,14 +23,14 @@ at_tenth form place sum byte rest e = rw e refl
 record SpellsFrom {A : Type 0} (form : LebForm A) (place sum : ℕ) (bytes : List ℕ) (value : A) : Type 0 where
   ended : IsEnded bytes
   at_most_ten : place + length bytes ≤ 10
-  tenth : place + length bytes ≡ 10 → form.allows_tenth (last_of bytes) ≡ true
-  value_is : value ≡ form.number (sum + low_sum place bytes) (place + length bytes) (last_of bytes)
+  tenth : place + length bytes ≡ 10 → form.allows_tenth (last_byte_of bytes) ≡ true
+  value_is : value ≡ form.number (sum + low_sum place bytes) (place + length bytes) (last_byte_of bytes)
 
 ended_more : (byte : ℕ) (bytes : List ℕ) → 128 ≤ byte → IsEnded bytes → IsEnded (byte ∷ bytes)
 ended_more byte [] high ended = absurd ended
 ended_more byte (next ∷ bytes) high ended = (high, ended)
 
-last_more : (byte : ℕ) (bytes : List ℕ) → IsEnded bytes → last_of (byte ∷ bytes) ≡ last_of bytes
+last_more : (byte : ℕ) (bytes : List ℕ) → IsEnded bytes → last_byte_of (byte ∷ bytes) ≡ last_byte_of bytes
 last_more byte [] ended = absurd ended
 last_more byte (next ∷ bytes) ended = refl
 
@@ -90,8 +90,8 @@ read_spelled form ending place sum (byte ∷ bytes) value rest most h =
 -- ---- what is spelled is read
 
 spelled_read : {A : Type 0} (form : LebForm A) (place sum : ℕ) (front rest : List ℕ) → IsEnded front → place + length front ≤ 10
-    → (place + length front ≡ 10 → form.allows_tenth (last_of front) ≡ true)
-    → leb_from form place sum (front ++ rest) ≡ Ok (form.number (sum + low_sum place front) (place + length front) (last_of front), rest)
+    → (place + length front ≡ 10 → form.allows_tenth (last_byte_of front) ≡ true)
+    → leb_from form place sum (front ++ rest) ≡ Ok (form.number (sum + low_sum place front) (place + length front) (last_byte_of front), rest)
 spelled_read form place sum [] rest ended most tenth = absurd ended
 spelled_read form place sum (byte ∷ []) rest ended most tenth =
     let whole : byte % 128 ≡ byte = omega arith in
@@ -184,7 +184,7 @@ begins_read form bytes value rest b =
     let same : leb_from form 0 0 (b.front ++ rest) ≡ Ok (value, rest) = read ∙ ap (λ x. Ok (x, rest)) (from_start form _ _ _ ∙ sym b.spells.value_is) in
     rw b.whole at same
 
-leb_exactly : {A : Type 0} (form : LebForm A) (ending : (byte : ℕ) → form.allows_tenth byte ≡ true → byte < 128) → ReadsExactly (SpellsLeb form) (RefusedLeb form) (leb_from form 0 0)
+leb_exactly : {A : Type 0} (form : LebForm A) (ending : (byte : ℕ) → form.allows_tenth byte ≡ true → byte < 128) → ReadsExactly (SpellsLeb form) (MalformedLeb form) (leb_from form 0 0)
 leb_exactly form ending = record {
   ok = λ bytes value rest. (
     λ h.
@@ -234,7 +234,7 @@ goes_on_before (x ∷ []) byte lost ended = (ended.0, tt)
 goes_on_before (x ∷ y ∷ shorter) byte lost ended = (ended.0, goes_on_before (y ∷ shorter) byte lost ended.1)
 
 spelling_cut : {A : Type 0} (form : LebForm A) (shorter : List ℕ) (byte : ℕ) (lost : List ℕ) (value : A) → SpellsLeb form (shorter ++ (byte ∷ lost)) value
-    → RefusedLeb form shorter UnexpectedEof
+    → MalformedLeb form shorter UnexpectedEof
 spelling_cut form shorter byte lost value spells =
     inl (
       record {
@@ -246,19 +246,19 @@ spelling_cut form shorter byte lost value spells =
 
 -- ---- the reads
 
-pub uleb_exactly : ReadsExactly (SpellsLeb unsigned_leb) (RefusedLeb unsigned_leb) uleb_at
+pub uleb_exactly : ReadsExactly (SpellsLeb unsigned_leb) (MalformedLeb unsigned_leb) uleb_at
 unfolding uleb_at
 uleb_exactly = leb_exactly unsigned_leb (λ byte allowed. grind (arith, nat_tests))
 
-pub sleb_exactly : ReadsExactly (SpellsLeb signed_leb) (RefusedLeb signed_leb) sleb_at
+pub sleb_exactly : ReadsExactly (SpellsLeb signed_leb) (MalformedLeb signed_leb) sleb_at
 unfolding sleb_at
 sleb_exactly = leb_exactly signed_leb (λ byte allowed. grind (arith, nat_tests))
 
 pub uleb_fronts : ReadsFronts uleb_at
-uleb_fronts = fronts_exactly (SpellsLeb unsigned_leb) (RefusedLeb unsigned_leb) uleb_at uleb_exactly (spelling_cut unsigned_leb)
+uleb_fronts = fronts_exactly (SpellsLeb unsigned_leb) (MalformedLeb unsigned_leb) uleb_at uleb_exactly (spelling_cut unsigned_leb)
 
 pub sleb_fronts : ReadsFronts sleb_at
-sleb_fronts = fronts_exactly (SpellsLeb signed_leb) (RefusedLeb signed_leb) sleb_at sleb_exactly (spelling_cut signed_leb)
+sleb_fronts = fronts_exactly (SpellsLeb signed_leb) (MalformedLeb signed_leb) sleb_at sleb_exactly (spelling_cut signed_leb)
 
 pub uleb_u32_fronts : ReadsFronts uleb_u32_at
 uleb_u32_fronts =

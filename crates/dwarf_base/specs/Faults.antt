@@ -3,6 +3,7 @@ use Rattle.std.specs.Prelude.{ℕ, Result, Ok, Err, ◌≡◌}
 use Rattle.dwarf_base.specs.declared.errors.Error.{Error}
 use Rattle.dwarf_base.specs.declared.errors.Error.TheVariants as error
 
+-- the 21 errors
 pub data Fault : Type 0 where
   UnexpectedEof : Fault
   BadUnsignedLeb128 : Fault
@@ -26,6 +27,7 @@ pub data Fault : Type 0 where
   InvalidExpressionTerminator : (place : ℕ) → Fault
   StackFull : Fault
 
+-- the fault of an error
 abbrev pub fault_of : Error → Fault
 fault_of (error.UnexpectedEof id) = UnexpectedEof
 fault_of error.BadUnsignedLeb128 = BadUnsignedLeb128
@@ -49,12 +51,12 @@ fault_of error.InvalidPiece = InvalidPiece
 fault_of (error.InvalidExpressionTerminator place) = InvalidExpressionTerminator place
 fault_of error.StackFull = StackFull
 
--- what a call answers, seen through `view`, is what is wanted: a value or a fault
-abbrev pub Answers : {X Y : Type 0} → (X → Y) → Result X Error → Result Y Fault → Type 0
-Answers view (Ok x) wanted = wanted ≡ Ok (view x)
-Answers view (Err e) wanted = wanted ≡ Err (fault_of e)
+-- what a call returns, seen through `view`, is what is wanted: a value or a fault
+abbrev pub Returns : {X Y : Type 0} → (X → Y) → Result X Error → Result Y Fault → Type 0
+Returns view (Ok x) wanted = wanted ≡ Ok (view x)
+Returns view (Err e) wanted = wanted ≡ Err (fault_of e)
 
--- an answer, and then what is made of it
+-- a result, and then what is made of it
 infixl 10 ◌>>=◌
 abbrev pub ◌>>=◌ : {A B : Type 0} → Result A Fault → (A → Result B Fault) → Result B Fault
 (Ok x) >>= next = next x

@@ -9,10 +9,10 @@ pub record Begins {A : Type 0} (Spells : List ℕ → A → Type 0) (bytes : Lis
   pub whole : front ++ rest ≡ bytes
   pub spells : Spells front value
 
--- a read gives a value exactly where a front spells it, and a fault exactly where the bytes are refused by it
-pub record ReadsExactly {A : Type 0} (Spells : List ℕ → A → Type 0) (Refused : List ℕ → Fault → Type 0) (read : List ℕ → Result (A × List ℕ) Fault) : Type 0 where
+-- a read gives a value exactly where a front spells it, and a fault exactly where the bytes are malformed, by it
+pub record ReadsExactly {A : Type 0} (Spells : List ℕ → A → Type 0) (Malformed : List ℕ → Fault → Type 0) (read : List ℕ → Result (A × List ℕ) Fault) : Type 0 where
   pub ok : (bytes : List ℕ) (value : A) (rest : List ℕ) → (read bytes ≡ Ok (value, rest)) ↔ Begins Spells bytes value rest
-  pub err : (bytes : List ℕ) (fault : Fault) → (read bytes ≡ Err fault) ↔ Refused bytes fault
+  pub err : (bytes : List ℕ) (fault : Fault) → (read bytes ≡ Err fault) ↔ Malformed bytes fault
 
 -- the read takes this front for the value, whatever follows it, and is cut off by the end of any shorter one
 pub record TakesFront {A : Type 0} (read : List ℕ → Result (A × List ℕ) Fault) (front : List ℕ) (value : A) : Type 0 where
@@ -34,6 +34,6 @@ pub record SpellsFixed (big : Bool) (n : ℕ) (bytes : List ℕ) (value : ℕ) :
   pub value_is : value ≡ number_of big bytes
 
 -- fewer than n bytes are cut off
-pub record RefusedBlock (n : ℕ) (bytes : List ℕ) (fault : Fault) : Type 0 where
+pub record MalformedBlock (n : ℕ) (bytes : List ℕ) (fault : Fault) : Type 0 where
   pub shorter : length bytes < n
   pub fault_is : fault ≡ UnexpectedEof

@@ -10,6 +10,7 @@ pub record LebForm (A : Type 0) : Type 0 where
   pub too_long : Fault
   pub number : (sum count last : ℕ) → A
 
+-- a tenth byte may be 0 or 1
 abbrev pub unsigned_leb : LebForm ℕ
 unsigned_leb = record { allows_tenth = λ byte. nat_lt byte 2; too_long = BadUnsignedLeb128; number = λ sum count last. sum }
 
@@ -17,6 +18,7 @@ unsigned_leb = record { allows_tenth = λ byte. nat_lt byte 2; too_long = BadUns
 abbrev pub sign_extended : (sum count last : ℕ) → ℤ
 sign_extended sum count last = if nat_lt last 64 then pos sum else pos sum -ℤ pos (128 ^ count)
 
+-- a tenth byte may be 0 or 127
 abbrev pub signed_leb : LebForm ℤ
 signed_leb = record { allows_tenth = λ byte. byte == 0 || byte == 127; too_long = BadSignedLeb128; number = sign_extended }
 
@@ -33,19 +35,20 @@ IsEnded [] = ⊥
 IsEnded (byte ∷ []) = byte < 128
 IsEnded (byte ∷ next ∷ bytes) = (128 ≤ byte) × IsEnded (next ∷ bytes)
 
-abbrev pub last_of : List ℕ → ℕ
-last_of [] = 0
-last_of (byte ∷ []) = byte
-last_of (byte ∷ next ∷ bytes) = last_of (next ∷ bytes)
+-- the last byte, 0 of none
+abbrev pub last_byte_of : List ℕ → ℕ
+last_byte_of [] = 0
+last_byte_of (byte ∷ []) = byte
+last_byte_of (byte ∷ next ∷ bytes) = last_byte_of (next ∷ bytes)
 
 -- the bytes, all of them, are a spelling of the value
 pub record SpellsLeb {A : Type 0} (form : LebForm A) (bytes : List ℕ) (value : A) : Type 0 where
   pub ended : IsEnded bytes
   pub at_most_ten : length bytes ≤ 10
-  pub tenth : length bytes ≡ 10 → form.allows_tenth (last_of bytes) ≡ true
-  pub value_is : value ≡ form.number (low_sum 0 bytes) (length bytes) (last_of bytes)
+  pub tenth : length bytes ≡ 10 → form.allows_tenth (last_byte_of bytes) ≡ true
+  pub value_is : value ≡ form.number (low_sum 0 bytes) (length bytes) (last_byte_of bytes)
 
--- ---- which bytes are refused
+-- ---- which bytes are malformed
 
 -- each byte has the high bit
 abbrev pub GoesOn : List ℕ → Type 0
@@ -67,8 +70,9 @@ pub record IsTooLong {A : Type 0} (form : LebForm A) (bytes : List ℕ) : Type 0
   pub are_nine : length nine ≡ 9
   pub refused : form.allows_tenth tenth ≡ false
 
-abbrev pub RefusedLeb : {A : Type 0} → LebForm A → List ℕ → Fault → Type 0
-RefusedLeb form bytes fault = (IsCutOff bytes × (fault ≡ UnexpectedEof)) ⊎ (IsTooLong form bytes × (fault ≡ form.too_long))
+-- no front of the bytes spells a number, for this fault
+abbrev pub MalformedLeb : {A : Type 0} → LebForm A → List ℕ → Fault → Type 0
+MalformedLeb form bytes fault = (IsCutOff bytes × (fault ≡ UnexpectedEof)) ⊎ (IsTooLong form bytes × (fault ≡ form.too_long))
 
 -- ---- reading one
 
@@ -80,9 +84,11 @@ leb_from form place sum (byte ∷ rest) =
     else (if nat_lt byte 128 then Ok (form.number (sum + byte * 128 ^ place) (place + 1) byte, rest)
     else leb_from form (place + 1) (sum + byte % 128 * 128 ^ place) rest)
 
+-- an unsigned number at the front
 unfoldable pub uleb_at : List ℕ → Result (ℕ × List ℕ) Fault
 uleb_at bytes = leb_from unsigned_leb 0 0 bytes
 
+-- a signed number at the front
 unfoldable pub sleb_at : List ℕ → Result (ℤ × List ℕ) Fault
 sleb_at bytes = leb_from signed_leb 0 0 bytes
 
@@ -90,5 +96,6 @@ sleb_at bytes = leb_from signed_leb 0 0 bytes
 abbrev pub within_u32 : ℕ → Result ℕ Fault
 within_u32 number = if nat_lt number (2 ^ 32) then Ok number else Err BadUnsignedLeb128
 
+-- an unsigned number of 32 bits at the front
 abbrev pub uleb_u32_at : List ℕ → Result (ℕ × List ℕ) Fault
 uleb_u32_at bytes = uleb_at bytes >>= λ number. within_u32 number.0 >>= λ small. Ok (small, number.1)

@@ -20,6 +20,7 @@ pub record IsSuffix (rest bytes : List ℕ) : Type 0 where
 abbrev pub split_at : ℕ → List ℕ → Result (List ℕ × List ℕ) Fault
 split_at n bytes = if nat_lt (length bytes) n then Err UnexpectedEof else Ok (take n bytes, drop n bytes)
 
+-- what follows the first n bytes
 abbrev pub skip_at : ℕ → List ℕ → Result (Unit {0} × List ℕ) Fault
 skip_at n bytes = if nat_lt (length bytes) n then Err UnexpectedEof else Ok (tt, drop n bytes)
 

@@ -1,4 +1,4 @@
-ghost use Rattle.dwarf_base.specs.Faults.{Answers};
+ghost use Rattle.dwarf_base.specs.Faults.{Returns};
 ghost use Rattle.dwarf_base.specs.Numbers.{register_of};
 
 use crate::errors::{Error, Result};
@@ -31,7 +31,7 @@ impl Register {
     /// The register of this number; `UnsupportedRegister` exactly where the number is above 65535.
     #[inline]
     pub fn from_u64(register: u64) -> Result<Register>
-        ensures { Answers (λ r. r.0) result (register_of register) }
+        ensures { Returns (λ r. r.0) result (register_of register) }
     {
         match u16::try_from(register) {
             Ok(number) => Ok(Register(number)),

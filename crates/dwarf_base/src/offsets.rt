@@ -1,5 +1,5 @@
 ghost use Rattle.std.specs.Prelude.{◌≡◌, ℕ, ◌+◌, ◌%◌, ◌^◌, ◌<◌, ◌≤◌};
-ghost use Rattle.dwarf_base.specs.Faults.{Answers};
+ghost use Rattle.dwarf_base.specs.Faults.{Returns};
 ghost use Rattle.dwarf_base.specs.Numbers.{residue, offset_of};
 
 use crate::errors::{Error, Result};
@@ -33,7 +33,7 @@ pub trait ReaderOffset: Debug + Copy + Eq {
 
     /// The same number; `UnsupportedOffset` exactly where it doesn't fit.
     fn from_u64(offset: u64) -> Result<Self>
-        ensures { Answers number result (offset_of BITS offset) };
+        ensures { Returns number result (offset_of BITS offset) };
 
     /// The same number.
     fn into_u64(self) -> u64

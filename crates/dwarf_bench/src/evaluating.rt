@@ -1,8 +1,8 @@
 //! Evaluation with made-up answers, from the making of its lists to their end.
 
 ghost use Rattle.std.specs.Prelude.{◌<◌, ◌≤◌, ◌↔◌, IfOk, IsTrue};
-ghost use Rattle.dwarf_eval.specs.Answers.{Admits};
-ghost use Rattle.dwarf_eval.specs.Calls.{IsClosed};
+ghost use Rattle.dwarf_eval.specs.Permits.{Admits};
+ghost use Rattle.dwarf_eval.specs.Evaluation.{IsClosed};
 
 use crate::jobs::{Job, Text};
 use crate::sums::{mix, mix_location, mix_option, mix_request, mix_value};
@@ -75,9 +75,9 @@ fn complete<'a, S: EvaluationStorage<Text<'a>>>(
     let nothing = job.text(&[]);
     let mut sum = 0u64;
     let mut met = 0u32;
-    let mut answer = evaluation.evaluate();
+    let mut reply = evaluation.evaluate();
     'requests: while met < job.answers {
-        let Ok(request) = answer else {
+        let Ok(request) = reply else {
             break;
         };
         if met >= job.counted {
@@ -88,7 +88,7 @@ fn complete<'a, S: EvaluationStorage<Text<'a>>>(
         }
         let called = if met < job.depth { text } else { nothing };
         met += 1;
-        answer = respond(evaluation, request, called);
+        reply = respond(evaluation, request, called);
     }
     if job.counted == 0 {
         sum = mix_end(sum, evaluation);

@@ -5,27 +5,27 @@ use Rattle.dwarf_base.specs.declared.errors.Error.{Error}
 use Rattle.dwarf_base.specs.Faults.{Fault, fault_of}
 use Rattle.dwarf_meaning.specs.Requests.{Request, Input}
 use Rattle.dwarf_meaning.specs.Stores.{Setup, Store, Refusal, Never, After}
-use Rattle.dwarf_meaning.specs.Run.{Frame, Course, End, Finished, Asking, Failed, run}
+use Rattle.dwarf_meaning.specs.Run.{Position, Course, End, CompleteEnd, RequestEnd, FaultEnd, run}
 use Rattle.dwarf_meaning.specs.Meaning.{Outcome, unwound, with_initial, course_from, meaning}
-use Rattle.dwarf_meaning.specs.Rest.{State, Status, Start, Running, Waits, Complete, Stopped, with_refusal, started, rest_by, rest}
-use Rattle.dwarf_meaning.specs.Steps.{Reply, Asked, reply}
-use Rattle.dwarf_eval.specs.Calls.{Counts, Follows, IsFresh, IsLater, IsOpen, IsTold, after_input, means, means_path, path_after}
+use Rattle.dwarf_meaning.specs.Rest.{State, Status, Start, Running, RequestStatus, CompleteStatus, FaultStatus, with_refusal, rest_from_start, rest_by, rest}
+use Rattle.dwarf_meaning.specs.Steps.{Reply, RequestReply, reply}
+use Rattle.dwarf_eval.specs.Evaluation.{Counts, Follows, IsFresh, IsLater, IsOpen, IsReplied, after_input, means, means_path, path_after}
 use Rattle.dwarf_eval.specs.Paths.{path, path_behind, path_by, path_started, path_through}
 use Rattle.dwarf_machine.specs.inner.Steps.{before_pushes, Total, total, total_after, Reaches, Falls, EndsBy, Ends}
 use Rattle.dwarf_machine.proofs.Refusals.{before_never, before_later}
 
-open_reply : (setup : Setup) (callers : List Frame) (request : Request) (frames : List Frame) (inputs : List Input) → reply (unwound setup callers (Asking request frames inputs)) ≡ Asked request
-open_reply setup [] request frames inputs = refl
-open_reply setup (caller ∷ callers) request frames inputs = refl
+open_reply : (setup : Setup) (callers : List Position) (request : Request) (positions : List Position) (inputs : List Input) → reply (unwound setup callers (RequestEnd request positions inputs)) ≡ RequestReply request
+open_reply setup [] request positions inputs = refl
+open_reply setup (caller ∷ callers) request positions inputs = refl
 
-told_by : (r : Refusal) (x : State) (told : Reply) (status : Status) → IsTold told status → told ≡ reply (rest_by x (with_refusal r x.store) [] status)
-told_by r x told (Waits request waiting) h = h ∙ sym (open_reply x.setup x.callers request (record { text = x.text; place = x.place } ∷ []) [])
-told_by r x told (Complete value) h = h
-told_by r x told (Stopped error) h = h
+told_by : (r : Refusal) (x : State) (told : Reply) (status : Status) → IsReplied told status → told ≡ reply (rest_by x (with_refusal r x.store) [] status)
+told_by r x told (RequestStatus request waiting) h = h ∙ sym (open_reply x.setup x.callers request (record { text = x.text; place = x.place } ∷ []) [])
+told_by r x told (CompleteStatus value) h = h
+told_by r x told (FaultStatus error) h = h
 told_by r x told (Start initial_value) h = absurd h
 told_by r x told Running h = absurd h
 
-pub told_rest : (r : Refusal) (x : State) (told : Reply) → IsTold told x.status → told ≡ reply (rest r x [])
+pub told_rest : (r : Refusal) (x : State) (told : Reply) → IsReplied told x.status → told ≡ reply (rest r x [])
 unfolding rest
 told_rest r x told h = told_by r x told x.status h
 
@@ -35,9 +35,9 @@ later_before p Never h = before_never p
 later_before p (After zero pushes) h = absurd h
 later_before p (After (suc inputs) pushes) h = before_later p inputs pushes
 
-open_path : (setup : Setup) (callers : List Frame) (request : Request) (frames : List Frame) (inputs : List Input) → path_behind setup callers (Asking request frames inputs) ≡ []
-open_path setup [] request frames inputs = refl
-open_path setup (caller ∷ callers) request frames inputs = refl
+open_path : (setup : Setup) (callers : List Position) (request : Request) (positions : List Position) (inputs : List Input) → path_behind setup callers (RequestEnd request positions inputs) ≡ []
+open_path setup [] request positions inputs = refl
+open_path setup (caller ∷ callers) request positions inputs = refl
 
 -- ---- from where an evaluation came, or fell, to what its call answers
 
@@ -49,46 +49,46 @@ module _ (old : State) (totals : Refusal → List Input → Total) (new : State)
   abbrev outcomes : Refusal → List Input → Outcome
   outcomes r inputs = (totals r inputs).outcome
 
-  came_follows : Reaches old totals new → IsTold told new.status → Follows old outcomes told new
+  came_follows : Reaches old totals new → IsReplied told new.status → Follows old outcomes told new
   came_follows h t = record {
     refusal = Never;
     may = tt;
-    answer = told_rest Never new told t ∙ ap (λ (z : Total). reply z.outcome) (sym (later_total h Never [] tt));
+    reply = told_rest Never new told t ∙ ap (λ (z : Total). reply z.outcome) (sym (later_total h Never [] tt));
     status = t;
     more = λ open_now r inputs l. ap (λ (z : Total). z.outcome) (later_total h r inputs l);
     kept = λ open_now. h.kept;
     spends = h.spends;
   }
 
-  fell_follows : (error : Error) → new.status ≡ Stopped error → Falls old totals (fault_of error) new → IsTold told new.status → Follows old outcomes told new
+  fell_follows : (error : Error) → new.status ≡ FaultStatus error → Falls old totals (fault_of error) new → IsReplied told new.status → Follows old outcomes told new
   fell_follows error stopped h t = record {
     refusal = h.refusal;
     may = h.may;
-    answer = subst (IsTold told) stopped t ∙ sym (ap (λ (z : Total). reply z.outcome) (h.same []));
+    reply = subst (IsReplied told) stopped t ∙ sym (ap (λ (z : Total). reply z.outcome) (h.same []));
     status = t;
     more = λ open_now r inputs l. absurd (subst IsOpen stopped open_now);
     kept = λ open_now. h.kept;
     spends = h.spends;
   }
 
-  follows_by : (status : Status) → new.status ≡ status → EndsBy old totals new status → IsTold told new.status → Follows old outcomes told new
-  follows_by (Waits request waiting) e h t = came_follows h t
-  follows_by (Complete value) e h t = came_follows h t
-  follows_by (Stopped error) e h t = fell_follows error e h t
+  follows_by : (status : Status) → new.status ≡ status → EndsBy old totals new status → IsReplied told new.status → Follows old outcomes told new
+  follows_by (RequestStatus request waiting) e h t = came_follows h t
+  follows_by (CompleteStatus value) e h t = came_follows h t
+  follows_by (FaultStatus error) e h t = fell_follows error e h t
   follows_by Running e h t = absurd h
   follows_by (Start initial_value) e h t = absurd h
 
   -- a call that ends answers what comes of it
-  pub ends_follow : Ends old totals new → IsTold told new.status → Follows old outcomes told new
+  pub ends_follow : Ends old totals new → IsReplied told new.status → Follows old outcomes told new
   ends_follow h t = follows_by new.status refl h t
 
   -- nothing is left of the path of a request that waits for an input, or of the end
   ended_path : (r : Refusal) (status : Status) → IsOpen status → path_by new (with_refusal r new.store) [] status ≡ []
-  ended_path r (Waits request waiting) o = open_path new.setup new.callers request (record { text = new.text; place = new.place } ∷ []) []
-  ended_path r (Complete value) o = refl
+  ended_path r (RequestStatus request waiting) o = open_path new.setup new.callers request (record { text = new.text; place = new.place } ∷ []) []
+  ended_path r (CompleteStatus value) o = refl
   ended_path r Running o = absurd o
   ended_path r (Start initial_value) o = absurd o
-  ended_path r (Stopped error) o = absurd o
+  ended_path r (FaultStatus error) o = absurd o
 
   open_count : IsOpen new.status → (total new Never []).count ≡ new.store.count
   unfolding path
@@ -96,45 +96,45 @@ module _ (old : State) (totals : Refusal → List Input → Total) (new : State)
       let none : length (path_by new (with_refusal Never new.store) [] new.status) ≡ 0 = ap length (ended_path Never new.status o) in
       omega (arith, none)
 
-  module _ (paths : Refusal → List Input → List Frame) (counts : (r : Refusal) (inputs : List Input) → (totals r inputs).count ≡ old.store.count + length (paths r inputs)) where
-    came_counts : IsOpen new.status → Reaches old totals new → IsTold told new.status → Counts old outcomes paths told new
+  module _ (paths : Refusal → List Input → List Position) (counts : (r : Refusal) (inputs : List Input) → (totals r inputs).count ≡ old.store.count + length (paths r inputs)) where
+    came_counts : IsOpen new.status → Reaches old totals new → IsReplied told new.status → Counts old outcomes paths told new
     came_counts o h t = record {
       refusal = Never;
       may = tt;
-      answer = told_rest Never new told t ∙ ap (λ (z : Total). reply z.outcome) (sym (later_total h Never [] tt));
+      reply = told_rest Never new told t ∙ ap (λ (z : Total). reply z.outcome) (sym (later_total h Never [] tt));
       count = sym (open_count o) ∙ (sym (ap (λ (z : Total). z.count) (later_total h Never [] tt)) ∙ counts Never []);
       more = λ open_now r inputs l. sym (counts r inputs) ∙ ap (λ (z : Total). z.count) (later_total h r inputs l);
     }
 
-    fell_counts : (error : Error) → new.status ≡ Stopped error → Falls old totals (fault_of error) new → IsTold told new.status → Counts old outcomes paths told new
+    fell_counts : (error : Error) → new.status ≡ FaultStatus error → Falls old totals (fault_of error) new → IsReplied told new.status → Counts old outcomes paths told new
     fell_counts error stopped h t = record {
       refusal = h.refusal;
       may = h.may;
-      answer = subst (IsTold told) stopped t ∙ sym (ap (λ (z : Total). reply z.outcome) (h.same []));
+      reply = subst (IsReplied told) stopped t ∙ sym (ap (λ (z : Total). reply z.outcome) (h.same []));
       count = sym (ap (λ (z : Total). z.count) (h.same [])) ∙ counts h.refusal [];
       more = λ open_now r inputs l. absurd (subst IsOpen stopped open_now);
     }
 
-    counts_by : (status : Status) → new.status ≡ status → EndsBy old totals new status → IsTold told new.status → Counts old outcomes paths told new
-    counts_by (Waits request waiting) e h t = came_counts (subst IsOpen (sym e) tt) h t
-    counts_by (Complete value) e h t = came_counts (subst IsOpen (sym e) tt) h t
-    counts_by (Stopped error) e h t = fell_counts error e h t
+    counts_by : (status : Status) → new.status ≡ status → EndsBy old totals new status → IsReplied told new.status → Counts old outcomes paths told new
+    counts_by (RequestStatus request waiting) e h t = came_counts (subst IsOpen (sym e) tt) h t
+    counts_by (CompleteStatus value) e h t = came_counts (subst IsOpen (sym e) tt) h t
+    counts_by (FaultStatus error) e h t = fell_counts error e h t
     counts_by Running e h t = absurd h
     counts_by (Start initial_value) e h t = absurd h
 
-    pub ends_count : Ends old totals new → IsTold told new.status → Counts old outcomes paths told new
+    pub ends_count : Ends old totals new → IsReplied told new.status → Counts old outcomes paths told new
     ends_count h t = counts_by new.status refl h t
 
 -- ---- what a fresh evaluation stands for
 
-from_result : (x : State) (inputs : List Input) (z : Result Store Fault) → unwound x.setup [] (course_from x.setup x.text inputs z).end ≡ started (record x { place = 0; callers = [] }) inputs z
+from_result : (x : State) (inputs : List Input) (z : Result Store Fault) → unwound x.setup [] (course_from x.setup x.text inputs z).end ≡ rest_from_start (record x { place = 0; callers = [] }) inputs z
 from_result x inputs (Ok s) = refl
 from_result x inputs (Err fault) = refl
 
-fresh_started : (x : State) (initial_value : Option ℕ) (inputs : List Input) (s : Store) → x.place ≡ 0 → x.callers ≡ [] → unwound x.setup [] (course_from x.setup x.text inputs (with_initial x.setup initial_value s)).end ≡ started x inputs (with_initial x.setup initial_value s)
+fresh_started : (x : State) (initial_value : Option ℕ) (inputs : List Input) (s : Store) → x.place ≡ 0 → x.callers ≡ [] → unwound x.setup [] (course_from x.setup x.text inputs (with_initial x.setup initial_value s)).end ≡ rest_from_start x inputs (with_initial x.setup initial_value s)
 fresh_started x initial_value inputs s place callers =
-    let is : record x { place = 0; callers = [] } ≡ x = sym (ap (λ (p : ℕ). record x { place = p }) place ∙ ap (λ (fs : List Frame). record x { place = 0; callers = fs }) callers) in
-    from_result x inputs (with_initial x.setup initial_value s) ∙ ap (λ (y : State). started y inputs (with_initial x.setup initial_value s)) is
+    let is : record x { place = 0; callers = [] } ≡ x = sym (ap (λ (p : ℕ). record x { place = p }) place ∙ ap (λ (fs : List Position). record x { place = 0; callers = fs }) callers) in
+    from_result x inputs (with_initial x.setup initial_value s) ∙ ap (λ (y : State). rest_from_start y inputs (with_initial x.setup initial_value s)) is
 
 pub meaning_rest : (x : State) (initial_value : Option ℕ) → x.status ≡ Start initial_value → IsFresh x initial_value → (r : Refusal) (inputs : List Input) → means x initial_value r inputs ≡ rest r x inputs
 unfolding meaning rest
@@ -146,19 +146,19 @@ meaning_rest x initial_value starts is r inputs =
 -- ---- its path
 
 outer_path : (setup : Setup) (end : End) → path_behind setup [] end ≡ []
-outer_path setup (Finished s inputs) = refl
-outer_path setup (Asking request frames inputs) = refl
-outer_path setup (Failed fault) = refl
+outer_path setup (CompleteEnd s inputs) = refl
+outer_path setup (RequestEnd request positions inputs) = refl
+outer_path setup (FaultEnd fault) = refl
 
-alone_path : (setup : Setup) (callers : List Frame) (course : Course) → callers ≡ [] → course.path ≡ path_through setup callers course
+alone_path : (setup : Setup) (callers : List Position) (course : Course) → callers ≡ [] → course.path ≡ path_through setup callers course
 alone_path setup callers course none =
     sym (append-nil course.path)
-    ∙ (ap (λ (p : List Frame). course.path ++ p) (sym (outer_path setup course.end)) ∙ ap (λ (fs : List Frame). path_through setup fs course) (sym none))
+    ∙ (ap (λ (p : List Position). course.path ++ p) (sym (outer_path setup course.end)) ∙ ap (λ (fs : List Position). path_through setup fs course) (sym none))
 
 started_path : (x : State) (inputs : List Input) (z : Result Store Fault) → x.place ≡ 0 → x.callers ≡ [] → (course_from x.setup x.text inputs z).path ≡ path_started x inputs z
 started_path x inputs (Ok s) place callers =
     ap (λ (p : ℕ). (run x.setup x.text p 0 s inputs).path) (sym place)
-    ∙ (ap (λ (fs : List Frame). (run x.setup x.text x.place (length fs) s inputs).path) (sym callers)
+    ∙ (ap (λ (fs : List Position). (run x.setup x.text x.place (length fs) s inputs).path) (sym callers)
     ∙ alone_path x.setup x.callers (run x.setup x.text x.place (length x.callers) s inputs) callers)
 started_path x inputs (Err fault) place callers = refl
 
@@ -171,7 +171,7 @@ meaning_path x initial_value starts is r inputs =
 
 -- ---- `evaluate` from the start, and resumes
 
-module _ (x new : State) (told : Reply) (t : IsTold told new.status) where
+module _ (x new : State) (told : Reply) (t : IsReplied told new.status) where
   -- the meaning is what comes of a fresh evaluation
   module _ (initial_value : Option ℕ) (starts : x.status ≡ Start initial_value) (is : IsFresh x initial_value) (h : Ends x (total x) new) where
     pub start_follows : Follows x (means x initial_value) told new
@@ -180,7 +180,7 @@ module _ (x new : State) (told : Reply) (t : IsTold told new.status) where
         record {
           refusal = follows.refusal;
           may = follows.may;
-          answer = follows.answer ∙ sym (ap reply (meaning_rest x initial_value starts is follows.refusal []));
+          reply = follows.reply ∙ sym (ap reply (meaning_rest x initial_value starts is follows.refusal []));
           status = follows.status;
           more = λ open_now r inputs l. meaning_rest x initial_value starts is r inputs ∙ follows.more open_now r inputs l;
           kept = follows.kept;
@@ -189,11 +189,11 @@ module _ (x new : State) (told : Reply) (t : IsTold told new.status) where
 
     pub start_counts : Counts x (means x initial_value) (means_path x initial_value) told new
     start_counts =
-        let counts = ends_count x (total x) new told (means_path x initial_value) (λ r inputs. ap (λ (p : List Frame). x.store.count + length p) (sym (meaning_path x initial_value starts is r inputs))) h t in
+        let counts = ends_count x (total x) new told (means_path x initial_value) (λ r inputs. ap (λ (p : List Position). x.store.count + length p) (sym (meaning_path x initial_value starts is r inputs))) h t in
         record {
           refusal = counts.refusal;
           may = counts.may;
-          answer = counts.answer ∙ sym (ap reply (meaning_rest x initial_value starts is counts.refusal []));
+          reply = counts.reply ∙ sym (ap reply (meaning_rest x initial_value starts is counts.refusal []));
           count = counts.count;
           more = counts.more;
         }

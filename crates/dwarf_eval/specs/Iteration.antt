@@ -13,9 +13,10 @@ use Rattle.dwarf_op.specs.Views.{text_of}
 use Rattle.dwarf_eval.specs.declared.op.expressions.OperationIter.{OperationIter}
 
 -- the bytes that are left
-abbrev pub input_of : {R P : Type 0} → OperationIter R P → R
-input_of iterator = iterator.input
+abbrev pub unread_of : {R P : Type 0} → OperationIter R P → R
+unread_of iterator = iterator.input
 
+-- the encoding that it reads by
 abbrev pub encoding_of : {R P : Type 0} → OperationIter R P → Encoding
 encoding_of iterator = iterator.encoding
 
@@ -38,12 +39,12 @@ item_of view (Err e) = Err (fault_of e)
 
 -- the items that are left: those of the splitting of the bytes that are left
 abbrev pub items_left : {R P : Type 0} → (R → List ℕ) → (R → Bool) → (offset_bits : ℕ) → OperationIter R P → List (Result meaning.Operation Fault)
-items_left bytes is_big offset_bits iterator = items_at (encoding_of iterator) offset_bits (text_of bytes is_big (input_of iterator))
+items_left bytes is_big offset_bits iterator = items_at (encoding_of iterator) offset_bits (text_of bytes is_big (unread_of iterator))
 
 -- A step of an iterator: it gives the first of the items that are left, and is behind the bytes of that one.
 pub record GivesFirst {R P X : Type 0} (bytes : R → List ℕ) (is_big : R → Bool) (offset_bits : ℕ) (view : X → meaning.Operation) (old : OperationIter R P) (given : Option (Result X Error)) (new : OperationIter R P) : Type 0 where
   pub items : YieldsFirstBy (item_of view) (items_left bytes is_big offset_bits) old given new
-  pub value : GivesNext view (option_transpose given) (bytes (input_of new)) (bytes (input_of old)) (operation_at (encoding_of old) offset_bits (text_of bytes is_big (input_of old)))
-  pub rest : IsSuffix (bytes (input_of new)) (bytes (input_of old))
-  pub order : is_big (input_of new) ≡ is_big (input_of old)
+  pub value : GivesNext view (option_transpose given) (bytes (unread_of new)) (bytes (unread_of old)) (operation_at (encoding_of old) offset_bits (text_of bytes is_big (unread_of old)))
+  pub rest : IsSuffix (bytes (unread_of new)) (bytes (unread_of old))
+  pub order : is_big (unread_of new) ≡ is_big (unread_of old)
   pub encoding : encoding_of new ≡ encoding_of old

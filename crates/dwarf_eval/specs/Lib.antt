@@ -1,6 +1,6 @@
-pub mod Answers
+pub mod Permits
 pub mod Bounds
-pub mod Calls
+pub mod Evaluation
 pub mod Iteration
 pub mod Machine
 pub mod Paths

@@ -2,7 +2,7 @@
 ghost use Rattle.std.specs.Prelude.{ℕ};
 ghost use Rattle.dwarf_base.specs.Equality.{IsEquality, IsEqualityBy, IsEqualityOf};
 ghost use Rattle.dwarf_meaning.specs.Operations.{Text};
-ghost use Rattle.dwarf_eval.specs.Calls.{told_of};
+ghost use Rattle.dwarf_eval.specs.Evaluation.{ok_reply};
 ghost use Rattle.dwarf_eval.specs.Machine.{location_of, piece_of};
 
 use crate::eval::{Status, WaitingKind};
@@ -24,7 +24,7 @@ pub fn expression_equality_laws<R: Reader + Eq>()
 /// its contract is the law.
 pub fn result_equality_laws<R: Reader + Eq, O: Eq>()
     ensures { (text : R → Text) (number : O → ℕ) → IsEqualityOf text R.PartialEq.eq → IsEqualityOf number O.PartialEq.eq
-        → IsEqualityOf (told_of text number) ⟦<EvaluationResult<R, O> as PartialEq>⟧.eq }
+        → IsEqualityOf (ok_reply text number) ⟦<EvaluationResult<R, O> as PartialEq>⟧.eq }
 {}
 
 /// The same of locations and of pieces.

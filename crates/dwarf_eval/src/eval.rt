@@ -1,8 +1,8 @@
 //! Evaluation of expressions, with stops where the caller has to answer.
 
-mod calls;
+mod evaluation;
 mod requests;
 mod states;
 
-pub use calls::Evaluation;
+pub use evaluation::Evaluation;
 pub use states::{Status, WaitingKind};

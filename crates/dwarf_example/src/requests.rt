@@ -1,7 +1,7 @@
 //! An evaluation that answers every request: the loop of a debugger.
 
 ghost use Rattle.std.specs.Prelude.{OnOk};
-ghost use Rattle.dwarf_eval.specs.Calls.{IsClosed, IsComplete};
+ghost use Rattle.dwarf_eval.specs.Evaluation.{IsClosed, IsComplete};
 
 use dwarf_base::{DebugAddrIndex, Reader, Register, Result, UnitOffset};
 use dwarf_expr::eval::Evaluation;

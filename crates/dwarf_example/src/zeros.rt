@@ -1,6 +1,6 @@
 //! An evaluation that is driven by its status.
 
-ghost use Rattle.dwarf_eval.specs.Calls.{IsClosed};
+ghost use Rattle.dwarf_eval.specs.Evaluation.{IsClosed};
 
 use dwarf_base::{Reader, Result};
 use dwarf_expr::eval::{Evaluation, Status, WaitingKind};

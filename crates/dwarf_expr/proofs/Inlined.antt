@@ -5,8 +5,8 @@ use Rattle.dwarf_base.specs.Faults.{Fault}
 use Rattle.dwarf_meaning.specs.Operations.{Text, DieReference, UnitRef}
 use Rattle.dwarf_meaning.specs.Requests.{Request, LocationAnswer, Input}
 use Rattle.dwarf_meaning.specs.Stores.{Setup, Never}
-use Rattle.dwarf_meaning.specs.Meaning.{Outcome, Faults, First, meaning}
-use Rattle.dwarf_meaning.specs.Rest.{State, Stopped}
+use Rattle.dwarf_meaning.specs.Meaning.{Outcome, FaultOutcome, First, meaning}
+use Rattle.dwarf_meaning.specs.Rest.{State, FaultStatus}
 use Rattle.dwarf_meaning.specs.Steps.{Step, Evaluate, Resume, Told, Reply, outcome_from, outcome_of, AllAllowed, after_steps}
 use Rattle.dwarf_meaning.specs.Rows.{unset}
 use Rattle.dwarf_laws.specs.Rows.{IsWorked}
@@ -16,26 +16,26 @@ use Rattle.dwarf_laws.specs.Inlining.{CallSite, outer, called, inlined, in_force
 use Rattle.dwarf_laws.proofs.Inlined.{inlines}
 use Rattle.dwarf_replay.specs.Replays.{told_at, StandsAt, Walks}
 use Rattle.dwarf_expr.specs.Twins.{fresh_at}
-use Rattle.dwarf_expr.specs.Inlined.{tells, MayInline, EndAlike, asking, complete, InlinedReplay}
+use Rattle.dwarf_expr.specs.Inlined.{tells, MayInline, StatesEndAlike, in_request, in_completion, InlinedReplay}
 use Rattle.dwarf_expr.proofs.Telling.{tells_more, added, tells_inputs, tells_first, told_is, told_comes, unrefused}
 use Rattle.dwarf_expr.proofs.Twins.{asking_of, stopped_of, did}
 
 -- ---- where they stand
 
-sound_outcome : (x : State) (told : Told) (o : Option Outcome) → StandsAt told x o → ((error : Error) → x.status ≢ Stopped error)
-    → (fault : Fault) → o ≢ Some (Faults fault)
+sound_outcome : (x : State) (told : Told) (o : Option Outcome) → StandsAt told x o → ((error : Error) → x.status ≢ FaultStatus error)
+    → (fault : Fault) → o ≢ Some (FaultOutcome fault)
 sound_outcome x told o h k fault e =
     let s = stopped_of fault x.status (subst (λ (p : Option Outcome). StandsAt told x p) e h) in k s.0 s.1
 
 end_alike : (x y : State) (told told' : Told) (o o' : Outcome) → inlining.EndAlike o o' → StandsAt told x (Some o)
-    → StandsAt told' y (Some o') → EndAlike x y
-end_alike x y told told' o o' completions h k = complete _ h.0 k.0 (h.1 ∙ sym k.1)
-end_alike x y told told' o o' (requests {request = request} {frames = frames} {others = others}) h k =
-    let first = asking_of x request frames x.status h.0 in
+    → StandsAt told' y (Some o') → StatesEndAlike x y
+end_alike x y told told' o o' completions h k = in_completion _ h.0 k.0 (h.1 ∙ sym k.1)
+end_alike x y told told' o o' (requests {request = request} {positions = positions} {others = others}) h k =
+    let first = asking_of x request positions x.status h.0 in
     let second = asking_of y request others y.status k.0 in
-    asking request first.0 second.0 first.1 second.1
+    in_request request first.0 second.0 first.1 second.1
 
-no_fault : (o o' : Outcome) → inlining.EndAlike o o' → (fault : Fault) → o' ≢ Faults fault
+no_fault : (o o' : Outcome) → inlining.EndAlike o o' → (fault : Fault) → o' ≢ FaultOutcome fault
 no_fault o o' completions fault e = cc
 no_fault o o' requests fault e = cc
 
@@ -131,9 +131,9 @@ module _ (setup : Setup) (site : CallSite) (offset : DieReference) (told : Told)
         ∙ ap (λ (inputs : List Input). Some (meaning setup Never (inlined site) first inputs)) inlined_inputs
 
     ends : (new other : State)
-        → (((fault : Fault) → means_outer ≢ Faults fault) → inlining.EndAlike means_outer means_inlined)
-        → Done setup (outer site) told all_steps new → ((error : Error) → new.status ≢ Stopped error)
-        → Done setup (inlined site) told (start ++ behind) other → EndAlike new other
+        → (((fault : Fault) → means_outer ≢ FaultOutcome fault) → inlining.EndAlike means_outer means_inlined)
+        → Done setup (outer site) told all_steps new → ((error : Error) → new.status ≢ FaultStatus error)
+        → Done setup (inlined site) told (start ++ behind) other → StatesEndAlike new other
     ends new other law d sound d' =
         let clear = sound_outcome new _ _ d.stands sound in
         let outer_told = told_is setup Never (outer site) told all_steps d.allowed clear in

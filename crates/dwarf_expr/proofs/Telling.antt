@@ -5,9 +5,9 @@ use Rattle.dwarf_base.specs.Faults.{Fault, StackFull}
 use Rattle.dwarf_meaning.specs.Operations.{Text}
 use Rattle.dwarf_meaning.specs.Requests.{Answer, Input}
 use Rattle.dwarf_meaning.specs.Stores.{Setup, Refusal, Never}
-use Rattle.dwarf_meaning.specs.Meaning.{Outcome, Requests, Faults, Completes, First, meaning}
+use Rattle.dwarf_meaning.specs.Meaning.{Outcome, RequestOutcome, FaultOutcome, CompleteOutcome, First, meaning}
 use Rattle.dwarf_meaning.specs.RunLaws.{IsOver}
-use Rattle.dwarf_meaning.specs.Steps.{Step, InitialValue, ObjectAddress, MaxIterations, Evaluate, Resume, Told, outcome_from, outcome_of, Awaits, Allows, begun, heard, after, step_replies, after_step, after_steps, AllAllowed, answers}
+use Rattle.dwarf_meaning.specs.Steps.{Step, InitialValue, ObjectAddress, MaxIterations, Evaluate, Resume, Told, outcome_from, outcome_of, Awaits, Allows, begun, heard, after, step_replies, after_step, after_steps, AllAllowed, replies_of}
 use Rattle.dwarf_meaning.proofs.Inputs.{over_meaning}
 use Rattle.dwarf_laws.specs.TwoRuns.{NoneIsFull}
 use Rattle.dwarf_laws.specs.Inlining.{HasNoLimits}
@@ -67,58 +67,58 @@ module _ (setup : Setup) (refusal : Refusal) (text : Text) where
   -- ---- a fault is kept
 
   begun_keeps : (settings : First) (inputs : List Input) (o : Option First) (fault : Fault)
-      → outcome_from setup refusal text inputs o ≡ Some (Faults fault)
-      → outcome_from setup refusal text inputs (Some (begun settings o)) ≡ Some (Faults fault)
+      → outcome_from setup refusal text inputs o ≡ Some (FaultOutcome fault)
+      → outcome_from setup refusal text inputs (Some (begun settings o)) ≡ Some (FaultOutcome fault)
   begun_keeps settings inputs None fault e = absurd (cc)
   begun_keeps settings inputs (Some first) fault e = e
 
-  step_keeps : (told : Told) (step : Step) (fault : Fault) → comes told ≡ Some (Faults fault)
-      → comes (after_step setup refusal text told step) ≡ Some (Faults fault)
+  step_keeps : (told : Told) (step : Step) (fault : Fault) → comes told ≡ Some (FaultOutcome fault)
+      → comes (after_step setup refusal text told step) ≡ Some (FaultOutcome fault)
   step_keeps told (InitialValue number) fault e = e
   step_keeps told (ObjectAddress address) fault e = e
   step_keeps told (MaxIterations maximum) fault e = e
   step_keeps told Evaluate fault e = begun_keeps told.settings told.inputs told.first fault e
   step_keeps told (Resume answer) fault e =
       subst (λ (o : Option Outcome). outcome_from setup refusal text (heard told.settings told.inputs answer o)
-      told.first ≡ Some (Faults fault)) (sym e) e
+      told.first ≡ Some (FaultOutcome fault)) (sym e) e
 
-  steps_keep : (told : Told) (steps : List Step) (fault : Fault) → comes told ≡ Some (Faults fault)
-      → comes (after_steps setup refusal text told steps) ≡ Some (Faults fault)
+  steps_keep : (told : Told) (steps : List Step) (fault : Fault) → comes told ≡ Some (FaultOutcome fault)
+      → comes (after_steps setup refusal text told steps) ≡ Some (FaultOutcome fault)
   steps_keep told [] fault e = e
   steps_keep told (step ∷ steps) fault e =
       steps_keep (after_step setup refusal text told step) steps fault (step_keeps told step fault e)
 
   more_keeps : (inputs more : List Input) (o : Option First) (fault : Fault)
-      → outcome_from setup refusal text inputs o ≡ Some (Faults fault)
-      → outcome_from setup refusal text (inputs ++ more) o ≡ Some (Faults fault)
+      → outcome_from setup refusal text inputs o ≡ Some (FaultOutcome fault)
+      → outcome_from setup refusal text (inputs ++ more) o ≡ Some (FaultOutcome fault)
   more_keeps inputs more None fault e = absurd (cc)
   more_keeps inputs more (Some first) fault e =
-      let met : meaning setup refusal text first inputs ≡ Faults fault = cc in
+      let met : meaning setup refusal text first inputs ≡ FaultOutcome fault = cc in
       ap Some (over_meaning setup refusal text first inputs more (subst IsOver (sym met) tt) ∙ met)
 
-  tell_keeps : (told : Told) (step : Step) (fault : Fault) → comes told ≡ Some (Faults fault)
-      → comes (tell told step) ≡ Some (Faults fault)
+  tell_keeps : (told : Told) (step : Step) (fault : Fault) → comes told ≡ Some (FaultOutcome fault)
+      → comes (tell told step) ≡ Some (FaultOutcome fault)
   tell_keeps told (InitialValue number) fault e = e
   tell_keeps told (ObjectAddress address) fault e = e
   tell_keeps told (MaxIterations maximum) fault e = e
   tell_keeps told Evaluate fault e = begun_keeps told.settings told.inputs told.first fault e
   tell_keeps told (Resume answer) fault e = more_keeps told.inputs _ told.first fault e
 
-  tells_keep : (told : Told) (steps : List Step) (fault : Fault) → comes told ≡ Some (Faults fault)
-      → comes (tells told steps) ≡ Some (Faults fault)
+  tells_keep : (told : Told) (steps : List Step) (fault : Fault) → comes told ≡ Some (FaultOutcome fault)
+      → comes (tells told steps) ≡ Some (FaultOutcome fault)
   tells_keep told [] fault e = e
   tells_keep told (step ∷ steps) fault e = tells_keep (tell told step) steps fault (tell_keeps told step fault e)
 
   -- ---- without a fault every answer was awaited
 
-  heard_all : (told : Told) (answer : Answer) (o : Option Outcome) → Awaits answer o → ((fault : Fault) → o ≢ Some (Faults fault))
+  heard_all : (told : Told) (answer : Answer) (o : Option Outcome) → Awaits answer o → ((fault : Fault) → o ≢ Some (FaultOutcome fault))
       → after told o (Resume answer) ≡ tell told (Resume answer)
   heard_all told answer None a h = absurd a
-  heard_all told answer (Some (Requests request frames)) a h = refl
-  heard_all told answer (Some (Faults fault)) a h = absurd (h fault refl)
-  heard_all told answer (Some (Completes pieces value)) a h = absurd a
+  heard_all told answer (Some (RequestOutcome request positions)) a h = refl
+  heard_all told answer (Some (FaultOutcome fault)) a h = absurd (h fault refl)
+  heard_all told answer (Some (CompleteOutcome pieces value)) a h = absurd a
 
-  told_by : (told : Told) (step : Step) → Allows told (comes told) step → ((fault : Fault) → comes told ≢ Some (Faults fault))
+  told_by : (told : Told) (step : Step) → Allows told (comes told) step → ((fault : Fault) → comes told ≢ Some (FaultOutcome fault))
       → after_step setup refusal text told step ≡ tell told step
   told_by told (InitialValue number) a h = refl
   told_by told (ObjectAddress address) a h = refl
@@ -128,7 +128,7 @@ module _ (setup : Setup) (refusal : Refusal) (text : Text) where
 
   -- where no fault was met in the end
   pub told_is : (told : Told) (steps : List Step) → AllAllowed setup refusal text told steps
-      → ((fault : Fault) → comes (after_steps setup refusal text told steps) ≢ Some (Faults fault))
+      → ((fault : Fault) → comes (after_steps setup refusal text told steps) ≢ Some (FaultOutcome fault))
       → after_steps setup refusal text told steps ≡ tells told steps
   told_is told [] a h = refl
   told_is told (step ∷ steps) a h =
@@ -137,30 +137,30 @@ module _ (setup : Setup) (refusal : Refusal) (text : Text) where
 
   -- where what the steps tell comes to no fault
   pub told_comes : (told : Told) (steps : List Step) → AllAllowed setup refusal text told steps
-      → ((fault : Fault) → comes (tells told steps) ≢ Some (Faults fault))
+      → ((fault : Fault) → comes (tells told steps) ≢ Some (FaultOutcome fault))
       → after_steps setup refusal text told steps ≡ tells told steps
   told_comes told [] a h = refl
   told_comes told (step ∷ steps) a h =
       let now = told_by told step a.0 (λ fault e. h fault (tells_keep told (step ∷ steps) fault e)) in
       let same = ap (λ (t : Told). tells t steps) now in
       told_comes (after_step setup refusal text told step) steps a.1
-      (subst (λ (t : Told). (fault : Fault) → comes t ≢ Some (Faults fault)) (sym same) h) ∙ same
+      (subst (λ (t : Told). (fault : Fault) → comes t ≢ Some (FaultOutcome fault)) (sym same) h) ∙ same
 
 -- ---- without a refusal
 
 module _ (setup : Setup) (free_lists : HasNoLimits setup) (refusal : Refusal) (text : Text) where
   abbrev IsClear : Option Outcome → Type 0
-  IsClear o = o ≢ Some (Faults StackFull)
+  IsClear o = o ≢ Some (FaultOutcome StackFull)
 
   meant : (first : First) (inputs : List Input)
-      → (meaning setup refusal text first inputs ≡ Faults StackFull) ⊎ (meaning setup refusal text first
+      → (meaning setup refusal text first inputs ≡ FaultOutcome StackFull) ⊎ (meaning setup refusal text first
       inputs ≡ meaning setup Never text first inputs)
   meant first inputs =
-      subst (λ (s : Setup). (meaning s refusal text first inputs ≡ Faults StackFull) ⊎ (meaning s refusal text first
+      subst (λ (s : Setup). (meaning s refusal text first inputs ≡ FaultOutcome StackFull) ⊎ (meaning s refusal text first
       inputs ≡ meaning s Never text first inputs))
       (no_limits setup free_lists) (meaning_calm setup.encoding setup.offset_bits refusal text first inputs)
 
-  same_or : (o o' : Outcome) → (o ≡ Faults StackFull) ⊎ (o ≡ o') → IsClear (Some o) → Some o ≡ Some o'
+  same_or : (o o' : Outcome) → (o ≡ FaultOutcome StackFull) ⊎ (o ≡ o') → IsClear (Some o) → Some o ≡ Some o'
   same_or o o' (inl e) c = absurd (c (ap Some e))
   same_or o o' (inr e) c = ap Some e
 
@@ -179,16 +179,16 @@ module _ (setup : Setup) (free_lists : HasNoLimits setup) (refusal : Refusal) (t
 
   pub unrefused : (told : Told) (steps : List Step) → IsClear (outcome_of setup refusal text told)
       → AllAllowed setup refusal text told steps
-      → NoneIsFull (answers setup refusal text told steps) → Unrefused told steps
+      → NoneIsFull (replies_of setup refusal text told steps) → Unrefused told steps
   unrefused told [] c a n = record { allowed = tt; told_same = refl; comes_same = same_from told.inputs told.first c }
   unrefused told (step ∷ steps) c a n =
       let same = same_from told.inputs told.first c in
       let now = after_step setup refusal text told step in
       let same_now : now ≡ after_step setup Never text told step = ap (λ (o : Option Outcome). after told o step) same in
-      let clear_now = clear_after (Unit {0}) setup refusal text told step (answers setup refusal text now steps)
+      let clear_now = clear_after (Unit {0}) setup refusal text told step (replies_of setup refusal text now steps)
       (λ free. c) (λ free. n) in
       let rest = unrefused now steps (clear_now tt) a.1
-      (none_full_behind (step_replies step (outcome_of setup refusal text now)) (answers setup refusal text now steps) n) in
+      (none_full_behind (step_replies step (outcome_of setup refusal text now)) (replies_of setup refusal text now steps) n) in
       let behind : after_steps setup Never text now steps ≡ after_steps setup Never text (after_step setup Never text told step) steps =
       ap (λ (t : Told). after_steps setup Never text t steps) same_now
       in

@@ -8,18 +8,18 @@ use Rattle.dwarf_base.specs.Faults.{Fault, fault_of}
 use Rattle.dwarf_meaning.specs.Operations.{Text}
 use Rattle.dwarf_meaning.specs.Requests.{Request, Waiting}
 use Rattle.dwarf_meaning.specs.Stores.{Limits, Setup, address_bits, Refusal, Never, After}
-use Rattle.dwarf_meaning.specs.Run.{Frame}
+use Rattle.dwarf_meaning.specs.Run.{Position}
 use Rattle.dwarf_meaning.specs.Meaning.{Outcome}
-use Rattle.dwarf_meaning.specs.Rest.{State, Status, Start, Running, Waits, Complete, Stopped}
-use Rattle.dwarf_meaning.specs.Steps.{Step, Told, Reply, outcome_of, Allows, AllAllowed, step_replies, after_step, after_steps, answers}
+use Rattle.dwarf_meaning.specs.Rest.{State, Status, Start, Running, RequestStatus, CompleteStatus, FaultStatus}
+use Rattle.dwarf_meaning.specs.Steps.{Step, Told, Reply, outcome_of, Allows, AllAllowed, step_replies, after_step, after_steps, replies_of}
 use Rattle.dwarf_laws.specs.Agreement as agreeing
 use Rattle.dwarf_laws.specs.Agreement.{Pairwise, none, more, Both, nothing, something, AgreeingNumbers, AgreeingSteps, AgreeingTold, AgreeingOutcomes}
 use Rattle.dwarf_laws.specs.TwoRuns.{NoneIsFull, AreAlike}
 use Rattle.dwarf_laws.proofs.Pairs.{same_length, get_both}
 use Rattle.dwarf_laws.proofs.Evaluations.{two_runs}
-use Rattle.dwarf_eval.specs.Calls.{HasFreeList, MayPick}
-use Rattle.dwarf_replay.specs.Replays.{told_at, IsAsking, IsStopped, StandsAt, Walks, WalksTo, WalksOver}
-use Rattle.dwarf_expr.specs.Twins.{fresh_at, MayReplay, AreComparable, open_texts, StandAlike, unstarted, asking, stopped, complete, IsFront, BothDone, BothMisplaced, NoneMisplacedAlone, NoRoomThere}
+use Rattle.dwarf_eval.specs.Evaluation.{HasFreeList, MayPick}
+use Rattle.dwarf_replay.specs.Replays.{told_at, IsInRequest, IsInFault, StandsAt, Walks, WalksTo, WalksOver}
+use Rattle.dwarf_expr.specs.Twins.{fresh_at, MayReplay, AreComparableReplays, open_texts, StatesStandAlike, unstarted, in_request, in_fault, in_completion, IsFront, BothDone, BothMisplaced, NoneMisplacedAlone, NoRoomThere}
 
 -- ---- fronts of lists
 
@@ -50,15 +50,15 @@ none_full_front (x ∷ xs) ys h = (h.0, none_full_front xs ys h.1)
 module _ (setup : Setup) (refusal : Refusal) (text : Text) where
   -- the answers to steps, and to more of them
   pub answers_front : (told : Told) (steps rest : List Step)
-      → answers setup refusal text told (steps ++ rest) ≡ answers setup refusal text told steps ++ answers setup
+      → replies_of setup refusal text told (steps ++ rest) ≡ replies_of setup refusal text told steps ++ replies_of setup
       refusal text (after_steps setup refusal text told steps) rest
   answers_front told [] rest = refl
   answers_front told (step ∷ steps) rest =
       let now = after_step setup refusal text told step in
       let first = step_replies step (outcome_of setup refusal text now) in
       ap (λ (l : List Reply). first ++ l) (answers_front now steps rest)
-      ∙ sym (append_assoc first (answers setup refusal text now steps)
-      (answers setup refusal text (after_steps setup refusal text now steps) rest))
+      ∙ sym (append_assoc first (replies_of setup refusal text now steps)
+      (replies_of setup refusal text (after_steps setup refusal text now steps) rest))
 
   -- of steps that are all allowed, each one is
   pub allowed_next : (told : Told) (steps rest : List Step) (step : Step)
@@ -70,46 +70,46 @@ module _ (setup : Setup) (refusal : Refusal) (text : Text) where
 
 -- ---- where evaluations stand
 
-pub asking_of : (x : State) (request : Request) (frames : List Frame) (status : Status) → IsAsking request frames x status
-    → (waiting : Waiting) × (status ≡ Waits request waiting) × (frames ≡ open_texts x)
-asking_of x request frames (Waits open_request waiting) h = (waiting, ap (λ r. Waits r waiting) h.0, h.1)
-asking_of x request frames (Start initial_value) h = absurd h
-asking_of x request frames (Complete value) h = absurd h
-asking_of x request frames (Stopped error) h = absurd h
-asking_of x request frames Running h = absurd h
+pub asking_of : (x : State) (request : Request) (positions : List Position) (status : Status) → IsInRequest request positions x status
+    → (waiting : Waiting) × (status ≡ RequestStatus request waiting) × (positions ≡ open_texts x)
+asking_of x request positions (RequestStatus open_request waiting) h = (waiting, ap (λ r. RequestStatus r waiting) h.0, h.1)
+asking_of x request positions (Start initial_value) h = absurd h
+asking_of x request positions (CompleteStatus value) h = absurd h
+asking_of x request positions (FaultStatus error) h = absurd h
+asking_of x request positions Running h = absurd h
 
-pub stopped_of : (fault : Fault) (status : Status) → IsStopped fault status
-    → (error : Error) × (status ≡ Stopped error) × (fault_of error ≡ fault)
-stopped_of fault (Stopped error) h = (error, refl, h)
+pub stopped_of : (fault : Fault) (status : Status) → IsInFault fault status
+    → (error : Error) × (status ≡ FaultStatus error) × (fault_of error ≡ fault)
+stopped_of fault (FaultStatus error) h = (error, refl, h)
 stopped_of fault (Start initial_value) h = absurd h
-stopped_of fault (Waits request waiting) h = absurd h
-stopped_of fault (Complete value) h = absurd h
+stopped_of fault (RequestStatus request waiting) h = absurd h
+stopped_of fault (CompleteStatus value) h = absurd h
 stopped_of fault Running h = absurd h
 
 stand_alike : (bits : ℕ) (x y : State) (told told' : Told) (o o' : Option Outcome) → AgreeingTold bits told told'
     → Both (AgreeingOutcomes bits) o o'
-    → StandsAt told x o → StandsAt told' y o' → StandAlike bits x y
+    → StandsAt told x o → StandsAt told' y o' → StatesStandAlike bits x y
 stand_alike bits x y told told' o o' t nothing h k = unstarted _ _ h.0 k.0 t.settings.initial_value
-stand_alike bits x y told told' o o' t (something (agreeing.requests {request = request} {frames = frames})) h k =
-    let first = asking_of x request frames x.status h.0 in
-    let second = asking_of y request frames y.status k.0 in
-    asking request first.0 second.0 first.1 second.1 (sym first.2 ∙ second.2)
+stand_alike bits x y told told' o o' t (something (agreeing.requests {request = request} {positions = positions})) h k =
+    let first = asking_of x request positions x.status h.0 in
+    let second = asking_of y request positions y.status k.0 in
+    in_request request first.0 second.0 first.1 second.1 (sym first.2 ∙ second.2)
 stand_alike bits x y told told' o o' t (something (agreeing.faults {fault = fault})) h k =
     let first = stopped_of fault x.status h in
     let second = stopped_of fault y.status k in
-    stopped first.0 second.0 first.1 second.1 (first.2 ∙ sym second.2)
+    in_fault first.0 second.0 first.1 second.1 (first.2 ∙ sym second.2)
 stand_alike bits x y told told' o o' t (something (agreeing.completions {pieces = pieces} {others = others} p v)) h k =
     let q : Pairwise (agreeing.AgreeingPieces bits) x.store.pieces others =
     subst (λ ps. Pairwise (agreeing.AgreeingPieces bits) ps others) (sym h.1) p
     in
-    complete _ _ h.0 k.0 v (subst (λ ps. Pairwise (agreeing.AgreeingPieces bits) x.store.pieces ps) (sym k.1) q)
+    in_completion _ _ h.0 k.0 v (subst (λ ps. Pairwise (agreeing.AgreeingPieces bits) x.store.pieces ps) (sym k.1) q)
 
 -- ---- steps that were done, of any setup and text
 
 pub record Did (setup : Setup) (text : Text) (told : Told) (steps : List Step) (refusal : Refusal)
     (replies : List Reply) (new : State) : Type 0 where
   pub allowed : AllAllowed setup refusal text told steps
-  pub replies_are : replies ≡ answers setup refusal text told steps
+  pub replies_are : replies ≡ replies_of setup refusal text told steps
   pub stands : StandsAt (after_steps setup refusal text told steps) new
       (outcome_of setup refusal text (after_steps setup refusal text told steps))
 
@@ -147,20 +147,20 @@ did_to index x steps replies new w =
 front_is_clear : (n m : ℕ) (setup : Setup) (text : Text) (told : Told) (steps : List Step) (refusal : Refusal)
     (replies : List Reply) (new : State) → n ≤ m
     → Did setup text told (take m steps) refusal replies new → NoneIsFull replies
-    → NoneIsFull (answers setup refusal text told (take n steps))
+    → NoneIsFull (replies_of setup refusal text told (take n steps))
 front_is_clear n m setup text told steps refusal replies new h d k =
     let s = shorter n m steps h in
-    none_full_front (answers setup refusal text told (take n steps)) _
-    (subst NoneIsFull (d.replies_are ∙ (ap (λ (l : List Step). answers setup refusal text told l) s.1 ∙ answers_front
+    none_full_front (replies_of setup refusal text told (take n steps)) _
+    (subst NoneIsFull (d.replies_are ∙ (ap (λ (l : List Step). replies_of setup refusal text told l) s.1 ∙ answers_front
     setup refusal text told (take n steps) s.0)) k)
 
 front_of : (n m : ℕ) (setup : Setup) (text : Text) (told : Told) (steps : List Step) (refusal : Refusal)
     (replies : List Reply) (new : State) → n ≤ m
-    → Did setup text told (take m steps) refusal replies new → IsFront (answers setup refusal text told (take n steps)) replies
+    → Did setup text told (take m steps) refusal replies new → IsFront (replies_of setup refusal text told (take n steps)) replies
 front_of n m setup text told steps refusal replies new h d =
     let s = shorter n m steps h in (
-      answers setup refusal text (after_steps setup refusal text told (take n steps)) s.0,
-      sym (d.replies_are ∙ (ap (λ (l : List Step). answers setup refusal text told l) s.1 ∙ answers_front setup
+      replies_of setup refusal text (after_steps setup refusal text told (take n steps)) s.0,
+      sym (d.replies_are ∙ (ap (λ (l : List Step). replies_of setup refusal text told l) s.1 ∙ answers_front setup
           refusal text told (take n steps) s.0)),
     )
 
@@ -246,7 +246,7 @@ module _ (x y : State) (steps others : List Step) (h : MayReplay x y steps other
   Terms r r' replies given = ((x.setup.limits ≡ y.setup.limits) × (r ≡ r')) ⊎ (NoneIsFull replies × NoneIsFull given)
 
   terms : (r r' : Refusal) (replies given : List Reply) → MayPick x.setup.limits r → MayPick y.setup.limits r'
-      → AreComparable x y replies given → Terms r r' replies given
+      → AreComparableReplays x y replies given → Terms r r' replies given
   terms r r' replies given m m' (inl e) =
       inl (
         e.0,
@@ -274,7 +274,7 @@ module _ (x y : State) (steps others : List Step) (h : MayReplay x y steps other
   -- as many steps on both sides
   pub equal : (n : ℕ) (r r' : Refusal) (replies given : List Reply) (new new' : State) → First n r replies new
       → Second n r' given new' → Terms r r' replies given
-      → (replies ≡ given) × StandAlike w new new'
+      → (replies ≡ given) × StatesStandAlike w new new'
   equal n r r' replies given new new' d d' t =
       let a = alike n n n r r' replies given new new' (omega arith) (omega arith) d d' t in (
         d.replies_are ∙ (a.replies ∙ sym d'.replies_are),
@@ -331,21 +331,21 @@ module _ (x y : State) (steps others : List Step) (h : MayReplay x y steps other
       (carry (λ s t. Did s t (told_at y) others k.refusal replies new) (did y others replies new k))
 
   pub done_done : (new other : State) (replies given : List Reply) → Walks x steps replies new
-      → Walks y others given other → AreComparable x y replies given
-      → (replies ≡ given) × StandAlike w new other
+      → Walks y others given other → AreComparableReplays x y replies given
+      → (replies ≡ given) × StatesStandAlike w new other
   done_done new other replies given k l c =
       equal (length steps) k.refusal l.refusal replies given new other (all_first replies new k) (all_second given other l)
       (terms k.refusal l.refusal replies given k.may l.may c)
 
   pub to_to : (index second_index : ℕ) (new other : State) (replies given : List Reply)
       → WalksTo index x steps replies new → WalksTo second_index y others given other
-      → AreComparable x y replies given → (index ≡ second_index) × (replies ≡ given) × StandAlike w new other
+      → AreComparableReplays x y replies given → (index ≡ second_index) × (replies ≡ given) × StatesStandAlike w new other
   to_to i j new other replies given k l c = by_order (order i j)
     where
       t : Terms k.walks.refusal l.walks.refusal replies given
       t = terms k.walks.refusal l.walks.refusal replies given k.walks.may l.walks.may c
 
-      by_order : Order i j → (i ≡ j) × (replies ≡ given) × StandAlike w new other
+      by_order : Order i j → (i ≡ j) × (replies ≡ given) × StatesStandAlike w new other
       by_order (below lt) =
           absurd (not_first i j k.walks.refusal l.walks.refusal replies given new other lt
           (did_to i x steps replies new k) (second_to j given other l).did t)
@@ -359,14 +359,14 @@ module _ (x y : State) (steps others : List Step) (h : MayReplay x y steps other
           absurd (not_second j i k.walks.refusal l.walks.refusal replies given new other gt
           (did_to i x steps replies new k).did (second_to j given other l) t)
 
-  pub to_done : (index : ℕ) (new other : State) (replies given : List Reply) → AreComparable x y replies given
+  pub to_done : (index : ℕ) (new other : State) (replies given : List Reply) → AreComparableReplays x y replies given
       → WalksTo index x steps replies new → Walks y others given other → ⊥
   to_done i new other replies given c k l =
       not_first i (length steps) k.walks.refusal l.refusal replies given new other
       (slice_get_within steps i k.step k.is_next) (did_to i x steps replies new k) (all_second given other l)
       (terms k.walks.refusal l.refusal replies given k.walks.may l.may c)
 
-  pub done_to : (index : ℕ) (new other : State) (replies given : List Reply) → AreComparable x y replies given
+  pub done_to : (index : ℕ) (new other : State) (replies given : List Reply) → AreComparableReplays x y replies given
       → Walks x steps replies new → WalksTo index y others given other → ⊥
   done_to i new other replies given c k l =
       not_second i (length steps) k.refusal l.walks.refusal replies given new other
@@ -380,7 +380,7 @@ module _ (x y : State) (steps others : List Step) (h : MayReplay x y steps other
     over = second (suc n) (given ++ told ∷ []) other l.walks
 
     pub done_over : (new : State) (replies : List Reply) → Walks x steps replies new
-        → AreComparable x y replies (given ++ told ∷ []) → IsFront (given ++ told ∷ []) replies
+        → AreComparableReplays x y replies (given ++ told ∷ []) → IsFront (given ++ told ∷ []) replies
     done_over new replies k c =
         let inside : n < length steps = subst (λ (m : ℕ). n < m) (sym (same_length h.agreeing))
         (slice_get_within others n l.inside.0 l.inside.1) in
@@ -389,7 +389,7 @@ module _ (x y : State) (steps others : List Step) (h : MayReplay x y steps other
         (terms k.refusal l.walks.refusal replies (given ++ told ∷ []) k.may l.walks.may c)
 
     pub to_over : (index : ℕ) (new : State) (replies : List Reply) → WalksTo index x steps replies new
-        → AreComparable x y replies (given ++ told ∷ [])
+        → AreComparableReplays x y replies (given ++ told ∷ [])
         → (n < index) × IsFront (given ++ told ∷ []) replies
     to_over i new replies k c = by_order (order n i)
       where
@@ -412,7 +412,7 @@ module _ (x y : State) (steps others : List Step) (h : MayReplay x y steps other
 
     pub over_over : (index : ℕ) (answer : Reply) (limit : Option ℕ) (new : State) (replies : List Reply)
         → WalksOver index answer limit x steps replies new → n ≤ index
-        → AreComparable x y (replies ++ answer ∷ []) (given ++ told ∷ []) → IsFront (given ++ told ∷ []) (replies ++ answer ∷ [])
+        → AreComparableReplays x y (replies ++ answer ∷ []) (given ++ told ∷ []) → IsFront (given ++ told ∷ []) (replies ++ answer ∷ [])
     over_over i answer limit new replies k le c =
         front (suc n) (suc i) k.walks.refusal l.walks.refusal (replies ++ answer ∷ []) (given ++ told ∷ []) new other
         (omega arith)

@@ -5,7 +5,7 @@ use Rattle.dwarf_value.specs.declared.types.Value.{Value}
 use Rattle.dwarf_meaning.specs.Operations.{DieReference}
 use Rattle.dwarf_meaning.specs.Requests.{Request, Waiting, Answer, LocationAnswer, Input}
 use Rattle.dwarf_meaning.specs.Meaning.{First}
-use Rattle.dwarf_meaning.specs.Rest.{State, Waits, Complete, Stopped}
+use Rattle.dwarf_meaning.specs.Rest.{State, RequestStatus, CompleteStatus, FaultStatus}
 use Rattle.dwarf_meaning.specs.Steps.{Step, InitialValue, ObjectAddress, MaxIterations, Evaluate, Resume, Told, begun, Reply}
 use Rattle.dwarf_laws.specs.TwoRuns.{NoneIsFull}
 use Rattle.dwarf_laws.specs.Inlining.{CallSite, outer, called, inlined, in_force, HasNoLimits, StandsIn, IsInlinable, LeadsToCall}
@@ -52,11 +52,11 @@ pub record MayInline (x y : State) (site : CallSite) (offset : DieReference) (st
   pub maximum_in_force : (tells (told_at x) start).settings.maximum ≡ (in_force first (tells (told_at x) start).inputs).maximum
 
 -- both wait in the same request, or are complete with the same pieces and value
-pub data EndAlike (x y : State) : Type 0 where
-  asking : (request : Request) (waiting another : Waiting) → x.status ≡ Waits request waiting
-      → y.status ≡ Waits request another → EndAlike x y
-  complete : (value : Option Value) → x.status ≡ Complete value → y.status ≡ Complete value
-      → x.store.pieces ≡ y.store.pieces → EndAlike x y
+pub data StatesEndAlike (x y : State) : Type 0 where
+  in_request : (request : Request) (waiting another : Waiting) → x.status ≡ RequestStatus request waiting
+      → y.status ≡ RequestStatus request another → StatesEndAlike x y
+  in_completion : (value : Option Value) → x.status ≡ CompleteStatus value → y.status ≡ CompleteStatus value
+      → x.store.pieces ≡ y.store.pieces → StatesEndAlike x y
 
 -- The outer text is replayed by all steps, without a fault, and the inlined one by those without the call's answer. No
 -- push was refused.
@@ -66,6 +66,6 @@ InlinedReplay =
     (replies given : List Reply)
     → MayInline x y site offset start
     → Walks x (start ++ (Resume (LocationAnswer (called site)) ∷ behind)) replies new
-    → NoneIsFull replies → ((error : Error) → new.status ≢ Stopped error)
+    → NoneIsFull replies → ((error : Error) → new.status ≢ FaultStatus error)
     → Walks y (start ++ behind) given other → NoneIsFull given
-    → EndAlike new other
+    → StatesEndAlike new other

@@ -9,14 +9,14 @@ use Rattle.dwarf_value.specs.Laws.{IsWidth}
 use Rattle.dwarf_meaning.specs.Operations.{Text}
 use Rattle.dwarf_meaning.specs.Requests.{Request, Waiting}
 use Rattle.dwarf_meaning.specs.Stores.{address_bits, Never}
-use Rattle.dwarf_meaning.specs.Run.{Frame}
+use Rattle.dwarf_meaning.specs.Run.{Position}
 use Rattle.dwarf_meaning.specs.Meaning.{fresh}
 use Rattle.dwarf_meaning.specs.Rows.{plain, unset}
-use Rattle.dwarf_meaning.specs.Rest.{State, Start, Waits, Complete, Stopped}
+use Rattle.dwarf_meaning.specs.Rest.{State, Start, RequestStatus, CompleteStatus, FaultStatus}
 use Rattle.dwarf_meaning.specs.Steps.{Step, Reply}
 use Rattle.dwarf_laws.specs.Agreement.{Pairwise, Both, AgreeingNumbers, AgreeingSteps, AgreeingPieces}
 use Rattle.dwarf_laws.specs.TwoRuns.{NoneIsFull}
-use Rattle.dwarf_eval.specs.Calls.{HasFreeList}
+use Rattle.dwarf_eval.specs.Evaluation.{HasFreeList}
 use Rattle.dwarf_replay.specs.Replays.{Walks, WalksTo, WalksOver}
 
 -- ---- the premises
@@ -49,58 +49,58 @@ pub record MayReplay (x y : State) (steps others : List Step) : Type 0 where
   pub agreeing : Pairwise (AgreeingSteps (address_bits x.setup)) steps others
 
 -- three limits each, which are equal; or no push that was refused
-abbrev pub AreComparable : (x y : State) → (replies given : List Reply) → Type 0
-AreComparable x y replies given =
+abbrev pub AreComparableReplays : (x y : State) → (replies given : List Reply) → Type 0
+AreComparableReplays x y replies given =
     ((x.setup.limits ≡ y.setup.limits) × (HasFreeList x.setup.limits → ⊥)) ⊎ (NoneIsFull replies × NoneIsFull given)
 
 -- ---- what is said
 
 -- the texts that are open, the innermost first, each with its place
-abbrev pub open_texts : State → List Frame
+abbrev pub open_texts : State → List Position
 open_texts x = record { text = x.text; place = x.place } ∷ x.callers
 
 -- Both wait in the same request with the same open texts and places, met the same fault, are complete with agreeing
 -- pieces and values, or weren't started, with agreeing initial values.
-pub data StandAlike (bits : ℕ) (x y : State) : Type 0 where
+pub data StatesStandAlike (bits : ℕ) (x y : State) : Type 0 where
   unstarted : (number other : Option ℕ) → x.status ≡ Start number → y.status ≡ Start other
-      → Both (AgreeingNumbers bits) number other → StandAlike bits x y
-  asking : (request : Request) (waiting another : Waiting) → x.status ≡ Waits request waiting
-      → y.status ≡ Waits request another → open_texts x ≡ open_texts y → StandAlike bits x y
-  stopped : (error other : Error) → x.status ≡ Stopped error → y.status ≡ Stopped other
-      → fault_of error ≡ fault_of other → StandAlike bits x y
-  complete : (value other : Option Value) → x.status ≡ Complete value → y.status ≡ Complete other
+      → Both (AgreeingNumbers bits) number other → StatesStandAlike bits x y
+  in_request : (request : Request) (waiting another : Waiting) → x.status ≡ RequestStatus request waiting
+      → y.status ≡ RequestStatus request another → open_texts x ≡ open_texts y → StatesStandAlike bits x y
+  in_fault : (error other : Error) → x.status ≡ FaultStatus error → y.status ≡ FaultStatus other
+      → fault_of error ≡ fault_of other → StatesStandAlike bits x y
+  in_completion : (value other : Option Value) → x.status ≡ CompleteStatus value → y.status ≡ CompleteStatus other
       → Both (Agree bits) value other → Pairwise (AgreeingPieces bits) x.store.pieces y.store.pieces
-      → StandAlike bits x y
+      → StatesStandAlike bits x y
 
 -- the first list is a front of the second
 abbrev pub IsFront : List Reply → List Reply → Type 0
 IsFront replies all = (more : List Reply) × (replies ++ more ≡ all)
 
--- all steps were done on both sides: the answers are the same
+-- all steps were done on both sides: the replies are the same
 abbrev pub BothDone : Type 0
 BothDone =
     (x y new other : State) (steps others : List Step) (replies given : List Reply)
     → MayReplay x y steps others → Walks x steps replies new → Walks y others given other
-    → AreComparable x y replies given
-    → (replies ≡ given) × StandAlike (address_bits x.setup) new other
+    → AreComparableReplays x y replies given
+    → (replies ≡ given) × StatesStandAlike (address_bits x.setup) new other
 
--- a step was misplaced on both sides: it is the same step, and the answers before it are the same
+-- a step was misplaced on both sides: it is the same step, and the replies before it are the same
 abbrev pub BothMisplaced : Type 0
 BothMisplaced =
     (index second : ℕ) (x y new other : State) (steps others : List Step) (replies given : List Reply)
     → MayReplay x y steps others → WalksTo index x steps replies new → WalksTo second y others given other
-    → AreComparable x y replies given
-    → (index ≡ second) × (replies ≡ given) × StandAlike (address_bits x.setup) new other
+    → AreComparableReplays x y replies given
+    → (index ≡ second) × (replies ≡ given) × StatesStandAlike (address_bits x.setup) new other
 
 -- no step is misplaced on one side where all were done on the other
 abbrev pub NoneMisplacedAlone : Type 0
 NoneMisplacedAlone =
     (index : ℕ) (x y new other : State) (steps others : List Step) (replies given : List Reply)
-    → MayReplay x y steps others → AreComparable x y replies given
+    → MayReplay x y steps others → AreComparableReplays x y replies given
     → ((WalksTo index x steps replies new → Walks y others given other → ⊥)
     × (Walks x steps replies new → WalksTo index y others given other → ⊥))
 
--- An answer found no room on the second side. Its answers, with that one, are the first of the other side's: where
+-- A reply found no room on the second side. Its replies, with that one, are the first of the other side's: where
 -- that one did all its steps, came to a misplaced one, which then comes later, or found no room either, at that step
 -- or later.
 abbrev pub NoRoomThere : Type 0
@@ -108,10 +108,10 @@ NoRoomThere =
     (index second : ℕ) (answer told : Reply) (limit free : Option ℕ) (x y new other : State)
     (steps others : List Step) (replies given : List Reply)
     → MayReplay x y steps others → WalksOver second told free y others given other
-    → ((Walks x steps replies new → AreComparable x y replies (given ++ told ∷ [])
+    → ((Walks x steps replies new → AreComparableReplays x y replies (given ++ told ∷ [])
     → IsFront (given ++ told ∷ []) replies)
-    × (WalksTo index x steps replies new → AreComparable x y replies (given ++ told ∷ [])
+    × (WalksTo index x steps replies new → AreComparableReplays x y replies (given ++ told ∷ [])
     → (second < index) × IsFront (given ++ told ∷ []) replies)
     × (WalksOver index answer limit x steps replies new → second ≤ index
-    → AreComparable x y (replies ++ answer ∷ []) (given ++ told ∷ [])
+    → AreComparableReplays x y (replies ++ answer ∷ []) (given ++ told ∷ [])
     → IsFront (given ++ told ∷ []) (replies ++ answer ∷ [])))

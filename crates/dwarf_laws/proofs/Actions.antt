@@ -7,14 +7,14 @@ use Rattle.dwarf_value.specs.declared.types.Value.{Value}
 use Rattle.dwarf_value.specs.declared.types.Value.TheVariants.{Generic}
 use Rattle.dwarf_value.specs.declared.types.ValueType.{ValueType}
 use Rattle.dwarf_value.specs.Values.{type_of, Agree, to_u64_of, from_u64_of, abs_of, neg_of, not_of, add_of, sub_of, mul_of, div_of, rem_of, and_of, or_of, xor_of, shl_of, shr_of, shra_of, eq_of, ge_of, gt_of, le_of, lt_of, ne_of, convert_of, reinterpret_of, parse_of}
-use Rattle.dwarf_value.specs.Laws.{IsWidth, AgreeingAnswers as AgreeingResults}
+use Rattle.dwarf_value.specs.Laws.{IsWidth, AgreeingResults}
 use Rattle.dwarf_value.proofs.Agreements.{Agree-refl, Agree-Generic, Agree-sums, to_u64_of-Agree, convert_of-Agree, add_of_constant-Agree, abs_of-Agree, neg_of-Agree, not_of-Agree, add_of-Agree, sub_of-Agree, mul_of-Agree, div_of-Agree, rem_of-Agree, and_of-Agree, or_of-Agree, xor_of-Agree, shl_of-Agree, shr_of-Agree, shra_of-Agree, eq_of-Agree, ge_of-Agree, gt_of-Agree, le_of-Agree, lt_of-Agree, ne_of-Agree}
 use Rattle.dwarf_value.proofs.ValueLaws.{reinterpret_of-Agree}
 use Rattle.dwarf_meaning.specs.Operations as operation
 use Rattle.dwarf_meaning.specs.Operations.{Operation, Text}
 use Rattle.dwarf_meaning.specs.Locations.{Location, AtAddress, Piece}
-use Rattle.dwarf_meaning.specs.Requests.{Request, RequiresMemory, RequiresTls, Waiting, Memory, Register, WasmValue, EntryValue, FrameBase, Tls, CallFrameCfa, ParameterRef, RelocatedAddress, IndexedAddress, AtLocation, TypedLiteral, Convert, Reinterpret, Answer, memory_of, register_of, wasm_of, entry_of, frame_base_of, tls_of, cfa_of, parameter_of, relocated_of, indexed_of, location_of, base_type_of}
-use Rattle.dwarf_meaning.specs.Acts.{on_top, on_some, on_answer, answer_of, Act, Pushes, Branches, Locates, Ends, Asks, Refuses, short, unary, binary, act, Use, Gives, Calls, Denies, Misfits, use_of}
+use Rattle.dwarf_meaning.specs.Requests.{Request, RequiresMemory, RequiresTls, Waiting, Memory, Register, WasmValue, EntryValue, FrameBase, Tls, CallFrameCfa, ParameterRef, RelocatedAddress, IndexedAddress, AtLocation, TypedLiteral, Convert, Reinterpret, Answer, memory_in, register_in, wasm_in, entry_in, frame_base_in, tls_in, cfa_in, parameter_in, relocated_in, indexed_in, location_in, base_type_in}
+use Rattle.dwarf_meaning.specs.Acts.{on_top, on_some, on_result, result_of, Act, Pushes, Branches, Locates, EndsPiece, RequestAct, FaultAct, short, unary, binary, act, Use, PushesAnswer, Calls, FaultUse, WrongKind, use_of}
 use Rattle.dwarf_laws.specs.Agreement as agreeing
 use Rattle.dwarf_laws.specs.Agreement.{Pairwise, none, more, Both, nothing, something, AgreeingNumbers, AgreeingAnswers, AgreeingLocations, same, AgreeingPieces}
 use Rattle.dwarf_laws.proofs.Pairs.{get_both, choose_pair, top_pair, some_pair, answer_pair, read_pair, answers_agree}
@@ -27,17 +27,17 @@ pub data AgreeingActs (w : ℕ) : Act → Act → Type 0 where
   locates : {rest rest' : List Value} {location location' : Location} → Pairwise (Agree w) rest rest'
       → AgreeingLocations w location location' → AgreeingActs w (Locates rest location) (Locates rest' location')
   ends : {rest rest' : List Value} {piece piece' : Piece} → Pairwise (Agree w) rest rest'
-      → AgreeingPieces w piece piece' → AgreeingActs w (Ends rest piece) (Ends rest' piece')
+      → AgreeingPieces w piece piece' → AgreeingActs w (EndsPiece rest piece) (EndsPiece rest' piece')
   asks : {rest rest' : List Value} {request : Request} {waiting : Waiting} → Pairwise (Agree w) rest rest'
-      → AgreeingActs w (Asks rest request waiting) (Asks rest' request waiting)
-  refuses : {fault : Fault} → AgreeingActs w (Refuses fault) (Refuses fault)
+      → AgreeingActs w (RequestAct rest request waiting) (RequestAct rest' request waiting)
+  refuses : {fault : Fault} → AgreeingActs w (FaultAct fault) (FaultAct fault)
 
 pub data AgreeingUses (w : ℕ) : Use → Use → Type 0 where
   gives : {rest rest' : List Value} {x x' : Value} → Pairwise (Agree w) rest rest' → Agree w x x'
-      → AgreeingUses w (Gives rest x) (Gives rest' x')
+      → AgreeingUses w (PushesAnswer rest x) (PushesAnswer rest' x')
   calls : {text : Text} → AgreeingUses w (Calls text) (Calls text)
-  denies : {fault : Fault} → AgreeingUses w (Denies fault) (Denies fault)
-  misfits : AgreeingUses w Misfits Misfits
+  denies : {fault : Fault} → AgreeingUses w (FaultUse fault) (FaultUse fault)
+  misfits : AgreeingUses w WrongKind WrongKind
 
 -- the same address on both sides
 pub same_addresses : (w : ℕ) (x x' : Value) → Agree w x x'
@@ -49,9 +49,9 @@ same_addresses w x x' a =
 
 module _ (w : ℕ) where
   asks_equal : (rest rest' : List Value) (request request' : Request) (waiting : Waiting) → request ≡ request'
-      → Pairwise (Agree w) rest rest' → AgreeingActs w (Asks rest request waiting) (Asks rest' request' waiting)
+      → Pairwise (Agree w) rest rest' → AgreeingActs w (RequestAct rest request waiting) (RequestAct rest' request' waiting)
   asks_equal rest rest' request request' waiting e h =
-      subst (λ (r : Request). AgreeingActs w (Asks rest request waiting) (Asks rest' r waiting)) e (asks h)
+      subst (λ (r : Request). AgreeingActs w (RequestAct rest request waiting) (RequestAct rest' r waiting)) e (asks h)
 
   pushes_one : (rest rest' : List Value) (x x' : Value) → Pairwise (Agree w) rest rest' → Agree w x x'
       → AgreeingActs w (Pushes rest (x ∷ [])) (Pushes rest' (x' ∷ []))
@@ -168,66 +168,66 @@ module _ (w : ℕ) where
 
 -- what two agreeing answers say
 module _ (w : ℕ) where
-  memory_both : (a b : Answer) → AgreeingAnswers w a b → Both (Agree w) (memory_of a) (memory_of b)
+  memory_both : (a b : Answer) → AgreeingAnswers w a b → Both (Agree w) (memory_in a) (memory_in b)
   memory_both a b (agreeing.memory h) = something h
   memory_both a b _ = nothing
 
-  register_both : (a b : Answer) → AgreeingAnswers w a b → Both (Agree w) (register_of a) (register_of b)
+  register_both : (a b : Answer) → AgreeingAnswers w a b → Both (Agree w) (register_in a) (register_in b)
   register_both a b (agreeing.register h) = something h
   register_both a b _ = nothing
 
-  wasm_value_both : (a b : Answer) → AgreeingAnswers w a b → Both (Agree w) (wasm_of a) (wasm_of b)
+  wasm_value_both : (a b : Answer) → AgreeingAnswers w a b → Both (Agree w) (wasm_in a) (wasm_in b)
   wasm_value_both a b (agreeing.wasm_value h) = something h
   wasm_value_both a b _ = nothing
 
-  entry_value_both : (a b : Answer) → AgreeingAnswers w a b → Both (Agree w) (entry_of a) (entry_of b)
+  entry_value_both : (a b : Answer) → AgreeingAnswers w a b → Both (Agree w) (entry_in a) (entry_in b)
   entry_value_both a b (agreeing.entry_value h) = something h
   entry_value_both a b _ = nothing
 
-  frame_base_both : (a b : Answer) → AgreeingAnswers w a b → Both (AgreeingNumbers w) (frame_base_of a) (frame_base_of b)
+  frame_base_both : (a b : Answer) → AgreeingAnswers w a b → Both (AgreeingNumbers w) (frame_base_in a) (frame_base_in b)
   frame_base_both a b (agreeing.frame_base h) = something h
   frame_base_both a b _ = nothing
 
-  tls_both : (a b : Answer) → AgreeingAnswers w a b → Both (AgreeingNumbers w) (tls_of a) (tls_of b)
+  tls_both : (a b : Answer) → AgreeingAnswers w a b → Both (AgreeingNumbers w) (tls_in a) (tls_in b)
   tls_both a b (agreeing.tls h) = something h
   tls_both a b _ = nothing
 
-  cfa_both : (a b : Answer) → AgreeingAnswers w a b → Both (AgreeingNumbers w) (cfa_of a) (cfa_of b)
+  cfa_both : (a b : Answer) → AgreeingAnswers w a b → Both (AgreeingNumbers w) (cfa_in a) (cfa_in b)
   cfa_both a b (agreeing.cfa h) = something h
   cfa_both a b _ = nothing
 
-  parameter_both : (a b : Answer) → AgreeingAnswers w a b → Both (AgreeingNumbers w) (parameter_of a) (parameter_of b)
+  parameter_both : (a b : Answer) → AgreeingAnswers w a b → Both (AgreeingNumbers w) (parameter_in a) (parameter_in b)
   parameter_both a b (agreeing.parameter h) = something h
   parameter_both a b _ = nothing
 
-  relocated_both : (a b : Answer) → AgreeingAnswers w a b → Both (AgreeingNumbers w) (relocated_of a) (relocated_of b)
+  relocated_both : (a b : Answer) → AgreeingAnswers w a b → Both (AgreeingNumbers w) (relocated_in a) (relocated_in b)
   relocated_both a b (agreeing.relocated h) = something h
   relocated_both a b _ = nothing
 
-  indexed_both : (a b : Answer) → AgreeingAnswers w a b → Both (AgreeingNumbers w) (indexed_of a) (indexed_of b)
+  indexed_both : (a b : Answer) → AgreeingAnswers w a b → Both (AgreeingNumbers w) (indexed_in a) (indexed_in b)
   indexed_both a b (agreeing.indexed h) = something h
   indexed_both a b _ = nothing
 
-  location_both : (a b : Answer) → AgreeingAnswers w a b → Both (λ (s t : Text). s ≡ t) (location_of a) (location_of b)
+  location_both : (a b : Answer) → AgreeingAnswers w a b → Both (λ (s t : Text). s ≡ t) (location_in a) (location_in b)
   location_both a b agreeing.location = something refl
   location_both a b _ = nothing
 
-  base_type_both : (a b : Answer) → AgreeingAnswers w a b → Both (λ (s t : ValueType). s ≡ t) (base_type_of a) (base_type_of b)
+  base_type_both : (a b : Answer) → AgreeingAnswers w a b → Both (λ (s t : ValueType). s ≡ t) (base_type_in a) (base_type_in b)
   base_type_both a b agreeing.base_type = something refl
   base_type_both a b _ = nothing
 
 module _ (w : ℕ) (width : IsWidth w) where
   some_uses : {X : Type 0} (Q : X → X → Type 0) (o o' : Option X) (go go' : X → Use) → Both Q o o'
-      → ((x x' : X) → Q x x' → AgreeingUses w (go x) (go' x')) → AgreeingUses w (on_some o Misfits go) (on_some o' Misfits go')
-  some_uses Q o o' go go' h g = some_pair (AgreeingUses w) Q o o' Misfits Misfits go go' h misfits g
+      → ((x x' : X) → Q x x' → AgreeingUses w (go x) (go' x')) → AgreeingUses w (on_some o WrongKind go) (on_some o' WrongKind go')
+  some_uses Q o o' go go' h g = some_pair (AgreeingUses w) Q o o' WrongKind WrongKind go go' h misfits g
 
   answer_uses : (r r' : Result Value Error) (rest rest' : List Value) → AgreeingResults w r r' → Pairwise (Agree w) rest rest'
-      → AgreeingUses w (on_answer (answer_of r) Denies (Gives rest)) (on_answer (answer_of r') Denies (Gives rest'))
+      → AgreeingUses w (on_result (result_of r) FaultUse (PushesAnswer rest)) (on_result (result_of r') FaultUse (PushesAnswer rest'))
   answer_uses r r' rest rest' h b =
-      answer_pair (AgreeingUses w) w r r' Denies Denies _ _ h (λ fault. denies) (λ x x' a. gives b a)
+      answer_pair (AgreeingUses w) w r r' FaultUse FaultUse _ _ h (λ fault. denies) (λ x x' a. gives b a)
 
   generic_uses : (values others : List Value) (o o' : Option ℕ) → Pairwise (Agree w) values others → Both (AgreeingNumbers w) o o'
-      → AgreeingUses w (on_some o Misfits (λ n. Gives values (Generic n))) (on_some o' Misfits (λ n. Gives others (Generic n)))
+      → AgreeingUses w (on_some o WrongKind (λ n. PushesAnswer values (Generic n))) (on_some o' WrongKind (λ n. PushesAnswer others (Generic n)))
   generic_uses values others o o' h b = some_uses (AgreeingNumbers w) o o' _ _ b (λ m n e. gives h (Agree-Generic w m n e))
 
   pub use_both : (waiting : Waiting) (x y : Answer) (values others : List Value) → AgreeingAnswers w x y
@@ -252,9 +252,9 @@ module _ (w : ℕ) (width : IsWidth w) where
       (λ s t e. subst (λ (p : Text). AgreeingUses w (Calls s) (Calls p)) e calls)
   use_both (TypedLiteral value) x y values others a h =
       some_uses (λ (s t : ValueType). s ≡ t) _ _ _ _ (base_type_both w x y a) (λ s t e.
-      subst (λ (p : ValueType). AgreeingUses w (on_answer (parse_of s value.is_big value.bytes) Denies (Gives values))
-      (on_answer (parse_of p value.is_big value.bytes) Denies (Gives others))) e
-      (read_pair (AgreeingUses w) (parse_of s value.is_big value.bytes) Denies Denies (Gives values) (Gives others)
+      subst (λ (p : ValueType). AgreeingUses w (on_result (parse_of s value.is_big value.bytes) FaultUse (PushesAnswer values))
+      (on_result (parse_of p value.is_big value.bytes) FaultUse (PushesAnswer others))) e
+      (read_pair (AgreeingUses w) (parse_of s value.is_big value.bytes) FaultUse FaultUse (PushesAnswer values) (PushesAnswer others)
       (λ fault. denies) (λ v. gives h (Agree-refl w v))))
   use_both Convert x y values others a h =
       some_uses (λ (s t : ValueType). s ≡ t) _ _ _ _ (base_type_both w x y a) (λ s t e.

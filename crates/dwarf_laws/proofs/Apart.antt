@@ -3,7 +3,7 @@ use Rattle.std.proofs.Common.{ℕ, ℤ, pos, negsuc, ◌≡◌, Option, Some, No
 use Rattle.dwarf_value.specs.declared.types.Value.{Value}
 use Rattle.dwarf_value.specs.declared.types.Value.TheVariants.{Generic}
 use Rattle.dwarf_value.specs.Values.{Agree}
-use Rattle.dwarf_meaning.specs.Meaning.{Outcome, Requests, Faults, Completes}
+use Rattle.dwarf_meaning.specs.Meaning.{Outcome, RequestOutcome, FaultOutcome, CompleteOutcome}
 use Rattle.dwarf_laws.specs.Agreement as agreeing
 use Rattle.dwarf_laws.specs.Agreement.{Both, nothing, something, AgreeingOutcomes}
 use Rattle.dwarf_laws.specs.Inlining as alike
@@ -21,9 +21,9 @@ values_agree w o o' (something a) = a
 
 -- the same sort of outcome; of completions, values that agree
 abbrev pub Alike : (w : ℕ) → Outcome → Outcome → Type 0
-Alike w (Requests request frames) (Requests other others) = Unit {0}
-Alike w (Faults fault) (Faults other) = fault ≡ other
-Alike w (Completes pieces value) (Completes others other) = ValuesAgree w value other
+Alike w (RequestOutcome request positions) (RequestOutcome other others) = Unit {0}
+Alike w (FaultOutcome fault) (FaultOutcome other) = fault ≡ other
+Alike w (CompleteOutcome pieces value) (CompleteOutcome others other) = ValuesAgree w value other
 Alike w _ _ = ⊥
 
 pub agree_alike : (w : ℕ) (x y : Outcome) → AgreeingOutcomes w x y → Alike w x y
@@ -33,8 +33,8 @@ agree_alike w x y (agreeing.completions p v) = values_agree w _ _ v
 
 -- no faults; of completions, the same value
 abbrev pub Ended : Outcome → Outcome → Type 0
-Ended (Requests request frames) (Requests other others) = Unit {0}
-Ended (Completes pieces value) (Completes others other) = value ≡ other
+Ended (RequestOutcome request positions) (RequestOutcome other others) = Unit {0}
+Ended (CompleteOutcome pieces value) (CompleteOutcome others other) = value ≡ other
 Ended _ _ = ⊥
 
 pub end_ended : (x y : Outcome) → EndAlike x y → Ended x y

@@ -11,10 +11,10 @@ use Rattle.dwarf_meaning.specs.Locations.{Location}
 use Rattle.dwarf_meaning.specs.Spelling.{Spells}
 use Rattle.dwarf_meaning.specs.Splitting.{Joined}
 use Rattle.dwarf_meaning.specs.Splitting as splitting
-use Rattle.dwarf_meaning.specs.Requests.{Request, RequiresAtLocation, AtLocation, location_of, Input}
-use Rattle.dwarf_meaning.specs.Acts.{on_some, act, Calls, Misfits, use_of}
-use Rattle.dwarf_meaning.specs.Stores.{Setup, address_bits, Store, Last, Nothing, Plain, Pieced, Pushed, Called, Located, push_frame, done}
-use Rattle.dwarf_meaning.specs.Run.{Frame, End, Finished, Asking, Failed, Course, ended, passing, asking, back, called, used, asked, led, read, can_count, counted, does, counts, held, turn_by, run}
+use Rattle.dwarf_meaning.specs.Requests.{Request, RequiresAtLocation, AtLocation, location_in, Input}
+use Rattle.dwarf_meaning.specs.Acts.{on_some, act, Calls, WrongKind, use_of}
+use Rattle.dwarf_meaning.specs.Stores.{Setup, address_bits, Store, Last, Nothing, Plain, Pieced, Pushed, Called, Located, push_caller, done}
+use Rattle.dwarf_meaning.specs.Run.{Position, End, CompleteEnd, RequestEnd, FaultEnd, Course, only_end, add_to_path, add_request, return_to_caller, run_callee, after_answer, await_answer, after_operation, read, can_count, counted, do_operation, turn_counted, turn_located, turn_by, run}
 use Rattle.dwarf_meaning.specs.Meaning.{First}
 use Rattle.dwarf_meaning.specs.RunLaws.{EndOpen}
 use Rattle.dwarf_meaning.proofs.Choices.{choose_true, choose_false}
@@ -26,12 +26,12 @@ use Rattle.dwarf_laws.proofs.Calm.{free, calm}
 use Rattle.dwarf_laws.proofs.Texts.{stands, StraightFrom, straight_step}
 use Rattle.dwarf_laws.proofs.Later.{AsksBehind, OpenBehind, run_later}
 use Rattle.dwarf_laws.proofs.Phase as phase
-use Rattle.dwarf_laws.proofs.Phase.{last_place, last_snoc, frames_of, open_some, turn_leads}
+use Rattle.dwarf_laws.proofs.Phase.{last_place, last_snoc, positions_of, open_some, turn_leads}
 
 abbrev inputs_of : End → List Input
-inputs_of (Finished s inputs) = inputs
-inputs_of (Asking request frames inputs) = inputs
-inputs_of (Failed fault) = []
+inputs_of (CompleteEnd s inputs) = inputs
+inputs_of (RequestEnd request positions inputs) = inputs
+inputs_of (FaultEnd fault) = []
 
 module _ (encoding : Encoding) (bits : ℕ) (A K B : List ℕ) (big : Bool) (offset : DieReference)
     (spelled : Spells encoding bits big K (operation.Call offset)) where
@@ -44,11 +44,11 @@ module _ (encoding : Encoding) (bits : ℕ) (A K B : List ℕ) (big : Bool) (off
   abbrev call : Request
   call = RequiresAtLocation offset
 
-  abbrev behind_call : Frame
+  abbrev behind_call : Position
   behind_call = record { text = outer; place = length A + length K }
 
   abbrev AtCall : End → Type 0
-  AtCall end = end ≡ Asking call (behind_call ∷ []) []
+  AtCall end = end ≡ RequestEnd call (behind_call ∷ []) []
 
   some_call : 0 < length K
   some_call = (whole_operation encoding bits big K (operation.Call offset) spelled).some_bytes
@@ -65,38 +65,38 @@ module _ (encoding : Encoding) (bits : ℕ) (A K B : List ℕ) (big : Bool) (off
 
   abbrev pub call_course : Store → List Input → Course
   call_course t inputs =
-      passing (record { text = outer; place = length A })
-      (asking call (asked (run S) S behind_call 0 call AtLocation (counted (calm t)) inputs))
+      add_to_path (record { text = outer; place = length A })
+      (add_request call (await_answer (run S) S behind_call 0 call AtLocation (counted (calm t)) inputs))
 
-  does_call : (s : Store) (inputs : List Input) → does (run S) S outer 0 s inputs (read S outer (length A)) ≡ asking
-      call (asked (run S) S behind_call 0 call AtLocation s inputs)
+  does_call : (s : Store) (inputs : List Input) → do_operation (run S) S outer 0 s inputs (read S outer (length A)) ≡ add_request
+      call (await_answer (run S) S behind_call 0 call AtLocation s inputs)
   unfolding act
   does_call s inputs =
-      ap (does (run S) S outer 0 s inputs) read_call
-      ∙ ap (λ (k : ℕ). led (run S) S outer 0 k inputs
+      ap (do_operation (run S) S outer 0 s inputs) read_call
+      ∙ ap (λ (k : ℕ). after_operation (run S) S outer 0 k inputs
       (done S k (length (A ++ (K ++ B))) (act (address_bits S) s.object_address (operation.Call offset) s.values)
       s)) call_place
 
-  counts_call : (t : Store) (before : List Input) → AtCall (counts (run S) S outer (length A) 0 (calm t) before).end
-      → (inputs : List Input) → counts (run S) S outer (length A) 0 (calm t) inputs ≡ call_course t inputs
+  counts_call : (t : Store) (before : List Input) → AtCall (turn_counted (run S) S outer (length A) 0 (calm t) before).end
+      → (inputs : List Input) → turn_counted (run S) S outer (length A) 0 (calm t) inputs ≡ call_course t inputs
   counts_call t before at_call inputs = by_test (can_count (calm t)) refl
     where
-      by_test : (b : Bool) → can_count (calm t) ≡ b → counts (run S) S outer (length A) 0 (calm t) inputs ≡ call_course t inputs
+      by_test : (b : Bool) → can_count (calm t) ≡ b → turn_counted (run S) S outer (length A) 0 (calm t) inputs ≡ call_course t inputs
       by_test true e =
-          choose_true (can_count (calm t)) _ _ e ∙ ap (passing (record { text = outer; place = length A }))
+          choose_true (can_count (calm t)) _ _ e ∙ ap (add_to_path (record { text = outer; place = length A }))
           (does_call (counted (calm t)) inputs)
       by_test false e =
-          let x : Failed TooManyIterations ≡ Asking call (behind_call ∷ []) [] = sym
+          let x : FaultEnd TooManyIterations ≡ RequestEnd call (behind_call ∷ []) [] = sym
           (ap (λ (c : Course). c.end) (choose_false (can_count (calm t))
-          (passing (record { text = outer; place = length A })
-          (does (run S) S outer 0 (counted (calm t)) before (read S outer (length A))))
-          (ended (Failed TooManyIterations)) e)) ∙ at_call in
+          (add_to_path (record { text = outer; place = length A })
+          (do_operation (run S) S outer 0 (counted (calm t)) before (read S outer (length A))))
+          (only_end (FaultEnd TooManyIterations)) e)) ∙ at_call in
           absurd cc
 
   held_call : (location : Location) (s : Store) (inputs : List Input)
-      → AtCall (held (run S) S outer 0 location s inputs (read S outer (length A))).end → ⊥
+      → AtCall (turn_located (run S) S outer 0 location s inputs (read S outer (length A))).end → ⊥
   held_call location s inputs at_call =
-      let x : Failed (InvalidExpressionTerminator (length (A ++ (K ++ B)) - length B - 1)) ≡ Asking call (behind_call ∷ []) [] = sym (ap (λ r. (held (run S) S outer 0 location s inputs r).end) read_call) ∙ at_call in
+      let x : FaultEnd (InvalidExpressionTerminator (length (A ++ (K ++ B)) - length B - 1)) ≡ RequestEnd call (behind_call ∷ []) [] = sym (ap (λ r. (turn_located (run S) S outer 0 location s inputs r).end) read_call) ∙ at_call in
       cc
 
   by_call : (last : Last) (t : Store) (before : List Input)
@@ -140,34 +140,34 @@ module _ (encoding : Encoding) (bits : ℕ) (A K B : List ℕ) (big : Bool) (off
         omega (arith, e, o.later)
 
     back_not : (callee : Text) (s : Store) (inputs : List Input) (c : Course) (end : End) → EndOpen inputs callee end
-        → AtCall (back (run S) behind_call 0 c end).end → ⊥
-    back_not callee s inputs c (Finished u left) o at_call = later_not u left at_call
-    back_not callee s inputs c (Asking request frames left) o at_call =
-        let e : length (frames ++ behind_call ∷ []) ≡ 1 = ap (λ (end : End). length (frames_of end)) at_call in
-        let some : 0 < length frames = open_some inputs callee frames o in
-        omega (arith, e, some, length-append frames (behind_call ∷ []))
-    back_not callee s inputs c (Failed fault) o at_call = let x : Failed fault ≡ Asking call (behind_call ∷ []) [] = at_call in cc
+        → AtCall (return_to_caller (run S) behind_call 0 c end).end → ⊥
+    back_not callee s inputs c (CompleteEnd u left) o at_call = later_not u left at_call
+    back_not callee s inputs c (RequestEnd request positions left) o at_call =
+        let e : length (positions ++ behind_call ∷ []) ≡ 1 = ap (λ (end : End). length (positions_of end)) at_call in
+        let some : 0 < length positions = open_some inputs callee positions o in
+        omega (arith, e, some, length-append positions (behind_call ∷ []))
+    back_not callee s inputs c (FaultEnd fault) o at_call = let x : FaultEnd fault ≡ RequestEnd call (behind_call ∷ []) [] = at_call in cc
 
     called_not : (callee : Text) (bytes : List ℕ) (s : Store) (inputs : List Input)
-        → AtCall (called (run S) S behind_call 0 callee bytes (calm s) inputs).end → ⊥
-    unfolding push_frame
+        → AtCall (run_callee (run S) S behind_call 0 callee bytes (calm s) inputs).end → ⊥
+    unfolding push_caller
     called_not callee [] s inputs at_call = later_not _ inputs at_call
     called_not callee (byte ∷ bytes) s inputs at_call =
         back_not callee s inputs (run S callee 0 1 (calm s) inputs) (run S callee 0 1 (calm s) inputs).end
         (run_open S callee 0 1 (calm s) inputs) at_call
 
     used_not : (o : Option Text) (s : Store) (input : Input) (inputs : List Input)
-        → AtCall (used (run S) S behind_call 0 (on_some o Misfits Calls) (calm s) inputs
-        (ended (Asking call (behind_call ∷ []) (input ∷ inputs)))).end → ⊥
+        → AtCall (after_answer (run S) S behind_call 0 (on_some o WrongKind Calls) (calm s) inputs
+        (only_end (RequestEnd call (behind_call ∷ []) (input ∷ inputs)))).end → ⊥
     unfolding on_some
     used_not None s input inputs at_call = let x : input ∷ inputs ≡ [] = ap inputs_of at_call in cc
     used_not (Some callee) s input inputs at_call = called_not callee callee.bytes s inputs at_call
 
     asked_not : (t : Store) (input : Input) (inputs : List Input)
-        → AtCall (asked (run S) S behind_call 0 call AtLocation (counted (calm t)) (input ∷ inputs)).end → ⊥
+        → AtCall (await_answer (run S) S behind_call 0 call AtLocation (counted (calm t)) (input ∷ inputs)).end → ⊥
     unfolding use_of
     asked_not t input inputs at_call =
-        used_not (location_of input.answer) (record t
+        used_not (location_in input.answer) (record t
         { count = t.count + 1; object_address = input.object_address; maximum = input.maximum }) input inputs at_call
 
   module _ (target : First) where

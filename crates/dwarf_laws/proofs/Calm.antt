@@ -6,15 +6,15 @@ use Rattle.dwarf_base.specs.Faults.{Fault, BadBranchTarget}
 use Rattle.dwarf_value.specs.declared.types.Value.{Value}
 use Rattle.dwarf_meaning.specs.Locations.{Location}
 use Rattle.dwarf_meaning.specs.Requests.{Request, Waiting}
-use Rattle.dwarf_meaning.specs.Acts.{Act, Pushes, Branches, Locates, Ends, Asks, Refuses}
-use Rattle.dwarf_meaning.specs.Stores.{Setup, Store, Never, Plain, Pieced, Located, push_value, push_piece, push_values, Next, Goes, Stops, Fails, goes, done, branch_target, branch}
-use Rattle.dwarf_meaning.specs.Run.{holds}
+use Rattle.dwarf_meaning.specs.Acts.{Act, Pushes, Branches, Locates, EndsPiece, RequestAct, FaultAct}
+use Rattle.dwarf_meaning.specs.Stores.{Setup, Store, Never, Plain, Pieced, Located, push_value, push_piece, push_values, Next, Goes, RequestNext, FaultNext, goes, done, branch_target, branch}
+use Rattle.dwarf_meaning.specs.Run.{end_located}
 use Rattle.dwarf_meaning.proofs.Choices.{choose_false, choose_both}
 use Rattle.dwarf_laws.proofs.Jumps.{Jumping, pushes, branches, locates, ends, asks, refuses}
 
 abbrev pub free : Encoding → (bits : ℕ) → Setup
 free encoding bits =
-    record { encoding = encoding; offset_bits = bits; limits = record { values = None; frames = None; pieces = None } }
+    record { encoding = encoding; offset_bits = bits; limits = record { values = None; callers = None; pieces = None } }
 
 -- no push is refused
 abbrev pub calm : Store → Store
@@ -50,8 +50,8 @@ module _ (encoding : Encoding) (bits : ℕ) where
     goes_both : {q q' : ℕ} (t : Store) → Al q q' → t.object_address ≡ object → t.maximum ≡ maximum
         → NextBoth n Al object maximum (Goes q (ahead n t)) (Goes q' (calm t))
     stops_both : {request : Request} {waiting : Waiting} (t : Store) → t.object_address ≡ object → t.maximum ≡ maximum
-        → NextBoth n Al object maximum (Stops request waiting (ahead n t)) (Stops request waiting (calm t))
-    fails_both : {fault : Fault} {next : Next} → NextBoth n Al object maximum (Fails fault) next
+        → NextBoth n Al object maximum (RequestNext request waiting (ahead n t)) (RequestNext request waiting (calm t))
+    fails_both : {fault : Fault} {next : Next} → NextBoth n Al object maximum (FaultNext fault) next
 
   module _ (n : ℕ) (Al : ℕ → ℕ → Type 0) (len len' place place' : ℕ) where
     -- a branch to a place of the text leads to a place beside it
@@ -73,7 +73,7 @@ module _ (encoding : Encoding) (bits : ℕ) where
         subst (λ (x : Next). NextBoth n Al t.object_address t.maximum
         (Goes (branch_target S place target) (ahead n t)) x)
         (sym (choose_false (nat_lt len' (branch_target S place' target))
-        (Fails (BadBranchTarget (branch_target S place' target))) (Goes (branch_target S place' target) (calm t))
+        (FaultNext (BadBranchTarget (branch_target S place' target))) (Goes (branch_target S place' target) (calm t))
         no)) (goes_both t lands.1 refl refl))
 
     pub done_both : (a : Act) (t : Store) → Al place place' → Jumping Lands a
@@ -88,13 +88,13 @@ module _ (encoding : Encoding) (bits : ℕ) where
         (goes place' r)) (sym (piles_calm pushed u)) (goes_both v al refl refl))
     done_both (Branches rest target) t al (branches h) = branch_both target (record t { values = rest; last = Plain }) h
     done_both (Locates rest location) t al locates = goes_both (record t { values = rest; last = Located location }) al refl refl
-    done_both (Ends rest piece) t al ends =
+    done_both (EndsPiece rest piece) t al ends =
         goes_both (record t { values = rest; last = Pieced; pieces = t.pieces ++ piece ∷ [] }) al refl refl
-    done_both (Asks rest request waiting) t al asks = stops_both (record t { values = rest }) refl refl
-    done_both (Refuses fault) t al refuses = fails_both
+    done_both (RequestAct rest request waiting) t al asks = stops_both (record t { values = rest }) refl refl
+    done_both (FaultAct fault) t al refuses = fails_both
 
     pub holds_both : (location : Location) (t : Store) (o : Option (ℕ × Option ℕ)) → Al place place'
-        → NextBoth n Al t.object_address t.maximum (holds S location place (ahead n t) o) (holds S location place' (calm t) o)
+        → NextBoth n Al t.object_address t.maximum (end_located S location place (ahead n t) o) (end_located S location place' (calm t) o)
     unfolding push_piece
     holds_both location t (Some piece) al =
         goes_both (record t {

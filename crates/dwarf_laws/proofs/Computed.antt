@@ -4,20 +4,20 @@ use Rattle.dwarf_base.specs.Faults.{Fault}
 use Rattle.dwarf_meaning.specs.Operations.{Text, UnitRef}
 use Rattle.dwarf_meaning.specs.Requests.{Request, RequiresAtLocation, Answer, Input}
 use Rattle.dwarf_meaning.specs.Stores.{Setup, Never}
-use Rattle.dwarf_meaning.specs.Run.{Frame, End, Asking, Course, most, enough, run_for}
-use Rattle.dwarf_meaning.specs.Meaning.{Outcome, Requests, Faults, fresh, course_of, meaning}
-use Rattle.dwarf_meaning.specs.Steps.{Step, Evaluate, Resume, Told, outcome_of, Awaits, IsEvaluable, Allows, after, Reply, Asked, reply, replies, step_replies, after_step, after_steps, AllAllowed, answers}
+use Rattle.dwarf_meaning.specs.Run.{Position, End, RequestEnd, Course, most, enough, run_for}
+use Rattle.dwarf_meaning.specs.Meaning.{Outcome, RequestOutcome, FaultOutcome, fresh, course_of, meaning}
+use Rattle.dwarf_meaning.specs.Steps.{Step, Evaluate, Resume, Told, outcome_of, Awaits, IsEvaluable, Allows, after, Reply, RequestReply, reply, replies, step_replies, after_step, after_steps, AllAllowed, replies_of}
 use Rattle.dwarf_meaning.specs.Rows.{text, plain, unset, given}
 use Rattle.dwarf_meaning.proofs.FewTurns.{outcome_for, twenty, in_twenty}
 use Rattle.dwarf_laws.specs.TwoRuns.{untold}
 use Rattle.dwarf_laws.specs.Inlining.{CallSite, outer, inlined, behind_call, with_answer, StandsIn, IsInlinable}
-use Rattle.dwarf_laws.specs.Rows.{resumes, started, ComeTo, IsWorked}
+use Rattle.dwarf_laws.specs.Rows.{resumes, started_steps, ComeTo, IsWorked}
 
 module _ (setup : Setup) (text : Text) where
   -- from what was told, where this comes of it, the steps answer that and lead there
   pub record ComeFrom (told : Told) (steps : List Step) (replied : List Reply) (outcome : Outcome) : Type 0 where
     pub allowed : AllAllowed setup Never text told steps
-    pub replies_are : answers setup Never text told steps ≡ replied
+    pub replies_are : replies_of setup Never text told steps ≡ replied
     pub comes : outcome_of setup Never text (after_steps setup Never text told steps) ≡ Some outcome
 
   pub stays : (told : Told) (outcome : Outcome) → outcome_of setup Never text told ≡ Some outcome → ComeFrom told [] [] outcome
@@ -36,7 +36,7 @@ module _ (setup : Setup) (text : Text) where
           → ComeFrom told (step ∷ steps) replied outcome
       at a h = record {
         allowed = (a, h.allowed);
-        replies_are = ap (λ (l : List Reply). l ++ answers setup Never text (after_step setup Never text told step) steps)
+        replies_are = ap (λ (l : List Reply). l ++ replies_of setup Never text (after_step setup Never text told step) steps)
             (quiet (outcome_of setup Never text (after_step setup Never text told step))) ∙ h.replies_are;
         comes = h.comes;
       }
@@ -59,7 +59,7 @@ module _ (setup : Setup) (text : Text) where
       at a now h =
           record {
             allowed = (a, h.allowed);
-            replies_are = ap (λ (l : List Reply). l ++ answers setup Never text (after_step setup Never text told step) steps)
+            replies_are = ap (λ (l : List Reply). l ++ replies_of setup Never text (after_step setup Never text told step) steps)
                 (spoken (outcome_of setup Never text (after_step setup Never text told step)) ∙ ap replies now)
                 ∙ ap (λ (l : List Reply). reply next ∷ l) h.replies_are;
             comes = h.comes;
@@ -121,30 +121,30 @@ module _ (setup : Setup) (bytes : List ℕ) where
   pub set_once : (step : Step) (outcome : Outcome) → ((o : Option Outcome) → step_replies step o ≡ []) → Allows untold None step
       → outcome_of setup Never (text bytes) (after untold None step) ≡ None
       → outcome_of setup Never (text bytes) (after (after untold None step) None Evaluate) ≡ Some outcome
-      → ComeTo setup bytes (step ∷ started []) (reply outcome ∷ []) outcome
+      → ComeTo setup bytes (step ∷ started_steps []) (reply outcome ∷ []) outcome
   set_once step outcome quiet a h k =
       whole _ _ _ (sets setup (text bytes) untold None step _ _ _ refl quiet a
       (starts setup (text bytes) (after untold None step) None outcome [] h tt k tt))
 
   -- one request, and its answer
-  pub once : (request : Request) (frames : List Frame) (answer : Answer) (outcome : Outcome)
-      → Awaits answer (Some (Requests request frames))
-      → Computes [] (Requests request frames) → Computes (given unset (answer ∷ [])) outcome
-      → ComeTo setup bytes (started (answer ∷ [])) (Asked request ∷ reply outcome ∷ []) outcome
-  once request frames answer outcome a h k =
-      whole _ _ _ (starts setup (text bytes) untold None (Requests request frames) ((answer, outcome) ∷ []) refl tt
+  pub once : (request : Request) (positions : List Position) (answer : Answer) (outcome : Outcome)
+      → Awaits answer (Some (RequestOutcome request positions))
+      → Computes [] (RequestOutcome request positions) → Computes (given unset (answer ∷ [])) outcome
+      → ComeTo setup bytes (started_steps (answer ∷ [])) (RequestReply request ∷ reply outcome ∷ []) outcome
+  once request positions answer outcome a h k =
+      whole _ _ _ (starts setup (text bytes) untold None (RequestOutcome request positions) ((answer, outcome) ∷ []) refl tt
       (some _ _ h) (a, some _ _ k, tt))
 
   -- two requests, and their answers
-  pub twice : (request next : Request) (frames others : List Frame) (answer second : Answer) (outcome : Outcome)
-      → Awaits answer (Some (Requests request frames)) → Awaits second (Some (Requests next others))
-      → Computes [] (Requests request frames) → Computes (given unset (answer ∷ [])) (Requests next others)
+  pub twice : (request next : Request) (positions others : List Position) (answer second : Answer) (outcome : Outcome)
+      → Awaits answer (Some (RequestOutcome request positions)) → Awaits second (Some (RequestOutcome next others))
+      → Computes [] (RequestOutcome request positions) → Computes (given unset (answer ∷ [])) (RequestOutcome next others)
       → Computes (given unset (answer ∷ second ∷ [])) outcome
-      → ComeTo setup bytes (started (answer ∷ second ∷ [])) (Asked request ∷ Asked next ∷ reply outcome ∷ []) outcome
-  twice request next frames others answer second outcome a b h k l =
+      → ComeTo setup bytes (started_steps (answer ∷ second ∷ [])) (RequestReply request ∷ RequestReply next ∷ reply outcome ∷ []) outcome
+  twice request next positions others answer second outcome a b h k l =
       whole _ _ _
-      (starts setup (text bytes) untold None (Requests request frames)
-      ((answer, Requests next others) ∷ (second, outcome) ∷ []) refl tt
+      (starts setup (text bytes) untold None (RequestOutcome request positions)
+      ((answer, RequestOutcome next others) ∷ (second, outcome) ∷ []) refl tt
       (some _ _ h) (a, some _ _ k, (b, some _ _ l, tt)))
 
 -- ---- courses, of few turns
@@ -176,9 +176,9 @@ asks_in_twenty text inputs requests h =
 -- a called text, of few turns in both texts
 pub worked : (site : CallSite) (earlier later : List Input) (before behind : List Request) (outcome : Outcome)
     → StandsIn plain site (UnitRef 5) → IsInlinable plain site
-    → Ends (outer site) earlier (Asking (RequiresAtLocation (UnitRef 5)) (behind_call site ∷ []) [])
+    → Ends (outer site) earlier (RequestEnd (RequiresAtLocation (UnitRef 5)) (behind_call site ∷ []) [])
     → Asks (outer site) earlier (before ++ (RequiresAtLocation (UnitRef 5) ∷ []))
-    → ((fault : Fault) → outcome ≢ Faults fault)
+    → ((fault : Fault) → outcome ≢ FaultOutcome fault)
     → ((more : ℕ) → outcome_for (twenty more) plain Never (outer site) unset (with_answer site unset earlier later) ≡ outcome)
     → ((more : ℕ) → outcome_for (twenty more) plain Never (inlined site) unset (earlier ++ later) ≡ outcome)
     → Asks (outer site) (with_answer site unset earlier later) (before ++ (RequiresAtLocation (UnitRef 5) ∷ behind))
@@ -187,7 +187,7 @@ pub worked : (site : CallSite) (earlier later : List Input) (before behind : Lis
 worked site earlier later before behind outcome stands fits ends asks sound h k i j =
     let comes = in_twenty plain Never (outer site) unset (with_answer site unset earlier later) outcome h in
     record {
-      no_limits = record { values = refl; frames = refl; pieces = refl };
+      no_limits = record { values = refl; callers = refl; pieces = refl };
       stands = stands;
       inlinable = fits;
       leads = record { end = end_in_twenty (outer site) earlier _ ends; asked = asks_in_twenty (outer site) earlier _ asks };

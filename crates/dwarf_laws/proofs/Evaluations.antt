@@ -7,8 +7,8 @@ use Rattle.dwarf_meaning.specs.Operations.{Text}
 use Rattle.dwarf_meaning.specs.Requests.{Answer, Input}
 use Rattle.dwarf_meaning.specs.Kinds.{kind_of_answer}
 use Rattle.dwarf_meaning.specs.Stores.{Limits, Setup, address_bits, Refusal}
-use Rattle.dwarf_meaning.specs.Meaning.{Outcome, Faults, First}
-use Rattle.dwarf_meaning.specs.Steps.{Step, InitialValue, ObjectAddress, MaxIterations, Evaluate, Resume, Told, outcome_from, outcome_of, IsEvaluable, Awaits, IsUntold, Allows, begun, heard, after, Reply, reply, replies, step_replies, after_step, answers}
+use Rattle.dwarf_meaning.specs.Meaning.{Outcome, FaultOutcome, First}
+use Rattle.dwarf_meaning.specs.Steps.{Step, InitialValue, ObjectAddress, MaxIterations, Evaluate, Resume, Told, outcome_from, outcome_of, IsEvaluable, Awaits, IsUntold, Allows, begun, heard, after, Reply, reply, replies, step_replies, after_step, replies_of}
 use Rattle.dwarf_laws.specs.Agreement as agreeing
 use Rattle.dwarf_laws.specs.Agreement.{Pairwise, none, more, Both, nothing, something, AgreeingAnswers, AgreeingSteps, initial_value, object_address, max_iterations, evaluate, resume, AgreeingFirsts, AgreeingInputs, AgreeingTold, AgreeingOutcomes, requests, faults, completions}
 use Rattle.dwarf_laws.specs.TwoRuns.{untold, NoneIsFull, path_from, StandAlike, AreAlike, TwoRuns}
@@ -150,11 +150,11 @@ none_full_behind (x ∷ xs) ys h = none_full_behind xs ys h.1
 module _ (Free : Type 0) where
   -- no push was refused, where `Free` holds
   abbrev pub IsClearSoFar : Option Outcome → Type 0
-  IsClearSoFar o = Free → o ≢ Some (Faults StackFull)
+  IsClearSoFar o = Free → o ≢ Some (FaultOutcome StackFull)
 
   pub clear_reply : (o : Option Outcome) (rest : List Reply) → (Free → NoneIsFull (replies o ++ rest)) → IsClearSoFar o
   clear_reply None rest h free e = cc
-  clear_reply (Some x) rest h free e = let i : x ≡ Faults StackFull = cc in (h free).0 (ap reply i)
+  clear_reply (Some x) rest h free e = let i : x ≡ FaultOutcome StackFull = cc in (h free).0 (ap reply i)
 
   pub clear_after : (setup : Setup) (refusal : Refusal) (text : Text) (told : Told) (x : Step) (rest : List Reply)
       → IsClearSoFar (outcome_of setup refusal text told)
@@ -212,8 +212,8 @@ module _ (Free : Type 0) (setup : Setup) (limits : Limits) (premise : Free ⊎ (
   pub alike_steps : (steps others : List Step) (told told' : Told) → Pairwise (AgreeingSteps w) steps others
       → AgreeingTold w told told'
       → IsClearSoFar Free (outcome_of setup refusal text told) → IsClearSoFar Free (outcome_of other another text told')
-      → (Free → NoneIsFull (answers setup refusal text told steps))
-      → (Free → NoneIsFull (answers other another text told' others))
+      → (Free → NoneIsFull (replies_of setup refusal text told steps))
+      → (Free → NoneIsFull (replies_of other another text told' others))
       → AreAlike setup other refusal another text told told' steps others
   alike_steps steps others told told' none t c d h k =
       record { allowed = (λ i. i, λ i. i); replies = refl; stand = stand_alike told told' t c d }
@@ -222,8 +222,8 @@ module _ (Free : Type 0) (setup : Setup) (limits : Limits) (premise : Free ⊎ (
       let told_now = after_step setup refusal text told x in
       let told_now' = after_step other another text told' y in
       let t_now = after_both w told told' _ _ x y t now.outcomes a in
-      let c_now = clear_after Free setup refusal text told x (answers setup refusal text told_now xs) c h in
-      let d_now = clear_after Free other another text told' y (answers other another text told_now' ys) d k in
+      let c_now = clear_after Free setup refusal text told x (replies_of setup refusal text told_now xs) c h in
+      let d_now = clear_after Free other another text told' y (replies_of other another text told_now' ys) d k in
       let o_now = outcomes_from told_now.first told_now'.first told_now.inputs told_now'.inputs t_now.first
       t_now.inputs c_now d_now in
       let allows = now.next x y a in
@@ -233,7 +233,7 @@ module _ (Free : Type 0) (setup : Setup) (limits : Limits) (premise : Free ⊎ (
       let replies_behind = rest.replies in
       record {
         allowed = (λ i. (allows.0 i.0, rest.allowed.0 i.1), λ i. (allows.1 i.0, rest.allowed.1 i.1));
-        replies = ap (λ (l : List Reply). l ++ answers setup refusal text told_now xs) reply_now
+        replies = ap (λ (l : List Reply). l ++ replies_of setup refusal text told_now xs) reply_now
             ∙ ap (λ (l : List Reply). step_replies y (outcome_of other another text told_now') ++ l) replies_behind;
         stand = rest.stand;
       }

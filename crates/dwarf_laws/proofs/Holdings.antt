@@ -7,8 +7,8 @@ use Rattle.dwarf_value.specs.Values.{Agree}
 use Rattle.dwarf_meaning.specs.Locations.{Location, Piece}
 use Rattle.dwarf_meaning.specs.Requests.{Request, Waiting}
 use Rattle.dwarf_meaning.specs.Acts.{Act}
-use Rattle.dwarf_meaning.specs.Stores.{Limits, Setup, address_bits, Refusal, Never, After, Store, Last, Nothing, Plain, Pieced, Pushed, Called, Located, spent, room, push_value, push_piece, push_frame, push_values, Next, Goes, Stops, Fails, goes, done}
-use Rattle.dwarf_meaning.specs.Run.{holds}
+use Rattle.dwarf_meaning.specs.Stores.{Limits, Setup, address_bits, Refusal, Never, After, Store, Last, Nothing, Plain, Pieced, Pushed, Called, Located, spent, room, push_value, push_piece, push_caller, push_values, Next, Goes, RequestNext, FaultNext, goes, done}
+use Rattle.dwarf_meaning.specs.Run.{end_located}
 use Rattle.dwarf_laws.specs.Agreement.{Pairwise, none, more, Both, AgreeingNumbers, AgreeingLocations, AgreeingPieces}
 use Rattle.dwarf_meaning.proofs.Choices.{choose_both}
 use Rattle.dwarf_laws.proofs.Pairs.{same_length, snoc_both, choose_pair}
@@ -49,10 +49,10 @@ pub data AgreeingResults (Free : Type 0) (w : ℕ) : Result Store Fault → Resu
 pub data AgreeingNexts (Free : Type 0) (w : ℕ) : Next → Next → Type 0 where
   goes_on : {place : ℕ} {s t : Store} → AgreeingStores Free w s t → AgreeingNexts Free w (Goes place s) (Goes place t)
   stops : {request : Request} {waiting : Waiting} {s t : Store} → AgreeingStores Free w s t
-      → AgreeingNexts Free w (Stops request waiting s) (Stops request waiting t)
-  fails : {fault : Fault} → AgreeingNexts Free w (Fails fault) (Fails fault)
-  next_first : {next : Next} → Free → AgreeingNexts Free w (Fails StackFull) next
-  next_second : {next : Next} → Free → AgreeingNexts Free w next (Fails StackFull)
+      → AgreeingNexts Free w (RequestNext request waiting s) (RequestNext request waiting t)
+  fails : {fault : Fault} → AgreeingNexts Free w (FaultNext fault) (FaultNext fault)
+  next_first : {next : Next} → Free → AgreeingNexts Free w (FaultNext StackFull) next
+  next_second : {next : Next} → Free → AgreeingNexts Free w next (FaultNext StackFull)
 
 -- ---- rooms
 
@@ -168,12 +168,12 @@ module _ (Free : Type 0) (setup : Setup) (limits : Limits) (premise : Free ⊎ (
       })
 
   pub push_frame_both : (depth : ℕ) (s t : Store) → AgreeingStores Free w s t
-      → AgreeingResults Free w (push_frame setup depth s) (push_frame other depth t)
-  unfolding push_frame
+      → AgreeingResults Free w (push_caller setup depth s) (push_caller other depth t)
+  unfolding push_caller
   push_frame_both depth s t h =
       store_rooms (λ left. record s { refusal = left }) (λ left. record t { refusal = left }) _ _
-      (rooms_agree Free setup.limits.frames limits.frames depth depth s.refusal t.refusal
-      (map_free (λ (l : Limits). l.frames) setup.limits limits premise) refl h.refusal)
+      (rooms_agree Free setup.limits.callers limits.callers depth depth s.refusal t.refusal
+      (map_free (λ (l : Limits). l.callers) setup.limits limits premise) refl h.refusal)
       (λ left right e. record {
         values = h.values;
         pieces = h.pieces;
@@ -221,7 +221,7 @@ module _ (Free : Type 0) (setup : Setup) (limits : Limits) (premise : Free ⊎ (
 
   pub holds_both : (location location' : Location) (place : ℕ) (s t : Store) (piece : Option (ℕ × Option ℕ))
       → AgreeingLocations w location location' → AgreeingStores Free w s t
-      → AgreeingNexts Free w (holds setup location place s piece) (holds other location' place t piece)
+      → AgreeingNexts Free w (end_located setup location place s piece) (end_located other location' place t piece)
   holds_both location location' place s t (Some piece) l h =
       goes_both place _ _ (push_piece_both _ _ _ _ (record { sizes = refl; offsets = refl; locations = l })
       (changed h h.values both_pieced))

@@ -9,9 +9,9 @@ use Rattle.dwarf_meaning.specs.Splitting.{Joined, items_at}
 use Rattle.dwarf_meaning.specs.Splitting as splitting
 use Rattle.dwarf_meaning.specs.Requests.{Request, RequiresAtLocation, AtLocation, Input}
 use Rattle.dwarf_meaning.specs.Acts.{on_some, use_of}
-use Rattle.dwarf_meaning.specs.Stores.{Setup, Store, Last, Nothing, Plain, Pieced, Pushed, Called, Located, Never, push_frame, push_value, push_piece}
-use Rattle.dwarf_meaning.specs.Run.{Frame, End, Finished, Asking, Failed, Course, passing, asking, back, called, asked, counted, run}
-use Rattle.dwarf_meaning.specs.Meaning.{Outcome, Requests, Faults, Completes, First, finish, finish_by, unwound, fresh, with_initial, course_from, course_of, meaning}
+use Rattle.dwarf_meaning.specs.Stores.{Setup, Store, Last, Nothing, Plain, Pieced, Pushed, Called, Located, Never, push_caller, push_value, push_piece}
+use Rattle.dwarf_meaning.specs.Run.{Position, End, CompleteEnd, RequestEnd, FaultEnd, Course, add_to_path, add_request, return_to_caller, run_callee, await_answer, counted, run}
+use Rattle.dwarf_meaning.specs.Meaning.{Outcome, RequestOutcome, FaultOutcome, CompleteOutcome, First, finish, finish_by, unwound, fresh, with_initial, course_from, course_of, meaning}
 use Rattle.dwarf_laws.specs.Inlining as inlining
 use Rattle.dwarf_laws.specs.Inlining.{CallSite, in_force, answered, with_answer, HasNoLimits, StandsIn, IsInlinable, LeadsToCall, EndAlike, LacksOne, IsInlined, Inlining}
 use Rattle.dwarf_meaning.proofs.Splittings.{splitting_items, items_ok}
@@ -61,28 +61,28 @@ record FinishesToo (front : List Request) (s : Store) (inputs : List Input) (req
   store : Store
   is : s ≡ ahead 1 store
   same : requests ≡ front
-  last : end ≡ Finished (calm store) inputs
+  last : end ≡ CompleteEnd (calm store) inputs
 
 module _ (encoding : Encoding) (bits : ℕ) where
   abbrev S : Setup
   S = free encoding bits
 
   abbrev EndsAt : List Request → End → List Request → End → Type 0
-  EndsAt front (Finished s inputs) requests end = FinishesToo front s inputs requests end
-  EndsAt front (Asking request frames inputs) requests end = AsksToo front request inputs requests end
-  EndsAt front (Failed fault) requests end = Unit {0}
+  EndsAt front (CompleteEnd s inputs) requests end = FinishesToo front s inputs requests end
+  EndsAt front (RequestEnd request positions inputs) requests end = AsksToo front request inputs requests end
+  EndsAt front (FaultEnd fault) requests end = Unit {0}
 
   ends_behind : (more front : List Request) (end : End) (requests : List Request) (end' : End)
       → EndsAt front end requests end' → EndsAt (more ++ front) end (more ++ requests) end'
-  ends_behind more front (Finished s inputs) requests end' h =
+  ends_behind more front (CompleteEnd s inputs) requests end' h =
       record { store = h.store; is = h.is; same = ap (λ (l : List Request). more ++ l) h.same; last = h.last }
-  ends_behind more front (Asking request frames inputs) requests end' h =
-      record { frames = h.frames; same = ap (λ (l : List Request). more ++ l) h.same; is = h.is }
-  ends_behind more front (Failed fault) requests end' h = tt
+  ends_behind more front (RequestEnd request positions inputs) requests end' h =
+      record { positions = h.positions; same = ap (λ (l : List Request). more ++ l) h.same; is = h.is }
+  ends_behind more front (FaultEnd fault) requests end' h = tt
 
   settled : (target : First) (T : Text) (front : List Request) (end : End) (requests : List Request) (end' : End)
       → MirrorsAt encoding bits target 1 T (length T.bytes) 0 front end requests end' → EndsAt front end requests end'
-  settled target T front (Finished s inputs) requests end' h =
+  settled target T front (CompleteEnd s inputs) requests end' h =
       let over = at_end encoding bits target 1 T 0 (calm h.store) inputs in
       record {
         store = h.store;
@@ -90,8 +90,8 @@ module _ (encoding : Encoding) (bits : ℕ) where
         same = h.goes_on.requests ∙ (ap (λ (c : Course). front ++ c.requests) over ∙ append-nil front);
         last = h.goes_on.end ∙ ap (λ (c : Course). c.end) over;
       }
-  settled target T front (Asking request frames inputs) requests end' h = h
-  settled target T front (Failed fault) requests end' h = tt
+  settled target T front (RequestEnd request positions inputs) requests end' h = h
+  settled target T front (FaultEnd fault) requests end' h = tt
 
   -- ---- outcomes
 
@@ -104,36 +104,36 @@ module _ (encoding : Encoding) (bits : ℕ) where
   same_finish t Pieced = refl
   same_finish t Called = refl
 
-  alike : (o : Outcome) → ((fault : Fault) → o ≢ Faults fault) → EndAlike o o
-  alike (Requests request frames) h = inlining.requests
-  alike (Faults fault) h = absurd (h fault refl)
-  alike (Completes pieces value) h = inlining.completions
+  alike : (o : Outcome) → ((fault : Fault) → o ≢ FaultOutcome fault) → EndAlike o o
+  alike (RequestOutcome request positions) h = inlining.requests
+  alike (FaultOutcome fault) h = absurd (h fault refl)
+  alike (CompleteOutcome pieces value) h = inlining.completions
 
   outcomes : (front : List Request) (end : End) (requests : List Request) (end' : End)
-      → EndsAt front end requests end' → ((fault : Fault) → unwound S [] end ≢ Faults fault)
+      → EndsAt front end requests end' → ((fault : Fault) → unwound S [] end ≢ FaultOutcome fault)
       → EndAlike (unwound S [] end) (unwound S [] end')
-  outcomes front (Finished s inputs) requests end' h clean =
-      let e : unwound S [] (Finished s inputs) ≡ unwound S [] end' = ap (finish S) h.is
+  outcomes front (CompleteEnd s inputs) requests end' h clean =
+      let e : unwound S [] (CompleteEnd s inputs) ≡ unwound S [] end' = ap (finish S) h.is
       ∙ (same_finish h.store h.store.last ∙ sym (ap (unwound S []) h.last)) in
-      subst (λ (o : Outcome). EndAlike (unwound S [] (Finished s inputs)) o) e (alike _ clean)
-  outcomes front (Asking request frames inputs) requests end' h clean =
-      subst (λ (x : End). EndAlike (unwound S [] (Asking request frames inputs)) (unwound S [] x)) (sym h.is) inlining.requests
-  outcomes front (Failed fault) requests end' h clean = absurd (clean fault refl)
+      subst (λ (o : Outcome). EndAlike (unwound S [] (CompleteEnd s inputs)) o) e (alike _ clean)
+  outcomes front (RequestEnd request positions inputs) requests end' h clean =
+      subst (λ (x : End). EndAlike (unwound S [] (RequestEnd request positions inputs)) (unwound S [] x)) (sym h.is) inlining.requests
+  outcomes front (FaultEnd fault) requests end' h clean = absurd (clean fault refl)
 
   same_requests : (front : List Request) (end : End) (requests : List Request) (end' : End)
-      → EndsAt front end requests end' → ((fault : Fault) → unwound S [] end ≢ Faults fault) → requests ≡ front
-  same_requests front (Finished s inputs) requests end' h clean = h.same
-  same_requests front (Asking request frames inputs) requests end' h clean = h.same
-  same_requests front (Failed fault) requests end' h clean = absurd (clean fault refl)
+      → EndsAt front end requests end' → ((fault : Fault) → unwound S [] end ≢ FaultOutcome fault) → requests ≡ front
+  same_requests front (CompleteEnd s inputs) requests end' h clean = h.same
+  same_requests front (RequestEnd request positions inputs) requests end' h clean = h.same
+  same_requests front (FaultEnd fault) requests end' h clean = absurd (clean fault refl)
 
   -- ---- from the call on
 
-  enters : (frame : Frame) (callee : Text) (bytes : List ℕ) (t : Store) (inputs : List Input) → 0 < length bytes
-      → called (run S) S frame 0 callee bytes (ahead 1 t) inputs ≡ back (run S) frame 0
+  enters : (position : Position) (callee : Text) (bytes : List ℕ) (t : Store) (inputs : List Input) → 0 < length bytes
+      → run_callee (run S) S position 0 callee bytes (ahead 1 t) inputs ≡ return_to_caller (run S) position 0
       (run S callee 0 1 (ahead 1 t) inputs) (run S callee 0 1 (ahead 1 t) inputs).end
-  unfolding push_frame
-  enters frame callee [] t inputs h = absurd (omega (arith, h))
-  enters frame callee (byte ∷ bytes) t inputs h = refl
+  unfolding push_caller
+  enters position callee [] t inputs h = absurd (omega (arith, h))
+  enters position callee (byte ∷ bytes) t inputs h = refl
 
   module _ (site : CallSite) (offset : DieReference) (stands : StandsIn S site offset) (fit : IsInlinable S site) where
     abbrev A : List ℕ
@@ -157,7 +157,7 @@ module _ (encoding : Encoding) (bits : ℕ) where
     abbrev callee : Text
     callee = inlining.called site
 
-    abbrev behind_call : Frame
+    abbrev behind_call : Position
     behind_call = inlining.behind_call site
 
     straight_all : StraightFrom encoding bits outer 0
@@ -181,10 +181,10 @@ module _ (encoding : Encoding) (bits : ℕ) where
 
       back_ends : (c : Course) (end : End) (y : Course)
           → MirrorsAt encoding bits target 1 inlined (length A + length C) 0 c.requests end y.requests y.end
-          → let x = back (run S) behind_call 0 c end in EndsAt x.requests x.end y.requests y.end
-      back_ends c (Failed fault) y h = tt
-      back_ends c (Asking request frames inputs) y h = h
-      back_ends c (Finished s inputs) y h =
+          → let x = return_to_caller (run S) behind_call 0 c end in EndsAt x.requests x.end y.requests y.end
+      back_ends c (FaultEnd fault) y h = tt
+      back_ends c (RequestEnd request positions inputs) y h = h
+      back_ends c (CompleteEnd s inputs) y h =
           let first = run S outer (length A + length K) 0 (ahead 1 h.store) inputs in
           let second = run S inlined (length A + length C) 0 (calm h.store) inputs in
           let both : EndsAt (c.requests ++ first.requests) first.end (c.requests ++ second.requests) second.end =
@@ -197,7 +197,7 @@ module _ (encoding : Encoding) (bits : ℕ) where
 
       -- the callee in its call's place, and what is behind
       callee_ends : (t : Store) (inputs : List Input) → Fits target inputs t.object_address t.maximum
-          → let c = run S callee 0 1 (ahead 1 t) inputs in let x = back (run S) behind_call 0 c c.end in
+          → let c = run S callee 0 1 (ahead 1 t) inputs in let x = return_to_caller (run S) behind_call 0 c c.end in
           let y = run S inlined (length A) 0 (calm t) inputs in EndsAt x.requests x.end y.requests y.end
       callee_ends t inputs f =
           let c = run S callee 0 1 (ahead 1 t) inputs in
@@ -208,10 +208,10 @@ module _ (encoding : Encoding) (bits : ℕ) where
 
     -- the outer run from the call on, with the answer
     answered_call : (t : Store) (settings : First) (inputs : List Input)
-        → asked (run S) S behind_call 0 (RequiresAtLocation offset) AtLocation (counted (calm t))
+        → await_answer (run S) S behind_call 0 (RequiresAtLocation offset) AtLocation (counted (calm t))
         (answered site settings ∷ inputs)
         ≡ (let u : Store = record t { object_address = settings.object_address; maximum = settings.maximum } in
-        let c = run S callee 0 1 (ahead 1 u) inputs in back (run S) behind_call 0 c c.end)
+        let c = run S callee 0 1 (ahead 1 u) inputs in return_to_caller (run S) behind_call 0 c c.end)
     unfolding use_of on_some
     answered_call t settings inputs =
         enters behind_call callee C (record t
@@ -293,7 +293,7 @@ module _ (encoding : Encoding) (bits : ℕ) where
 
         module _ (later : List Input) where
           abbrev callee_course : Store → Course
-          callee_course u = let c = run S callee 0 1 (ahead 1 u) later in back (run S) behind_call 0 c c.end
+          callee_course u = let c = run S callee 0 1 (ahead 1 u) later in return_to_caller (run S) behind_call 0 c c.end
 
           abbrev first_rest : Course
           first_rest = callee_course r.store
@@ -306,11 +306,11 @@ module _ (encoding : Encoding) (bits : ℕ) where
               let now : First = record settings { object_address = r.store.object_address; maximum = r.store.maximum } in
               callee_ends straight (in_force now later) r.store later (fits_so now later)
 
-          calls_so : run S outer (length A) 0 (calm r.store) (answered site settings ∷ later) ≡ passing
-              (record { text = outer; place = length A }) (asking call first_rest)
+          calls_so : run S outer (length A) 0 (calm r.store) (answered site settings ∷ later) ≡ add_to_path
+              (record { text = outer; place = length A }) (add_request call first_rest)
           calls_so =
               calls (answered site settings ∷ later)
-              ∙ ap (λ (c : Course). passing (record { text = outer; place = length A }) (asking call c))
+              ∙ ap (λ (c : Course). add_to_path (record { text = outer; place = length A }) (add_request call c))
               (answered_call r.store settings later ∙ ap callee_course same_store)
 
           abbrev whole : Course
@@ -334,12 +334,12 @@ module _ (encoding : Encoding) (bits : ℕ) where
           short_end : short.end ≡ second_rest.end
           short_end = (r.goes_on (C ++ B) later).end
 
-          is_inlined : ((fault : Fault) → meaning S Never outer first (with_answer site first earlier later) ≢ Faults
+          is_inlined : ((fault : Fault) → meaning S Never outer first (with_answer site first earlier later) ≢ FaultOutcome
               fault) → IsInlined S site offset first earlier later requests
           unfolding meaning
           is_inlined faultless =
-              let clean : (fault : Fault) → unwound S [] first_rest.end ≢ Faults fault = subst
-              (λ (e : End). (fault : Fault) → unwound S [] e ≢ Faults fault) whole_end faultless in
+              let clean : (fault : Fault) → unwound S [] first_rest.end ≢ FaultOutcome fault = subst
+              (λ (e : End). (fault : Fault) → unwound S [] e ≢ FaultOutcome fault) whole_end faultless in
               let alike_ends = outcomes first_rest.requests first_rest.end second_rest.requests second_rest.end rests clean in
               record {
                 ends =
@@ -356,20 +356,20 @@ module _ (encoding : Encoding) (bits : ℕ) where
 
 pub no_limits : (setup : Setup) → HasNoLimits setup → free setup.encoding setup.offset_bits ≡ setup
 no_limits setup h =
-    ap (λ (k : Option ℕ). record setup { limits = record { values = k; frames = None; pieces = None } }) (sym h.values)
+    ap (λ (k : Option ℕ). record setup { limits = record { values = k; callers = None; pieces = None } }) (sym h.values)
     ∙ (ap (λ (k : Option ℕ). record setup {
       limits = record
-          { values = setup.limits.values; frames = k; pieces = None };
-    }) (sym h.frames)
+          { values = setup.limits.values; callers = k; pieces = None };
+    }) (sym h.callers)
     ∙ ap (λ (k : Option ℕ). record setup {
       limits = record
-          { values = setup.limits.values; frames = setup.limits.frames; pieces = k };
+          { values = setup.limits.values; callers = setup.limits.callers; pieces = k };
     }) (sym h.pieces))
 
 pub inlines : Inlining
 inlines setup site offset first earlier later requests h =
     subst (λ (k : Setup). StandsIn k site offset → IsInlinable k site → LeadsToCall k site offset first earlier requests
-    → ((fault : Fault) → meaning k Never (inlining.outer site) first (with_answer site first earlier later) ≢ Faults fault)
+    → ((fault : Fault) → meaning k Never (inlining.outer site) first (with_answer site first earlier later) ≢ FaultOutcome fault)
     → IsInlined k site offset first earlier later requests)
     (no_limits setup h)
     (λ stands fit leads faultless. is_inlined setup.encoding setup.offset_bits site offset stands fit first earlier

@@ -9,7 +9,7 @@ use Rattle.dwarf_meaning.specs.Locations.{Location, Piece}
 use Rattle.dwarf_meaning.specs.Requests.{Request, Waiting}
 use Rattle.dwarf_meaning.specs.Branches.{IsNear, BranchesNear}
 use Rattle.dwarf_laws.specs.Inlining.{IsStraight}
-use Rattle.dwarf_meaning.specs.Acts.{choose, on_top, Act, Pushes, Branches, Locates, Ends, Asks, Refuses, short, unary, binary, act}
+use Rattle.dwarf_meaning.specs.Acts.{choose, on_top, Act, Pushes, Branches, Locates, EndsPiece, RequestAct, FaultAct, short, unary, binary, act}
 use Rattle.dwarf_meaning.proofs.Shorter.{all_top, all_some, all_answer}
 
 -- P holds of the target of a branch
@@ -37,9 +37,9 @@ pub data Jumping (P : ℤ → Type 0) : Act → Type 0 where
   pushes : {rest pushed : List Value} → Jumping P (Pushes rest pushed)
   branches : {rest : List Value} {target : ℤ} → P target → Jumping P (Branches rest target)
   locates : {rest : List Value} {location : Location} → Jumping P (Locates rest location)
-  ends : {rest : List Value} {piece : Piece} → Jumping P (Ends rest piece)
-  asks : {rest : List Value} {request : Request} {waiting : Waiting} → Jumping P (Asks rest request waiting)
-  refuses : {fault : Fault} → Jumping P (Refuses fault)
+  ends : {rest : List Value} {piece : Piece} → Jumping P (EndsPiece rest piece)
+  asks : {rest : List Value} {request : Request} {waiting : Waiting} → Jumping P (RequestAct rest request waiting)
+  refuses : {fault : Fault} → Jumping P (FaultAct fault)
 
 all_choose : {A : Type 0} (P : A → Type 0) (b : Bool) (x y : A) → P x → P y → P (choose b x y)
 unfolding choose

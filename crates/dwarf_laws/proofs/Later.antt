@@ -5,9 +5,9 @@ use Rattle.dwarf_base.specs.Faults.{Fault}
 use Rattle.dwarf_meaning.specs.Operations.{Operation, Text}
 use Rattle.dwarf_meaning.specs.Locations.{Location}
 use Rattle.dwarf_meaning.specs.Requests.{Request, Waiting, Input}
-use Rattle.dwarf_meaning.specs.Acts.{Act, Pushes, Branches, Locates, Ends, Asks, Refuses, Use, Gives, Calls, Denies, Misfits, use_of}
-use Rattle.dwarf_meaning.specs.Stores.{Setup, address_bits, Store, Last, Nothing, Plain, Pieced, Pushed, Called, Located, push_value, push_frame, Next, Goes, Stops, Fails, goes, done}
-use Rattle.dwarf_meaning.specs.Run.{Frame, End, Finished, Asking, Failed, Course, Continues, back, resumed, entered, called, used, with_input, asked, led, read, can_count, counted, does, counts, piece_of, holds, held, turn_by, turn, out_of_turns, run_for, enough, run}
+use Rattle.dwarf_meaning.specs.Acts.{Act, Pushes, Branches, Locates, EndsPiece, RequestAct, FaultAct, Use, PushesAnswer, Calls, FaultUse, WrongKind, use_of}
+use Rattle.dwarf_meaning.specs.Stores.{Setup, address_bits, Store, Last, Nothing, Plain, Pieced, Pushed, Called, Located, push_value, push_caller, Next, Goes, RequestNext, FaultNext, goes, done}
+use Rattle.dwarf_meaning.specs.Run.{Position, End, CompleteEnd, RequestEnd, FaultEnd, Course, Continues, return_to_caller, after_push, enter_callee, run_callee, after_answer, with_input, await_answer, after_operation, read, can_count, counted, do_operation, turn_counted, piece_ended_by, end_located, turn_located, turn_by, turn, out_of_turns, run_for, enough, run}
 use Rattle.dwarf_meaning.proofs.Choices.{choose_both}
 use Rattle.dwarf_laws.proofs.Jumps.{Jumping, pushes, branches, locates, ends, asks, refuses, straight_jumps, act_jumps}
 use Rattle.dwarf_laws.proofs.Calm.{free}
@@ -16,8 +16,8 @@ use Rattle.dwarf_laws.proofs.Texts.{stands, StraightFrom, straight_step}
 -- it goes on at this place alone
 abbrev pub LeadsTo : ℕ → Next → Type 0
 LeadsTo place (Goes q s) = q ≡ place
-LeadsTo place (Stops request waiting s) = Unit {0}
-LeadsTo place (Fails fault) = Unit {0}
+LeadsTo place (RequestNext request waiting s) = Unit {0}
+LeadsTo place (FaultNext fault) = Unit {0}
 
 leads_goes : (place : ℕ) (r : Result Store Fault) → LeadsTo place (goes place r)
 leads_goes place (Ok s) = refl
@@ -28,26 +28,26 @@ pub leads_done : (setup : Setup) (place len : ℕ) (a : Act) (s : Store) → Jum
 leads_done setup place len (Pushes rest pushed) s pushes = leads_goes place _
 leads_done setup place len (Branches rest target) s (branches h) = absurd h
 leads_done setup place len (Locates rest location) s locates = refl
-leads_done setup place len (Ends rest piece) s ends = leads_goes place _
-leads_done setup place len (Asks rest request waiting) s asks = tt
-leads_done setup place len (Refuses fault) s refuses = tt
+leads_done setup place len (EndsPiece rest piece) s ends = leads_goes place _
+leads_done setup place len (RequestAct rest request waiting) s asks = tt
+leads_done setup place len (FaultAct fault) s refuses = tt
 
 pub leads_holds : (setup : Setup) (location : Location) (place : ℕ) (s : Store) (o : Option (ℕ × Option ℕ))
-    → LeadsTo place (holds setup location place s o)
+    → LeadsTo place (end_located setup location place s o)
 leads_holds setup location place s (Some piece) = leads_goes place _
 leads_holds setup location place s None = tt
 
 -- the outermost text that is open stands behind the place
-pub record OpenBehind (T : Text) (q : ℕ) (frames : List Frame) : Type 0 where
-  pub inner : List Frame
+pub record OpenBehind (T : Text) (q : ℕ) (positions : List Position) : Type 0 where
+  pub inner : List Position
   pub place : ℕ
-  pub is : frames ≡ inner ++ record { text = T; place = place } ∷ []
+  pub is : positions ≡ inner ++ record { text = T; place = place } ∷ []
   pub later : q < place
 
 abbrev pub AsksBehind : Text → ℕ → End → Type 0
-AsksBehind T q (Finished s inputs) = Unit {0}
-AsksBehind T q (Asking request frames inputs) = OpenBehind T q frames
-AsksBehind T q (Failed fault) = Unit {0}
+AsksBehind T q (CompleteEnd s inputs) = Unit {0}
+AsksBehind T q (RequestEnd request positions inputs) = OpenBehind T q positions
+AsksBehind T q (FaultEnd fault) = Unit {0}
 
 module _ (encoding : Encoding) (bits : ℕ) (T : Text) (q : ℕ) where
   abbrev S : Setup
@@ -59,55 +59,55 @@ module _ (encoding : Encoding) (bits : ℕ) (T : Text) (q : ℕ) where
       → AsksBehind T q (go T p d s inputs).end
 
   module _ (go : Continues) (H : Later go) (p : ℕ) (after : q < p) (straight : StraightFrom encoding bits T p) (d : ℕ) where
-    abbrev here : Frame
+    abbrev here : Position
     here = record { text = T; place = p }
 
     goes_later : (s : Store) (inputs : List Input) → AsksBehind T q (go T p d s inputs).end
     goes_later s inputs = H p d s inputs (omega (arith, after)) straight
 
-    back_later : (c : Course) (end : End) → AsksBehind T q (back go here d c end).end
-    back_later c (Finished s inputs) = goes_later s inputs
-    back_later c (Asking request frames inputs) = record { inner = frames; place = p; is = refl; later = after }
-    back_later c (Failed fault) = tt
+    back_later : (c : Course) (end : End) → AsksBehind T q (return_to_caller go here d c end).end
+    back_later c (CompleteEnd s inputs) = goes_later s inputs
+    back_later c (RequestEnd request positions inputs) = record { inner = positions; place = p; is = refl; later = after }
+    back_later c (FaultEnd fault) = tt
 
-    resumed_later : (inputs : List Input) (r : Result Store Fault) → AsksBehind T q (resumed go here d inputs r).end
+    resumed_later : (inputs : List Input) (r : Result Store Fault) → AsksBehind T q (after_push go here d inputs r).end
     resumed_later inputs (Ok s) = goes_later s inputs
     resumed_later inputs (Err fault) = tt
 
     entered_later : (callee : Text) (inputs : List Input) (r : Result Store Fault)
-        → AsksBehind T q (entered go here d callee inputs r).end
+        → AsksBehind T q (enter_callee go here d callee inputs r).end
     entered_later callee inputs (Ok s) = let course = go callee 0 (suc d) s inputs in back_later course course.end
     entered_later callee inputs (Err fault) = tt
 
     called_later : (callee : Text) (bytes : List ℕ) (s : Store) (inputs : List Input)
-        → AsksBehind T q (called go S here d callee bytes s inputs).end
+        → AsksBehind T q (run_callee go S here d callee bytes s inputs).end
     called_later callee [] s inputs = goes_later (record s { last = Called }) inputs
-    called_later callee (byte ∷ bytes) s inputs = entered_later callee inputs (push_frame S d s)
+    called_later callee (byte ∷ bytes) s inputs = entered_later callee inputs (push_caller S d s)
 
     used_later : (u : Use) (s : Store) (inputs : List Input) (c : Course) → AsksBehind T q c.end
-        → AsksBehind T q (used go S here d u s inputs c).end
-    used_later (Gives rest value) s inputs c h =
+        → AsksBehind T q (after_answer go S here d u s inputs c).end
+    used_later (PushesAnswer rest value) s inputs c h =
         resumed_later inputs (push_value S value (record s { values = rest; last = Pushed }))
     used_later (Calls callee) s inputs c h = called_later callee callee.bytes s inputs
-    used_later (Denies fault) s inputs c h = tt
-    used_later Misfits s inputs c h = h
+    used_later (FaultUse fault) s inputs c h = tt
+    used_later WrongKind s inputs c h = h
 
     asked_later : (request : Request) (waiting : Waiting) (s : Store) (inputs : List Input)
-        → AsksBehind T q (asked go S here d request waiting s inputs).end
+        → AsksBehind T q (await_answer go S here d request waiting s inputs).end
     asked_later request waiting s [] = record { inner = []; place = p; is = refl; later = after }
     asked_later request waiting s (input ∷ inputs) =
         used_later (use_of (address_bits S) waiting input.answer s.values) (with_input input s) inputs _
         (record { inner = []; place = p; is = refl; later = after })
 
-    led_later : (inputs : List Input) (next : Next) → LeadsTo p next → AsksBehind T q (led go S T d p inputs next).end
+    led_later : (inputs : List Input) (next : Next) → LeadsTo p next → AsksBehind T q (after_operation go S T d p inputs next).end
     led_later inputs (Goes to s) e = subst (λ (k : ℕ). AsksBehind T q (go T k d s inputs).end) (sym e) (goes_later s inputs)
-    led_later inputs (Stops request waiting s) e = asked_later request waiting s inputs
-    led_later inputs (Fails fault) e = tt
+    led_later inputs (RequestNext request waiting s) e = asked_later request waiting s inputs
+    led_later inputs (FaultNext fault) e = tt
 
   module _ (go : Continues) (H : Later go) (p d : ℕ) (s : Store) (inputs : List Input) (from : q ≤ p)
       (straight : StraightFrom encoding bits T p) where
     does_later : (u : Store) (r : Result (Operation × List ℕ) Fault) → read S T p ≡ r
-        → AsksBehind T q (does go S T d u inputs r).end
+        → AsksBehind T q (do_operation go S T d u inputs r).end
     does_later u (Err fault) e = tt
     does_later u (Ok x) e =
         let st = stands encoding bits T p x.0 x.1 e in
@@ -118,15 +118,15 @@ module _ (encoding : Encoding) (bits : ℕ) (T : Text) (q : ℕ) where
         (straight_jumps (λ z. ⊥) x.0 step.0)))
 
     held_later : (location : Location) (r : Result (Operation × List ℕ) Fault) → read S T p ≡ r
-        → AsksBehind T q (held go S T d location s inputs r).end
+        → AsksBehind T q (turn_located go S T d location s inputs r).end
     held_later location (Err fault) e = tt
     held_later location (Ok x) e =
         let st = stands encoding bits T p x.0 x.1 e in
         let step = straight_step encoding bits T p x.0 x.1 e straight in
         led_later go H (length T.bytes - length x.1) (let a = st.place in let b = st.some in
-        omega (arith, a, b, from)) step.1 d inputs _ (leads_holds S location _ s (piece_of x.0))
+        omega (arith, a, b, from)) step.1 d inputs _ (leads_holds S location _ s (piece_ended_by x.0))
 
-    counts_later : AsksBehind T q (counts go S T p d s inputs).end
+    counts_later : AsksBehind T q (turn_counted go S T p d s inputs).end
     counts_later =
         choose_both (λ (c : Course). AsksBehind T q c.end) (can_count s) _ _
         (λ e. does_later (counted s) (read S T p) refl) (λ e. tt)

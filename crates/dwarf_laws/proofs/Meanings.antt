@@ -10,7 +10,7 @@ use Rattle.dwarf_meaning.specs.Locations.{Location, Piece}
 use Rattle.dwarf_meaning.specs.Requests.{Input}
 use Rattle.dwarf_meaning.specs.Stores.{Limits, Setup, address_bits, Store, Last, Refusal}
 use Rattle.dwarf_meaning.specs.Run.{End, Course}
-use Rattle.dwarf_meaning.specs.Meaning.{Outcome, Faults, completed, has_pieces, finish_located, finish_value, finish_judged, finish_free, finish_by, unwound, First, fresh, with_initial, course_from, course_of, meaning}
+use Rattle.dwarf_meaning.specs.Meaning.{Outcome, FaultOutcome, completion_of, has_pieces, finish_located, finish_value, finish_judged, finish_free, finish_by, unwound, First, fresh, with_initial, course_from, course_of, meaning}
 use Rattle.dwarf_laws.specs.Agreement.{Pairwise, none, more, Both, nothing, something, AgreeingNumbers, AgreeingFirsts, AgreeingInputs, AgreeingLocations, AgreeingPieces, AgreeingOutcomes, requests, faults, completions}
 use Rattle.dwarf_laws.proofs.Pairs.{choose_pair, top_pair}
 use Rattle.dwarf_laws.proofs.Actions.{same_addresses}
@@ -20,12 +20,12 @@ use Rattle.dwarf_laws.proofs.Runs.{AgreeingEnds, finish_both, ask_both, fail_bot
 -- They agree; or, where `Free` holds, one of them is a push that was refused.
 data AgreeUnlessFull (Free : Type 0) (w : ℕ) : Outcome → Outcome → Type 0 where
   agree : {x y : Outcome} → AgreeingOutcomes w x y → AgreeUnlessFull Free w x y
-  full_first : {x y : Outcome} → Free → x ≡ Faults StackFull → AgreeUnlessFull Free w x y
-  full_second : {x y : Outcome} → Free → y ≡ Faults StackFull → AgreeUnlessFull Free w x y
+  full_first : {x y : Outcome} → Free → x ≡ FaultOutcome StackFull → AgreeUnlessFull Free w x y
+  full_second : {x y : Outcome} → Free → y ≡ FaultOutcome StackFull → AgreeUnlessFull Free w x y
 
 -- no push was refused, where `Free` holds
 abbrev pub IsClear : (Free : Type 0) → Outcome → Type 0
-IsClear Free x = Free → x ≢ Faults StackFull
+IsClear Free x = Free → x ≢ FaultOutcome StackFull
 
 decided : (Free : Type 0) (w : ℕ) (x y : Outcome) → AgreeUnlessFull Free w x y → IsClear Free x → IsClear Free y
     → AgreeingOutcomes w x y
@@ -48,7 +48,7 @@ module _ (Free : Type 0) (setup : Setup) (limits : Limits) (premise : Free ⊎ (
   -- ---- the end
 
   completed_both : (value value' : Option Value) (r r' : Result Store Fault) → Both (Agree w) value value'
-      → AgreeingResults Free w r r' → AgreeUnlessFull Free w (completed value r) (completed value' r')
+      → AgreeingResults Free w r r' → AgreeUnlessFull Free w (completion_of value r) (completion_of value' r')
   completed_both value value' r r' a (stores h) = agree (completions h.pieces a)
   completed_both value value' r r' a refusals = agree faults
   completed_both value value' r r' a (result_first free) = full_first free refl

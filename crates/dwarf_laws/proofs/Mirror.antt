@@ -7,9 +7,9 @@ use Rattle.dwarf_base.specs.Faults.{Fault, TooManyIterations}
 use Rattle.dwarf_meaning.specs.Operations.{Operation, Text}
 use Rattle.dwarf_meaning.specs.Locations.{Location}
 use Rattle.dwarf_meaning.specs.Requests.{Request, Waiting, Input}
-use Rattle.dwarf_meaning.specs.Acts.{act, Use, Gives, Calls, Denies, Misfits, use_of}
-use Rattle.dwarf_meaning.specs.Stores.{Setup, address_bits, Store, Last, Nothing, Plain, Pieced, Pushed, Called, Located, push_value, push_frame, Next}
-use Rattle.dwarf_meaning.specs.Run.{Frame, End, Finished, Asking, Failed, Course, ended, passing, joined, Continues, back, called, used, asked, led, read, can_count, counted, does, counts, piece_of, held, turn_by, turn, out_of_turns, run_for, enough, run}
+use Rattle.dwarf_meaning.specs.Acts.{act, Use, PushesAnswer, Calls, FaultUse, WrongKind, use_of}
+use Rattle.dwarf_meaning.specs.Stores.{Setup, address_bits, Store, Last, Nothing, Plain, Pieced, Pushed, Called, Located, push_value, push_caller, Next}
+use Rattle.dwarf_meaning.specs.Run.{Position, End, CompleteEnd, RequestEnd, FaultEnd, Course, only_end, add_to_path, append_course, Continues, return_to_caller, run_callee, after_answer, await_answer, after_operation, read, can_count, counted, do_operation, turn_counted, piece_ended_by, turn_located, turn_by, turn, out_of_turns, run_for, enough, run}
 use Rattle.dwarf_meaning.specs.Meaning.{First}
 use Rattle.dwarf_laws.specs.Inlining.{in_force}
 use Rattle.dwarf_meaning.proofs.Choices.{choose_true, choose_false, choose_both}
@@ -29,9 +29,9 @@ pub record GoesOn (front all : List Request) (last : End) (course : Course) : Ty
 -- the second asks the same
 pub record AsksToo (front : List Request) (request : Request) (inputs : List Input) (requests : List Request)
     (end : End) : Type 0 where
-  pub frames : List Frame
+  pub positions : List Position
   pub same : requests ≡ front
-  pub is : end ≡ Asking request frames inputs
+  pub is : end ≡ RequestEnd request positions inputs
 
 module _ (encoding : Encoding) (bits : ℕ) (target : First) (n : ℕ) where
   abbrev S : Setup
@@ -46,9 +46,9 @@ module _ (encoding : Encoding) (bits : ℕ) (target : First) (n : ℕ) where
     pub goes_on : GoesOn front requests end (run S text stop depth (calm store) inputs)
 
   abbrev pub MirrorsAt : (text : Text) (stop depth : ℕ) → List Request → End → List Request → End → Type 0
-  MirrorsAt text stop depth front (Finished s inputs) requests end = Rests text stop depth front s inputs requests end
-  MirrorsAt text stop depth front (Asking request frames inputs) requests end = AsksToo front request inputs requests end
-  MirrorsAt text stop depth front (Failed fault) requests end = Unit {0}
+  MirrorsAt text stop depth front (CompleteEnd s inputs) requests end = Rests text stop depth front s inputs requests end
+  MirrorsAt text stop depth front (RequestEnd request positions inputs) requests end = AsksToo front request inputs requests end
+  MirrorsAt text stop depth front (FaultEnd fault) requests end = Unit {0}
 
   abbrev pub Mirrors : (text : Text) (stop depth : ℕ) → Course → Course → Type 0
   Mirrors text stop depth first second = MirrorsAt text stop depth first.requests first.end second.requests second.end
@@ -91,14 +91,14 @@ module _ (encoding : Encoding) (bits : ℕ) (target : First) (n : ℕ) where
 
   -- a run that begins at the end is over
   pub at_end : (T : Text) (d : ℕ) (s : Store) (inputs : List Input)
-      → run S T (length T.bytes) d s inputs ≡ ended (Finished s inputs)
+      → run S T (length T.bytes) d s inputs ≡ only_end (CompleteEnd s inputs)
   at_end T d s inputs =
       run_turn S T (length T.bytes) d s inputs ∙ choose_true (length T.bytes == length T.bytes) _ _ (grind (arith, nat_tests))
 
   module _ (T' : Text) (stop d' : ℕ) where
     behind : (more front : List Request) (end : End) (requests : List Request) (end' : End)
         → MirrorsAt T' stop d' front end requests end' → MirrorsAt T' stop d' (more ++ front) end (more ++ requests) end'
-    behind more front (Finished s inputs) requests end' h = record {
+    behind more front (CompleteEnd s inputs) requests end' h = record {
       store = h.store;
       is = h.is;
       fits = h.fits;
@@ -109,53 +109,53 @@ module _ (encoding : Encoding) (bits : ℕ) (target : First) (n : ℕ) where
             end = h.goes_on.end;
           };
     }
-    behind more front (Asking request frames inputs) requests end' h =
-        record { frames = h.frames; same = ap (λ (l : List Request). more ++ l) h.same; is = h.is }
-    behind more front (Failed fault) requests end' h = tt
+    behind more front (RequestEnd request positions inputs) requests end' h =
+        record { positions = h.positions; same = ap (λ (l : List Request). more ++ l) h.same; is = h.is }
+    behind more front (FaultEnd fault) requests end' h = tt
 
   module _ (go : Continues) (H : GoMirrors go) (T T' : Text) (Al : ℕ → ℕ → Type 0) (stop : ℕ)
       (al : Alignment T T' Al stop) (d d' : ℕ) where
     abbrev Here : Course → Course → Type 0
     Here first second = Mirrors T' stop d' first second
 
-    abbrev at : Text → ℕ → Frame
+    abbrev at : Text → ℕ → Position
     at text place = record { text = text; place = place }
 
     goes_mirror : (q q' : ℕ) (t : Store) (inputs : List Input) → Al q q'
         → Fits target inputs t.object_address t.maximum → Here (go T q d (ahead n t) inputs) (run S T' q' d' (calm t) inputs)
     goes_mirror q q' t inputs a f = H T T' Al stop al q q' d d' t inputs a f
 
-    back_asks : (q q' : ℕ) (c c' : Course) (request : Request) (frames : List Frame) (inputs : List Input)
+    back_asks : (q q' : ℕ) (c c' : Course) (request : Request) (positions : List Position) (inputs : List Input)
         → AsksToo c.requests request inputs c'.requests c'.end
-        → Here (back go (at T q) d c (Asking request frames inputs)) (back (run S) (at T' q') d' c' c'.end)
-    back_asks q q' c c' request frames inputs h =
-        subst (λ (e : End). Here (back go (at T q) d c (Asking request frames inputs))
-        (back (run S) (at T' q') d' c' e)) (sym h.is)
-        (record { frames = h.frames ++ at T' q' ∷ []; same = h.same; is = refl })
+        → Here (return_to_caller go (at T q) d c (RequestEnd request positions inputs)) (return_to_caller (run S) (at T' q') d' c' c'.end)
+    back_asks q q' c c' request positions inputs h =
+        subst (λ (e : End). Here (return_to_caller go (at T q) d c (RequestEnd request positions inputs))
+        (return_to_caller (run S) (at T' q') d' c' e)) (sym h.is)
+        (record { positions = h.positions ++ at T' q' ∷ []; same = h.same; is = refl })
 
     back_mirror : (q q' : ℕ) (callee : Text) (c : Course) (end : End) (c' : Course) → Al q q'
         → MirrorsAt callee (length callee.bytes) (suc d') c.requests end c'.requests c'.end
-        → Here (back go (at T q) d c end) (back (run S) (at T' q') d' c' c'.end)
-    back_mirror q q' callee c (Failed fault) c' a h = tt
-    back_mirror q q' callee c (Asking request frames inputs) c' a h = back_asks q q' c c' request frames inputs h
-    back_mirror q q' callee c (Finished s inputs) c' a h =
+        → Here (return_to_caller go (at T q) d c end) (return_to_caller (run S) (at T' q') d' c' c'.end)
+    back_mirror q q' callee c (FaultEnd fault) c' a h = tt
+    back_mirror q q' callee c (RequestEnd request positions inputs) c' a h = back_asks q q' c c' request positions inputs h
+    back_mirror q q' callee c (CompleteEnd s inputs) c' a h =
         let over = at_end callee (suc d') (calm h.store) inputs in
-        let e : c'.end ≡ Finished (calm h.store) inputs = h.goes_on.end ∙ ap (λ (x : Course). x.end) over in
+        let e : c'.end ≡ CompleteEnd (calm h.store) inputs = h.goes_on.end ∙ ap (λ (x : Course). x.end) over in
         let r : c'.requests ≡ c.requests = h.goes_on.requests
         ∙ (ap (λ (x : Course). c.requests ++ x.requests) over ∙ append-nil c.requests) in
         let inner = go T q d (ahead n h.store) inputs in
         let outer = run S T' q' d' (calm h.store) inputs in
         let joins : MirrorsAt T' stop d' (c.requests ++ inner.requests) inner.end (c.requests ++ outer.requests) outer.end = behind T' stop d' c.requests inner.requests inner.end outer.requests outer.end (goes_mirror q q' h.store inputs a h.fits) in
-        subst (λ (e : End). Here (back go (at T q) d c (Finished s inputs)) (back (run S) (at T' q') d' c' e)) (sym e)
-        (subst (λ (u : Store). Here (joined c (go T q d u inputs)) (joined c' outer)) (sym h.is)
+        subst (λ (e : End). Here (return_to_caller go (at T q) d c (CompleteEnd s inputs)) (return_to_caller (run S) (at T' q') d' c' e)) (sym e)
+        (subst (λ (u : Store). Here (append_course c (go T q d u inputs)) (append_course c' outer)) (sym h.is)
         (subst (λ (l : List Request). MirrorsAt T' stop d' (c.requests ++ inner.requests) inner.end
         (l ++ outer.requests) outer.end) (sym r) joins))
 
     called_mirror : (q q' : ℕ) (callee : Text) (bytes : List ℕ) (t : Store) (inputs : List Input) → Al q q'
         → Fits target inputs t.object_address t.maximum
-        → Here (called go S (at T q) d callee bytes (ahead n t) inputs)
-        (called (run S) S (at T' q') d' callee bytes (calm t) inputs)
-    unfolding push_frame
+        → Here (run_callee go S (at T q) d callee bytes (ahead n t) inputs)
+        (run_callee (run S) S (at T' q') d' callee bytes (calm t) inputs)
+    unfolding push_caller
     called_mirror q q' callee [] t inputs a f = goes_mirror q q' (record t { last = Called }) inputs a f
     called_mirror q q' callee (byte ∷ bytes) t inputs a f =
         let c = go callee 0 (suc d) (ahead n t) inputs in
@@ -164,33 +164,33 @@ module _ (encoding : Encoding) (bits : ℕ) (target : First) (n : ℕ) where
 
     used_mirror : (q q' : ℕ) (u : Use) (t : Store) (inputs : List Input) (x y : Course) → Al q q'
         → Fits target inputs t.object_address t.maximum → Here x y
-        → Here (used go S (at T q) d u (ahead n t) inputs x) (used (run S) S (at T' q') d' u (calm t) inputs y)
+        → Here (after_answer go S (at T q) d u (ahead n t) inputs x) (after_answer (run S) S (at T' q') d' u (calm t) inputs y)
     unfolding push_value
-    used_mirror q q' (Gives rest value) t inputs x y a f h =
+    used_mirror q q' (PushesAnswer rest value) t inputs x y a f h =
         goes_mirror q q' (record t { values = value ∷ rest; last = Pushed }) inputs a f
     used_mirror q q' (Calls callee) t inputs x y a f h = called_mirror q q' callee callee.bytes t inputs a f
-    used_mirror q q' (Denies fault) t inputs x y a f h = tt
-    used_mirror q q' Misfits t inputs x y a f h = h
+    used_mirror q q' (FaultUse fault) t inputs x y a f h = tt
+    used_mirror q q' WrongKind t inputs x y a f h = h
 
     asked_mirror : (q q' : ℕ) (request : Request) (waiting : Waiting) (t : Store) (inputs : List Input) → Al q q'
         → Fits target inputs t.object_address t.maximum
-        → Here (asked go S (at T q) d request waiting (ahead n t) inputs)
-        (asked (run S) S (at T' q') d' request waiting (calm t) inputs)
-    asked_mirror q q' request waiting t [] a f = record { frames = at T' q' ∷ []; same = refl; is = refl }
+        → Here (await_answer go S (at T q) d request waiting (ahead n t) inputs)
+        (await_answer (run S) S (at T' q') d' request waiting (calm t) inputs)
+    asked_mirror q q' request waiting t [] a f = record { positions = at T' q' ∷ []; same = refl; is = refl }
     asked_mirror q q' request waiting t (input ∷ inputs) a f =
         used_mirror q q' (use_of (address_bits S) waiting input.answer t.values)
         (record t { object_address = input.object_address; maximum = input.maximum }) inputs _ _ a f
-        (record { frames = at T' q' ∷ []; same = refl; is = refl })
+        (record { positions = at T' q' ∷ []; same = refl; is = refl })
 
     led_mirror : (place place' : ℕ) (inputs : List Input) (object : Option ℕ) (maximum : ℕ) (x y : Next)
         → Al place place' → Fits target inputs object maximum → NextBoth encoding bits n Al object maximum x y
-        → Here (led go S T d place inputs x) (led (run S) S T' d' place' inputs y)
+        → Here (after_operation go S T d place inputs x) (after_operation (run S) S T' d' place' inputs y)
     led_mirror place place' inputs object maximum x y a f (goes_both t b o m) =
         goes_mirror _ _ t inputs b (subst (λ k. Fits target inputs k t.maximum) (sym o)
         (subst (λ k. Fits target inputs object k) (sym m) f))
     led_mirror place place' inputs object maximum x y a f (stops_both {request = request} {waiting = waiting} t o m) =
-        let first = asked go S (at T place) d request waiting (ahead n t) inputs in
-        let second = asked (run S) S (at T' place') d' request waiting (calm t) inputs in
+        let first = await_answer go S (at T place) d request waiting (ahead n t) inputs in
+        let second = await_answer (run S) S (at T' place') d' request waiting (calm t) inputs in
         behind T' stop d' (request ∷ []) first.requests first.end second.requests second.end
         (asked_mirror place place' request waiting t inputs a
         (subst (λ k. Fits target inputs k t.maximum) (sym o) (subst (λ k. Fits target inputs object k) (sym m) f)))
@@ -198,26 +198,26 @@ module _ (encoding : Encoding) (bits : ℕ) (target : First) (n : ℕ) where
 
     does_mirror : (p p' : ℕ) (t : Store) (inputs : List Input) (r : Result (Operation × List ℕ) Fault) → Al p p'
         → Fits target inputs t.object_address t.maximum → read S T p ≡ r
-        → Here (does go S T d (ahead n t) inputs r) (does (run S) S T' d' (calm t) inputs (read S T' p'))
+        → Here (do_operation go S T d (ahead n t) inputs r) (do_operation (run S) S T' d' (calm t) inputs (read S T' p'))
     does_mirror p p' t inputs (Err fault) a f e = tt
     does_mirror p p' t inputs (Ok x) a f e =
         let too = al.reads p p' a x.0 x.1 e in
-        subst (λ (r : Result (Operation × List ℕ) Fault). Here (does go S T d (ahead n t) inputs (Ok x))
-        (does (run S) S T' d' (calm t) inputs r)) (sym too.same)
+        subst (λ (r : Result (Operation × List ℕ) Fault). Here (do_operation go S T d (ahead n t) inputs (Ok x))
+        (do_operation (run S) S T' d' (calm t) inputs r)) (sym too.same)
         (led_mirror _ _ inputs t.object_address t.maximum _ _ too.next f
         (done_both encoding bits n Al _ _ _ _ (act (address_bits S) t.object_address x.0 t.values) t too.next
         (act_jumps _ (address_bits S) t.object_address x.0 t.values too.jumps)))
 
     held_mirror : (p p' : ℕ) (location : Location) (t : Store) (inputs : List Input)
         (r : Result (Operation × List ℕ) Fault) → Al p p' → Fits target inputs t.object_address t.maximum → read S T p ≡ r
-        → Here (held go S T d location (ahead n t) inputs r) (held (run S) S T' d' location (calm t) inputs (read S T' p'))
+        → Here (turn_located go S T d location (ahead n t) inputs r) (turn_located (run S) S T' d' location (calm t) inputs (read S T' p'))
     held_mirror p p' location t inputs (Err fault) a f e = tt
     held_mirror p p' location t inputs (Ok x) a f e =
         let too = al.reads p p' a x.0 x.1 e in
-        subst (λ (r : Result (Operation × List ℕ) Fault). Here (held go S T d location (ahead n t) inputs (Ok x))
-        (held (run S) S T' d' location (calm t) inputs r)) (sym too.same)
+        subst (λ (r : Result (Operation × List ℕ) Fault). Here (turn_located go S T d location (ahead n t) inputs (Ok x))
+        (turn_located (run S) S T' d' location (calm t) inputs r)) (sym too.same)
         (led_mirror _ _ inputs t.object_address t.maximum _ _ too.next f
-        (holds_both encoding bits n Al (length T.bytes) (length T'.bytes) _ _ location t (piece_of x.0) too.next))
+        (holds_both encoding bits n Al (length T.bytes) (length T'.bytes) _ _ location t (piece_ended_by x.0) too.next))
 
     counted_ahead : (t : Store) → ahead n (record t { count = t.count + 1 }) ≡ counted (ahead n t)
     counted_ahead t =
@@ -227,19 +227,19 @@ module _ (encoding : Encoding) (bits : ℕ) (target : First) (n : ℕ) where
     can_too t e = grind (arith, nat_tests)
 
     counts_mirror : (p p' : ℕ) (t : Store) (inputs : List Input) → Al p p' → Fits target inputs t.object_address t.maximum
-        → Here (counts go S T p d (ahead n t) inputs) (counts (run S) S T' p' d' (calm t) inputs)
+        → Here (turn_counted go S T p d (ahead n t) inputs) (turn_counted (run S) S T' p' d' (calm t) inputs)
     counts_mirror p p' t inputs a f =
-        choose_both (λ (c : Course). Here c (counts (run S) S T' p' d' (calm t) inputs)) (can_count (ahead n t)) _ _
+        choose_both (λ (c : Course). Here c (turn_counted (run S) S T' p' d' (calm t) inputs)) (can_count (ahead n t)) _ _
         (λ can.
-        let first = passing (at T p) (does go S T d (counted (ahead n t)) inputs (read S T p)) in
-        let inner : Here first (does (run S) S T' d' (counted (calm t)) inputs (read S T' p')) = subst
-        (λ (s : Store). Here (does go S T d s inputs (read S T p))
-        (does (run S) S T' d' (counted (calm t)) inputs (read S T' p'))) (counted_ahead t)
+        let first = add_to_path (at T p) (do_operation go S T d (counted (ahead n t)) inputs (read S T p)) in
+        let inner : Here first (do_operation (run S) S T' d' (counted (calm t)) inputs (read S T' p')) = subst
+        (λ (s : Store). Here (do_operation go S T d s inputs (read S T p))
+        (do_operation (run S) S T' d' (counted (calm t)) inputs (read S T' p'))) (counted_ahead t)
         (does_mirror p p' (record t { count = t.count + 1 }) inputs (read S T p) a f refl) in
         subst (λ (c : Course). Here first c) (sym
         (choose_true (can_count (calm t))
-        (passing (at T' p') (does (run S) S T' d' (counted (calm t)) inputs (read S T' p')))
-        (ended (Failed TooManyIterations)) (can_too t can))) inner)
+        (add_to_path (at T' p') (do_operation (run S) S T' d' (counted (calm t)) inputs (read S T' p')))
+        (only_end (FaultEnd TooManyIterations)) (can_too t can))) inner)
         (λ e. tt)
 
     by_mirror : (p p' : ℕ) (t : Store) (inputs : List Input) (last : Last) → Al p p'

@@ -5,9 +5,9 @@ use Rattle.dwarf_base.specs.declared.errors.Error.{Error}
 use Rattle.dwarf_base.specs.Faults.{Fault}
 use Rattle.dwarf_value.specs.declared.types.Value.{Value}
 use Rattle.dwarf_value.specs.Values.{Agree}
-use Rattle.dwarf_value.specs.Laws.{AgreeingAnswers, values, refusals}
+use Rattle.dwarf_value.specs.Laws.{AgreeingResults, values, errors}
 use Rattle.dwarf_value.proofs.Agreements.{Agree-refl}
-use Rattle.dwarf_meaning.specs.Acts.{choose, on_top, on_some, on_answer, answer_of}
+use Rattle.dwarf_meaning.specs.Acts.{choose, on_top, on_some, on_result, result_of}
 use Rattle.dwarf_laws.specs.Agreement.{Pairwise, none, more, Both, nothing, something}
 
 -- ---- lists and options
@@ -51,25 +51,25 @@ module _ {A : Type 0} (R : A → A → Type 0) where
   some_pair Q o o' x x' go go' nothing h g = h
   some_pair Q o o' x x' go go' (something q) h g = g _ _ q
 
-  pub answer_pair : (w : ℕ) (r r' : Result Value Error) (bad bad' : Fault → A) (go go' : Value → A) → AgreeingAnswers w r r'
+  pub answer_pair : (w : ℕ) (r r' : Result Value Error) (bad bad' : Fault → A) (go go' : Value → A) → AgreeingResults w r r'
       → ((fault : Fault) → R (bad fault) (bad' fault)) → ((v v' : Value) → Agree w v v' → R (go v) (go' v'))
-      → R (on_answer (answer_of r) bad go) (on_answer (answer_of r') bad' go')
-  unfolding on_answer answer_of
+      → R (on_result (result_of r) bad go) (on_result (result_of r') bad' go')
+  unfolding on_result result_of
   answer_pair w r r' bad bad' go go' (values a) h g = g _ _ a
-  answer_pair w r r' bad bad' go go' refusals h g = h _
+  answer_pair w r r' bad bad' go go' errors h g = h _
 
   -- the same answer on both sides
   pub read_pair : {X : Type 0} (r : Result X Fault) (bad bad' : Fault → A) (go go' : X → A)
       → ((fault : Fault) → R (bad fault) (bad' fault)) → ((x : X) → R (go x) (go' x))
-      → R (on_answer r bad go) (on_answer r bad' go')
-  unfolding on_answer
+      → R (on_result r bad go) (on_result r bad' go')
+  unfolding on_result
   read_pair (Ok x) bad bad' go go' h g = g x
   read_pair (Err fault) bad bad' go go' h g = h fault
 
 -- equal answers agree
-pub answers_agree : (w : ℕ) (r r' : Result Value Error) → r ≡ r' → AgreeingAnswers w r r'
-answers_agree w r r' e = subst (λ p. AgreeingAnswers w r p) e (at r)
+pub answers_agree : (w : ℕ) (r r' : Result Value Error) → r ≡ r' → AgreeingResults w r r'
+answers_agree w r r' e = subst (λ p. AgreeingResults w r p) e (at r)
   where
-    at : (r : Result Value Error) → AgreeingAnswers w r r
+    at : (r : Result Value Error) → AgreeingResults w r r
     at (Ok x) = values (Agree-refl w x)
-    at (Err error) = refusals
+    at (Err error) = errors

@@ -8,9 +8,9 @@ use Rattle.dwarf_meaning.specs.Operations.{Operation, Text, DieReference}
 use Rattle.dwarf_meaning.specs.Locations.{Location}
 use Rattle.dwarf_meaning.specs.Spelling.{Spells}
 use Rattle.dwarf_meaning.specs.Requests.{Request, RequiresAtLocation, Waiting, Input}
-use Rattle.dwarf_meaning.specs.Acts.{choose, Act, Pushes, Branches, Locates, Ends, Asks, Refuses, act, Use, Gives, Calls, Denies, Misfits, use_of}
-use Rattle.dwarf_meaning.specs.Stores.{Setup, address_bits, Store, Last, Nothing, Plain, Pieced, Pushed, Called, Located, push_value, push_piece, push_frame, Next, Goes, Stops, Fails, goes, done}
-use Rattle.dwarf_meaning.specs.Run.{Frame, End, Finished, Asking, Failed, Course, ended, joined, back, called, used, asked, led, read, can_count, does, counts, piece_of, holds, held, turn_by, run}
+use Rattle.dwarf_meaning.specs.Acts.{choose, Act, Pushes, Branches, Locates, EndsPiece, RequestAct, FaultAct, act, Use, PushesAnswer, Calls, FaultUse, WrongKind, use_of}
+use Rattle.dwarf_meaning.specs.Stores.{Setup, address_bits, Store, Last, Nothing, Plain, Pieced, Pushed, Called, Located, push_value, push_piece, push_caller, Next, Goes, RequestNext, FaultNext, goes, done}
+use Rattle.dwarf_meaning.specs.Run.{Position, End, CompleteEnd, RequestEnd, FaultEnd, Course, only_end, append_course, return_to_caller, run_callee, after_answer, await_answer, after_operation, read, can_count, do_operation, turn_counted, piece_ended_by, end_located, turn_located, turn_by, run}
 use Rattle.dwarf_meaning.specs.Meaning.{First}
 use Rattle.dwarf_meaning.specs.RunLaws.{IsSettled, end_before, course_before, Open, alone, calling}
 use Rattle.dwarf_meaning.proofs.Choices.{choose_false}
@@ -22,41 +22,41 @@ use Rattle.dwarf_laws.proofs.Mirror.{Fits, GoesOn, Rests, MirrorsAt, mirror_same
 
 -- ---- frames
 
-abbrev pub last_place : List Frame → ℕ
+abbrev pub last_place : List Position → ℕ
 last_place [] = 0
 last_place (x ∷ []) = x.place
-last_place (x ∷ y ∷ frames) = last_place (y ∷ frames)
+last_place (x ∷ y ∷ positions) = last_place (y ∷ positions)
 
-pub last_snoc : (frames : List Frame) (x : Frame) → last_place (frames ++ x ∷ []) ≡ x.place
+pub last_snoc : (positions : List Position) (x : Position) → last_place (positions ++ x ∷ []) ≡ x.place
 last_snoc [] x = refl
 last_snoc (a ∷ []) x = refl
-last_snoc (a ∷ b ∷ frames) x = last_snoc (b ∷ frames) x
+last_snoc (a ∷ b ∷ positions) x = last_snoc (b ∷ positions) x
 
-abbrev pub frames_of : End → List Frame
-frames_of (Finished s inputs) = []
-frames_of (Asking request frames inputs) = frames
-frames_of (Failed fault) = []
+abbrev pub positions_of : End → List Position
+positions_of (CompleteEnd s inputs) = []
+positions_of (RequestEnd request positions inputs) = positions
+positions_of (FaultEnd fault) = []
 
-pub open_some : (inputs : List Input) (text : Text) (frames : List Frame) → Open inputs text frames → 0 < length frames
-open_some inputs text frames (alone frame) = omega arith
-open_some inputs text frames (calling frame callee inner c o) = omega (arith, length-append inner (frame ∷ []))
+pub open_some : (inputs : List Input) (text : Text) (positions : List Position) → Open inputs text positions → 0 < length positions
+open_some inputs text positions (alone position) = omega arith
+open_some inputs text positions (calling position callee inner c o) = omega (arith, length-append inner (position ∷ []))
 
 -- ---- what an operation that is no branch leads to
 
 pub data NextCalm (object : Option ℕ) (maximum place : ℕ) : Next → Type 0 where
   goes_calm : (t : Store) → t.object_address ≡ object → t.maximum ≡ maximum → NextCalm object maximum place (Goes place (calm t))
   stops_calm : {request : Request} {waiting : Waiting} (t : Store) → t.object_address ≡ object → t.maximum ≡ maximum
-      → NextCalm object maximum place (Stops request waiting (calm t))
-  fails_calm : {fault : Fault} → NextCalm object maximum place (Fails fault)
+      → NextCalm object maximum place (RequestNext request waiting (calm t))
+  fails_calm : {fault : Fault} → NextCalm object maximum place (FaultNext fault)
 
 same_len : (setup : Setup) (place len other : ℕ) (a : Act) (s : Store) → Jumping (λ z. ⊥) a
     → done setup place len a s ≡ done setup place other a s
 same_len setup place len other (Pushes rest pushed) s pushes = refl
 same_len setup place len other (Branches rest target) s (branches h) = absurd h
 same_len setup place len other (Locates rest location) s locates = refl
-same_len setup place len other (Ends rest piece) s ends = refl
-same_len setup place len other (Asks rest request waiting) s asks = refl
-same_len setup place len other (Refuses fault) s refuses = refl
+same_len setup place len other (EndsPiece rest piece) s ends = refl
+same_len setup place len other (RequestAct rest request waiting) s asks = refl
+same_len setup place len other (FaultAct fault) s refuses = refl
 
 module _ (encoding : Encoding) (bits : ℕ) where
   abbrev S : Setup
@@ -72,13 +72,13 @@ module _ (encoding : Encoding) (bits : ℕ) where
   done_calm place len (Branches rest target) t (branches h) = absurd h
   done_calm place len (Locates rest location) t locates =
       goes_calm (record t { values = rest; last = Located location }) refl refl
-  done_calm place len (Ends rest piece) t ends =
+  done_calm place len (EndsPiece rest piece) t ends =
       goes_calm (record t { values = rest; last = Pieced; pieces = t.pieces ++ piece ∷ [] }) refl refl
-  done_calm place len (Asks rest request waiting) t asks = stops_calm (record t { values = rest }) refl refl
-  done_calm place len (Refuses fault) t refuses = fails_calm
+  done_calm place len (RequestAct rest request waiting) t asks = stops_calm (record t { values = rest }) refl refl
+  done_calm place len (FaultAct fault) t refuses = fails_calm
 
   holds_calm : (location : Location) (place : ℕ) (t : Store) (o : Option (ℕ × Option ℕ))
-      → NextCalm t.object_address t.maximum place (holds S location place (calm t) o)
+      → NextCalm t.object_address t.maximum place (end_located S location place (calm t) o)
   unfolding push_piece
   holds_calm location place t (Some piece) =
       goes_calm (record t {
@@ -100,11 +100,11 @@ module _ (encoding : Encoding) (bits : ℕ) where
     abbrev pub call : Request
     call = RequiresAtLocation offset
 
-    abbrev pub behind_call : Frame
+    abbrev pub behind_call : Position
     behind_call = record { text = outer; place = length A + length K }
 
     abbrev pub AtCall : End → Type 0
-    AtCall end = end ≡ Asking call (behind_call ∷ []) []
+    AtCall end = end ≡ RequestEnd call (behind_call ∷ []) []
 
     -- with this much asked, each run comes to the call's place, whatever stands there
     pub record Reached (R : List ℕ → List Input → List Request) (E : List ℕ → List Input → End) : Type 0 where
@@ -146,8 +146,8 @@ module _ (encoding : Encoding) (bits : ℕ) where
           record { requests = ap (λ (l : List Request). more ++ l) o.requests ∙ sym (append_assoc more r.front _); end = o.end };
     }
 
-    leads_failed : (fault : Fault) (f : List ℕ → List Input → Course) → Leads (ended (Failed fault)) f
-    leads_failed fault f e = absurd (let x : Failed fault ≡ Asking call (behind_call ∷ []) [] = e in cc)
+    leads_failed : (fault : Fault) (f : List ℕ → List Input → Course) → Leads (only_end (FaultEnd fault)) f
+    leads_failed fault f e = absurd (let x : FaultEnd fault ≡ RequestEnd call (behind_call ∷ []) [] = e in cc)
 
     leads_choose : (b : Bool) (x y : Course) (f g : List ℕ → List Input → Course) → Leads x f → Leads y g
         → Leads (choose b x y) (λ X more. choose b (f X more) (g X more))
@@ -172,7 +172,7 @@ module _ (encoding : Encoding) (bits : ℕ) where
     none_ahead t = ap (λ (k : ℕ). record (calm t) { count = k }) (let e : t.count + 0 ≡ t.count = omega arith in e)
 
     ends_calm : (T : Text) (p d : ℕ) (t : Store) (inputs : List Input) (s : Store) (left : List Input)
-        → Fits target inputs t.object_address t.maximum → (run S T p d (calm t) inputs).end ≡ Finished s left → EndsCalm s left
+        → Fits target inputs t.object_address t.maximum → (run S T p d (calm t) inputs).end ≡ CompleteEnd s left → EndsCalm s left
     ends_calm T p d t inputs s left f e =
         let c = run S T p d (calm t) inputs in
         let m : MirrorsAt encoding bits target 0 T (length T.bytes) d c.requests c.end c.requests c.end = subst
@@ -183,78 +183,78 @@ module _ (encoding : Encoding) (bits : ℕ) where
         record { store = r.store; is = r.is ∙ none_ahead r.store; fits = r.fits }
 
     module _ (p : ℕ) (before : p < length A + length K) (H : From p) where
-      abbrev at : List ℕ → Frame
+      abbrev at : List ℕ → Position
       at X = record { text = text X; place = p }
 
-      not_here : (request : Request) (frames : List Frame) (inputs : List Input)
-          → AtCall (Asking request (frames ++ at (K ++ B) ∷ []) inputs) → ⊥
-      not_here request frames inputs e =
-          let x : p ≡ length A + length K = sym (last_snoc frames (at (K ++ B))) ∙ ap
-          (λ (end : End). last_place (frames_of end)) e in
+      not_here : (request : Request) (positions : List Position) (inputs : List Input)
+          → AtCall (RequestEnd request (positions ++ at (K ++ B) ∷ []) inputs) → ⊥
+      not_here request positions inputs e =
+          let x : p ≡ length A + length K = sym (last_snoc positions (at (K ++ B))) ∙ ap
+          (λ (end : End). last_place (positions_of end)) e in
           omega (arith, x, before)
 
       back_leads : (callee : Text) (t : Store) (inputs : List Input) (end : End)
           → Fits target inputs t.object_address t.maximum → (run S callee 0 1 (calm t) inputs).end ≡ end
-          → Leads (back (run S) (at (K ++ B)) 0 (run S callee 0 1 (calm t) inputs) end)
-          (λ X more. let c = run S callee 0 1 (calm t) (inputs ++ more) in back (run S) (at X) 0 c c.end)
-      back_leads callee t inputs (Failed fault) f e =
-          leads_failed fault (λ X more. let c = run S callee 0 1 (calm t) (inputs ++ more) in back (run S) (at X) 0 c c.end)
-      back_leads callee t inputs (Asking request frames left) f e = λ at_call. absurd (not_here request frames left at_call)
-      back_leads callee t inputs (Finished s left) f e =
+          → Leads (return_to_caller (run S) (at (K ++ B)) 0 (run S callee 0 1 (calm t) inputs) end)
+          (λ X more. let c = run S callee 0 1 (calm t) (inputs ++ more) in return_to_caller (run S) (at X) 0 c c.end)
+      back_leads callee t inputs (FaultEnd fault) f e =
+          leads_failed fault (λ X more. let c = run S callee 0 1 (calm t) (inputs ++ more) in return_to_caller (run S) (at X) 0 c c.end)
+      back_leads callee t inputs (RequestEnd request positions left) f e = λ at_call. absurd (not_here request positions left at_call)
+      back_leads callee t inputs (CompleteEnd s left) f e =
           let c = run S callee 0 1 (calm t) inputs in
           let k = ends_calm callee 0 1 t inputs s left f e in
           let longer : (more : List Input) → run S callee 0 1 (calm t) (inputs ++ more) ≡ course_before more c =
           λ more. extends_run S callee 0 1 (calm t) inputs more (subst IsSettled (sym e) tt) in
-          let ended_so : (more : List Input) → end_before more c.end ≡ Finished (calm k.store) (left ++ more) =
-          λ more. ap (end_before more) e ∙ ap (λ (u : Store). Finished u (left ++ more)) k.is in
+          let ended_so : (more : List Input) → end_before more c.end ≡ CompleteEnd (calm k.store) (left ++ more) =
+          λ more. ap (end_before more) e ∙ ap (λ (u : Store). CompleteEnd u (left ++ more)) k.is in
           let inner : List ℕ → List Input → Course = λ X more. run S (text X) p 0 (calm k.store) (left ++ more) in
-          leads_as (joined c (run S outer p 0 (calm k.store) left)) (joined c (run S outer p 0 s left))
-          (λ X more. joined c (inner X more)) (λ X more. let c = run S callee 0 1 (calm t) (inputs ++ more) in
-          back (run S) (at X) 0 c c.end)
-          (ap (λ (u : Store). joined c (run S outer p 0 u left)) k.is)
-          (λ X more. ap (λ (x : Course). back (run S) (at X) 0 x x.end) (longer more) ∙ ap
-          (back (run S) (at X) 0 (course_before more c)) (ended_so more))
+          leads_as (append_course c (run S outer p 0 (calm k.store) left)) (append_course c (run S outer p 0 s left))
+          (λ X more. append_course c (inner X more)) (λ X more. let c = run S callee 0 1 (calm t) (inputs ++ more) in
+          return_to_caller (run S) (at X) 0 c c.end)
+          (ap (λ (u : Store). append_course c (run S outer p 0 u left)) k.is)
+          (λ X more. ap (λ (x : Course). return_to_caller (run S) (at X) 0 x x.end) (longer more) ∙ ap
+          (return_to_caller (run S) (at X) 0 (course_before more c)) (ended_so more))
           (λ at_call. reached_behind c.requests _ _ (H k.store left k.fits at_call))
 
       called_leads : (callee : Text) (bytes : List ℕ) (t : Store) (inputs : List Input)
           → Fits target inputs t.object_address t.maximum
-          → Leads (called (run S) S (at (K ++ B)) 0 callee bytes (calm t) inputs)
-          (λ X more. called (run S) S (at X) 0 callee bytes (calm t) (inputs ++ more))
-      unfolding push_frame
+          → Leads (run_callee (run S) S (at (K ++ B)) 0 callee bytes (calm t) inputs)
+          (λ X more. run_callee (run S) S (at X) 0 callee bytes (calm t) (inputs ++ more))
+      unfolding push_caller
       called_leads callee [] t inputs f = H (record t { last = Called }) inputs f
       called_leads callee (byte ∷ bytes) t inputs f = back_leads callee t inputs _ f refl
 
       used_leads : (u : Use) (t : Store) (inputs : List Input) (c : Course) (g : List ℕ → List Input → Course)
           → Fits target inputs t.object_address t.maximum → Leads c g
-          → Leads (used (run S) S (at (K ++ B)) 0 u (calm t) inputs c)
-          (λ X more. used (run S) S (at X) 0 u (calm t) (inputs ++ more) (g X more))
+          → Leads (after_answer (run S) S (at (K ++ B)) 0 u (calm t) inputs c)
+          (λ X more. after_answer (run S) S (at X) 0 u (calm t) (inputs ++ more) (g X more))
       unfolding push_value
-      used_leads (Gives rest value) t inputs c g f h = H (record t { values = value ∷ rest; last = Pushed }) inputs f
+      used_leads (PushesAnswer rest value) t inputs c g f h = H (record t { values = value ∷ rest; last = Pushed }) inputs f
       used_leads (Calls callee) t inputs c g f h = called_leads callee callee.bytes t inputs f
-      used_leads (Denies fault) t inputs c g f h = leads_failed fault (λ X more. ended (Failed fault))
-      used_leads Misfits t inputs c g f h = h
+      used_leads (FaultUse fault) t inputs c g f h = leads_failed fault (λ X more. only_end (FaultEnd fault))
+      used_leads WrongKind t inputs c g f h = h
 
       asked_leads : (request : Request) (waiting : Waiting) (t : Store) (inputs : List Input)
           → Fits target inputs t.object_address t.maximum
-          → Leads (asked (run S) S (at (K ++ B)) 0 request waiting (calm t) inputs)
-          (λ X more. asked (run S) S (at X) 0 request waiting (calm t) (inputs ++ more))
+          → Leads (await_answer (run S) S (at (K ++ B)) 0 request waiting (calm t) inputs)
+          (λ X more. await_answer (run S) S (at X) 0 request waiting (calm t) (inputs ++ more))
       asked_leads request waiting t [] f = λ at_call. absurd (not_here request [] [] at_call)
       asked_leads request waiting t (input ∷ inputs) f =
           used_leads (use_of (address_bits S) waiting input.answer t.values)
           (record t { object_address = input.object_address; maximum = input.maximum }) inputs
-          (ended (Asking request (at (K ++ B) ∷ []) (input ∷ inputs)))
-          (λ X more. ended (Asking request (at X ∷ []) (input ∷ (inputs ++ more)))) f
+          (only_end (RequestEnd request (at (K ++ B) ∷ []) (input ∷ inputs)))
+          (λ X more. only_end (RequestEnd request (at X ∷ []) (input ∷ (inputs ++ more)))) f
           (λ at_call. absurd (not_here request [] (input ∷ inputs) at_call))
 
       led_leads : (inputs : List Input) (object : Option ℕ) (maximum : ℕ) (next : Next)
           → Fits target inputs object maximum → NextCalm object maximum p next
-          → Leads (led (run S) S outer 0 p inputs next) (λ X more. led (run S) S (text X) 0 p (inputs ++ more) next)
+          → Leads (after_operation (run S) S outer 0 p inputs next) (λ X more. after_operation (run S) S (text X) 0 p (inputs ++ more) next)
       led_leads inputs object maximum next f (goes_calm t o m) =
           H t inputs (subst (λ k. Fits target inputs k t.maximum) (sym o) (subst (λ k. Fits target inputs object k) (sym m) f))
       led_leads inputs object maximum next f (stops_calm {request = request} {waiting = waiting} t o m) = λ at_call.
           reached_behind (request ∷ []) _ _ (asked_leads request waiting t inputs
           (subst (λ k. Fits target inputs k t.maximum) (sym o) (subst (λ k. Fits target inputs object k) (sym m) f)) at_call)
-      led_leads inputs object maximum next f (fails_calm {fault = fault}) = leads_failed fault (λ X more. ended (Failed fault))
+      led_leads inputs object maximum next f (fails_calm {fault = fault}) = leads_failed fault (λ X more. only_end (FaultEnd fault))
 
       -- the operation that stands at q, and leads to p
       module _ (q : ℕ) (op : Operation) (rest : List ℕ)
@@ -262,47 +262,47 @@ module _ (encoding : Encoding) (bits : ℕ) where
           (place : (X : List ℕ) → length (A ++ X) - length (rest ++ X) ≡ p)
           (straight : (bits' : ℕ) (object : Option ℕ) (values : List _) → Jumping (λ z. ⊥) (act bits' object op values)) where
         does_is : (X : List ℕ) (s : Store) (inputs : List Input)
-            → does (run S) S (text X) 0 s inputs (read S (text X) q) ≡ led (run S) S (text X) 0 p inputs
+            → do_operation (run S) S (text X) 0 s inputs (read S (text X) q) ≡ after_operation (run S) S (text X) 0 p inputs
             (done S p 0 (act (address_bits S) s.object_address op s.values) s)
         does_is X s inputs =
             let a = act (address_bits S) s.object_address op s.values in
-            ap (does (run S) S (text X) 0 s inputs) (reads X)
-            ∙ (ap (λ (k : ℕ). led (run S) S (text X) 0 k inputs (done S k (length (A ++ X)) a s)) (place X)
-            ∙ ap (led (run S) S (text X) 0 p inputs) (same_len S p (length (A ++ X)) 0 a s (straight _ _ _)))
+            ap (do_operation (run S) S (text X) 0 s inputs) (reads X)
+            ∙ (ap (λ (k : ℕ). after_operation (run S) S (text X) 0 k inputs (done S k (length (A ++ X)) a s)) (place X)
+            ∙ ap (after_operation (run S) S (text X) 0 p inputs) (same_len S p (length (A ++ X)) 0 a s (straight _ _ _)))
 
         held_is : (X : List ℕ) (location : Location) (s : Store) (inputs : List Input)
-            → held (run S) S (text X) 0 location s inputs (read S (text X) q) ≡ led (run S) S (text X) 0 p inputs
-            (holds S location p s (piece_of op))
+            → turn_located (run S) S (text X) 0 location s inputs (read S (text X) q) ≡ after_operation (run S) S (text X) 0 p inputs
+            (end_located S location p s (piece_ended_by op))
         held_is X location s inputs =
-            ap (held (run S) S (text X) 0 location s inputs) (reads X)
-            ∙ ap (λ (k : ℕ). led (run S) S (text X) 0 k inputs (holds S location k s (piece_of op))) (place X)
+            ap (turn_located (run S) S (text X) 0 location s inputs) (reads X)
+            ∙ ap (λ (k : ℕ). after_operation (run S) S (text X) 0 k inputs (end_located S location k s (piece_ended_by op))) (place X)
 
         counts_leads : (t : Store) (inputs : List Input) → Fits target inputs t.object_address t.maximum
-            → Leads (counts (run S) S outer q 0 (calm t) inputs)
-            (λ X more. counts (run S) S (text X) q 0 (calm t) (inputs ++ more))
+            → Leads (turn_counted (run S) S outer q 0 (calm t) inputs)
+            (λ X more. turn_counted (run S) S (text X) q 0 (calm t) (inputs ++ more))
         counts_leads t inputs f =
             let u : Store = record t { count = t.count + 1 } in
             leads_choose (can_count (calm t)) _ _ _ _
-            (leads_as (led (run S) S outer 0 p inputs
+            (leads_as (after_operation (run S) S outer 0 p inputs
             (done S p 0 (act (address_bits S) u.object_address op u.values) (calm u)))
-            (does (run S) S outer 0 (calm u) inputs (read S outer q))
-            (λ X more. led (run S) S (text X) 0 p (inputs ++ more)
+            (do_operation (run S) S outer 0 (calm u) inputs (read S outer q))
+            (λ X more. after_operation (run S) S (text X) 0 p (inputs ++ more)
             (done S p 0 (act (address_bits S) u.object_address op u.values) (calm u)))
-            (λ X more. does (run S) S (text X) 0 (calm u) (inputs ++ more) (read S (text X) q))
+            (λ X more. do_operation (run S) S (text X) 0 (calm u) (inputs ++ more) (read S (text X) q))
             (does_is (K ++ B) (calm u) inputs) (λ X more. does_is X (calm u) (inputs ++ more))
             (led_leads inputs u.object_address u.maximum _ f (done_calm p 0 _ u (straight _ _ _))))
-            (leads_failed TooManyIterations (λ X more. ended (Failed TooManyIterations)))
+            (leads_failed TooManyIterations (λ X more. only_end (FaultEnd TooManyIterations)))
 
         held_leads : (location : Location) (t : Store) (inputs : List Input) → Fits target inputs t.object_address t.maximum
-            → Leads (held (run S) S outer 0 location (calm t) inputs (read S outer q))
-            (λ X more. held (run S) S (text X) 0 location (calm t) (inputs ++ more) (read S (text X) q))
+            → Leads (turn_located (run S) S outer 0 location (calm t) inputs (read S outer q))
+            (λ X more. turn_located (run S) S (text X) 0 location (calm t) (inputs ++ more) (read S (text X) q))
         held_leads location t inputs f =
-            leads_as (led (run S) S outer 0 p inputs (holds S location p (calm t) (piece_of op)))
-            (held (run S) S outer 0 location (calm t) inputs (read S outer q))
-            (λ X more. led (run S) S (text X) 0 p (inputs ++ more) (holds S location p (calm t) (piece_of op)))
-            (λ X more. held (run S) S (text X) 0 location (calm t) (inputs ++ more) (read S (text X) q))
+            leads_as (after_operation (run S) S outer 0 p inputs (end_located S location p (calm t) (piece_ended_by op)))
+            (turn_located (run S) S outer 0 location (calm t) inputs (read S outer q))
+            (λ X more. after_operation (run S) S (text X) 0 p (inputs ++ more) (end_located S location p (calm t) (piece_ended_by op)))
+            (λ X more. turn_located (run S) S (text X) 0 location (calm t) (inputs ++ more) (read S (text X) q))
             (held_is (K ++ B) location (calm t) inputs) (λ X more. held_is X location (calm t) (inputs ++ more))
-            (led_leads inputs t.object_address t.maximum _ f (holds_calm location p t (piece_of op)))
+            (led_leads inputs t.object_address t.maximum _ f (holds_calm location p t (piece_ended_by op)))
 
         by_leads : (last : Last) (t : Store) (inputs : List Input) → Fits target inputs t.object_address t.maximum
             → Leads (turn_by (run S) S outer q 0 (calm t) inputs last)

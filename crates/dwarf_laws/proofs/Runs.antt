@@ -7,7 +7,7 @@ use Rattle.dwarf_meaning.specs.Locations.{Location}
 use Rattle.dwarf_meaning.specs.Requests.{Request, Waiting, Input}
 use Rattle.dwarf_meaning.specs.Acts.{Use}
 use Rattle.dwarf_meaning.specs.Stores.{Limits, Setup, address_bits, Store, Last, taken, Next}
-use Rattle.dwarf_meaning.specs.Run.{Frame, End, Finished, Asking, Failed, Course, ended, passing, asking, joined, Continues, back, resumed, entered, called, used, with_input, asked, led, read, can_count, counted, does, counts, piece_of, held, turn_by, turn, out_of_turns, run_for, enough, run}
+use Rattle.dwarf_meaning.specs.Run.{Position, End, CompleteEnd, RequestEnd, FaultEnd, Course, only_end, add_to_path, add_request, append_course, Continues, return_to_caller, after_push, enter_callee, run_callee, after_answer, with_input, await_answer, after_operation, read, can_count, counted, do_operation, turn_counted, piece_ended_by, turn_located, turn_by, turn, out_of_turns, run_for, enough, run}
 use Rattle.dwarf_laws.specs.Agreement.{Pairwise, none, more, AgreeingInputs, AgreeingLocations}
 use Rattle.dwarf_laws.proofs.Pairs.{choose_pair}
 use Rattle.dwarf_laws.proofs.Actions.{AgreeingUses, gives, calls, denies, misfits, act_both, use_both}
@@ -15,17 +15,17 @@ use Rattle.dwarf_laws.proofs.Holdings.{AgreeingLasts, both_nothing, both_plain, 
 
 pub data AgreeingEnds (Free : Type 0) (w : ℕ) : End → End → Type 0 where
   finish_both : {s t : Store} {inputs inputs' : List Input} → AgreeingStores Free w s t
-      → Pairwise (AgreeingInputs w) inputs inputs' → AgreeingEnds Free w (Finished s inputs) (Finished t inputs')
-  ask_both : {request : Request} {frames : List Frame} {inputs inputs' : List Input}
-      → AgreeingEnds Free w (Asking request frames inputs) (Asking request frames inputs')
-  fail_both : {fault : Fault} → AgreeingEnds Free w (Failed fault) (Failed fault)
+      → Pairwise (AgreeingInputs w) inputs inputs' → AgreeingEnds Free w (CompleteEnd s inputs) (CompleteEnd t inputs')
+  ask_both : {request : Request} {positions : List Position} {inputs inputs' : List Input}
+      → AgreeingEnds Free w (RequestEnd request positions inputs) (RequestEnd request positions inputs')
+  fail_both : {fault : Fault} → AgreeingEnds Free w (FaultEnd fault) (FaultEnd fault)
 
 -- Two courses with agreeing ends; where `Free` holds, one of them may end in a push that was refused.
 pub data AgreeingCourses (Free : Type 0) (w : ℕ) : Course → Course → Type 0 where
   courses : {first second : Course} → first.path ≡ second.path → first.requests ≡ second.requests
       → AgreeingEnds Free w first.end second.end → AgreeingCourses Free w first second
-  course_first : {first second : Course} → Free → first.end ≡ Failed StackFull → AgreeingCourses Free w first second
-  course_second : {first second : Course} → Free → second.end ≡ Failed StackFull → AgreeingCourses Free w first second
+  course_first : {first second : Course} → Free → first.end ≡ FaultEnd StackFull → AgreeingCourses Free w first second
+  course_second : {first second : Course} → Free → second.end ≡ FaultEnd StackFull → AgreeingCourses Free w first second
 
 -- two ways to go on
 abbrev pub GoAlike : (Free : Type 0) (w : ℕ) → Continues → Continues → Type 0
@@ -35,23 +35,23 @@ GoAlike Free w go go' =
     → AgreeingCourses Free w (go text place depth s inputs) (go' text place depth t inputs')
 
 module _ (Free : Type 0) (w : ℕ) where
-  ended_both : (e e' : End) → AgreeingEnds Free w e e' → AgreeingCourses Free w (ended e) (ended e')
+  ended_both : (e e' : End) → AgreeingEnds Free w e e' → AgreeingCourses Free w (only_end e) (only_end e')
   ended_both e e' h = courses refl refl h
 
-  passing_both : (frame : Frame) (c c' : Course) → AgreeingCourses Free w c c'
-      → AgreeingCourses Free w (passing frame c) (passing frame c')
-  passing_both frame c c' (courses p q h) = courses (ap (λ (l : List Frame). frame ∷ l) p) q h
-  passing_both frame c c' (course_first free e) = course_first free e
-  passing_both frame c c' (course_second free e) = course_second free e
+  passing_both : (position : Position) (c c' : Course) → AgreeingCourses Free w c c'
+      → AgreeingCourses Free w (add_to_path position c) (add_to_path position c')
+  passing_both position c c' (courses p q h) = courses (ap (λ (l : List Position). position ∷ l) p) q h
+  passing_both position c c' (course_first free e) = course_first free e
+  passing_both position c c' (course_second free e) = course_second free e
 
   asking_both : (request : Request) (c c' : Course) → AgreeingCourses Free w c c'
-      → AgreeingCourses Free w (asking request c) (asking request c')
+      → AgreeingCourses Free w (add_request request c) (add_request request c')
   asking_both request c c' (courses p q h) = courses p (ap (λ (l : List Request). request ∷ l) q) h
   asking_both request c c' (course_first free e) = course_first free e
   asking_both request c c' (course_second free e) = course_second free e
 
   joined_both : (c c' d d' : Course) → c.path ≡ c'.path → c.requests ≡ c'.requests → AgreeingCourses Free w d d'
-      → AgreeingCourses Free w (joined c d) (joined c' d')
+      → AgreeingCourses Free w (append_course c d) (append_course c' d')
   joined_both c c' d d' p q (courses p' q' h) = courses (cc) (cc) h
   joined_both c c' d d' p q (course_first free e) = course_first free e
   joined_both c c' d d' p q (course_second free e) = course_second free e
@@ -79,72 +79,72 @@ module _ (Free : Type 0) (setup : Setup) (limits : Limits) (premise : Free ⊎ (
       }
 
   module _ (go go' : Continues) (H : GoAlike Free w go go') where
-    back_ends : (frame : Frame) (depth : ℕ) (c c' : Course) (e e' : End) → c.path ≡ c'.path → c.requests ≡ c'.requests
+    back_ends : (position : Position) (depth : ℕ) (c c' : Course) (e e' : End) → c.path ≡ c'.path → c.requests ≡ c'.requests
         → AgreeingEnds Free w e e'
-        → AgreeingCourses Free w (back go frame depth c e) (back go' frame depth c' e')
-    back_ends frame depth c c' e e' p q (finish_both h i) =
-        joined_both Free w c c' _ _ p q (H frame.text frame.place depth _ _ _ _ h i)
-    back_ends frame depth c c' e e' p q ask_both = courses p q ask_both
-    back_ends frame depth c c' e e' p q fail_both = courses p q fail_both
+        → AgreeingCourses Free w (return_to_caller go position depth c e) (return_to_caller go' position depth c' e')
+    back_ends position depth c c' e e' p q (finish_both h i) =
+        joined_both Free w c c' _ _ p q (H position.text position.place depth _ _ _ _ h i)
+    back_ends position depth c c' e e' p q ask_both = courses p q ask_both
+    back_ends position depth c c' e e' p q fail_both = courses p q fail_both
 
-    back_both : (frame : Frame) (depth : ℕ) (c c' : Course) → AgreeingCourses Free w c c'
-        → AgreeingCourses Free w (back go frame depth c c.end) (back go' frame depth c' c'.end)
-    back_both frame depth c c' (courses p q h) = back_ends frame depth c c' c.end c'.end p q h
-    back_both frame depth c c' (course_first free e) = course_first free (ap (λ (end : End). (back go frame depth c end).end) e)
-    back_both frame depth c c' (course_second free e) =
-        course_second free (ap (λ (end : End). (back go' frame depth c' end).end) e)
+    back_both : (position : Position) (depth : ℕ) (c c' : Course) → AgreeingCourses Free w c c'
+        → AgreeingCourses Free w (return_to_caller go position depth c c.end) (return_to_caller go' position depth c' c'.end)
+    back_both position depth c c' (courses p q h) = back_ends position depth c c' c.end c'.end p q h
+    back_both position depth c c' (course_first free e) = course_first free (ap (λ (end : End). (return_to_caller go position depth c end).end) e)
+    back_both position depth c c' (course_second free e) =
+        course_second free (ap (λ (end : End). (return_to_caller go' position depth c' end).end) e)
 
-    resumed_both : (frame : Frame) (depth : ℕ) (inputs inputs' : List Input) (r r' : Result Store Fault)
+    resumed_both : (position : Position) (depth : ℕ) (inputs inputs' : List Input) (r r' : Result Store Fault)
         → Pairwise (AgreeingInputs w) inputs inputs' → AgreeingResults Free w r r'
-        → AgreeingCourses Free w (resumed go frame depth inputs r) (resumed go' frame depth inputs' r')
-    resumed_both frame depth inputs inputs' r r' i (stores h) = H frame.text frame.place depth _ _ inputs inputs' h i
-    resumed_both frame depth inputs inputs' r r' i refusals = ended_both Free w _ _ fail_both
-    resumed_both frame depth inputs inputs' r r' i (result_first free) = course_first free refl
-    resumed_both frame depth inputs inputs' r r' i (result_second free) = course_second free refl
+        → AgreeingCourses Free w (after_push go position depth inputs r) (after_push go' position depth inputs' r')
+    resumed_both position depth inputs inputs' r r' i (stores h) = H position.text position.place depth _ _ inputs inputs' h i
+    resumed_both position depth inputs inputs' r r' i refusals = ended_both Free w _ _ fail_both
+    resumed_both position depth inputs inputs' r r' i (result_first free) = course_first free refl
+    resumed_both position depth inputs inputs' r r' i (result_second free) = course_second free refl
 
-    entered_both : (frame : Frame) (depth : ℕ) (callee : Text) (inputs inputs' : List Input)
+    entered_both : (position : Position) (depth : ℕ) (callee : Text) (inputs inputs' : List Input)
         (r r' : Result Store Fault) → Pairwise (AgreeingInputs w) inputs inputs' → AgreeingResults Free w r r'
-        → AgreeingCourses Free w (entered go frame depth callee inputs r) (entered go' frame depth callee inputs' r')
-    entered_both frame depth callee inputs inputs' r r' i (stores h) =
-        back_both frame depth _ _ (H callee 0 (suc depth) _ _ inputs inputs' h i)
-    entered_both frame depth callee inputs inputs' r r' i refusals = ended_both Free w _ _ fail_both
-    entered_both frame depth callee inputs inputs' r r' i (result_first free) = course_first free refl
-    entered_both frame depth callee inputs inputs' r r' i (result_second free) = course_second free refl
+        → AgreeingCourses Free w (enter_callee go position depth callee inputs r) (enter_callee go' position depth callee inputs' r')
+    entered_both position depth callee inputs inputs' r r' i (stores h) =
+        back_both position depth _ _ (H callee 0 (suc depth) _ _ inputs inputs' h i)
+    entered_both position depth callee inputs inputs' r r' i refusals = ended_both Free w _ _ fail_both
+    entered_both position depth callee inputs inputs' r r' i (result_first free) = course_first free refl
+    entered_both position depth callee inputs inputs' r r' i (result_second free) = course_second free refl
 
-    called_both : (frame : Frame) (depth : ℕ) (callee : Text) (bytes : List ℕ) (s t : Store)
+    called_both : (position : Position) (depth : ℕ) (callee : Text) (bytes : List ℕ) (s t : Store)
         (inputs inputs' : List Input) → AgreeingStores Free w s t → Pairwise (AgreeingInputs w) inputs inputs'
-        → AgreeingCourses Free w (called go setup frame depth callee bytes s inputs)
-        (called go' other frame depth callee bytes t inputs')
-    called_both frame depth callee [] s t inputs inputs' h i =
-        H frame.text frame.place depth _ _ inputs inputs' (changed h h.values both_called) i
-    called_both frame depth callee (byte ∷ bytes) s t inputs inputs' h i =
-        entered_both frame depth callee inputs inputs' _ _ i (push_frame_both Free setup limits premise depth s t h)
+        → AgreeingCourses Free w (run_callee go setup position depth callee bytes s inputs)
+        (run_callee go' other position depth callee bytes t inputs')
+    called_both position depth callee [] s t inputs inputs' h i =
+        H position.text position.place depth _ _ inputs inputs' (changed h h.values both_called) i
+    called_both position depth callee (byte ∷ bytes) s t inputs inputs' h i =
+        entered_both position depth callee inputs inputs' _ _ i (push_frame_both Free setup limits premise depth s t h)
 
-    used_both : (frame : Frame) (depth : ℕ) (u u' : Use) (s t : Store) (inputs inputs' : List Input) (c c' : Course)
+    used_both : (position : Position) (depth : ℕ) (u u' : Use) (s t : Store) (inputs inputs' : List Input) (c c' : Course)
         → AgreeingUses w u u' → AgreeingStores Free w s t → Pairwise (AgreeingInputs w) inputs inputs'
-        → AgreeingCourses Free w c c' → AgreeingCourses Free w (used go setup frame depth u s inputs c)
-        (used go' other frame depth u' t inputs' c')
-    used_both frame depth u u' s t inputs inputs' c c' (gives r a) h i k =
-        resumed_both frame depth inputs inputs' _ _ i
+        → AgreeingCourses Free w c c' → AgreeingCourses Free w (after_answer go setup position depth u s inputs c)
+        (after_answer go' other position depth u' t inputs' c')
+    used_both position depth u u' s t inputs inputs' c c' (gives r a) h i k =
+        resumed_both position depth inputs inputs' _ _ i
         (push_value_both Free setup limits premise _ _ _ _ a (changed h r both_pushed))
-    used_both frame depth u u' s t inputs inputs' c c' (calls {text = callee}) h i k = called_both frame depth callee
+    used_both position depth u u' s t inputs inputs' c c' (calls {text = callee}) h i k = called_both position depth callee
         callee.bytes s t inputs inputs' h i
-    used_both frame depth u u' s t inputs inputs' c c' denies h i k = ended_both Free w _ _ fail_both
-    used_both frame depth u u' s t inputs inputs' c c' misfits h i k = k
+    used_both position depth u u' s t inputs inputs' c c' denies h i k = ended_both Free w _ _ fail_both
+    used_both position depth u u' s t inputs inputs' c c' misfits h i k = k
 
-    asked_both : (frame : Frame) (depth : ℕ) (request : Request) (waiting : Waiting) (s t : Store)
+    asked_both : (position : Position) (depth : ℕ) (request : Request) (waiting : Waiting) (s t : Store)
         (inputs inputs' : List Input) → AgreeingStores Free w s t → Pairwise (AgreeingInputs w) inputs inputs'
-        → AgreeingCourses Free w (asked go setup frame depth request waiting s inputs)
-        (asked go' other frame depth request waiting t inputs')
-    asked_both frame depth request waiting s t inputs inputs' h none = ended_both Free w _ _ ask_both
-    asked_both frame depth request waiting s t inputs inputs' h (more {x = x} {y = y} a i) =
-        used_both frame depth _ _ _ _ _ _ _ _
+        → AgreeingCourses Free w (await_answer go setup position depth request waiting s inputs)
+        (await_answer go' other position depth request waiting t inputs')
+    asked_both position depth request waiting s t inputs inputs' h none = ended_both Free w _ _ ask_both
+    asked_both position depth request waiting s t inputs inputs' h (more {x = x} {y = y} a i) =
+        used_both position depth _ _ _ _ _ _ _ _
         (use_both w width waiting x.answer y.answer s.values t.values a.answer h.values)
         (with_input_both x y s t a h) i (ended_both Free w _ _ ask_both)
 
     led_both : (text : Text) (depth place : ℕ) (inputs inputs' : List Input) (n n' : Next)
         → Pairwise (AgreeingInputs w) inputs inputs' → AgreeingNexts Free w n n'
-        → AgreeingCourses Free w (led go setup text depth place inputs n) (led go' other text depth place inputs' n')
+        → AgreeingCourses Free w (after_operation go setup text depth place inputs n) (after_operation go' other text depth place inputs' n')
     led_both text depth place inputs inputs' n n' i (goes_on h) = H text _ depth _ _ inputs inputs' h i
     led_both text depth place inputs inputs' n n' i (stops h) =
         asking_both Free w _ _ _ (asked_both (record { text = text; place = place }) depth _ _ _ _ inputs inputs' h i)
@@ -154,7 +154,7 @@ module _ (Free : Type 0) (setup : Setup) (limits : Limits) (premise : Free ⊎ (
 
     does_both : (text : Text) (depth : ℕ) (s t : Store) (inputs inputs' : List Input)
         (r : Result (Operation × List ℕ) Fault) → AgreeingStores Free w s t → Pairwise (AgreeingInputs w) inputs inputs'
-        → AgreeingCourses Free w (does go setup text depth s inputs r) (does go' other text depth t inputs' r)
+        → AgreeingCourses Free w (do_operation go setup text depth s inputs r) (do_operation go' other text depth t inputs' r)
     does_both text depth s t inputs inputs' (Ok x) h i =
         led_both text depth _ inputs inputs' _ _ i
         (done_both Free setup limits premise _ (length text.bytes) _ _ s t
@@ -179,7 +179,7 @@ module _ (Free : Type 0) (setup : Setup) (limits : Limits) (premise : Free ⊎ (
 
     counts_both : (text : Text) (place depth : ℕ) (s t : Store) (inputs inputs' : List Input)
         → AgreeingStores Free w s t → Pairwise (AgreeingInputs w) inputs inputs'
-        → AgreeingCourses Free w (counts go setup text place depth s inputs) (counts go' other text place depth t inputs')
+        → AgreeingCourses Free w (turn_counted go setup text place depth s inputs) (turn_counted go' other text place depth t inputs')
     counts_both text place depth s t inputs inputs' h i =
         choose_pair (AgreeingCourses Free w) (can_count s) (can_count t) _ _ _ _ (same_can s t h)
         (passing_both Free w (record { text = text; place = place }) _ _
@@ -189,11 +189,11 @@ module _ (Free : Type 0) (setup : Setup) (limits : Limits) (premise : Free ⊎ (
     held_both : (text : Text) (depth : ℕ) (location location' : Location) (s t : Store) (inputs inputs' : List Input)
         (r : Result (Operation × List ℕ) Fault) → AgreeingLocations w location location' → AgreeingStores Free w s t
         → Pairwise (AgreeingInputs w) inputs inputs'
-        → AgreeingCourses Free w (held go setup text depth location s inputs r)
-        (held go' other text depth location' t inputs' r)
+        → AgreeingCourses Free w (turn_located go setup text depth location s inputs r)
+        (turn_located go' other text depth location' t inputs' r)
     held_both text depth location location' s t inputs inputs' (Ok x) l h i =
         led_both text depth _ inputs inputs' _ _ i
-        (holds_both Free setup limits premise location location' _ s t (piece_of x.0) l h)
+        (holds_both Free setup limits premise location location' _ s t (piece_ended_by x.0) l h)
     held_both text depth location location' s t inputs inputs' (Err fault) l h i = ended_both Free w _ _ fail_both
 
     by_both : (text : Text) (place depth : ℕ) (s t : Store) (inputs inputs' : List Input) (l m : Last)

@@ -6,10 +6,10 @@ use Rattle.dwarf_value.specs.declared.types.Value.{Value}
 use Rattle.dwarf_meaning.specs.Operations.{Operation, Text}
 use Rattle.dwarf_meaning.specs.Locations.{Location, Piece}
 use Rattle.dwarf_meaning.specs.Requests.{Request, Waiting, Input}
-use Rattle.dwarf_meaning.specs.Acts.{on_top, Act, Pushes, Branches, Locates, Ends, Asks, Refuses, Use, Gives, Calls, Denies, Misfits, use_of}
-use Rattle.dwarf_meaning.specs.Stores.{Setup, address_bits, Store, Last, Nothing, Plain, Pieced, Pushed, Called, Located, Refusal, Never, push_value, push_piece, push_frame, push_values, Next, Goes, Stops, Fails, goes, done}
-use Rattle.dwarf_meaning.specs.Run.{Frame, End, Finished, Asking, Failed, Course, ended, passing, asking, joined, Continues, back, resumed, entered, called, used, with_input, asked, led, read, can_count, counted, does, counts, piece_of, holds, held, turn_by, turn, out_of_turns, run_for, enough}
-use Rattle.dwarf_meaning.specs.Meaning.{Outcome, Faults, completed, finish_located, finish_value, finish_judged, finish_free, finish_by, unwound, First, fresh, with_initial, course_from, meaning}
+use Rattle.dwarf_meaning.specs.Acts.{on_top, Act, Pushes, Branches, Locates, EndsPiece, RequestAct, FaultAct, Use, PushesAnswer, Calls, FaultUse, WrongKind, use_of}
+use Rattle.dwarf_meaning.specs.Stores.{Setup, address_bits, Store, Last, Nothing, Plain, Pieced, Pushed, Called, Located, Refusal, Never, push_value, push_piece, push_caller, push_values, Next, Goes, RequestNext, FaultNext, goes, done}
+use Rattle.dwarf_meaning.specs.Run.{Position, End, CompleteEnd, RequestEnd, FaultEnd, Course, only_end, add_to_path, add_request, append_course, Continues, return_to_caller, after_push, enter_callee, run_callee, after_answer, with_input, await_answer, after_operation, read, can_count, counted, do_operation, turn_counted, piece_ended_by, end_located, turn_located, turn_by, turn, out_of_turns, run_for, enough}
+use Rattle.dwarf_meaning.specs.Meaning.{Outcome, FaultOutcome, completion_of, finish_located, finish_value, finish_judged, finish_free, finish_by, unwound, First, fresh, with_initial, course_from, meaning}
 use Rattle.dwarf_laws.proofs.Pairs.{choose_pair}
 use Rattle.dwarf_laws.proofs.Holdings.{IsRoom, is_left, is_full, spent_is}
 use Rattle.dwarf_laws.proofs.Calm.{free, calm}
@@ -23,9 +23,9 @@ data CalmResults : Result Store Fault → Result Store Fault → Type 0 where
 data CalmNexts : Next → Next → Type 0 where
   goes_on : {place : ℕ} {s : Store} → CalmNexts (Goes place s) (Goes place (calm s))
   stops : {request : Request} {waiting : Waiting} {s : Store}
-      → CalmNexts (Stops request waiting s) (Stops request waiting (calm s))
-  fails : {fault : Fault} → CalmNexts (Fails fault) (Fails fault)
-  no_next : {next : Next} → CalmNexts (Fails StackFull) next
+      → CalmNexts (RequestNext request waiting s) (RequestNext request waiting (calm s))
+  fails : {fault : Fault} → CalmNexts (FaultNext fault) (FaultNext fault)
+  no_next : {next : Next} → CalmNexts (FaultNext StackFull) next
 
 by_room : (make : Refusal → Store) (t : Store) → ((left : Refusal) → calm (make left) ≡ t) → (r : Result Refusal Fault) → IsRoom r
     → CalmResults (r >>= λ left. Ok (make left)) (Ok t)
@@ -45,33 +45,33 @@ goes_calm place r r' no_stores = no_next
 -- ---- courses
 
 data CalmEnds : End → End → Type 0 where
-  finish_calm : {s : Store} {inputs : List Input} → CalmEnds (Finished s inputs) (Finished (calm s) inputs)
-  ask_calm : {request : Request} {frames : List Frame} {inputs : List Input}
-      → CalmEnds (Asking request frames inputs) (Asking request frames inputs)
-  fail_calm : {fault : Fault} → CalmEnds (Failed fault) (Failed fault)
+  finish_calm : {s : Store} {inputs : List Input} → CalmEnds (CompleteEnd s inputs) (CompleteEnd (calm s) inputs)
+  ask_calm : {request : Request} {positions : List Position} {inputs : List Input}
+      → CalmEnds (RequestEnd request positions inputs) (RequestEnd request positions inputs)
+  fail_calm : {fault : Fault} → CalmEnds (FaultEnd fault) (FaultEnd fault)
 
 -- the same but for what is left of the refusal, or a push was refused
 data Calms : Course → Course → Type 0 where
   calms : {c c' : Course} → c.path ≡ c'.path → c.requests ≡ c'.requests → CalmEnds c.end c'.end → Calms c c'
-  full : {c c' : Course} → c.end ≡ Failed StackFull → Calms c c'
+  full : {c c' : Course} → c.end ≡ FaultEnd StackFull → Calms c c'
 
 abbrev GoCalm : Continues → Continues → Type 0
 GoCalm go go' =
     (text : Text) (place depth : ℕ) (s : Store) (inputs : List Input)
     → Calms (go text place depth s inputs) (go' text place depth (calm s) inputs)
 
-ended_calm : (e e' : End) → CalmEnds e e' → Calms (ended e) (ended e')
+ended_calm : (e e' : End) → CalmEnds e e' → Calms (only_end e) (only_end e')
 ended_calm e e' h = calms refl refl h
 
-passing_calm : (frame : Frame) (c c' : Course) → Calms c c' → Calms (passing frame c) (passing frame c')
-passing_calm frame c c' (calms p q h) = calms (ap (λ (l : List Frame). frame ∷ l) p) q h
-passing_calm frame c c' (full e) = full e
+passing_calm : (position : Position) (c c' : Course) → Calms c c' → Calms (add_to_path position c) (add_to_path position c')
+passing_calm position c c' (calms p q h) = calms (ap (λ (l : List Position). position ∷ l) p) q h
+passing_calm position c c' (full e) = full e
 
-asking_calm : (request : Request) (c c' : Course) → Calms c c' → Calms (asking request c) (asking request c')
+asking_calm : (request : Request) (c c' : Course) → Calms c c' → Calms (add_request request c) (add_request request c')
 asking_calm request c c' (calms p q h) = calms p (ap (λ (l : List Request). request ∷ l) q) h
 asking_calm request c c' (full e) = full e
 
-joined_calm : (c c' d d' : Course) → c.path ≡ c'.path → c.requests ≡ c'.requests → Calms d d' → Calms (joined c d) (joined c' d')
+joined_calm : (c c' d d' : Course) → c.path ≡ c'.path → c.requests ≡ c'.requests → Calms d d' → Calms (append_course c d) (append_course c' d')
 joined_calm c c' d d' p q (calms p' q' h) = calms (cc) (cc) h
 joined_calm c c' d d' p q (full e) = full e
 
@@ -91,8 +91,8 @@ module _ (encoding : Encoding) (bits : ℕ) where
       by_room (λ left. record s { pieces = s.pieces ++ p ∷ []; refusal = left })
       (record s { pieces = s.pieces ++ p ∷ []; refusal = Never }) (λ left. refl) _ (spent_is s.refusal)
 
-  frame_calm : (depth : ℕ) (s : Store) → CalmResults (push_frame S depth s) (push_frame S depth (calm s))
-  unfolding push_frame
+  frame_calm : (depth : ℕ) (s : Store) → CalmResults (push_caller S depth s) (push_caller S depth (calm s))
+  unfolding push_caller
   frame_calm depth s =
       by_room (λ left. record s { refusal = left }) (record s { refusal = Never }) (λ left. refl) _ (spent_is s.refusal)
 
@@ -105,64 +105,64 @@ module _ (encoding : Encoding) (bits : ℕ) where
   done_calm place len (Pushes rest pushed) s = goes_calm place _ _ (values_calm pushed (record s { values = rest; last = Plain }))
   done_calm place len (Branches rest target) s = choose_pair CalmNexts _ _ _ _ _ _ refl fails goes_on
   done_calm place len (Locates rest location) s = goes_on
-  done_calm place len (Ends rest piece) s = goes_calm place _ _ (piece_calm piece (record s { values = rest; last = Pieced }))
-  done_calm place len (Asks rest request waiting) s = stops
-  done_calm place len (Refuses fault) s = fails
+  done_calm place len (EndsPiece rest piece) s = goes_calm place _ _ (piece_calm piece (record s { values = rest; last = Pieced }))
+  done_calm place len (RequestAct rest request waiting) s = stops
+  done_calm place len (FaultAct fault) s = fails
 
   holds_calm : (location : Location) (place : ℕ) (s : Store) (o : Option (ℕ × Option ℕ))
-      → CalmNexts (holds S location place s o) (holds S location place (calm s) o)
+      → CalmNexts (end_located S location place s o) (end_located S location place (calm s) o)
   holds_calm location place s (Some piece) =
       goes_calm place _ _ (piece_calm (record
       { size_in_bits = Some piece.0; bit_offset = piece.1; location = location }) (record s { last = Pieced }))
   holds_calm location place s None = fails
 
   module _ (go go' : Continues) (H : GoCalm go go') where
-    back_ends : (frame : Frame) (depth : ℕ) (c c' : Course) (e e' : End) → c.path ≡ c'.path → c.requests ≡ c'.requests
+    back_ends : (position : Position) (depth : ℕ) (c c' : Course) (e e' : End) → c.path ≡ c'.path → c.requests ≡ c'.requests
         → CalmEnds e e'
-        → Calms (back go frame depth c e) (back go' frame depth c' e')
-    back_ends frame depth c c' e e' p q (finish_calm {s = s} {inputs = inputs}) = joined_calm c c' _ _ p q
-        (H frame.text frame.place depth s inputs)
-    back_ends frame depth c c' e e' p q ask_calm = calms p q ask_calm
-    back_ends frame depth c c' e e' p q fail_calm = calms p q fail_calm
+        → Calms (return_to_caller go position depth c e) (return_to_caller go' position depth c' e')
+    back_ends position depth c c' e e' p q (finish_calm {s = s} {inputs = inputs}) = joined_calm c c' _ _ p q
+        (H position.text position.place depth s inputs)
+    back_ends position depth c c' e e' p q ask_calm = calms p q ask_calm
+    back_ends position depth c c' e e' p q fail_calm = calms p q fail_calm
 
-    back_calm : (frame : Frame) (depth : ℕ) (c c' : Course) → Calms c c'
-        → Calms (back go frame depth c c.end) (back go' frame depth c' c'.end)
-    back_calm frame depth c c' (calms p q h) = back_ends frame depth c c' c.end c'.end p q h
-    back_calm frame depth c c' (full e) = full (ap (λ (end : End). (back go frame depth c end).end) e)
+    back_calm : (position : Position) (depth : ℕ) (c c' : Course) → Calms c c'
+        → Calms (return_to_caller go position depth c c.end) (return_to_caller go' position depth c' c'.end)
+    back_calm position depth c c' (calms p q h) = back_ends position depth c c' c.end c'.end p q h
+    back_calm position depth c c' (full e) = full (ap (λ (end : End). (return_to_caller go position depth c end).end) e)
 
-    resumed_calm : (frame : Frame) (depth : ℕ) (inputs : List Input) (r r' : Result Store Fault) → CalmResults r r'
-        → Calms (resumed go frame depth inputs r) (resumed go' frame depth inputs r')
-    resumed_calm frame depth inputs r r' (stores {s = s}) = H frame.text frame.place depth s inputs
-    resumed_calm frame depth inputs r r' no_stores = full refl
+    resumed_calm : (position : Position) (depth : ℕ) (inputs : List Input) (r r' : Result Store Fault) → CalmResults r r'
+        → Calms (after_push go position depth inputs r) (after_push go' position depth inputs r')
+    resumed_calm position depth inputs r r' (stores {s = s}) = H position.text position.place depth s inputs
+    resumed_calm position depth inputs r r' no_stores = full refl
 
-    entered_calm : (frame : Frame) (depth : ℕ) (callee : Text) (inputs : List Input) (r r' : Result Store Fault)
+    entered_calm : (position : Position) (depth : ℕ) (callee : Text) (inputs : List Input) (r r' : Result Store Fault)
         → CalmResults r r'
-        → Calms (entered go frame depth callee inputs r) (entered go' frame depth callee inputs r')
-    entered_calm frame depth callee inputs r r' (stores {s = s}) = back_calm frame depth _ _ (H callee 0 (suc depth) s inputs)
-    entered_calm frame depth callee inputs r r' no_stores = full refl
+        → Calms (enter_callee go position depth callee inputs r) (enter_callee go' position depth callee inputs r')
+    entered_calm position depth callee inputs r r' (stores {s = s}) = back_calm position depth _ _ (H callee 0 (suc depth) s inputs)
+    entered_calm position depth callee inputs r r' no_stores = full refl
 
-    called_calm : (frame : Frame) (depth : ℕ) (callee : Text) (bytes : List ℕ) (s : Store) (inputs : List Input)
-        → Calms (called go S frame depth callee bytes s inputs) (called go' S frame depth callee bytes (calm s) inputs)
-    called_calm frame depth callee [] s inputs = H frame.text frame.place depth (record s { last = Called }) inputs
-    called_calm frame depth callee (byte ∷ bytes) s inputs = entered_calm frame depth callee inputs _ _ (frame_calm depth s)
+    called_calm : (position : Position) (depth : ℕ) (callee : Text) (bytes : List ℕ) (s : Store) (inputs : List Input)
+        → Calms (run_callee go S position depth callee bytes s inputs) (run_callee go' S position depth callee bytes (calm s) inputs)
+    called_calm position depth callee [] s inputs = H position.text position.place depth (record s { last = Called }) inputs
+    called_calm position depth callee (byte ∷ bytes) s inputs = entered_calm position depth callee inputs _ _ (frame_calm depth s)
 
-    used_calm : (frame : Frame) (depth : ℕ) (u : Use) (s : Store) (inputs : List Input) (c : Course) → Calms c c
-        → Calms (used go S frame depth u s inputs c) (used go' S frame depth u (calm s) inputs c)
-    used_calm frame depth (Gives rest value) s inputs c k =
-        resumed_calm frame depth inputs _ _ (value_calm value (record s { values = rest; last = Pushed }))
-    used_calm frame depth (Calls callee) s inputs c k = called_calm frame depth callee callee.bytes s inputs
-    used_calm frame depth (Denies fault) s inputs c k = ended_calm _ _ fail_calm
-    used_calm frame depth Misfits s inputs c k = k
+    used_calm : (position : Position) (depth : ℕ) (u : Use) (s : Store) (inputs : List Input) (c : Course) → Calms c c
+        → Calms (after_answer go S position depth u s inputs c) (after_answer go' S position depth u (calm s) inputs c)
+    used_calm position depth (PushesAnswer rest value) s inputs c k =
+        resumed_calm position depth inputs _ _ (value_calm value (record s { values = rest; last = Pushed }))
+    used_calm position depth (Calls callee) s inputs c k = called_calm position depth callee callee.bytes s inputs
+    used_calm position depth (FaultUse fault) s inputs c k = ended_calm _ _ fail_calm
+    used_calm position depth WrongKind s inputs c k = k
 
-    asked_calm : (frame : Frame) (depth : ℕ) (request : Request) (waiting : Waiting) (s : Store) (inputs : List Input)
-        → Calms (asked go S frame depth request waiting s inputs) (asked go' S frame depth request waiting (calm s) inputs)
-    asked_calm frame depth request waiting s [] = ended_calm _ _ ask_calm
-    asked_calm frame depth request waiting s (input ∷ inputs) =
-        used_calm frame depth (use_of (address_bits S) waiting input.answer s.values) (with_input input s) inputs _
+    asked_calm : (position : Position) (depth : ℕ) (request : Request) (waiting : Waiting) (s : Store) (inputs : List Input)
+        → Calms (await_answer go S position depth request waiting s inputs) (await_answer go' S position depth request waiting (calm s) inputs)
+    asked_calm position depth request waiting s [] = ended_calm _ _ ask_calm
+    asked_calm position depth request waiting s (input ∷ inputs) =
+        used_calm position depth (use_of (address_bits S) waiting input.answer s.values) (with_input input s) inputs _
         (ended_calm _ _ ask_calm)
 
     led_calm : (text : Text) (depth place : ℕ) (inputs : List Input) (n n' : Next) → CalmNexts n n'
-        → Calms (led go S text depth place inputs n) (led go' S text depth place inputs n')
+        → Calms (after_operation go S text depth place inputs n) (after_operation go' S text depth place inputs n')
     led_calm text depth place inputs n n' (goes_on {place = to} {s = s}) = H text to depth s inputs
     led_calm text depth place inputs n n' (stops {request = request} {waiting = waiting} {s = s}) =
         asking_calm request _ _ (asked_calm (record { text = text; place = place }) depth request waiting s inputs)
@@ -170,12 +170,12 @@ module _ (encoding : Encoding) (bits : ℕ) where
     led_calm text depth place inputs n n' no_next = full refl
 
     does_calm : (text : Text) (depth : ℕ) (s : Store) (inputs : List Input) (r : Result (Operation × List ℕ) Fault)
-        → Calms (does go S text depth s inputs r) (does go' S text depth (calm s) inputs r)
+        → Calms (do_operation go S text depth s inputs r) (do_operation go' S text depth (calm s) inputs r)
     does_calm text depth s inputs (Ok x) = led_calm text depth _ inputs _ _ (done_calm _ (length text.bytes) _ s)
     does_calm text depth s inputs (Err fault) = ended_calm _ _ fail_calm
 
     counts_calm : (text : Text) (place depth : ℕ) (s : Store) (inputs : List Input)
-        → Calms (counts go S text place depth s inputs) (counts go' S text place depth (calm s) inputs)
+        → Calms (turn_counted go S text place depth s inputs) (turn_counted go' S text place depth (calm s) inputs)
     counts_calm text place depth s inputs =
         choose_pair Calms (can_count s) (can_count s) _ _ _ _ refl
         (passing_calm (record { text = text; place = place }) _ _
@@ -183,8 +183,8 @@ module _ (encoding : Encoding) (bits : ℕ) where
 
     held_calm : (text : Text) (depth : ℕ) (location : Location) (s : Store) (inputs : List Input)
         (r : Result (Operation × List ℕ) Fault)
-        → Calms (held go S text depth location s inputs r) (held go' S text depth location (calm s) inputs r)
-    held_calm text depth location s inputs (Ok x) = led_calm text depth _ inputs _ _ (holds_calm location _ s (piece_of x.0))
+        → Calms (turn_located go S text depth location s inputs r) (turn_located go' S text depth location (calm s) inputs r)
+    held_calm text depth location s inputs (Ok x) = led_calm text depth _ inputs _ _ (holds_calm location _ s (piece_ended_by x.0))
     held_calm text depth location s inputs (Err fault) = ended_calm _ _ fail_calm
 
     by_calm : (text : Text) (place depth : ℕ) (s : Store) (inputs : List Input) (l : Last)
@@ -209,10 +209,10 @@ module _ (encoding : Encoding) (bits : ℕ) where
 
   -- a push was refused, or they are the same
   abbrev CalmOutcomes : Outcome → Outcome → Type 0
-  CalmOutcomes o o' = (o ≡ Faults StackFull) ⊎ (o ≡ o')
+  CalmOutcomes o o' = (o ≡ FaultOutcome StackFull) ⊎ (o ≡ o')
 
   completed_calm : (value : Option Value) (r r' : Result Store Fault) → CalmResults r r'
-      → CalmOutcomes (completed value r) (completed value r')
+      → CalmOutcomes (completion_of value r) (completion_of value r')
   completed_calm value r r' stores = inr refl
   completed_calm value r r' no_stores = inl refl
 
@@ -265,7 +265,7 @@ module _ (encoding : Encoding) (bits : ℕ) where
 
   -- a push was refused, or it is what comes of it without a refusal
   pub meaning_calm : (refusal : Refusal) (text : Text) (first : First) (inputs : List Input)
-      → (meaning S refusal text first inputs ≡ Faults StackFull) ⊎ (meaning S refusal text first inputs ≡ meaning S
+      → (meaning S refusal text first inputs ≡ FaultOutcome StackFull) ⊎ (meaning S refusal text first inputs ≡ meaning S
       Never text first inputs)
   unfolding meaning
   meaning_calm refusal text first inputs =

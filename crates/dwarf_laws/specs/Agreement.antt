@@ -7,8 +7,8 @@ use Rattle.dwarf_value.specs.Values.{Agree}
 use Rattle.dwarf_meaning.specs.Operations.{Text}
 use Rattle.dwarf_meaning.specs.Locations.{Location, HoldsValue, Piece}
 use Rattle.dwarf_meaning.specs.Requests.{Request, Answer, MemoryAnswer, RegisterAnswer, WasmAnswer, EntryAnswer, FrameBaseAnswer, TlsAnswer, CfaAnswer, ParameterAnswer, RelocatedAnswer, IndexedAnswer, LocationAnswer, BaseTypeAnswer, Input}
-use Rattle.dwarf_meaning.specs.Run.{Frame}
-use Rattle.dwarf_meaning.specs.Meaning.{Outcome, Requests, Faults, Completes, First}
+use Rattle.dwarf_meaning.specs.Run.{Position}
+use Rattle.dwarf_meaning.specs.Meaning.{Outcome, RequestOutcome, FaultOutcome, CompleteOutcome, First}
 use Rattle.dwarf_meaning.specs.Steps.{Step, InitialValue, ObjectAddress, MaxIterations, Evaluate, Resume, Told}
 
 -- two lists of one length, related item by item
@@ -83,9 +83,9 @@ pub record AgreeingPieces (w : ℕ) (first second : Piece) : Type 0 where
 
 -- the same request with the same open texts and places, the same fault, or pieces and values that agree
 pub data AgreeingOutcomes (w : ℕ) : Outcome → Outcome → Type 0 where
-  requests : {request : Request} {frames : List Frame}
-      → AgreeingOutcomes w (Requests request frames) (Requests request frames)
-  faults : {fault : Fault} → AgreeingOutcomes w (Faults fault) (Faults fault)
+  requests : {request : Request} {positions : List Position}
+      → AgreeingOutcomes w (RequestOutcome request positions) (RequestOutcome request positions)
+  faults : {fault : Fault} → AgreeingOutcomes w (FaultOutcome fault) (FaultOutcome fault)
   completions : {pieces others : List Piece} {value other : Option Value}
       → Pairwise (AgreeingPieces w) pieces others → Both (Agree w) value other
-      → AgreeingOutcomes w (Completes pieces value) (Completes others other)
+      → AgreeingOutcomes w (CompleteOutcome pieces value) (CompleteOutcome others other)

@@ -9,8 +9,8 @@ use Rattle.dwarf_meaning.specs.Branches.{AreBytes}
 use Rattle.dwarf_meaning.specs.Locations.{Piece}
 use Rattle.dwarf_meaning.specs.Requests.{Request, RequiresAtLocation, LocationAnswer, Input}
 use Rattle.dwarf_meaning.specs.Stores.{Setup, Never}
-use Rattle.dwarf_meaning.specs.Run.{Frame, Asking}
-use Rattle.dwarf_meaning.specs.Meaning.{Outcome, Requests, Faults, Completes, First, course_of, meaning}
+use Rattle.dwarf_meaning.specs.Run.{Position, RequestEnd}
+use Rattle.dwarf_meaning.specs.Meaning.{Outcome, RequestOutcome, FaultOutcome, CompleteOutcome, First, course_of, meaning}
 
 -- ---- the texts
 
@@ -35,7 +35,7 @@ abbrev pub inlined : CallSite → Text
 inlined site = record { bytes = site.before ++ (site.callee ++ site.behind); is_big = site.is_big }
 
 -- the outer text, at the place behind the call
-abbrev pub behind_call : CallSite → Frame
+abbrev pub behind_call : CallSite → Position
 behind_call site = record { text = outer site; place = length site.before + length site.call }
 
 -- ---- the inputs
@@ -64,7 +64,7 @@ with_answer site first earlier later = earlier ++ (answered site (in_force first
 -- no list has a limit
 pub record HasNoLimits (setup : Setup) : Type 0 where
   pub values : setup.limits.values ≡ None
-  pub frames : setup.limits.frames ≡ None
+  pub callers : setup.limits.callers ≡ None
   pub pieces : setup.limits.pieces ≡ None
 
 -- it is no branch
@@ -97,7 +97,7 @@ pub record IsInlinable (setup : Setup) (site : CallSite) : Type 0 where
 -- The earlier inputs, all of them, lead to the call, in the outer text alone; `requests` were asked before it.
 pub record LeadsToCall (setup : Setup) (site : CallSite) (offset : DieReference) (first : First)
     (earlier : List Input) (requests : List Request) : Type 0 where
-  pub end : (course_of setup Never (outer site) first earlier).end ≡ Asking (RequiresAtLocation offset) (behind_call site ∷ []) []
+  pub end : (course_of setup Never (outer site) first earlier).end ≡ RequestEnd (RequiresAtLocation offset) (behind_call site ∷ []) []
   pub asked : (course_of setup Never (outer site) first earlier).requests ≡ requests ++ (RequiresAtLocation offset ∷ [])
 
 -- ---- what is said
@@ -105,8 +105,8 @@ pub record LeadsToCall (setup : Setup) (site : CallSite) (offset : DieReference)
 -- the same pieces and value, or the same open request
 pub data EndAlike : Outcome → Outcome → Type 0 where
   completions : {pieces : List Piece} {value : Option Value}
-      → EndAlike (Completes pieces value) (Completes pieces value)
-  requests : {request : Request} {frames others : List Frame} → EndAlike (Requests request frames) (Requests request others)
+      → EndAlike (CompleteOutcome pieces value) (CompleteOutcome pieces value)
+  requests : {request : Request} {positions others : List Position} → EndAlike (RequestOutcome request positions) (RequestOutcome request others)
 
 -- the same requests in the same order, but for this one, which comes behind the earlier ones
 pub record LacksOne (request : Request) (earlier whole lacking : List Request) : Type 0 where
@@ -130,5 +130,5 @@ Inlining =
     (requests : List Request)
     → HasNoLimits setup → StandsIn setup site offset → IsInlinable setup site
     → LeadsToCall setup site offset first earlier requests
-    → ((fault : Fault) → meaning setup Never (outer site) first (with_answer site first earlier later) ≢ Faults fault)
+    → ((fault : Fault) → meaning setup Never (outer site) first (with_answer site first earlier later) ≢ FaultOutcome fault)
     → IsInlined setup site offset first earlier later requests

@@ -4,8 +4,8 @@ use Rattle.dwarf_base.specs.Faults.{Fault}
 use Rattle.dwarf_meaning.specs.Operations.{UnitRef}
 use Rattle.dwarf_meaning.specs.Requests.{Request, RequiresAtLocation, Answer, Input}
 use Rattle.dwarf_meaning.specs.Stores.{Setup, Refusal, Never}
-use Rattle.dwarf_meaning.specs.Meaning.{Outcome, Faults, First, course_of, meaning}
-use Rattle.dwarf_meaning.specs.Steps.{Step, Evaluate, Resume, outcome_of, AllAllowed, after_steps, Reply, answers}
+use Rattle.dwarf_meaning.specs.Meaning.{Outcome, FaultOutcome, First, course_of, meaning}
+use Rattle.dwarf_meaning.specs.Steps.{Step, Evaluate, Resume, outcome_of, AllAllowed, after_steps, Reply, replies_of}
 use Rattle.dwarf_meaning.specs.Rows.{text, plain, unset}
 use Rattle.dwarf_laws.specs.Agreement.{Pairwise, AgreeingSteps, AgreeingOutcomes}
 use Rattle.dwarf_laws.specs.TwoRuns.{untold}
@@ -17,17 +17,17 @@ resumes [] = []
 resumes (answer ∷ answers) = Resume answer ∷ resumes answers
 
 -- an evaluation is started, and then these answers are given
-abbrev pub started : List Answer → List Step
-started answers = Evaluate ∷ resumes answers
+abbrev pub started_steps : List Answer → List Step
+started_steps answers = Evaluate ∷ resumes answers
 
--- Steps from the beginning, each of them allowed: what they answer, and what comes of them.
+-- Steps from the beginning, each of them allowed: the replies to them, and what comes of them.
 pub record ComeTo (setup : Setup) (bytes : List ℕ) (steps : List Step) (replied : List Reply)
     (outcome : Outcome) : Type 0 where
   pub allowed : AllAllowed setup Never (text bytes) untold steps
-  pub replies : answers setup Never (text bytes) untold steps ≡ replied
+  pub replies : replies_of setup Never (text bytes) untold steps ≡ replied
   pub comes : outcome_of setup Never (text bytes) (after_steps setup Never (text bytes) untold steps) ≡ Some outcome
 
--- Two runs by agreeing steps, for addresses of 4 bytes: the same answers, and what comes of each.
+-- Two runs by agreeing steps, for addresses of 4 bytes: the same replies, and what comes of each.
 pub record ComeAlike (setup : Setup) (bytes : List ℕ) (steps others : List Step) (replied : List Reply)
     (outcome other : Outcome) : Type 0 where
   pub agree : Pairwise (AgreeingSteps 32) steps others
@@ -37,8 +37,8 @@ pub record ComeAlike (setup : Setup) (bytes : List ℕ) (steps others : List Ste
 -- ---- called texts
 
 -- the call of the entry at offset 5, between other bytes, and the bytes that it is answered by
-abbrev pub calling : (before behind callee : List ℕ) → CallSite
-calling before behind callee =
+abbrev pub call_site : (before behind callee : List ℕ) → CallSite
+call_site before behind callee =
     record { before = before; call = 0x98 ∷ 0x05 ∷ 0x00 ∷ []; behind = behind; callee = callee; is_big = false }
 
 -- Every premise of the law holds, with nothing set; what comes of both texts; and what they ask, before the call and
@@ -50,7 +50,7 @@ pub record IsWorked (site : CallSite) (earlier later : List Input) (before behin
   pub inlinable : IsInlinable plain site
   pub leads : LeadsToCall plain site (UnitRef 5) unset earlier before
   pub faultless : (fault : Fault)
-      → meaning plain Never (outer site) unset (with_answer site unset earlier later) ≢ Faults fault
+      → meaning plain Never (outer site) unset (with_answer site unset earlier later) ≢ FaultOutcome fault
   pub outer_comes : meaning plain Never (outer site) unset (with_answer site unset earlier later) ≡ outcome
   pub inlined_comes : meaning plain Never (inlined site) unset (earlier ++ later) ≡ outcome
   pub outer_asks :

@@ -5,9 +5,9 @@ use Rattle.dwarf_value.specs.Laws.{IsWidth}
 use Rattle.dwarf_meaning.specs.Operations.{Text}
 use Rattle.dwarf_meaning.specs.Requests.{Input}
 use Rattle.dwarf_meaning.specs.Stores.{Limits, Setup, address_bits, Refusal}
-use Rattle.dwarf_meaning.specs.Run.{Frame}
+use Rattle.dwarf_meaning.specs.Run.{Position}
 use Rattle.dwarf_meaning.specs.Meaning.{First, course_of}
-use Rattle.dwarf_meaning.specs.Steps.{Step, Told, outcome_of, Allows, AllAllowed, after_steps, Reply, Faulted, replies, answers}
+use Rattle.dwarf_meaning.specs.Steps.{Step, Told, outcome_of, Allows, AllAllowed, after_steps, Reply, FaultReply, replies, replies_of}
 use Rattle.dwarf_laws.specs.Agreement.{Pairwise, Both, AgreeingSteps, AgreeingTold, AgreeingOutcomes}
 
 -- nothing is set, and nothing was started
@@ -22,20 +22,20 @@ untold =
 -- no push was refused
 abbrev pub NoneIsFull : List Reply → Type 0
 NoneIsFull [] = Unit {0}
-NoneIsFull (reply ∷ replies) = (reply ≢ Faulted StackFull) × NoneIsFull replies
+NoneIsFull (reply ∷ replies) = (reply ≢ FaultReply StackFull) × NoneIsFull replies
 
 -- where the operations stand that were counted so far
-abbrev pub path_from : Setup → Refusal → Text → List Input → Option First → List Frame
+abbrev pub path_from : Setup → Refusal → Text → List Input → Option First → List Position
 path_from setup refusal text inputs None = []
 path_from setup refusal text inputs (Some first) = (course_of setup refusal text first inputs).path
 
 -- the same of all that was told
-abbrev pub path_of : Setup → Refusal → Text → Told → List Frame
+abbrev pub path_of : Setup → Refusal → Text → Told → List Position
 path_of setup refusal text told = path_from setup refusal text told.inputs told.first
 
--- what came of all that was told before, once it was started, and what the steps answer
+-- what came of all that was told before, once it was started, and the replies to the steps
 abbrev pub all_replies : Setup → Refusal → Text → Told → List Step → List Reply
-all_replies setup refusal text told steps = replies (outcome_of setup refusal text told) ++ answers setup refusal text told steps
+all_replies setup refusal text told steps = replies (outcome_of setup refusal text told) ++ replies_of setup refusal text told steps
 
 -- Two evaluations of one text stand alike, by what each was told.
 pub record StandAlike (setup other : Setup) (refusal another : Refusal) (text : Text)
@@ -55,7 +55,7 @@ pub record AreAlike (setup other : Setup) (refusal another : Refusal) (text : Te
     (steps others : List Step) : Type 0 where
   pub allowed : AllAllowed setup refusal text told steps ↔ AllAllowed other another text second others
   -- requests and faults are the same, and come at the same steps
-  pub replies : answers setup refusal text told steps ≡ answers other another text second others
+  pub replies : replies_of setup refusal text told steps ≡ replies_of other another text second others
   pub stand : StandAlike setup other refusal another text
       (after_steps setup refusal text told steps) (after_steps other another text second others)
 

@@ -9,12 +9,12 @@ use Rattle.dwarf_value.specs.Values.{to_u64_of}
 use Rattle.dwarf_meaning.specs.Operations as operation
 use Rattle.dwarf_meaning.specs.Locations.{Empty, AtAddress, HoldsValue, Piece}
 use Rattle.dwarf_meaning.specs.Requests.{RequiresMemory, RequiresTls, Memory, Tls}
-use Rattle.dwarf_meaning.specs.Acts.{Act, Pushes, Branches, Locates, Ends, Asks, Refuses, choose, on_top, short, push, act}
+use Rattle.dwarf_meaning.specs.Acts.{Act, Pushes, Branches, Locates, EndsPiece, RequestAct, FaultAct, choose, on_top, short, push, act}
 use Rattle.dwarf_meaning.proofs.Choices.{choose_true, choose_false, top_none, top_some, some_none, some_some}
 
 module _ (bits : ℕ) (object : Option ℕ) (values : List Value) where
   -- an operation that pops at least one value, and finds none
-  pub none_drop : values ≡ [] → act bits object operation.Drop values ≡ Refuses NotEnoughStackItems
+  pub none_drop : values ≡ [] → act bits object operation.Drop values ≡ FaultAct NotEnoughStackItems
   unfolding act
   none_drop e = top_none values _ _ e
 
@@ -22,7 +22,7 @@ module _ (bits : ℕ) (object : Option ℕ) (values : List Value) where
   unfolding act
   some_drop x rest e = top_some values short (λ x rest. Pushes rest []) x rest e
 
-  pub none_pick : (index : ℕ) → slice_get values index ≡ None → act bits object (operation.Pick index) values ≡ Refuses NotEnoughStackItems
+  pub none_pick : (index : ℕ) → slice_get values index ≡ None → act bits object (operation.Pick index) values ≡ FaultAct NotEnoughStackItems
   unfolding act
   none_pick index e = some_none (slice_get values index) short (push values) e
 
@@ -30,11 +30,11 @@ module _ (bits : ℕ) (object : Option ℕ) (values : List Value) where
   unfolding act
   some_pick index x e = some_some (slice_get values index) short (push values) x e
 
-  pub none_swap : values ≡ [] → act bits object operation.Swap values ≡ Refuses NotEnoughStackItems
+  pub none_swap : values ≡ [] → act bits object operation.Swap values ≡ FaultAct NotEnoughStackItems
   unfolding act
   none_swap e = top_none values short (λ y below. on_top below short (λ x rest. Pushes rest (y ∷ x ∷ []))) e
 
-  pub one_swap : (y : Value) → values ≡ y ∷ [] → act bits object operation.Swap values ≡ Refuses NotEnoughStackItems
+  pub one_swap : (y : Value) → values ≡ y ∷ [] → act bits object operation.Swap values ≡ FaultAct NotEnoughStackItems
   unfolding act
   one_swap y e =
       top_some values short (λ y below. on_top below short (λ x rest. Pushes rest (y ∷ x ∷ []))) y [] e
@@ -53,15 +53,15 @@ module _ (bits : ℕ) (object : Option ℕ) (values : List Value) where
   abbrev third : Value → Value → List Value → Act
   third z y lower = on_top lower short (λ x rest. Pushes rest (z ∷ x ∷ y ∷ []))
 
-  pub none_rot : values ≡ [] → act bits object operation.Rot values ≡ Refuses NotEnoughStackItems
+  pub none_rot : values ≡ [] → act bits object operation.Rot values ≡ FaultAct NotEnoughStackItems
   unfolding act
   none_rot e = top_none values short (λ z below. on_top below short (third z)) e
 
-  pub one_rot : (z : Value) → values ≡ z ∷ [] → act bits object operation.Rot values ≡ Refuses NotEnoughStackItems
+  pub one_rot : (z : Value) → values ≡ z ∷ [] → act bits object operation.Rot values ≡ FaultAct NotEnoughStackItems
   unfolding act
   one_rot z e = top_some values short (λ z below. on_top below short (third z)) z [] e ∙ top_none [] short (third z) refl
 
-  pub two_rot : (z y : Value) → values ≡ z ∷ y ∷ [] → act bits object operation.Rot values ≡ Refuses NotEnoughStackItems
+  pub two_rot : (z y : Value) → values ≡ z ∷ y ∷ [] → act bits object operation.Rot values ≡ FaultAct NotEnoughStackItems
   unfolding act
   two_rot z y e =
       top_some values short (λ z below. on_top below short (third z)) z (y ∷ []) e
@@ -73,18 +73,18 @@ module _ (bits : ℕ) (object : Option ℕ) (values : List Value) where
       top_some values short (λ z below. on_top below short (third z)) z (y ∷ x ∷ rest) e
       ∙ (top_some (y ∷ x ∷ rest) short (third z) y (x ∷ rest) refl ∙ top_some (x ∷ rest) short (λ x rest. Pushes rest (z ∷ x ∷ y ∷ [])) x rest refl)
 
-  pub none_object : object ≡ None → act bits object operation.PushObjectAddress values ≡ Refuses InvalidPushObjectAddress
+  pub none_object : object ≡ None → act bits object operation.PushObjectAddress values ≡ FaultAct InvalidPushObjectAddress
   unfolding act
-  none_object e = some_none object (Refuses InvalidPushObjectAddress) (λ address. push values (Generic address)) e
+  none_object e = some_none object (FaultAct InvalidPushObjectAddress) (λ address. push values (Generic address)) e
 
   pub some_object : (address : ℕ) → object ≡ Some address → act bits object operation.PushObjectAddress values ≡ push values (Generic address)
   unfolding act
-  some_object address e = some_some object (Refuses InvalidPushObjectAddress) (λ address. push values (Generic address)) address e
+  some_object address e = some_some object (FaultAct InvalidPushObjectAddress) (λ address. push values (Generic address)) address e
 
   abbrev branches : ℤ → Value → List Value → Act
   branches target x rest = choose (to_u64_of bits x == 0) (Pushes rest []) (Branches rest target)
 
-  pub none_bra : (target : ℤ) → values ≡ [] → act bits object (operation.Bra target) values ≡ Refuses NotEnoughStackItems
+  pub none_bra : (target : ℤ) → values ≡ [] → act bits object (operation.Bra target) values ≡ FaultAct NotEnoughStackItems
   unfolding act
   none_bra target e = top_none values short (branches target) e
 
@@ -96,7 +96,7 @@ module _ (bits : ℕ) (object : Option ℕ) (values : List Value) where
   unfolding act
   some_bra target x rest e f = top_some values short (branches target) x rest e ∙ choose_false (to_u64_of bits x == 0) (Pushes rest []) (Branches rest target) f
 
-  pub none_stack_value : values ≡ [] → act bits object operation.StackValue values ≡ Refuses NotEnoughStackItems
+  pub none_stack_value : values ≡ [] → act bits object operation.StackValue values ≡ FaultAct NotEnoughStackItems
   unfolding act
   none_stack_value e = top_none values short (λ x rest. Locates rest (HoldsValue x)) e
 
@@ -104,13 +104,13 @@ module _ (bits : ℕ) (object : Option ℕ) (values : List Value) where
   unfolding act
   some_stack_value x rest e = top_some values short (λ x rest. Locates rest (HoldsValue x)) x rest e
 
-  pub none_tls : values ≡ [] → act bits object operation.TLS values ≡ Refuses NotEnoughStackItems
+  pub none_tls : values ≡ [] → act bits object operation.TLS values ≡ FaultAct NotEnoughStackItems
   unfolding act
-  none_tls e = top_none values short (λ x rest. Asks rest (RequiresTls (to_u64_of bits x)) Tls) e
+  none_tls e = top_none values short (λ x rest. RequestAct rest (RequiresTls (to_u64_of bits x)) Tls) e
 
-  pub some_tls : (x : Value) (rest : List Value) → values ≡ x ∷ rest → act bits object operation.TLS values ≡ Asks rest (RequiresTls (to_u64_of bits x)) Tls
+  pub some_tls : (x : Value) (rest : List Value) → values ≡ x ∷ rest → act bits object operation.TLS values ≡ RequestAct rest (RequiresTls (to_u64_of bits x)) Tls
   unfolding act
-  some_tls x rest e = top_some values short (λ x rest. Asks rest (RequiresTls (to_u64_of bits x)) Tls) x rest e
+  some_tls x rest e = top_some values short (λ x rest. RequestAct rest (RequiresTls (to_u64_of bits x)) Tls) x rest e
 
   module _ (size : ℕ) (offset : Option ℕ) where
     abbrev piece_nowhere : Piece
@@ -119,44 +119,44 @@ module _ (bits : ℕ) (object : Option ℕ) (values : List Value) where
     abbrev piece_at : ℕ → Piece
     piece_at address = record { size_in_bits = Some size; bit_offset = offset; location = AtAddress address }
 
-    pub none_piece : values ≡ [] → act bits object (operation.Piece size offset) values ≡ Ends [] piece_nowhere
+    pub none_piece : values ≡ [] → act bits object (operation.Piece size offset) values ≡ EndsPiece [] piece_nowhere
     unfolding act
-    none_piece e = top_none values (Ends [] piece_nowhere) (λ x rest. Ends rest (piece_at (to_u64_of bits x))) e
+    none_piece e = top_none values (EndsPiece [] piece_nowhere) (λ x rest. EndsPiece rest (piece_at (to_u64_of bits x))) e
 
-    pub some_piece : (x : Value) (rest : List Value) → values ≡ x ∷ rest → act bits object (operation.Piece size offset) values ≡ Ends rest (piece_at (to_u64_of bits x))
+    pub some_piece : (x : Value) (rest : List Value) → values ≡ x ∷ rest → act bits object (operation.Piece size offset) values ≡ EndsPiece rest (piece_at (to_u64_of bits x))
     unfolding act
-    some_piece x rest e = top_some values (Ends [] piece_nowhere) (λ x rest. Ends rest (piece_at (to_u64_of bits x))) x rest e
+    some_piece x rest e = top_some values (EndsPiece [] piece_nowhere) (λ x rest. EndsPiece rest (piece_at (to_u64_of bits x))) x rest e
 
   module _ (base_type size : ℕ) where
     abbrev reads : Value → List Value → Act
-    reads x rest = Asks rest (RequiresMemory (to_u64_of bits x) size None base_type) Memory
+    reads x rest = RequestAct rest (RequiresMemory (to_u64_of bits x) size None base_type) Memory
 
     abbrev reads_in : Value → List Value → Act
-    reads_in x below = on_top below short (λ y rest. Asks rest (RequiresMemory (to_u64_of bits x) size (Some (to_u64_of bits y)) base_type) Memory)
+    reads_in x below = on_top below short (λ y rest. RequestAct rest (RequiresMemory (to_u64_of bits x) size (Some (to_u64_of bits y)) base_type) Memory)
 
-    pub wide_deref : (space : Bool) → nat_lt bits (8 * size) ≡ true → act bits object (operation.Deref base_type size space) values ≡ Refuses (InvalidDerefSize size)
+    pub wide_deref : (space : Bool) → nat_lt bits (8 * size) ≡ true → act bits object (operation.Deref base_type size space) values ≡ FaultAct (InvalidDerefSize size)
     unfolding act
-    wide_deref false e = choose_true (nat_lt bits (8 * size)) (Refuses (InvalidDerefSize size)) (on_top values short reads) e
-    wide_deref true e = choose_true (nat_lt bits (8 * size)) (Refuses (InvalidDerefSize size)) (on_top values short reads_in) e
+    wide_deref false e = choose_true (nat_lt bits (8 * size)) (FaultAct (InvalidDerefSize size)) (on_top values short reads) e
+    wide_deref true e = choose_true (nat_lt bits (8 * size)) (FaultAct (InvalidDerefSize size)) (on_top values short reads_in) e
 
     module _ (fits : nat_lt bits (8 * size) ≡ false) where
-      pub none_deref : (space : Bool) → values ≡ [] → act bits object (operation.Deref base_type size space) values ≡ Refuses NotEnoughStackItems
+      pub none_deref : (space : Bool) → values ≡ [] → act bits object (operation.Deref base_type size space) values ≡ FaultAct NotEnoughStackItems
       unfolding act
-      none_deref false e = choose_false (nat_lt bits (8 * size)) (Refuses (InvalidDerefSize size)) (on_top values short reads) fits ∙ top_none values short reads e
-      none_deref true e = choose_false (nat_lt bits (8 * size)) (Refuses (InvalidDerefSize size)) (on_top values short reads_in) fits ∙ top_none values short reads_in e
+      none_deref false e = choose_false (nat_lt bits (8 * size)) (FaultAct (InvalidDerefSize size)) (on_top values short reads) fits ∙ top_none values short reads e
+      none_deref true e = choose_false (nat_lt bits (8 * size)) (FaultAct (InvalidDerefSize size)) (on_top values short reads_in) fits ∙ top_none values short reads_in e
 
       pub some_deref : (x : Value) (rest : List Value) → values ≡ x ∷ rest → act bits object (operation.Deref base_type size false) values ≡ reads x rest
       unfolding act
-      some_deref x rest e = choose_false (nat_lt bits (8 * size)) (Refuses (InvalidDerefSize size)) (on_top values short reads) fits ∙ top_some values short reads x rest e
+      some_deref x rest e = choose_false (nat_lt bits (8 * size)) (FaultAct (InvalidDerefSize size)) (on_top values short reads) fits ∙ top_some values short reads x rest e
 
       deref_in : (x : Value) (below : List Value) → values ≡ x ∷ below → act bits object (operation.Deref base_type size true) values ≡ reads_in x below
       unfolding act
-      deref_in x below e = choose_false (nat_lt bits (8 * size)) (Refuses (InvalidDerefSize size)) (on_top values short reads_in) fits ∙ top_some values short reads_in x below e
+      deref_in x below e = choose_false (nat_lt bits (8 * size)) (FaultAct (InvalidDerefSize size)) (on_top values short reads_in) fits ∙ top_some values short reads_in x below e
 
-      pub one_deref : (x : Value) → values ≡ x ∷ [] → act bits object (operation.Deref base_type size true) values ≡ Refuses NotEnoughStackItems
+      pub one_deref : (x : Value) → values ≡ x ∷ [] → act bits object (operation.Deref base_type size true) values ≡ FaultAct NotEnoughStackItems
       one_deref x e = deref_in x [] e ∙ top_none [] short _ refl
 
-      pub two_deref : (x y : Value) (rest : List Value) → values ≡ x ∷ y ∷ rest → act bits object (operation.Deref base_type size true) values ≡ Asks rest (RequiresMemory (to_u64_of bits x) size (Some (to_u64_of bits y)) base_type) Memory
+      pub two_deref : (x y : Value) (rest : List Value) → values ≡ x ∷ y ∷ rest → act bits object (operation.Deref base_type size true) values ≡ RequestAct rest (RequiresMemory (to_u64_of bits x) size (Some (to_u64_of bits y)) base_type) Memory
       two_deref x y rest e =
           deref_in x (y ∷ rest) e
-          ∙ top_some (y ∷ rest) short (λ y rest. Asks rest (RequiresMemory (to_u64_of bits x) size (Some (to_u64_of bits y)) base_type) Memory) y rest refl
+          ∙ top_some (y ∷ rest) short (λ y rest. RequestAct rest (RequiresMemory (to_u64_of bits x) size (Some (to_u64_of bits y)) base_type) Memory) y rest refl

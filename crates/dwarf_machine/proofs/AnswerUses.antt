@@ -11,8 +11,8 @@ use Rattle.dwarf_meaning.specs.Operations.{Text}
 use Rattle.dwarf_meaning.specs.Kinds as kind
 use Rattle.dwarf_meaning.specs.Kinds.{Kind, kind_of_waiting, kind_of_answer}
 use Rattle.dwarf_meaning.specs.Requests.{Request, Waiting, Memory, Register, WasmValue, EntryValue, FrameBase, Tls, CallFrameCfa, ParameterRef, RelocatedAddress, IndexedAddress, AtLocation, TypedLiteral, Convert, Reinterpret, MemoryAnswer, RegisterAnswer, WasmAnswer, EntryAnswer, FrameBaseAnswer, TlsAnswer, CfaAnswer, ParameterAnswer, RelocatedAnswer, IndexedAnswer, LocationAnswer, BaseTypeAnswer}
-use Rattle.dwarf_meaning.specs.Acts.{Use, Gives, Calls, Denies, on_top, on_some, on_answer, answer_of, use_of}
-use Rattle.dwarf_meaning.specs.Rest.{Status, Start, Running, Waits, Complete, Stopped}
+use Rattle.dwarf_meaning.specs.Acts.{Use, PushesAnswer, Calls, FaultUse, on_top, on_some, on_result, result_of, use_of}
+use Rattle.dwarf_meaning.specs.Rest.{Status, Start, Running, RequestStatus, CompleteStatus, FaultStatus}
 use Rattle.dwarf_meaning.proofs.Choices.{answer_ok, answer_err, read_ok, read_err, top_none, top_some}
 use Rattle.dwarf_machine.specs.Answers.{IsWaitingFor, IsWaitingTo}
 
@@ -20,32 +20,32 @@ use Rattle.dwarf_machine.specs.Answers.{IsWaitingFor, IsWaitingTo}
 
 pub record IsOpenTo (wanted : Waiting) (status : Status) : Type 0 where
   pub request : Request
-  pub is : status ≡ Waits request wanted
+  pub is : status ≡ RequestStatus request wanted
 
 pub record IsOpen (kind : Kind) (status : Status) : Type 0 where
   pub request : Request
   pub waiting : Waiting
-  pub is : status ≡ Waits request waiting
+  pub is : status ≡ RequestStatus request waiting
   pub fits : kind_of_waiting waiting ≡ kind
 
 pub open_to : (wanted : Waiting) (status : Status) → IsWaitingTo wanted status → IsOpenTo wanted status
-open_to wanted (Waits request waiting) h = record { request = request; is = ap (Waits request) h }
+open_to wanted (RequestStatus request waiting) h = record { request = request; is = ap (RequestStatus request) h }
 open_to wanted (Start initial_value) h = absurd h
-open_to wanted (Complete value) h = absurd h
-open_to wanted (Stopped error) h = absurd h
+open_to wanted (CompleteStatus value) h = absurd h
+open_to wanted (FaultStatus error) h = absurd h
 open_to wanted Running h = absurd h
 
 pub open_for : (kind : Kind) (status : Status) → IsWaitingFor kind status → IsOpen kind status
-open_for kind (Waits request waiting) h = record { request = request; waiting = waiting; is = refl; fits = h }
+open_for kind (RequestStatus request waiting) h = record { request = request; waiting = waiting; is = refl; fits = h }
 open_for kind (Start initial_value) h = absurd h
-open_for kind (Complete value) h = absurd h
-open_for kind (Stopped error) h = absurd h
+open_for kind (CompleteStatus value) h = absurd h
+open_for kind (FaultStatus error) h = absurd h
 open_for kind Running h = absurd h
 
 -- ---- answers that are pushed as they are
 
 module _ (bits : ℕ) (values : List Value) where
-  pub memory_gives : (w : Waiting) (v : Value) → kind_of_waiting w ≡ kind.Memory → use_of bits w (MemoryAnswer v) values ≡ Gives values v
+  pub memory_gives : (w : Waiting) (v : Value) → kind_of_waiting w ≡ kind.Memory → use_of bits w (MemoryAnswer v) values ≡ PushesAnswer values v
   unfolding use_of on_some
   memory_gives Memory v e = refl
   memory_gives (Register offset) v e = cc
@@ -62,7 +62,7 @@ module _ (bits : ℕ) (values : List Value) where
   memory_gives Convert v e = cc
   memory_gives Reinterpret v e = cc
 
-  pub wasm_gives : (w : Waiting) (v : Value) → kind_of_waiting w ≡ kind.WasmValue → use_of bits w (WasmAnswer v) values ≡ Gives values v
+  pub wasm_gives : (w : Waiting) (v : Value) → kind_of_waiting w ≡ kind.WasmValue → use_of bits w (WasmAnswer v) values ≡ PushesAnswer values v
   unfolding use_of on_some
   wasm_gives Memory v e = cc
   wasm_gives (Register offset) v e = cc
@@ -79,7 +79,7 @@ module _ (bits : ℕ) (values : List Value) where
   wasm_gives Convert v e = cc
   wasm_gives Reinterpret v e = cc
 
-  pub entry_gives : (w : Waiting) (v : Value) → kind_of_waiting w ≡ kind.EntryValue → use_of bits w (EntryAnswer v) values ≡ Gives values v
+  pub entry_gives : (w : Waiting) (v : Value) → kind_of_waiting w ≡ kind.EntryValue → use_of bits w (EntryAnswer v) values ≡ PushesAnswer values v
   unfolding use_of on_some
   entry_gives Memory v e = cc
   entry_gives (Register offset) v e = cc
@@ -96,7 +96,7 @@ module _ (bits : ℕ) (values : List Value) where
   entry_gives Convert v e = cc
   entry_gives Reinterpret v e = cc
 
-  pub tls_gives : (w : Waiting) (n : ℕ) → kind_of_waiting w ≡ kind.Tls → use_of bits w (TlsAnswer n) values ≡ Gives values (Generic n)
+  pub tls_gives : (w : Waiting) (n : ℕ) → kind_of_waiting w ≡ kind.Tls → use_of bits w (TlsAnswer n) values ≡ PushesAnswer values (Generic n)
   unfolding use_of on_some
   tls_gives Memory n e = cc
   tls_gives (Register offset) n e = cc
@@ -113,7 +113,7 @@ module _ (bits : ℕ) (values : List Value) where
   tls_gives Convert n e = cc
   tls_gives Reinterpret n e = cc
 
-  pub cfa_gives : (w : Waiting) (n : ℕ) → kind_of_waiting w ≡ kind.CallFrameCfa → use_of bits w (CfaAnswer n) values ≡ Gives values (Generic n)
+  pub cfa_gives : (w : Waiting) (n : ℕ) → kind_of_waiting w ≡ kind.CallFrameCfa → use_of bits w (CfaAnswer n) values ≡ PushesAnswer values (Generic n)
   unfolding use_of on_some
   cfa_gives Memory n e = cc
   cfa_gives (Register offset) n e = cc
@@ -130,7 +130,7 @@ module _ (bits : ℕ) (values : List Value) where
   cfa_gives Convert n e = cc
   cfa_gives Reinterpret n e = cc
 
-  pub parameter_gives : (w : Waiting) (n : ℕ) → kind_of_waiting w ≡ kind.ParameterRef → use_of bits w (ParameterAnswer n) values ≡ Gives values (Generic n)
+  pub parameter_gives : (w : Waiting) (n : ℕ) → kind_of_waiting w ≡ kind.ParameterRef → use_of bits w (ParameterAnswer n) values ≡ PushesAnswer values (Generic n)
   unfolding use_of on_some
   parameter_gives Memory n e = cc
   parameter_gives (Register offset) n e = cc
@@ -147,7 +147,7 @@ module _ (bits : ℕ) (values : List Value) where
   parameter_gives Convert n e = cc
   parameter_gives Reinterpret n e = cc
 
-  pub relocated_gives : (w : Waiting) (n : ℕ) → kind_of_waiting w ≡ kind.RelocatedAddress → use_of bits w (RelocatedAnswer n) values ≡ Gives values (Generic n)
+  pub relocated_gives : (w : Waiting) (n : ℕ) → kind_of_waiting w ≡ kind.RelocatedAddress → use_of bits w (RelocatedAnswer n) values ≡ PushesAnswer values (Generic n)
   unfolding use_of on_some
   relocated_gives Memory n e = cc
   relocated_gives (Register offset) n e = cc
@@ -164,7 +164,7 @@ module _ (bits : ℕ) (values : List Value) where
   relocated_gives Convert n e = cc
   relocated_gives Reinterpret n e = cc
 
-  pub indexed_gives : (w : Waiting) (n : ℕ) → kind_of_waiting w ≡ kind.IndexedAddress → use_of bits w (IndexedAnswer n) values ≡ Gives values (Generic n)
+  pub indexed_gives : (w : Waiting) (n : ℕ) → kind_of_waiting w ≡ kind.IndexedAddress → use_of bits w (IndexedAnswer n) values ≡ PushesAnswer values (Generic n)
   unfolding use_of on_some
   indexed_gives Memory n e = cc
   indexed_gives (Register offset) n e = cc
@@ -200,67 +200,67 @@ module _ (bits : ℕ) (values : List Value) where
 
   -- ---- answers from which a value is made
 
-  register_is : (offset : ℤ) (x : Value) → use_of bits (Register offset) (RegisterAnswer x) values ≡ on_answer (answer_of (add_of bits x (from_u64_of (type_of x) (residue 64 offset)))) Denies (Gives values)
+  register_is : (offset : ℤ) (x : Value) → use_of bits (Register offset) (RegisterAnswer x) values ≡ on_result (result_of (add_of bits x (from_u64_of (type_of x) (residue 64 offset)))) FaultUse (PushesAnswer values)
   unfolding use_of on_some
   register_is offset x = refl
 
-  pub register_gives : (offset : ℤ) (x v : Value) → add_of bits x (from_u64_of (type_of x) (residue 64 offset)) ≡ Ok v → use_of bits (Register offset) (RegisterAnswer x) values ≡ Gives values v
-  register_gives offset x v e = register_is offset x ∙ answer_ok (add_of bits x (from_u64_of (type_of x) (residue 64 offset))) Denies (Gives values) v e
+  pub register_gives : (offset : ℤ) (x v : Value) → add_of bits x (from_u64_of (type_of x) (residue 64 offset)) ≡ Ok v → use_of bits (Register offset) (RegisterAnswer x) values ≡ PushesAnswer values v
+  register_gives offset x v e = register_is offset x ∙ answer_ok (add_of bits x (from_u64_of (type_of x) (residue 64 offset))) FaultUse (PushesAnswer values) v e
 
-  pub register_denies : (offset : ℤ) (x : Value) (error : Error) → add_of bits x (from_u64_of (type_of x) (residue 64 offset)) ≡ Err error → use_of bits (Register offset) (RegisterAnswer x) values ≡ Denies (fault_of error)
-  register_denies offset x error e = register_is offset x ∙ answer_err (add_of bits x (from_u64_of (type_of x) (residue 64 offset))) Denies (Gives values) error e
+  pub register_denies : (offset : ℤ) (x : Value) (error : Error) → add_of bits x (from_u64_of (type_of x) (residue 64 offset)) ≡ Err error → use_of bits (Register offset) (RegisterAnswer x) values ≡ FaultUse (fault_of error)
+  register_denies offset x error e = register_is offset x ∙ answer_err (add_of bits x (from_u64_of (type_of x) (residue 64 offset))) FaultUse (PushesAnswer values) error e
 
-  pub frame_base_gives : (offset : ℤ) (base number : ℕ) → number ≡ residue 64 (pos base +ℤ offset) → use_of bits (FrameBase offset) (FrameBaseAnswer base) values ≡ Gives values (Generic number)
+  pub frame_base_gives : (offset : ℤ) (base number : ℕ) → number ≡ residue 64 (pos base +ℤ offset) → use_of bits (FrameBase offset) (FrameBaseAnswer base) values ≡ PushesAnswer values (Generic number)
   unfolding use_of on_some
-  frame_base_gives offset base number e = ap (λ (n : ℕ). Gives values (Generic n)) (sym e)
+  frame_base_gives offset base number e = ap (λ (n : ℕ). PushesAnswer values (Generic n)) (sym e)
 
-  literal_is : (literal : Text) (t : ValueType) → use_of bits (TypedLiteral literal) (BaseTypeAnswer t) values ≡ on_answer (parse_of t literal.is_big literal.bytes) Denies (Gives values)
+  literal_is : (literal : Text) (t : ValueType) → use_of bits (TypedLiteral literal) (BaseTypeAnswer t) values ≡ on_result (parse_of t literal.is_big literal.bytes) FaultUse (PushesAnswer values)
   unfolding use_of on_some
   literal_is literal t = refl
 
-  pub literal_gives : (literal : Text) (t : ValueType) (v : Value) → parse_of t literal.is_big literal.bytes ≡ Ok v → use_of bits (TypedLiteral literal) (BaseTypeAnswer t) values ≡ Gives values v
-  literal_gives literal t v e = literal_is literal t ∙ read_ok (parse_of t literal.is_big literal.bytes) Denies (Gives values) v e
+  pub literal_gives : (literal : Text) (t : ValueType) (v : Value) → parse_of t literal.is_big literal.bytes ≡ Ok v → use_of bits (TypedLiteral literal) (BaseTypeAnswer t) values ≡ PushesAnswer values v
+  literal_gives literal t v e = literal_is literal t ∙ read_ok (parse_of t literal.is_big literal.bytes) FaultUse (PushesAnswer values) v e
 
-  pub literal_denies : (literal : Text) (t : ValueType) (fault : Fault) → parse_of t literal.is_big literal.bytes ≡ Err fault → use_of bits (TypedLiteral literal) (BaseTypeAnswer t) values ≡ Denies fault
-  literal_denies literal t fault e = literal_is literal t ∙ read_err (parse_of t literal.is_big literal.bytes) Denies (Gives values) fault e
+  pub literal_denies : (literal : Text) (t : ValueType) (fault : Fault) → parse_of t literal.is_big literal.bytes ≡ Err fault → use_of bits (TypedLiteral literal) (BaseTypeAnswer t) values ≡ FaultUse fault
+  literal_denies literal t fault e = literal_is literal t ∙ read_err (parse_of t literal.is_big literal.bytes) FaultUse (PushesAnswer values) fault e
 
   -- the top becomes a value of the type
   abbrev turned : (ℕ → ValueType → Value → Result Value Error) → ValueType → Use
-  turned call t = on_top values (Denies NotEnoughStackItems) (λ x rest. on_answer (answer_of (call bits t x)) Denies (Gives rest))
+  turned call t = on_top values (FaultUse NotEnoughStackItems) (λ x rest. on_result (result_of (call bits t x)) FaultUse (PushesAnswer rest))
 
-  turned_none : (call : ℕ → ValueType → Value → Result Value Error) (t : ValueType) → values ≡ [] → turned call t ≡ Denies NotEnoughStackItems
-  turned_none call t e = top_none values (Denies NotEnoughStackItems) (λ x rest. on_answer (answer_of (call bits t x)) Denies (Gives rest)) e
+  turned_none : (call : ℕ → ValueType → Value → Result Value Error) (t : ValueType) → values ≡ [] → turned call t ≡ FaultUse NotEnoughStackItems
+  turned_none call t e = top_none values (FaultUse NotEnoughStackItems) (λ x rest. on_result (result_of (call bits t x)) FaultUse (PushesAnswer rest)) e
 
-  turned_ok : (call : ℕ → ValueType → Value → Result Value Error) (t : ValueType) (x : Value) (rest : List Value) (v : Value) → values ≡ x ∷ rest → call bits t x ≡ Ok v → turned call t ≡ Gives rest v
+  turned_ok : (call : ℕ → ValueType → Value → Result Value Error) (t : ValueType) (x : Value) (rest : List Value) (v : Value) → values ≡ x ∷ rest → call bits t x ≡ Ok v → turned call t ≡ PushesAnswer rest v
   turned_ok call t x rest v e f =
-      top_some values (Denies NotEnoughStackItems) (λ x rest. on_answer (answer_of (call bits t x)) Denies (Gives rest)) x rest e
-      ∙ answer_ok (call bits t x) Denies (Gives rest) v f
+      top_some values (FaultUse NotEnoughStackItems) (λ x rest. on_result (result_of (call bits t x)) FaultUse (PushesAnswer rest)) x rest e
+      ∙ answer_ok (call bits t x) FaultUse (PushesAnswer rest) v f
 
-  turned_err : (call : ℕ → ValueType → Value → Result Value Error) (t : ValueType) (x : Value) (rest : List Value) (error : Error) → values ≡ x ∷ rest → call bits t x ≡ Err error → turned call t ≡ Denies (fault_of error)
+  turned_err : (call : ℕ → ValueType → Value → Result Value Error) (t : ValueType) (x : Value) (rest : List Value) (error : Error) → values ≡ x ∷ rest → call bits t x ≡ Err error → turned call t ≡ FaultUse (fault_of error)
   turned_err call t x rest error e f =
-      top_some values (Denies NotEnoughStackItems) (λ x rest. on_answer (answer_of (call bits t x)) Denies (Gives rest)) x rest e
-      ∙ answer_err (call bits t x) Denies (Gives rest) error f
+      top_some values (FaultUse NotEnoughStackItems) (λ x rest. on_result (result_of (call bits t x)) FaultUse (PushesAnswer rest)) x rest e
+      ∙ answer_err (call bits t x) FaultUse (PushesAnswer rest) error f
 
-  pub convert_none : (t : ValueType) → values ≡ [] → use_of bits Convert (BaseTypeAnswer t) values ≡ Denies NotEnoughStackItems
+  pub convert_none : (t : ValueType) → values ≡ [] → use_of bits Convert (BaseTypeAnswer t) values ≡ FaultUse NotEnoughStackItems
   unfolding use_of on_some
   convert_none t e = turned_none convert_of t e
 
-  pub convert_gives : (t : ValueType) (x : Value) (rest : List Value) (v : Value) → values ≡ x ∷ rest → convert_of bits t x ≡ Ok v → use_of bits Convert (BaseTypeAnswer t) values ≡ Gives rest v
+  pub convert_gives : (t : ValueType) (x : Value) (rest : List Value) (v : Value) → values ≡ x ∷ rest → convert_of bits t x ≡ Ok v → use_of bits Convert (BaseTypeAnswer t) values ≡ PushesAnswer rest v
   unfolding use_of on_some
   convert_gives t x rest v e f = turned_ok convert_of t x rest v e f
 
-  pub convert_denies : (t : ValueType) (x : Value) (rest : List Value) (error : Error) → values ≡ x ∷ rest → convert_of bits t x ≡ Err error → use_of bits Convert (BaseTypeAnswer t) values ≡ Denies (fault_of error)
+  pub convert_denies : (t : ValueType) (x : Value) (rest : List Value) (error : Error) → values ≡ x ∷ rest → convert_of bits t x ≡ Err error → use_of bits Convert (BaseTypeAnswer t) values ≡ FaultUse (fault_of error)
   unfolding use_of on_some
   convert_denies t x rest error e f = turned_err convert_of t x rest error e f
 
-  pub reinterpret_none : (t : ValueType) → values ≡ [] → use_of bits Reinterpret (BaseTypeAnswer t) values ≡ Denies NotEnoughStackItems
+  pub reinterpret_none : (t : ValueType) → values ≡ [] → use_of bits Reinterpret (BaseTypeAnswer t) values ≡ FaultUse NotEnoughStackItems
   unfolding use_of on_some
   reinterpret_none t e = turned_none reinterpret_of t e
 
-  pub reinterpret_gives : (t : ValueType) (x : Value) (rest : List Value) (v : Value) → values ≡ x ∷ rest → reinterpret_of bits t x ≡ Ok v → use_of bits Reinterpret (BaseTypeAnswer t) values ≡ Gives rest v
+  pub reinterpret_gives : (t : ValueType) (x : Value) (rest : List Value) (v : Value) → values ≡ x ∷ rest → reinterpret_of bits t x ≡ Ok v → use_of bits Reinterpret (BaseTypeAnswer t) values ≡ PushesAnswer rest v
   unfolding use_of on_some
   reinterpret_gives t x rest v e f = turned_ok reinterpret_of t x rest v e f
 
-  pub reinterpret_denies : (t : ValueType) (x : Value) (rest : List Value) (error : Error) → values ≡ x ∷ rest → reinterpret_of bits t x ≡ Err error → use_of bits Reinterpret (BaseTypeAnswer t) values ≡ Denies (fault_of error)
+  pub reinterpret_denies : (t : ValueType) (x : Value) (rest : List Value) (error : Error) → values ≡ x ∷ rest → reinterpret_of bits t x ≡ Err error → use_of bits Reinterpret (BaseTypeAnswer t) values ≡ FaultUse (fault_of error)
   unfolding use_of on_some
   reinterpret_denies t x rest error e f = turned_err reinterpret_of t x rest error e f

@@ -7,9 +7,9 @@ use Rattle.dwarf_base.proofs.Suffixes.{suffix_trans}
 use Rattle.dwarf_value.specs.declared.types.Value.{Value}
 use Rattle.dwarf_meaning.specs.Operations as operation
 use Rattle.dwarf_meaning.specs.Operations.{Operation, Text}
-use Rattle.dwarf_meaning.specs.Acts.{Act, Pushes, Branches, Locates, Ends, Asks, Refuses, choose, on_top, on_some, on_answer, answer_of, short, push, unary, binary, act}
-use Rattle.dwarf_meaning.specs.Stores.{Setup, Store, Next, Goes, Stops, Fails, goes, done, address_bits}
-use Rattle.dwarf_meaning.specs.Rest.{State, Status, Start, Running, Waits, Complete, Stopped, with_refusal}
+use Rattle.dwarf_meaning.specs.Acts.{Act, Pushes, Branches, Locates, EndsPiece, RequestAct, FaultAct, choose, on_top, on_some, on_result, result_of, short, push, unary, binary, act}
+use Rattle.dwarf_meaning.specs.Stores.{Setup, Store, Next, Goes, RequestNext, FaultNext, goes, done, address_bits}
+use Rattle.dwarf_meaning.specs.Rest.{State, Status, Start, Running, RequestStatus, CompleteStatus, FaultStatus, with_refusal}
 use Rattle.dwarf_op.specs.Entries.{plain_operation, byte_operation, unsigned_operation, signed_operation, offset_operation, block_operation, wasm_operation}
 use Rattle.dwarf_op.specs.declared.opcodes.Plain.{Plain}
 use Rattle.dwarf_op.specs.declared.opcodes.Plain.TheVariants as plain
@@ -31,10 +31,10 @@ use Rattle.dwarf_machine.specs.inner.Steps.{IsRest, LeadsBy, Performs, PerformsR
 
 text_by : (f : Store → Next) (old new : State) (status : Status) → LeadsBy f old new status → new.text ≡ old.text
 text_by f old new Running h = ap (λ (z : State). z.text) h.alone
-text_by f old new (Waits request waiting) h = ap (λ (z : State). z.text) h.alone
-text_by f old new (Stopped error) h = h.stays.text
+text_by f old new (RequestStatus request waiting) h = ap (λ (z : State). z.text) h.alone
+text_by f old new (FaultStatus error) h = h.stays.text
 text_by f old new (Start initial_value) h = absurd h
-text_by f old new (Complete value) h = absurd h
+text_by f old new (CompleteStatus value) h = absurd h
 
 pub performs_text : (a : Act) (old new : State) → Performs a old new → new.text ≡ old.text
 performs_text a old new h = text_by (done_at a old) old new new.status h
@@ -48,8 +48,8 @@ IsStill _ = Unit {0}
 
 abbrev moved : ℕ → Next → Next
 moved place (Goes was s) = Goes place s
-moved place (Stops request waiting s) = Stops request waiting s
-moved place (Fails fault) = Fails fault
+moved place (RequestNext request waiting s) = RequestNext request waiting s
+moved place (FaultNext fault) = FaultNext fault
 
 goes_moved : (place was : ℕ) (r : Result Store Fault) → goes place r ≡ moved place (goes was r)
 goes_moved place was (Ok s) = refl
@@ -59,9 +59,9 @@ done_moved : (setup : Setup) (place was len : ℕ) (a : Act) (s : Store) → IsS
 done_moved setup place was len (Pushes rest pushed) s h = goes_moved place was _
 done_moved setup place was len (Branches rest target) s h = absurd h
 done_moved setup place was len (Locates rest location) s h = refl
-done_moved setup place was len (Ends rest piece) s h = goes_moved place was _
-done_moved setup place was len (Asks rest request waiting) s h = refl
-done_moved setup place was len (Refuses fault) s h = refl
+done_moved setup place was len (EndsPiece rest piece) s h = goes_moved place was _
+done_moved setup place was len (RequestAct rest request waiting) s h = refl
+done_moved setup place was len (FaultAct fault) s h = refl
 
 stays_behind : (place : ℕ) (old new : State) → Stays 0 old new → Stays 0 (with_place place old) (with_place place new)
 stays_behind place old new h = record {
@@ -86,19 +86,19 @@ module _ (a : Act) (place : ℕ) (old new : State) (still : IsStill a) where
     };
     alone = ap (with_place place) h.alone;
   }
-  behind_by (Waits request waiting) h = record {
+  behind_by (RequestStatus request waiting) h = record {
     steps = record {
       pushes = h.steps.pushes;
-      same = λ r. moves (with_refusal (before_pushes h.steps.pushes r) old.store) (Stops request waiting (with_refusal r new.store)) (h.steps.same r);
+      same = λ r. moves (with_refusal (before_pushes h.steps.pushes r) old.store) (RequestNext request waiting (with_refusal r new.store)) (h.steps.same r);
     };
     alone = ap (with_place place) h.alone;
   }
-  behind_by (Stopped error) h = record {
+  behind_by (FaultStatus error) h = record {
     gets = record { refusal = h.gets.refusal; may = h.gets.may; same = moves (with_refusal h.gets.refusal old.store) _ h.gets.same };
     stays = stays_behind place old new h.stays;
   }
   behind_by (Start initial_value) h = absurd h
-  behind_by (Complete value) h = absurd h
+  behind_by (CompleteStatus value) h = absurd h
 
 -- the same in front of what is left of the text
 pub performs_at : (a : Act) (left : List ℕ) (old new : State) → IsStill a → Performs a old new → Performs a (at left old) (at left new)
@@ -119,8 +119,8 @@ unfolding on_some
 some_still None none go h i = h
 some_still (Some x) none go h i = i x
 
-answer_still : {X : Type 0} (r : Result X Error) (go : X → Act) → ((x : X) → IsStill (go x)) → IsStill (on_answer (answer_of r) Refuses go)
-unfolding on_answer answer_of
+answer_still : {X : Type 0} (r : Result X Error) (go : X → Act) → ((x : X) → IsStill (go x)) → IsStill (on_result (result_of r) FaultAct go)
+unfolding on_result result_of
 answer_still (Ok x) go i = i x
 answer_still (Err error) go i = tt
 

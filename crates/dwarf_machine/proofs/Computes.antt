@@ -4,9 +4,9 @@ use Rattle.dwarf_base.specs.declared.errors.Error.{Error}
 use Rattle.dwarf_base.specs.Faults.{fault_of, NotEnoughStackItems}
 use Rattle.dwarf_value.specs.declared.types.Value.{Value}
 use Rattle.dwarf_value.specs.Values.{width_of}
-use Rattle.dwarf_meaning.specs.Acts.{Refuses, on_top, on_answer, answer_of, short, push, unary, binary}
+use Rattle.dwarf_meaning.specs.Acts.{FaultAct, on_top, on_result, result_of, short, push, unary, binary}
 use Rattle.dwarf_meaning.specs.Stores.{Plain, address_bits, push_value}
-use Rattle.dwarf_meaning.specs.Rest.{State, Running, Stopped}
+use Rattle.dwarf_meaning.specs.Rest.{State, Running, FaultStatus}
 use Rattle.dwarf_meaning.proofs.Choices.{top_none, top_some, answer_ok, answer_err}
 use Rattle.dwarf_machine.specs.inner.Steps.{Pops, Tried, Performs, with_values}
 use Rattle.dwarf_machine.specs.Inputs.{with_status}
@@ -16,36 +16,36 @@ use Rattle.dwarf_machine.proofs.Staying.{fewer_one, stays_popped}
 
 -- ---- the acts
 
-pub unary_none : (call : Value → Result Value Error) (values : List Value) → values ≡ [] → unary call values ≡ Refuses NotEnoughStackItems
-unary_none call values e = top_none values short (λ x rest. on_answer (answer_of (call x)) Refuses (push rest)) e
+pub unary_none : (call : Value → Result Value Error) (values : List Value) → values ≡ [] → unary call values ≡ FaultAct NotEnoughStackItems
+unary_none call values e = top_none values short (λ x rest. on_result (result_of (call x)) FaultAct (push rest)) e
 
-unary_some : (call : Value → Result Value Error) (values : List Value) (x : Value) (rest : List Value) → values ≡ x ∷ rest → unary call values ≡ on_answer (answer_of (call x)) Refuses (push rest)
-unary_some call values x rest e = top_some values short (λ x rest. on_answer (answer_of (call x)) Refuses (push rest)) x rest e
+unary_some : (call : Value → Result Value Error) (values : List Value) (x : Value) (rest : List Value) → values ≡ x ∷ rest → unary call values ≡ on_result (result_of (call x)) FaultAct (push rest)
+unary_some call values x rest e = top_some values short (λ x rest. on_result (result_of (call x)) FaultAct (push rest)) x rest e
 
 pub unary_ok : (call : Value → Result Value Error) (values : List Value) (x : Value) (rest : List Value) (v : Value) → values ≡ x ∷ rest → call x ≡ Ok v → unary call values ≡ push rest v
-unary_ok call values x rest v e f = unary_some call values x rest e ∙ answer_ok (call x) Refuses (push rest) v f
+unary_ok call values x rest v e f = unary_some call values x rest e ∙ answer_ok (call x) FaultAct (push rest) v f
 
-pub unary_err : (call : Value → Result Value Error) (values : List Value) (x : Value) (rest : List Value) (error : Error) → values ≡ x ∷ rest → call x ≡ Err error → unary call values ≡ Refuses (fault_of error)
-unary_err call values x rest error e f = unary_some call values x rest e ∙ answer_err (call x) Refuses (push rest) error f
+pub unary_err : (call : Value → Result Value Error) (values : List Value) (x : Value) (rest : List Value) (error : Error) → values ≡ x ∷ rest → call x ≡ Err error → unary call values ≡ FaultAct (fault_of error)
+unary_err call values x rest error e f = unary_some call values x rest e ∙ answer_err (call x) FaultAct (push rest) error f
 
-pub binary_none : (call : Value → Value → Result Value Error) (values : List Value) → values ≡ [] → binary call values ≡ Refuses NotEnoughStackItems
-binary_none call values e = top_none values short (λ y below. on_top below short (λ x rest. on_answer (answer_of (call x y)) Refuses (push rest))) e
+pub binary_none : (call : Value → Value → Result Value Error) (values : List Value) → values ≡ [] → binary call values ≡ FaultAct NotEnoughStackItems
+binary_none call values e = top_none values short (λ y below. on_top below short (λ x rest. on_result (result_of (call x y)) FaultAct (push rest))) e
 
-pub binary_one : (call : Value → Value → Result Value Error) (values : List Value) (y : Value) → values ≡ y ∷ [] → binary call values ≡ Refuses NotEnoughStackItems
+pub binary_one : (call : Value → Value → Result Value Error) (values : List Value) (y : Value) → values ≡ y ∷ [] → binary call values ≡ FaultAct NotEnoughStackItems
 binary_one call values y e =
-    top_some values short (λ y below. on_top below short (λ x rest. on_answer (answer_of (call x y)) Refuses (push rest))) y [] e
-    ∙ top_none [] short (λ x rest. on_answer (answer_of (call x y)) Refuses (push rest)) refl
+    top_some values short (λ y below. on_top below short (λ x rest. on_result (result_of (call x y)) FaultAct (push rest))) y [] e
+    ∙ top_none [] short (λ x rest. on_result (result_of (call x y)) FaultAct (push rest)) refl
 
-binary_two : (call : Value → Value → Result Value Error) (values : List Value) (y x : Value) (rest : List Value) → values ≡ y ∷ x ∷ rest → binary call values ≡ on_answer (answer_of (call x y)) Refuses (push rest)
+binary_two : (call : Value → Value → Result Value Error) (values : List Value) (y x : Value) (rest : List Value) → values ≡ y ∷ x ∷ rest → binary call values ≡ on_result (result_of (call x y)) FaultAct (push rest)
 binary_two call values y x rest e =
-    top_some values short (λ y below. on_top below short (λ x rest. on_answer (answer_of (call x y)) Refuses (push rest))) y (x ∷ rest) e
-    ∙ top_some (x ∷ rest) short (λ x rest. on_answer (answer_of (call x y)) Refuses (push rest)) x rest refl
+    top_some values short (λ y below. on_top below short (λ x rest. on_result (result_of (call x y)) FaultAct (push rest))) y (x ∷ rest) e
+    ∙ top_some (x ∷ rest) short (λ x rest. on_result (result_of (call x y)) FaultAct (push rest)) x rest refl
 
 pub binary_ok : (call : Value → Value → Result Value Error) (values : List Value) (y x : Value) (rest : List Value) (v : Value) → values ≡ y ∷ x ∷ rest → call x y ≡ Ok v → binary call values ≡ push rest v
-binary_ok call values y x rest v e f = binary_two call values y x rest e ∙ answer_ok (call x y) Refuses (push rest) v f
+binary_ok call values y x rest v e f = binary_two call values y x rest e ∙ answer_ok (call x y) FaultAct (push rest) v f
 
-pub binary_err : (call : Value → Value → Result Value Error) (values : List Value) (y x : Value) (rest : List Value) (error : Error) → values ≡ y ∷ x ∷ rest → call x y ≡ Err error → binary call values ≡ Refuses (fault_of error)
-binary_err call values y x rest error e f = binary_two call values y x rest e ∙ answer_err (call x y) Refuses (push rest) error f
+pub binary_err : (call : Value → Value → Result Value Error) (values : List Value) (y x : Value) (rest : List Value) (error : Error) → values ≡ y ∷ x ∷ rest → call x y ≡ Err error → binary call values ≡ FaultAct (fault_of error)
+binary_err call values y x rest error e f = binary_two call values y x rest e ∙ answer_err (call x y) FaultAct (push rest) error f
 
 -- ---- the machine
 
@@ -62,7 +62,7 @@ module _ (F : ℕ → Value → Result Value Error) (old mid : State) (x : Value
       performs_as _ (push pops.0 v) old new (unary_ok (F (address_bits old.setup)) old.store.values x pops.0 v pops.1 (call_is (Ok v) e))
       (performs_push pops.0 v old mid new runs (fewer_one x pops.0 old.store.values pops.1) pops.2 h)
 
-  pub unary_refuses : (error : Error) (new : State) → Err error ≡ F width x → new ≡ with_status (Stopped error) mid → Performs (unary (F (address_bits old.setup)) old.store.values) old new
+  pub unary_refuses : (error : Error) (new : State) → Err error ≡ F width x → new ≡ with_status (FaultStatus error) mid → Performs (unary (F (address_bits old.setup)) old.store.values) old new
   unary_refuses error new e is =
       performs_refuses _ error old mid new (unary_err (F (address_bits old.setup)) old.store.values x pops.0 error pops.1 (call_is (Err error) e)) (stays_popped (Some x) old mid pops) is
 
@@ -76,7 +76,7 @@ module _ (post : Value → Value → ℕ → Result Value Error → Type 0) (f :
       performs_as _ (push pops.rest v) old new (binary_ok f old.store.values y x pops.rest v pops.values (sym call_two ∙ e))
       (performs_push pops.rest v old mid new runs (let n = fewer_two y x pops.rest old.store.values pops.values in omega (arith, n)) pops.alone h)
 
-  pub binary_refuses : (error : Error) (new : State) → r ≡ Err error → new ≡ with_status (Stopped error) mid → Performs (binary f old.store.values) old new
+  pub binary_refuses : (error : Error) (new : State) → r ≡ Err error → new ≡ with_status (FaultStatus error) mid → Performs (binary f old.store.values) old new
   binary_refuses error new e stopped =
       performs_refuses _ error old mid new (binary_err f old.store.values y x pops.rest error pops.values (sym call_two ∙ e)) (stays_two y x old mid pops) stopped
 

@@ -4,10 +4,10 @@ use Rattle.dwarf_base.specs.Faults.{Fault, NotEnoughStackItems}
 use Rattle.dwarf_value.specs.declared.types.Value.{Value}
 use Rattle.dwarf_value.specs.Values.{to_u64_of}
 use Rattle.dwarf_meaning.specs.Locations.{Location, Empty, InRegister, AtAddress, HoldsValue, HoldsBytes, PointsInto, Piece}
-use Rattle.dwarf_meaning.specs.Acts.{Act, Pushes, Branches, Locates, Ends, Asks, Refuses, on_top}
+use Rattle.dwarf_meaning.specs.Acts.{Act, Pushes, Branches, Locates, EndsPiece, RequestAct, FaultAct, on_top}
 use Rattle.dwarf_meaning.specs.RunLaws.{waits_of}
 use Rattle.dwarf_meaning.specs.Stores.{Setup, address_bits, Store, Last, Nothing, Plain, Pieced, Pushed, Called, Located, room, push_value, push_piece, push_values, done}
-use Rattle.dwarf_meaning.specs.Meaning.{Outcome, Requests, Faults, Completes, completed, whole, finish_value, finish}
+use Rattle.dwarf_meaning.specs.Meaning.{Outcome, RequestOutcome, FaultOutcome, CompleteOutcome, completion_of, whole, finish_value, finish}
 use Rattle.dwarf_meaning.proofs.Choices.{choose_both}
 use Rattle.dwarf_meaning.proofs.Counts.{OnStore, OnNext, bound_store, on_bound, on_goes}
 use Rattle.dwarf_machine.specs.Bounds.{located_by, ending_by, endings, located}
@@ -94,20 +94,20 @@ done_ends setup place len (Branches rest target) s h free =
 done_ends setup place len (Locates rest location) s h free =
     let given = h.1 in
     record { pieces = refl; waits = omega (arith, given) }
-done_ends setup place len (Ends rest piece) s h free =
+done_ends setup place len (EndsPiece rest piece) s h free =
     on_goes (EndsNoMore (endings s.pieces)) place _ (own_ends (endings s.pieces) setup piece _ h.1 (record { pieces = refl; waits = omega arith }))
-done_ends setup place len (Asks rest request waiting) s h free = record { pieces = refl; waits = omega (arith, free) }
-done_ends setup place len (Refuses fault) s h free = tt
+done_ends setup place len (RequestAct rest request waiting) s h free = record { pieces = refl; waits = omega (arith, free) }
+done_ends setup place len (FaultAct fault) s h free = tt
 
 -- ---- the end
 
 -- where it completes, as many pieces ended a location
 abbrev pub EndsAlike : ℕ → Outcome → Type 0
-EndsAlike n (Requests request frames) = Unit {0}
-EndsAlike n (Faults fault) = Unit {0}
-EndsAlike n (Completes pieces value) = endings pieces ≡ n
+EndsAlike n (RequestOutcome request positions) = Unit {0}
+EndsAlike n (FaultOutcome fault) = Unit {0}
+EndsAlike n (CompleteOutcome pieces value) = endings pieces ≡ n
 
-stored_alike : (n : ℕ) (value : Option Value) (r : Result Store Fault) → OnStore (Ending n) r → EndsAlike n (completed value r)
+stored_alike : (n : ℕ) (value : Option Value) (r : Result Store Fault) → OnStore (Ending n) r → EndsAlike n (completion_of value r)
 stored_alike n value (Ok s) h = h
 stored_alike n value (Err fault) h = tt
 
@@ -115,12 +115,12 @@ grown : (n m : ℕ) (r : Result Store Fault) → n ≡ m → OnStore (Ending n) 
 grown n m (Ok s) e h = h ∙ e
 grown n m (Err fault) e h = tt
 
-whole_alike : (setup : Setup) (value : Option Value) (location : Location) (s : Store) → EndsAlike (endings s.pieces) (completed value (push_piece setup (whole location) s))
+whole_alike : (setup : Setup) (value : Option Value) (location : Location) (s : Store) → EndsAlike (endings s.pieces) (completion_of value (push_piece setup (whole location) s))
 whole_alike setup value location s =
     stored_alike (endings s.pieces) value (push_piece setup (whole location) s)
     (grown (endings s.pieces + 0) (endings s.pieces) (push_piece setup (whole location) s) (omega arith) (piece_ends setup (whole location) s))
 
-value_alike : (n : ℕ) (values : List Value) (go : Value → List Value → Outcome) → ((x : Value) (rest : List Value) → EndsAlike n (go x rest)) → EndsAlike n (on_top values (Faults NotEnoughStackItems) go)
+value_alike : (n : ℕ) (values : List Value) (go : Value → List Value → Outcome) → ((x : Value) (rest : List Value) → EndsAlike n (go x rest)) → EndsAlike n (on_top values (FaultOutcome NotEnoughStackItems) go)
 unfolding on_top
 value_alike n [] go h = tt
 value_alike n (x ∷ rest) go h = h x rest

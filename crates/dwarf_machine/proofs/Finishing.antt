@@ -10,9 +10,9 @@ use Rattle.dwarf_meaning.specs.Requests.{Input}
 use Rattle.dwarf_meaning.specs.Acts.{choose}
 use Rattle.dwarf_meaning.specs.RunLaws.{waits_of}
 use Rattle.dwarf_meaning.specs.Stores.{Setup, address_bits, Store, Refusal, Never, push_piece}
-use Rattle.dwarf_meaning.specs.Run.{Frame, Finished, ended, turn_by, run}
-use Rattle.dwarf_meaning.specs.Meaning.{Outcome, Faults, Completes, completed, has_pieces, whole, finish_value, finish}
-use Rattle.dwarf_meaning.specs.Rest.{State, Status, Start, Running, Waits, Complete, Stopped, with_refusal}
+use Rattle.dwarf_meaning.specs.Run.{Position, CompleteEnd, only_end, turn_by, run}
+use Rattle.dwarf_meaning.specs.Meaning.{Outcome, FaultOutcome, CompleteOutcome, completion_of, has_pieces, whole, finish_value, finish}
+use Rattle.dwarf_meaning.specs.Rest.{State, Status, Start, Running, RequestStatus, CompleteStatus, FaultStatus, with_refusal}
 use Rattle.dwarf_meaning.proofs.Choices.{choose_true, choose_false, top_none, top_some}
 use Rattle.dwarf_meaning.proofs.Counts.{HasTally, OnStore, Tally, tally_of, tally-push_piece}
 use Rattle.dwarf_meaning.proofs.Turns.{run_turn}
@@ -31,21 +31,21 @@ use Rattle.dwarf_machine.proofs.Turning.{effort_running, less_stopped, falls_tur
 -- where both are alike, one closes as the other
 module _ (f g : Store → Outcome) (m n : ℕ) (old low new : State) (fits : length low.store.values + length low.store.pieces + m ≤ length old.store.values + length old.store.pieces + n) (fewer : Stays 0 old low) (is : (r : Refusal) → g (with_refusal r old.store) ≡ f (with_refusal r low.store)) (alone : (s : Store) (status : Status) → with_store s (with_status status low) ≡ with_store s (with_status status old)) where
   finished_as : (status : Status) → ClosesBy m f low new status → ClosesBy n g old new status
-  finished_as (Complete value) h = record {
+  finished_as (CompleteStatus value) h = record {
     steps = record { pushes = h.steps.pushes; same = λ r. is (before_pushes h.steps.pushes r) ∙ h.steps.same r };
-    alone = h.alone ∙ alone new.store (Complete value);
+    alone = h.alone ∙ alone new.store (CompleteStatus value);
     kept = keeps_more old low new fewer.kept h.kept;
     adds =
         let items = h.adds.items in
         record { items = omega (arith, items, fits); count = h.adds.count ∙ fewer.count };
   }
-  finished_as (Stopped error) h = record {
+  finished_as (FaultStatus error) h = record {
     gets = record { refusal = h.gets.refusal; may = may_along old low h.gets.refusal fewer.kept h.gets.may; same = is h.gets.refusal ∙ h.gets.same };
     stays = stays_more 0 0 old low new fewer h.stays;
   }
   finished_as Running h = absurd h
   finished_as (Start initial_value) h = absurd h
-  finished_as (Waits request waiting) h = absurd h
+  finished_as (RequestStatus request waiting) h = absurd h
 
   pub closes_as : Closes m f low new → Closes n g old new
   closes_as h = finished_as new.status h
@@ -68,25 +68,25 @@ piece_more setup piece old new d =
     record { items = omega (arith, values, pieces); count = added.count }
 
 -- a last piece, and then the end
-pub completes_ok : (value : Option Value) (piece : Piece) (old mid new : State) → Does (push_piece old.setup piece) old mid → new ≡ with_status (Complete value) mid → Closes 1 (λ s. completed value (push_piece old.setup piece s)) old new
+pub completes_ok : (value : Option Value) (piece : Piece) (old mid new : State) → Does (push_piece old.setup piece) old mid → new ≡ with_status (CompleteStatus value) mid → Closes 1 (λ s. completion_of value (push_piece old.setup piece s)) old new
 completes_ok value piece old mid new d e =
     let more = piece_more old.setup piece old mid d in
-    subst (ClosesBy 1 (λ s. completed value (push_piece old.setup piece s)) old new) (sym (ap (λ (z : State). z.status) e)) (record {
+    subst (ClosesBy 1 (λ s. completion_of value (push_piece old.setup piece s)) old new) (sym (ap (λ (z : State). z.status) e)) (record {
       steps = record {
         pushes = d.steps.pushes;
-        same = λ r. ap (completed value) (d.steps.same r) ∙ ap (λ (z : State). Completes z.store.pieces value) (sym e);
+        same = λ r. ap (completion_of value) (d.steps.same r) ∙ ap (λ (z : State). CompleteOutcome z.store.pieces value) (sym e);
       };
-      alone = e ∙ (ap (with_status (Complete value)) d.alone ∙ ap (λ (z : State). with_store z.store (with_status (Complete value) old)) (sym e));
+      alone = e ∙ (ap (with_status (CompleteStatus value)) d.alone ∙ ap (λ (z : State). with_store z.store (with_status (CompleteStatus value) old)) (sym e));
       kept = keeps_more old mid new (piece_keeps old.setup piece old mid d)
           (record { setup = ap (λ (z : State). z.setup) e; object_address = ap (λ (z : State). z.store.object_address) e; maximum = ap (λ (z : State). z.store.maximum) e });
       adds = subst (λ (s : Store). Adds 1 old (with_store s new)) (ap (λ (z : State). z.store) (sym e)) (record { items = more.items; count = more.count });
     })
 
 -- a last piece that is refused
-pub completes_err : (value : Option Value) (piece : Piece) (old new : State) → Refused 0 (push_piece old.setup piece) old new → Closes 1 (λ s. completed value (push_piece old.setup piece s)) old new
+pub completes_err : (value : Option Value) (piece : Piece) (old new : State) → Refused 0 (push_piece old.setup piece) old new → Closes 1 (λ s. completion_of value (push_piece old.setup piece s)) old new
 completes_err value piece old new h =
-    subst (ClosesBy 1 (λ s. completed value (push_piece old.setup piece s)) old new) (sym h.stopped) (record {
-      gets = record { refusal = h.gets.refusal; may = h.gets.may; same = ap (completed value) h.gets.same };
+    subst (ClosesBy 1 (λ s. completion_of value (push_piece old.setup piece s)) old new) (sym h.stopped) (record {
+      gets = record { refusal = h.gets.refusal; may = h.gets.may; same = ap (completion_of value) h.gets.same };
       stays = h.stays;
     })
 
@@ -96,65 +96,65 @@ closes_else more f g old new e h =
     closes_as g (λ s. choose (has_pieces s.pieces) (f s) (g s)) more more old old new (omega arith) (stays_here old) (λ r. choose_false (has_pieces old.store.pieces) (f (with_refusal r old.store)) (g (with_refusal r old.store)) e) (λ s status. refl) h
 
 -- a fault that ends the run
-ends_in : (more : ℕ) (f : Store → Outcome) (error : Error) (old mid new : State) → Stays 0 old mid → new ≡ with_status (Stopped error) mid → f (with_refusal Never old.store) ≡ Faults (fault_of error) → Closes more f old new
+ends_in : (more : ℕ) (f : Store → Outcome) (error : Error) (old mid new : State) → Stays 0 old mid → new ≡ with_status (FaultStatus error) mid → f (with_refusal Never old.store) ≡ FaultOutcome (fault_of error) → Closes more f old new
 ends_in more f error old mid new stays is e =
     subst (ClosesBy more f old new) (sym (ap (λ (z : State). z.status) is)) (record {
       gets = record { refusal = Never; may = tt; same = e };
-      stays = stays_then (Stopped error) old mid new stays is;
+      stays = stays_then (FaultStatus error) old mid new stays is;
     })
 
 -- pieces are there that may not be
-pub mixed : (more : ℕ) (g : Store → Outcome) (old new : State) → has_pieces old.store.pieces ≡ true → new ≡ with_status (Stopped error.InvalidPiece) old → Closes more (λ s. choose (has_pieces s.pieces) (Faults InvalidPiece) (g s)) old new
+pub mixed : (more : ℕ) (g : Store → Outcome) (old new : State) → has_pieces old.store.pieces ≡ true → new ≡ with_status (FaultStatus error.InvalidPiece) old → Closes more (λ s. choose (has_pieces s.pieces) (FaultOutcome InvalidPiece) (g s)) old new
 mixed more g old new e is =
-    ends_in more (λ s. choose (has_pieces s.pieces) (Faults InvalidPiece) (g s)) error.InvalidPiece old old new (stays_here old) is
-    (choose_true (has_pieces old.store.pieces) (Faults InvalidPiece) (g (with_refusal Never old.store)) e)
+    ends_in more (λ s. choose (has_pieces s.pieces) (FaultOutcome InvalidPiece) (g s)) error.InvalidPiece old old new (stays_here old) is
+    (choose_true (has_pieces old.store.pieces) (FaultOutcome InvalidPiece) (g (with_refusal Never old.store)) e)
 
 -- the pieces stand
-pub stands : (g : Store → Outcome) (old new : State) → has_pieces old.store.pieces ≡ true → new ≡ with_status (Complete None) old → Closes 0 (λ s. choose (has_pieces s.pieces) (Completes s.pieces None) (g s)) old new
+pub stands : (g : Store → Outcome) (old new : State) → has_pieces old.store.pieces ≡ true → new ≡ with_status (CompleteStatus None) old → Closes 0 (λ s. choose (has_pieces s.pieces) (CompleteOutcome s.pieces None) (g s)) old new
 stands g old new e is =
     let values = ap (λ (z : State). length z.store.values) is in
     let pieces = ap (λ (z : State). length z.store.pieces) is in
-    subst (ClosesBy 0 (λ s. choose (has_pieces s.pieces) (Completes s.pieces None) (g s)) old new) (sym (ap (λ (z : State). z.status) is)) (record {
+    subst (ClosesBy 0 (λ s. choose (has_pieces s.pieces) (CompleteOutcome s.pieces None) (g s)) old new) (sym (ap (λ (z : State). z.status) is)) (record {
       steps = record {
         pushes = 0;
         same = λ r.
-            choose_true (has_pieces old.store.pieces) (Completes old.store.pieces None) (g (with_refusal r old.store)) e
-            ∙ ap (λ (z : State). Completes z.store.pieces None) (sym is);
+            choose_true (has_pieces old.store.pieces) (CompleteOutcome old.store.pieces None) (g (with_refusal r old.store)) e
+            ∙ ap (λ (z : State). CompleteOutcome z.store.pieces None) (sym is);
       };
-      alone = is ∙ ap (λ (z : State). with_store z.store (with_status (Complete None) old)) (sym is);
+      alone = is ∙ ap (λ (z : State). with_store z.store (with_status (CompleteStatus None) old)) (sym is);
       kept = record { setup = ap (λ (z : State). z.setup) is; object_address = ap (λ (z : State). z.store.object_address) is; maximum = ap (λ (z : State). z.store.maximum) is };
       adds = record { items = omega (arith, values, pieces); count = ap (λ (z : State). z.store.count) is };
     })
 
 -- the value on top is the result
 abbrev pub top_done : Setup → Store → Value → List Value → Outcome
-top_done setup s x rest = completed (Some x) (push_piece setup (whole (AtAddress (to_u64_of (address_bits setup) x))) (record s { values = rest }))
+top_done setup s x rest = completion_of (Some x) (push_piece setup (whole (AtAddress (to_u64_of (address_bits setup) x))) (record s { values = rest }))
 
-pub value_closes : (x : Value) (address : ℕ) (old low new : State) → Pops (Some x) old low → address ≡ to_u64_of (address_bits low.setup) x → Closes 1 (λ s. completed (Some x) (push_piece low.setup (whole (AtAddress address)) s)) low new → Closes 0 (finish_value old.setup) old new
+pub value_closes : (x : Value) (address : ℕ) (old low new : State) → Pops (Some x) old low → address ≡ to_u64_of (address_bits low.setup) x → Closes 1 (λ s. completion_of (Some x) (push_piece low.setup (whole (AtAddress address)) s)) low new → Closes 0 (finish_value old.setup) old new
 value_closes x address old low new h e t =
     let rest = h.0 in
     let is : address ≡ to_u64_of (address_bits old.setup) x = e ∙ ap (λ (z : State). to_u64_of (address_bits z.setup) x) h.2 in
-    let F = λ (z : State) (n : ℕ). Closes 1 (λ s. completed (Some x) (push_piece z.setup (whole (AtAddress n)) s)) z new in
+    let F = λ (z : State) (n : ℕ). Closes 1 (λ s. completion_of (Some x) (push_piece z.setup (whole (AtAddress n)) s)) z new in
     let there = subst (F (with_values rest old)) is (subst (λ (z : State). F z address) h.2 t) in
     let values = ap length h.1 in
-    closes_as (λ s. completed (Some x) (push_piece old.setup (whole (AtAddress (to_u64_of (address_bits old.setup) x))) s)) (finish_value old.setup) 1 0 old (with_values rest old) new (omega (arith, values)) (stays_low rest old.store.last old (with_values rest old) (fewer_one x rest old.store.values h.1) refl)
-    (λ r. top_some old.store.values (Faults NotEnoughStackItems) (top_done old.setup (with_refusal r old.store)) x rest h.1) (λ s status. refl) there
+    closes_as (λ s. completion_of (Some x) (push_piece old.setup (whole (AtAddress (to_u64_of (address_bits old.setup) x))) s)) (finish_value old.setup) 1 0 old (with_values rest old) new (omega (arith, values)) (stays_low rest old.store.last old (with_values rest old) (fewer_one x rest old.store.values h.1) refl)
+    (λ r. top_some old.store.values (FaultOutcome NotEnoughStackItems) (top_done old.setup (with_refusal r old.store)) x rest h.1) (λ s status. refl) there
 
-pub value_none : (old low new : State) → Pops None old low → new ≡ with_status (Stopped error.NotEnoughStackItems) low → Closes 0 (finish_value old.setup) old new
+pub value_none : (old low new : State) → Pops None old low → new ≡ with_status (FaultStatus error.NotEnoughStackItems) low → Closes 0 (finish_value old.setup) old new
 value_none old low new h is =
     ends_in 0 (finish_value old.setup) error.NotEnoughStackItems old low new (stays_popped None old low h) is
-    (top_none old.store.values (Faults NotEnoughStackItems) (top_done old.setup (with_refusal Never old.store)) h.0)
+    (top_none old.store.values (FaultOutcome NotEnoughStackItems) (top_done old.setup (with_refusal Never old.store)) h.0)
 
 -- ---- the end of a text
 
 module _ (x : State) (runs : x.status ≡ Running) (end : (x.place == length x.text.bytes) ≡ true) where
-  end_total : (r : Refusal) (inputs : List Input) → total x r inputs ≡ through x.store.count x.setup x.callers (ended (Finished (with_refusal r x.store) inputs))
+  end_total : (r : Refusal) (inputs : List Input) → total x r inputs ≡ through x.store.count x.setup x.callers (only_end (CompleteEnd (with_refusal r x.store) inputs))
   end_total r inputs =
       let s : Store = with_refusal r x.store in
       total_running r x inputs runs
       ∙ ap (through x.store.count x.setup x.callers)
       (run_turn x.setup x.text x.place (length x.callers) s inputs
-      ∙ choose_true (x.place == length x.text.bytes) (ended (Finished s inputs)) (turn_by (run x.setup) x.setup x.text x.place (length x.callers) s inputs s.last) end)
+      ∙ choose_true (x.place == length x.text.bytes) (only_end (CompleteEnd s inputs)) (turn_by (run x.setup) x.setup x.text x.place (length x.callers) s inputs s.last) end)
 
   pub back_turned : (new : State) → GoesBack true x new → Turns x new
   back_turned new h =
@@ -170,7 +170,7 @@ module _ (x : State) (runs : x.status ≡ Running) (end : (x.place == length x.t
           pushes = 0;
           same = λ r inputs.
               end_total r inputs
-              ∙ (ap (λ (fs : List Frame). through x.store.count x.setup fs (ended (Finished (with_refusal r x.store) inputs))) h.2
+              ∙ (ap (λ (fs : List Position). through x.store.count x.setup fs (only_end (CompleteEnd (with_refusal r x.store) inputs))) h.2
               ∙ sym (total_running r new inputs still ∙ ap (λ (z : State). going z (with_refusal r z.store) inputs) h.3));
           kept = record {
             setup = ap (λ (z : State). z.setup) h.3;
@@ -187,25 +187,25 @@ module _ (x : State) (runs : x.status ≡ Running) (end : (x.place == length x.t
   outer_total : (r : Refusal) (inputs : List Input) (outcome : Outcome) → x.callers ≡ [] → finish x.setup (with_refusal r x.store) ≡ outcome → total x r inputs ≡ closed outcome x.store.count
   outer_total r inputs outcome none e =
       end_total r inputs
-      ∙ (ap (λ (fs : List Frame). through x.store.count x.setup fs (ended (Finished (with_refusal r x.store) inputs))) none
+      ∙ (ap (λ (fs : List Position). through x.store.count x.setup fs (only_end (CompleteEnd (with_refusal r x.store) inputs))) none
       ∙ through_end x.store.count x.setup (with_refusal r x.store) inputs outcome e)
 
   finish_turned : (new : State) (status : Status) → x.callers ≡ [] → new.status ≡ status → ClosesBy (waits_of x.store.last) (finish x.setup) x new status → Turns x new
-  finish_turned new (Complete value) none e h = record {
+  finish_turned new (CompleteStatus value) none e h = record {
     comes = subst (ComesBy x (total x) new) (sym e) (record {
       pushes = h.steps.pushes;
       same = λ r inputs.
-          outer_total (before_pushes h.steps.pushes r) inputs (Completes new.store.pieces value) none (h.steps.same r)
-          ∙ (ap (closed (Completes new.store.pieces value)) (sym h.adds.count)
+          outer_total (before_pushes h.steps.pushes r) inputs (CompleteOutcome new.store.pieces value) none (h.steps.same r)
+          ∙ (ap (closed (CompleteOutcome new.store.pieces value)) (sym h.adds.count)
           ∙ sym (total_complete r new inputs value e));
       kept = h.kept;
       spends = over_spends x new value runs e (ap (λ (z : State). length z.callers) h.alone) h.adds.count (ap (λ (z : State). z.decodings) h.alone) h.adds.items
           (subst (EndsAlike (endings x.store.pieces)) (h.steps.same Never) (finish_alike x.setup (with_refusal (before_pushes h.steps.pushes Never) x.store)));
-      nears = nears_by x new Running (Complete value) runs e (omega arith);
+      nears = nears_by x new Running (CompleteStatus value) runs e (omega arith);
     });
-    less = less_stopped x new (Complete value) runs e refl;
+    less = less_stopped x new (CompleteStatus value) runs e refl;
   }
-  finish_turned new (Stopped error) none e h =
+  finish_turned new (FaultStatus error) none e h =
       let count = h.stays.count in
       let callers = h.stays.callers in
       let items = h.stays.items in
@@ -213,17 +213,17 @@ module _ (x : State) (runs : x.status ≡ Running) (end : (x.place == length x.t
       falls_turns x new error runs e (record {
         refusal = h.gets.refusal;
         may = h.gets.may;
-        same = λ inputs. outer_total h.gets.refusal inputs (Faults (fault_of error)) none h.gets.same ∙ ap (closed (Faults (fault_of error))) (sym h.stays.count);
+        same = λ inputs. outer_total h.gets.refusal inputs (FaultOutcome (fault_of error)) none h.gets.same ∙ ap (closed (FaultOutcome (fault_of error))) (sym h.stays.count);
         kept = h.stays.kept;
         spends = fallen_spends x new error (ap faults_in runs) e (omega (arith, callers)) (omega (arith, count)) (omega (arith, items)) (omega (arith, decodings, count)) h.stays.pieces (omega (arith, decodings, count)) (omega (arith, decodings, count));
       })
   finish_turned new Running none e h = absurd h
   finish_turned new (Start initial_value) none e h = absurd h
-  finish_turned new (Waits request waiting) none e h = absurd h
+  finish_turned new (RequestStatus request waiting) none e h = absurd h
 
   pub finish_turns : (new : State) → x.callers ≡ [] → Closes (waits_of x.store.last) (finish x.setup) x new → Turns x new
   finish_turns new none h = finish_turned new new.status none refl h
 
 -- with a piece that stands for this one
-pub closes_with : (value : Option Value) (piece same : Piece) (old new : State) → piece ≡ same → Closes 1 (λ s. completed value (push_piece old.setup piece s)) old new → Closes 1 (λ s. completed value (push_piece old.setup same s)) old new
-closes_with value piece same old new e h = subst (λ (p : Piece). Closes 1 (λ s. completed value (push_piece old.setup p s)) old new) e h
+pub closes_with : (value : Option Value) (piece same : Piece) (old new : State) → piece ≡ same → Closes 1 (λ s. completion_of value (push_piece old.setup piece s)) old new → Closes 1 (λ s. completion_of value (push_piece old.setup same s)) old new
+closes_with value piece same old new e h = subst (λ (p : Piece). Closes 1 (λ s. completion_of value (push_piece old.setup p s)) old new) e h

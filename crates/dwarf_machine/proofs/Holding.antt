@@ -7,14 +7,14 @@ use Rattle.dwarf_meaning.specs.Operations.{Operation}
 use Rattle.dwarf_meaning.specs.Locations.{Location, Piece}
 use Rattle.dwarf_meaning.specs.Requests.{Input}
 use Rattle.dwarf_meaning.specs.RunLaws.{waits_of}
-use Rattle.dwarf_meaning.specs.Stores.{Store, Last, Pieced, Located, Refusal, Never, push_piece, Next, Goes, Fails, goes}
-use Rattle.dwarf_meaning.specs.Run.{led, holds, held, piece_of, read, run, turn_by}
-use Rattle.dwarf_meaning.specs.Meaning.{Faults}
-use Rattle.dwarf_meaning.specs.Rest.{State, Running, Stopped, with_refusal}
+use Rattle.dwarf_meaning.specs.Stores.{Store, Last, Pieced, Located, Refusal, Never, push_piece, Next, Goes, FaultNext, goes}
+use Rattle.dwarf_meaning.specs.Run.{after_operation, end_located, turn_located, piece_ended_by, read, run, turn_by}
+use Rattle.dwarf_meaning.specs.Meaning.{FaultOutcome}
+use Rattle.dwarf_meaning.specs.Rest.{State, Running, FaultStatus, with_refusal}
 use Rattle.dwarf_meaning.proofs.Counts.{OnStore, KeepsBoth, Tally, tally_of, both-push_piece}
 use Rattle.dwarf_machine.specs.Bounds.{piece_due, located_by, endings, located, faults_in}
 use Rattle.dwarf_machine.specs.Inputs.{with_status}
-use Rattle.dwarf_machine.specs.inner.Steps.{Does, Refused, Tries, ReadsPiece, Holds, before_pushes, total, ComesBy, Turns, read_to, with_last}
+use Rattle.dwarf_machine.specs.inner.Steps.{Does, Refused, Tries, ReadsPiece, EndsLocated, before_pushes, total, ComesBy, Turns, read_to, with_last}
 use Rattle.dwarf_machine.proofs.Endings.{Ending, piece_ends}
 use Rattle.dwarf_machine.proofs.Loads.{Keeping, kept_in, piece_adds}
 use Rattle.dwarf_machine.proofs.Nearing.{nears_by}
@@ -23,21 +23,21 @@ use Rattle.dwarf_machine.proofs.Totals.{closed, through, going, total_running, t
 use Rattle.dwarf_machine.proofs.Turning.{total_inside, effort_running, falls_turns}
 
 module _ (x : State) (location : Location) (runs : x.status ≡ Running) (inside : (x.place == length x.text.bytes) ≡ false) (waits : x.store.last ≡ Located location) where
-  held_total : (r : Refusal) (inputs : List Input) (z : Result (Operation × List ℕ) Fault) → read x.setup x.text x.place ≡ z → total x r inputs ≡ through x.store.count x.setup x.callers (held (run x.setup) x.setup x.text (length x.callers) location (with_refusal r x.store) inputs z)
+  held_total : (r : Refusal) (inputs : List Input) (z : Result (Operation × List ℕ) Fault) → read x.setup x.text x.place ≡ z → total x r inputs ≡ through x.store.count x.setup x.callers (turn_located (run x.setup) x.setup x.text (length x.callers) location (with_refusal r x.store) inputs z)
   held_total r inputs z e =
       let s : Store = with_refusal r x.store in
       total_inside x r inputs runs inside
       ∙ (ap (λ (last : Last). through x.store.count x.setup x.callers (turn_by (run x.setup) x.setup x.text x.place (length x.callers) s inputs last)) waits
-      ∙ ap (λ (y : Result (Operation × List ℕ) Fault). through x.store.count x.setup x.callers (held (run x.setup) x.setup x.text (length x.callers) location s inputs y)) e)
+      ∙ ap (λ (y : Result (Operation × List ℕ) Fault). through x.store.count x.setup x.callers (turn_located (run x.setup) x.setup x.text (length x.callers) location s inputs y)) e)
 
   waited : waits_of x.store.last ≡ 1
   waited = ap waits_of waits
 
   -- a fault of what was read: nothing is counted
-  module _ (place : ℕ) (new : State) (error : Error) (is : new ≡ with_status (Stopped error) (read_to place x)) where
-    read_falls : ((inputs : List Input) → total x Never inputs ≡ closed (Faults (fault_of error)) x.store.count) → Turns x new
+  module _ (place : ℕ) (new : State) (error : Error) (is : new ≡ with_status (FaultStatus error) (read_to place x)) where
+    read_falls : ((inputs : List Input) → total x Never inputs ≡ closed (FaultOutcome (fault_of error)) x.store.count) → Turns x new
     read_falls same =
-        let stopped : new.status ≡ Stopped error = ap (λ (z : State). z.status) is in
+        let stopped : new.status ≡ FaultStatus error = ap (λ (z : State). z.status) is in
         let count : new.store.count ≡ x.store.count = ap (λ (z : State). z.store.count) is in
         let callers = ap (λ (z : State). length z.callers) is in
         let lists = ap (λ (z : State). length z.store.values + length z.store.pieces) is in
@@ -46,7 +46,7 @@ module _ (x : State) (location : Location) (runs : x.status ≡ Running) (inside
         falls_turns x new error runs stopped (record {
           refusal = Never;
           may = tt;
-          same = λ inputs. same inputs ∙ ap (closed (Faults (fault_of error))) (sym count);
+          same = λ inputs. same inputs ∙ ap (closed (FaultOutcome (fault_of error))) (sym count);
           kept = record { setup = ap (λ (z : State). z.setup) is; object_address = ap (λ (z : State). z.store.object_address) is; maximum = ap (λ (z : State). z.store.maximum) is };
           spends = fallen_spends x new error (ap faults_in runs) stopped (omega (arith, callers)) (omega (arith, count)) (omega (arith, lists)) (omega (arith, decodings, count, due, waited)) (ap (λ (z : State). z.store.pieces) is) (omega (arith, decodings, count)) (omega (arith, decodings, count));
         })
@@ -58,18 +58,18 @@ module _ (x : State) (location : Location) (runs : x.status ≡ Running) (inside
     abbrev place_then : ℕ
     place_then = length x.text.bytes - length behind
 
-    held_led : (r : Refusal) (inputs : List Input) (o : Option (ℕ × Option ℕ)) (next : Next) → piece_of op ≡ o → holds x.setup location place_then (with_refusal r x.store) o ≡ next → total x r inputs ≡ through x.store.count x.setup x.callers (led (run x.setup) x.setup x.text (length x.callers) place_then inputs next)
+    held_led : (r : Refusal) (inputs : List Input) (o : Option (ℕ × Option ℕ)) (next : Next) → piece_ended_by op ≡ o → end_located x.setup location place_then (with_refusal r x.store) o ≡ next → total x r inputs ≡ through x.store.count x.setup x.callers (after_operation (run x.setup) x.setup x.text (length x.callers) place_then inputs next)
     held_led r inputs o next e f =
         held_total r inputs (Ok (op, behind)) was
-        ∙ (ap (λ (p : Option (ℕ × Option ℕ)). through x.store.count x.setup x.callers (led (run x.setup) x.setup x.text (length x.callers) place_then inputs (holds x.setup location place_then (with_refusal r x.store) p))) e
-        ∙ ap (λ (n : Next). through x.store.count x.setup x.callers (led (run x.setup) x.setup x.text (length x.callers) place_then inputs n)) f)
+        ∙ (ap (λ (p : Option (ℕ × Option ℕ)). through x.store.count x.setup x.callers (after_operation (run x.setup) x.setup x.text (length x.callers) place_then inputs (end_located x.setup location place_then (with_refusal r x.store) p))) e
+        ∙ ap (λ (n : Next). through x.store.count x.setup x.callers (after_operation (run x.setup) x.setup x.text (length x.callers) place_then inputs n)) f)
 
-    held_other : (new : State) → piece_of op ≡ None → new ≡ with_status (Stopped (error.InvalidExpressionTerminator (place_then - 1))) (read_to place_then x) → Turns x new
+    held_other : (new : State) → piece_ended_by op ≡ None → new ≡ with_status (FaultStatus (error.InvalidExpressionTerminator (place_then - 1))) (read_to place_then x) → Turns x new
     held_other new none is =
         read_falls place_then new (error.InvalidExpressionTerminator (place_then - 1)) is
-        (λ inputs. held_led Never inputs None (Fails (InvalidExpressionTerminator (place_then - 1))) none refl ∙ through_failed x.store.count x.setup x.callers (InvalidExpressionTerminator (place_then - 1)))
+        (λ inputs. held_led Never inputs None (FaultNext (InvalidExpressionTerminator (place_then - 1))) none refl ∙ through_failed x.store.count x.setup x.callers (InvalidExpressionTerminator (place_then - 1)))
 
-    module _ (size : ℕ × Option ℕ) (some : piece_of op ≡ Some size) where
+    module _ (size : ℕ × Option ℕ) (some : piece_ended_by op ≡ Some size) where
       abbrev piece : Piece
       piece = record { size_in_bits = Some size.0; bit_offset = size.1; location = location }
 
@@ -120,8 +120,8 @@ module _ (x : State) (location : Location) (runs : x.status ≡ Running) (inside
             refusal = h.gets.refusal;
             may = h.gets.may;
             same = λ inputs.
-                held_led h.gets.refusal inputs (Some size) (Fails (fault_of h.error)) some (ap (goes place_then) h.gets.same)
-                ∙ (through_failed x.store.count x.setup x.callers (fault_of h.error) ∙ ap (closed (Faults (fault_of h.error))) (sym count));
+                held_led h.gets.refusal inputs (Some size) (FaultNext (fault_of h.error)) some (ap (goes place_then) h.gets.same)
+                ∙ (through_failed x.store.count x.setup x.callers (fault_of h.error) ∙ ap (closed (FaultOutcome (fault_of h.error))) (sym count));
             kept = record { setup = h.stays.kept.setup; object_address = h.stays.kept.object_address; maximum = h.stays.kept.maximum };
             spends = fallen_spends x new h.error (ap faults_in runs) h.stopped (omega (arith, callers)) (omega (arith, count)) (omega (arith, items)) (omega (arith, decodings, count, due, waited)) h.stays.pieces (omega (arith, decodings, count)) (omega (arith, decodings, count));
           })
@@ -130,15 +130,15 @@ module _ (x : State) (location : Location) (runs : x.status ≡ Running) (inside
       piece_turns new true h = piece_turned new h
       piece_turns new false h = piece_falls new h
 
-    pub held_turns : (new : State) (o : Option (ℕ × Option ℕ)) → piece_of op ≡ o → Holds location o (read_to place_then x) new → Turns x new
+    pub held_turns : (new : State) (o : Option (ℕ × Option ℕ)) → piece_ended_by op ≡ o → EndsLocated location o (read_to place_then x) new → Turns x new
     held_turns new None e h = held_other new e h
     held_turns new (Some size) e h = piece_turns size e new h.0 h.1
 
 -- ---- as the machine does it
 
 module _ (x : State) (location : Location) (runs : x.status ≡ Running) (inside : (x.place == length x.text.bytes) ≡ false) (waits : x.store.last ≡ Located location) (behind new : State) where
-  pub hold_unread : (error : Error) → read x.setup x.text x.place ≡ Err (fault_of error) → behind ≡ read_to behind.place x → new ≡ with_status (Stopped error) behind → Turns x new
-  hold_unread error was moved is = held_unread x location runs inside waits behind.place new error (is ∙ ap (with_status (Stopped error)) moved) was
+  pub hold_unread : (error : Error) → read x.setup x.text x.place ≡ Err (fault_of error) → behind ≡ read_to behind.place x → new ≡ with_status (FaultStatus error) behind → Turns x new
+  hold_unread error was moved is = held_unread x location runs inside waits behind.place new error (is ∙ ap (with_status (FaultStatus error)) moved) was
 
-  pub hold_turns : (piece : Option (ℕ × Option ℕ)) → ReadsPiece piece x behind → Holds location piece behind new → Turns x new
-  hold_turns piece r h = held_turns x location runs inside waits r.op r.reads.behind r.reads.was new piece r.is (subst (λ (z : State). Holds location piece z new) r.reads.moved h)
+  pub hold_turns : (piece : Option (ℕ × Option ℕ)) → ReadsPiece piece x behind → EndsLocated location piece behind new → Turns x new
+  hold_turns piece r h = held_turns x location runs inside waits r.op r.reads.behind r.reads.was new piece r.is (subst (λ (z : State). EndsLocated location piece z new) r.reads.moved h)

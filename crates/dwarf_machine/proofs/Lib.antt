@@ -1,5 +1,5 @@
 pub mod Allowed
-pub mod Frames
+pub mod Callers
 pub mod Generics
 pub mod PiecesRead
 pub mod Gives

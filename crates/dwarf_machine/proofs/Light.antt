@@ -5,7 +5,7 @@ use Rattle.dwarf_base.specs.Faults.{Fault, NotEnoughStackItems}
 use Rattle.dwarf_value.specs.declared.types.Value.{Value}
 use Rattle.dwarf_meaning.specs.Operations as operation
 use Rattle.dwarf_meaning.specs.Operations.{Operation}
-use Rattle.dwarf_meaning.specs.Acts.{Act, Pushes, Branches, Locates, Ends, Asks, Refuses, choose, on_top, on_some, on_answer, answer_of, short, push, unary, binary, act, Use, Gives, Calls, Denies, Misfits, use_of}
+use Rattle.dwarf_meaning.specs.Acts.{Act, Pushes, Branches, Locates, EndsPiece, RequestAct, FaultAct, choose, on_top, on_some, on_result, result_of, short, push, unary, binary, act, Use, PushesAnswer, Calls, FaultUse, WrongKind, use_of}
 use Rattle.dwarf_machine.specs.Bounds.{located_by, ending_by}
 use Rattle.dwarf_meaning.specs.Requests.{Waiting, Memory, Register, WasmValue, EntryValue, FrameBase, Tls, CallFrameCfa, ParameterRef, RelocatedAddress, IndexedAddress, AtLocation, TypedLiteral, Convert, Reinterpret, Answer}
 
@@ -15,9 +15,9 @@ abbrev pub IsLight : ℕ → Act → Type 0
 IsLight n (Pushes rest pushed) = length rest + length pushed ≤ n + 1
 IsLight n (Branches rest target) = length rest ≤ n
 IsLight n (Locates rest location) = (length rest ≤ n) × (located_by location ≡ 1)
-IsLight n (Ends rest piece) = (length rest ≤ n) × (ending_by piece.size_in_bits piece.location ≡ 0)
-IsLight n (Asks rest request waiting) = length rest ≤ n
-IsLight n (Refuses fault) = Unit {0}
+IsLight n (EndsPiece rest piece) = (length rest ≤ n) × (ending_by piece.size_in_bits piece.location ≡ 0)
+IsLight n (RequestAct rest request waiting) = length rest ≤ n
+IsLight n (FaultAct fault) = Unit {0}
 
 top_light : (n : ℕ) (values : List Value) (none : Act) (go : Value → List Value → Act) → IsLight n none → ((x : Value) (rest : List Value) → length values ≡ suc (length rest) → IsLight n (go x rest)) → IsLight n (on_top values none go)
 unfolding on_top
@@ -29,8 +29,8 @@ unfolding on_some
 some_light n None none go h i = h
 some_light n (Some x) none go h i = i x
 
-answer_light : {X : Type 0} (n : ℕ) (r : Result X Error) (go : X → Act) → ((x : X) → IsLight n (go x)) → IsLight n (on_answer (answer_of r) Refuses go)
-unfolding on_answer answer_of
+answer_light : {X : Type 0} (n : ℕ) (r : Result X Error) (go : X → Act) → ((x : X) → IsLight n (go x)) → IsLight n (on_result (result_of r) FaultAct go)
+unfolding on_result result_of
 answer_light n (Ok x) go i = i x
 answer_light n (Err error) go i = tt
 
@@ -111,32 +111,32 @@ act_light bits object (operation.Piece size_in_bits bit_offset) values = top_lig
 
 -- of so many values what is done with an answer leaves as many and no more
 abbrev pub IsLightUse : ℕ → Use → Type 0
-IsLightUse n (Gives rest value) = length rest ≤ n
+IsLightUse n (PushesAnswer rest value) = length rest ≤ n
 IsLightUse n (Calls text) = Unit {0}
-IsLightUse n (Denies fault) = Unit {0}
-IsLightUse n Misfits = Unit {0}
+IsLightUse n (FaultUse fault) = Unit {0}
+IsLightUse n WrongKind = Unit {0}
 
-some_use : {X : Type 0} (n : ℕ) (o : Option X) (go : X → Use) → ((x : X) → IsLightUse n (go x)) → IsLightUse n (on_some o Misfits go)
+some_use : {X : Type 0} (n : ℕ) (o : Option X) (go : X → Use) → ((x : X) → IsLightUse n (go x)) → IsLightUse n (on_some o WrongKind go)
 unfolding on_some
 some_use n None go i = tt
 some_use n (Some x) go i = i x
 
-answer_use : {X : Type 0} (n : ℕ) (r : Result X Fault) (go : X → Use) → ((x : X) → IsLightUse n (go x)) → IsLightUse n (on_answer r Denies go)
-unfolding on_answer
+answer_use : {X : Type 0} (n : ℕ) (r : Result X Fault) (go : X → Use) → ((x : X) → IsLightUse n (go x)) → IsLightUse n (on_result r FaultUse go)
+unfolding on_result
 answer_use n (Ok x) go i = i x
 answer_use n (Err fault) go i = tt
 
-top_use : (values : List Value) (fault : Fault) (go : Value → List Value → Use) → ((x : Value) (rest : List Value) → length values ≡ suc (length rest) → IsLightUse (length values) (go x rest)) → IsLightUse (length values) (on_top values (Denies fault) go)
+top_use : (values : List Value) (fault : Fault) (go : Value → List Value → Use) → ((x : Value) (rest : List Value) → length values ≡ suc (length rest) → IsLightUse (length values) (go x rest)) → IsLightUse (length values) (on_top values (FaultUse fault) go)
 unfolding on_top
 top_use [] fault go i = tt
 top_use (x ∷ rest) fault go i = i x rest refl
 
 pub use_light : (bits : ℕ) (waiting : Waiting) (answer : Answer) (values : List Value) → IsLightUse (length values) (use_of bits waiting answer values)
 unfolding use_of
-use_light bits Memory answer values = some_use (length values) _ (Gives values) (λ x. omega arith)
-use_light bits (Register offset) answer values = some_use (length values) _ _ (λ x. answer_use (length values) _ (Gives values) (λ y. omega arith))
-use_light bits WasmValue answer values = some_use (length values) _ (Gives values) (λ x. omega arith)
-use_light bits EntryValue answer values = some_use (length values) _ (Gives values) (λ x. omega arith)
+use_light bits Memory answer values = some_use (length values) _ (PushesAnswer values) (λ x. omega arith)
+use_light bits (Register offset) answer values = some_use (length values) _ _ (λ x. answer_use (length values) _ (PushesAnswer values) (λ y. omega arith))
+use_light bits WasmValue answer values = some_use (length values) _ (PushesAnswer values) (λ x. omega arith)
+use_light bits EntryValue answer values = some_use (length values) _ (PushesAnswer values) (λ x. omega arith)
 use_light bits (FrameBase offset) answer values = some_use (length values) _ _ (λ n. omega arith)
 use_light bits Tls answer values = some_use (length values) _ _ (λ n. omega arith)
 use_light bits CallFrameCfa answer values = some_use (length values) _ _ (λ n. omega arith)
@@ -144,8 +144,8 @@ use_light bits ParameterRef answer values = some_use (length values) _ _ (λ n. 
 use_light bits RelocatedAddress answer values = some_use (length values) _ _ (λ n. omega arith)
 use_light bits IndexedAddress answer values = some_use (length values) _ _ (λ n. omega arith)
 use_light bits AtLocation answer values = some_use (length values) _ Calls (λ text. tt)
-use_light bits (TypedLiteral value) answer values = some_use (length values) _ _ (λ kind. answer_use (length values) _ (Gives values) (λ y. omega arith))
+use_light bits (TypedLiteral value) answer values = some_use (length values) _ _ (λ kind. answer_use (length values) _ (PushesAnswer values) (λ y. omega arith))
 use_light bits Convert answer values =
-    some_use (length values) _ _ (λ kind. top_use values NotEnoughStackItems _ (λ x rest e. answer_use (length values) _ (Gives rest) (λ y. omega (arith, e))))
+    some_use (length values) _ _ (λ kind. top_use values NotEnoughStackItems _ (λ x rest e. answer_use (length values) _ (PushesAnswer rest) (λ y. omega (arith, e))))
 use_light bits Reinterpret answer values =
-    some_use (length values) _ _ (λ kind. top_use values NotEnoughStackItems _ (λ x rest e. answer_use (length values) _ (Gives rest) (λ y. omega (arith, e))))
+    some_use (length values) _ _ (λ kind. top_use values NotEnoughStackItems _ (λ x rest e. answer_use (length values) _ (PushesAnswer rest) (λ y. omega (arith, e))))

@@ -4,9 +4,9 @@ use Rattle.std.proofs.lemmas.List.{length-append}
 use Rattle.dwarf_base.specs.Faults.{Fault}
 use Rattle.dwarf_value.specs.declared.types.Value.{Value}
 use Rattle.dwarf_meaning.specs.Locations.{Piece}
-use Rattle.dwarf_meaning.specs.Acts.{Act, Pushes, Branches, Locates, Ends, Asks, Refuses}
+use Rattle.dwarf_meaning.specs.Acts.{Act, Pushes, Branches, Locates, EndsPiece, RequestAct, FaultAct}
 use Rattle.dwarf_meaning.specs.RunLaws.{waits_of}
-use Rattle.dwarf_meaning.specs.Stores.{Setup, Store, Last, Plain, Pieced, room, push_value, push_piece, push_frame, push_values, Next, Goes, Stops, Fails, goes, done}
+use Rattle.dwarf_meaning.specs.Stores.{Setup, Store, Last, Plain, Pieced, room, push_value, push_piece, push_caller, push_values, Next, Goes, RequestNext, FaultNext, goes, done}
 use Rattle.dwarf_meaning.proofs.Choices.{choose_both}
 use Rattle.dwarf_meaning.proofs.Counts.{OnStore, bound_store, on_bound}
 use Rattle.dwarf_machine.proofs.Light.{IsLight}
@@ -29,9 +29,9 @@ piece_adds setup piece s =
     let longer = length-append s.pieces (piece ∷ []) in
     bound_store (Keeping (kept_in s + 1)) (room setup.limits.pieces (length s.pieces) s.refusal) (λ left. record s { pieces = s.pieces ++ piece ∷ []; refusal = left }) (λ left. omega (arith, longer))
 
-pub frame_adds : (setup : Setup) (depth : ℕ) (s : Store) → OnStore (Keeping (kept_in s)) (push_frame setup depth s)
-unfolding push_frame
-frame_adds setup depth s = bound_store (Keeping (kept_in s)) (room setup.limits.frames depth s.refusal) (λ left. record s { refusal = left }) (λ left. refl)
+pub frame_adds : (setup : Setup) (depth : ℕ) (s : Store) → OnStore (Keeping (kept_in s)) (push_caller setup depth s)
+unfolding push_caller
+frame_adds setup depth s = bound_store (Keeping (kept_in s)) (room setup.limits.callers depth s.refusal) (λ left. record s { refusal = left }) (λ left. refl)
 
 -- what is pushed leaves the sort of the last operation
 abbrev pub HasLast : Last → Store → Type 0
@@ -49,13 +49,13 @@ pub value_pieces : (setup : Setup) (value : Value) (s : Store) → OnStore (HasP
 unfolding push_value
 value_pieces setup value s = bound_store (HasPieces s.pieces) (room setup.limits.values (length s.values) s.refusal) (λ left. record s { values = value ∷ s.values; refusal = left }) (λ left. refl)
 
-pub frame_pieces : (setup : Setup) (depth : ℕ) (s : Store) → OnStore (HasPieces s.pieces) (push_frame setup depth s)
-unfolding push_frame
-frame_pieces setup depth s = bound_store (HasPieces s.pieces) (room setup.limits.frames depth s.refusal) (λ left. record s { refusal = left }) (λ left. refl)
+pub frame_pieces : (setup : Setup) (depth : ℕ) (s : Store) → OnStore (HasPieces s.pieces) (push_caller setup depth s)
+unfolding push_caller
+frame_pieces setup depth s = bound_store (HasPieces s.pieces) (room setup.limits.callers depth s.refusal) (λ left. record s { refusal = left }) (λ left. refl)
 
-pub frame_last : (setup : Setup) (depth : ℕ) (s : Store) → OnStore (HasLast s.last) (push_frame setup depth s)
-unfolding push_frame
-frame_last setup depth s = bound_store (HasLast s.last) (room setup.limits.frames depth s.refusal) (λ left. record s { refusal = left }) (λ left. refl)
+pub frame_last : (setup : Setup) (depth : ℕ) (s : Store) → OnStore (HasLast s.last) (push_caller setup depth s)
+unfolding push_caller
+frame_last setup depth s = bound_store (HasLast s.last) (room setup.limits.callers depth s.refusal) (λ left. record s { refusal = left }) (λ left. refl)
 
 -- so many values, so many pieces, and this count
 pub record Extended (value_count piece_count operations : ℕ) (t : Store) : Type 0 where
@@ -82,8 +82,8 @@ values_add setup (value ∷ values) s =
 -- an operation leaves so many, and one more where it goes on
 abbrev pub IsLighter : ℕ → Next → Type 0
 IsLighter n (Goes place t) = kept_in t ≤ n + 1
-IsLighter n (Stops request waiting t) = kept_in t ≤ n
-IsLighter n (Fails fault) = Unit {0}
+IsLighter n (RequestNext request waiting t) = kept_in t ≤ n
+IsLighter n (FaultNext fault) = Unit {0}
 
 goes_lighter : (n m place : ℕ) (r : Result Store Fault) → n ≤ m + 1 → OnStore (Keeping n) r → IsLighter m (goes place r)
 goes_lighter n m place (Ok s) h e = omega (arith, h, e)
@@ -96,8 +96,8 @@ done_lighter setup place len (Branches rest target) s h = choose_both (IsLighter
 done_lighter setup place len (Locates rest location) s h =
     let fewer = h.0 in
     omega (arith, fewer)
-done_lighter setup place len (Ends rest piece) s h =
+done_lighter setup place len (EndsPiece rest piece) s h =
     let fewer = h.0 in
     goes_lighter (length rest + length s.pieces + 0 + 1) (kept_in s) place _ (omega (arith, fewer)) (piece_adds setup piece (record s { values = rest; last = Pieced }))
-done_lighter setup place len (Asks rest request waiting) s h = omega (arith, h)
-done_lighter setup place len (Refuses fault) s h = tt
+done_lighter setup place len (RequestAct rest request waiting) s h = omega (arith, h)
+done_lighter setup place len (FaultAct fault) s h = tt

@@ -3,7 +3,7 @@ use Rattle.std.proofs.Common.{◌≡◌, ◌+◌, ◌≤◌, ◌<◌, List, Resu
 use Rattle.dwarf_base.specs.declared.errors.Error.{Error}
 use Rattle.dwarf_meaning.specs.Requests.{Input, Request, Waiting}
 use Rattle.dwarf_meaning.specs.Stores.{Refusal}
-use Rattle.dwarf_meaning.specs.Rest.{State, Status, Start, Running, Waits, Complete, Stopped}
+use Rattle.dwarf_meaning.specs.Rest.{State, Status, Start, Running, RequestStatus, CompleteStatus, FaultStatus}
 use Rattle.dwarf_machine.specs.Bounds.{calls_left, calls_left_by}
 use Rattle.dwarf_machine.specs.inner.Steps.{EndsBy, Ends, Nears, Total, stop_of}
 
@@ -24,7 +24,7 @@ fewer_stopped old new status is stops h =
     omega (arith, h, stop, stops)
 
 -- a call that met a fault
-pub fewer_fallen : (old new : State) (request : Request) (waiting : Waiting) (error : Error) → old.status ≡ Waits request waiting → new.status ≡ Stopped error → calls_left new < calls_left old
+pub fewer_fallen : (old new : State) (request : Request) (waiting : Waiting) (error : Error) → old.status ≡ RequestStatus request waiting → new.status ≡ FaultStatus error → calls_left new < calls_left old
 fewer_fallen old new request waiting error was is =
     let before = ap (calls_left_by old) was in
     let after = ap (calls_left_by new) is in
@@ -34,11 +34,11 @@ pub if_ok : {Y : Type 0} (P : Type 0) (told : Result Y Error) → P → IfOk tol
 if_ok P (Ok t) h = h
 if_ok P (Err e) h = tt
 
-module _ (old : State) (totals : Refusal → List Input → Total) (new : State) (request : Request) (waiting : Waiting) (was : old.status ≡ Waits request waiting) where
+module _ (old : State) (totals : Refusal → List Input → Total) (new : State) (request : Request) (waiting : Waiting) (was : old.status ≡ RequestStatus request waiting) where
   fewer_by : (status : Status) → new.status ≡ status → EndsBy old totals new status → calls_left new < calls_left old
-  fewer_by (Waits request waiting) e h = fewer_stopped old new (Waits request waiting) e (omega arith) h.nears
-  fewer_by (Complete value) e h = fewer_stopped old new (Complete value) e (omega arith) h.nears
-  fewer_by (Stopped error) e h = fewer_fallen old new request waiting error was e
+  fewer_by (RequestStatus request waiting) e h = fewer_stopped old new (RequestStatus request waiting) e (omega arith) h.nears
+  fewer_by (CompleteStatus value) e h = fewer_stopped old new (CompleteStatus value) e (omega arith) h.nears
+  fewer_by (FaultStatus error) e h = fewer_fallen old new request waiting error was e
   fewer_by Running e h = absurd h
   fewer_by (Start initial_value) e h = absurd h
 

@@ -7,12 +7,12 @@ use Rattle.dwarf_base.specs.Faults.{Fault, fault_of, BadBranchTarget}
 use Rattle.dwarf_value.specs.declared.types.Value.{Value}
 use Rattle.dwarf_meaning.specs.Locations.{Location, Piece}
 use Rattle.dwarf_meaning.specs.Requests.{Request, Waiting}
-use Rattle.dwarf_meaning.specs.Acts.{Act, Pushes, Branches, Locates, Ends, Asks, Refuses, push}
-use Rattle.dwarf_meaning.specs.Stores.{Setup, Store, Refusal, Never, Last, Plain, Pieced, Located, push_value, push_piece, push_values, Next, Goes, Stops, Fails, goes, branch_target, branch}
-use Rattle.dwarf_meaning.specs.Rest.{State, Status, Start, Running, Waits, Complete, Stopped, with_refusal}
+use Rattle.dwarf_meaning.specs.Acts.{Act, Pushes, Branches, Locates, EndsPiece, RequestAct, FaultAct, push}
+use Rattle.dwarf_meaning.specs.Stores.{Setup, Store, Refusal, Never, Last, Plain, Pieced, Located, push_value, push_piece, push_values, Next, Goes, RequestNext, FaultNext, goes, branch_target, branch}
+use Rattle.dwarf_meaning.specs.Rest.{State, Status, Start, Running, RequestStatus, CompleteStatus, FaultStatus, with_refusal}
 use Rattle.dwarf_meaning.proofs.Choices.{choose_true, choose_false}
 use Rattle.dwarf_machine.specs.Inputs.{with_status}
-use Rattle.dwarf_machine.specs.inner.Steps.{Stays, Tries, Tried, Pops, Jumps, before_pushes, done_at, FailsBy, LeadsBy, Performs, with_store, with_values, with_last, with_place}
+use Rattle.dwarf_machine.specs.inner.Steps.{Stays, Tries, Tried, Pops, Jumps, before_pushes, done_at, LeadsToFault, LeadsBy, Performs, with_store, with_values, with_last, with_place}
 use Rattle.dwarf_machine.proofs.Refusals.{tries_as, bind_ok}
 use Rattle.dwarf_machine.proofs.Staying.{stays_from, stays_low, stays_then}
 
@@ -20,11 +20,11 @@ pub performs_as : (a b : Act) (old new : State) → a ≡ b → Performs b old n
 performs_as a b old new e h = subst (λ (z : Act). Performs z old new) (sym e) h
 
 -- the operation is refused, by a fault that the state keeps
-pub performs_refuses : (a : Act) (error : Error) (old mid new : State) → a ≡ Refuses (fault_of error) → Stays 0 old mid → new ≡ with_status (Stopped error) mid → Performs a old new
+pub performs_refuses : (a : Act) (error : Error) (old mid new : State) → a ≡ FaultAct (fault_of error) → Stays 0 old mid → new ≡ with_status (FaultStatus error) mid → Performs a old new
 performs_refuses a error old mid new e stays is =
     subst (LeadsBy (done_at a old) old new) (sym (ap (λ (z : State). z.status) is)) (record {
       gets = record { refusal = Never; may = tt; same = ap (λ (z : Act). done_at z old (with_refusal Never old.store)) e };
-      stays = stays_then (Stopped error) old mid new stays is;
+      stays = stays_then (FaultStatus error) old mid new stays is;
     })
 
 -- an act that goes on behind the operation, once f is done
@@ -100,17 +100,17 @@ performs_located rest location old new runs e =
     })
 
 -- a piece is ended
-pub performs_ends : (rest : List Value) (piece : Piece) (old mid new : State) (done : Bool) → old.status ≡ Running → length rest ≤ length old.store.values → mid ≡ with_last Pieced (with_values rest old) → Tries 0 (push_piece mid.setup piece) mid new done → Performs (Ends rest piece) old new
+pub performs_ends : (rest : List Value) (piece : Piece) (old mid new : State) (done : Bool) → old.status ≡ Running → length rest ≤ length old.store.values → mid ≡ with_last Pieced (with_values rest old) → Tries 0 (push_piece mid.setup piece) mid new done → Performs (EndsPiece rest piece) old new
 performs_ends rest piece old mid new done runs fewer e h =
-    performs_goes (Ends rest piece) (from rest Pieced (push_piece old.setup piece)) old (λ s. refl) new done runs
+    performs_goes (EndsPiece rest piece) (from rest Pieced (push_piece old.setup piece)) old (λ s. refl) new done runs
     (tries_from rest Pieced (λ setup. push_piece setup piece) old mid new done fewer e h)
 
 -- something is asked
-pub performs_asks : (rest : List Value) (request : Request) (waiting : Waiting) (old new : State) → new ≡ with_status (Waits request waiting) (with_values rest old) → Performs (Asks rest request waiting) old new
+pub performs_asks : (rest : List Value) (request : Request) (waiting : Waiting) (old new : State) → new ≡ with_status (RequestStatus request waiting) (with_values rest old) → Performs (RequestAct rest request waiting) old new
 performs_asks rest request waiting old new e =
-    subst (LeadsBy (done_at (Asks rest request waiting) old) old new) (sym (ap (λ (z : State). z.status) e)) (record {
-      steps = record { pushes = 0; same = λ r. ap (λ (z : State). Stops request waiting (with_refusal r z.store)) (sym e) };
-      alone = e ∙ ap (λ (z : State). with_store z.store (with_status (Waits request waiting) old)) (sym e);
+    subst (LeadsBy (done_at (RequestAct rest request waiting) old) old new) (sym (ap (λ (z : State). z.status) e)) (record {
+      steps = record { pushes = 0; same = λ r. ap (λ (z : State). RequestNext request waiting (with_refusal r z.store)) (sym e) };
+      alone = e ∙ ap (λ (z : State). with_store z.store (with_status (RequestStatus request waiting) old)) (sym e);
     })
 
 -- a branch is taken
@@ -128,7 +128,7 @@ performs_branch t old mid new target true runs e f h =
         same = λ r.
             let s : Store = record (with_refusal r old.store) { values = rest; last = Plain } in
             ap (λ (n : ℕ). branch (length old.text.bytes) n s) (sym is)
-            ∙ (choose_false (nat_lt (length old.text.bytes) target) (Fails (BadBranchTarget target)) (Goes target s) inside
+            ∙ (choose_false (nat_lt (length old.text.bytes) target) (FaultNext (BadBranchTarget target)) (Goes target s) inside
             ∙ ap (λ (z : State). Goes z.place (with_refusal r z.store)) (sym new_is));
       };
       alone = new_is ∙ ap (λ (z : State). with_store z.store (with_place z.place old)) (sym new_is);
@@ -145,9 +145,9 @@ performs_branch t old mid new target false runs e f h =
         may = tt;
         same =
             ap (λ (n : ℕ). branch (length old.text.bytes) n s) (sym is)
-            ∙ choose_true (nat_lt (length old.text.bytes) target) (Fails (BadBranchTarget target)) (Goes target s) outside;
+            ∙ choose_true (nat_lt (length old.text.bytes) target) (FaultNext (BadBranchTarget target)) (Goes target s) outside;
       };
-      stays = stays_then (Stopped (error.BadBranchTarget target)) old mid new (stays_low rest Plain old mid (omega arith) e) h.1;
+      stays = stays_then (FaultStatus (error.BadBranchTarget target)) old mid new (stays_low rest Plain old mid (omega arith) e) h.1;
     })
 
 -- ---- several values are popped
@@ -196,7 +196,7 @@ pops_only_two z y old mid new h i =
 -- ---- an operation on what is left of the stack
 
 module _ (rest : List Value) (old new : State) (fewer : length rest ≤ length old.store.values) where
-  low_fails : (error : Error) (f g : Store → Next) → ((r : Refusal) → g (with_refusal r old.store) ≡ f (with_refusal r (with_values rest old).store)) → FailsBy f error (with_values rest old) new → FailsBy g error old new
+  low_fails : (error : Error) (f g : Store → Next) → ((r : Refusal) → g (with_refusal r old.store) ≡ f (with_refusal r (with_values rest old).store)) → LeadsToFault f error (with_values rest old) new → LeadsToFault g error old new
   low_fails error f g is h = record {
     gets = record { refusal = h.gets.refusal; may = h.gets.may; same = is h.gets.refusal ∙ h.gets.same };
     stays = stays_from 0 0 rest old.store.last old.status old new (omega (arith, fewer)) h.stays;
@@ -204,19 +204,19 @@ module _ (rest : List Value) (old new : State) (fewer : length rest ≤ length o
 
   low_by : (f g : Store → Next) → ((r : Refusal) → g (with_refusal r old.store) ≡ f (with_refusal r (with_values rest old).store)) → (status : Status) → LeadsBy f (with_values rest old) new status → LeadsBy g old new status
   low_by f g is Running h = record { steps = record { pushes = h.steps.pushes; same = λ r. is (before_pushes h.steps.pushes r) ∙ h.steps.same r }; alone = h.alone }
-  low_by f g is (Waits request waiting) h = record { steps = record { pushes = h.steps.pushes; same = λ r. is (before_pushes h.steps.pushes r) ∙ h.steps.same r }; alone = h.alone }
-  low_by f g is (Stopped error) h = low_fails error f g is h
+  low_by f g is (RequestStatus request waiting) h = record { steps = record { pushes = h.steps.pushes; same = λ r. is (before_pushes h.steps.pushes r) ∙ h.steps.same r }; alone = h.alone }
+  low_by f g is (FaultStatus error) h = low_fails error f g is h
   low_by f g is (Start initial_value) h = absurd h
-  low_by f g is (Complete value) h = absurd h
+  low_by f g is (CompleteStatus value) h = absurd h
 
 -- an act leaves no trace of the values that were popped before it
 act_low : (a : Act) (rest : List Value) (old : State) (r : Refusal) → done_at a old (with_refusal r old.store) ≡ done_at a (with_values rest old) (with_refusal r (with_values rest old).store)
 act_low (Pushes left pushed) rest old r = refl
 act_low (Branches left target) rest old r = refl
 act_low (Locates left location) rest old r = refl
-act_low (Ends left piece) rest old r = refl
-act_low (Asks left request waiting) rest old r = refl
-act_low (Refuses fault) rest old r = refl
+act_low (EndsPiece left piece) rest old r = refl
+act_low (RequestAct left request waiting) rest old r = refl
+act_low (FaultAct fault) rest old r = refl
 
 -- first a pop, and then the act on what is left
 pub performs_low : (f : List Value → Act) (rest : List Value) (old mid new : State) → length rest ≤ length old.store.values → mid ≡ with_values rest old → Performs (f mid.store.values) mid new → Performs (f rest) old new

@@ -9,7 +9,7 @@ use Rattle.dwarf_meaning.specs.Decoding.{operation_at}
 use Rattle.dwarf_meaning.specs.Operations.{Operation}
 use Rattle.dwarf_meaning.specs.Run.{read}
 use Rattle.dwarf_meaning.specs.Stores.{Last, Nothing, Plain, Pieced, Pushed, Called, Located}
-use Rattle.dwarf_meaning.specs.Rest.{State, Status, Start, Running, Waits, Complete, Stopped}
+use Rattle.dwarf_meaning.specs.Rest.{State, Status, Start, Running, RequestStatus, CompleteStatus, FaultStatus}
 use Rattle.dwarf_machine.specs.Inputs.{with_status}
 use Rattle.dwarf_machine.specs.inner.Steps.{Comes, CountsOne, IsFree, IsReady, IsRest, PerformsRead, Turns, at, effort, goes_on, is_free, is_running, read_to, total}
 use Rattle.dwarf_machine.proofs.Reaching.{comes_here, comes_more}
@@ -19,9 +19,9 @@ use Rattle.dwarf_machine.proofs.Turning.{counted_turns, ready_none, unread_turns
 
 running_on : (status : Status) → is_running status ≡ true → status ≡ Running
 running_on Running h = refl
-running_on (Waits request waiting) h = cc
-running_on (Complete value) h = cc
-running_on (Stopped error) h = cc
+running_on (RequestStatus request waiting) h = cc
+running_on (CompleteStatus value) h = cc
+running_on (FaultStatus error) h = cc
 running_on (Start initial_value) h = cc
 
 free_on : (last : Last) → is_free last ≡ true → IsFree last
@@ -78,10 +78,10 @@ module _ (encoding : Encoding) (bits : ℕ) (left after : List ℕ) (is_big : Bo
       counted_turns (at left x) (at left counted_x) (read_to (length counted_x.text.bytes - length h.behind) (at left counted_x)) (at after new) h.op ready counts_there
       (record { behind = h.behind; was = read_there (Ok (h.op, h.behind)) h.was; moved = refl }) h.performs
 
-  pub refused_turns : (refused new : State) (error : Error) → read_here ≡ Err (fault_of error) → refused ≡ ticked → new ≡ with_status (Stopped error) refused → Turns (at left x) (at after new)
+  pub refused_turns : (refused new : State) (error : Error) → read_here ≡ Err (fault_of error) → refused ≡ ticked → new ≡ with_status (FaultStatus error) refused → Turns (at left x) (at after new)
   refused_turns refused new error was same is =
       unread_turns (at left x) (at left counted_x) (at after ticked) (at after new) error ready counts_there (read_there (Err (fault_of error)) was) refl
-      (ap (at after) (is ∙ ap (with_status (Stopped error)) same))
+      (ap (at after) (is ∙ ap (with_status (FaultStatus error)) same))
 
 -- ---- the loop
 

@@ -4,7 +4,7 @@ use Rattle.dwarf_value.specs.declared.types.Value.{Value}
 use Rattle.dwarf_value.specs.Values.{to_u64_of}
 use Rattle.dwarf_meaning.specs.Operations as operation
 use Rattle.dwarf_meaning.specs.Locations.{Empty, AtAddress}
-use Rattle.dwarf_meaning.specs.Acts.{Ends}
+use Rattle.dwarf_meaning.specs.Acts.{EndsPiece}
 use Rattle.dwarf_meaning.specs.Stores.{Pieced, address_bits, push_piece}
 use Rattle.dwarf_meaning.specs.Rest.{State, Running}
 use Rattle.dwarf_machine.specs.inner.Steps.{PopsNumber, Tries, Performs, act_of, with_last, with_values}
@@ -26,5 +26,5 @@ module _ (size : ℕ) (offset : Option ℕ) where
       let number : address ≡ to_u64_of (address_bits old.setup) h.value = h.is ∙ ap (λ (z : State). to_u64_of (address_bits z.setup) h.value) m in
       performs_as _ _ old new
       (some_piece _ _ old.store.values size offset h.value h.rest values
-      ∙ ap (λ (n : ℕ). Ends h.rest (record { size_in_bits = Some size; bit_offset = offset; location = AtAddress n })) (sym number))
+      ∙ ap (λ (n : ℕ). EndsPiece h.rest (record { size_in_bits = Some size; bit_offset = offset; location = AtAddress n })) (sym number))
       (performs_ends h.rest _ old mid new done runs (fewer_one h.value h.rest old.store.values values) (h.alone ∙ ap (with_values h.rest) m) t)

@@ -2,12 +2,12 @@
 use Rattle.std.proofs.Common.{◌≡◌, ℕ, List, Option, Result, Ok, Err, ap, sym, subst}
 use Rattle.dwarf_base.specs.Faults.{Fault}
 use Rattle.dwarf_meaning.specs.Operations.{Operation}
-use Rattle.dwarf_meaning.specs.Run.{piece_of}
+use Rattle.dwarf_meaning.specs.Run.{piece_ended_by}
 use Rattle.dwarf_op.specs.Views.{piece_read}
 
 pub record Found (z : Result (Operation × List ℕ) Fault) (piece : Option (ℕ × Option ℕ)) (behind : List ℕ) : Type 0 where
   pub op : Operation
-  pub is : piece_of op ≡ piece
+  pub is : piece_ended_by op ≡ piece
   pub was : z ≡ Ok (op, behind)
 
 abbrev front_of : (other : Option (ℕ × Option ℕ) × List ℕ) → Result (Option (ℕ × Option ℕ) × List ℕ) Fault → Option (ℕ × Option ℕ) × List ℕ

@@ -5,8 +5,8 @@ use Rattle.dwarf_base.specs.declared.errors.Error.TheVariants as error
 use Rattle.dwarf_base.specs.Faults.{Fault, StackFull, ◌>>=◌}
 use Rattle.dwarf_value.specs.declared.types.Value.{Value}
 use Rattle.dwarf_meaning.specs.Locations.{Piece}
-use Rattle.dwarf_meaning.specs.Stores.{Limits, Setup, Store, Refusal, Never, After, room, spent, push_value, push_piece, push_frame}
-use Rattle.dwarf_meaning.specs.Rest.{State, Stopped, with_refusal}
+use Rattle.dwarf_meaning.specs.Stores.{Limits, Setup, Store, Refusal, Never, After, room, spent, push_value, push_piece, push_caller}
+use Rattle.dwarf_meaning.specs.Rest.{State, FaultStatus, with_refusal}
 use Rattle.dwarf_meaning.proofs.Choices.{choose_true, choose_false}
 use Rattle.dwarf_store.specs.Lists.{HasRoom, MayRefuse}
 use Rattle.dwarf_machine.specs.Inputs.{MayPick, with_status}
@@ -40,7 +40,7 @@ may_value : (limits : Limits) (limit : Option ℕ) → limits.values ≡ limit �
 may_value limits None e = inl e
 may_value limits (Some limit) e = tt
 
-may_frame : (limits : Limits) (limit : Option ℕ) → limits.frames ≡ limit → MayPick limits (refuser limit)
+may_frame : (limits : Limits) (limit : Option ℕ) → limits.callers ≡ limit → MayPick limits (refuser limit)
 may_frame limits None e = inr (inl e)
 may_frame limits (Some limit) e = tt
 
@@ -90,10 +90,10 @@ piece_refused setup piece old full =
       same = ap (λ (x : Result Refusal Fault). x >>= λ left. Ok (record old { pieces = old.pieces ++ piece ∷ []; refusal = left })) (room_refused limit (length old.pieces) full);
     }
 
-pub frame_pushed : (setup : Setup) (depth : ℕ) (old new : Store) → HasRoom setup.limits.frames depth → new ≡ old → Steps (push_frame setup depth) old Ok new
-unfolding push_frame
+pub frame_pushed : (setup : Setup) (depth : ℕ) (old new : Store) → HasRoom setup.limits.callers depth → new ≡ old → Steps (push_caller setup depth) old Ok new
+unfolding push_caller
 frame_pushed setup depth old new fits e =
-    let limit = setup.limits.frames in
+    let limit = setup.limits.callers in
     record {
       pushes = cost limit;
       same = λ r.
@@ -101,10 +101,10 @@ frame_pushed setup depth old new fits e =
           ∙ ap (λ (s : Store). Ok (with_refusal r s)) (sym e);
     }
 
-pub frame_refused : (setup : Setup) (depth : ℕ) (old : Store) → MayRefuse setup.limits.frames depth → Gets setup.limits (push_frame setup depth) old (Err StackFull)
-unfolding push_frame
+pub frame_refused : (setup : Setup) (depth : ℕ) (old : Store) → MayRefuse setup.limits.callers depth → Gets setup.limits (push_caller setup depth) old (Err StackFull)
+unfolding push_caller
 frame_refused setup depth old full =
-    let limit = setup.limits.frames in
+    let limit = setup.limits.callers in
     record {
       refusal = refuser limit;
       may = may_frame setup.limits limit refl;
@@ -112,28 +112,28 @@ frame_refused setup depth old full =
     }
 
 -- the state keeps the fault of a value that is refused
-pub value_stops : (value : Value) (old new : State) → MayRefuse old.setup.limits.values (length old.store.values) → new ≡ with_status (Stopped error.StackFull) old → Refused 0 (push_value old.setup value) old new
+pub value_stops : (value : Value) (old new : State) → MayRefuse old.setup.limits.values (length old.store.values) → new ≡ with_status (FaultStatus error.StackFull) old → Refused 0 (push_value old.setup value) old new
 value_stops value old new full e = record {
   error = error.StackFull;
   stopped = ap (λ (z : State). z.status) e;
   gets = value_refused old.setup value old.store full;
-  stays = stays_status (Stopped error.StackFull) old new e;
+  stays = stays_status (FaultStatus error.StackFull) old new e;
 }
 
 -- the state keeps the fault of a piece that is refused
-pub piece_stops : (piece : Piece) (old new : State) → MayRefuse old.setup.limits.pieces (length old.store.pieces) → new ≡ with_status (Stopped error.StackFull) old → Refused 0 (push_piece old.setup piece) old new
+pub piece_stops : (piece : Piece) (old new : State) → MayRefuse old.setup.limits.pieces (length old.store.pieces) → new ≡ with_status (FaultStatus error.StackFull) old → Refused 0 (push_piece old.setup piece) old new
 piece_stops piece old new full e = record {
   error = error.StackFull;
   stopped = ap (λ (z : State). z.status) e;
   gets = piece_refused old.setup piece old.store full;
-  stays = stays_status (Stopped error.StackFull) old new e;
+  stays = stays_status (FaultStatus error.StackFull) old new e;
 }
 
 -- the state keeps the fault of a frame that is refused
-pub frame_stops : (old new : State) → MayRefuse old.setup.limits.frames (length old.callers) → new ≡ with_status (Stopped error.StackFull) old → Refused 0 (push_frame old.setup (length old.callers)) old new
+pub frame_stops : (old new : State) → MayRefuse old.setup.limits.callers (length old.callers) → new ≡ with_status (FaultStatus error.StackFull) old → Refused 0 (push_caller old.setup (length old.callers)) old new
 frame_stops old new full e = record {
   error = error.StackFull;
   stopped = ap (λ (z : State). z.status) e;
   gets = frame_refused old.setup (length old.callers) old.store full;
-  stays = stays_status (Stopped error.StackFull) old new e;
+  stays = stays_status (FaultStatus error.StackFull) old new e;
 }

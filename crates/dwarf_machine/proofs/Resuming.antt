@@ -5,16 +5,16 @@ use Rattle.dwarf_base.specs.Faults.{Fault, fault_of}
 use Rattle.dwarf_value.specs.declared.types.Value.{Value}
 use Rattle.dwarf_meaning.specs.Operations.{Text}
 use Rattle.dwarf_meaning.specs.Requests.{Request, Waiting, Answer, Input}
-use Rattle.dwarf_meaning.specs.Acts.{Use, Gives, Calls, Denies, use_of}
+use Rattle.dwarf_meaning.specs.Acts.{Use, PushesAnswer, Calls, FaultUse, use_of}
 use Rattle.dwarf_meaning.specs.RunLaws.{waits_of}
-use Rattle.dwarf_meaning.specs.Stores.{address_bits, Store, Pushed, Called, Refusal, Never, After, taken, push_value, push_frame}
-use Rattle.dwarf_meaning.specs.Run.{Frame, Course, Asking, ended, called, entered, resumed, used, run}
-use Rattle.dwarf_meaning.specs.Meaning.{Faults}
-use Rattle.dwarf_meaning.specs.Rest.{State, Running, Waits, Stopped, with_refusal}
-use Rattle.dwarf_meaning.proofs.Counts.{HasTally, OnStore, Tally, tally_of, tally-push_frame}
+use Rattle.dwarf_meaning.specs.Stores.{address_bits, Store, Pushed, Called, Refusal, Never, After, taken, push_value, push_caller}
+use Rattle.dwarf_meaning.specs.Run.{Position, Course, RequestEnd, only_end, run_callee, enter_callee, after_push, after_answer, run}
+use Rattle.dwarf_meaning.specs.Meaning.{FaultOutcome}
+use Rattle.dwarf_meaning.specs.Rest.{State, Running, RequestStatus, FaultStatus, with_refusal}
+use Rattle.dwarf_meaning.proofs.Counts.{HasTally, OnStore, Tally, tally_of, tally-push_caller}
 use Rattle.dwarf_machine.specs.Bounds.{located, faults_in}
 use Rattle.dwarf_machine.specs.Inputs.{MayPick, before_input, input_of, with_status}
-use Rattle.dwarf_machine.specs.inner.Steps.{before_pushes, Total, total_after, Does, Refused, Stays, Tries, Tried, Enters, TriesToEnter, BeginsBy, Takes, with_last, with_values}
+use Rattle.dwarf_machine.specs.inner.Steps.{before_pushes, Total, total_after, Does, Refused, Stays, Tries, Tried, Enters, TriesToEnter, RunsOnBy, Takes, with_last, with_values}
 use Rattle.dwarf_machine.proofs.Light.{IsLightUse, use_light}
 use Rattle.dwarf_machine.proofs.Loads.{HasLast, HasPieces, Keeping, kept_in, value_adds, value_last, value_pieces, frame_adds, frame_last, frame_pieces}
 use Rattle.dwarf_machine.proofs.Nearing.{nears_by}
@@ -27,16 +27,16 @@ taken_before : (r : Refusal) → taken (before_input r) ≡ r
 taken_before Never = refl
 taken_before (After inputs pushes) = refl
 
-module _ (x : State) (request : Request) (waiting : Waiting) (open_now : x.status ≡ Waits request waiting) (answer : Answer) where
-  abbrev frame : Frame
-  frame = record { text = x.text; place = x.place }
+module _ (x : State) (request : Request) (waiting : Waiting) (open_now : x.status ≡ RequestStatus request waiting) (answer : Answer) where
+  abbrev position : Position
+  position = record { text = x.text; place = x.place }
 
   abbrev totals : Refusal → List Input → Total
   totals = total_after x (input_of x answer)
 
   -- what is kept once the answer is taken; the settings are those of the state
   abbrev use_total : (r : Refusal) → List Input → Refusal → Use → Total
-  use_total r inputs q u = through x.store.count x.setup x.callers (used (run x.setup) x.setup frame (length x.callers) u (with_refusal q x.store) inputs (ended (Asking request (frame ∷ []) (input_of x answer ∷ inputs))))
+  use_total r inputs q u = through x.store.count x.setup x.callers (after_answer (run x.setup) x.setup position (length x.callers) u (with_refusal q x.store) inputs (only_end (RequestEnd request (position ∷ []) (input_of x answer ∷ inputs))))
 
   answer_rest : (r : Refusal) (inputs : List Input) (u : Use) → use_of (address_bits x.setup) waiting answer x.store.values ≡ u → totals r inputs ≡ use_total r inputs r u
   answer_rest r inputs u e =
@@ -45,27 +45,27 @@ module _ (x : State) (request : Request) (waiting : Waiting) (open_now : x.statu
       ∙ ap (use_total r inputs r) e)
 
   -- an answer that ends in a fault
-  takes_fault : (new : State) (error : Error) (refusal : Refusal) → new.status ≡ Stopped error → Stays 0 x new → MayPick x.setup.limits refusal → ((inputs : List Input) → totals refusal inputs ≡ closed (Faults (fault_of error)) x.store.count) → Takes answer x new
+  takes_fault : (new : State) (error : Error) (refusal : Refusal) → new.status ≡ FaultStatus error → Stays 0 x new → MayPick x.setup.limits refusal → ((inputs : List Input) → totals refusal inputs ≡ closed (FaultOutcome (fault_of error)) x.store.count) → Takes answer x new
   takes_fault new error refusal stopped stays may same =
       let count = stays.count in
       let callers = stays.callers in
       let items = stays.items in
       let decodings = stays.decodings in
-      subst (BeginsBy x totals new) (sym stopped) (record {
+      subst (RunsOnBy x totals new) (sym stopped) (record {
         refusal = refusal;
         may = may;
-        same = λ inputs. same inputs ∙ ap (closed (Faults (fault_of error))) (sym stays.count);
+        same = λ inputs. same inputs ∙ ap (closed (FaultOutcome (fault_of error))) (sym stays.count);
         kept = stays.kept;
         spends = fallen_spends x new error (ap faults_in open_now) stopped (omega (arith, callers)) (omega (arith, count)) (omega (arith, items)) (omega (arith, decodings, count)) stays.pieces (omega (arith, decodings, count)) (omega (arith, decodings, count));
       })
 
-  pub denies : (error : Error) (mid new : State) → use_of (address_bits x.setup) waiting answer x.store.values ≡ Denies (fault_of error) → Stays 0 x mid → new ≡ with_status (Stopped error) mid → Takes answer x new
+  pub denies : (error : Error) (mid new : State) → use_of (address_bits x.setup) waiting answer x.store.values ≡ FaultUse (fault_of error) → Stays 0 x mid → new ≡ with_status (FaultStatus error) mid → Takes answer x new
   denies error mid new e stays is =
-      takes_fault new error Never (ap (λ (z : State). z.status) is) (stays_then (Stopped error) x mid new stays is) tt
-      (λ inputs. answer_rest Never inputs (Denies (fault_of error)) e ∙ through_failed x.store.count x.setup x.callers (fault_of error))
+      takes_fault new error Never (ap (λ (z : State). z.status) is) (stays_then (FaultStatus error) x mid new stays is) tt
+      (λ inputs. answer_rest Never inputs (FaultUse (fault_of error)) e ∙ through_failed x.store.count x.setup x.callers (fault_of error))
 
   -- a value is pushed on what the answer leaves of the stack
-  module _ (values : List Value) (value : Value) (gives : use_of (address_bits x.setup) waiting answer x.store.values ≡ Gives values value) where
+  module _ (values : List Value) (value : Value) (gives : use_of (address_bits x.setup) waiting answer x.store.values ≡ PushesAnswer values value) where
     abbrev answered : State
     answered = with_status Running (with_last Pushed (with_values values x))
 
@@ -82,11 +82,11 @@ module _ (x : State) (request : Request) (waiting : Waiting) (open_now : x.statu
         let callers = ap (λ (z : State). length z.callers) d.alone in
         let count : new.store.count ≡ x.store.count = ap (λ (m : Tally). m.count) tally in
         let low = fewer in
-        subst (BeginsBy x totals new) (sym runs) (record {
+        subst (RunsOnBy x totals new) (sym runs) (record {
           pushes = d.steps.pushes;
           same = λ r inputs.
-              answer_rest (before_pushes d.steps.pushes r) inputs (Gives values value) gives
-              ∙ (ap (λ (z : Result Store Fault). through x.store.count x.setup x.callers (resumed (run x.setup) frame (length x.callers) inputs z)) (d.steps.same r)
+              answer_rest (before_pushes d.steps.pushes r) inputs (PushesAnswer values value) gives
+              ∙ (ap (λ (z : Result Store Fault). through x.store.count x.setup x.callers (after_push (run x.setup) position (length x.callers) inputs z)) (d.steps.same r)
               ∙ (ap (λ (n : ℕ). through n x.setup x.callers (run x.setup x.text x.place (length x.callers) (with_refusal r new.store) inputs)) (sym count)
               ∙ sym (total_running r new inputs runs ∙ ap (λ (z : State). going z (with_refusal r new.store) inputs) d.alone)));
           kept = record {
@@ -96,7 +96,7 @@ module _ (x : State) (request : Request) (waiting : Waiting) (open_now : x.statu
           };
           spends = answered_spends x new request waiting open_now runs (omega (arith, callers)) (omega (arith, callers, kept, low)) count (ap (λ (z : State). z.decodings) d.alone) (omega (arith, last))
               (subst (OnStore (HasPieces s.pieces)) (d.steps.same Never) (value_pieces x.setup value s)) (λ given. omega (arith, last));
-          nears = nears_by x new (Waits request waiting) Running open_now runs (omega (arith, count));
+          nears = nears_by x new (RequestStatus request waiting) Running open_now runs (omega (arith, count));
         })
 
     value_refused : (new : State) → Refused 0 (push_value x.setup value) answered new → Takes answer x new
@@ -104,8 +104,8 @@ module _ (x : State) (request : Request) (waiting : Waiting) (open_now : x.statu
         let low = fewer in
         takes_fault new h.error h.gets.refusal h.stopped (stays_from 0 0 values Pushed Running x new (omega (arith, low)) h.stays) h.gets.may
         (λ inputs.
-        answer_rest h.gets.refusal inputs (Gives values value) gives
-        ∙ (ap (λ (z : Result Store Fault). through x.store.count x.setup x.callers (resumed (run x.setup) frame (length x.callers) inputs z)) h.gets.same
+        answer_rest h.gets.refusal inputs (PushesAnswer values value) gives
+        ∙ (ap (λ (z : Result Store Fault). through x.store.count x.setup x.callers (after_push (run x.setup) position (length x.callers) inputs z)) h.gets.same
         ∙ through_failed x.store.count x.setup x.callers (fault_of h.error)))
 
     takes_by : (new : State) (done : Bool) → Tries 0 (push_value x.setup value) answered new done → Takes answer x new
@@ -126,28 +126,28 @@ module _ (x : State) (request : Request) (waiting : Waiting) (open_now : x.statu
       let last = ap (λ (z : State). waits_of z.store.last) e in
       let runs : new.status ≡ Running = ap (λ (z : State). z.status) e in
       let count : new.store.count ≡ x.store.count = ap (λ (z : State). z.store.count) e in
-      subst (BeginsBy x totals new) (sym runs) (record {
+      subst (RunsOnBy x totals new) (sym runs) (record {
         pushes = 0;
         same = λ r inputs.
             answer_rest r inputs (Calls callee) calls
-            ∙ (ap (λ (bytes : List ℕ). through x.store.count x.setup x.callers (called (run x.setup) x.setup frame (length x.callers) callee bytes (with_refusal r x.store) inputs)) none
+            ∙ (ap (λ (bytes : List ℕ). through x.store.count x.setup x.callers (run_callee (run x.setup) x.setup position (length x.callers) callee bytes (with_refusal r x.store) inputs)) none
             ∙ sym (total_running r new inputs runs ∙ ap (λ (z : State). going z (with_refusal r z.store) inputs) e));
         kept = record { setup = ap (λ (z : State). z.setup) e; object_address = ap (λ (z : State). z.store.object_address) e; maximum = ap (λ (z : State). z.store.maximum) e };
         spends = answered_spends x new request waiting open_now runs (omega (arith, callers)) (omega (arith, callers, kept)) count (ap (λ (z : State). z.decodings) e) (omega (arith, last)) (ap (λ (z : State). z.store.pieces) e) (λ given. omega (arith, last));
-        nears = nears_by x new (Waits request waiting) Running open_now runs (omega (arith, count));
+        nears = nears_by x new (RequestStatus request waiting) Running open_now runs (omega (arith, count));
       })
 
   module _ (callee : Text) (byte : ℕ) (bytes : List ℕ) (calls : use_of (address_bits x.setup) waiting answer x.store.values ≡ Calls callee) (some : callee.bytes ≡ byte ∷ bytes) where
-    call_rest : (r : Refusal) (inputs : List Input) (z : Result Store Fault) → push_frame x.setup (length x.callers) (with_refusal r x.store) ≡ z → totals r inputs ≡ through x.store.count x.setup x.callers (entered (run x.setup) frame (length x.callers) callee inputs z)
+    call_rest : (r : Refusal) (inputs : List Input) (z : Result Store Fault) → push_caller x.setup (length x.callers) (with_refusal r x.store) ≡ z → totals r inputs ≡ through x.store.count x.setup x.callers (enter_callee (run x.setup) position (length x.callers) callee inputs z)
     call_rest r inputs z e =
         answer_rest r inputs (Calls callee) calls
-        ∙ (ap (λ (bs : List ℕ). through x.store.count x.setup x.callers (called (run x.setup) x.setup frame (length x.callers) callee bs (with_refusal r x.store) inputs)) some
-        ∙ ap (λ (y : Result Store Fault). through x.store.count x.setup x.callers (entered (run x.setup) frame (length x.callers) callee inputs y)) e)
+        ∙ (ap (λ (bs : List ℕ). through x.store.count x.setup x.callers (run_callee (run x.setup) x.setup position (length x.callers) callee bs (with_refusal r x.store) inputs)) some
+        ∙ ap (λ (y : Result Store Fault). through x.store.count x.setup x.callers (enter_callee (run x.setup) position (length x.callers) callee inputs y)) e)
 
     text_taken : (new : State) → Enters callee (with_status Running x) new → Takes answer x new
     text_taken new d =
         let s : Store = with_refusal (before_pushes d.steps.pushes Never) x.store in
-        let tally : tally_of new.store ≡ tally_of x.store = subst (OnStore (HasTally (tally_of s))) (d.steps.same Never) (tally-push_frame x.setup (length x.callers) s) in
+        let tally : tally_of new.store ≡ tally_of x.store = subst (OnStore (HasTally (tally_of s))) (d.steps.same Never) (tally-push_caller x.setup (length x.callers) s) in
         let runs : new.status ≡ Running = ap (λ (z : State). z.status) d.alone in
         let kept : kept_in new.store ≡ kept_in x.store = subst (OnStore (Keeping (kept_in s))) (d.steps.same Never) (frame_adds x.setup (length x.callers) s) in
         let stays : new.store.last ≡ x.store.last = subst (OnStore (HasLast s.last)) (d.steps.same Never) (frame_last x.setup (length x.callers) s) in
@@ -155,14 +155,14 @@ module _ (x : State) (request : Request) (waiting : Waiting) (open_now : x.statu
         let gave : located new.store.last ≡ located x.store.last = ap located stays in
         let callers : length new.callers ≡ suc (length x.callers) = ap (λ (z : State). length z.callers) d.alone in
         let count : new.store.count ≡ x.store.count = ap (λ (m : Tally). m.count) tally in
-        subst (BeginsBy x totals new) (sym runs) (record {
+        subst (RunsOnBy x totals new) (sym runs) (record {
           pushes = d.steps.pushes;
           same = λ r inputs.
               let t : Store = with_refusal r new.store in
               let course : Course = run x.setup callee 0 (suc (length x.callers)) t inputs in
               call_rest (before_pushes d.steps.pushes r) inputs (Ok t) (d.steps.same r)
-              ∙ (through_back x.store.count x.setup x.callers frame course
-              ∙ (ap (λ (n : ℕ). through n x.setup (frame ∷ x.callers) course) (sym count)
+              ∙ (through_back x.store.count x.setup x.callers position course
+              ∙ (ap (λ (n : ℕ). through n x.setup (position ∷ x.callers) course) (sym count)
               ∙ sym (total_running r new inputs runs ∙ ap (λ (z : State). going z t inputs) d.alone)));
           kept = record {
             setup = ap (λ (z : State). z.setup) d.alone;
@@ -171,10 +171,10 @@ module _ (x : State) (request : Request) (waiting : Waiting) (open_now : x.statu
           };
           spends = answered_spends x new request waiting open_now runs (omega (arith, callers)) (omega (arith, callers, kept)) count (ap (λ (z : State). z.decodings) d.alone) (omega (arith, last))
               (subst (OnStore (HasPieces s.pieces)) (d.steps.same Never) (frame_pieces x.setup (length x.callers) s)) (λ given. omega (arith, last, gave, given));
-          nears = nears_by x new (Waits request waiting) Running open_now runs (omega (arith, count));
+          nears = nears_by x new (RequestStatus request waiting) Running open_now runs (omega (arith, count));
         })
 
-    text_refused : (new : State) → Refused 0 (push_frame x.setup (length x.callers)) (with_status Running x) new → Takes answer x new
+    text_refused : (new : State) → Refused 0 (push_caller x.setup (length x.callers)) (with_status Running x) new → Takes answer x new
     text_refused new h =
         takes_fault new h.error h.gets.refusal h.stopped (stays_from 0 0 x.store.values x.store.last Running x new (omega arith) h.stays) h.gets.may
         (λ inputs. call_rest h.gets.refusal inputs (Err (fault_of h.error)) h.gets.same ∙ through_failed x.store.count x.setup x.callers (fault_of h.error))

@@ -5,7 +5,7 @@ use Rattle.dwarf_value.specs.declared.types.Value.{Value}
 use Rattle.dwarf_meaning.specs.Requests.{Request, Waiting}
 use Rattle.dwarf_meaning.specs.RunLaws.{waits_of}
 use Rattle.dwarf_meaning.specs.Stores.{Last, Nothing, Plain, Pieced, Pushed, Called, Located}
-use Rattle.dwarf_meaning.specs.Rest.{State, Start, Running, Waits, Complete, Stopped}
+use Rattle.dwarf_meaning.specs.Rest.{State, Start, Running, RequestStatus, CompleteStatus, FaultStatus}
 use Rattle.dwarf_machine.specs.Bounds.{piece_due, initial_due, answer_due, endings, located, faults_in, DecodesOnce, Spends}
 use Rattle.dwarf_machine.proofs.Endings.{located_waits}
 use Rattle.dwarf_machine.proofs.Loads.{kept_in}
@@ -51,7 +51,7 @@ module _ (old new : State) where
       let little = waits_little new.store.last in
       record { items = omega (arith, p, i, a, q, j, b, callers, count, kept); callers = omega (arith, a, b, callers, count); decodings = omega (arith, p, q, count, decodings, little); once = once_by old new (ap faults_in was) (omega (arith, count, decodings, ended)) (omega (arith, q, waits)) }
 
-  pub asked_spends : (request : Request) (waiting : Waiting) → old.status ≡ Running → new.status ≡ Waits request waiting → length new.callers ≡ length old.callers → new.store.count ≡ old.store.count + 1 → new.decodings ≡ old.decodings + 1 → kept_in new.store ≤ kept_in old.store → endings new.store.pieces ≡ endings old.store.pieces → waits_of new.store.last ≤ located new.store.last → Spends old new
+  pub asked_spends : (request : Request) (waiting : Waiting) → old.status ≡ Running → new.status ≡ RequestStatus request waiting → length new.callers ≡ length old.callers → new.store.count ≡ old.store.count + 1 → new.decodings ≡ old.decodings + 1 → kept_in new.store ≤ kept_in old.store → endings new.store.pieces ≡ endings old.store.pieces → waits_of new.store.last ≤ located new.store.last → Spends old new
   asked_spends request waiting was is callers count decodings kept ended waits =
       let p = ap (piece_due old.store.last) was in
       let i = ap initial_due was in
@@ -105,7 +105,7 @@ module _ (old new : State) where
       }
 
   -- the end
-  pub over_spends : (value : Option Value) → old.status ≡ Running → new.status ≡ Complete value → length new.callers ≡ length old.callers → new.store.count ≡ old.store.count → new.decodings ≡ old.decodings → length new.store.values + length new.store.pieces ≤ length old.store.values + length old.store.pieces + waits_of old.store.last → endings new.store.pieces ≡ endings old.store.pieces → Spends old new
+  pub over_spends : (value : Option Value) → old.status ≡ Running → new.status ≡ CompleteStatus value → length new.callers ≡ length old.callers → new.store.count ≡ old.store.count → new.decodings ≡ old.decodings → length new.store.values + length new.store.pieces ≤ length old.store.values + length old.store.pieces + waits_of old.store.last → endings new.store.pieces ≡ endings old.store.pieces → Spends old new
   over_spends value was is callers count decodings kept ended =
       let p = ap (piece_due old.store.last) was in
       let i = ap initial_due was in
@@ -137,7 +137,7 @@ module _ (old new : State) where
       }
 
   -- an answer: a value more at most, or a caller more at most
-  pub answered_spends : (request : Request) (waiting : Waiting) → old.status ≡ Waits request waiting → new.status ≡ Running → length new.callers ≤ length old.callers + 1 → length new.callers + kept_in new.store ≤ length old.callers + kept_in old.store + 1 → new.store.count ≡ old.store.count → new.decodings ≡ old.decodings → waits_of new.store.last ≤ waits_of old.store.last → new.store.pieces ≡ old.store.pieces → (waits_of old.store.last ≤ located old.store.last → waits_of new.store.last ≤ located new.store.last) → Spends old new
+  pub answered_spends : (request : Request) (waiting : Waiting) → old.status ≡ RequestStatus request waiting → new.status ≡ Running → length new.callers ≤ length old.callers + 1 → length new.callers + kept_in new.store ≤ length old.callers + kept_in old.store + 1 → new.store.count ≡ old.store.count → new.decodings ≡ old.decodings → waits_of new.store.last ≤ waits_of old.store.last → new.store.pieces ≡ old.store.pieces → (waits_of old.store.last ≤ located old.store.last → waits_of new.store.last ≤ located new.store.last) → Spends old new
   answered_spends request waiting was is callers kept count decodings waits pieces gives =
       let ended = ap endings pieces in
       let p = ap (piece_due old.store.last) was in
@@ -157,7 +157,7 @@ module _ (old new : State) where
       }
 
 -- a fault: no more items and callers are there than before, and each operation that was counted was decoded, and one more at most
-pub fallen_spends : (old new : State) (error : Error) → faults_in old.status ≡ 0 → new.status ≡ Stopped error → length new.callers ≤ length old.callers → old.store.count ≤ new.store.count → length new.store.values + length new.store.pieces ≤ length old.store.values + length old.store.pieces → new.decodings + 2 * old.store.count ≤ old.decodings + piece_due old.store.last old.status + 2 * new.store.count → new.store.pieces ≡ old.store.pieces → old.decodings + new.store.count ≤ new.decodings + old.store.count → new.decodings + old.store.count ≤ old.decodings + new.store.count + 1 → Spends old new
+pub fallen_spends : (old new : State) (error : Error) → faults_in old.status ≡ 0 → new.status ≡ FaultStatus error → length new.callers ≤ length old.callers → old.store.count ≤ new.store.count → length new.store.values + length new.store.pieces ≤ length old.store.values + length old.store.pieces → new.decodings + 2 * old.store.count ≤ old.decodings + piece_due old.store.last old.status + 2 * new.store.count → new.store.pieces ≡ old.store.pieces → old.decodings + new.store.count ≤ new.decodings + old.store.count → new.decodings + old.store.count ≤ old.decodings + new.store.count + 1 → Spends old new
 fallen_spends old new error sound is callers count lists decodings pieces each one =
     let q = ap (piece_due new.store.last) is in
     let j = ap initial_due is in

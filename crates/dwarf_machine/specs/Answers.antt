@@ -4,10 +4,11 @@ use Rattle.dwarf_meaning.specs.Operations.{Text}
 use Rattle.dwarf_meaning.specs.Kinds.{Kind, kind_of_waiting}
 use Rattle.dwarf_meaning.specs.Requests as asked
 use Rattle.dwarf_meaning.specs.Rest as rest
-use Rattle.dwarf_meaning.specs.Rest.{Start, Running, Waits, Complete, Stopped}
+use Rattle.dwarf_meaning.specs.Rest.{Start, Running, RequestStatus, CompleteStatus, FaultStatus}
 use Rattle.dwarf_machine.specs.declared.states.Given.{Given}
 use Rattle.dwarf_machine.specs.declared.states.Given.TheVariants as given
 
+-- what a machine is given, as an answer
 abbrev pub answer_of : {R : Type 0} → (R → Text) → Given R → asked.Answer
 answer_of text (given.Memory value) = asked.MemoryAnswer value
 answer_of text (given.Register value) = asked.RegisterAnswer value
@@ -24,16 +25,16 @@ answer_of text (given.BaseType value_type) = asked.BaseTypeAnswer value_type
 
 -- a request of this kind is open
 abbrev pub IsWaitingFor : Kind → rest.Status → Type 0
-IsWaitingFor kind (Waits request waiting) = kind_of_waiting waiting ≡ kind
+IsWaitingFor kind (RequestStatus request waiting) = kind_of_waiting waiting ≡ kind
 IsWaitingFor kind (Start initial_value) = ⊥
-IsWaitingFor kind (Complete value) = ⊥
-IsWaitingFor kind (Stopped error) = ⊥
+IsWaitingFor kind (CompleteStatus value) = ⊥
+IsWaitingFor kind (FaultStatus error) = ⊥
 IsWaitingFor kind Running = ⊥
 
 -- the open request waits to do this with its answer
 abbrev pub IsWaitingTo : asked.Waiting → rest.Status → Type 0
-IsWaitingTo wanted (Waits request waiting) = waiting ≡ wanted
+IsWaitingTo wanted (RequestStatus request waiting) = waiting ≡ wanted
 IsWaitingTo wanted (Start initial_value) = ⊥
-IsWaitingTo wanted (Complete value) = ⊥
-IsWaitingTo wanted (Stopped error) = ⊥
+IsWaitingTo wanted (CompleteStatus value) = ⊥
+IsWaitingTo wanted (FaultStatus error) = ⊥
 IsWaitingTo wanted Running = ⊥

@@ -4,46 +4,46 @@ use Rattle.dwarf_meaning.specs.Locations.{Location, Empty, InRegister, AtAddress
 use Rattle.dwarf_meaning.specs.Run.{most}
 use Rattle.dwarf_meaning.specs.RunLaws.{waits_of}
 use Rattle.dwarf_meaning.specs.Stores.{Last, Located}
-use Rattle.dwarf_meaning.specs.Rest.{State, Status, Start, Running, Waits, Complete, Stopped}
+use Rattle.dwarf_meaning.specs.Rest.{State, Status, Start, Running, RequestStatus, CompleteStatus, FaultStatus}
 
 -- 1 where a location waits for its piece, until the evaluation is over
 abbrev pub piece_due : Last → Status → ℕ
 piece_due last (Start initial_value) = waits_of last
 piece_due last Running = waits_of last
-piece_due last (Waits request waiting) = waits_of last
-piece_due last (Complete value) = 0
-piece_due last (Stopped error) = 0
+piece_due last (RequestStatus request waiting) = waits_of last
+piece_due last (CompleteStatus value) = 0
+piece_due last (FaultStatus error) = 0
 
 -- 1 where an initial value is still to be pushed
 abbrev pub initial_due : Status → ℕ
 initial_due (Start (Some number)) = 1
 initial_due (Start None) = 0
 initial_due Running = 0
-initial_due (Waits request waiting) = 0
-initial_due (Complete value) = 0
-initial_due (Stopped error) = 0
+initial_due (RequestStatus request waiting) = 0
+initial_due (CompleteStatus value) = 0
+initial_due (FaultStatus error) = 0
 
--- 1 where an answer is still to come: a value, or a called text with a frame for its caller
+-- 1 where an answer is still to come: a value, or a called text and its caller
 abbrev pub answer_due : Status → ℕ
-answer_due (Waits request waiting) = 1
+answer_due (RequestStatus request waiting) = 1
 answer_due (Start initial_value) = 0
 answer_due Running = 0
-answer_due (Complete value) = 0
-answer_due (Stopped error) = 0
+answer_due (CompleteStatus value) = 0
+answer_due (FaultStatus error) = 0
 
 -- how many items the three lists hold together, with those that are due
-abbrev pub items_of : State → ℕ
-items_of x =
+abbrev pub item_count : State → ℕ
+item_count x =
     length x.store.values + length x.callers + length x.store.pieces
     + piece_due x.store.last x.status + initial_due x.status + answer_due x.status
 
 -- how many callers there are, with one that is due
-abbrev pub callers_of : State → ℕ
-callers_of x = length x.callers + answer_due x.status
+abbrev pub caller_count : State → ℕ
+caller_count x = length x.callers + answer_due x.status
 
 -- how often it decoded, with a piece that is due
-abbrev pub decodings_of : State → ℕ
-decodings_of x = x.decodings + piece_due x.store.last x.status
+abbrev pub decoding_count : State → ℕ
+decoding_count x = x.decodings + piece_due x.store.last x.status
 
 -- 1 for a location that an operation gives; a piece by itself is empty or at an address (section 2.6.1.2)
 abbrev pub located_by : Location → ℕ
@@ -71,11 +71,11 @@ located _ = 0
 
 -- 1 where a fault was met
 abbrev pub faults_in : Status → ℕ
-faults_in (Stopped error) = 1
+faults_in (FaultStatus error) = 1
 faults_in (Start initial_value) = 0
 faults_in Running = 0
-faults_in (Waits request waiting) = 0
-faults_in (Complete value) = 0
+faults_in (RequestStatus request waiting) = 0
+faults_in (CompleteStatus value) = 0
 
 -- Each operation that was counted was decoded once, and so was each piece that ended a location; nothing else
 -- was, but for what stands in the piece's place where that is a fault.
@@ -87,9 +87,9 @@ pub record DecodesOnce (x : State) : Type 0 where
 -- From the one state to the other each operation that was counted added one item at most, one caller at most, and two
 -- decodings at most, beside so many items more; and what was decoded once still is.
 pub record SpendsInAll (more : ℕ) (old new : State) : Type 0 where
-  pub items : items_of new + old.store.count ≤ items_of old + new.store.count + more
-  pub callers : callers_of new + old.store.count ≤ callers_of old + new.store.count
-  pub decodings : decodings_of new + 2 * old.store.count ≤ decodings_of old + 2 * new.store.count
+  pub items : item_count new + old.store.count ≤ item_count old + new.store.count + more
+  pub callers : caller_count new + old.store.count ≤ caller_count old + new.store.count
+  pub decodings : decoding_count new + 2 * old.store.count ≤ decoding_count old + 2 * new.store.count
   pub once : DecodesOnce old → DecodesOnce new
 
 -- the same of one call
@@ -98,9 +98,9 @@ Spends old new = SpendsInAll 0 old new
 
 -- Nothing is counted, kept or decoded, and nothing is due.
 pub record IsUnspent (x : State) : Type 0 where
-  pub items : items_of x ≡ 0
-  pub callers : callers_of x ≡ 0
-  pub decodings : decodings_of x ≡ 0
+  pub items : item_count x ≡ 0
+  pub callers : caller_count x ≡ 0
+  pub decodings : decoding_count x ≡ 0
   pub count : x.store.count ≡ 0
   pub once : DecodesOnce x
 
@@ -113,9 +113,9 @@ initial_items None = 0
 abbrev pub calls_left_by : State → Status → ℕ
 calls_left_by x (Start initial_value) = most - x.store.count + 1
 calls_left_by x Running = most - x.store.count + 1
-calls_left_by x (Waits request waiting) = most - x.store.count + 1
-calls_left_by x (Complete value) = 0
-calls_left_by x (Stopped error) = 0
+calls_left_by x (RequestStatus request waiting) = most - x.store.count + 1
+calls_left_by x (CompleteStatus value) = 0
+calls_left_by x (FaultStatus error) = 0
 
 -- how many more resumes there may be
 abbrev pub calls_left : State → ℕ

@@ -7,7 +7,7 @@ use Rattle.dwarf_meaning.specs.Rest.{State, Status}
 
 -- one of the lists has no limit
 abbrev pub HasFreeList : Limits → Type 0
-HasFreeList limits = (limits.values ≡ None) ⊎ (limits.frames ≡ None) ⊎ (limits.pieces ≡ None)
+HasFreeList limits = (limits.values ≡ None) ⊎ (limits.callers ≡ None) ⊎ (limits.pieces ≡ None)
 
 -- only a push on a list without a limit may be refused before a limit is met
 abbrev pub MayPick : Limits → Refusal → Type 0
@@ -29,6 +29,7 @@ pub record Keeps (old new : State) : Type 0 where
   pub object_address : new.store.object_address ≡ old.store.object_address
   pub maximum : new.store.maximum ≡ old.store.maximum
 
+-- the same state, but for the status
 abbrev pub with_status : Status → State → State
 with_status status x = record x { status = status }
 
@@ -42,11 +43,14 @@ pub record IsFresh (x : State) (initial_value : Option ℕ) : Type 0 where
   pub callers : x.callers ≡ []
   pub store : x.store ≡ fresh (first_of x initial_value) Never
 
+-- the maximum that holds where none is set
 abbrev pub most_iterations : ℕ
 most_iterations = 4294967295
 
+-- the same state, with this object address in force
 abbrev pub with_object : Option ℕ → State → State
 with_object address x = record x { store = record x.store { object_address = address } }
 
+-- the same state, with this maximum in force
 abbrev pub with_maximum : ℕ → State → State
 with_maximum maximum x = record x { store = record x.store { maximum = maximum } }

@@ -9,8 +9,8 @@ use Rattle.dwarf_meaning.specs.Operations.{Text}
 use Rattle.dwarf_meaning.specs.Locations as meaning
 use Rattle.dwarf_meaning.specs.Requests as asked
 use Rattle.dwarf_meaning.specs.Stores.{Setup, Store, Last, Nothing, Plain, Pieced, Pushed, Called, Located, Never}
-use Rattle.dwarf_meaning.specs.Run.{Frame}
-use Rattle.dwarf_meaning.specs.Rest.{Status, Start, Running, Waits, Complete, Stopped}
+use Rattle.dwarf_meaning.specs.Run.{Position}
+use Rattle.dwarf_meaning.specs.Rest.{Status, Start, Running, RequestStatus, CompleteStatus, FaultStatus}
 use Rattle.dwarf_op.specs.Views.{text_of, reference_of}
 use Rattle.dwarf_op.specs.declared.locations.Location.{Location}
 use Rattle.dwarf_op.specs.declared.locations.Location.TheVariants as location
@@ -22,6 +22,7 @@ use Rattle.dwarf_machine.specs.declared.states.OpenRequest.TheVariants as reques
 use Rattle.dwarf_machine.specs.declared.states.EvaluationState.{EvaluationState}
 use Rattle.dwarf_machine.specs.declared.states.EvaluationState.TheVariants as state
 
+-- a location of the code, as the definitions have it
 abbrev pub location_of : {R O P : Type 0} → (R → Text) → (O → ℕ) → Location R O P → meaning.Location
 location_of text number location.Empty = meaning.Empty
 location_of text number (location.Register register) = meaning.InRegister register.0
@@ -30,10 +31,12 @@ location_of text number (location.Value value) = meaning.HoldsValue value
 location_of text number (location.Bytes value) = meaning.HoldsBytes (text value)
 location_of text number (location.ImplicitPointer value byte_offset) = meaning.PointsInto (number value.0) byte_offset
 
+-- a piece of the code, as the definitions have it
 abbrev pub piece_of : {R O P : Type 0} → (R → Text) → (O → ℕ) → Piece R O P → meaning.Piece
 piece_of text number piece =
     record { size_in_bits = piece.size_in_bits; bit_offset = piece.bit_offset; location = location_of text number piece.location }
 
+-- of what sort the last operation was, as the definitions have it
 abbrev pub last_of : {R O P : Type 0} → (R → Text) → (O → ℕ) → LastOperation R O P → Last
 last_of text number last.Nothing = Nothing
 last_of text number last.Plain = Plain
@@ -80,29 +83,32 @@ waiting_of text (request.TypedLiteral base_type value) = asked.TypedLiteral (tex
 waiting_of text (request.Convert base_type) = asked.Convert
 waiting_of text (request.Reinterpret base_type) = asked.Reinterpret
 
+-- where the code stands, as the definitions have it
 abbrev pub status_of : {R O P : Type 0} → (R → Text) → (O → ℕ) → EvaluationState R O P → Status
 status_of text number (state.Start initial_value) = Start initial_value
 status_of text number state.Running = Running
-status_of text number (state.Waiting request) = Waits (request_of text number request) (waiting_of text request)
-status_of text number (state.Complete value) = Complete value
-status_of text number (state.Failed error) = Stopped error
+status_of text number (state.Waiting request) = RequestStatus (request_of text number request) (waiting_of text request)
+status_of text number (state.Complete value) = CompleteStatus value
+status_of text number (state.Failed error) = FaultStatus error
 
 -- how many bytes of the text come before what is left of it
 abbrev pub place_of : {R : Type 0} → (R → List ℕ) → (text left : R) → ℕ
 place_of bytes text left = length (bytes text) - length (bytes left)
 
 -- a caller: what is left of it, and the whole of it
-abbrev pub frame_of : {R : Type 0} → (R → List ℕ) → (R → Bool) → R × R → Frame
-frame_of bytes is_big f = record { text = text_of bytes is_big f.1; place = place_of bytes f.1 f.0 }
+abbrev pub caller_of : {R : Type 0} → (R → List ℕ) → (R → Bool) → R × R → Position
+caller_of bytes is_big f = record { text = text_of bytes is_big f.1; place = place_of bytes f.1 f.0 }
 
 -- the innermost caller first
-abbrev pub frames_of : {R : Type 0} → (R → List ℕ) → (R → Bool) → List (R × R) → List Frame
-frames_of bytes is_big frames = reverse (map (frame_of bytes is_big) frames)
+abbrev pub callers_of : {R : Type 0} → (R → List ℕ) → (R → Bool) → List (R × R) → List Position
+callers_of bytes is_big readers = reverse (map (caller_of bytes is_big) readers)
 
+-- the setup: an encoding, the bits of an offset, and a limit for each list
 abbrev pub setup_of : Encoding → ℕ → Option ℕ → Option ℕ → Option ℕ → Setup
-setup_of encoding offset_bits values frames pieces =
-    record { encoding = encoding; offset_bits = offset_bits; limits = record { values = values; frames = frames; pieces = pieces } }
+setup_of encoding offset_bits values callers pieces =
+    record { encoding = encoding; offset_bits = offset_bits; limits = record { values = values; callers = callers; pieces = pieces } }
 
+-- what is kept: the code's lists, with the top of the stack first
 abbrev pub store_of : {R O P : Type 0} → (R → Text) → (O → ℕ) → List Value → List (Piece R O P) → ℕ → Option ℕ → ℕ → LastOperation R O P → Store
 store_of text number values pieces count object_address maximum last = record {
   values = reverse values;
@@ -120,8 +126,8 @@ pub record IsLeftOf {R : Type 0} (bytes : R → List ℕ) (is_big : R → Bool) 
   pub order : is_big left ≡ is_big text
 
 -- the mask is that of the encoding's addresses, and all that is left belongs to its text
-pub record IsSound {R : Type 0} (bytes : R → List ℕ) (is_big : R → Bool) (encoding : Encoding) (addr_mask : ℕ) (text left : R) (frames : List (R × R)) : Type 0 where
+pub record IsSound {R : Type 0} (bytes : R → List ℕ) (is_big : R → Bool) (encoding : Encoding) (addr_mask : ℕ) (text left : R) (readers : List (R × R)) : Type 0 where
   pub mask : IsAddressMask addr_mask
   pub width : width_of addr_mask ≡ 8 * encoding.address_size
   pub here : IsLeftOf bytes is_big text left
-  pub callers : AllByRecursion (λ (f : R × R). IsLeftOf bytes is_big f.1 f.0) frames
+  pub callers : AllByRecursion (λ (f : R × R). IsLeftOf bytes is_big f.1 f.0) readers

@@ -3,34 +3,36 @@ use Rattle.std.specs.Prelude.{List, [], ◌∷◌, ◌++◌, Result, Ok, Err, le
 use Rattle.dwarf_base.specs.Faults.{Fault}
 use Rattle.dwarf_meaning.specs.Requests.{Input}
 use Rattle.dwarf_meaning.specs.Stores.{Setup, Store, Refusal}
-use Rattle.dwarf_meaning.specs.Run.{Frame, End, Finished, Asking, Failed, Course, run, asked}
+use Rattle.dwarf_meaning.specs.Run.{Position, End, CompleteEnd, RequestEnd, FaultEnd, Course, run, await_answer}
 use Rattle.dwarf_meaning.specs.Meaning.{with_initial}
-use Rattle.dwarf_meaning.specs.Rest.{State, Status, Start, Running, Waits, Complete, Stopped, with_refusal}
+use Rattle.dwarf_meaning.specs.Rest.{State, Status, Start, Running, RequestStatus, CompleteStatus, FaultStatus, with_refusal}
 
 -- the path of the callers' rest, which follows a run, inside out
-abbrev pub path_behind : Setup → List Frame → End → List Frame
-path_behind setup [] (Finished s inputs) = []
-path_behind setup (caller ∷ callers) (Finished s inputs) =
+abbrev pub path_behind : Setup → List Position → End → List Position
+path_behind setup [] (CompleteEnd s inputs) = []
+path_behind setup (caller ∷ callers) (CompleteEnd s inputs) =
     let course = run setup caller.text caller.place (length callers) s inputs in course.path ++ path_behind setup callers course.end
-path_behind setup callers (Asking request frames inputs) = []
-path_behind setup callers (Failed fault) = []
+path_behind setup callers (RequestEnd request positions inputs) = []
+path_behind setup callers (FaultEnd fault) = []
 
 -- the path of a run, and of the callers' rest behind it
-abbrev pub path_through : Setup → List Frame → Course → List Frame
+abbrev pub path_through : Setup → List Position → Course → List Position
 path_through setup callers course = course.path ++ path_behind setup callers course.end
 
-abbrev pub path_started : State → List Input → Result Store Fault → List Frame
+-- the path from the start, where the initial value found room
+abbrev pub path_started : State → List Input → Result Store Fault → List Position
 path_started x inputs (Ok s) = path_through x.setup x.callers (run x.setup x.text x.place (length x.callers) s inputs)
 path_started x inputs (Err fault) = []
 
-abbrev pub path_by : State → Store → List Input → Status → List Frame
+-- the same by the status
+abbrev pub path_by : State → Store → List Input → Status → List Position
 path_by x s inputs (Start initial_value) = path_started x inputs (with_initial x.setup initial_value s)
 path_by x s inputs Running = path_through x.setup x.callers (run x.setup x.text x.place (length x.callers) s inputs)
-path_by x s inputs (Waits request waiting) =
-    path_through x.setup x.callers (asked (run x.setup) x.setup (record { text = x.text; place = x.place }) (length x.callers) request waiting s inputs)
-path_by x s inputs (Complete value) = []
-path_by x s inputs (Stopped error) = []
+path_by x s inputs (RequestStatus request waiting) =
+    path_through x.setup x.callers (await_answer (run x.setup) x.setup (record { text = x.text; place = x.place }) (length x.callers) request waiting s inputs)
+path_by x s inputs (CompleteStatus value) = []
+path_by x s inputs (FaultStatus error) = []
 
 -- where the operations stand that are still counted, with these inputs, where this push is refused
-unfoldable pub path : Refusal → State → List Input → List Frame
+unfoldable pub path : Refusal → State → List Input → List Position
 path refusal x inputs = path_by x (with_refusal refusal x.store) inputs x.status

@@ -148,7 +148,7 @@ impl<R: Reader + Copy, S: EvaluationStorage<R>> Machine<R, S> {
             self.mark(LastOperation::Called);
             return;
         }
-        self.push_frame(callee);
+        self.push_caller(callee);
     }
 
     /// Takes an answer.

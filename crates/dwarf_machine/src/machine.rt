@@ -2,7 +2,7 @@ ghost use Rattle.std.specs.Prelude.{◌≡◌, ◌==◌, ◌<◌, ◌≤◌, ◌
 ghost use Rattle.dwarf_base.specs.Faults.{fault_of};
 ghost use Rattle.dwarf_value.specs.Values.{IsAddressMask, width_of};
 ghost use Rattle.dwarf_meaning.specs.Meaning.{has_pieces};
-ghost use Rattle.dwarf_meaning.specs.Rest.{Start, Stopped};
+ghost use Rattle.dwarf_meaning.specs.Rest.{Start, FaultStatus};
 ghost use Rattle.dwarf_meaning.specs.Run.{read};
 ghost use Rattle.dwarf_meaning.specs.Stores.{Located, Plain, address_bits, push_value, push_piece};
 ghost use Rattle.dwarf_machine.specs.Bounds.{IsUnspent};
@@ -44,10 +44,10 @@ impl<R: Reader + Copy, S: EvaluationStorage<R>> Model for Machine<R, S> {
 
     ghost Value = { State };
 
-    ghost use Rattle.dwarf_machine.specs.Machine.{setup_of, status_of, store_of, place_of, frames_of, IsSound};
+    ghost use Rattle.dwarf_machine.specs.Machine.{setup_of, status_of, store_of, place_of, callers_of, IsSound};
     ghost use Rattle.dwarf_op.specs.Views.{text_of};
 
-    ghost view = { λ e. record { status = status_of (text_of R.bytes R.is_big) R.Offset.number e.state; setup = setup_of e.encoding R.Offset.BITS (S.Stack.limit e.stack) (S.ExpressionStack.limit e.expression_stack) (S.Result.limit e.pieces); text = text_of R.bytes R.is_big e.bytecode; place = place_of R.bytes e.bytecode e.pc; callers = frames_of R.bytes R.is_big (S.ExpressionStack.items e.expression_stack); store = store_of (text_of R.bytes R.is_big) R.Offset.number (S.Stack.items e.stack) (S.Result.items e.pieces) e.iteration e.object_address e.max_iterations e.last; decodings = e.decodings.count } };
+    ghost view = { λ e. record { status = status_of (text_of R.bytes R.is_big) R.Offset.number e.state; setup = setup_of e.encoding R.Offset.BITS (S.Stack.limit e.stack) (S.ExpressionStack.limit e.expression_stack) (S.Result.limit e.pieces); text = text_of R.bytes R.is_big e.bytecode; place = place_of R.bytes e.bytecode e.pc; callers = callers_of R.bytes R.is_big (S.ExpressionStack.items e.expression_stack); store = store_of (text_of R.bytes R.is_big) R.Offset.number (S.Stack.items e.stack) (S.Result.items e.pieces) e.iteration e.object_address e.max_iterations e.last; decodings = e.decodings.count } };
 
     ghost invariant = { λ e. IsSound R.bytes R.is_big e.encoding e.addr_mask e.bytecode e.pc (S.ExpressionStack.items e.expression_stack) };
 }
@@ -57,7 +57,7 @@ impl<R: Reader + Copy, S: EvaluationStorage<R>> Machine<R, S> {
     #[cold]
     #[inline(never)]
     pub(crate) fn fail(&mut self, error: Error)
-        ensures { self.new ≡ with_status (Stopped error) self.old }
+        ensures { self.new ≡ with_status (FaultStatus error) self.old }
     {
         self.state = EvaluationState::Failed(error);
     }
@@ -332,12 +332,12 @@ impl<R: Reader + Copy, S: EvaluationStorage<R>> Machine<R, S> {
         true
     }
 
-    /// Runs a called text, with a frame for its caller, or keeps the fault of a list that doesn't take the frame.
-    pub(crate) fn push_frame(&mut self, callee: R) -> bool
+    /// Runs a called text and keeps its caller, or keeps the fault of a list that doesn't take it.
+    pub(crate) fn push_caller(&mut self, callee: R) -> bool
         ensures { TriesToEnter (text_of R.bytes R.is_big callee) self.old self.new result }
     {
-        let frame = (self.pc, self.bytecode);
-        let Ok(()) = self.expression_stack.push(frame) else {
+        let caller = (self.pc, self.bytecode);
+        let Ok(()) = self.expression_stack.push(caller) else {
             self.fail(Error::StackFull);
             return false;
         };
@@ -347,14 +347,14 @@ impl<R: Reader + Copy, S: EvaluationStorage<R>> Machine<R, S> {
     }
 
     /// Goes back to the innermost caller, if there is one.
-    pub(crate) fn pop_frame(&mut self) -> bool
+    pub(crate) fn pop_caller(&mut self) -> bool
         ensures { GoesBack result self.old self.new }
     {
-        let Some(frame) = self.expression_stack.pop() else {
+        let Some(caller) = self.expression_stack.pop() else {
             return false;
         };
-        self.pc = frame.0;
-        self.bytecode = frame.1;
+        self.pc = caller.0;
+        self.bytecode = caller.1;
         true
     }
 

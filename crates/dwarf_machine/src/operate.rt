@@ -1,7 +1,7 @@
 ghost use Rattle.std.specs.Prelude.{◌≡◌, [], ◌∷◌};
-ghost use Rattle.dwarf_meaning.specs.Acts.{Asks, Branches, Locates, Pushes, Refuses, binary, push, unary};
+ghost use Rattle.dwarf_meaning.specs.Acts.{RequestAct, Branches, Locates, Pushes, FaultAct, binary, push, unary};
 ghost use Rattle.dwarf_meaning.specs.Operations as meaning;
-ghost use Rattle.dwarf_meaning.specs.Rest.{Running, Stopped};
+ghost use Rattle.dwarf_meaning.specs.Rest.{Running, FaultStatus};
 ghost use Rattle.dwarf_meaning.specs.Stores.{Plain, address_bits, push_value, push_values};
 ghost use Rattle.dwarf_base.specs.declared.errors.Error.TheVariants.{NotEnoughStackItems};
 ghost use Rattle.dwarf_base.specs.Faults.{UnsupportedEvaluation};
@@ -158,7 +158,7 @@ impl<R: Reader + Copy, S: EvaluationStorage<R>> Machine<R, S> {
     #[cold]
     #[inline(never)]
     pub(crate) fn fall_short(&mut self)
-        ensures { self.new ≡ with_status (Stopped NotEnoughStackItems) self.old }
+        ensures { self.new ≡ with_status (FaultStatus NotEnoughStackItems) self.old }
     {
         self.fail(Error::NotEnoughStackItems);
     }
@@ -167,7 +167,7 @@ impl<R: Reader + Copy, S: EvaluationStorage<R>> Machine<R, S> {
     #[cold]
     #[inline(never)]
     pub(crate) fn refuse(&mut self)
-        ensures { Performs (Refuses UnsupportedEvaluation) self.old self.new }
+        ensures { Performs (FaultAct UnsupportedEvaluation) self.old self.new }
     {
         self.fail(Error::UnsupportedEvaluation);
     }
@@ -362,7 +362,7 @@ impl<R: Reader + Copy, S: EvaluationStorage<R>> Machine<R, S> {
     /// Opens a request.
     #[inline(always)]
     pub(crate) fn ask(&mut self, request: OpenRequest<R>)
-        ensures { Performs (Asks self.old.store.values (request_of (text_of R.bytes R.is_big) R.Offset.number request) (waiting_of (text_of R.bytes R.is_big) request)) self.old self.new }
+        ensures { Performs (RequestAct self.old.store.values (request_of (text_of R.bytes R.is_big) R.Offset.number request) (waiting_of (text_of R.bytes R.is_big) request)) self.old self.new }
     {
         self.enter(EvaluationState::Waiting(request));
     }

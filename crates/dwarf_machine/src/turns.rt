@@ -1,10 +1,10 @@
 ghost use Rattle.std.specs.Prelude.{◌≡◌, ◌==◌, ◌<◌, length, true, false};
-ghost use Rattle.dwarf_meaning.specs.Meaning.{whole as meant_whole, completed, finish, finish_free, finish_judged, finish_located, finish_value};
+ghost use Rattle.dwarf_meaning.specs.Meaning.{whole as meant_whole, completion_of, finish, finish_free, finish_judged, finish_located, finish_value};
 ghost use Rattle.dwarf_meaning.specs.Rest.{Running, Start};
 ghost use Rattle.dwarf_meaning.specs.RunLaws.{waits_of};
 ghost use Rattle.dwarf_meaning.specs.Stores.{Located, push_piece};
 ghost use Rattle.dwarf_machine.specs.Machine.{location_of, piece_of};
-ghost use Rattle.dwarf_machine.specs.inner.Steps.{Begins, Closes, Ends, Holds, IsReady, IsRest, Turns, at, goes_on, total};
+ghost use Rattle.dwarf_machine.specs.inner.Steps.{RunsOn, Closes, Ends, EndsLocated, IsReady, IsRest, Turns, at, goes_on, total};
 ghost use Rattle.dwarf_op.specs.Views.{text_of};
 
 use crate::machine::Machine;
@@ -70,7 +70,7 @@ impl<R: Reader + Copy, S: EvaluationStorage<R>> Machine<R, S> {
     #[inline(always)]
     fn end_located(&mut self, location: Location<R>, piece: Option<(u64, Option<u64>)>)
         requires { 0 < self.old.place }
-        ensures { Holds (location_of (text_of R.bytes R.is_big) R.Offset.number location) piece self.old self.new }
+        ensures { EndsLocated (location_of (text_of R.bytes R.is_big) R.Offset.number location) piece self.old self.new }
     {
         let Some(size) = piece else {
             let place = self.place().into_u64();
@@ -101,7 +101,7 @@ impl<R: Reader + Copy, S: EvaluationStorage<R>> Machine<R, S> {
     /// Ends the run with one more piece.
     fn complete(&mut self, piece: Piece<R>, value: Option<Value>)
         requires { self.old.status ≡ Running }
-        ensures { Closes 1 (λ s. completed value (push_piece self.old.setup (piece_of (text_of R.bytes R.is_big) R.Offset.number piece) s)) self.old self.new }
+        ensures { Closes 1 (λ s. completion_of value (push_piece self.old.setup (piece_of (text_of R.bytes R.is_big) R.Offset.number piece) s)) self.old self.new }
     {
         if self.push_piece(piece) {
             self.enter(EvaluationState::Complete(value));
@@ -178,7 +178,7 @@ impl<R: Reader + Copy, S: EvaluationStorage<R>> Machine<R, S> {
         requires ends { (self.old.place == length self.old.text.bytes) ≡ true }
         ensures { Turns self.old self.new }
     {
-        if !self.pop_frame() {
+        if !self.pop_caller() {
             self.finish();
         }
     }
@@ -214,7 +214,7 @@ impl<R: Reader + Copy, S: EvaluationStorage<R>> Machine<R, S> {
     /// Begins the run.
     fn begin(&mut self, initial_value: Option<u64>)
         requires { self.old.status ≡ Start initial_value }
-        ensures { Begins self.old (total self.old) self.new }
+        ensures { RunsOn self.old (total self.old) self.new }
     {
         self.enter(EvaluationState::Running);
         if let Some(value) = initial_value {

@@ -4,23 +4,23 @@ use Rattle.dwarf_base.specs.Faults.{Fault}
 use Rattle.dwarf_value.specs.declared.types.Value.{Value}
 use Rattle.dwarf_meaning.specs.Operations.{Operation, Text}
 use Rattle.dwarf_meaning.specs.Locations.{Location}
-use Rattle.dwarf_meaning.specs.Requests.{Request, Waiting, Memory, Register, WasmValue, EntryValue, FrameBase, Tls, CallFrameCfa, ParameterRef, RelocatedAddress, IndexedAddress, AtLocation, TypedLiteral, Convert, Reinterpret, Answer, MemoryAnswer, RegisterAnswer, WasmAnswer, EntryAnswer, FrameBaseAnswer, TlsAnswer, CfaAnswer, ParameterAnswer, RelocatedAnswer, IndexedAnswer, LocationAnswer, BaseTypeAnswer, Input, location_of}
-use Rattle.dwarf_meaning.specs.Acts.{on_some, on_answer, Use, Gives, Calls, Denies, Misfits, use_of}
-use Rattle.dwarf_meaning.specs.Stores.{Setup, address_bits, Refusal, Store, Last, Nothing, Plain, Pieced, Pushed, Called, Located, push_value, push_frame, Next, Goes, Stops, Fails}
-use Rattle.dwarf_meaning.specs.Run.{Frame, End, Finished, Asking, Failed, Course, ended, Continues, back, resumed, entered, called, used, with_input, asked, led, read, can_count, counted, does, counts, held, turn_by, turn, out_of_turns, run_for, enough, run}
-use Rattle.dwarf_meaning.specs.Meaning.{completed, has_pieces, finish_value, finish_by, unwound, First, course_from, meaning}
+use Rattle.dwarf_meaning.specs.Requests.{Request, Waiting, Memory, Register, WasmValue, EntryValue, FrameBase, Tls, CallFrameCfa, ParameterRef, RelocatedAddress, IndexedAddress, AtLocation, TypedLiteral, Convert, Reinterpret, Answer, MemoryAnswer, RegisterAnswer, WasmAnswer, EntryAnswer, FrameBaseAnswer, TlsAnswer, CfaAnswer, ParameterAnswer, RelocatedAnswer, IndexedAnswer, LocationAnswer, BaseTypeAnswer, Input, location_in}
+use Rattle.dwarf_meaning.specs.Acts.{on_some, on_result, Use, PushesAnswer, Calls, FaultUse, WrongKind, use_of}
+use Rattle.dwarf_meaning.specs.Stores.{Setup, address_bits, Refusal, Store, Last, Nothing, Plain, Pieced, Pushed, Called, Located, push_value, push_caller, Next, Goes, RequestNext, FaultNext}
+use Rattle.dwarf_meaning.specs.Run.{Position, End, CompleteEnd, RequestEnd, FaultEnd, Course, only_end, Continues, return_to_caller, after_push, enter_callee, run_callee, after_answer, with_input, await_answer, after_operation, read, can_count, counted, do_operation, turn_counted, turn_located, turn_by, turn, out_of_turns, run_for, enough, run}
+use Rattle.dwarf_meaning.specs.Meaning.{completion_of, has_pieces, finish_value, finish_by, unwound, First, course_from, meaning}
 use Rattle.dwarf_meaning.specs.RunLaws.{IsAnswered, IsCallee, Open, alone, calling, EndOpen, OutcomeOpen}
 use Rattle.dwarf_meaning.proofs.Choices.{choose_both}
 use Rattle.dwarf_meaning.proofs.Shorter.{all_some, all_answer, all_top}
 
 -- a text that is called is the answer
 data CallsAnswer (answer : Answer) : Use → Type 0 where
-  gives : (rest : List Value) (value : Value) → CallsAnswer answer (Gives rest value)
+  gives : (rest : List Value) (value : Value) → CallsAnswer answer (PushesAnswer rest value)
   calls : (text : Text) → answer ≡ LocationAnswer text → CallsAnswer answer (Calls text)
-  denies : (fault : Fault) → CallsAnswer answer (Denies fault)
-  misfits : CallsAnswer answer Misfits
+  denies : (fault : Fault) → CallsAnswer answer (FaultUse fault)
+  misfits : CallsAnswer answer WrongKind
 
-location_calls : (answer : Answer) → CallsAnswer answer (on_some (location_of answer) Misfits Calls)
+location_calls : (answer : Answer) → CallsAnswer answer (on_some (location_in answer) WrongKind Calls)
 unfolding on_some
 location_calls (MemoryAnswer value) = misfits
 location_calls (RegisterAnswer value) = misfits
@@ -36,11 +36,11 @@ location_calls (LocationAnswer text) = calls text refl
 location_calls (BaseTypeAnswer value_type) = misfits
 
 module _ (answer : Answer) where
-  some_calls : {X : Type 0} (o : Option X) (go : X → Use) → ((x : X) → CallsAnswer answer (go x)) → CallsAnswer answer (on_some o Misfits go)
-  some_calls o go = all_some (CallsAnswer answer) o Misfits go misfits
+  some_calls : {X : Type 0} (o : Option X) (go : X → Use) → ((x : X) → CallsAnswer answer (go x)) → CallsAnswer answer (on_some o WrongKind go)
+  some_calls o go = all_some (CallsAnswer answer) o WrongKind go misfits
 
-  answer_calls : {X : Type 0} (r : Result X Fault) (go : X → Use) → ((x : X) → CallsAnswer answer (go x)) → CallsAnswer answer (on_answer r Denies go)
-  answer_calls r go = all_answer (CallsAnswer answer) r Denies go (λ fault. denies fault)
+  answer_calls : {X : Type 0} (r : Result X Fault) (go : X → Use) → ((x : X) → CallsAnswer answer (go x)) → CallsAnswer answer (on_result r FaultUse go)
+  answer_calls r go = all_answer (CallsAnswer answer) r FaultUse go (λ fault. denies fault)
 
   use_calls : (bits : ℕ) (waiting : Waiting) (values : List Value) → CallsAnswer answer (use_of bits waiting answer values)
   unfolding use_of
@@ -73,60 +73,60 @@ known_all all = known_within all all (λ text h. h)
 
 module _ (all : List Input) where
   abbrev Ends : Text → End → Type 0
-  Ends text (Finished s left) = Known all left
-  Ends text (Asking request frames left) = Open all text frames
-  Ends text (Failed fault) = Unit {0}
+  Ends text (CompleteEnd s left) = Known all left
+  Ends text (RequestEnd request positions left) = Open all text positions
+  Ends text (FaultEnd fault) = Unit {0}
 
   abbrev Opens : Continues → Type 0
   Opens go = (text : Text) (place depth : ℕ) (s : Store) (inputs : List Input) → Known all inputs → Ends text (go text place depth s inputs).end
 
   module _ (go : Continues) (opens : Opens go) where
-    opens_back : (frame : Frame) (callee : Text) (depth : ℕ) (course : Course) (end : End) → IsCallee all callee → Ends callee end → Ends frame.text (back go frame depth course end).end
-    opens_back frame callee depth course (Finished s left) c h = opens frame.text frame.place depth s left h
-    opens_back frame callee depth course (Asking request frames left) c h = calling frame callee frames c h
-    opens_back frame callee depth course (Failed fault) c h = tt
+    opens_back : (position : Position) (callee : Text) (depth : ℕ) (course : Course) (end : End) → IsCallee all callee → Ends callee end → Ends position.text (return_to_caller go position depth course end).end
+    opens_back position callee depth course (CompleteEnd s left) c h = opens position.text position.place depth s left h
+    opens_back position callee depth course (RequestEnd request positions left) c h = calling position callee positions c h
+    opens_back position callee depth course (FaultEnd fault) c h = tt
 
-    opens_resumed : (frame : Frame) (depth : ℕ) (inputs : List Input) (r : Result Store Fault) → Known all inputs → Ends frame.text (resumed go frame depth inputs r).end
-    opens_resumed frame depth inputs (Ok s) k = opens frame.text frame.place depth s inputs k
-    opens_resumed frame depth inputs (Err fault) k = tt
+    opens_resumed : (position : Position) (depth : ℕ) (inputs : List Input) (r : Result Store Fault) → Known all inputs → Ends position.text (after_push go position depth inputs r).end
+    opens_resumed position depth inputs (Ok s) k = opens position.text position.place depth s inputs k
+    opens_resumed position depth inputs (Err fault) k = tt
 
-    opens_entered : (frame : Frame) (depth : ℕ) (callee : Text) (inputs : List Input) (r : Result Store Fault) → IsCallee all callee → Known all inputs → Ends frame.text (entered go frame depth callee inputs r).end
-    opens_entered frame depth callee inputs (Ok s) c k =
-        let course = go callee 0 (suc depth) s inputs in opens_back frame callee depth course course.end c (opens callee 0 (suc depth) s inputs k)
-    opens_entered frame depth callee inputs (Err fault) c k = tt
+    opens_entered : (position : Position) (depth : ℕ) (callee : Text) (inputs : List Input) (r : Result Store Fault) → IsCallee all callee → Known all inputs → Ends position.text (enter_callee go position depth callee inputs r).end
+    opens_entered position depth callee inputs (Ok s) c k =
+        let course = go callee 0 (suc depth) s inputs in opens_back position callee depth course course.end c (opens callee 0 (suc depth) s inputs k)
+    opens_entered position depth callee inputs (Err fault) c k = tt
 
-    opens_called : (setup : Setup) (frame : Frame) (depth : ℕ) (callee : Text) (bytes : List ℕ) (s : Store) (inputs : List Input) → callee.bytes ≡ bytes → IsAnswered callee all → Known all inputs → Ends frame.text (called go setup frame depth callee bytes s inputs).end
-    opens_called setup frame depth callee [] s inputs e a k = opens frame.text frame.place depth (record s { last = Called }) inputs k
-    opens_called setup frame depth callee (byte ∷ bytes) s inputs e a k =
-        opens_entered frame depth callee inputs (push_frame setup depth s)
+    opens_called : (setup : Setup) (position : Position) (depth : ℕ) (callee : Text) (bytes : List ℕ) (s : Store) (inputs : List Input) → callee.bytes ≡ bytes → IsAnswered callee all → Known all inputs → Ends position.text (run_callee go setup position depth callee bytes s inputs).end
+    opens_called setup position depth callee [] s inputs e a k = opens position.text position.place depth (record s { last = Called }) inputs k
+    opens_called setup position depth callee (byte ∷ bytes) s inputs e a k =
+        opens_entered position depth callee inputs (push_caller setup depth s)
         (record { answered = a; some_bytes = subst (λ (bs : List ℕ). 0 < length bs) (sym e) (omega arith) }) k
 
-    opens_used : (setup : Setup) (frame : Frame) (depth : ℕ) (input : Input) (u : Use) (s : Store) (inputs : List Input) (unanswered : Course) → CallsAnswer input.answer u → Known all (input ∷ inputs) → Ends frame.text unanswered.end → Ends frame.text (used go setup frame depth u s inputs unanswered).end
-    opens_used setup frame depth input (Gives rest value) s inputs unanswered c k h = opens_resumed frame depth inputs (push_value setup value (record s { values = rest; last = Pushed })) k.1
-    opens_used setup frame depth input (Calls callee) s inputs unanswered (calls _ e) k h = opens_called setup frame depth callee callee.bytes s inputs refl (k.0 callee e) k.1
-    opens_used setup frame depth input (Denies fault) s inputs unanswered c k h = tt
-    opens_used setup frame depth input Misfits s inputs unanswered c k h = h
+    opens_used : (setup : Setup) (position : Position) (depth : ℕ) (input : Input) (u : Use) (s : Store) (inputs : List Input) (unanswered : Course) → CallsAnswer input.answer u → Known all (input ∷ inputs) → Ends position.text unanswered.end → Ends position.text (after_answer go setup position depth u s inputs unanswered).end
+    opens_used setup position depth input (PushesAnswer rest value) s inputs unanswered c k h = opens_resumed position depth inputs (push_value setup value (record s { values = rest; last = Pushed })) k.1
+    opens_used setup position depth input (Calls callee) s inputs unanswered (calls _ e) k h = opens_called setup position depth callee callee.bytes s inputs refl (k.0 callee e) k.1
+    opens_used setup position depth input (FaultUse fault) s inputs unanswered c k h = tt
+    opens_used setup position depth input WrongKind s inputs unanswered c k h = h
 
-    opens_asked : (setup : Setup) (frame : Frame) (depth : ℕ) (request : Request) (waiting : Waiting) (s : Store) (inputs : List Input) → Known all inputs → Ends frame.text (asked go setup frame depth request waiting s inputs).end
-    opens_asked setup frame depth request waiting s [] k = alone frame
-    opens_asked setup frame depth request waiting s (input ∷ inputs) k =
-        opens_used setup frame depth input (use_of (address_bits setup) waiting input.answer s.values) (with_input input s) inputs (ended (Asking request (frame ∷ []) (input ∷ inputs)))
-        (use_calls input.answer (address_bits setup) waiting s.values) k (alone frame)
+    opens_asked : (setup : Setup) (position : Position) (depth : ℕ) (request : Request) (waiting : Waiting) (s : Store) (inputs : List Input) → Known all inputs → Ends position.text (await_answer go setup position depth request waiting s inputs).end
+    opens_asked setup position depth request waiting s [] k = alone position
+    opens_asked setup position depth request waiting s (input ∷ inputs) k =
+        opens_used setup position depth input (use_of (address_bits setup) waiting input.answer s.values) (with_input input s) inputs (only_end (RequestEnd request (position ∷ []) (input ∷ inputs)))
+        (use_calls input.answer (address_bits setup) waiting s.values) k (alone position)
 
-    opens_led : (setup : Setup) (text : Text) (depth place : ℕ) (inputs : List Input) (next : Next) → Known all inputs → Ends text (led go setup text depth place inputs next).end
+    opens_led : (setup : Setup) (text : Text) (depth place : ℕ) (inputs : List Input) (next : Next) → Known all inputs → Ends text (after_operation go setup text depth place inputs next).end
     opens_led setup text depth place inputs (Goes to s) k = opens text to depth s inputs k
-    opens_led setup text depth place inputs (Stops request waiting s) k = opens_asked setup (record { text = text; place = place }) depth request waiting s inputs k
-    opens_led setup text depth place inputs (Fails fault) k = tt
+    opens_led setup text depth place inputs (RequestNext request waiting s) k = opens_asked setup (record { text = text; place = place }) depth request waiting s inputs k
+    opens_led setup text depth place inputs (FaultNext fault) k = tt
 
-    opens_does : (setup : Setup) (text : Text) (depth : ℕ) (s : Store) (inputs : List Input) (r : Result (Operation × List ℕ) Fault) → Known all inputs → Ends text (does go setup text depth s inputs r).end
+    opens_does : (setup : Setup) (text : Text) (depth : ℕ) (s : Store) (inputs : List Input) (r : Result (Operation × List ℕ) Fault) → Known all inputs → Ends text (do_operation go setup text depth s inputs r).end
     opens_does setup text depth s inputs (Ok x) k = opens_led setup text depth _ inputs _ k
     opens_does setup text depth s inputs (Err fault) k = tt
 
-    opens_counts : (setup : Setup) (text : Text) (place depth : ℕ) (s : Store) (inputs : List Input) → Known all inputs → Ends text (counts go setup text place depth s inputs).end
+    opens_counts : (setup : Setup) (text : Text) (place depth : ℕ) (s : Store) (inputs : List Input) → Known all inputs → Ends text (turn_counted go setup text place depth s inputs).end
     opens_counts setup text place depth s inputs k =
         choose_both (λ (c : Course). Ends text c.end) (can_count s) _ _ (λ can. opens_does setup text depth (counted s) inputs (read setup text place) k) (λ e. tt)
 
-    opens_held : (setup : Setup) (text : Text) (depth : ℕ) (location : Location) (s : Store) (inputs : List Input) (r : Result (Operation × List ℕ) Fault) → Known all inputs → Ends text (held go setup text depth location s inputs r).end
+    opens_held : (setup : Setup) (text : Text) (depth : ℕ) (location : Location) (s : Store) (inputs : List Input) (r : Result (Operation × List ℕ) Fault) → Known all inputs → Ends text (turn_located go setup text depth location s inputs r).end
     opens_held setup text depth location s inputs (Ok x) k = opens_led setup text depth _ inputs _ k
     opens_held setup text depth location s inputs (Err fault) k = tt
 
@@ -148,15 +148,15 @@ module _ (all : List Input) where
   opens_run_for (suc turns) setup = opens_turn (run_for turns setup) (opens_run_for turns setup) setup
 
   end_open : (text : Text) (end : End) → Ends text end → EndOpen all text end
-  end_open text (Finished s left) h = tt
-  end_open text (Asking request frames left) h = h
-  end_open text (Failed fault) h = tt
+  end_open text (CompleteEnd s left) h = tt
+  end_open text (RequestEnd request positions left) h = h
+  end_open text (FaultEnd fault) h = tt
 
 -- ---- the whole
 
 -- the end of the outermost text asks nothing
 module _ (inputs : List Input) (text : Text) where
-  completed_open : (value : Option Value) (r : Result Store Fault) → OutcomeOpen inputs text (completed value r)
+  completed_open : (value : Option Value) (r : Result Store Fault) → OutcomeOpen inputs text (completion_of value r)
   completed_open value (Ok s) = tt
   completed_open value (Err fault) = tt
 
@@ -172,9 +172,9 @@ module _ (inputs : List Input) (text : Text) where
   finish_open setup s Called = choose_both (OutcomeOpen inputs text) (has_pieces s.pieces) _ _ (λ e. tt) (λ e. value_open setup s)
 
   unwound_open : (setup : Setup) (end : End) → EndOpen inputs text end → OutcomeOpen inputs text (unwound setup [] end)
-  unwound_open setup (Finished s left) h = finish_open setup s s.last
-  unwound_open setup (Asking request frames left) h = subst (λ (fs : List Frame). Open inputs text fs) (sym (append-nil frames)) h
-  unwound_open setup (Failed fault) h = tt
+  unwound_open setup (CompleteEnd s left) h = finish_open setup s s.last
+  unwound_open setup (RequestEnd request positions left) h = subst (λ (fs : List Position). Open inputs text fs) (sym (append-nil positions)) h
+  unwound_open setup (FaultEnd fault) h = tt
 
 pub run_open : (setup : Setup) (text : Text) (place depth : ℕ) (s : Store) (inputs : List Input) → EndOpen inputs text (run setup text place depth s inputs).end
 run_open setup text place depth s inputs = end_open inputs text _ (opens_run_for inputs enough setup text place depth s inputs (known_all inputs))

@@ -3,7 +3,7 @@ use Rattle.std.proofs.Common.{◌≡◌, refl, ap, Bool, true, false, List, [], 
 use Rattle.dwarf_base.specs.declared.errors.Error.{Error}
 use Rattle.dwarf_base.specs.Faults.{Fault, fault_of}
 use Rattle.dwarf_value.specs.declared.types.Value.{Value}
-use Rattle.dwarf_meaning.specs.Acts.{choose, on_top, on_some, on_answer, answer_of}
+use Rattle.dwarf_meaning.specs.Acts.{choose, on_top, on_some, on_result, result_of}
 
 pub choose_true : {A : Type 0} (b : Bool) (x y : A) → b ≡ true → choose b x y ≡ x
 unfolding choose
@@ -39,18 +39,18 @@ unfolding on_some
 some_some o none go x e = ap (λ (p : Option _). on_some p none go) e
 
 -- a call's answer that is a value, and one that is an error
-pub answer_ok : {X A : Type 0} (r : Result X Error) (refused : Fault → A) (go : X → A) (x : X) → r ≡ Ok x → on_answer (answer_of r) refused go ≡ go x
-unfolding on_answer answer_of
-answer_ok r refused go x e = ap (λ (s : Result _ Error). on_answer (answer_of s) refused go) e
+pub answer_ok : {X A : Type 0} (r : Result X Error) (refused : Fault → A) (go : X → A) (x : X) → r ≡ Ok x → on_result (result_of r) refused go ≡ go x
+unfolding on_result result_of
+answer_ok r refused go x e = ap (λ (s : Result _ Error). on_result (result_of s) refused go) e
 
-pub answer_err : {X A : Type 0} (r : Result X Error) (refused : Fault → A) (go : X → A) (error : Error) → r ≡ Err error → on_answer (answer_of r) refused go ≡ refused (fault_of error)
-unfolding on_answer answer_of
-answer_err r refused go error e = ap (λ (s : Result _ Error). on_answer (answer_of s) refused go) e
+pub answer_err : {X A : Type 0} (r : Result X Error) (refused : Fault → A) (go : X → A) (error : Error) → r ≡ Err error → on_result (result_of r) refused go ≡ refused (fault_of error)
+unfolding on_result result_of
+answer_err r refused go error e = ap (λ (s : Result _ Error). on_result (result_of s) refused go) e
 
-pub read_ok : {X A : Type 0} (r : Result X Fault) (refused : Fault → A) (go : X → A) (x : X) → r ≡ Ok x → on_answer r refused go ≡ go x
-unfolding on_answer
-read_ok r refused go x e = ap (λ (s : Result _ Fault). on_answer s refused go) e
+pub read_ok : {X A : Type 0} (r : Result X Fault) (refused : Fault → A) (go : X → A) (x : X) → r ≡ Ok x → on_result r refused go ≡ go x
+unfolding on_result
+read_ok r refused go x e = ap (λ (s : Result _ Fault). on_result s refused go) e
 
-pub read_err : {X A : Type 0} (r : Result X Fault) (refused : Fault → A) (go : X → A) (fault : Fault) → r ≡ Err fault → on_answer r refused go ≡ refused fault
-unfolding on_answer
-read_err r refused go fault e = ap (λ (s : Result _ Fault). on_answer s refused go) e
+pub read_err : {X A : Type 0} (r : Result X Fault) (refused : Fault → A) (go : X → A) (fault : Fault) → r ≡ Err fault → on_result r refused go ≡ refused fault
+unfolding on_result
+read_err r refused go fault e = ap (λ (s : Result _ Fault). on_result s refused go) e

@@ -5,12 +5,12 @@ use Rattle.dwarf_base.specs.Faults.{Fault, TooManyIterations}
 use Rattle.dwarf_meaning.specs.Operations.{Operation, Text}
 use Rattle.dwarf_meaning.specs.Locations.{Location}
 use Rattle.dwarf_meaning.specs.Requests.{Request, Waiting, Input}
-use Rattle.dwarf_meaning.specs.Acts.{choose, Use, Gives, Calls, Denies, Misfits, use_of}
-use Rattle.dwarf_meaning.specs.Stores.{Setup, address_bits, Store, Last, Nothing, Plain, Pieced, Pushed, Called, Located, Next, Goes, Stops, Fails}
-use Rattle.dwarf_meaning.specs.Run.{Frame, End, Finished, Asking, Failed, Course, ended, passing, asking, joined, Continues, back, resumed, entered, called, used, with_input, asked, led, read, most, can_count, counted, does, counts, piece_of, held, turn_by, turn, out_of_turns, run_for, enough, run}
+use Rattle.dwarf_meaning.specs.Acts.{choose, Use, PushesAnswer, Calls, FaultUse, WrongKind, use_of}
+use Rattle.dwarf_meaning.specs.Stores.{Setup, address_bits, Store, Last, Nothing, Plain, Pieced, Pushed, Called, Located, Next, Goes, RequestNext, FaultNext}
+use Rattle.dwarf_meaning.specs.Run.{Position, End, CompleteEnd, RequestEnd, FaultEnd, Course, only_end, add_to_path, add_request, append_course, Continues, return_to_caller, after_push, enter_callee, run_callee, after_answer, with_input, await_answer, after_operation, read, most, can_count, counted, do_operation, turn_counted, piece_ended_by, turn_located, turn_by, turn, out_of_turns, run_for, enough, run}
 use Rattle.dwarf_meaning.specs.RunLaws.{AllMaxima, MaximaWithin, EndCounts, EndCountWithin, EndMaximumWithin, CountsWithin}
 use Rattle.dwarf_meaning.proofs.Choices.{choose_both}
-use Rattle.dwarf_meaning.proofs.Counts.{OnStore, OnNext, Tally, tally_of, HasTally, OnPiece, tally-push_value, tally-push_frame, tally-done, both-holds}
+use Rattle.dwarf_meaning.proofs.Counts.{OnStore, OnNext, Tally, tally_of, HasTally, OnPiece, tally-push_value, tally-push_caller, tally-done, both-holds}
 
 -- what is known of each maximum, and the bound on counts that it gives
 pub record Bounded (bound : ℕ) (Fits : ℕ → Type 0) : Type 0 where
@@ -29,9 +29,9 @@ pub record Stands (Fits : ℕ → Type 0) (total : ℕ) (s : Store) (left : List
   pub others : AllMaxima Fits left
 
 abbrev pub EndStands : (ℕ → Type 0) → (total : ℕ) → End → Type 0
-EndStands Fits total (Finished s left) = Stands Fits total s left
-EndStands Fits total (Asking request frames left) = Unit {0}
-EndStands Fits total (Failed fault) = Unit {0}
+EndStands Fits total (CompleteEnd s left) = Stands Fits total s left
+EndStands Fits total (RequestEnd request positions left) = Unit {0}
+EndStands Fits total (FaultEnd fault) = Unit {0}
 
 pub record Counted (bound : ℕ) (Fits : ℕ → Type 0) (start : ℕ) (course : Course) : Type 0 where
   pub few : start + length course.path ≤ bound
@@ -44,19 +44,19 @@ module _ (bound : ℕ) (Fits : ℕ → Type 0) where
   abbrev pub Counting : Continues → Type 0
   Counting go = (text : Text) (place depth : ℕ) (s : Store) (inputs : List Input) → Allowed bound Fits (tally_of s) inputs → Counted bound Fits s.count (go text place depth s inputs)
 
-  counted_failed : (n : ℕ) (fault : Fault) → n ≤ bound → Counted bound Fits n (ended (Failed fault))
+  counted_failed : (n : ℕ) (fault : Fault) → n ≤ bound → Counted bound Fits n (only_end (FaultEnd fault))
   counted_failed n fault h = record { few = omega (arith, h); at_end = tt }
 
   counted_choose : (n : ℕ) (b : Bool) (x y : Course) → (b ≡ true → Counted bound Fits n x) → (b ≡ false → Counted bound Fits n y) → Counted bound Fits n (choose b x y)
   counted_choose n = choose_both (Counted bound Fits n)
 
-  counted_joined : (n : ℕ) (first second : Course) → Counted bound Fits (n + length first.path) second → Counted bound Fits n (joined first second)
+  counted_joined : (n : ℕ) (first second : Course) → Counted bound Fits (n + length first.path) second → Counted bound Fits n (append_course first second)
   counted_joined n first second h =
       let e : n + length first.path + length second.path ≡ n + length (first.path ++ second.path) = let l = length-append first.path second.path in omega (arith, l) in
       record { few = omega (arith, e, h.few); at_end = stands_at Fits _ _ second.end e h.at_end }
 
-  counted_passing : (n : ℕ) (frame : Frame) (course : Course) → Counted bound Fits (n + 1) course → Counted bound Fits n (passing frame course)
-  counted_passing n frame course h =
+  counted_passing : (n : ℕ) (position : Position) (course : Course) → Counted bound Fits (n + 1) course → Counted bound Fits n (add_to_path position course)
+  counted_passing n position course h =
       record { few = omega (arith, h.few); at_end = stands_at Fits (n + 1 + length course.path) (n + suc (length course.path)) course.end (omega arith) h.at_end }
 
   module _ (bounded : Bounded bound Fits) (go : Continues) (counting : Counting go) where
@@ -64,56 +64,56 @@ module _ (bound : ℕ) (Fits : ℕ → Type 0) where
     counted_from n text place depth s inputs e =
         subst (λ (k : Tally). Allowed bound Fits k inputs → Counted bound Fits k.count (go text place depth s inputs)) e (counting text place depth s inputs)
 
-    counted_back : (n : ℕ) (frame : Frame) (depth : ℕ) (course : Course) (end : End) → n + length course.path ≤ bound → EndStands Fits (n + length course.path) end → Counted bound Fits n (back go frame depth course end)
-    counted_back n frame depth course (Finished s left) h i =
-        counted_joined n course (go frame.text frame.place depth s left)
-        (subst (λ (k : ℕ). Counted bound Fits k (go frame.text frame.place depth s left)) i.count
-        (counting frame.text frame.place depth s left (record { count = omega (arith, h, i.count); maximum = i.maximum; others = i.others })))
-    counted_back n frame depth course (Asking request frames left) h i = record { few = h; at_end = tt }
-    counted_back n frame depth course (Failed fault) h i = record { few = h; at_end = tt }
+    counted_back : (n : ℕ) (position : Position) (depth : ℕ) (course : Course) (end : End) → n + length course.path ≤ bound → EndStands Fits (n + length course.path) end → Counted bound Fits n (return_to_caller go position depth course end)
+    counted_back n position depth course (CompleteEnd s left) h i =
+        counted_joined n course (go position.text position.place depth s left)
+        (subst (λ (k : ℕ). Counted bound Fits k (go position.text position.place depth s left)) i.count
+        (counting position.text position.place depth s left (record { count = omega (arith, h, i.count); maximum = i.maximum; others = i.others })))
+    counted_back n position depth course (RequestEnd request positions left) h i = record { few = h; at_end = tt }
+    counted_back n position depth course (FaultEnd fault) h i = record { few = h; at_end = tt }
 
-    counted_resumed : (n : Tally) (frame : Frame) (depth : ℕ) (inputs : List Input) (r : Result Store Fault) → OnStore (HasTally n) r → Allowed bound Fits n inputs → Counted bound Fits n.count (resumed go frame depth inputs r)
-    counted_resumed n frame depth inputs (Ok s) h a = counted_from n frame.text frame.place depth s inputs h a
-    counted_resumed n frame depth inputs (Err fault) h a = counted_failed n.count fault a.count
+    counted_resumed : (n : Tally) (position : Position) (depth : ℕ) (inputs : List Input) (r : Result Store Fault) → OnStore (HasTally n) r → Allowed bound Fits n inputs → Counted bound Fits n.count (after_push go position depth inputs r)
+    counted_resumed n position depth inputs (Ok s) h a = counted_from n position.text position.place depth s inputs h a
+    counted_resumed n position depth inputs (Err fault) h a = counted_failed n.count fault a.count
 
-    counted_entered : (n : Tally) (frame : Frame) (depth : ℕ) (callee : Text) (inputs : List Input) (r : Result Store Fault) → OnStore (HasTally n) r → Allowed bound Fits n inputs → Counted bound Fits n.count (entered go frame depth callee inputs r)
-    counted_entered n frame depth callee inputs (Ok s) h a =
+    counted_entered : (n : Tally) (position : Position) (depth : ℕ) (callee : Text) (inputs : List Input) (r : Result Store Fault) → OnStore (HasTally n) r → Allowed bound Fits n inputs → Counted bound Fits n.count (enter_callee go position depth callee inputs r)
+    counted_entered n position depth callee inputs (Ok s) h a =
         let course = go callee 0 (suc depth) s inputs in
         let c = counted_from n callee 0 (suc depth) s inputs h a in
-        counted_back n.count frame depth course course.end c.few c.at_end
-    counted_entered n frame depth callee inputs (Err fault) h a = counted_failed n.count fault a.count
+        counted_back n.count position depth course course.end c.few c.at_end
+    counted_entered n position depth callee inputs (Err fault) h a = counted_failed n.count fault a.count
 
-    counted_called : (setup : Setup) (frame : Frame) (depth : ℕ) (callee : Text) (bytes : List ℕ) (s : Store) (inputs : List Input) → Allowed bound Fits (tally_of s) inputs → Counted bound Fits s.count (called go setup frame depth callee bytes s inputs)
-    counted_called setup frame depth callee [] s inputs a = counting frame.text frame.place depth (record s { last = Called }) inputs a
-    counted_called setup frame depth callee (byte ∷ bytes) s inputs a = counted_entered (tally_of s) frame depth callee inputs _ (tally-push_frame setup depth s) a
+    counted_called : (setup : Setup) (position : Position) (depth : ℕ) (callee : Text) (bytes : List ℕ) (s : Store) (inputs : List Input) → Allowed bound Fits (tally_of s) inputs → Counted bound Fits s.count (run_callee go setup position depth callee bytes s inputs)
+    counted_called setup position depth callee [] s inputs a = counting position.text position.place depth (record s { last = Called }) inputs a
+    counted_called setup position depth callee (byte ∷ bytes) s inputs a = counted_entered (tally_of s) position depth callee inputs _ (tally-push_caller setup depth s) a
 
-    counted_used : (setup : Setup) (frame : Frame) (depth : ℕ) (u : Use) (s : Store) (inputs : List Input) (unanswered : Course) → Allowed bound Fits (tally_of s) inputs → Counted bound Fits s.count unanswered → Counted bound Fits s.count (used go setup frame depth u s inputs unanswered)
-    counted_used setup frame depth (Gives rest value) s inputs unanswered a h =
-        counted_resumed (tally_of s) frame depth inputs _ (tally-push_value setup value (record s { values = rest; last = Pushed })) a
-    counted_used setup frame depth (Calls callee) s inputs unanswered a h = counted_called setup frame depth callee callee.bytes s inputs a
-    counted_used setup frame depth (Denies fault) s inputs unanswered a h = counted_failed s.count fault a.count
-    counted_used setup frame depth Misfits s inputs unanswered a h = h
+    counted_used : (setup : Setup) (position : Position) (depth : ℕ) (u : Use) (s : Store) (inputs : List Input) (unanswered : Course) → Allowed bound Fits (tally_of s) inputs → Counted bound Fits s.count unanswered → Counted bound Fits s.count (after_answer go setup position depth u s inputs unanswered)
+    counted_used setup position depth (PushesAnswer rest value) s inputs unanswered a h =
+        counted_resumed (tally_of s) position depth inputs _ (tally-push_value setup value (record s { values = rest; last = Pushed })) a
+    counted_used setup position depth (Calls callee) s inputs unanswered a h = counted_called setup position depth callee callee.bytes s inputs a
+    counted_used setup position depth (FaultUse fault) s inputs unanswered a h = counted_failed s.count fault a.count
+    counted_used setup position depth WrongKind s inputs unanswered a h = h
 
-    counted_asked : (setup : Setup) (frame : Frame) (depth : ℕ) (request : Request) (waiting : Waiting) (s : Store) (inputs : List Input) → Allowed bound Fits (tally_of s) inputs → Counted bound Fits s.count (asked go setup frame depth request waiting s inputs)
-    counted_asked setup frame depth request waiting s [] a = record { few = omega (arith, a.count); at_end = tt }
-    counted_asked setup frame depth request waiting s (input ∷ inputs) a =
-        counted_used setup frame depth (use_of (address_bits setup) waiting input.answer s.values) (with_input input s) inputs (ended (Asking request (frame ∷ []) (input ∷ inputs)))
+    counted_asked : (setup : Setup) (position : Position) (depth : ℕ) (request : Request) (waiting : Waiting) (s : Store) (inputs : List Input) → Allowed bound Fits (tally_of s) inputs → Counted bound Fits s.count (await_answer go setup position depth request waiting s inputs)
+    counted_asked setup position depth request waiting s [] a = record { few = omega (arith, a.count); at_end = tt }
+    counted_asked setup position depth request waiting s (input ∷ inputs) a =
+        counted_used setup position depth (use_of (address_bits setup) waiting input.answer s.values) (with_input input s) inputs (only_end (RequestEnd request (position ∷ []) (input ∷ inputs)))
         (record { count = a.count; maximum = a.others.0; others = a.others.1 }) (record { few = omega (arith, a.count); at_end = tt })
 
-    counted_led : (setup : Setup) (text : Text) (depth place : ℕ) (inputs : List Input) (n : Tally) (next : Next) → OnNext (HasTally n) next → Allowed bound Fits n inputs → Counted bound Fits n.count (led go setup text depth place inputs next)
+    counted_led : (setup : Setup) (text : Text) (depth place : ℕ) (inputs : List Input) (n : Tally) (next : Next) → OnNext (HasTally n) next → Allowed bound Fits n inputs → Counted bound Fits n.count (after_operation go setup text depth place inputs next)
     counted_led setup text depth place inputs n (Goes to s) h a = counted_from n text to depth s inputs h a
-    counted_led setup text depth place inputs n (Stops request waiting s) h a =
-        let frame : Frame = record { text = text; place = place } in
-        subst (λ (k : Tally). Allowed bound Fits k inputs → Counted bound Fits k.count (asking request (asked go setup frame depth request waiting s inputs))) h
-        (λ allowed. let c = counted_asked setup frame depth request waiting s inputs allowed in record { few = c.few; at_end = c.at_end })
+    counted_led setup text depth place inputs n (RequestNext request waiting s) h a =
+        let position : Position = record { text = text; place = place } in
+        subst (λ (k : Tally). Allowed bound Fits k inputs → Counted bound Fits k.count (add_request request (await_answer go setup position depth request waiting s inputs))) h
+        (λ allowed. let c = counted_asked setup position depth request waiting s inputs allowed in record { few = c.few; at_end = c.at_end })
         a
-    counted_led setup text depth place inputs n (Fails fault) h a = counted_failed n.count fault a.count
+    counted_led setup text depth place inputs n (FaultNext fault) h a = counted_failed n.count fault a.count
 
-    counted_does : (setup : Setup) (text : Text) (depth : ℕ) (s : Store) (inputs : List Input) (r : Result (Operation × List ℕ) Fault) → Allowed bound Fits (tally_of s) inputs → Counted bound Fits s.count (does go setup text depth s inputs r)
+    counted_does : (setup : Setup) (text : Text) (depth : ℕ) (s : Store) (inputs : List Input) (r : Result (Operation × List ℕ) Fault) → Allowed bound Fits (tally_of s) inputs → Counted bound Fits s.count (do_operation go setup text depth s inputs r)
     counted_does setup text depth s inputs (Ok x) a = counted_led setup text depth _ inputs (tally_of s) _ (tally-done setup _ _ _ s) a
     counted_does setup text depth s inputs (Err fault) a = counted_failed s.count fault a.count
 
-    counted_counts : (setup : Setup) (text : Text) (place depth : ℕ) (s : Store) (inputs : List Input) → Allowed bound Fits (tally_of s) inputs → Counted bound Fits s.count (counts go setup text place depth s inputs)
+    counted_counts : (setup : Setup) (text : Text) (place depth : ℕ) (s : Store) (inputs : List Input) → Allowed bound Fits (tally_of s) inputs → Counted bound Fits s.count (turn_counted go setup text place depth s inputs)
     counted_counts setup text place depth s inputs a =
         counted_choose s.count (can_count s) _ _
         (λ can. let below = bounded.below s.maximum a.maximum s.count (grind (arith, nat_tests)) (grind (arith, nat_tests)) in
@@ -123,11 +123,11 @@ module _ (bound : ℕ) (Fits : ℕ → Type 0) where
 
     piece_tally : (n : Tally) (next : Next) → OnPiece n next → OnNext (HasTally n) next
     piece_tally n (Goes to s) h = h.tally
-    piece_tally n (Stops request waiting s) h = absurd h
-    piece_tally n (Fails fault) h = tt
+    piece_tally n (RequestNext request waiting s) h = absurd h
+    piece_tally n (FaultNext fault) h = tt
 
-    counted_held : (setup : Setup) (text : Text) (depth : ℕ) (location : Location) (s : Store) (inputs : List Input) (r : Result (Operation × List ℕ) Fault) → Allowed bound Fits (tally_of s) inputs → Counted bound Fits s.count (held go setup text depth location s inputs r)
-    counted_held setup text depth location s inputs (Ok x) a = counted_led setup text depth _ inputs (tally_of s) _ (piece_tally (tally_of s) _ (both-holds setup location _ s (piece_of x.0))) a
+    counted_held : (setup : Setup) (text : Text) (depth : ℕ) (location : Location) (s : Store) (inputs : List Input) (r : Result (Operation × List ℕ) Fault) → Allowed bound Fits (tally_of s) inputs → Counted bound Fits s.count (turn_located go setup text depth location s inputs r)
+    counted_held setup text depth location s inputs (Ok x) a = counted_led setup text depth _ inputs (tally_of s) _ (piece_tally (tally_of s) _ (both-holds setup location _ s (piece_ended_by x.0))) a
     counted_held setup text depth location s inputs (Err fault) a = counted_failed s.count fault a.count
 
     counted_by : (setup : Setup) (text : Text) (place depth : ℕ) (s : Store) (inputs : List Input) (last : Last) → Allowed bound Fits (tally_of s) inputs → Counted bound Fits s.count (turn_by go setup text place depth s inputs last)
@@ -162,19 +162,19 @@ all_any [] = tt
 all_any (input ∷ inputs) = (tt, all_any inputs)
 
 count_at : (bound total : ℕ) (Fits : ℕ → Type 0) (end : End) → total ≤ bound → EndStands Fits total end → EndCountWithin bound end
-count_at bound total Fits (Finished s left) h i = omega (arith, h, i.count)
-count_at bound total Fits (Asking request frames left) h i = tt
-count_at bound total Fits (Failed fault) h i = tt
+count_at bound total Fits (CompleteEnd s left) h i = omega (arith, h, i.count)
+count_at bound total Fits (RequestEnd request positions left) h i = tt
+count_at bound total Fits (FaultEnd fault) h i = tt
 
 total_at : (total : ℕ) (Fits : ℕ → Type 0) (end : End) → EndStands Fits total end → EndCounts total end
-total_at total Fits (Finished s left) i = i.count
-total_at total Fits (Asking request frames left) i = tt
-total_at total Fits (Failed fault) i = tt
+total_at total Fits (CompleteEnd s left) i = i.count
+total_at total Fits (RequestEnd request positions left) i = tt
+total_at total Fits (FaultEnd fault) i = tt
 
 maximum_at : (bound total : ℕ) (end : End) → EndStands (λ m. m ≤ bound) total end → EndMaximumWithin bound end
-maximum_at bound total (Finished s left) i = i.maximum
-maximum_at bound total (Asking request frames left) i = tt
-maximum_at bound total (Failed fault) i = tt
+maximum_at bound total (CompleteEnd s left) i = i.maximum
+maximum_at bound total (RequestEnd request positions left) i = tt
+maximum_at bound total (FaultEnd fault) i = tt
 
 counts_within : (bound start : ℕ) (Fits : ℕ → Type 0) (course : Course) → Counted bound Fits start course → CountsWithin bound start course
 counts_within bound start Fits course h = record { few = omega (arith, h.few); count = count_at bound _ Fits course.end h.few h.at_end }

@@ -3,9 +3,9 @@ use Rattle.std.proofs.Common.{ℕ, ◌≡◌, List, [], ◌∷◌, ◌++◌, len
 use Rattle.dwarf_base.specs.Faults.{Fault, ◌>>=◌}
 use Rattle.dwarf_value.specs.declared.types.Value.{Value}
 use Rattle.dwarf_meaning.specs.Locations.{Location, Piece}
-use Rattle.dwarf_meaning.specs.Acts.{Act, Pushes, Branches, Locates, Ends, Asks, Refuses}
-use Rattle.dwarf_meaning.specs.Stores.{Setup, Store, Last, Plain, Pieced, Refusal, room, push_value, push_piece, push_frame, push_values, Next, Goes, Stops, Fails, goes, done}
-use Rattle.dwarf_meaning.specs.Run.{holds}
+use Rattle.dwarf_meaning.specs.Acts.{Act, Pushes, Branches, Locates, EndsPiece, RequestAct, FaultAct}
+use Rattle.dwarf_meaning.specs.Stores.{Setup, Store, Last, Plain, Pieced, Refusal, room, push_value, push_piece, push_caller, push_values, Next, Goes, RequestNext, FaultNext, goes, done}
+use Rattle.dwarf_meaning.specs.Run.{end_located}
 use Rattle.dwarf_meaning.proofs.Choices.{choose_both}
 
 -- where a store comes of it, P holds of that
@@ -16,8 +16,8 @@ OnStore P (Err fault) = Unit {0}
 -- where the run goes on, P holds of what is kept
 abbrev pub OnNext : (Store → Type 0) → Next → Type 0
 OnNext P (Goes place s) = P s
-OnNext P (Stops request waiting s) = P s
-OnNext P (Fails fault) = Unit {0}
+OnNext P (RequestNext request waiting s) = P s
+OnNext P (FaultNext fault) = Unit {0}
 
 -- what only counting and inputs change
 pub record Tally : Type 0 where
@@ -58,9 +58,9 @@ tally_of_both m last (Err fault) h = tt
 pub tally-push_piece : (setup : Setup) (piece : Piece) (s : Store) → OnStore (HasTally (tally_of s)) (push_piece setup piece s)
 tally-push_piece setup piece s = tally_of_both (tally_of s) s.last (push_piece setup piece s) (both-push_piece setup piece s)
 
-pub tally-push_frame : (setup : Setup) (depth : ℕ) (s : Store) → OnStore (HasTally (tally_of s)) (push_frame setup depth s)
-unfolding push_frame
-tally-push_frame setup depth s = bound_store (HasTally (tally_of s)) (room setup.limits.frames depth s.refusal) (λ left. record s { refusal = left }) (λ left. refl)
+pub tally-push_caller : (setup : Setup) (depth : ℕ) (s : Store) → OnStore (HasTally (tally_of s)) (push_caller setup depth s)
+unfolding push_caller
+tally-push_caller setup depth s = bound_store (HasTally (tally_of s)) (room setup.limits.callers depth s.refusal) (λ left. record s { refusal = left }) (λ left. refl)
 
 pub on_bound : (P Q : Store → Type 0) (r : Result Store Fault) (next : Store → Result Store Fault) → OnStore P r → ((s : Store) → P s → OnStore Q (next s)) → OnStore Q (r >>= next)
 on_bound P Q (Ok s) next h i = i s h
@@ -85,20 +85,20 @@ tally-done setup place len (Pushes rest pushed) s =
     on_goes (HasTally (tally_of s)) place _ (tally-push_values setup pushed (record s { values = rest; last = Plain }))
 tally-done setup place len (Branches rest target) s = choose_both (OnNext (HasTally (tally_of s))) _ _ _ (λ e. tt) (λ e. refl)
 tally-done setup place len (Locates rest location) s = refl
-tally-done setup place len (Ends rest piece) s = on_goes (HasTally (tally_of s)) place _ (tally-push_piece setup piece (record s { values = rest; last = Pieced }))
-tally-done setup place len (Asks rest request waiting) s = refl
-tally-done setup place len (Refuses fault) s = tt
+tally-done setup place len (EndsPiece rest piece) s = on_goes (HasTally (tally_of s)) place _ (tally-push_piece setup piece (record s { values = rest; last = Pieced }))
+tally-done setup place len (RequestAct rest request waiting) s = refl
+tally-done setup place len (FaultAct fault) s = tt
 
 -- behind a location the run goes on behind its piece, or fails
 abbrev pub OnPiece : Tally → Next → Type 0
 OnPiece m (Goes place s) = KeepsBoth m Pieced s
-OnPiece m (Stops request waiting s) = ⊥
-OnPiece m (Fails fault) = Unit {0}
+OnPiece m (RequestNext request waiting s) = ⊥
+OnPiece m (FaultNext fault) = Unit {0}
 
 piece_goes : (m : Tally) (place : ℕ) (r : Result Store Fault) → OnStore (KeepsBoth m Pieced) r → OnPiece m (goes place r)
 piece_goes m place (Ok s) h = h
 piece_goes m place (Err fault) h = tt
 
-pub both-holds : (setup : Setup) (location : Location) (place : ℕ) (s : Store) (o : Option (ℕ × Option ℕ)) → OnPiece (tally_of s) (holds setup location place s o)
+pub both-holds : (setup : Setup) (location : Location) (place : ℕ) (s : Store) (o : Option (ℕ × Option ℕ)) → OnPiece (tally_of s) (end_located setup location place s o)
 both-holds setup location place s (Some piece) = piece_goes (tally_of s) place _ (both-push_piece setup _ (record s { last = Pieced }))
 both-holds setup location place s None = tt

@@ -5,7 +5,7 @@ use Rattle.dwarf_base.specs.Faults.{Fault, UnexpectedEof}
 use Rattle.dwarf_base.specs.Fronts.{Begins}
 use Rattle.dwarf_meaning.specs.Operations.{Operation, Text}
 use Rattle.dwarf_meaning.specs.Decoding.{operation_at}
-use Rattle.dwarf_meaning.specs.Spelling.{Spells, Refused}
+use Rattle.dwarf_meaning.specs.Spelling.{Spells, Malformed}
 use Rattle.dwarf_meaning.specs.Spelling as spelling
 use Rattle.dwarf_meaning.specs.DecodeLaws.{ReadsExactlyTheSpelled, IsDecided, IsWhole}
 use Rattle.dwarf_meaning.proofs.ReadsExactly.{Reading, pair_same}
@@ -65,7 +65,7 @@ module _ (encoding : Encoding) (bits : ℕ) (big : Bool) (bytes : List ℕ) wher
   abbrev here : Text
   here = record { bytes = bytes; is_big = big }
 
-  outcome : (r : Reading Operation) → operation_at encoding bits here ≡ r → ((op : Operation) × ((rest : List ℕ) × Begins (Spells encoding bits big) bytes op rest)) ⊎ ((fault : Fault) × Refused encoding bits big bytes fault)
+  outcome : (r : Reading Operation) → operation_at encoding bits here ≡ r → ((op : Operation) × ((rest : List ℕ) × Begins (Spells encoding bits big) bytes op rest)) ⊎ ((fault : Fault) × Malformed encoding bits big bytes fault)
   outcome (Ok x) e = inl (x.0, (x.1, operation_begins encoding bits here x.0 x.1 e))
   outcome (Err fault) e = inr (fault, (reads_operation encoding bits big).refused bytes fault e)
 
@@ -78,13 +78,13 @@ module _ (encoding : Encoding) (bits : ℕ) (big : Bool) (bytes : List ℕ) wher
       let same = same_operation first second rest others a b in
       same_front a.front b.front rest (a.whole ∙ (sym b.whole ∙ ap (λ (xs : List ℕ). b.front ++ xs) (sym same.1)))
 
-  same_fault : (first second : Fault) → Refused encoding bits big bytes first → Refused encoding bits big bytes second → first ≡ second
+  same_fault : (first second : Fault) → Malformed encoding bits big bytes first → Malformed encoding bits big bytes second → first ≡ second
   same_fault first second a b =
       let e : operation_at encoding bits here ≡ Err first = (reads_operation encoding bits big).refuses bytes first a in
       let f : operation_at encoding bits here ≡ Err second = (reads_operation encoding bits big).refuses bytes second b in
       cc
 
-  not_both : (op : Operation) (rest : List ℕ) (fault : Fault) → Begins (Spells encoding bits big) bytes op rest → Refused encoding bits big bytes fault → ⊥
+  not_both : (op : Operation) (rest : List ℕ) (fault : Fault) → Begins (Spells encoding bits big) bytes op rest → Malformed encoding bits big bytes fault → ⊥
   not_both op rest fault a b =
       let e : operation_at encoding bits here ≡ Ok (op, rest) = begins_operation encoding bits here op rest a in
       let f : operation_at encoding bits here ≡ Err fault = (reads_operation encoding bits big).refuses bytes fault b in

@@ -2,23 +2,23 @@
 use Rattle.std.proofs.Common.{ℕ, ◌≡◌, inl, inr, Bool, true, false, cond, nat_lt, ◌*◌, ◌^◌, List, Ok, Err, sym, subst}
 use Rattle.dwarf_base.specs.declared.common.Encoding.{Encoding}
 use Rattle.dwarf_base.specs.Faults.{Fault, UnsupportedOffset, UnsupportedRegister, InvalidPieceSize, BadUnsignedLeb128}
-use Rattle.dwarf_base.specs.Leb.{LebForm, RefusedLeb, unsigned_leb, signed_leb}
+use Rattle.dwarf_base.specs.Leb.{LebForm, MalformedLeb, unsigned_leb, signed_leb}
 use Rattle.dwarf_meaning.specs.Operations.{Text}
-use Rattle.dwarf_meaning.specs.Operands.{Context, block_of, Form, Fixed, Address, Leb128, Offset, RegisterNumber, PieceSize, WasmIndex, SectionOffset, InfoReference, SignedForm, Layout, value_of}
+use Rattle.dwarf_meaning.specs.Operands.{Context, block_of, Form, Fixed, Address, Leb128, Offset, RegisterNumber, PieceSize, WasmIndex, SectionOffset, InfoReference, SignedForm, Layout, operand_value}
 use Rattle.dwarf_meaning.specs.Opcodes.{Row}
 use Rattle.dwarf_meaning.specs.Decoding.{operation_at}
-use Rattle.dwarf_meaning.specs.Spelling.{RefusesNumber, RefusesUnsigned, RefusesInteger, RefusesOperands, Refused}
+use Rattle.dwarf_meaning.specs.Spelling.{MalformedNumber, MalformedUnsigned, MalformedInteger, MalformedOperands, Malformed}
 use Rattle.dwarf_meaning.specs.Spelling as spelling
 use Rattle.dwarf_meaning.specs.DecodeLaws.{IsDecodingFault}
 use Rattle.dwarf_meaning.proofs.OperationReads.{reads_operation}
 
-leb_fault : {A : Type 0} (form : LebForm A) (bytes : List ℕ) (fault : Fault) → IsDecodingFault form.too_long → RefusedLeb form bytes fault → IsDecodingFault fault
+leb_fault : {A : Type 0} (form : LebForm A) (bytes : List ℕ) (fault : Fault) → IsDecodingFault form.too_long → MalformedLeb form bytes fault → IsDecodingFault fault
 leb_fault form bytes fault h r = elim r [
   | inl cut ↦ subst IsDecodingFault (sym cut.1) tt
   | inr long ↦ subst IsDecodingFault (sym long.1) h
 ]
 
-number_fault : (big : Bool) (layout : Layout) (bytes : List ℕ) (fault : Fault) → RefusesNumber big layout bytes fault → IsDecodingFault fault
+number_fault : (big : Bool) (layout : Layout) (bytes : List ℕ) (fault : Fault) → MalformedNumber big layout bytes fault → IsDecodingFault fault
 number_fault big layout bytes fault (spelling.few_bytes size bytes' less) = tt
 number_fault big layout bytes fault (spelling.few_address_bytes size bytes' good less) = tt
 number_fault big layout bytes fault (spelling.address_size size bytes' bad) = tt
@@ -28,7 +28,7 @@ limit_fault : (fits : Bool) (number : ℕ) (bad fault : Fault) → IsDecodingFau
 limit_fault true number bad fault h e = absurd cc
 limit_fault false number bad fault h e = let same : bad ≡ fault = cc in subst IsDecodingFault same h
 
-value_fault : (bits : ℕ) (form : Form) (number : ℕ) (fault : Fault) → value_of bits form number ≡ Err fault → IsDecodingFault fault
+value_fault : (bits : ℕ) (form : Form) (number : ℕ) (fault : Fault) → operand_value bits form number ≡ Err fault → IsDecodingFault fault
 value_fault bits (Fixed size) number fault e = absurd cc
 value_fault bits Address number fault e = absurd cc
 value_fault bits Leb128 number fault e = absurd cc
@@ -39,15 +39,15 @@ value_fault bits WasmIndex number fault e = limit_fault (nat_lt number (2 ^ 32))
 value_fault bits SectionOffset number fault e = limit_fault (nat_lt number (2 ^ bits)) number UnsupportedOffset fault tt e
 value_fault bits InfoReference number fault e = limit_fault (nat_lt number (2 ^ bits)) number UnsupportedOffset fault tt e
 
-unsigned_fault : (context : Context) (form : Form) (bytes : List ℕ) (fault : Fault) → RefusesUnsigned context form bytes fault → IsDecodingFault fault
+unsigned_fault : (context : Context) (form : Form) (bytes : List ℕ) (fault : Fault) → MalformedUnsigned context form bytes fault → IsDecodingFault fault
 unsigned_fault context form bytes fault (spelling.no_number bytes' fault' r) = number_fault _ _ bytes' fault' r
 unsigned_fault context form bytes fault (spelling.out_of_range front rest number fault' s e) = value_fault context.offset_bits form number fault' e
 
-integer_fault : (big : Bool) (form : SignedForm) (bytes : List ℕ) (fault : Fault) → RefusesInteger big form bytes fault → IsDecodingFault fault
+integer_fault : (big : Bool) (form : SignedForm) (bytes : List ℕ) (fault : Fault) → MalformedInteger big form bytes fault → IsDecodingFault fault
 integer_fault big form bytes fault (spelling.few_signed_bytes size bytes' less) = tt
 integer_fault big form bytes fault (spelling.no_signed_leb128 bytes' fault' r) = leb_fault signed_leb bytes' fault' tt r
 
-operands_fault : (context : Context) (row : Row) (bytes : List ℕ) (fault : Fault) → RefusesOperands context row bytes fault → IsDecodingFault fault
+operands_fault : (context : Context) (row : Row) (bytes : List ℕ) (fault : Fault) → MalformedOperands context row bytes fault → IsDecodingFault fault
 operands_fault context row bytes fault (spelling.invalid opcode bytes') = tt
 operands_fault context row bytes fault (spelling.unsigned_here form next bytes' fault' r) = unsigned_fault context form bytes' fault' r
 operands_fault context row bytes fault (spelling.unsigned_after form next front rest value fault' s r) = operands_fault context (next value) rest fault' r
@@ -56,7 +56,7 @@ operands_fault context row bytes fault (spelling.signed_after form next front re
 operands_fault context row bytes fault (spelling.block_here size next bytes' less) = tt
 operands_fault context row bytes fault (spelling.block_after next front rest fault' r) = operands_fault context (next (block_of context front)) rest fault' r
 
-refused_fault : (encoding : Encoding) (bits : ℕ) (big : Bool) (bytes : List ℕ) (fault : Fault) → Refused encoding bits big bytes fault → IsDecodingFault fault
+refused_fault : (encoding : Encoding) (bits : ℕ) (big : Bool) (bytes : List ℕ) (fault : Fault) → Malformed encoding bits big bytes fault → IsDecodingFault fault
 refused_fault encoding bits big bytes fault spelling.no_opcode = tt
 refused_fault encoding bits big bytes fault (spelling.bad_operands opcode bytes' fault' r) = operands_fault _ _ bytes' fault' r
 

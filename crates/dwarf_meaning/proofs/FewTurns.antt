@@ -4,12 +4,12 @@ use Rattle.dwarf_base.specs.Faults.{Fault}
 use Rattle.dwarf_meaning.specs.Operations.{Text}
 use Rattle.dwarf_meaning.specs.Requests.{Input}
 use Rattle.dwarf_meaning.specs.Stores.{Setup, Store, Refusal}
-use Rattle.dwarf_meaning.specs.Run.{Failed, Course, ended, run_for, most, enough}
+use Rattle.dwarf_meaning.specs.Run.{FaultEnd, Course, only_end, run_for, most, enough}
 use Rattle.dwarf_meaning.specs.Meaning.{Outcome, unwound, First, fresh, with_initial, course_from, meaning}
 
 abbrev course_for : (turns : ℕ) → Setup → Text → List Input → Result Store Fault → Course
 course_for turns setup text inputs (Ok s) = run_for turns setup text 0 0 s inputs
-course_for turns setup text inputs (Err fault) = ended (Failed fault)
+course_for turns setup text inputs (Err fault) = only_end (FaultEnd fault)
 
 -- what comes of a text in so many turns
 abbrev pub outcome_for : (turns : ℕ) → Setup → Refusal → Text → First → List Input → Outcome

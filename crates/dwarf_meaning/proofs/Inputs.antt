@@ -4,9 +4,9 @@ use Rattle.dwarf_base.specs.Faults.{Fault}
 use Rattle.dwarf_meaning.specs.Operations.{Operation, Text}
 use Rattle.dwarf_meaning.specs.Locations.{Location}
 use Rattle.dwarf_meaning.specs.Requests.{Request, Waiting, Input}
-use Rattle.dwarf_meaning.specs.Acts.{choose, Use, Gives, Calls, Denies, Misfits, use_of}
-use Rattle.dwarf_meaning.specs.Stores.{Setup, address_bits, Store, Last, Nothing, Plain, Pieced, Pushed, Called, Located, push_value, push_frame, Next, Goes, Stops, Fails, Refusal}
-use Rattle.dwarf_meaning.specs.Run.{Frame, End, Finished, Asking, Failed, Course, ended, passing, asking, joined, Continues, back, resumed, entered, called, used, with_input, asked, led, read, can_count, counted, does, counts, held, turn_by, turn, out_of_turns, run_for, enough, run}
+use Rattle.dwarf_meaning.specs.Acts.{choose, Use, PushesAnswer, Calls, FaultUse, WrongKind, use_of}
+use Rattle.dwarf_meaning.specs.Stores.{Setup, address_bits, Store, Last, Nothing, Plain, Pieced, Pushed, Called, Located, push_value, push_caller, Next, Goes, RequestNext, FaultNext, Refusal}
+use Rattle.dwarf_meaning.specs.Run.{Position, End, CompleteEnd, RequestEnd, FaultEnd, Course, only_end, add_to_path, add_request, append_course, Continues, return_to_caller, after_push, enter_callee, run_callee, after_answer, with_input, await_answer, after_operation, read, can_count, counted, do_operation, turn_counted, turn_located, turn_by, turn, out_of_turns, run_for, enough, run}
 use Rattle.dwarf_meaning.specs.Meaning.{unwound, First, fresh, with_initial, course_from, course_of, meaning}
 use Rattle.dwarf_meaning.specs.RunLaws.{IsSettled, end_before, course_before, IsOver}
 
@@ -24,61 +24,61 @@ abbrev pub Extensible : List Input → Continues → Type 0
 Extensible more go = (text : Text) (place depth : ℕ) (s : Store) (inputs : List Input) → Extends more (go text place depth s inputs) (go text place depth s (inputs ++ more))
 
 module _ (more : List Input) (go : Continues) (extends : Extensible more go) where
-  settled_callee : (frame : Frame) (depth : ℕ) (course : Course) (end : End) → IsSettled (back go frame depth course end).end → IsSettled end
-  settled_callee frame depth course (Finished s left) h = tt
-  settled_callee frame depth course (Asking request frames []) h = h
-  settled_callee frame depth course (Asking request frames (input ∷ left)) h = tt
-  settled_callee frame depth course (Failed fault) h = tt
+  settled_callee : (position : Position) (depth : ℕ) (course : Course) (end : End) → IsSettled (return_to_caller go position depth course end).end → IsSettled end
+  settled_callee position depth course (CompleteEnd s left) h = tt
+  settled_callee position depth course (RequestEnd request positions []) h = h
+  settled_callee position depth course (RequestEnd request positions (input ∷ left)) h = tt
+  settled_callee position depth course (FaultEnd fault) h = tt
 
-  extends_back : (frame : Frame) (depth : ℕ) (course : Course) (end : End) → Extends more (back go frame depth course end) (back go frame depth (course_before more course) (end_before more end))
-  extends_back frame depth course (Finished s left) settled = ap (joined course) (extends frame.text frame.place depth s left settled)
-  extends_back frame depth course (Asking request frames left) settled = refl
-  extends_back frame depth course (Failed fault) settled = refl
+  extends_back : (position : Position) (depth : ℕ) (course : Course) (end : End) → Extends more (return_to_caller go position depth course end) (return_to_caller go position depth (course_before more course) (end_before more end))
+  extends_back position depth course (CompleteEnd s left) settled = ap (append_course course) (extends position.text position.place depth s left settled)
+  extends_back position depth course (RequestEnd request positions left) settled = refl
+  extends_back position depth course (FaultEnd fault) settled = refl
 
-  extends_resumed : (frame : Frame) (depth : ℕ) (inputs : List Input) (r : Result Store Fault) → Extends more (resumed go frame depth inputs r) (resumed go frame depth (inputs ++ more) r)
-  extends_resumed frame depth inputs (Ok s) = extends frame.text frame.place depth s inputs
-  extends_resumed frame depth inputs (Err fault) = λ settled. refl
+  extends_resumed : (position : Position) (depth : ℕ) (inputs : List Input) (r : Result Store Fault) → Extends more (after_push go position depth inputs r) (after_push go position depth (inputs ++ more) r)
+  extends_resumed position depth inputs (Ok s) = extends position.text position.place depth s inputs
+  extends_resumed position depth inputs (Err fault) = λ settled. refl
 
-  extends_entered : (frame : Frame) (depth : ℕ) (callee : Text) (inputs : List Input) (r : Result Store Fault) → Extends more (entered go frame depth callee inputs r) (entered go frame depth callee (inputs ++ more) r)
-  extends_entered frame depth callee inputs (Ok s) settled =
+  extends_entered : (position : Position) (depth : ℕ) (callee : Text) (inputs : List Input) (r : Result Store Fault) → Extends more (enter_callee go position depth callee inputs r) (enter_callee go position depth callee (inputs ++ more) r)
+  extends_entered position depth callee inputs (Ok s) settled =
       let course = go callee 0 (suc depth) s inputs in
-      ap (λ (c : Course). back go frame depth c c.end) (extends callee 0 (suc depth) s inputs (settled_callee frame depth course course.end settled))
-      ∙ extends_back frame depth course course.end settled
-  extends_entered frame depth callee inputs (Err fault) settled = refl
+      ap (λ (c : Course). return_to_caller go position depth c c.end) (extends callee 0 (suc depth) s inputs (settled_callee position depth course course.end settled))
+      ∙ extends_back position depth course course.end settled
+  extends_entered position depth callee inputs (Err fault) settled = refl
 
-  extends_called : (setup : Setup) (frame : Frame) (depth : ℕ) (callee : Text) (bytes : List ℕ) (s : Store) (inputs : List Input) → Extends more (called go setup frame depth callee bytes s inputs) (called go setup frame depth callee bytes s (inputs ++ more))
-  extends_called setup frame depth callee [] s inputs = extends frame.text frame.place depth (record s { last = Called }) inputs
-  extends_called setup frame depth callee (byte ∷ bytes) s inputs = extends_entered frame depth callee inputs (push_frame setup depth s)
+  extends_called : (setup : Setup) (position : Position) (depth : ℕ) (callee : Text) (bytes : List ℕ) (s : Store) (inputs : List Input) → Extends more (run_callee go setup position depth callee bytes s inputs) (run_callee go setup position depth callee bytes s (inputs ++ more))
+  extends_called setup position depth callee [] s inputs = extends position.text position.place depth (record s { last = Called }) inputs
+  extends_called setup position depth callee (byte ∷ bytes) s inputs = extends_entered position depth callee inputs (push_caller setup depth s)
 
-  extends_used : (setup : Setup) (frame : Frame) (depth : ℕ) (u : Use) (s : Store) (inputs : List Input) (unanswered : Course) → Extends more (used go setup frame depth u s inputs unanswered) (used go setup frame depth u s (inputs ++ more) (course_before more unanswered))
-  extends_used setup frame depth (Gives rest value) s inputs unanswered = extends_resumed frame depth inputs (push_value setup value (record s { values = rest; last = Pushed }))
-  extends_used setup frame depth (Calls callee) s inputs unanswered = extends_called setup frame depth callee callee.bytes s inputs
-  extends_used setup frame depth (Denies fault) s inputs unanswered = λ settled. refl
-  extends_used setup frame depth Misfits s inputs unanswered = λ settled. refl
+  extends_used : (setup : Setup) (position : Position) (depth : ℕ) (u : Use) (s : Store) (inputs : List Input) (unanswered : Course) → Extends more (after_answer go setup position depth u s inputs unanswered) (after_answer go setup position depth u s (inputs ++ more) (course_before more unanswered))
+  extends_used setup position depth (PushesAnswer rest value) s inputs unanswered = extends_resumed position depth inputs (push_value setup value (record s { values = rest; last = Pushed }))
+  extends_used setup position depth (Calls callee) s inputs unanswered = extends_called setup position depth callee callee.bytes s inputs
+  extends_used setup position depth (FaultUse fault) s inputs unanswered = λ settled. refl
+  extends_used setup position depth WrongKind s inputs unanswered = λ settled. refl
 
-  pub extends_asked : (setup : Setup) (frame : Frame) (depth : ℕ) (request : Request) (waiting : Waiting) (s : Store) (inputs : List Input) → Extends more (asked go setup frame depth request waiting s inputs) (asked go setup frame depth request waiting s (inputs ++ more))
-  extends_asked setup frame depth request waiting s [] = λ settled. absurd settled
-  extends_asked setup frame depth request waiting s (input ∷ inputs) =
-      extends_used setup frame depth (use_of (address_bits setup) waiting input.answer s.values) (with_input input s) inputs (ended (Asking request (frame ∷ []) (input ∷ inputs)))
+  pub extends_asked : (setup : Setup) (position : Position) (depth : ℕ) (request : Request) (waiting : Waiting) (s : Store) (inputs : List Input) → Extends more (await_answer go setup position depth request waiting s inputs) (await_answer go setup position depth request waiting s (inputs ++ more))
+  extends_asked setup position depth request waiting s [] = λ settled. absurd settled
+  extends_asked setup position depth request waiting s (input ∷ inputs) =
+      extends_used setup position depth (use_of (address_bits setup) waiting input.answer s.values) (with_input input s) inputs (only_end (RequestEnd request (position ∷ []) (input ∷ inputs)))
 
-  extends_led : (setup : Setup) (text : Text) (depth place : ℕ) (inputs : List Input) (next : Next) → Extends more (led go setup text depth place inputs next) (led go setup text depth place (inputs ++ more) next)
+  extends_led : (setup : Setup) (text : Text) (depth place : ℕ) (inputs : List Input) (next : Next) → Extends more (after_operation go setup text depth place inputs next) (after_operation go setup text depth place (inputs ++ more) next)
   extends_led setup text depth place inputs (Goes to s) settled = extends text to depth s inputs settled
-  extends_led setup text depth place inputs (Stops request waiting s) settled =
-      ap (asking request) (extends_asked setup (record { text = text; place = place }) depth request waiting s inputs settled)
-  extends_led setup text depth place inputs (Fails fault) settled = refl
+  extends_led setup text depth place inputs (RequestNext request waiting s) settled =
+      ap (add_request request) (extends_asked setup (record { text = text; place = place }) depth request waiting s inputs settled)
+  extends_led setup text depth place inputs (FaultNext fault) settled = refl
 
-  extends_does : (setup : Setup) (text : Text) (depth : ℕ) (s : Store) (inputs : List Input) (r : Result (Operation × List ℕ) Fault) → Extends more (does go setup text depth s inputs r) (does go setup text depth s (inputs ++ more) r)
+  extends_does : (setup : Setup) (text : Text) (depth : ℕ) (s : Store) (inputs : List Input) (r : Result (Operation × List ℕ) Fault) → Extends more (do_operation go setup text depth s inputs r) (do_operation go setup text depth s (inputs ++ more) r)
   extends_does setup text depth s inputs (Ok x) = extends_led setup text depth _ inputs _
   extends_does setup text depth s inputs (Err fault) = λ settled. refl
 
-  extends_counts : (setup : Setup) (text : Text) (place depth : ℕ) (s : Store) (inputs : List Input) → Extends more (counts go setup text place depth s inputs) (counts go setup text place depth s (inputs ++ more))
+  extends_counts : (setup : Setup) (text : Text) (place depth : ℕ) (s : Store) (inputs : List Input) → Extends more (turn_counted go setup text place depth s inputs) (turn_counted go setup text place depth s (inputs ++ more))
   extends_counts setup text place depth s inputs =
-      let frame : Frame = record { text = text; place = place } in
+      let position : Position = record { text = text; place = place } in
       extends_choose more (can_count s) _ _ _ _
-      (λ settled. ap (passing frame) (extends_does setup text depth (counted s) inputs (read setup text place) settled))
+      (λ settled. ap (add_to_path position) (extends_does setup text depth (counted s) inputs (read setup text place) settled))
       (λ settled. refl)
 
-  extends_held : (setup : Setup) (text : Text) (depth : ℕ) (location : Location) (s : Store) (inputs : List Input) (r : Result (Operation × List ℕ) Fault) → Extends more (held go setup text depth location s inputs r) (held go setup text depth location s (inputs ++ more) r)
+  extends_held : (setup : Setup) (text : Text) (depth : ℕ) (location : Location) (s : Store) (inputs : List Input) (r : Result (Operation × List ℕ) Fault) → Extends more (turn_located go setup text depth location s inputs r) (turn_located go setup text depth location s (inputs ++ more) r)
   extends_held setup text depth location s inputs (Ok x) = extends_led setup text depth _ inputs _
   extends_held setup text depth location s inputs (Err fault) = λ settled. refl
 
@@ -104,23 +104,23 @@ extends_run setup text place depth s inputs more = extends_run_for enough setup 
 
 -- ---- the whole
 
-settled_unwound : (setup : Setup) (callers : List Frame) (end : End) → IsOver (unwound setup callers end) → IsSettled end
-settled_unwound setup callers (Finished s left) h = tt
-settled_unwound setup [] (Asking request frames []) h = h
-settled_unwound setup (caller ∷ callers) (Asking request frames []) h = h
-settled_unwound setup callers (Asking request frames (input ∷ left)) h = tt
-settled_unwound setup callers (Failed fault) h = tt
+settled_unwound : (setup : Setup) (callers : List Position) (end : End) → IsOver (unwound setup callers end) → IsSettled end
+settled_unwound setup callers (CompleteEnd s left) h = tt
+settled_unwound setup [] (RequestEnd request positions []) h = h
+settled_unwound setup (caller ∷ callers) (RequestEnd request positions []) h = h
+settled_unwound setup callers (RequestEnd request positions (input ∷ left)) h = tt
+settled_unwound setup callers (FaultEnd fault) h = tt
 
-pub over_unwound : (setup : Setup) (more : List Input) (callers : List Frame) (end : End) → IsOver (unwound setup callers end) → unwound setup callers (end_before more end) ≡ unwound setup callers end
-over_unwound setup more [] (Finished s left) h = refl
-over_unwound setup more [] (Asking request frames left) h = refl
-over_unwound setup more [] (Failed fault) h = refl
-over_unwound setup more (caller ∷ callers) (Finished s left) h =
+pub over_unwound : (setup : Setup) (more : List Input) (callers : List Position) (end : End) → IsOver (unwound setup callers end) → unwound setup callers (end_before more end) ≡ unwound setup callers end
+over_unwound setup more [] (CompleteEnd s left) h = refl
+over_unwound setup more [] (RequestEnd request positions left) h = refl
+over_unwound setup more [] (FaultEnd fault) h = refl
+over_unwound setup more (caller ∷ callers) (CompleteEnd s left) h =
     let end = (run setup caller.text caller.place (length callers) s left).end in
     ap (λ (c : Course). unwound setup callers c.end) (extends_run setup caller.text caller.place (length callers) s left more (settled_unwound setup callers end h))
     ∙ over_unwound setup more callers end h
-over_unwound setup more (caller ∷ callers) (Asking request frames left) h = refl
-over_unwound setup more (caller ∷ callers) (Failed fault) h = refl
+over_unwound setup more (caller ∷ callers) (RequestEnd request positions left) h = refl
+over_unwound setup more (caller ∷ callers) (FaultEnd fault) h = refl
 
 extends_from : (setup : Setup) (text : Text) (inputs more : List Input) (r : Result Store Fault) → IsSettled (course_from setup text inputs r).end → course_from setup text (inputs ++ more) r ≡ course_before more (course_from setup text inputs r)
 extends_from setup text inputs more (Ok s) = extends_run setup text 0 0 s inputs more

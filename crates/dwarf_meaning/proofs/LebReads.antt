@@ -2,7 +2,7 @@
 use Rattle.std.proofs.Common.{ℕ, ◌≡◌, List, [], ◌∷◌, ◌++◌, Ok, Err, refl, append-nil, sym, ◌∙◌}
 use Rattle.dwarf_base.specs.Faults.{Fault, UnexpectedEof}
 use Rattle.dwarf_base.specs.Fronts as fronts
-use Rattle.dwarf_base.specs.Leb.{uleb_at, sleb_at, SpellsLeb, RefusedLeb, unsigned_leb, signed_leb}
+use Rattle.dwarf_base.specs.Leb.{uleb_at, sleb_at, SpellsLeb, MalformedLeb, unsigned_leb, signed_leb}
 use Rattle.dwarf_base.proofs.LebLaws.{uleb_exactly, sleb_exactly, uleb_fronts, sleb_fronts}
 use Rattle.dwarf_meaning.proofs.ReadsExactly.{Reading, ReadsExactly}
 
@@ -26,8 +26,8 @@ module _ {A : Type 0} (read : List ℕ → Reading A) (S : List ℕ → A → Ty
     cut_off = cut_off;
   }
 
-pub reads_uleb : ReadsExactly uleb_at (SpellsLeb unsigned_leb) (RefusedLeb unsigned_leb)
-reads_uleb = reads_as_spelled uleb_at (SpellsLeb unsigned_leb) (RefusedLeb unsigned_leb) uleb_exactly uleb_fronts
+pub reads_uleb : ReadsExactly uleb_at (SpellsLeb unsigned_leb) (MalformedLeb unsigned_leb)
+reads_uleb = reads_as_spelled uleb_at (SpellsLeb unsigned_leb) (MalformedLeb unsigned_leb) uleb_exactly uleb_fronts
 
-pub reads_sleb : ReadsExactly sleb_at (SpellsLeb signed_leb) (RefusedLeb signed_leb)
-reads_sleb = reads_as_spelled sleb_at (SpellsLeb signed_leb) (RefusedLeb signed_leb) sleb_exactly sleb_fronts
+pub reads_sleb : ReadsExactly sleb_at (SpellsLeb signed_leb) (MalformedLeb signed_leb)
+reads_sleb = reads_as_spelled sleb_at (SpellsLeb signed_leb) (MalformedLeb signed_leb) sleb_exactly sleb_fronts

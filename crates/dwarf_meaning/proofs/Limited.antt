@@ -7,10 +7,10 @@ use Rattle.dwarf_value.specs.declared.types.Value.{Value}
 use Rattle.dwarf_meaning.specs.Operations.{Operation, Text}
 use Rattle.dwarf_meaning.specs.Locations.{Location, Piece}
 use Rattle.dwarf_meaning.specs.Requests.{Request, Waiting, Input}
-use Rattle.dwarf_meaning.specs.Acts.{on_top, Act, Pushes, Branches, Locates, Ends, Asks, Refuses, Use, Gives, Calls, Denies, Misfits, use_of}
-use Rattle.dwarf_meaning.specs.Stores.{IsWithin, Setup, address_bits, Refusal, Store, Last, Nothing, Plain, Pieced, Pushed, Called, Located, spent, room, push_value, push_piece, push_frame, push_values, Next, Goes, Stops, Fails, done}
-use Rattle.dwarf_meaning.specs.Run.{Frame, End, Finished, Asking, Failed, Course, ended, Continues, back, resumed, entered, called, used, with_input, asked, led, read, can_count, counted, does, counts, piece_of, holds, held, turn_by, turn, out_of_turns, run_for, enough, run}
-use Rattle.dwarf_meaning.specs.Meaning.{completed, has_pieces, whole, finish_located, finish_value, finish_judged, finish_free, finish_by, unwound, First, fresh, with_initial, course_from, meaning}
+use Rattle.dwarf_meaning.specs.Acts.{on_top, Act, Pushes, Branches, Locates, EndsPiece, RequestAct, FaultAct, Use, PushesAnswer, Calls, FaultUse, WrongKind, use_of}
+use Rattle.dwarf_meaning.specs.Stores.{IsWithin, Setup, address_bits, Refusal, Store, Last, Nothing, Plain, Pieced, Pushed, Called, Located, spent, room, push_value, push_piece, push_caller, push_values, Next, Goes, RequestNext, FaultNext, done}
+use Rattle.dwarf_meaning.specs.Run.{Position, End, CompleteEnd, RequestEnd, FaultEnd, Course, only_end, Continues, return_to_caller, after_push, enter_callee, run_callee, after_answer, with_input, await_answer, after_operation, read, can_count, counted, do_operation, turn_counted, piece_ended_by, end_located, turn_located, turn_by, turn, out_of_turns, run_for, enough, run}
+use Rattle.dwarf_meaning.specs.Meaning.{completion_of, has_pieces, whole, finish_located, finish_value, finish_judged, finish_free, finish_by, unwound, First, fresh, with_initial, course_from, meaning}
 use Rattle.dwarf_meaning.specs.RunLaws.{ListsWithin, OpenTexts, EndWithin, OutcomeWithin, outermost}
 use Rattle.dwarf_meaning.proofs.Choices.{choose_both}
 use Rattle.dwarf_meaning.proofs.Counts.{OnStore, OnNext, bound_store, on_bound, on_goes}
@@ -50,12 +50,12 @@ module _ (setup : Setup) where
   -- room for a callee's frame
   record Enters (depth : ℕ) (s : Store) : Type 0 where
     kept : Kept s
-    within : IsWithin setup.limits.frames (suc depth)
+    within : IsWithin setup.limits.callers (suc depth)
 
-  kept_frame : (depth : ℕ) (s : Store) → Kept s → OnStore (Enters depth) (push_frame setup depth s)
-  unfolding push_frame
+  kept_frame : (depth : ℕ) (s : Store) → Kept s → OnStore (Enters depth) (push_caller setup depth s)
+  unfolding push_caller
   kept_frame depth s h =
-      room_within setup.limits.frames depth s.refusal (Enters depth) (λ left. record s { refusal = left })
+      room_within setup.limits.callers depth s.refusal (Enters depth) (λ left. record s { refusal = left })
       (λ within left. record { kept = record { values = h.values; pieces = h.pieces }; within = within })
 
   kept_values : (values : List Value) (s : Store) → Kept s → OnStore Kept (push_values setup values s)
@@ -71,84 +71,84 @@ module _ (setup : Setup) where
   kept_done place len (Branches rest target) s (branches _ _ l) h =
       choose_both (OnNext Kept) _ _ _ (λ e. tt) (λ e. record { values = within_less setup.limits.values _ _ l h.values; pieces = h.pieces })
   kept_done place len (Locates rest location) s (locates _ _ l) h = record { values = within_less setup.limits.values _ _ l h.values; pieces = h.pieces }
-  kept_done place len (Ends rest piece) s (ends _ _ l) h =
+  kept_done place len (EndsPiece rest piece) s (ends _ _ l) h =
       on_goes Kept place _ (kept_piece piece (record s { values = rest; last = Pieced }) (record { values = within_less setup.limits.values _ _ l h.values; pieces = h.pieces }))
-  kept_done place len (Asks rest request waiting) s (asks _ _ _ l) h = record { values = within_less setup.limits.values _ _ l h.values; pieces = h.pieces }
-  kept_done place len (Refuses fault) s (refuses _) h = tt
+  kept_done place len (RequestAct rest request waiting) s (asks _ _ _ l) h = record { values = within_less setup.limits.values _ _ l h.values; pieces = h.pieces }
+  kept_done place len (FaultAct fault) s (refuses _) h = tt
 
-  kept_holds : (location : Location) (place : ℕ) (s : Store) (o : Option (ℕ × Option ℕ)) → Kept s → OnNext Kept (holds setup location place s o)
+  kept_holds : (location : Location) (place : ℕ) (s : Store) (o : Option (ℕ × Option ℕ)) → Kept s → OnNext Kept (end_located setup location place s o)
   kept_holds location place s (Some piece) h = on_goes Kept place _ (kept_piece _ (record s { last = Pieced }) (record { values = h.values; pieces = h.pieces }))
   kept_holds location place s None h = tt
 
   -- ---- runs
 
   abbrev Limited : Continues → Type 0
-  Limited go = (text : Text) (place depth : ℕ) (s : Store) (inputs : List Input) → IsWithin setup.limits.frames depth → Kept s → EndWithin setup.limits text depth (go text place depth s inputs).end
+  Limited go = (text : Text) (place depth : ℕ) (s : Store) (inputs : List Input) → IsWithin setup.limits.callers depth → Kept s → EndWithin setup.limits text depth (go text place depth s inputs).end
 
   -- the text alone is open
-  one_open : (frame : Frame) (depth : ℕ) → IsWithin setup.limits.frames depth → OpenTexts setup.limits.frames frame.text depth (frame ∷ [])
-  one_open frame depth h = record { callees = []; place = frame.place; itself = refl; one_more = refl; within = within_less setup.limits.frames _ _ (omega arith) h }
+  one_open : (position : Position) (depth : ℕ) → IsWithin setup.limits.callers depth → OpenTexts setup.limits.callers position.text depth (position ∷ [])
+  one_open position depth h = record { callees = []; place = position.place; itself = refl; one_more = refl; within = within_less setup.limits.callers _ _ (omega arith) h }
 
   -- a caller is open behind its callees
-  caller_open : (frame : Frame) (callee : Text) (depth : ℕ) (frames : List Frame) → OpenTexts setup.limits.frames callee (suc depth) frames → OpenTexts setup.limits.frames frame.text depth (frames ++ frame ∷ [])
-  caller_open frame callee depth frames h =
-      let l = length-append frames (frame ∷ []) in
-      record { callees = frames; place = frame.place; itself = refl; one_more = omega (arith, l); within = within_less setup.limits.frames _ _ (omega (arith, h.one_more)) h.within }
+  caller_open : (position : Position) (callee : Text) (depth : ℕ) (positions : List Position) → OpenTexts setup.limits.callers callee (suc depth) positions → OpenTexts setup.limits.callers position.text depth (positions ++ position ∷ [])
+  caller_open position callee depth positions h =
+      let l = length-append positions (position ∷ []) in
+      record { callees = positions; place = position.place; itself = refl; one_more = omega (arith, l); within = within_less setup.limits.callers _ _ (omega (arith, h.one_more)) h.within }
 
   module _ (go : Continues) (limited : Limited go) where
-    limited_back : (frame : Frame) (callee : Text) (depth : ℕ) (course : Course) (end : End) → IsWithin setup.limits.frames depth → EndWithin setup.limits callee (suc depth) end → EndWithin setup.limits frame.text depth (back go frame depth course end).end
-    limited_back frame callee depth course (Finished s left) d h = limited frame.text frame.place depth s left d h
-    limited_back frame callee depth course (Asking request frames left) d h = caller_open frame callee depth frames h
-    limited_back frame callee depth course (Failed fault) d h = tt
+    limited_back : (position : Position) (callee : Text) (depth : ℕ) (course : Course) (end : End) → IsWithin setup.limits.callers depth → EndWithin setup.limits callee (suc depth) end → EndWithin setup.limits position.text depth (return_to_caller go position depth course end).end
+    limited_back position callee depth course (CompleteEnd s left) d h = limited position.text position.place depth s left d h
+    limited_back position callee depth course (RequestEnd request positions left) d h = caller_open position callee depth positions h
+    limited_back position callee depth course (FaultEnd fault) d h = tt
 
-    limited_resumed : (frame : Frame) (depth : ℕ) (inputs : List Input) (r : Result Store Fault) → IsWithin setup.limits.frames depth → OnStore Kept r → EndWithin setup.limits frame.text depth (resumed go frame depth inputs r).end
-    limited_resumed frame depth inputs (Ok s) d h = limited frame.text frame.place depth s inputs d h
-    limited_resumed frame depth inputs (Err fault) d h = tt
+    limited_resumed : (position : Position) (depth : ℕ) (inputs : List Input) (r : Result Store Fault) → IsWithin setup.limits.callers depth → OnStore Kept r → EndWithin setup.limits position.text depth (after_push go position depth inputs r).end
+    limited_resumed position depth inputs (Ok s) d h = limited position.text position.place depth s inputs d h
+    limited_resumed position depth inputs (Err fault) d h = tt
 
-    limited_entered : (frame : Frame) (depth : ℕ) (callee : Text) (inputs : List Input) (r : Result Store Fault) → IsWithin setup.limits.frames depth → OnStore (Enters depth) r → EndWithin setup.limits frame.text depth (entered go frame depth callee inputs r).end
-    limited_entered frame depth callee inputs (Ok s) d h =
+    limited_entered : (position : Position) (depth : ℕ) (callee : Text) (inputs : List Input) (r : Result Store Fault) → IsWithin setup.limits.callers depth → OnStore (Enters depth) r → EndWithin setup.limits position.text depth (enter_callee go position depth callee inputs r).end
+    limited_entered position depth callee inputs (Ok s) d h =
         let course = go callee 0 (suc depth) s inputs in
-        limited_back frame callee depth course course.end d (limited callee 0 (suc depth) s inputs h.within h.kept)
-    limited_entered frame depth callee inputs (Err fault) d h = tt
+        limited_back position callee depth course course.end d (limited callee 0 (suc depth) s inputs h.within h.kept)
+    limited_entered position depth callee inputs (Err fault) d h = tt
 
-    limited_called : (frame : Frame) (depth : ℕ) (callee : Text) (bytes : List ℕ) (s : Store) (inputs : List Input) → IsWithin setup.limits.frames depth → Kept s → EndWithin setup.limits frame.text depth (called go setup frame depth callee bytes s inputs).end
-    limited_called frame depth callee [] s inputs d h = limited frame.text frame.place depth (record s { last = Called }) inputs d (record { values = h.values; pieces = h.pieces })
-    limited_called frame depth callee (byte ∷ bytes) s inputs d h = limited_entered frame depth callee inputs _ d (kept_frame depth s h)
+    limited_called : (position : Position) (depth : ℕ) (callee : Text) (bytes : List ℕ) (s : Store) (inputs : List Input) → IsWithin setup.limits.callers depth → Kept s → EndWithin setup.limits position.text depth (run_callee go setup position depth callee bytes s inputs).end
+    limited_called position depth callee [] s inputs d h = limited position.text position.place depth (record s { last = Called }) inputs d (record { values = h.values; pieces = h.pieces })
+    limited_called position depth callee (byte ∷ bytes) s inputs d h = limited_entered position depth callee inputs _ d (kept_frame depth s h)
 
-    limited_used : (frame : Frame) (depth : ℕ) (u : Use) (s : Store) (inputs : List Input) (unanswered : Course) → IsWithin setup.limits.frames depth → Keeps (length s.values) u → Kept s → EndWithin setup.limits frame.text depth unanswered.end → EndWithin setup.limits frame.text depth (used go setup frame depth u s inputs unanswered).end
-    limited_used frame depth (Gives rest value) s inputs unanswered d (gives _ _ l) h i =
-        limited_resumed frame depth inputs _ d (kept_value value (record s { values = rest; last = Pushed }) (record { values = within_less setup.limits.values _ _ l h.values; pieces = h.pieces }))
-    limited_used frame depth (Calls callee) s inputs unanswered d k h i = limited_called frame depth callee callee.bytes s inputs d h
-    limited_used frame depth (Denies fault) s inputs unanswered d k h i = tt
-    limited_used frame depth Misfits s inputs unanswered d k h i = i
+    limited_used : (position : Position) (depth : ℕ) (u : Use) (s : Store) (inputs : List Input) (unanswered : Course) → IsWithin setup.limits.callers depth → Keeps (length s.values) u → Kept s → EndWithin setup.limits position.text depth unanswered.end → EndWithin setup.limits position.text depth (after_answer go setup position depth u s inputs unanswered).end
+    limited_used position depth (PushesAnswer rest value) s inputs unanswered d (gives _ _ l) h i =
+        limited_resumed position depth inputs _ d (kept_value value (record s { values = rest; last = Pushed }) (record { values = within_less setup.limits.values _ _ l h.values; pieces = h.pieces }))
+    limited_used position depth (Calls callee) s inputs unanswered d k h i = limited_called position depth callee callee.bytes s inputs d h
+    limited_used position depth (FaultUse fault) s inputs unanswered d k h i = tt
+    limited_used position depth WrongKind s inputs unanswered d k h i = i
 
-    limited_asked : (frame : Frame) (depth : ℕ) (request : Request) (waiting : Waiting) (s : Store) (inputs : List Input) → IsWithin setup.limits.frames depth → Kept s → EndWithin setup.limits frame.text depth (asked go setup frame depth request waiting s inputs).end
-    limited_asked frame depth request waiting s [] d h = one_open frame depth d
-    limited_asked frame depth request waiting s (input ∷ inputs) d h =
-        limited_used frame depth (use_of (address_bits setup) waiting input.answer s.values) (with_input input s) inputs (ended (Asking request (frame ∷ []) (input ∷ inputs))) d
-        (use_keeps (length s.values) (address_bits setup) waiting input.answer s.values (omega arith)) (record { values = h.values; pieces = h.pieces }) (one_open frame depth d)
+    limited_asked : (position : Position) (depth : ℕ) (request : Request) (waiting : Waiting) (s : Store) (inputs : List Input) → IsWithin setup.limits.callers depth → Kept s → EndWithin setup.limits position.text depth (await_answer go setup position depth request waiting s inputs).end
+    limited_asked position depth request waiting s [] d h = one_open position depth d
+    limited_asked position depth request waiting s (input ∷ inputs) d h =
+        limited_used position depth (use_of (address_bits setup) waiting input.answer s.values) (with_input input s) inputs (only_end (RequestEnd request (position ∷ []) (input ∷ inputs))) d
+        (use_keeps (length s.values) (address_bits setup) waiting input.answer s.values (omega arith)) (record { values = h.values; pieces = h.pieces }) (one_open position depth d)
 
-    limited_led : (text : Text) (depth place : ℕ) (inputs : List Input) (next : Next) → IsWithin setup.limits.frames depth → OnNext Kept next → EndWithin setup.limits text depth (led go setup text depth place inputs next).end
+    limited_led : (text : Text) (depth place : ℕ) (inputs : List Input) (next : Next) → IsWithin setup.limits.callers depth → OnNext Kept next → EndWithin setup.limits text depth (after_operation go setup text depth place inputs next).end
     limited_led text depth place inputs (Goes to s) d h = limited text to depth s inputs d h
-    limited_led text depth place inputs (Stops request waiting s) d h = limited_asked (record { text = text; place = place }) depth request waiting s inputs d h
-    limited_led text depth place inputs (Fails fault) d h = tt
+    limited_led text depth place inputs (RequestNext request waiting s) d h = limited_asked (record { text = text; place = place }) depth request waiting s inputs d h
+    limited_led text depth place inputs (FaultNext fault) d h = tt
 
-    limited_does : (text : Text) (depth : ℕ) (s : Store) (inputs : List Input) (r : Result (Operation × List ℕ) Fault) → IsWithin setup.limits.frames depth → Kept s → EndWithin setup.limits text depth (does go setup text depth s inputs r).end
+    limited_does : (text : Text) (depth : ℕ) (s : Store) (inputs : List Input) (r : Result (Operation × List ℕ) Fault) → IsWithin setup.limits.callers depth → Kept s → EndWithin setup.limits text depth (do_operation go setup text depth s inputs r).end
     limited_does text depth s inputs (Ok x) d h =
         limited_led text depth _ inputs _ d (kept_done _ _ _ s (act_leaves (length s.values) (address_bits setup) s.object_address x.0 s.values (omega arith)) h)
     limited_does text depth s inputs (Err fault) d h = tt
 
-    limited_counts : (text : Text) (place depth : ℕ) (s : Store) (inputs : List Input) → IsWithin setup.limits.frames depth → Kept s → EndWithin setup.limits text depth (counts go setup text place depth s inputs).end
+    limited_counts : (text : Text) (place depth : ℕ) (s : Store) (inputs : List Input) → IsWithin setup.limits.callers depth → Kept s → EndWithin setup.limits text depth (turn_counted go setup text place depth s inputs).end
     limited_counts text place depth s inputs d h =
         choose_both (λ (c : Course). EndWithin setup.limits text depth c.end) (can_count s) _ _
         (λ can. limited_does text depth (counted s) inputs (read setup text place) d (record { values = h.values; pieces = h.pieces }))
         (λ e. tt)
 
-    limited_held : (text : Text) (depth : ℕ) (location : Location) (s : Store) (inputs : List Input) (r : Result (Operation × List ℕ) Fault) → IsWithin setup.limits.frames depth → Kept s → EndWithin setup.limits text depth (held go setup text depth location s inputs r).end
-    limited_held text depth location s inputs (Ok x) d h = limited_led text depth _ inputs _ d (kept_holds location _ s (piece_of x.0) h)
+    limited_held : (text : Text) (depth : ℕ) (location : Location) (s : Store) (inputs : List Input) (r : Result (Operation × List ℕ) Fault) → IsWithin setup.limits.callers depth → Kept s → EndWithin setup.limits text depth (turn_located go setup text depth location s inputs r).end
+    limited_held text depth location s inputs (Ok x) d h = limited_led text depth _ inputs _ d (kept_holds location _ s (piece_ended_by x.0) h)
     limited_held text depth location s inputs (Err fault) d h = tt
 
-    limited_by : (text : Text) (place depth : ℕ) (s : Store) (inputs : List Input) (last : Last) → IsWithin setup.limits.frames depth → Kept s → EndWithin setup.limits text depth (turn_by go setup text place depth s inputs last).end
+    limited_by : (text : Text) (place depth : ℕ) (s : Store) (inputs : List Input) (last : Last) → IsWithin setup.limits.callers depth → Kept s → EndWithin setup.limits text depth (turn_by go setup text place depth s inputs last).end
     limited_by text place depth s inputs (Located location) d h = limited_held text depth location s inputs (read setup text place) d h
     limited_by text place depth s inputs Nothing d h = limited_counts text place depth s inputs d h
     limited_by text place depth s inputs Plain d h = limited_counts text place depth s inputs d h
@@ -168,7 +168,7 @@ module _ (setup : Setup) where
 
   -- ---- the whole
 
-  completed_within : (text : Text) (value : Option Value) (r : Result Store Fault) → OnStore Kept r → OutcomeWithin setup.limits text (completed value r)
+  completed_within : (text : Text) (value : Option Value) (r : Result Store Fault) → OnStore Kept r → OutcomeWithin setup.limits text (completion_of value r)
   completed_within text value (Ok s) h = h.pieces
   completed_within text value (Err fault) h = tt
 
@@ -196,22 +196,22 @@ module _ (setup : Setup) where
   finish_within text s Called h = free_within text s h
 
   -- a text's callers are open behind it
-  callers_open : (text : Text) (frames callers : List Frame) → OpenTexts setup.limits.frames text (length callers) frames → OpenTexts setup.limits.frames (outermost text callers) 0 (frames ++ callers)
-  callers_open text frames [] h = subst (λ (fs : List Frame). OpenTexts setup.limits.frames text 0 fs) (sym (append-nil frames)) h
-  callers_open text frames (caller ∷ callers) h =
-      subst (λ (fs : List Frame). OpenTexts setup.limits.frames (outermost caller.text callers) 0 fs) (append_assoc frames (caller ∷ []) callers)
-      (callers_open caller.text (frames ++ caller ∷ []) callers (caller_open caller text (length callers) frames h))
+  callers_open : (text : Text) (positions callers : List Position) → OpenTexts setup.limits.callers text (length callers) positions → OpenTexts setup.limits.callers (outermost text callers) 0 (positions ++ callers)
+  callers_open text positions [] h = subst (λ (fs : List Position). OpenTexts setup.limits.callers text 0 fs) (sym (append-nil positions)) h
+  callers_open text positions (caller ∷ callers) h =
+      subst (λ (fs : List Position). OpenTexts setup.limits.callers (outermost caller.text callers) 0 fs) (append_assoc positions (caller ∷ []) callers)
+      (callers_open caller.text (positions ++ caller ∷ []) callers (caller_open caller text (length callers) positions h))
 
-  unwound_limited : (text : Text) (callers : List Frame) (end : End) → IsWithin setup.limits.frames (length callers) → EndWithin setup.limits text (length callers) end → OutcomeWithin setup.limits (outermost text callers) (unwound setup callers end)
-  unwound_limited text [] (Finished s left) d h = finish_within text s s.last h
-  unwound_limited text [] (Asking request frames left) d h = callers_open text frames [] h
-  unwound_limited text [] (Failed fault) d h = tt
-  unwound_limited text (caller ∷ callers) (Finished s left) d h =
-      let above = within_less setup.limits.frames (suc (length callers)) (length callers) (omega arith) d in
+  unwound_limited : (text : Text) (callers : List Position) (end : End) → IsWithin setup.limits.callers (length callers) → EndWithin setup.limits text (length callers) end → OutcomeWithin setup.limits (outermost text callers) (unwound setup callers end)
+  unwound_limited text [] (CompleteEnd s left) d h = finish_within text s s.last h
+  unwound_limited text [] (RequestEnd request positions left) d h = callers_open text positions [] h
+  unwound_limited text [] (FaultEnd fault) d h = tt
+  unwound_limited text (caller ∷ callers) (CompleteEnd s left) d h =
+      let above = within_less setup.limits.callers (suc (length callers)) (length callers) (omega arith) d in
       unwound_limited caller.text callers (run setup caller.text caller.place (length callers) s left).end above
       (limited_run_for enough caller.text caller.place (length callers) s left above h)
-  unwound_limited text (caller ∷ callers) (Asking request frames left) d h = callers_open text frames (caller ∷ callers) h
-  unwound_limited text (caller ∷ callers) (Failed fault) d h = tt
+  unwound_limited text (caller ∷ callers) (RequestEnd request positions left) d h = callers_open text positions (caller ∷ callers) h
+  unwound_limited text (caller ∷ callers) (FaultEnd fault) d h = tt
 
   none_within : (limit : Option ℕ) → IsWithin limit 0
   none_within None = tt
@@ -222,18 +222,18 @@ module _ (setup : Setup) where
   initial_kept (Some number) s h = kept_value _ s h
 
   from_within : (text : Text) (inputs : List Input) (r : Result Store Fault) → OnStore Kept r → EndWithin setup.limits text 0 (course_from setup text inputs r).end
-  from_within text inputs (Ok s) h = limited_run_for enough text 0 0 s inputs (none_within setup.limits.frames) h
+  from_within text inputs (Ok s) h = limited_run_for enough text 0 0 s inputs (none_within setup.limits.callers) h
   from_within text inputs (Err fault) h = tt
 
-pub run_within : (setup : Setup) (text : Text) (place depth : ℕ) (s : Store) (inputs : List Input) → IsWithin setup.limits.frames depth → ListsWithin setup.limits s → EndWithin setup.limits text depth (run setup text place depth s inputs).end
+pub run_within : (setup : Setup) (text : Text) (place depth : ℕ) (s : Store) (inputs : List Input) → IsWithin setup.limits.callers depth → ListsWithin setup.limits s → EndWithin setup.limits text depth (run setup text place depth s inputs).end
 run_within setup = limited_run_for setup enough
 
-pub unwound_within : (setup : Setup) (text : Text) (callers : List Frame) (end : End) → IsWithin setup.limits.frames (length callers) → EndWithin setup.limits text (length callers) end → OutcomeWithin setup.limits (outermost text callers) (unwound setup callers end)
+pub unwound_within : (setup : Setup) (text : Text) (callers : List Position) (end : End) → IsWithin setup.limits.callers (length callers) → EndWithin setup.limits text (length callers) end → OutcomeWithin setup.limits (outermost text callers) (unwound setup callers end)
 unwound_within setup = unwound_limited setup
 
 pub meaning_within : (setup : Setup) (refusal : Refusal) (text : Text) (first : First) (inputs : List Input) → OutcomeWithin setup.limits text (meaning setup refusal text first inputs)
 unfolding meaning
 meaning_within setup refusal text first inputs =
-    unwound_within setup text [] _ (none_within setup setup.limits.frames)
+    unwound_within setup text [] _ (none_within setup setup.limits.callers)
     (from_within setup text inputs _
     (initial_kept setup first.initial_value (fresh first refusal) (record { values = none_within setup setup.limits.values; pieces = none_within setup setup.limits.pieces })))

@@ -1,12 +1,12 @@
 -- Operands that are numbers are read exactly where they are spelled.
 use Rattle.std.proofs.Common.{ℕ, ◌*◌, ◌≡◌, ◌<◌, ℤ, Bool, true, false, cond, List, ◌∷◌, ◌++◌, length, Result, Ok, Err, refl, sym, ap, subst, ◌∙◌}
 use Rattle.dwarf_base.specs.Faults.{Fault, UnexpectedEof, UnsupportedAddressSize}
-use Rattle.dwarf_base.specs.Leb.{SpellsLeb, RefusedLeb, unsigned_leb, signed_leb, sleb_at}
+use Rattle.dwarf_base.specs.Leb.{SpellsLeb, MalformedLeb, unsigned_leb, signed_leb, sleb_at}
 use Rattle.dwarf_base.specs.Numbers.{number_of, signed_of}
 use Rattle.dwarf_base.specs.Reads.{split_at, fixed_at, signed_at, address_at, is_fixed_size}
-use Rattle.dwarf_meaning.specs.Operands.{Context, Form, SignedForm, SignedFixed, SignedLeb128, Layout, InBytes, InAddress, InLeb128, layout_of, value_of}
+use Rattle.dwarf_meaning.specs.Operands.{Context, Form, SignedForm, SignedFixed, SignedLeb128, Layout, InBytes, InAddress, InLeb128, layout_of, operand_value}
 use Rattle.dwarf_meaning.specs.Decoding.{number_at, unsigned_at, integer_at}
-use Rattle.dwarf_meaning.specs.Spelling.{SpellsNumber, RefusesNumber, SpellsInteger, RefusesInteger, SpellsUnsigned, RefusesUnsigned}
+use Rattle.dwarf_meaning.specs.Spelling.{SpellsNumber, MalformedNumber, SpellsInteger, MalformedInteger, SpellsUnsigned, MalformedUnsigned}
 use Rattle.dwarf_meaning.specs.Spelling as spelling
 use Rattle.dwarf_meaning.proofs.ReadsExactly.{Reading, ReadsExactly, reads_as, reads_checked, Passes, passes, Fails, unread, unfit, SpellsBlock, block, RefusesBlock, few, reads_block}
 use Rattle.dwarf_meaning.proofs.LebReads.{reads_uleb, reads_sleb}
@@ -58,12 +58,12 @@ bytes_spelled big size bytes number s =
 bytes_spelling : (big : Bool) (size : ℕ) (bytes : List ℕ) (number : ℕ) → SpellsNumber big (InBytes size) bytes number → FixedSpelling big size bytes number
 bytes_spelling big size bytes number (spelling.in_bytes bytes') = fixed_spelling big bytes'
 
-bytes_refused : (big : Bool) (size : ℕ) (bytes : List ℕ) (fault : Fault) → FixedRefusal big size bytes fault → RefusesNumber big (InBytes size) bytes fault
+bytes_refused : (big : Bool) (size : ℕ) (bytes : List ℕ) (fault : Fault) → FixedRefusal big size bytes fault → MalformedNumber big (InBytes size) bytes fault
 bytes_refused big size bytes fault r =
     let f = fixed_few big size bytes fault r in
-    subst (RefusesNumber big (InBytes size) bytes) (sym f.1) (spelling.few_bytes size bytes f.0)
+    subst (MalformedNumber big (InBytes size) bytes) (sym f.1) (spelling.few_bytes size bytes f.0)
 
-bytes_refusal : (big : Bool) (size : ℕ) (bytes : List ℕ) (fault : Fault) → RefusesNumber big (InBytes size) bytes fault → FixedRefusal big size bytes fault
+bytes_refusal : (big : Bool) (size : ℕ) (bytes : List ℕ) (fault : Fault) → MalformedNumber big (InBytes size) bytes fault → FixedRefusal big size bytes fault
 bytes_refusal big size bytes fault (spelling.few_bytes size' bytes' h) = fixed_refusal big size bytes h
 
 address_spelled : (big : Bool) (size : ℕ) → is_fixed_size size ≡ true → (bytes : List ℕ) (number : ℕ) → FixedSpelling big size bytes number → SpellsNumber big (InAddress size) bytes number
@@ -75,51 +75,51 @@ address_spelled big size good bytes number s =
 address_spelling : (big : Bool) (size : ℕ) (bytes : List ℕ) (number : ℕ) → SpellsNumber big (InAddress size) bytes number → FixedSpelling big size bytes number
 address_spelling big size bytes number (spelling.in_address bytes' good) = fixed_spelling big bytes'
 
-address_refused : (big : Bool) (size : ℕ) → is_fixed_size size ≡ true → (bytes : List ℕ) (fault : Fault) → FixedRefusal big size bytes fault → RefusesNumber big (InAddress size) bytes fault
+address_refused : (big : Bool) (size : ℕ) → is_fixed_size size ≡ true → (bytes : List ℕ) (fault : Fault) → FixedRefusal big size bytes fault → MalformedNumber big (InAddress size) bytes fault
 address_refused big size good bytes fault r =
     let f = fixed_few big size bytes fault r in
-    subst (RefusesNumber big (InAddress size) bytes) (sym f.1) (spelling.few_address_bytes size bytes good f.0)
+    subst (MalformedNumber big (InAddress size) bytes) (sym f.1) (spelling.few_address_bytes size bytes good f.0)
 
-address_refusal : (big : Bool) (size : ℕ) → is_fixed_size size ≡ true → (bytes : List ℕ) (fault : Fault) → RefusesNumber big (InAddress size) bytes fault → FixedRefusal big size bytes fault
+address_refusal : (big : Bool) (size : ℕ) → is_fixed_size size ≡ true → (bytes : List ℕ) (fault : Fault) → MalformedNumber big (InAddress size) bytes fault → FixedRefusal big size bytes fault
 address_refusal big size good bytes fault (spelling.few_address_bytes size' bytes' good' h) = fixed_refusal big size bytes h
 address_refusal big size good bytes fault (spelling.address_size size' bytes' bad) = absurd cc
 
 no_address : (big : Bool) (size number : ℕ) (bytes : List ℕ) → is_fixed_size size ≡ false → SpellsNumber big (InAddress size) bytes number → ⊥
 no_address big size number bytes bad (spelling.in_address bytes' good) = cc
 
-only_size : (big : Bool) (size : ℕ) (bytes : List ℕ) (fault : Fault) → is_fixed_size size ≡ false → RefusesNumber big (InAddress size) bytes fault → ◌≡◌ {A = Reading ℕ} (Err (UnsupportedAddressSize size)) (Err fault)
+only_size : (big : Bool) (size : ℕ) (bytes : List ℕ) (fault : Fault) → is_fixed_size size ≡ false → MalformedNumber big (InAddress size) bytes fault → ◌≡◌ {A = Reading ℕ} (Err (UnsupportedAddressSize size)) (Err fault)
 only_size big size bytes fault bad (spelling.few_address_bytes size' bytes' good h) = absurd cc
 only_size big size bytes fault bad (spelling.address_size size' bytes' bad') = refl
 
 -- an address of a size that none has
-bad_address : (big : Bool) (size : ℕ) → is_fixed_size size ≡ false → ReadsExactly (λ bytes. Err (UnsupportedAddressSize size)) (SpellsNumber big (InAddress size)) (RefusesNumber big (InAddress size))
+bad_address : (big : Bool) (size : ℕ) → is_fixed_size size ≡ false → ReadsExactly (λ bytes. Err (UnsupportedAddressSize size)) (SpellsNumber big (InAddress size)) (MalformedNumber big (InAddress size))
 bad_address big size bad = record {
   gives = λ front number rest s. absurd (no_address big size number front bad s);
   found = λ bytes number rest e. absurd cc;
   refuses = λ bytes fault r. only_size big size bytes fault bad r;
-  refused = λ bytes fault e. let same : UnsupportedAddressSize size ≡ fault = cc in subst (RefusesNumber big (InAddress size) bytes) same (spelling.address_size size bytes bad);
+  refused = λ bytes fault e. let same : UnsupportedAddressSize size ≡ fault = cc in subst (MalformedNumber big (InAddress size) bytes) same (spelling.address_size size bytes bad);
   cut_off = λ before byte after number s. absurd (no_address big size number (before ++ (byte ∷ after)) bad s);
 }
 
-reads_address : (big : Bool) (size : ℕ) (good : Bool) → is_fixed_size size ≡ good → ReadsExactly (address_at big size) (SpellsNumber big (InAddress size)) (RefusesNumber big (InAddress size))
+reads_address : (big : Bool) (size : ℕ) (good : Bool) → is_fixed_size size ≡ good → ReadsExactly (address_at big size) (SpellsNumber big (InAddress size)) (MalformedNumber big (InAddress size))
 reads_address big size true e =
-    let h = reads_as (fixed_at big size) (FixedSpelling big size) (SpellsNumber big (InAddress size)) (FixedRefusal big size) (RefusesNumber big (InAddress size)) (reads_fixed big size) (address_spelled big size e) (address_spelling big size) (address_refused big size e) (address_refusal big size e) in
-    subst (λ (good : Bool). ReadsExactly (λ bytes. cond good (fixed_at big size bytes) (Err (UnsupportedAddressSize size))) (SpellsNumber big (InAddress size)) (RefusesNumber big (InAddress size))) (sym e) h
+    let h = reads_as (fixed_at big size) (FixedSpelling big size) (SpellsNumber big (InAddress size)) (FixedRefusal big size) (MalformedNumber big (InAddress size)) (reads_fixed big size) (address_spelled big size e) (address_spelling big size) (address_refused big size e) (address_refusal big size e) in
+    subst (λ (good : Bool). ReadsExactly (λ bytes. cond good (fixed_at big size bytes) (Err (UnsupportedAddressSize size))) (SpellsNumber big (InAddress size)) (MalformedNumber big (InAddress size))) (sym e) h
 reads_address big size false e =
-    subst (λ (good : Bool). ReadsExactly (λ bytes. cond good (fixed_at big size bytes) (Err (UnsupportedAddressSize size))) (SpellsNumber big (InAddress size)) (RefusesNumber big (InAddress size))) (sym e) (bad_address big size e)
+    subst (λ (good : Bool). ReadsExactly (λ bytes. cond good (fixed_at big size bytes) (Err (UnsupportedAddressSize size))) (SpellsNumber big (InAddress size)) (MalformedNumber big (InAddress size))) (sym e) (bad_address big size e)
 
 leb_spelling : (big : Bool) (bytes : List ℕ) (number : ℕ) → SpellsNumber big InLeb128 bytes number → SpellsLeb unsigned_leb bytes number
 leb_spelling big bytes number (spelling.in_leb128 bytes' number' s) = s
 
-leb_refusal : (big : Bool) (bytes : List ℕ) (fault : Fault) → RefusesNumber big InLeb128 bytes fault → RefusedLeb unsigned_leb bytes fault
+leb_refusal : (big : Bool) (bytes : List ℕ) (fault : Fault) → MalformedNumber big InLeb128 bytes fault → MalformedLeb unsigned_leb bytes fault
 leb_refusal big bytes fault (spelling.no_leb128 bytes' fault' r) = r
 
-pub reads_number : (big : Bool) (layout : Layout) → ReadsExactly (number_at big layout) (SpellsNumber big layout) (RefusesNumber big layout)
+pub reads_number : (big : Bool) (layout : Layout) → ReadsExactly (number_at big layout) (SpellsNumber big layout) (MalformedNumber big layout)
 reads_number big (InBytes size) =
-    reads_as (fixed_at big size) (FixedSpelling big size) (SpellsNumber big (InBytes size)) (FixedRefusal big size) (RefusesNumber big (InBytes size)) (reads_fixed big size) (bytes_spelled big size) (bytes_spelling big size) (bytes_refused big size) (bytes_refusal big size)
+    reads_as (fixed_at big size) (FixedSpelling big size) (SpellsNumber big (InBytes size)) (FixedRefusal big size) (MalformedNumber big (InBytes size)) (reads_fixed big size) (bytes_spelled big size) (bytes_spelling big size) (bytes_refused big size) (bytes_refusal big size)
 reads_number big (InAddress size) = reads_address big size (is_fixed_size size) refl
 reads_number big InLeb128 =
-    reads_as (number_at big InLeb128) (SpellsLeb unsigned_leb) (SpellsNumber big InLeb128) (RefusedLeb unsigned_leb) (RefusesNumber big InLeb128) reads_uleb (λ bytes number s. spelling.in_leb128 bytes number s) (leb_spelling big) (λ bytes fault r. spelling.no_leb128 bytes fault r) (leb_refusal big)
+    reads_as (number_at big InLeb128) (SpellsLeb unsigned_leb) (SpellsNumber big InLeb128) (MalformedLeb unsigned_leb) (MalformedNumber big InLeb128) reads_uleb (λ bytes number s. spelling.in_leb128 bytes number s) (leb_spelling big) (λ bytes fault r. spelling.no_leb128 bytes fault r) (leb_refusal big)
 
 -- ---- unsigned operands
 
@@ -128,10 +128,10 @@ module _ (context : Context) (form : Form) where
   Spelled = SpellsNumber context.is_big (layout_of context.encoding form)
 
   abbrev Refusing : List ℕ → Fault → Type 0
-  Refusing = RefusesNumber context.is_big (layout_of context.encoding form)
+  Refusing = MalformedNumber context.is_big (layout_of context.encoding form)
 
   abbrev check : ℕ → Result ℕ Fault
-  check = value_of context.offset_bits form
+  check = operand_value context.offset_bits form
 
   unsigned_spelled : (bytes : List ℕ) (value : ℕ) → Passes Spelled check bytes value → SpellsUnsigned context form bytes value
   unsigned_spelled bytes value (passes bytes' number value' s e) = spelling.in_range bytes number value s e
@@ -139,17 +139,17 @@ module _ (context : Context) (form : Form) where
   unsigned_spelling : (bytes : List ℕ) (value : ℕ) → SpellsUnsigned context form bytes value → Passes Spelled check bytes value
   unsigned_spelling bytes value (spelling.in_range bytes' number value' s e) = passes bytes number value s e
 
-  unsigned_refused : (bytes : List ℕ) (fault : Fault) → Fails Spelled Refusing check bytes fault → RefusesUnsigned context form bytes fault
+  unsigned_refused : (bytes : List ℕ) (fault : Fault) → Fails Spelled Refusing check bytes fault → MalformedUnsigned context form bytes fault
   unsigned_refused bytes fault (unread bytes' fault' r) = spelling.no_number bytes fault r
   unsigned_refused bytes fault (unfit front rest number fault' s e) = spelling.out_of_range front rest number fault s e
 
-  unsigned_refusal : (bytes : List ℕ) (fault : Fault) → RefusesUnsigned context form bytes fault → Fails Spelled Refusing check bytes fault
+  unsigned_refusal : (bytes : List ℕ) (fault : Fault) → MalformedUnsigned context form bytes fault → Fails Spelled Refusing check bytes fault
   unsigned_refusal bytes fault (spelling.no_number bytes' fault' r) = unread bytes fault r
   unsigned_refusal bytes fault (spelling.out_of_range front rest number fault' s e) = unfit front rest number fault s e
 
-  pub reads_unsigned : ReadsExactly (unsigned_at context form) (SpellsUnsigned context form) (RefusesUnsigned context form)
+  pub reads_unsigned : ReadsExactly (unsigned_at context form) (SpellsUnsigned context form) (MalformedUnsigned context form)
   reads_unsigned =
-      reads_as (unsigned_at context form) (Passes Spelled check) (SpellsUnsigned context form) (Fails Spelled Refusing check) (RefusesUnsigned context form)
+      reads_as (unsigned_at context form) (Passes Spelled check) (SpellsUnsigned context form) (Fails Spelled Refusing check) (MalformedUnsigned context form)
       (reads_checked (number_at context.is_big (layout_of context.encoding form)) Spelled Refusing check (reads_number context.is_big (layout_of context.encoding form)))
       unsigned_spelled unsigned_spelling unsigned_refused unsigned_refusal
 
@@ -168,25 +168,25 @@ signed_spelled big size bytes value (passes bytes' number value' s e) =
 signed_spelling : (big : Bool) (size : ℕ) (bytes : List ℕ) (value : ℤ) → SpellsInteger big (SignedFixed size) bytes value → Passes (FixedSpelling big size) (integer_in size) bytes value
 signed_spelling big size bytes value (spelling.in_signed_bytes bytes') = passes bytes (number_of big bytes) value (fixed_spelling big bytes) refl
 
-signed_refused : (big : Bool) (size : ℕ) (bytes : List ℕ) (fault : Fault) → Fails (FixedSpelling big size) (FixedRefusal big size) (integer_in size) bytes fault → RefusesInteger big (SignedFixed size) bytes fault
+signed_refused : (big : Bool) (size : ℕ) (bytes : List ℕ) (fault : Fault) → Fails (FixedSpelling big size) (FixedRefusal big size) (integer_in size) bytes fault → MalformedInteger big (SignedFixed size) bytes fault
 signed_refused big size bytes fault (unread bytes' fault' r) =
     let f = fixed_few big size bytes fault r in
-    subst (RefusesInteger big (SignedFixed size) bytes) (sym f.1) (spelling.few_signed_bytes size bytes f.0)
+    subst (MalformedInteger big (SignedFixed size) bytes) (sym f.1) (spelling.few_signed_bytes size bytes f.0)
 signed_refused big size bytes fault (unfit front rest number fault' s e) = absurd cc
 
-signed_refusal : (big : Bool) (size : ℕ) (bytes : List ℕ) (fault : Fault) → RefusesInteger big (SignedFixed size) bytes fault → Fails (FixedSpelling big size) (FixedRefusal big size) (integer_in size) bytes fault
+signed_refusal : (big : Bool) (size : ℕ) (bytes : List ℕ) (fault : Fault) → MalformedInteger big (SignedFixed size) bytes fault → Fails (FixedSpelling big size) (FixedRefusal big size) (integer_in size) bytes fault
 signed_refusal big size bytes fault (spelling.few_signed_bytes size' bytes' h) = unread bytes fault (fixed_refusal big size bytes h)
 
 sleb_spelling : (big : Bool) (bytes : List ℕ) (value : ℤ) → SpellsInteger big SignedLeb128 bytes value → SpellsLeb signed_leb bytes value
 sleb_spelling big bytes value (spelling.in_signed_leb128 bytes' value' s) = s
 
-sleb_refusal : (big : Bool) (bytes : List ℕ) (fault : Fault) → RefusesInteger big SignedLeb128 bytes fault → RefusedLeb signed_leb bytes fault
+sleb_refusal : (big : Bool) (bytes : List ℕ) (fault : Fault) → MalformedInteger big SignedLeb128 bytes fault → MalformedLeb signed_leb bytes fault
 sleb_refusal big bytes fault (spelling.no_signed_leb128 bytes' fault' r) = r
 
-pub reads_integer : (big : Bool) (form : SignedForm) → ReadsExactly (integer_at big form) (SpellsInteger big form) (RefusesInteger big form)
+pub reads_integer : (big : Bool) (form : SignedForm) → ReadsExactly (integer_at big form) (SpellsInteger big form) (MalformedInteger big form)
 reads_integer big (SignedFixed size) =
-    reads_as (signed_at big size) (Passes (FixedSpelling big size) (integer_in size)) (SpellsInteger big (SignedFixed size)) (Fails (FixedSpelling big size) (FixedRefusal big size) (integer_in size)) (RefusesInteger big (SignedFixed size))
+    reads_as (signed_at big size) (Passes (FixedSpelling big size) (integer_in size)) (SpellsInteger big (SignedFixed size)) (Fails (FixedSpelling big size) (FixedRefusal big size) (integer_in size)) (MalformedInteger big (SignedFixed size))
     (reads_checked (fixed_at big size) (FixedSpelling big size) (FixedRefusal big size) (integer_in size) (reads_fixed big size))
     (signed_spelled big size) (signed_spelling big size) (signed_refused big size) (signed_refusal big size)
 reads_integer big SignedLeb128 =
-    reads_as sleb_at (SpellsLeb signed_leb) (SpellsInteger big SignedLeb128) (RefusedLeb signed_leb) (RefusesInteger big SignedLeb128) reads_sleb (λ bytes value s. spelling.in_signed_leb128 bytes value s) (sleb_spelling big) (λ bytes fault r. spelling.no_signed_leb128 bytes fault r) (sleb_refusal big)
+    reads_as sleb_at (SpellsLeb signed_leb) (SpellsInteger big SignedLeb128) (MalformedLeb signed_leb) (MalformedInteger big SignedLeb128) reads_sleb (λ bytes value s. spelling.in_signed_leb128 bytes value s) (sleb_spelling big) (λ bytes fault r. spelling.no_signed_leb128 bytes fault r) (sleb_refusal big)

@@ -8,7 +8,7 @@ use Rattle.dwarf_meaning.specs.Operations.{Operation, Text}
 use Rattle.dwarf_meaning.specs.Operands.{Context, block_of, context_of}
 use Rattle.dwarf_meaning.specs.Opcodes.{Row, Makes, Unsigned, Signed, Block, Invalid, row_of}
 use Rattle.dwarf_meaning.specs.Decoding.{unsigned_at, integer_at, operands_at, operation_at}
-use Rattle.dwarf_meaning.specs.Spelling.{SpellsOperands, RefusesOperands, Spells, Refused}
+use Rattle.dwarf_meaning.specs.Spelling.{SpellsOperands, MalformedOperands, Spells, Malformed}
 use Rattle.dwarf_meaning.specs.Spelling as spelling
 use Rattle.dwarf_meaning.proofs.ReadsExactly.{Reading, ReadsExactly, went, stopped, pair_same, SpellsBlock, block, RefusesBlock, few, reads_block}
 use Rattle.dwarf_meaning.proofs.NumberReads.{reads_unsigned, reads_integer}
@@ -95,7 +95,7 @@ operands_found context (Block size next) bytes op rest h =
     }
 operands_found context (Invalid opcode) bytes op rest h = absurd cc
 
-operands_refuse : (context : Context) (row : Row) (bytes : List ℕ) (fault : Fault) → RefusesOperands context row bytes fault → operands_at context row bytes ≡ Err fault
+operands_refuse : (context : Context) (row : Row) (bytes : List ℕ) (fault : Fault) → MalformedOperands context row bytes fault → operands_at context row bytes ≡ Err fault
 operands_refuse context row bytes fault (spelling.invalid opcode bytes') = refl
 operands_refuse context row bytes fault (spelling.unsigned_here form next bytes' fault' r) =
     ap (λ (r : Reading ℕ). r >>= λ x. operands_at context (next x.0) x.1) ((reads_unsigned context form).refuses bytes fault r)
@@ -113,38 +113,38 @@ operands_refuse context row bytes fault (spelling.block_after next first others 
     ap (λ (r : Reading (List ℕ)). r >>= λ x. operands_at context (next (block_of context x.0)) x.1) ((reads_block (length first)).gives first first others (block first))
     ∙ operands_refuse context (next (block_of context first)) others fault r
 
-block_refusal : (context : Context) (size : ℕ) (next : Text → Row) (bytes : List ℕ) (fault : Fault) → RefusesBlock size bytes fault → RefusesOperands context (Block size next) bytes fault
+block_refusal : (context : Context) (size : ℕ) (next : Text → Row) (bytes : List ℕ) (fault : Fault) → RefusesBlock size bytes fault → MalformedOperands context (Block size next) bytes fault
 block_refusal context size next bytes fault (few size' bytes' less) = spelling.block_here size next bytes less
 
-block_refused_after : (context : Context) (size : ℕ) (next : Text → Row) (first found others : List ℕ) (fault : Fault) → SpellsBlock size first found → RefusesOperands context (next (block_of context found)) others fault → RefusesOperands context (Block size next) (first ++ others) fault
+block_refused_after : (context : Context) (size : ℕ) (next : Text → Row) (first found others : List ℕ) (fault : Fault) → SpellsBlock size first found → MalformedOperands context (next (block_of context found)) others fault → MalformedOperands context (Block size next) (first ++ others) fault
 block_refused_after context size next first found others fault (block bytes) r = spelling.block_after next bytes others fault r
 
-operands_refused : (context : Context) (row : Row) (bytes : List ℕ) (fault : Fault) → operands_at context row bytes ≡ Err fault → RefusesOperands context row bytes fault
+operands_refused : (context : Context) (row : Row) (bytes : List ℕ) (fault : Fault) → operands_at context row bytes ≡ Err fault → MalformedOperands context row bytes fault
 operands_refused context (Makes made) bytes fault h = absurd cc
 operands_refused context (Unsigned form next) bytes fault h =
     elim (stopped (unsigned_at context form bytes) (λ x. operands_at context (next x.0) x.1) fault h) [
       | inl here ↦ spelling.unsigned_here form next bytes fault ((reads_unsigned context form).refused bytes fault here)
       | inr w ↦
           let s = (reads_unsigned context form).found bytes w.value w.left w.here in
-          subst (λ (bs : List ℕ). RefusesOperands context (Unsigned form next) bs fault) s.whole (spelling.unsigned_after form next s.front w.left w.value fault s.spells (operands_refused context (next w.value) w.left fault w.more))
+          subst (λ (bs : List ℕ). MalformedOperands context (Unsigned form next) bs fault) s.whole (spelling.unsigned_after form next s.front w.left w.value fault s.spells (operands_refused context (next w.value) w.left fault w.more))
     ]
 operands_refused context (Signed form next) bytes fault h =
     elim (stopped (integer_at context.is_big form bytes) (λ x. operands_at context (next x.0) x.1) fault h) [
       | inl here ↦ spelling.signed_here form next bytes fault ((reads_integer context.is_big form).refused bytes fault here)
       | inr w ↦
           let s = (reads_integer context.is_big form).found bytes w.value w.left w.here in
-          subst (λ (bs : List ℕ). RefusesOperands context (Signed form next) bs fault) s.whole (spelling.signed_after form next s.front w.left w.value fault s.spells (operands_refused context (next w.value) w.left fault w.more))
+          subst (λ (bs : List ℕ). MalformedOperands context (Signed form next) bs fault) s.whole (spelling.signed_after form next s.front w.left w.value fault s.spells (operands_refused context (next w.value) w.left fault w.more))
     ]
 operands_refused context (Block size next) bytes fault h =
     elim (stopped (split_at size bytes) (λ x. operands_at context (next (block_of context x.0)) x.1) fault h) [
       | inl here ↦ block_refusal context size next bytes fault ((reads_block size).refused bytes fault here)
       | inr w ↦
           let s = (reads_block size).found bytes w.value w.left w.here in
-          subst (λ (bs : List ℕ). RefusesOperands context (Block size next) bs fault) s.whole (block_refused_after context size next s.front w.value w.left fault s.spells (operands_refused context (next (block_of context w.value)) w.left fault w.more))
+          subst (λ (bs : List ℕ). MalformedOperands context (Block size next) bs fault) s.whole (block_refused_after context size next s.front w.value w.left fault s.spells (operands_refused context (next (block_of context w.value)) w.left fault w.more))
     ]
 operands_refused context (Invalid opcode) bytes fault h =
     let same : InvalidExpression opcode ≡ fault = cc in
-    subst (RefusesOperands context (Invalid opcode) bytes) same (spelling.invalid opcode bytes)
+    subst (MalformedOperands context (Invalid opcode) bytes) same (spelling.invalid opcode bytes)
 
 operands_cut_off : (context : Context) (row : Row) (bytes : List ℕ) (op : Operation) → SpellsOperands context row bytes op → (before : List ℕ) (byte : ℕ) (after : List ℕ) → before ++ (byte ∷ after) ≡ bytes → operands_at context row before ≡ Err UnexpectedEof
 operands_cut_off context row bytes op (spelling.makes made) before byte after e = absurd (nothing_has before byte after (sym e))
@@ -193,14 +193,14 @@ module _ (encoding : Encoding) (bits : ℕ) (big : Bool) where
       let f = operands_found (context_of encoding bits big) (row_of encoding opcode) bytes op rest h in
       record { front = opcode ∷ f.front; spells = spelling.spelled opcode f.front op f.spells; whole = ap (λ (xs : List ℕ). opcode ∷ xs) f.whole }
 
-  operation_refuses : (bytes : List ℕ) (fault : Fault) → Refused encoding bits big bytes fault → operation_at encoding bits (text bytes) ≡ Err fault
+  operation_refuses : (bytes : List ℕ) (fault : Fault) → Malformed encoding bits big bytes fault → operation_at encoding bits (text bytes) ≡ Err fault
   unfolding operation_at
   operation_refuses bytes fault spelling.no_opcode = refl
   operation_refuses bytes fault (spelling.bad_operands opcode bytes' fault' r) = operands_refuse (context_of encoding bits big) (row_of encoding opcode) bytes' fault r
 
-  operation_refused : (bytes : List ℕ) (fault : Fault) → operation_at encoding bits (text bytes) ≡ Err fault → Refused encoding bits big bytes fault
+  operation_refused : (bytes : List ℕ) (fault : Fault) → operation_at encoding bits (text bytes) ≡ Err fault → Malformed encoding bits big bytes fault
   unfolding operation_at
-  operation_refused [] fault h = let same : UnexpectedEof ≡ fault = cc in subst (Refused encoding bits big []) same spelling.no_opcode
+  operation_refused [] fault h = let same : UnexpectedEof ≡ fault = cc in subst (Malformed encoding bits big []) same spelling.no_opcode
   operation_refused (opcode ∷ bytes) fault h = spelling.bad_operands opcode bytes fault (operands_refused (context_of encoding bits big) (row_of encoding opcode) bytes fault h)
 
   operation_cut : (bytes : List ℕ) (op : Operation) → Spells encoding bits big bytes op → (before : List ℕ) (byte : ℕ) (after : List ℕ) → before ++ (byte ∷ after) ≡ bytes → operation_at encoding bits (text before) ≡ Err UnexpectedEof
@@ -211,7 +211,7 @@ module _ (encoding : Encoding) (bits : ℕ) (big : Bool) where
       let tails : before ++ (byte ∷ after) ≡ bytes' = cc in
       ap (λ (n : ℕ). operands n before) same ∙ operands_cut_off (context_of encoding bits big) (row_of encoding opcode) bytes' op s before byte after tails
 
-  pub reads_operation : ReadsExactly (λ bytes. operation_at encoding bits (text bytes)) (Spells encoding bits big) (Refused encoding bits big)
+  pub reads_operation : ReadsExactly (λ bytes. operation_at encoding bits (text bytes)) (Spells encoding bits big) (Malformed encoding bits big)
   reads_operation = record {
     gives = operation_gives;
     found = operation_found;

@@ -7,23 +7,23 @@ use Rattle.dwarf_meaning.specs.Operations as operation
 use Rattle.dwarf_meaning.specs.Operations.{Operation, Text}
 use Rattle.dwarf_meaning.specs.Locations.{Location, Piece}
 use Rattle.dwarf_meaning.specs.Requests.{Request, Waiting, Memory, Register, WasmValue, EntryValue, FrameBase, Tls, CallFrameCfa, ParameterRef, RelocatedAddress, IndexedAddress, AtLocation, TypedLiteral, Convert, Reinterpret, Answer}
-use Rattle.dwarf_meaning.specs.Acts.{choose, on_top, on_some, on_answer, Act, Pushes, Branches, Locates, Ends, Asks, Refuses, short, unary, binary, act, Use, Gives, Calls, Denies, Misfits, use_of}
+use Rattle.dwarf_meaning.specs.Acts.{choose, on_top, on_some, on_result, Act, Pushes, Branches, Locates, EndsPiece, RequestAct, FaultAct, short, unary, binary, act, Use, PushesAnswer, Calls, FaultUse, WrongKind, use_of}
 
 -- at most n values are left
 pub data Leaves (n : ℕ) : Act → Type 0 where
   pushes : (rest pushed : List Value) → length rest ≤ n → Leaves n (Pushes rest pushed)
   branches : (rest : List Value) (target : ℤ) → length rest ≤ n → Leaves n (Branches rest target)
   locates : (rest : List Value) (location : Location) → length rest ≤ n → Leaves n (Locates rest location)
-  ends : (rest : List Value) (piece : Piece) → length rest ≤ n → Leaves n (Ends rest piece)
-  asks : (rest : List Value) (request : Request) (waiting : Waiting) → length rest ≤ n → Leaves n (Asks rest request waiting)
-  refuses : (fault : Fault) → Leaves n (Refuses fault)
+  ends : (rest : List Value) (piece : Piece) → length rest ≤ n → Leaves n (EndsPiece rest piece)
+  asks : (rest : List Value) (request : Request) (waiting : Waiting) → length rest ≤ n → Leaves n (RequestAct rest request waiting)
+  refuses : (fault : Fault) → Leaves n (FaultAct fault)
 
 -- at most n values are left below what is given
 pub data Keeps (n : ℕ) : Use → Type 0 where
-  gives : (rest : List Value) (value : Value) → length rest ≤ n → Keeps n (Gives rest value)
+  gives : (rest : List Value) (value : Value) → length rest ≤ n → Keeps n (PushesAnswer rest value)
   calls : (text : Text) → Keeps n (Calls text)
-  denies : (fault : Fault) → Keeps n (Denies fault)
-  misfits : Keeps n Misfits
+  denies : (fault : Fault) → Keeps n (FaultUse fault)
+  misfits : Keeps n WrongKind
 
 -- ---- the words, case by case
 
@@ -37,8 +37,8 @@ unfolding on_some
 all_some P None none go p q = p
 all_some P (Some x) none go p q = q x
 
-pub all_answer : {X A : Type 0} (P : A → Type 0) (r : Result X Fault) (refused : Fault → A) (go : X → A) → ((fault : Fault) → P (refused fault)) → ((x : X) → P (go x)) → P (on_answer r refused go)
-unfolding on_answer
+pub all_answer : {X A : Type 0} (P : A → Type 0) (r : Result X Fault) (refused : Fault → A) (go : X → A) → ((fault : Fault) → P (refused fault)) → ((x : X) → P (go x)) → P (on_result r refused go)
+unfolding on_result
 all_answer P (Ok x) refused go p q = q x
 all_answer P (Err fault) refused go p q = p fault
 
@@ -123,11 +123,11 @@ module _ (n : ℕ) where
 
   -- ---- answers
 
-  some_keeps : {X : Type 0} (o : Option X) (go : X → Use) → ((x : X) → Keeps n (go x)) → Keeps n (on_some o Misfits go)
-  some_keeps o go = all_some (Keeps n) o Misfits go misfits
+  some_keeps : {X : Type 0} (o : Option X) (go : X → Use) → ((x : X) → Keeps n (go x)) → Keeps n (on_some o WrongKind go)
+  some_keeps o go = all_some (Keeps n) o WrongKind go misfits
 
-  answer_keeps : {X : Type 0} (r : Result X Fault) (go : X → Use) → ((x : X) → Keeps n (go x)) → Keeps n (on_answer r Denies go)
-  answer_keeps r go = all_answer (Keeps n) r Denies go (λ fault. denies fault)
+  answer_keeps : {X : Type 0} (r : Result X Fault) (go : X → Use) → ((x : X) → Keeps n (go x)) → Keeps n (on_result r FaultUse go)
+  answer_keeps r go = all_answer (Keeps n) r FaultUse go (λ fault. denies fault)
 
   pub use_keeps : (bits : ℕ) (waiting : Waiting) (answer : Answer) (values : List Value) → length values ≤ n → Keeps n (use_of bits waiting answer values)
   unfolding use_of

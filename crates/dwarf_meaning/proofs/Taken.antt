@@ -4,9 +4,9 @@ use Rattle.dwarf_base.specs.Faults.{Fault}
 use Rattle.dwarf_meaning.specs.Operations.{Operation, Text}
 use Rattle.dwarf_meaning.specs.Locations.{Location}
 use Rattle.dwarf_meaning.specs.Requests.{Request, Waiting, Input}
-use Rattle.dwarf_meaning.specs.Acts.{Use, Gives, Calls, Denies, Misfits, use_of}
-use Rattle.dwarf_meaning.specs.Stores.{Setup, address_bits, Store, Last, Nothing, Plain, Pieced, Pushed, Called, Located, push_value, push_frame, Next, Goes, Stops, Fails}
-use Rattle.dwarf_meaning.specs.Run.{Frame, End, Finished, Asking, Failed, Course, ended, asking, Continues, back, resumed, entered, called, used, with_input, asked, led, read, can_count, counted, does, counts, held, turn_by, turn, out_of_turns, run_for, enough, run}
+use Rattle.dwarf_meaning.specs.Acts.{Use, PushesAnswer, Calls, FaultUse, WrongKind, use_of}
+use Rattle.dwarf_meaning.specs.Stores.{Setup, address_bits, Store, Last, Nothing, Plain, Pieced, Pushed, Called, Located, push_value, push_caller, Next, Goes, RequestNext, FaultNext}
+use Rattle.dwarf_meaning.specs.Run.{Position, End, CompleteEnd, RequestEnd, FaultEnd, Course, only_end, add_request, Continues, return_to_caller, after_push, enter_callee, run_callee, after_answer, with_input, await_answer, after_operation, read, can_count, counted, do_operation, turn_counted, turn_located, turn_by, turn, out_of_turns, run_for, enough, run}
 use Rattle.dwarf_meaning.specs.RunLaws.{Took, EndTook}
 use Rattle.dwarf_meaning.proofs.Choices.{choose_both}
 
@@ -32,14 +32,14 @@ fewer_left inputs left answered h =
     omega (arith, l, e, h.one_each)
 
 took_end : (inputs between : List Input) (answered others : List Request) (end : End) → Took inputs between answered → EndTook between others end → EndTook inputs (answered ++ others) end
-took_end inputs between answered others (Finished s left) h i = took_then inputs between left answered others h i
-took_end inputs between answered others (Asking request frames left) h i =
+took_end inputs between answered others (CompleteEnd s left) h i = took_then inputs between left answered others h i
+took_end inputs between answered others (RequestEnd request positions left) h i =
     record {
       answered = answered ++ i.answered;
       last = ap (λ (xs : List Request). answered ++ xs) i.last ∙ sym (append_assoc answered i.answered (request ∷ []));
       took = took_then inputs between left answered i.answered h i.took;
     }
-took_end inputs between answered others (Failed fault) h i = omega (arith, length-append answered others, fewer_left inputs between answered h, i)
+took_end inputs between answered others (FaultEnd fault) h i = omega (arith, length-append answered others, fewer_left inputs between answered h, i)
 
 -- the request that takes the first input
 taking_next : (request : Request) (input : Input) (inputs : List Input) (requests : List Request) (end : End) → EndTook inputs requests end → EndTook (input ∷ inputs) (request ∷ requests) end
@@ -47,8 +47,8 @@ taking_next request input inputs requests end =
     took_end (input ∷ inputs) inputs (request ∷ []) requests end (record { taken = input ∷ []; split = refl; one_each = refl })
 
 -- the request that stays open
-taking_open : (request : Request) (frame : Frame) (inputs : List Input) → Taking inputs (asking request (ended (Asking request (frame ∷ []) inputs)))
-taking_open request frame inputs = record { answered = []; last = refl; took = record { taken = []; split = refl; one_each = refl } }
+taking_open : (request : Request) (position : Position) (inputs : List Input) → Taking inputs (add_request request (only_end (RequestEnd request (position ∷ []) inputs)))
+taking_open request position inputs = record { answered = []; last = refl; took = record { taken = []; split = refl; one_each = refl } }
 
 -- ---- runs
 
@@ -56,53 +56,53 @@ abbrev Takes : Continues → Type 0
 Takes go = (text : Text) (place depth : ℕ) (s : Store) (inputs : List Input) → Taking inputs (go text place depth s inputs)
 
 module _ (go : Continues) (takes : Takes go) where
-  takes_back : (frame : Frame) (depth : ℕ) (inputs : List Input) (course : Course) (end : End) → EndTook inputs course.requests end → Taking inputs (back go frame depth course end)
-  takes_back frame depth inputs course (Finished s left) h =
-      let rest = go frame.text frame.place depth s left in
-      took_end inputs left course.requests rest.requests rest.end h (takes frame.text frame.place depth s left)
-  takes_back frame depth inputs course (Asking request frames left) h = h
-  takes_back frame depth inputs course (Failed fault) h = h
+  takes_back : (position : Position) (depth : ℕ) (inputs : List Input) (course : Course) (end : End) → EndTook inputs course.requests end → Taking inputs (return_to_caller go position depth course end)
+  takes_back position depth inputs course (CompleteEnd s left) h =
+      let rest = go position.text position.place depth s left in
+      took_end inputs left course.requests rest.requests rest.end h (takes position.text position.place depth s left)
+  takes_back position depth inputs course (RequestEnd request positions left) h = h
+  takes_back position depth inputs course (FaultEnd fault) h = h
 
-  takes_resumed : (frame : Frame) (depth : ℕ) (inputs : List Input) (r : Result Store Fault) → Taking inputs (resumed go frame depth inputs r)
-  takes_resumed frame depth inputs (Ok s) = takes frame.text frame.place depth s inputs
-  takes_resumed frame depth inputs (Err fault) = omega arith
+  takes_resumed : (position : Position) (depth : ℕ) (inputs : List Input) (r : Result Store Fault) → Taking inputs (after_push go position depth inputs r)
+  takes_resumed position depth inputs (Ok s) = takes position.text position.place depth s inputs
+  takes_resumed position depth inputs (Err fault) = omega arith
 
-  takes_entered : (frame : Frame) (depth : ℕ) (callee : Text) (inputs : List Input) (r : Result Store Fault) → Taking inputs (entered go frame depth callee inputs r)
-  takes_entered frame depth callee inputs (Ok s) =
-      let course = go callee 0 (suc depth) s inputs in takes_back frame depth inputs course course.end (takes callee 0 (suc depth) s inputs)
-  takes_entered frame depth callee inputs (Err fault) = omega arith
+  takes_entered : (position : Position) (depth : ℕ) (callee : Text) (inputs : List Input) (r : Result Store Fault) → Taking inputs (enter_callee go position depth callee inputs r)
+  takes_entered position depth callee inputs (Ok s) =
+      let course = go callee 0 (suc depth) s inputs in takes_back position depth inputs course course.end (takes callee 0 (suc depth) s inputs)
+  takes_entered position depth callee inputs (Err fault) = omega arith
 
-  takes_called : (setup : Setup) (frame : Frame) (depth : ℕ) (callee : Text) (bytes : List ℕ) (s : Store) (inputs : List Input) → Taking inputs (called go setup frame depth callee bytes s inputs)
-  takes_called setup frame depth callee [] s inputs = takes frame.text frame.place depth (record s { last = Called }) inputs
-  takes_called setup frame depth callee (byte ∷ bytes) s inputs = takes_entered frame depth callee inputs (push_frame setup depth s)
+  takes_called : (setup : Setup) (position : Position) (depth : ℕ) (callee : Text) (bytes : List ℕ) (s : Store) (inputs : List Input) → Taking inputs (run_callee go setup position depth callee bytes s inputs)
+  takes_called setup position depth callee [] s inputs = takes position.text position.place depth (record s { last = Called }) inputs
+  takes_called setup position depth callee (byte ∷ bytes) s inputs = takes_entered position depth callee inputs (push_caller setup depth s)
 
-  takes_used : (setup : Setup) (frame : Frame) (depth : ℕ) (request : Request) (input : Input) (u : Use) (s : Store) (inputs : List Input) (unanswered : Course) → Taking (input ∷ inputs) (asking request unanswered) → Taking (input ∷ inputs) (asking request (used go setup frame depth u s inputs unanswered))
-  takes_used setup frame depth request input (Gives rest value) s inputs unanswered h =
-      taking_next request input inputs _ _ (takes_resumed frame depth inputs (push_value setup value (record s { values = rest; last = Pushed })))
-  takes_used setup frame depth request input (Calls callee) s inputs unanswered h = taking_next request input inputs _ _ (takes_called setup frame depth callee callee.bytes s inputs)
-  takes_used setup frame depth request input (Denies fault) s inputs unanswered h = omega arith
-  takes_used setup frame depth request input Misfits s inputs unanswered h = h
+  takes_used : (setup : Setup) (position : Position) (depth : ℕ) (request : Request) (input : Input) (u : Use) (s : Store) (inputs : List Input) (unanswered : Course) → Taking (input ∷ inputs) (add_request request unanswered) → Taking (input ∷ inputs) (add_request request (after_answer go setup position depth u s inputs unanswered))
+  takes_used setup position depth request input (PushesAnswer rest value) s inputs unanswered h =
+      taking_next request input inputs _ _ (takes_resumed position depth inputs (push_value setup value (record s { values = rest; last = Pushed })))
+  takes_used setup position depth request input (Calls callee) s inputs unanswered h = taking_next request input inputs _ _ (takes_called setup position depth callee callee.bytes s inputs)
+  takes_used setup position depth request input (FaultUse fault) s inputs unanswered h = omega arith
+  takes_used setup position depth request input WrongKind s inputs unanswered h = h
 
-  takes_asked : (setup : Setup) (frame : Frame) (depth : ℕ) (request : Request) (waiting : Waiting) (s : Store) (inputs : List Input) → Taking inputs (asking request (asked go setup frame depth request waiting s inputs))
-  takes_asked setup frame depth request waiting s [] = taking_open request frame []
-  takes_asked setup frame depth request waiting s (input ∷ inputs) =
-      takes_used setup frame depth request input (use_of (address_bits setup) waiting input.answer s.values) (with_input input s) inputs (ended (Asking request (frame ∷ []) (input ∷ inputs)))
-      (taking_open request frame (input ∷ inputs))
+  takes_asked : (setup : Setup) (position : Position) (depth : ℕ) (request : Request) (waiting : Waiting) (s : Store) (inputs : List Input) → Taking inputs (add_request request (await_answer go setup position depth request waiting s inputs))
+  takes_asked setup position depth request waiting s [] = taking_open request position []
+  takes_asked setup position depth request waiting s (input ∷ inputs) =
+      takes_used setup position depth request input (use_of (address_bits setup) waiting input.answer s.values) (with_input input s) inputs (only_end (RequestEnd request (position ∷ []) (input ∷ inputs)))
+      (taking_open request position (input ∷ inputs))
 
-  takes_led : (setup : Setup) (text : Text) (depth place : ℕ) (inputs : List Input) (next : Next) → Taking inputs (led go setup text depth place inputs next)
+  takes_led : (setup : Setup) (text : Text) (depth place : ℕ) (inputs : List Input) (next : Next) → Taking inputs (after_operation go setup text depth place inputs next)
   takes_led setup text depth place inputs (Goes to s) = takes text to depth s inputs
-  takes_led setup text depth place inputs (Stops request waiting s) = takes_asked setup (record { text = text; place = place }) depth request waiting s inputs
-  takes_led setup text depth place inputs (Fails fault) = omega arith
+  takes_led setup text depth place inputs (RequestNext request waiting s) = takes_asked setup (record { text = text; place = place }) depth request waiting s inputs
+  takes_led setup text depth place inputs (FaultNext fault) = omega arith
 
-  takes_does : (setup : Setup) (text : Text) (depth : ℕ) (s : Store) (inputs : List Input) (r : Result (Operation × List ℕ) Fault) → Taking inputs (does go setup text depth s inputs r)
+  takes_does : (setup : Setup) (text : Text) (depth : ℕ) (s : Store) (inputs : List Input) (r : Result (Operation × List ℕ) Fault) → Taking inputs (do_operation go setup text depth s inputs r)
   takes_does setup text depth s inputs (Ok x) = takes_led setup text depth _ inputs _
   takes_does setup text depth s inputs (Err fault) = omega arith
 
-  takes_counts : (setup : Setup) (text : Text) (place depth : ℕ) (s : Store) (inputs : List Input) → Taking inputs (counts go setup text place depth s inputs)
+  takes_counts : (setup : Setup) (text : Text) (place depth : ℕ) (s : Store) (inputs : List Input) → Taking inputs (turn_counted go setup text place depth s inputs)
   takes_counts setup text place depth s inputs =
       choose_both (Taking inputs) (can_count s) _ _ (λ can. takes_does setup text depth (counted s) inputs (read setup text place)) (λ e. omega arith)
 
-  takes_held : (setup : Setup) (text : Text) (depth : ℕ) (location : Location) (s : Store) (inputs : List Input) (r : Result (Operation × List ℕ) Fault) → Taking inputs (held go setup text depth location s inputs r)
+  takes_held : (setup : Setup) (text : Text) (depth : ℕ) (location : Location) (s : Store) (inputs : List Input) (r : Result (Operation × List ℕ) Fault) → Taking inputs (turn_located go setup text depth location s inputs r)
   takes_held setup text depth location s inputs (Ok x) = takes_led setup text depth _ inputs _
   takes_held setup text depth location s inputs (Err fault) = omega arith
 

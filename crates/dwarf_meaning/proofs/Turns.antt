@@ -5,12 +5,12 @@ use Rattle.dwarf_base.specs.Faults.{Fault, TooManyIterations}
 use Rattle.dwarf_meaning.specs.Operations.{Operation, Text}
 use Rattle.dwarf_meaning.specs.Locations.{Location}
 use Rattle.dwarf_meaning.specs.Requests.{Request, Waiting, Input}
-use Rattle.dwarf_meaning.specs.Acts.{choose, Use, Gives, Calls, Denies, Misfits, use_of}
-use Rattle.dwarf_meaning.specs.Stores.{Setup, address_bits, Store, Last, Nothing, Plain, Pieced, Pushed, Called, Located, Next, Goes, Stops, Fails}
-use Rattle.dwarf_meaning.specs.Run.{Frame, End, Finished, Asking, Failed, Course, ended, passing, asking, joined, Continues, back, resumed, entered, called, used, with_input, asked, led, read, most, can_count, counted, does, counts, piece_of, held, turn_by, turn, out_of_turns, run_for, enough, run}
+use Rattle.dwarf_meaning.specs.Acts.{choose, Use, PushesAnswer, Calls, FaultUse, WrongKind, use_of}
+use Rattle.dwarf_meaning.specs.Stores.{Setup, address_bits, Store, Last, Nothing, Plain, Pieced, Pushed, Called, Located, Next, Goes, RequestNext, FaultNext}
+use Rattle.dwarf_meaning.specs.Run.{Position, End, CompleteEnd, RequestEnd, FaultEnd, Course, only_end, add_to_path, add_request, append_course, Continues, return_to_caller, after_push, enter_callee, run_callee, after_answer, with_input, await_answer, after_operation, read, most, can_count, counted, do_operation, turn_counted, piece_ended_by, turn_located, turn_by, turn, out_of_turns, run_for, enough, run}
 use Rattle.dwarf_meaning.specs.RunLaws.{waits_of, turns_left}
 use Rattle.dwarf_meaning.proofs.Choices.{choose_false, choose_both}
-use Rattle.dwarf_meaning.proofs.Counts.{OnStore, OnNext, Tally, tally_of, HasTally, OnPiece, tally-push_value, tally-push_frame, tally-done, both-holds}
+use Rattle.dwarf_meaning.proofs.Counts.{OnStore, OnNext, Tally, tally_of, HasTally, OnPiece, tally-push_value, tally-push_caller, tally-done, both-holds}
 
 waits_little : (last : Last) → waits_of last ≤ 1
 waits_little Nothing = omega arith
@@ -32,14 +32,14 @@ below_most s h = grind (arith, nat_tests)
 
 -- a run that ends leaves no more turns than m
 abbrev pub EndsWithin : ℕ → End → Type 0
-EndsWithin m (Finished s inputs) = turns_left s ≤ m
-EndsWithin m (Asking request frames inputs) = Unit {0}
-EndsWithin m (Failed fault) = Unit {0}
+EndsWithin m (CompleteEnd s inputs) = turns_left s ≤ m
+EndsWithin m (RequestEnd request positions inputs) = Unit {0}
+EndsWithin m (FaultEnd fault) = Unit {0}
 
 ends_more : (m n : ℕ) (end : End) → m ≤ n → EndsWithin m end → EndsWithin n end
-ends_more m n (Finished s inputs) h i = omega (arith, h, i)
-ends_more m n (Asking request frames inputs) h i = tt
-ends_more m n (Failed fault) h i = tt
+ends_more m n (CompleteEnd s inputs) h i = omega (arith, h, i)
+ends_more m n (RequestEnd request positions inputs) h i = tt
+ends_more m n (FaultEnd fault) h i = tt
 
 -- no run leaves more turns than there were
 abbrev pub Lowers : Continues → Type 0
@@ -49,64 +49,64 @@ module _ (go : Continues) (lowers : Lowers go) where
   lowers_from : (m : ℕ) (text : Text) (place depth : ℕ) (s : Store) (inputs : List Input) → turns_left s ≤ m → EndsWithin m (go text place depth s inputs).end
   lowers_from m text place depth s inputs h = ends_more (turns_left s) m _ h (lowers text place depth s inputs)
 
-  lowers_back : (m : ℕ) (frame : Frame) (depth : ℕ) (course : Course) (end : End) → EndsWithin m end → EndsWithin m (back go frame depth course end).end
-  lowers_back m frame depth course (Finished s inputs) h = lowers_from m frame.text frame.place depth s inputs h
-  lowers_back m frame depth course (Asking request frames inputs) h = tt
-  lowers_back m frame depth course (Failed fault) h = tt
+  lowers_back : (m : ℕ) (position : Position) (depth : ℕ) (course : Course) (end : End) → EndsWithin m end → EndsWithin m (return_to_caller go position depth course end).end
+  lowers_back m position depth course (CompleteEnd s inputs) h = lowers_from m position.text position.place depth s inputs h
+  lowers_back m position depth course (RequestEnd request positions inputs) h = tt
+  lowers_back m position depth course (FaultEnd fault) h = tt
 
-  lowers_resumed : (n : Tally) (frame : Frame) (depth : ℕ) (inputs : List Input) (r : Result Store Fault) → OnStore (HasTally n) r → EndsWithin (room_at n.count) (resumed go frame depth inputs r).end
-  lowers_resumed n frame depth inputs (Ok s) h = lowers_from (room_at n.count) frame.text frame.place depth s inputs (left_at n s h)
-  lowers_resumed n frame depth inputs (Err fault) h = tt
+  lowers_resumed : (n : Tally) (position : Position) (depth : ℕ) (inputs : List Input) (r : Result Store Fault) → OnStore (HasTally n) r → EndsWithin (room_at n.count) (after_push go position depth inputs r).end
+  lowers_resumed n position depth inputs (Ok s) h = lowers_from (room_at n.count) position.text position.place depth s inputs (left_at n s h)
+  lowers_resumed n position depth inputs (Err fault) h = tt
 
-  lowers_entered : (n : Tally) (frame : Frame) (depth : ℕ) (callee : Text) (inputs : List Input) (r : Result Store Fault) → OnStore (HasTally n) r → EndsWithin (room_at n.count) (entered go frame depth callee inputs r).end
-  lowers_entered n frame depth callee inputs (Ok s) h =
+  lowers_entered : (n : Tally) (position : Position) (depth : ℕ) (callee : Text) (inputs : List Input) (r : Result Store Fault) → OnStore (HasTally n) r → EndsWithin (room_at n.count) (enter_callee go position depth callee inputs r).end
+  lowers_entered n position depth callee inputs (Ok s) h =
       let course = go callee 0 (suc depth) s inputs in
-      lowers_back (room_at n.count) frame depth course course.end (lowers_from (room_at n.count) callee 0 (suc depth) s inputs (left_at n s h))
-  lowers_entered n frame depth callee inputs (Err fault) h = tt
+      lowers_back (room_at n.count) position depth course course.end (lowers_from (room_at n.count) callee 0 (suc depth) s inputs (left_at n s h))
+  lowers_entered n position depth callee inputs (Err fault) h = tt
 
-  lowers_called : (setup : Setup) (frame : Frame) (depth : ℕ) (callee : Text) (bytes : List ℕ) (s : Store) (inputs : List Input) → EndsWithin (room_at s.count) (called go setup frame depth callee bytes s inputs).end
-  lowers_called setup frame depth callee [] s inputs = lowers_from (room_at s.count) frame.text frame.place depth _ inputs (left_at (tally_of s) (record s { last = Called }) refl)
-  lowers_called setup frame depth callee (byte ∷ bytes) s inputs = lowers_entered (tally_of s) frame depth callee inputs _ (tally-push_frame setup depth s)
+  lowers_called : (setup : Setup) (position : Position) (depth : ℕ) (callee : Text) (bytes : List ℕ) (s : Store) (inputs : List Input) → EndsWithin (room_at s.count) (run_callee go setup position depth callee bytes s inputs).end
+  lowers_called setup position depth callee [] s inputs = lowers_from (room_at s.count) position.text position.place depth _ inputs (left_at (tally_of s) (record s { last = Called }) refl)
+  lowers_called setup position depth callee (byte ∷ bytes) s inputs = lowers_entered (tally_of s) position depth callee inputs _ (tally-push_caller setup depth s)
 
-  lowers_used : (setup : Setup) (frame : Frame) (depth : ℕ) (u : Use) (s : Store) (inputs : List Input) (course : Course) → EndsWithin (room_at s.count) course.end → EndsWithin (room_at s.count) (used go setup frame depth u s inputs course).end
-  lowers_used setup frame depth (Gives rest value) s inputs course h = lowers_resumed (tally_of s) frame depth inputs _ (tally-push_value setup value (record s { values = rest; last = Pushed }))
-  lowers_used setup frame depth (Calls callee) s inputs course h = lowers_called setup frame depth callee callee.bytes s inputs
-  lowers_used setup frame depth (Denies fault) s inputs course h = tt
-  lowers_used setup frame depth Misfits s inputs course h = h
+  lowers_used : (setup : Setup) (position : Position) (depth : ℕ) (u : Use) (s : Store) (inputs : List Input) (course : Course) → EndsWithin (room_at s.count) course.end → EndsWithin (room_at s.count) (after_answer go setup position depth u s inputs course).end
+  lowers_used setup position depth (PushesAnswer rest value) s inputs course h = lowers_resumed (tally_of s) position depth inputs _ (tally-push_value setup value (record s { values = rest; last = Pushed }))
+  lowers_used setup position depth (Calls callee) s inputs course h = lowers_called setup position depth callee callee.bytes s inputs
+  lowers_used setup position depth (FaultUse fault) s inputs course h = tt
+  lowers_used setup position depth WrongKind s inputs course h = h
 
-  lowers_asked : (setup : Setup) (frame : Frame) (depth : ℕ) (request : Request) (waiting : Waiting) (s : Store) (inputs : List Input) → EndsWithin (room_at s.count) (asked go setup frame depth request waiting s inputs).end
-  lowers_asked setup frame depth request waiting s [] = tt
-  lowers_asked setup frame depth request waiting s (input ∷ inputs) = lowers_used setup frame depth (use_of (address_bits setup) waiting input.answer s.values) (with_input input s) inputs (ended (Asking request (frame ∷ []) (input ∷ inputs))) tt
+  lowers_asked : (setup : Setup) (position : Position) (depth : ℕ) (request : Request) (waiting : Waiting) (s : Store) (inputs : List Input) → EndsWithin (room_at s.count) (await_answer go setup position depth request waiting s inputs).end
+  lowers_asked setup position depth request waiting s [] = tt
+  lowers_asked setup position depth request waiting s (input ∷ inputs) = lowers_used setup position depth (use_of (address_bits setup) waiting input.answer s.values) (with_input input s) inputs (only_end (RequestEnd request (position ∷ []) (input ∷ inputs))) tt
 
   -- from where n operations are counted
-  lowers_led : (setup : Setup) (text : Text) (depth place : ℕ) (inputs : List Input) (n : Tally) (next : Next) → OnNext (HasTally n) next → EndsWithin (room_at n.count) (led go setup text depth place inputs next).end
+  lowers_led : (setup : Setup) (text : Text) (depth place : ℕ) (inputs : List Input) (n : Tally) (next : Next) → OnNext (HasTally n) next → EndsWithin (room_at n.count) (after_operation go setup text depth place inputs next).end
   lowers_led setup text depth place inputs n (Goes to s) h = lowers_from (room_at n.count) text to depth s inputs (left_at n s h)
-  lowers_led setup text depth place inputs n (Stops request waiting s) h =
-      subst (λ (k : Tally). EndsWithin (room_at k.count) (asked go setup (record { text = text; place = place }) depth request waiting s inputs).end) h
+  lowers_led setup text depth place inputs n (RequestNext request waiting s) h =
+      subst (λ (k : Tally). EndsWithin (room_at k.count) (await_answer go setup (record { text = text; place = place }) depth request waiting s inputs).end) h
       (lowers_asked setup (record { text = text; place = place }) depth request waiting s inputs)
-  lowers_led setup text depth place inputs n (Fails fault) h = tt
+  lowers_led setup text depth place inputs n (FaultNext fault) h = tt
 
-  lowers_does : (setup : Setup) (text : Text) (depth : ℕ) (s : Store) (inputs : List Input) (r : Result (Operation × List ℕ) Fault) → EndsWithin (room_at s.count) (does go setup text depth s inputs r).end
+  lowers_does : (setup : Setup) (text : Text) (depth : ℕ) (s : Store) (inputs : List Input) (r : Result (Operation × List ℕ) Fault) → EndsWithin (room_at s.count) (do_operation go setup text depth s inputs r).end
   lowers_does setup text depth s inputs (Ok x) = lowers_led setup text depth _ inputs (tally_of s) _ (tally-done setup _ _ _ s)
   lowers_does setup text depth s inputs (Err fault) = tt
 
-  lowers_counts : (setup : Setup) (text : Text) (place depth : ℕ) (s : Store) (inputs : List Input) → EndsWithin (turns_left s) (counts go setup text place depth s inputs).end
+  lowers_counts : (setup : Setup) (text : Text) (place depth : ℕ) (s : Store) (inputs : List Input) → EndsWithin (turns_left s) (turn_counted go setup text place depth s inputs).end
   lowers_counts setup text place depth s inputs =
       choose_both (λ (c : Course). EndsWithin (turns_left s) c.end) (can_count s) _ _
       (λ can. let below = below_most s can in ends_more (room_at (s.count + 1)) (turns_left s) _ (omega arith) (lowers_does setup text depth (counted s) inputs (read setup text place)))
       (λ e. tt)
 
   -- behind a location
-  lowers_piece : (setup : Setup) (text : Text) (depth place : ℕ) (inputs : List Input) (n : Tally) (next : Next) → OnPiece n next → (m : ℕ) → 2 * (most - n.count) ≤ m → EndsWithin m (led go setup text depth place inputs next).end
+  lowers_piece : (setup : Setup) (text : Text) (depth place : ℕ) (inputs : List Input) (n : Tally) (next : Next) → OnPiece n next → (m : ℕ) → 2 * (most - n.count) ≤ m → EndsWithin m (after_operation go setup text depth place inputs next).end
   lowers_piece setup text depth place inputs n (Goes to s) h m i =
       let none : waits_of s.last ≡ 0 = ap waits_of h.last in
       let count : s.count ≡ n.count = ap (λ (k : Tally). k.count) h.tally in
       lowers_from m text to depth s inputs (omega (arith, count, none, i))
-  lowers_piece setup text depth place inputs n (Stops request waiting s) h m i = absurd h
-  lowers_piece setup text depth place inputs n (Fails fault) h m i = tt
+  lowers_piece setup text depth place inputs n (RequestNext request waiting s) h m i = absurd h
+  lowers_piece setup text depth place inputs n (FaultNext fault) h m i = tt
 
-  lowers_held : (setup : Setup) (text : Text) (depth : ℕ) (location : Location) (s : Store) (inputs : List Input) (r : Result (Operation × List ℕ) Fault) (m : ℕ) → 2 * (most - s.count) ≤ m → EndsWithin m (held go setup text depth location s inputs r).end
-  lowers_held setup text depth location s inputs (Ok x) m h = lowers_piece setup text depth _ inputs (tally_of s) _ (both-holds setup location _ s (piece_of x.0)) m h
+  lowers_held : (setup : Setup) (text : Text) (depth : ℕ) (location : Location) (s : Store) (inputs : List Input) (r : Result (Operation × List ℕ) Fault) (m : ℕ) → 2 * (most - s.count) ≤ m → EndsWithin m (turn_located go setup text depth location s inputs r).end
+  lowers_held setup text depth location s inputs (Ok x) m h = lowers_piece setup text depth _ inputs (tally_of s) _ (both-holds setup location _ s (piece_ended_by x.0)) m h
   lowers_held setup text depth location s inputs (Err fault) m h = tt
 
   lowers_by : (setup : Setup) (text : Text) (place depth : ℕ) (s : Store) (inputs : List Input) (last : Last) → waits_of s.last ≡ waits_of last → EndsWithin (turns_left s) (turn_by go setup text place depth s inputs last).end
@@ -131,70 +131,70 @@ abbrev pub Alike : ℕ → Continues → Continues → Type 0
 Alike m go other = (text : Text) (place depth : ℕ) (s : Store) (inputs : List Input) → turns_left s ≤ m → go text place depth s inputs ≡ other text place depth s inputs
 
 module _ (go other : Continues) (m : ℕ) (alike : Alike m go other) (lowers : Lowers go) where
-  alike_back : (frame : Frame) (depth : ℕ) (course : Course) (end : End) → EndsWithin m end → back go frame depth course end ≡ back other frame depth course end
-  alike_back frame depth course (Finished s inputs) h = ap (joined course) (alike frame.text frame.place depth s inputs h)
-  alike_back frame depth course (Asking request frames inputs) h = refl
-  alike_back frame depth course (Failed fault) h = refl
+  alike_back : (position : Position) (depth : ℕ) (course : Course) (end : End) → EndsWithin m end → return_to_caller go position depth course end ≡ return_to_caller other position depth course end
+  alike_back position depth course (CompleteEnd s inputs) h = ap (append_course course) (alike position.text position.place depth s inputs h)
+  alike_back position depth course (RequestEnd request positions inputs) h = refl
+  alike_back position depth course (FaultEnd fault) h = refl
 
-  alike_resumed : (n : Tally) (frame : Frame) (depth : ℕ) (inputs : List Input) (r : Result Store Fault) → OnStore (HasTally n) r → room_at n.count ≤ m → resumed go frame depth inputs r ≡ resumed other frame depth inputs r
-  alike_resumed n frame depth inputs (Ok s) h i = alike frame.text frame.place depth s inputs (omega (arith, left_at n s h, i))
-  alike_resumed n frame depth inputs (Err fault) h i = refl
+  alike_resumed : (n : Tally) (position : Position) (depth : ℕ) (inputs : List Input) (r : Result Store Fault) → OnStore (HasTally n) r → room_at n.count ≤ m → after_push go position depth inputs r ≡ after_push other position depth inputs r
+  alike_resumed n position depth inputs (Ok s) h i = alike position.text position.place depth s inputs (omega (arith, left_at n s h, i))
+  alike_resumed n position depth inputs (Err fault) h i = refl
 
-  alike_entered : (n : Tally) (frame : Frame) (depth : ℕ) (callee : Text) (inputs : List Input) (r : Result Store Fault) → OnStore (HasTally n) r → room_at n.count ≤ m → entered go frame depth callee inputs r ≡ entered other frame depth callee inputs r
-  alike_entered n frame depth callee inputs (Ok s) h i =
+  alike_entered : (n : Tally) (position : Position) (depth : ℕ) (callee : Text) (inputs : List Input) (r : Result Store Fault) → OnStore (HasTally n) r → room_at n.count ≤ m → enter_callee go position depth callee inputs r ≡ enter_callee other position depth callee inputs r
+  alike_entered n position depth callee inputs (Ok s) h i =
       let le : turns_left s ≤ m = omega (arith, left_at n s h, i) in
       let course = go callee 0 (suc depth) s inputs in
-      alike_back frame depth course course.end (ends_more (turns_left s) m course.end le (lowers callee 0 (suc depth) s inputs))
-      ∙ ap (λ (c : Course). back other frame depth c c.end) (alike callee 0 (suc depth) s inputs le)
-  alike_entered n frame depth callee inputs (Err fault) h i = refl
+      alike_back position depth course course.end (ends_more (turns_left s) m course.end le (lowers callee 0 (suc depth) s inputs))
+      ∙ ap (λ (c : Course). return_to_caller other position depth c c.end) (alike callee 0 (suc depth) s inputs le)
+  alike_entered n position depth callee inputs (Err fault) h i = refl
 
-  alike_called : (setup : Setup) (frame : Frame) (depth : ℕ) (callee : Text) (bytes : List ℕ) (s : Store) (inputs : List Input) → room_at s.count ≤ m → called go setup frame depth callee bytes s inputs ≡ called other setup frame depth callee bytes s inputs
-  alike_called setup frame depth callee [] s inputs i =
-      alike frame.text frame.place depth (record s { last = Called }) inputs (omega (arith, left_at (tally_of s) (record s { last = Called }) refl, i))
-  alike_called setup frame depth callee (byte ∷ bytes) s inputs i = alike_entered (tally_of s) frame depth callee inputs _ (tally-push_frame setup depth s) i
+  alike_called : (setup : Setup) (position : Position) (depth : ℕ) (callee : Text) (bytes : List ℕ) (s : Store) (inputs : List Input) → room_at s.count ≤ m → run_callee go setup position depth callee bytes s inputs ≡ run_callee other setup position depth callee bytes s inputs
+  alike_called setup position depth callee [] s inputs i =
+      alike position.text position.place depth (record s { last = Called }) inputs (omega (arith, left_at (tally_of s) (record s { last = Called }) refl, i))
+  alike_called setup position depth callee (byte ∷ bytes) s inputs i = alike_entered (tally_of s) position depth callee inputs _ (tally-push_caller setup depth s) i
 
-  alike_used : (setup : Setup) (frame : Frame) (depth : ℕ) (u : Use) (s : Store) (inputs : List Input) (course : Course) → room_at s.count ≤ m → used go setup frame depth u s inputs course ≡ used other setup frame depth u s inputs course
-  alike_used setup frame depth (Gives rest value) s inputs course i = alike_resumed (tally_of s) frame depth inputs _ (tally-push_value setup value (record s { values = rest; last = Pushed })) i
-  alike_used setup frame depth (Calls callee) s inputs course i = alike_called setup frame depth callee callee.bytes s inputs i
-  alike_used setup frame depth (Denies fault) s inputs course i = refl
-  alike_used setup frame depth Misfits s inputs course i = refl
+  alike_used : (setup : Setup) (position : Position) (depth : ℕ) (u : Use) (s : Store) (inputs : List Input) (course : Course) → room_at s.count ≤ m → after_answer go setup position depth u s inputs course ≡ after_answer other setup position depth u s inputs course
+  alike_used setup position depth (PushesAnswer rest value) s inputs course i = alike_resumed (tally_of s) position depth inputs _ (tally-push_value setup value (record s { values = rest; last = Pushed })) i
+  alike_used setup position depth (Calls callee) s inputs course i = alike_called setup position depth callee callee.bytes s inputs i
+  alike_used setup position depth (FaultUse fault) s inputs course i = refl
+  alike_used setup position depth WrongKind s inputs course i = refl
 
-  alike_asked : (setup : Setup) (frame : Frame) (depth : ℕ) (request : Request) (waiting : Waiting) (s : Store) (inputs : List Input) → room_at s.count ≤ m → asked go setup frame depth request waiting s inputs ≡ asked other setup frame depth request waiting s inputs
-  alike_asked setup frame depth request waiting s [] i = refl
-  alike_asked setup frame depth request waiting s (input ∷ inputs) i = alike_used setup frame depth (use_of (address_bits setup) waiting input.answer s.values) (with_input input s) inputs (ended (Asking request (frame ∷ []) (input ∷ inputs))) i
+  alike_asked : (setup : Setup) (position : Position) (depth : ℕ) (request : Request) (waiting : Waiting) (s : Store) (inputs : List Input) → room_at s.count ≤ m → await_answer go setup position depth request waiting s inputs ≡ await_answer other setup position depth request waiting s inputs
+  alike_asked setup position depth request waiting s [] i = refl
+  alike_asked setup position depth request waiting s (input ∷ inputs) i = alike_used setup position depth (use_of (address_bits setup) waiting input.answer s.values) (with_input input s) inputs (only_end (RequestEnd request (position ∷ []) (input ∷ inputs))) i
 
-  alike_led : (setup : Setup) (text : Text) (depth place : ℕ) (inputs : List Input) (n : Tally) (next : Next) → OnNext (HasTally n) next → room_at n.count ≤ m → led go setup text depth place inputs next ≡ led other setup text depth place inputs next
+  alike_led : (setup : Setup) (text : Text) (depth place : ℕ) (inputs : List Input) (n : Tally) (next : Next) → OnNext (HasTally n) next → room_at n.count ≤ m → after_operation go setup text depth place inputs next ≡ after_operation other setup text depth place inputs next
   alike_led setup text depth place inputs n (Goes to s) h i = alike text to depth s inputs (omega (arith, left_at n s h, i))
-  alike_led setup text depth place inputs n (Stops request waiting s) h i =
+  alike_led setup text depth place inputs n (RequestNext request waiting s) h i =
       let count : s.count ≡ n.count = ap (λ (k : Tally). k.count) h in
-      ap (asking request) (alike_asked setup (record { text = text; place = place }) depth request waiting s inputs (omega (arith, count, i)))
-  alike_led setup text depth place inputs n (Fails fault) h i = refl
+      ap (add_request request) (alike_asked setup (record { text = text; place = place }) depth request waiting s inputs (omega (arith, count, i)))
+  alike_led setup text depth place inputs n (FaultNext fault) h i = refl
 
-  alike_does : (setup : Setup) (text : Text) (depth : ℕ) (s : Store) (inputs : List Input) (r : Result (Operation × List ℕ) Fault) → room_at s.count ≤ m → does go setup text depth s inputs r ≡ does other setup text depth s inputs r
+  alike_does : (setup : Setup) (text : Text) (depth : ℕ) (s : Store) (inputs : List Input) (r : Result (Operation × List ℕ) Fault) → room_at s.count ≤ m → do_operation go setup text depth s inputs r ≡ do_operation other setup text depth s inputs r
   alike_does setup text depth s inputs (Ok x) i = alike_led setup text depth _ inputs (tally_of s) _ (tally-done setup _ _ _ s) i
   alike_does setup text depth s inputs (Err fault) i = refl
 
-  alike_counts : (setup : Setup) (text : Text) (place depth : ℕ) (s : Store) (inputs : List Input) → turns_left s ≤ suc m → counts go setup text place depth s inputs ≡ counts other setup text place depth s inputs
+  alike_counts : (setup : Setup) (text : Text) (place depth : ℕ) (s : Store) (inputs : List Input) → turns_left s ≤ suc m → turn_counted go setup text place depth s inputs ≡ turn_counted other setup text place depth s inputs
   alike_counts setup text place depth s inputs h =
       alike_by_test (can_count s) refl
     where
-      alike_by_test : (b : Bool) → can_count s ≡ b → choose b (passing (record { text = text; place = place }) (does go setup text depth (counted s) inputs (read setup text place))) (ended (Failed TooManyIterations)) ≡ choose b (passing (record { text = text; place = place }) (does other setup text depth (counted s) inputs (read setup text place))) (ended (Failed TooManyIterations))
+      alike_by_test : (b : Bool) → can_count s ≡ b → choose b (add_to_path (record { text = text; place = place }) (do_operation go setup text depth (counted s) inputs (read setup text place))) (only_end (FaultEnd TooManyIterations)) ≡ choose b (add_to_path (record { text = text; place = place }) (do_operation other setup text depth (counted s) inputs (read setup text place))) (only_end (FaultEnd TooManyIterations))
       alike_by_test true e =
           let below = below_most s e in
-          ap (λ (c : Course). choose true (passing (record { text = text; place = place }) c) (ended (Failed TooManyIterations)))
+          ap (λ (c : Course). choose true (add_to_path (record { text = text; place = place }) c) (only_end (FaultEnd TooManyIterations)))
           (alike_does setup text depth (counted s) inputs (read setup text place) (omega arith))
       alike_by_test false e = choose_false false _ _ refl ∙ sym (choose_false false _ _ refl)
 
-  alike_piece : (setup : Setup) (text : Text) (depth place : ℕ) (inputs : List Input) (n : Tally) (next : Next) → OnPiece n next → 2 * (most - n.count) ≤ m → led go setup text depth place inputs next ≡ led other setup text depth place inputs next
+  alike_piece : (setup : Setup) (text : Text) (depth place : ℕ) (inputs : List Input) (n : Tally) (next : Next) → OnPiece n next → 2 * (most - n.count) ≤ m → after_operation go setup text depth place inputs next ≡ after_operation other setup text depth place inputs next
   alike_piece setup text depth place inputs n (Goes to s) h i =
       let none : waits_of s.last ≡ 0 = ap waits_of h.last in
       let count : s.count ≡ n.count = ap (λ (k : Tally). k.count) h.tally in
       alike text to depth s inputs (omega (arith, count, none, i))
-  alike_piece setup text depth place inputs n (Stops request waiting s) h i = absurd h
-  alike_piece setup text depth place inputs n (Fails fault) h i = refl
+  alike_piece setup text depth place inputs n (RequestNext request waiting s) h i = absurd h
+  alike_piece setup text depth place inputs n (FaultNext fault) h i = refl
 
-  alike_held : (setup : Setup) (text : Text) (depth : ℕ) (location : Location) (s : Store) (inputs : List Input) (r : Result (Operation × List ℕ) Fault) → 2 * (most - s.count) ≤ m → held go setup text depth location s inputs r ≡ held other setup text depth location s inputs r
-  alike_held setup text depth location s inputs (Ok x) h = alike_piece setup text depth _ inputs (tally_of s) _ (both-holds setup location _ s (piece_of x.0)) h
+  alike_held : (setup : Setup) (text : Text) (depth : ℕ) (location : Location) (s : Store) (inputs : List Input) (r : Result (Operation × List ℕ) Fault) → 2 * (most - s.count) ≤ m → turn_located go setup text depth location s inputs r ≡ turn_located other setup text depth location s inputs r
+  alike_held setup text depth location s inputs (Ok x) h = alike_piece setup text depth _ inputs (tally_of s) _ (both-holds setup location _ s (piece_ended_by x.0)) h
   alike_held setup text depth location s inputs (Err fault) h = refl
 
   alike_by : (setup : Setup) (text : Text) (place depth : ℕ) (s : Store) (inputs : List Input) (last : Last) → waits_of s.last ≡ waits_of last → turns_left s ≤ suc m → turn_by go setup text place depth s inputs last ≡ turn_by other setup text place depth s inputs last
@@ -207,11 +207,11 @@ module _ (go other : Continues) (m : ℕ) (alike : Alike m go other) (lowers : L
 
   pub alike_turn : (setup : Setup) (text : Text) (place depth : ℕ) (s : Store) (inputs : List Input) → turns_left s ≤ suc m → turn go setup text place depth s inputs ≡ turn other setup text place depth s inputs
   alike_turn setup text place depth s inputs h =
-      ap (choose (place == length text.bytes) (ended (Finished s inputs))) (alike_by setup text place depth s inputs s.last refl h)
+      ap (choose (place == length text.bytes) (only_end (CompleteEnd s inputs))) (alike_by setup text place depth s inputs s.last refl h)
 
 -- where no turn is left the runs are over, however they would go on
 module _ (go other : Continues) where
-  stops_counts : (setup : Setup) (text : Text) (place depth : ℕ) (s : Store) (inputs : List Input) → turns_left s ≤ 0 → counts go setup text place depth s inputs ≡ counts other setup text place depth s inputs
+  stops_counts : (setup : Setup) (text : Text) (place depth : ℕ) (s : Store) (inputs : List Input) → turns_left s ≤ 0 → turn_counted go setup text place depth s inputs ≡ turn_counted other setup text place depth s inputs
   stops_counts setup text place depth s inputs h =
       let no : can_count s ≡ false = grind (arith, nat_tests) in
       choose_false (can_count s) _ _ no ∙ sym (choose_false (can_count s) _ _ no)
@@ -226,7 +226,7 @@ module _ (go other : Continues) where
 
   stops_turn : (setup : Setup) (text : Text) (place depth : ℕ) (s : Store) (inputs : List Input) → turns_left s ≤ 0 → turn go setup text place depth s inputs ≡ turn other setup text place depth s inputs
   stops_turn setup text place depth s inputs h =
-      ap (choose (place == length text.bytes) (ended (Finished s inputs))) (stops_by setup text place depth s inputs s.last refl h)
+      ap (choose (place == length text.bytes) (only_end (CompleteEnd s inputs))) (stops_by setup text place depth s inputs s.last refl h)
 
 -- two numbers of turns that are enough give one course
 pub run_for-enough : (n m : ℕ) (setup : Setup) (text : Text) (place depth : ℕ) (s : Store) (inputs : List Input) → turns_left s ≤ n → turns_left s ≤ m → run_for n setup text place depth s inputs ≡ run_for m setup text place depth s inputs

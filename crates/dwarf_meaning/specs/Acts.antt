@@ -9,7 +9,7 @@ use Rattle.dwarf_value.specs.Values.{type_of, to_u64_of, from_u64_of, abs_of, ne
 use Rattle.dwarf_meaning.specs.Operations as operation
 use Rattle.dwarf_meaning.specs.Operations.{Operation, Text}
 use Rattle.dwarf_meaning.specs.Locations.{Location, Empty, InRegister, AtAddress, HoldsValue, HoldsBytes, PointsInto, Piece}
-use Rattle.dwarf_meaning.specs.Requests.{Request, RequiresMemory, RequiresRegister, RequiresWasmLocal, RequiresWasmGlobal, RequiresWasmStack, RequiresFrameBase, RequiresTls, RequiresCallFrameCfa, RequiresAtLocation, RequiresEntryValue, RequiresParameterRef, RequiresRelocatedAddress, RequiresIndexedAddress, RequiresBaseType, Waiting, Memory, Register, WasmValue, EntryValue, FrameBase, Tls, CallFrameCfa, ParameterRef, RelocatedAddress, IndexedAddress, AtLocation, TypedLiteral, Convert, Reinterpret, Answer, memory_of, register_of, wasm_of, entry_of, frame_base_of, tls_of, cfa_of, parameter_of, relocated_of, indexed_of, location_of, base_type_of}
+use Rattle.dwarf_meaning.specs.Requests.{Request, RequiresMemory, RequiresRegister, RequiresWasmLocal, RequiresWasmGlobal, RequiresWasmStack, RequiresFrameBase, RequiresTls, RequiresCallFrameCfa, RequiresAtLocation, RequiresEntryValue, RequiresParameterRef, RequiresRelocatedAddress, RequiresIndexedAddress, RequiresBaseType, Waiting, Memory, Register, WasmValue, EntryValue, FrameBase, Tls, CallFrameCfa, ParameterRef, RelocatedAddress, IndexedAddress, AtLocation, TypedLiteral, Convert, Reinterpret, Answer, memory_in, register_in, wasm_in, entry_in, frame_base_in, tls_in, cfa_in, parameter_in, relocated_in, indexed_in, location_in, base_type_in}
 
 -- What an operation does: `rest` are the values that it leaves of the stack, the top first.
 pub data Act : Type 0 where
@@ -20,10 +20,10 @@ pub data Act : Type 0 where
   -- a location is given
   Locates : (rest : List Value) (location : Location) → Act
   -- a piece is ended
-  Ends : (rest : List Value) (piece : Piece) → Act
+  EndsPiece : (rest : List Value) (piece : Piece) → Act
   -- something is asked
-  Asks : (rest : List Value) (request : Request) (waiting : Waiting) → Act
-  Refuses : (fault : Fault) → Act
+  RequestAct : (rest : List Value) (request : Request) (waiting : Waiting) → Act
+  FaultAct : (fault : Fault) → Act
 
 -- ---- words for the tables below
 
@@ -42,31 +42,31 @@ unfoldable pub on_some : {X A : Type 0} → Option X → A → (X → A) → A
 on_some None none go = none
 on_some (Some x) none go = go x
 
--- the answer of a call on values, or its refusal
-unfoldable pub on_answer : {X A : Type 0} → Result X Fault → (Fault → A) → (X → A) → A
-on_answer (Ok x) refused go = go x
-on_answer (Err fault) refused go = refused fault
+-- the result of a call on values, or its fault
+unfoldable pub on_result : {X A : Type 0} → Result X Fault → (Fault → A) → (X → A) → A
+on_result (Ok x) faulted go = go x
+on_result (Err fault) faulted go = faulted fault
 
--- a call's answer, with the error as a fault
-unfoldable pub answer_of : {X : Type 0} → Result X Error → Result X Fault
-answer_of (Ok x) = Ok x
-answer_of (Err error) = Err (fault_of error)
+-- a call's result, with the error as a fault
+unfoldable pub result_of : {X : Type 0} → Result X Error → Result X Fault
+result_of (Ok x) = Ok x
+result_of (Err error) = Err (fault_of error)
 
 -- no value is there to be popped
 abbrev pub short : Act
-short = Refuses NotEnoughStackItems
+short = FaultAct NotEnoughStackItems
 
 -- one value is pushed
 abbrev pub push : List Value → Value → Act
 push rest value = Pushes rest (value ∷ [])
 
--- the top becomes the call's answer
+-- the top becomes the call's result
 abbrev pub unary : (Value → Result Value Error) → List Value → Act
-unary call values = on_top values short (λ x rest. on_answer (answer_of (call x)) Refuses (push rest))
+unary call values = on_top values short (λ x rest. on_result (result_of (call x)) FaultAct (push rest))
 
--- the two on top become the call's answer
+-- the two on top become the call's result
 abbrev pub binary : (Value → Value → Result Value Error) → List Value → Act
-binary call values = on_top values short (λ y below. on_top below short (λ x rest. on_answer (answer_of (call x y)) Refuses (push rest)))
+binary call values = on_top values short (λ y below. on_top below short (λ x rest. on_result (result_of (call x y)) FaultAct (push rest)))
 
 -- ---- operations that are done at once, and those that ask
 
@@ -99,69 +99,71 @@ act bits object operation.Ne values = binary (ne_of bits) values
 act bits object (operation.PlusConstant value) values = unary (λ x. add_of bits x (from_u64_of (type_of x) value)) values
 act bits object (operation.UnsignedConstant value) values = push values (Generic value)
 act bits object (operation.SignedConstant value) values = push values (Generic (residue 64 value))
-act bits object operation.PushObjectAddress values = on_some object (Refuses InvalidPushObjectAddress) (λ address. push values (Generic address))
+act bits object operation.PushObjectAddress values = on_some object (FaultAct InvalidPushObjectAddress) (λ address. push values (Generic address))
 act bits object (operation.Bra target) values = on_top values short (λ x rest. choose (to_u64_of bits x == 0) (Pushes rest []) (Branches rest target))
 act bits object (operation.Skip target) values = Branches values target
 act bits object operation.Nop values = Pushes values []
-act bits object (operation.VariableValue offset) values = Refuses UnsupportedEvaluation
-act bits object operation.Uninitialized values = Refuses UnsupportedEvaluation
+act bits object (operation.VariableValue offset) values = FaultAct UnsupportedEvaluation
+act bits object operation.Uninitialized values = FaultAct UnsupportedEvaluation
 act bits object (operation.Deref base_type size false) values =
-    choose (nat_lt bits (8 * size)) (Refuses (InvalidDerefSize size))
-    (on_top values short (λ x rest. Asks rest (RequiresMemory (to_u64_of bits x) size None base_type) Memory))
+    choose (nat_lt bits (8 * size)) (FaultAct (InvalidDerefSize size))
+    (on_top values short (λ x rest. RequestAct rest (RequiresMemory (to_u64_of bits x) size None base_type) Memory))
 act bits object (operation.Deref base_type size true) values =
-    choose (nat_lt bits (8 * size)) (Refuses (InvalidDerefSize size))
-    (on_top values short (λ x below. on_top below short (λ y rest. Asks rest (RequiresMemory (to_u64_of bits x) size (Some (to_u64_of bits y)) base_type) Memory)))
-act bits object (operation.RegisterOffset register offset base_type) values = Asks values (RequiresRegister register base_type) (Register offset)
-act bits object (operation.FrameOffset offset) values = Asks values RequiresFrameBase (FrameBase offset)
-act bits object operation.TLS values = on_top values short (λ x rest. Asks rest (RequiresTls (to_u64_of bits x)) Tls)
-act bits object operation.CallFrameCFA values = Asks values RequiresCallFrameCfa CallFrameCfa
-act bits object (operation.Call offset) values = Asks values (RequiresAtLocation offset) AtLocation
-act bits object (operation.EntryValue expression) values = Asks values (RequiresEntryValue expression) EntryValue
-act bits object (operation.ParameterRef offset) values = Asks values (RequiresParameterRef offset) ParameterRef
-act bits object (operation.Address address) values = Asks values (RequiresRelocatedAddress address) RelocatedAddress
-act bits object (operation.AddressIndex index) values = Asks values (RequiresIndexedAddress index true) IndexedAddress
-act bits object (operation.ConstantIndex index) values = Asks values (RequiresIndexedAddress index false) IndexedAddress
-act bits object (operation.TypedLiteral base_type value) values = Asks values (RequiresBaseType base_type) (TypedLiteral value)
-act bits object (operation.Convert base_type) values = Asks values (RequiresBaseType base_type) Convert
-act bits object (operation.Reinterpret base_type) values = Asks values (RequiresBaseType base_type) Reinterpret
-act bits object (operation.WasmLocal index) values = Asks values (RequiresWasmLocal index) WasmValue
-act bits object (operation.WasmGlobal index) values = Asks values (RequiresWasmGlobal index) WasmValue
-act bits object (operation.WasmStack index) values = Asks values (RequiresWasmStack index) WasmValue
+    choose (nat_lt bits (8 * size)) (FaultAct (InvalidDerefSize size))
+    (on_top values short (λ x below. on_top below short (λ y rest. RequestAct rest (RequiresMemory (to_u64_of bits x) size (Some (to_u64_of bits y)) base_type) Memory)))
+act bits object (operation.RegisterOffset register offset base_type) values = RequestAct values (RequiresRegister register base_type) (Register offset)
+act bits object (operation.FrameOffset offset) values = RequestAct values RequiresFrameBase (FrameBase offset)
+act bits object operation.TLS values = on_top values short (λ x rest. RequestAct rest (RequiresTls (to_u64_of bits x)) Tls)
+act bits object operation.CallFrameCFA values = RequestAct values RequiresCallFrameCfa CallFrameCfa
+act bits object (operation.Call offset) values = RequestAct values (RequiresAtLocation offset) AtLocation
+act bits object (operation.EntryValue expression) values = RequestAct values (RequiresEntryValue expression) EntryValue
+act bits object (operation.ParameterRef offset) values = RequestAct values (RequiresParameterRef offset) ParameterRef
+act bits object (operation.Address address) values = RequestAct values (RequiresRelocatedAddress address) RelocatedAddress
+act bits object (operation.AddressIndex index) values = RequestAct values (RequiresIndexedAddress index true) IndexedAddress
+act bits object (operation.ConstantIndex index) values = RequestAct values (RequiresIndexedAddress index false) IndexedAddress
+act bits object (operation.TypedLiteral base_type value) values = RequestAct values (RequiresBaseType base_type) (TypedLiteral value)
+act bits object (operation.Convert base_type) values = RequestAct values (RequiresBaseType base_type) Convert
+act bits object (operation.Reinterpret base_type) values = RequestAct values (RequiresBaseType base_type) Reinterpret
+act bits object (operation.WasmLocal index) values = RequestAct values (RequiresWasmLocal index) WasmValue
+act bits object (operation.WasmGlobal index) values = RequestAct values (RequiresWasmGlobal index) WasmValue
+act bits object (operation.WasmStack index) values = RequestAct values (RequiresWasmStack index) WasmValue
 act bits object (operation.Register register) values = Locates values (InRegister register)
 act bits object (operation.ImplicitValue bytes) values = Locates values (HoldsBytes bytes)
 act bits object operation.StackValue values = on_top values short (λ x rest. Locates rest (HoldsValue x))
 act bits object (operation.ImplicitPointer value byte_offset) values = Locates values (PointsInto value byte_offset)
 act bits object (operation.Piece size_in_bits bit_offset) values =
-    on_top values (Ends [] (record { size_in_bits = Some size_in_bits; bit_offset = bit_offset; location = Empty }))
-    (λ x rest. Ends rest (record { size_in_bits = Some size_in_bits; bit_offset = bit_offset; location = AtAddress (to_u64_of bits x) }))
+    on_top values (EndsPiece [] (record { size_in_bits = Some size_in_bits; bit_offset = bit_offset; location = Empty }))
+    (λ x rest. EndsPiece rest (record { size_in_bits = Some size_in_bits; bit_offset = bit_offset; location = AtAddress (to_u64_of bits x) }))
 
 -- ---- what is done with an answer
 
+-- what is done with an answer
 pub data Use : Type 0 where
   -- a value is pushed on the rest of the stack
-  Gives : (rest : List Value) (value : Value) → Use
+  PushesAnswer : (rest : List Value) (value : Value) → Use
   -- a text is run in the call's place
   Calls : (text : Text) → Use
-  Denies : (fault : Fault) → Use
+  FaultUse : (fault : Fault) → Use
   -- the answer isn't of the kind that is waited for
-  Misfits : Use
+  WrongKind : Use
 
+-- what an answer is used for, by what waits for it; the values are those on the stack
 unfoldable pub use_of : (bits : ℕ) → Waiting → Answer → List Value → Use
-use_of bits Memory answer values = on_some (memory_of answer) Misfits (Gives values)
+use_of bits Memory answer values = on_some (memory_in answer) WrongKind (PushesAnswer values)
 use_of bits (Register offset) answer values =
-    on_some (register_of answer) Misfits (λ x. on_answer (answer_of (add_of bits x (from_u64_of (type_of x) (residue 64 offset)))) Denies (Gives values))
-use_of bits WasmValue answer values = on_some (wasm_of answer) Misfits (Gives values)
-use_of bits EntryValue answer values = on_some (entry_of answer) Misfits (Gives values)
-use_of bits (FrameBase offset) answer values = on_some (frame_base_of answer) Misfits (λ n. Gives values (Generic (residue 64 (pos n +ℤ offset))))
-use_of bits Tls answer values = on_some (tls_of answer) Misfits (λ n. Gives values (Generic n))
-use_of bits CallFrameCfa answer values = on_some (cfa_of answer) Misfits (λ n. Gives values (Generic n))
-use_of bits ParameterRef answer values = on_some (parameter_of answer) Misfits (λ n. Gives values (Generic n))
-use_of bits RelocatedAddress answer values = on_some (relocated_of answer) Misfits (λ n. Gives values (Generic n))
-use_of bits IndexedAddress answer values = on_some (indexed_of answer) Misfits (λ n. Gives values (Generic n))
-use_of bits AtLocation answer values = on_some (location_of answer) Misfits Calls
+    on_some (register_in answer) WrongKind (λ x. on_result (result_of (add_of bits x (from_u64_of (type_of x) (residue 64 offset)))) FaultUse (PushesAnswer values))
+use_of bits WasmValue answer values = on_some (wasm_in answer) WrongKind (PushesAnswer values)
+use_of bits EntryValue answer values = on_some (entry_in answer) WrongKind (PushesAnswer values)
+use_of bits (FrameBase offset) answer values = on_some (frame_base_in answer) WrongKind (λ n. PushesAnswer values (Generic (residue 64 (pos n +ℤ offset))))
+use_of bits Tls answer values = on_some (tls_in answer) WrongKind (λ n. PushesAnswer values (Generic n))
+use_of bits CallFrameCfa answer values = on_some (cfa_in answer) WrongKind (λ n. PushesAnswer values (Generic n))
+use_of bits ParameterRef answer values = on_some (parameter_in answer) WrongKind (λ n. PushesAnswer values (Generic n))
+use_of bits RelocatedAddress answer values = on_some (relocated_in answer) WrongKind (λ n. PushesAnswer values (Generic n))
+use_of bits IndexedAddress answer values = on_some (indexed_in answer) WrongKind (λ n. PushesAnswer values (Generic n))
+use_of bits AtLocation answer values = on_some (location_in answer) WrongKind Calls
 use_of bits (TypedLiteral value) answer values =
-    on_some (base_type_of answer) Misfits (λ kind. on_answer (parse_of kind value.is_big value.bytes) Denies (Gives values))
+    on_some (base_type_in answer) WrongKind (λ kind. on_result (parse_of kind value.is_big value.bytes) FaultUse (PushesAnswer values))
 use_of bits Convert answer values =
-    on_some (base_type_of answer) Misfits (λ kind. on_top values (Denies NotEnoughStackItems) (λ x rest. on_answer (answer_of (convert_of bits kind x)) Denies (Gives rest)))
+    on_some (base_type_in answer) WrongKind (λ kind. on_top values (FaultUse NotEnoughStackItems) (λ x rest. on_result (result_of (convert_of bits kind x)) FaultUse (PushesAnswer rest)))
 use_of bits Reinterpret answer values =
-    on_some (base_type_of answer) Misfits (λ kind. on_top values (Denies NotEnoughStackItems) (λ x rest. on_answer (answer_of (reinterpret_of bits kind x)) Denies (Gives rest)))
+    on_some (base_type_in answer) WrongKind (λ kind. on_top values (FaultUse NotEnoughStackItems) (λ x rest. on_result (result_of (reinterpret_of bits kind x)) FaultUse (PushesAnswer rest)))

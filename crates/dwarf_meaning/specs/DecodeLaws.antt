@@ -1,32 +1,32 @@
--- Laws of spelling, refusal and splitting (DWARF 5, sections 2.5 and 7.7.1).
+-- Laws of spelling, of malformed bytes and of splitting (DWARF 5, sections 2.5 and 7.7.1).
 use Rattle.std.specs.Prelude.{ℕ, ◌<◌, ◌≤◌, ◌≡◌, ◌⊎◌, ◌↔◌, Bool, List, ◌∷◌, ◌++◌, Ok, Err, Option, None, length}
 use Rattle.dwarf_base.specs.declared.common.Encoding.{Encoding}
 use Rattle.dwarf_base.specs.Faults.{Fault, UnexpectedEof, BadUnsignedLeb128, BadSignedLeb128, UnsupportedAddressSize, UnsupportedOffset, UnsupportedRegister, InvalidExpression, InvalidPieceSize}
 use Rattle.dwarf_base.specs.Fronts.{Begins}
 use Rattle.dwarf_meaning.specs.Operations.{Operation, Text}
 use Rattle.dwarf_meaning.specs.Decoding.{operation_at}
-use Rattle.dwarf_meaning.specs.Spelling.{Spells, Refused}
+use Rattle.dwarf_meaning.specs.Spelling.{Spells, Malformed}
 use Rattle.dwarf_meaning.specs.Splitting.{Splitting, Joined, items_of, items_at}
 
--- an operation is read exactly where a front spells it, and a fault is met exactly where the bytes are refused by it
+-- an operation is read exactly where a front spells it, and a fault is met exactly where the bytes are malformed, by it
 pub record ReadsExactlyTheSpelled (encoding : Encoding) (offset_bits : ℕ) (text : Text) : Type 0 where
   pub operation : (op : Operation) (rest : List ℕ)
       → (operation_at encoding offset_bits text ≡ Ok (op, rest)) ↔ Begins (Spells encoding offset_bits text.is_big) text.bytes op rest
   pub fault : (fault : Fault)
-      → (operation_at encoding offset_bits text ≡ Err fault) ↔ Refused encoding offset_bits text.is_big text.bytes fault
+      → (operation_at encoding offset_bits text ≡ Err fault) ↔ Malformed encoding offset_bits text.is_big text.bytes fault
 
--- one front spells, and one operation, or the bytes are refused by one fault, and never both
+-- one front spells, and one operation, or the bytes are malformed by one fault, and never both
 pub record IsDecided (encoding : Encoding) (offset_bits : ℕ) (is_big : Bool) (bytes : List ℕ) : Type 0 where
-  pub either : ((op : Operation) × ((rest : List ℕ) × Begins (Spells encoding offset_bits is_big) bytes op rest)) ⊎ ((fault : Fault) × Refused encoding offset_bits is_big bytes fault)
+  pub either : ((op : Operation) × ((rest : List ℕ) × Begins (Spells encoding offset_bits is_big) bytes op rest)) ⊎ ((fault : Fault) × Malformed encoding offset_bits is_big bytes fault)
   pub not_both : (op : Operation) (rest : List ℕ) (fault : Fault)
-      → Begins (Spells encoding offset_bits is_big) bytes op rest → Refused encoding offset_bits is_big bytes fault → ⊥
+      → Begins (Spells encoding offset_bits is_big) bytes op rest → Malformed encoding offset_bits is_big bytes fault → ⊥
   pub one_front : (first second : Operation) (rest others : List ℕ) (a : Begins (Spells encoding offset_bits is_big) bytes first rest) (b : Begins (Spells encoding offset_bits is_big) bytes second others)
       → a.front ≡ b.front
   pub one_operation : (first second : Operation) (rest others : List ℕ)
       → Begins (Spells encoding offset_bits is_big) bytes first rest
       → Begins (Spells encoding offset_bits is_big) bytes second others → first ≡ second
-  pub one_fault : (first second : Fault) → Refused encoding offset_bits is_big bytes first
-      → Refused encoding offset_bits is_big bytes second → first ≡ second
+  pub one_fault : (first second : Fault) → Malformed encoding offset_bits is_big bytes first
+      → Malformed encoding offset_bits is_big bytes second → first ≡ second
 
 -- an operation's bytes are some, are read the same whatever follows, and every front of them that lacks a byte is cut off
 pub record IsWhole (encoding : Encoding) (offset_bits : ℕ) (is_big : Bool) (bytes : List ℕ) (op : Operation) : Type 0 where
@@ -34,7 +34,7 @@ pub record IsWhole (encoding : Encoding) (offset_bits : ℕ) (is_big : Bool) (by
   pub whatever_follows : (rest : List ℕ)
       → operation_at encoding offset_bits (record { bytes = bytes ++ rest; is_big = is_big }) ≡ Ok (op, rest)
   pub cut_off : (before : List ℕ) (byte : ℕ) (after : List ℕ) → before ++ (byte ∷ after) ≡ bytes
-      → Refused encoding offset_bits is_big before UnexpectedEof
+      → Malformed encoding offset_bits is_big before UnexpectedEof
 
 -- a list of bytes has one splitting
 pub record SplitsOnce (encoding : Encoding) (offset_bits : ℕ) (is_big : Bool) (bytes : List ℕ) : Type 0 where

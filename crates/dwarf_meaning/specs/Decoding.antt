@@ -5,7 +5,7 @@ use Rattle.dwarf_base.specs.Faults.{Fault, InvalidExpression, ◌>>=◌}
 use Rattle.dwarf_base.specs.Leb.{uleb_at, sleb_at}
 use Rattle.dwarf_base.specs.Reads.{u8_at, fixed_at, signed_at, address_at, split_at}
 use Rattle.dwarf_meaning.specs.Operations.{Operation, Text}
-use Rattle.dwarf_meaning.specs.Operands.{Context, context_of, block_of, Form, SignedForm, SignedFixed, SignedLeb128, Layout, InBytes, InAddress, InLeb128, layout_of, value_of}
+use Rattle.dwarf_meaning.specs.Operands.{Context, context_of, block_of, Form, SignedForm, SignedFixed, SignedLeb128, Layout, InBytes, InAddress, InLeb128, layout_of, operand_value}
 use Rattle.dwarf_meaning.specs.Opcodes.{Row, Makes, Unsigned, Signed, Block, Invalid, row_of}
 
 -- a number in its layout
@@ -17,7 +17,7 @@ number_at big InLeb128 bytes = uleb_at bytes
 -- an unsigned operand
 abbrev pub unsigned_at : Context → Form → List ℕ → Result (ℕ × List ℕ) Fault
 unsigned_at context form bytes =
-    number_at context.is_big (layout_of context.encoding form) bytes >>= λ number. value_of context.offset_bits form number.0 >>= λ value. Ok (value, number.1)
+    number_at context.is_big (layout_of context.encoding form) bytes >>= λ number. operand_value context.offset_bits form number.0 >>= λ value. Ok (value, number.1)
 
 -- a signed operand
 abbrev pub integer_at : (big : Bool) → SignedForm → List ℕ → Result (ℤ × List ℕ) Fault

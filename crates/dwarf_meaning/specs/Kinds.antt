@@ -2,6 +2,7 @@
 use Rattle.dwarf_meaning.specs.Requests as asked
 use Rattle.dwarf_meaning.specs.Requests.{Request, Waiting, Answer}
 
+-- the twelve kinds
 pub data Kind : Type 0 where
   Memory : Kind
   Register : Kind
@@ -16,6 +17,7 @@ pub data Kind : Type 0 where
   AtLocation : Kind
   BaseType : Kind
 
+-- the kind of answer that a request wants
 abbrev pub kind_of_request : Request → Kind
 kind_of_request (asked.RequiresMemory address size space base_type) = Memory
 kind_of_request (asked.RequiresRegister register base_type) = Register
@@ -32,6 +34,7 @@ kind_of_request (asked.RequiresRelocatedAddress address) = RelocatedAddress
 kind_of_request (asked.RequiresIndexedAddress index relocate) = IndexedAddress
 kind_of_request (asked.RequiresBaseType base_type) = BaseType
 
+-- the kind of answer that is waited for
 abbrev pub kind_of_waiting : Waiting → Kind
 kind_of_waiting asked.Memory = Memory
 kind_of_waiting (asked.Register offset) = Register
@@ -48,6 +51,7 @@ kind_of_waiting (asked.TypedLiteral value) = BaseType
 kind_of_waiting asked.Convert = BaseType
 kind_of_waiting asked.Reinterpret = BaseType
 
+-- the kind of an answer
 abbrev pub kind_of_answer : Answer → Kind
 kind_of_answer (asked.MemoryAnswer value) = Memory
 kind_of_answer (asked.RegisterAnswer value) = Register

@@ -9,21 +9,23 @@ use Rattle.dwarf_meaning.specs.Locations.{Location, AtAddress, Piece}
 use Rattle.dwarf_meaning.specs.Requests.{Request, Input}
 use Rattle.dwarf_meaning.specs.Acts.{choose, on_top}
 use Rattle.dwarf_meaning.specs.Stores.{Setup, address_bits, Store, Last, Nothing, Plain, Pieced, Pushed, Called, Located, Refusal, push_value, push_piece}
-use Rattle.dwarf_meaning.specs.Run.{Frame, End, Finished, Asking, Failed, Course, ended, run}
+use Rattle.dwarf_meaning.specs.Run.{Position, End, CompleteEnd, RequestEnd, FaultEnd, Course, only_end, run}
 
 -- what comes of an evaluation
 pub data Outcome : Type 0 where
   -- a request, with the texts that are open, the innermost first, each at the place behind what was begun last
-  Requests : Request → List Frame → Outcome
-  Faults : Fault → Outcome
-  Completes : List Piece → Option Value → Outcome
+  RequestOutcome : Request → List Position → Outcome
+  FaultOutcome : Fault → Outcome
+  CompleteOutcome : List Piece → Option Value → Outcome
 
-abbrev pub completed : Option Value → Result Store Fault → Outcome
-completed value (Ok s) = Completes s.pieces value
-completed value (Err fault) = Faults fault
+-- completion with this value, where the last push found room
+abbrev pub completion_of : Option Value → Result Store Fault → Outcome
+completion_of value (Ok s) = CompleteOutcome s.pieces value
+completion_of value (Err fault) = FaultOutcome fault
 
 -- ---- the end of the outermost text
 
+-- whether there is a piece
 abbrev pub has_pieces : List Piece → Bool
 has_pieces [] = false
 has_pieces (piece ∷ pieces) = true
@@ -32,22 +34,25 @@ has_pieces (piece ∷ pieces) = true
 abbrev pub whole : Location → Piece
 whole location = record { size_in_bits = None; bit_offset = None; location = location }
 
+-- behind a location, which is the whole variable
 abbrev pub finish_located : Setup → Location → Store → Outcome
-finish_located setup location s = choose (has_pieces s.pieces) (Faults InvalidPiece) (completed None (push_piece setup (whole location) s))
+finish_located setup location s = choose (has_pieces s.pieces) (FaultOutcome InvalidPiece) (completion_of None (push_piece setup (whole location) s))
 
 -- the top is the value, and the address of the whole variable
 abbrev pub finish_value : Setup → Store → Outcome
 finish_value setup s =
-    on_top s.values (Faults NotEnoughStackItems)
-    (λ x rest. completed (Some x) (push_piece setup (whole (AtAddress (to_u64_of (address_bits setup) x))) (record s { values = rest })))
+    on_top s.values (FaultOutcome NotEnoughStackItems)
+    (λ x rest. completion_of (Some x) (push_piece setup (whole (AtAddress (to_u64_of (address_bits setup) x))) (record s { values = rest })))
 
 -- behind an operation that may not follow pieces
 abbrev pub finish_judged : Setup → Store → Outcome
-finish_judged setup s = choose (has_pieces s.pieces) (Faults InvalidPiece) (finish_value setup s)
+finish_judged setup s = choose (has_pieces s.pieces) (FaultOutcome InvalidPiece) (finish_value setup s)
 
+-- behind an operation that may follow pieces
 abbrev pub finish_free : Setup → Store → Outcome
-finish_free setup s = choose (has_pieces s.pieces) (Completes s.pieces None) (finish_value setup s)
+finish_free setup s = choose (has_pieces s.pieces) (CompleteOutcome s.pieces None) (finish_value setup s)
 
+-- the end, by the last operation
 abbrev pub finish_by : Setup → Store → Last → Outcome
 finish_by setup s (Located location) = finish_located setup location s
 finish_by setup s Plain = finish_judged setup s
@@ -56,17 +61,18 @@ finish_by setup s Nothing = finish_free setup s
 finish_by setup s Pieced = finish_free setup s
 finish_by setup s Called = finish_free setup s
 
+-- the end of the outermost text
 abbrev pub finish : Setup → Store → Outcome
 finish setup s = finish_by setup s s.last
 
 -- ---- the whole
 
 -- The rest of the callers follows a run, inside out, and then the end.
-abbrev pub unwound : Setup → List Frame → End → Outcome
-unwound setup [] (Finished s inputs) = finish setup s
-unwound setup (caller ∷ callers) (Finished s inputs) = unwound setup callers (run setup caller.text caller.place (length callers) s inputs).end
-unwound setup callers (Asking request frames inputs) = Requests request (frames ++ callers)
-unwound setup callers (Failed fault) = Faults fault
+abbrev pub unwound : Setup → List Position → End → Outcome
+unwound setup [] (CompleteEnd s inputs) = finish setup s
+unwound setup (caller ∷ callers) (CompleteEnd s inputs) = unwound setup callers (run setup caller.text caller.place (length callers) s inputs).end
+unwound setup callers (RequestEnd request positions inputs) = RequestOutcome request (positions ++ callers)
+unwound setup callers (FaultEnd fault) = FaultOutcome fault
 
 -- the settings when an evaluation starts
 pub record First : Type 0 where
@@ -74,17 +80,20 @@ pub record First : Type 0 where
   pub object_address : Option ℕ
   pub maximum : ℕ
 
+-- what is kept at the start: nothing but the settings
 abbrev pub fresh : First → Refusal → Store
 fresh first refusal =
     record { values = []; pieces = []; count = 0; object_address = first.object_address; maximum = first.maximum; last = Nothing; refusal = refusal }
 
+-- the initial value is pushed, where there is one
 abbrev pub with_initial : Setup → Option ℕ → Store → Result Store Fault
 with_initial setup None s = Ok s
 with_initial setup (Some number) s = push_value setup (Generic number) s
 
+-- the run of a text from its beginning, where the initial value found room
 abbrev pub course_from : Setup → Text → List Input → Result Store Fault → Course
 course_from setup text inputs (Ok s) = run setup text 0 0 s inputs
-course_from setup text inputs (Err fault) = ended (Failed fault)
+course_from setup text inputs (Err fault) = only_end (FaultEnd fault)
 
 -- the run of a text, from its settings and the inputs after them
 abbrev pub course_of : Setup → Refusal → Text → First → List Input → Course

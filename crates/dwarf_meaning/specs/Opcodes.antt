@@ -17,6 +17,7 @@ pub data Row : Type 0 where
 abbrev pub unsigned : Form → (ℕ → Operation) → Row
 unsigned form make = Unsigned form (λ number. Makes (make number))
 
+-- one signed operand
 abbrev pub signed : SignedForm → (ℤ → Operation) → Row
 signed form make = Signed form (λ number. Makes (make number))
 
@@ -24,6 +25,7 @@ signed form make = Signed form (λ number. Makes (make number))
 abbrev pub unsigned_two : Form → Form → (ℕ → ℕ → Operation) → Row
 unsigned_two first second make = Unsigned first (λ number. unsigned second (make number))
 
+-- an unsigned operand, then a signed one
 abbrev pub unsigned_signed : Form → SignedForm → (ℕ → ℤ → Operation) → Row
 unsigned_signed first second make = Unsigned first (λ number. signed second (make number))
 

@@ -12,6 +12,7 @@ pub record Context : Type 0 where
   pub offset_bits : ℕ
   pub is_big : Bool
 
+-- the three together
 abbrev pub context_of : Encoding → (offset_bits : ℕ) → (is_big : Bool) → Context
 context_of encoding offset_bits is_big = record { encoding = encoding; offset_bits = offset_bits; is_big = is_big }
 
@@ -56,11 +57,11 @@ layout_of encoding InfoReference = reference_layout encoding
 layout_of encoding _ = InLeb128
 
 -- the number as the operand's value, or the fault of a number that is out of the operand's range
-abbrev pub value_of : (offset_bits : ℕ) → Form → (number : ℕ) → Result ℕ Fault
-value_of bits Offset number = offset_of bits number
-value_of bits SectionOffset number = offset_of bits number
-value_of bits InfoReference number = offset_of bits number
-value_of bits RegisterNumber number = register_of number
-value_of bits PieceSize number = if nat_lt (8 * number) (2 ^ 64) then Ok number else Err (InvalidPieceSize number)
-value_of bits WasmIndex number = if nat_lt number (2 ^ 32) then Ok number else Err BadUnsignedLeb128
-value_of bits _ number = Ok number
+abbrev pub operand_value : (offset_bits : ℕ) → Form → (number : ℕ) → Result ℕ Fault
+operand_value bits Offset number = offset_of bits number
+operand_value bits SectionOffset number = offset_of bits number
+operand_value bits InfoReference number = offset_of bits number
+operand_value bits RegisterNumber number = register_of number
+operand_value bits PieceSize number = if nat_lt (8 * number) (2 ^ 64) then Ok number else Err (InvalidPieceSize number)
+operand_value bits WasmIndex number = if nat_lt number (2 ^ 32) then Ok number else Err BadUnsignedLeb128
+operand_value bits _ number = Ok number

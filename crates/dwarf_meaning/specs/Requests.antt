@@ -60,50 +60,61 @@ pub record Input : Type 0 where
   pub answer : Answer
 
 -- what an answer of one kind says; an answer of another kind says nothing
-abbrev pub memory_of : Answer → Option Value
-memory_of (MemoryAnswer value) = Some value
-memory_of _ = None
+abbrev pub memory_in : Answer → Option Value
+memory_in (MemoryAnswer value) = Some value
+memory_in _ = None
 
-abbrev pub register_of : Answer → Option Value
-register_of (RegisterAnswer value) = Some value
-register_of _ = None
+-- the value of a register
+abbrev pub register_in : Answer → Option Value
+register_in (RegisterAnswer value) = Some value
+register_in _ = None
 
-abbrev pub wasm_of : Answer → Option Value
-wasm_of (WasmAnswer value) = Some value
-wasm_of _ = None
+-- the value of a WebAssembly machine
+abbrev pub wasm_in : Answer → Option Value
+wasm_in (WasmAnswer value) = Some value
+wasm_in _ = None
 
-abbrev pub entry_of : Answer → Option Value
-entry_of (EntryAnswer value) = Some value
-entry_of _ = None
+-- the value at the function's entry
+abbrev pub entry_in : Answer → Option Value
+entry_in (EntryAnswer value) = Some value
+entry_in _ = None
 
-abbrev pub frame_base_of : Answer → Option ℕ
-frame_base_of (FrameBaseAnswer number) = Some number
-frame_base_of _ = None
+-- the frame base
+abbrev pub frame_base_in : Answer → Option ℕ
+frame_base_in (FrameBaseAnswer number) = Some number
+frame_base_in _ = None
 
-abbrev pub tls_of : Answer → Option ℕ
-tls_of (TlsAnswer number) = Some number
-tls_of _ = None
+-- the address of a thread's slot
+abbrev pub tls_in : Answer → Option ℕ
+tls_in (TlsAnswer number) = Some number
+tls_in _ = None
 
-abbrev pub cfa_of : Answer → Option ℕ
-cfa_of (CfaAnswer number) = Some number
-cfa_of _ = None
+-- the canonical frame address
+abbrev pub cfa_in : Answer → Option ℕ
+cfa_in (CfaAnswer number) = Some number
+cfa_in _ = None
 
-abbrev pub parameter_of : Answer → Option ℕ
-parameter_of (ParameterAnswer number) = Some number
-parameter_of _ = None
+-- the parameter's number
+abbrev pub parameter_in : Answer → Option ℕ
+parameter_in (ParameterAnswer number) = Some number
+parameter_in _ = None
 
-abbrev pub relocated_of : Answer → Option ℕ
-relocated_of (RelocatedAnswer number) = Some number
-relocated_of _ = None
+-- the relocated address
+abbrev pub relocated_in : Answer → Option ℕ
+relocated_in (RelocatedAnswer number) = Some number
+relocated_in _ = None
 
-abbrev pub indexed_of : Answer → Option ℕ
-indexed_of (IndexedAnswer number) = Some number
-indexed_of _ = None
+-- the address of an index
+abbrev pub indexed_in : Answer → Option ℕ
+indexed_in (IndexedAnswer number) = Some number
+indexed_in _ = None
 
-abbrev pub location_of : Answer → Option Text
-location_of (LocationAnswer text) = Some text
-location_of _ = None
+-- the called text
+abbrev pub location_in : Answer → Option Text
+location_in (LocationAnswer text) = Some text
+location_in _ = None
 
-abbrev pub base_type_of : Answer → Option ValueType
-base_type_of (BaseTypeAnswer value_type) = Some value_type
-base_type_of _ = None
+-- the base type
+abbrev pub base_type_in : Answer → Option ValueType
+base_type_in (BaseTypeAnswer value_type) = Some value_type
+base_type_in _ = None

@@ -6,17 +6,18 @@ use Rattle.dwarf_value.specs.declared.types.Value.{Value}
 use Rattle.dwarf_meaning.specs.Operations.{Text}
 use Rattle.dwarf_meaning.specs.Requests.{Request, Waiting, Input}
 use Rattle.dwarf_meaning.specs.Stores.{Setup, Store, Refusal}
-use Rattle.dwarf_meaning.specs.Run.{Frame, run, asked}
-use Rattle.dwarf_meaning.specs.Meaning.{Outcome, Faults, Completes, unwound, with_initial}
+use Rattle.dwarf_meaning.specs.Run.{Position, run, await_answer}
+use Rattle.dwarf_meaning.specs.Meaning.{Outcome, FaultOutcome, CompleteOutcome, unwound, with_initial}
 
 -- where an evaluation stands
 pub data Status : Type 0 where
   Start : (initial_value : Option ℕ) → Status
   Running : Status
-  Waits : Request → Waiting → Status
-  Complete : (value : Option Value) → Status
-  Stopped : Error → Status
+  RequestStatus : Request → Waiting → Status
+  CompleteStatus : (value : Option Value) → Status
+  FaultStatus : Error → Status
 
+-- the state of an evaluation
 pub record State : Type 0 where
   pub status : Status
   pub setup : Setup
@@ -24,32 +25,36 @@ pub record State : Type 0 where
   pub text : Text
   pub place : ℕ
   -- its callers, the innermost first, each with the place where it goes on
-  pub callers : List Frame
+  pub callers : List Position
   pub store : Store
   -- how often an operation was decoded; nothing depends on it
   pub decodings : ℕ
 
+-- the same store, with this refusal to come
 abbrev pub with_refusal : Refusal → Store → Store
 with_refusal refusal s = record s { refusal = refusal }
 
-abbrev pub running : State → Store → List Input → Outcome
-running x s inputs = unwound x.setup x.callers (run x.setup x.text x.place (length x.callers) s inputs).end
+-- the run goes on, and then the callers' rest
+abbrev pub rest_of_run : State → Store → List Input → Outcome
+rest_of_run x s inputs = unwound x.setup x.callers (run x.setup x.text x.place (length x.callers) s inputs).end
 
-abbrev pub started : State → List Input → Result Store Fault → Outcome
-started x inputs (Ok s) = running x s inputs
-started x inputs (Err fault) = Faults fault
+-- the run begins, where the initial value found room
+abbrev pub rest_from_start : State → List Input → Result Store Fault → Outcome
+rest_from_start x inputs (Ok s) = rest_of_run x s inputs
+rest_from_start x inputs (Err fault) = FaultOutcome fault
 
 -- the open request takes the first input
-abbrev pub waits : State → Request → Waiting → Store → List Input → Outcome
-waits x request waiting s inputs =
-    unwound x.setup x.callers (asked (run x.setup) x.setup (record { text = x.text; place = x.place }) (length x.callers) request waiting s inputs).end
+abbrev pub rest_of_request : State → Request → Waiting → Store → List Input → Outcome
+rest_of_request x request waiting s inputs =
+    unwound x.setup x.callers (await_answer (run x.setup) x.setup (record { text = x.text; place = x.place }) (length x.callers) request waiting s inputs).end
 
+-- the same by the status
 abbrev pub rest_by : State → Store → List Input → Status → Outcome
-rest_by x s inputs (Start initial_value) = started x inputs (with_initial x.setup initial_value s)
-rest_by x s inputs Running = running x s inputs
-rest_by x s inputs (Waits request waiting) = waits x request waiting s inputs
-rest_by x s inputs (Complete value) = Completes s.pieces value
-rest_by x s inputs (Stopped error) = Faults (fault_of error)
+rest_by x s inputs (Start initial_value) = rest_from_start x inputs (with_initial x.setup initial_value s)
+rest_by x s inputs Running = rest_of_run x s inputs
+rest_by x s inputs (RequestStatus request waiting) = rest_of_request x request waiting s inputs
+rest_by x s inputs (CompleteStatus value) = CompleteOutcome s.pieces value
+rest_by x s inputs (FaultStatus error) = FaultOutcome (fault_of error)
 
 -- what comes of a state with these inputs, where this push is refused
 unfoldable pub rest : Refusal → State → List Input → Outcome

@@ -6,8 +6,8 @@ use Rattle.dwarf_meaning.specs.Operations.{Text}
 use Rattle.dwarf_meaning.specs.Locations.{Location, AtAddress, Piece}
 use Rattle.dwarf_meaning.specs.Requests.{Answer, LocationAnswer, Input}
 use Rattle.dwarf_meaning.specs.Stores.{Limits, Setup}
-use Rattle.dwarf_meaning.specs.Run.{Frame}
-use Rattle.dwarf_meaning.specs.Meaning.{Outcome, Completes, First, whole}
+use Rattle.dwarf_meaning.specs.Run.{Position}
+use Rattle.dwarf_meaning.specs.Meaning.{Outcome, CompleteOutcome, First, whole}
 
 -- bytes in little-endian order
 abbrev pub text : List ℕ → Text
@@ -15,7 +15,7 @@ text bytes = record { bytes = bytes; is_big = false }
 
 -- no list has a limit
 abbrev pub no_limits : Limits
-no_limits = record { values = None; frames = None; pieces = None }
+no_limits = record { values = None; callers = None; pieces = None }
 
 -- addresses of 4 bytes, the 32-bit format, version 4, offsets of 64 bits
 abbrev pub with_limits : Limits → Setup
@@ -44,7 +44,7 @@ abbrev pub calls : List ℕ → Answer
 calls bytes = LocationAnswer (text bytes)
 
 -- a text that is open at a place
-abbrev pub open_at : List ℕ → (place : ℕ) → Frame
+abbrev pub open_at : List ℕ → (place : ℕ) → Position
 open_at bytes place = record { text = text bytes; place = place }
 
 -- a piece of 32 bits
@@ -53,8 +53,8 @@ word_at location = record { size_in_bits = Some 32; bit_offset = None; location 
 
 -- a generic value, and the whole variable at this address
 abbrev pub valued : (number address : ℕ) → Outcome
-valued number address = Completes (whole (AtAddress address) ∷ []) (Some (Generic number))
+valued number address = CompleteOutcome (whole (AtAddress address) ∷ []) (Some (Generic number))
 
 -- pieces, and no value
 abbrev pub pieced : List Piece → Outcome
-pieced pieces = Completes pieces None
+pieced pieces = CompleteOutcome pieces None

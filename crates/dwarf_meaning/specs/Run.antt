@@ -6,85 +6,92 @@ use Rattle.dwarf_meaning.specs.Operations.{Operation, Text}
 use Rattle.dwarf_meaning.specs.Locations.{Location}
 use Rattle.dwarf_meaning.specs.Decoding.{operation_at}
 use Rattle.dwarf_meaning.specs.Requests.{Request, Waiting, Input}
-use Rattle.dwarf_meaning.specs.Acts.{choose, act, Use, Gives, Calls, Denies, Misfits, use_of}
-use Rattle.dwarf_meaning.specs.Stores.{Setup, address_bits, Store, Last, Nothing, Plain, Pieced, Pushed, Called, Located, taken, push_value, push_piece, push_frame, Next, Goes, Stops, Fails, goes, done}
+use Rattle.dwarf_meaning.specs.Acts.{choose, act, Use, PushesAnswer, Calls, FaultUse, WrongKind, use_of}
+use Rattle.dwarf_meaning.specs.Stores.{Setup, address_bits, Store, Last, Nothing, Plain, Pieced, Pushed, Called, Located, taken, push_value, push_piece, push_caller, Next, Goes, RequestNext, FaultNext, goes, done}
 
 -- a text and a place in it
-pub record Frame : Type 0 where
+pub record Position : Type 0 where
   pub text : Text
   pub place : ℕ
 
 -- How a run ends: at the end of its text, with what it kept and the inputs that are left; in a request, with
 -- the texts that are open, the innermost first, and the inputs that are left; or in a fault.
 pub data End : Type 0 where
-  Finished : Store → List Input → End
-  Asking : Request → List Frame → List Input → End
-  Failed : Fault → End
+  CompleteEnd : Store → List Input → End
+  RequestEnd : Request → List Position → List Input → End
+  FaultEnd : Fault → End
 
 -- A run: where the operations stand that were counted, what was asked, and how it ends.
 pub record Course : Type 0 where
-  pub path : List Frame
+  pub path : List Position
   pub requests : List Request
   pub end : End
 
-abbrev pub ended : End → Course
-ended end = record { path = []; requests = []; end = end }
+-- a course with nothing but an end
+abbrev pub only_end : End → Course
+only_end end = record { path = []; requests = []; end = end }
 
-abbrev pub passing : Frame → Course → Course
-passing frame course = record course { path = frame ∷ course.path }
+-- the operation at this position is counted, and then the course
+abbrev pub add_to_path : Position → Course → Course
+add_to_path position course = record course { path = position ∷ course.path }
 
-abbrev pub asking : Request → Course → Course
-asking request course = record course { requests = request ∷ course.requests }
+-- a request, and then the course
+abbrev pub add_request : Request → Course → Course
+add_request request course = record course { requests = request ∷ course.requests }
 
 -- one course and then another
-abbrev pub joined : Course → Course → Course
-joined first second = record { path = first.path ++ second.path; requests = first.requests ++ second.requests; end = second.end }
+abbrev pub append_course : Course → Course → Course
+append_course first second = record { path = first.path ++ second.path; requests = first.requests ++ second.requests; end = second.end }
 
 -- how a run goes on: in a text, at a place, at a depth of calls, with what is kept and the inputs to come
 abbrev pub Continues : Type 0
 Continues = (text : Text) (place depth : ℕ) → Store → List Input → Course
 
 -- the caller's rest, behind its callee's course
-abbrev pub back : Continues → Frame → (depth : ℕ) → Course → End → Course
-back go frame depth course (Finished s inputs) = joined course (go frame.text frame.place depth s inputs)
-back go frame depth course (Asking request frames inputs) = record course { end = Asking request (frames ++ frame ∷ []) inputs }
-back go frame depth course (Failed fault) = record course { end = Failed fault }
+abbrev pub return_to_caller : Continues → Position → (depth : ℕ) → Course → End → Course
+return_to_caller go position depth course (CompleteEnd s inputs) = append_course course (go position.text position.place depth s inputs)
+return_to_caller go position depth course (RequestEnd request positions inputs) = record course { end = RequestEnd request (positions ++ position ∷ []) inputs }
+return_to_caller go position depth course (FaultEnd fault) = record course { end = FaultEnd fault }
 
-abbrev pub resumed : Continues → Frame → (depth : ℕ) → List Input → Result Store Fault → Course
-resumed go frame depth inputs (Ok s) = go frame.text frame.place depth s inputs
-resumed go frame depth inputs (Err fault) = ended (Failed fault)
+-- on from a position, where the push found room
+abbrev pub after_push : Continues → Position → (depth : ℕ) → List Input → Result Store Fault → Course
+after_push go position depth inputs (Ok s) = go position.text position.place depth s inputs
+after_push go position depth inputs (Err fault) = only_end (FaultEnd fault)
 
-abbrev pub entered : Continues → Frame → (depth : ℕ) → Text → List Input → Result Store Fault → Course
-entered go frame depth callee inputs (Ok s) = let course = go callee 0 (suc depth) s inputs in back go frame depth course course.end
-entered go frame depth callee inputs (Err fault) = ended (Failed fault)
+-- a callee is run from its beginning, where its caller found room, and then the caller's rest
+abbrev pub enter_callee : Continues → Position → (depth : ℕ) → Text → List Input → Result Store Fault → Course
+enter_callee go position depth callee inputs (Ok s) = let course = go callee 0 (suc depth) s inputs in return_to_caller go position depth course course.end
+enter_callee go position depth callee inputs (Err fault) = only_end (FaultEnd fault)
 
 -- a call goes on at once where it was answered by no bytes
-abbrev pub called : Continues → Setup → Frame → (depth : ℕ) → Text → List ℕ → Store → List Input → Course
-called go setup frame depth callee [] s inputs = go frame.text frame.place depth (record s { last = Called }) inputs
-called go setup frame depth callee (byte ∷ bytes) s inputs = entered go frame depth callee inputs (push_frame setup depth s)
+abbrev pub run_callee : Continues → Setup → Position → (depth : ℕ) → Text → List ℕ → Store → List Input → Course
+run_callee go setup position depth callee [] s inputs = go position.text position.place depth (record s { last = Called }) inputs
+run_callee go setup position depth callee (byte ∷ bytes) s inputs = enter_callee go position depth callee inputs (push_caller setup depth s)
 
-abbrev pub used : Continues → Setup → Frame → (depth : ℕ) → Use → Store → List Input → Course → Course
-used go setup frame depth (Gives rest value) s inputs unanswered = resumed go frame depth inputs (push_value setup value (record s { values = rest; last = Pushed }))
-used go setup frame depth (Calls callee) s inputs unanswered = called go setup frame depth callee callee.bytes s inputs
-used go setup frame depth (Denies fault) s inputs unanswered = ended (Failed fault)
-used go setup frame depth Misfits s inputs unanswered = unanswered
+-- what an answer is used for
+abbrev pub after_answer : Continues → Setup → Position → (depth : ℕ) → Use → Store → List Input → Course → Course
+after_answer go setup position depth (PushesAnswer rest value) s inputs unanswered = after_push go position depth inputs (push_value setup value (record s { values = rest; last = Pushed }))
+after_answer go setup position depth (Calls callee) s inputs unanswered = run_callee go setup position depth callee callee.bytes s inputs
+after_answer go setup position depth (FaultUse fault) s inputs unanswered = only_end (FaultEnd fault)
+after_answer go setup position depth WrongKind s inputs unanswered = unanswered
 
 -- what is kept once an input is taken
 abbrev pub with_input : Input → Store → Store
 with_input input s = record s { object_address = input.object_address; maximum = input.maximum; refusal = taken s.refusal }
 
 -- a request takes the next input; it stays open where there is none, or none of its kind
-abbrev pub asked : Continues → Setup → Frame → (depth : ℕ) → Request → Waiting → Store → List Input → Course
-asked go setup frame depth request waiting s [] = ended (Asking request (frame ∷ []) [])
-asked go setup frame depth request waiting s (input ∷ inputs) =
-    used go setup frame depth (use_of (address_bits setup) waiting input.answer s.values) (with_input input s) inputs
-    (ended (Asking request (frame ∷ []) (input ∷ inputs)))
+abbrev pub await_answer : Continues → Setup → Position → (depth : ℕ) → Request → Waiting → Store → List Input → Course
+await_answer go setup position depth request waiting s [] = only_end (RequestEnd request (position ∷ []) [])
+await_answer go setup position depth request waiting s (input ∷ inputs) =
+    after_answer go setup position depth (use_of (address_bits setup) waiting input.answer s.values) (with_input input s) inputs
+    (only_end (RequestEnd request (position ∷ []) (input ∷ inputs)))
 
-abbrev pub led : Continues → Setup → Text → (depth place : ℕ) → List Input → Next → Course
-led go setup text depth place inputs (Goes to s) = go text to depth s inputs
-led go setup text depth place inputs (Stops request waiting s) =
-    asking request (asked go setup (record { text = text; place = place }) depth request waiting s inputs)
-led go setup text depth place inputs (Fails fault) = ended (Failed fault)
+-- on at the place that an operation led to, or by the answer to its request
+abbrev pub after_operation : Continues → Setup → Text → (depth place : ℕ) → List Input → Next → Course
+after_operation go setup text depth place inputs (Goes to s) = go text to depth s inputs
+after_operation go setup text depth place inputs (RequestNext request waiting s) =
+    add_request request (await_answer go setup (record { text = text; place = place }) depth request waiting s inputs)
+after_operation go setup text depth place inputs (FaultNext fault) = only_end (FaultEnd fault)
 
 -- the operation at a place, and the bytes behind it
 abbrev pub read : Setup → Text → (place : ℕ) → Result (Operation × List ℕ) Fault
@@ -96,60 +103,66 @@ read setup text place = operation_at setup.encoding setup.offset_bits (record { 
 unfoldable pub most : ℕ
 most = 4294967295
 
+-- the maximum allows one more operation
 abbrev pub can_count : Store → Bool
 can_count s = nat_lt s.count s.maximum && nat_lt s.count most
 
+-- one more operation is counted
 abbrev pub counted : Store → Store
 counted s = record s { count = s.count + 1 }
 
-abbrev pub does : Continues → Setup → Text → (depth : ℕ) → Store → List Input → Result (Operation × List ℕ) Fault → Course
-does go setup text depth s inputs (Ok x) =
+-- the operation that was read is done
+abbrev pub do_operation : Continues → Setup → Text → (depth : ℕ) → Store → List Input → Result (Operation × List ℕ) Fault → Course
+do_operation go setup text depth s inputs (Ok x) =
     let place = length text.bytes - length x.1 in
-    led go setup text depth place inputs (done setup place (length text.bytes) (act (address_bits setup) s.object_address x.0 s.values) s)
-does go setup text depth s inputs (Err fault) = ended (Failed fault)
+    after_operation go setup text depth place inputs (done setup place (length text.bytes) (act (address_bits setup) s.object_address x.0 s.values) s)
+do_operation go setup text depth s inputs (Err fault) = only_end (FaultEnd fault)
 
-abbrev pub counts : Continues → Setup → Text → (place depth : ℕ) → Store → List Input → Course
-counts go setup text place depth s inputs =
+-- one more operation is counted, and done
+abbrev pub turn_counted : Continues → Setup → Text → (place depth : ℕ) → Store → List Input → Course
+turn_counted go setup text place depth s inputs =
     choose (can_count s)
-    (passing (record { text = text; place = place }) (does go setup text depth (counted s) inputs (read setup text place)))
-    (ended (Failed TooManyIterations))
+    (add_to_path (record { text = text; place = place }) (do_operation go setup text depth (counted s) inputs (read setup text place)))
+    (only_end (FaultEnd TooManyIterations))
 
 -- ---- a turn behind a location, which is not counted
 
 -- the size and the offset of a piece, in bits, where the operation ends one
-abbrev pub piece_of : Operation → Option (ℕ × Option ℕ)
-piece_of (operation.Piece size_in_bits bit_offset) = Some (size_in_bits, bit_offset)
-piece_of _ = None
+abbrev pub piece_ended_by : Operation → Option (ℕ × Option ℕ)
+piece_ended_by (operation.Piece size_in_bits bit_offset) = Some (size_in_bits, bit_offset)
+piece_ended_by _ = None
 
 -- Behind a location comes its piece, and nothing else; `place` is the one behind the operation.
-abbrev pub holds : Setup → Location → (place : ℕ) → Store → Option (ℕ × Option ℕ) → Next
-holds setup location place s (Some piece) =
+abbrev pub end_located : Setup → Location → (place : ℕ) → Store → Option (ℕ × Option ℕ) → Next
+end_located setup location place s (Some piece) =
     goes place (push_piece setup (record { size_in_bits = Some piece.0; bit_offset = piece.1; location = location }) (record s { last = Pieced }))
-holds setup location place s None = Fails (InvalidExpressionTerminator (place - 1))
+end_located setup location place s None = FaultNext (InvalidExpressionTerminator (place - 1))
 
-abbrev pub held : Continues → Setup → Text → (depth : ℕ) → Location → Store → List Input → Result (Operation × List ℕ) Fault → Course
-held go setup text depth location s inputs (Ok x) =
+-- the operation that was read ends the location's piece
+abbrev pub turn_located : Continues → Setup → Text → (depth : ℕ) → Location → Store → List Input → Result (Operation × List ℕ) Fault → Course
+turn_located go setup text depth location s inputs (Ok x) =
     let place = length text.bytes - length x.1 in
-    led go setup text depth place inputs (holds setup location place s (piece_of x.0))
-held go setup text depth location s inputs (Err fault) = ended (Failed fault)
+    after_operation go setup text depth place inputs (end_located setup location place s (piece_ended_by x.0))
+turn_located go setup text depth location s inputs (Err fault) = only_end (FaultEnd fault)
 
 -- ---- runs
 
+-- a turn by the last operation: behind a location, or one that is counted
 abbrev pub turn_by : Continues → Setup → Text → (place depth : ℕ) → Store → List Input → Last → Course
-turn_by go setup text place depth s inputs (Located location) = held go setup text depth location s inputs (read setup text place)
-turn_by go setup text place depth s inputs Nothing = counts go setup text place depth s inputs
-turn_by go setup text place depth s inputs Plain = counts go setup text place depth s inputs
-turn_by go setup text place depth s inputs Pieced = counts go setup text place depth s inputs
-turn_by go setup text place depth s inputs Pushed = counts go setup text place depth s inputs
-turn_by go setup text place depth s inputs Called = counts go setup text place depth s inputs
+turn_by go setup text place depth s inputs (Located location) = turn_located go setup text depth location s inputs (read setup text place)
+turn_by go setup text place depth s inputs Nothing = turn_counted go setup text place depth s inputs
+turn_by go setup text place depth s inputs Plain = turn_counted go setup text place depth s inputs
+turn_by go setup text place depth s inputs Pieced = turn_counted go setup text place depth s inputs
+turn_by go setup text place depth s inputs Pushed = turn_counted go setup text place depth s inputs
+turn_by go setup text place depth s inputs Called = turn_counted go setup text place depth s inputs
 
 -- the next operation, or the end of the text
 abbrev pub turn : Continues → Setup → Continues
-turn go setup text place depth s inputs = choose (place == length text.bytes) (ended (Finished s inputs)) (turn_by go setup text place depth s inputs s.last)
+turn go setup text place depth s inputs = choose (place == length text.bytes) (only_end (CompleteEnd s inputs)) (turn_by go setup text place depth s inputs s.last)
 
 -- no turn is left
 abbrev pub out_of_turns : Continues
-out_of_turns text place depth s inputs = ended (Failed TooManyIterations)
+out_of_turns text place depth s inputs = only_end (FaultEnd TooManyIterations)
 
 -- a run of at most so many turns
 unfoldable pub run_for : (turns : ℕ) → Setup → Continues

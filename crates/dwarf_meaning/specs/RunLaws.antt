@@ -3,8 +3,8 @@ use Rattle.std.specs.Prelude.{ℕ, ◌+◌, ◌-◌, ◌*◌, ◌<◌, ◌≤◌
 use Rattle.dwarf_meaning.specs.Operations.{Text}
 use Rattle.dwarf_meaning.specs.Requests.{Request, Input, LocationAnswer}
 use Rattle.dwarf_meaning.specs.Stores.{Limits, IsWithin, Store, Last, Located}
-use Rattle.dwarf_meaning.specs.Run.{Frame, End, Finished, Asking, Failed, Course, most}
-use Rattle.dwarf_meaning.specs.Meaning.{Outcome, Requests, Faults, Completes}
+use Rattle.dwarf_meaning.specs.Run.{Position, End, CompleteEnd, RequestEnd, FaultEnd, Course, most}
+use Rattle.dwarf_meaning.specs.Meaning.{Outcome, RequestOutcome, FaultOutcome, CompleteOutcome}
 
 -- ---- turns
 
@@ -21,16 +21,16 @@ turns_left s = 2 * (most - s.count) + waits_of s.last
 
 -- it doesn't wait for an input that is still to come
 abbrev pub IsSettled : End → Type 0
-IsSettled (Finished s left) = Unit {0}
-IsSettled (Asking request frames []) = ⊥
-IsSettled (Asking request frames (input ∷ inputs)) = Unit {0}
-IsSettled (Failed fault) = Unit {0}
+IsSettled (CompleteEnd s left) = Unit {0}
+IsSettled (RequestEnd request positions []) = ⊥
+IsSettled (RequestEnd request positions (input ∷ inputs)) = Unit {0}
+IsSettled (FaultEnd fault) = Unit {0}
 
 -- the same end, with more inputs left
 abbrev pub end_before : List Input → End → End
-end_before more (Finished s left) = Finished s (left ++ more)
-end_before more (Asking request frames left) = Asking request frames (left ++ more)
-end_before more (Failed fault) = Failed fault
+end_before more (CompleteEnd s left) = CompleteEnd s (left ++ more)
+end_before more (RequestEnd request positions left) = RequestEnd request positions (left ++ more)
+end_before more (FaultEnd fault) = FaultEnd fault
 
 -- the same path and requests, with more inputs left
 abbrev pub course_before : List Input → Course → Course
@@ -50,15 +50,15 @@ pub record IsAskedLast (inputs left : List Input) (request : Request) (requests 
 
 -- each request took one input, but the one that is open
 abbrev pub EndTook : List Input → List Request → End → Type 0
-EndTook inputs requests (Finished s left) = Took inputs left requests
-EndTook inputs requests (Asking request frames left) = IsAskedLast inputs left request requests
-EndTook inputs requests (Failed fault) = length requests ≤ length inputs
+EndTook inputs requests (CompleteEnd s left) = Took inputs left requests
+EndTook inputs requests (RequestEnd request positions left) = IsAskedLast inputs left request requests
+EndTook inputs requests (FaultEnd fault) = length requests ≤ length inputs
 
 -- it asks nothing more
 abbrev pub IsOver : Outcome → Type 0
-IsOver (Requests request frames) = ⊥
-IsOver (Faults fault) = Unit {0}
-IsOver (Completes pieces value) = Unit {0}
+IsOver (RequestOutcome request positions) = ⊥
+IsOver (FaultOutcome fault) = Unit {0}
+IsOver (CompleteOutcome pieces value) = Unit {0}
 
 -- ---- counts
 
@@ -73,21 +73,21 @@ MaximaWithin bound inputs = AllMaxima (λ m. m ≤ bound) inputs
 
 -- where the text ends, so many operations are counted
 abbrev pub EndCounts : (total : ℕ) → End → Type 0
-EndCounts total (Finished s left) = s.count ≡ total
-EndCounts total (Asking request frames left) = Unit {0}
-EndCounts total (Failed fault) = Unit {0}
+EndCounts total (CompleteEnd s left) = s.count ≡ total
+EndCounts total (RequestEnd request positions left) = Unit {0}
+EndCounts total (FaultEnd fault) = Unit {0}
 
 -- where the text ends, the count is within the bound
 abbrev pub EndCountWithin : (bound : ℕ) → End → Type 0
-EndCountWithin bound (Finished s left) = s.count ≤ bound
-EndCountWithin bound (Asking request frames left) = Unit {0}
-EndCountWithin bound (Failed fault) = Unit {0}
+EndCountWithin bound (CompleteEnd s left) = s.count ≤ bound
+EndCountWithin bound (RequestEnd request positions left) = Unit {0}
+EndCountWithin bound (FaultEnd fault) = Unit {0}
 
 -- where the text ends, the maximum in force is within the bound
 abbrev pub EndMaximumWithin : (bound : ℕ) → End → Type 0
-EndMaximumWithin bound (Finished s left) = s.maximum ≤ bound
-EndMaximumWithin bound (Asking request frames left) = Unit {0}
-EndMaximumWithin bound (Failed fault) = Unit {0}
+EndMaximumWithin bound (CompleteEnd s left) = s.maximum ≤ bound
+EndMaximumWithin bound (RequestEnd request positions left) = Unit {0}
+EndMaximumWithin bound (FaultEnd fault) = Unit {0}
 
 -- From where `start` operations were counted, no more are counted than the bound.
 pub record CountsWithin (bound start : ℕ) (course : Course) : Type 0 where
@@ -101,28 +101,28 @@ pub record ListsWithin (limits : Limits) (s : Store) : Type 0 where
   pub values : IsWithin limits.values (length s.values)
   pub pieces : IsWithin limits.pieces (length s.pieces)
 
--- the texts that are open in a run of a text at a depth of calls: callees, within the limit of frames, and one more, the text itself
-pub record OpenTexts (limit : Option ℕ) (text : Text) (depth : ℕ) (frames : List Frame) : Type 0 where
-  pub callees : List Frame
+-- the texts that are open in a run of a text at a depth of calls: callees, within the limit of callers, and one more, the text itself
+pub record OpenTexts (limit : Option ℕ) (text : Text) (depth : ℕ) (positions : List Position) : Type 0 where
+  pub callees : List Position
   pub place : ℕ
-  pub itself : frames ≡ callees ++ record { text = text; place = place } ∷ []
-  pub one_more : length frames ≡ length callees + 1
+  pub itself : positions ≡ callees ++ record { text = text; place = place } ∷ []
+  pub one_more : length positions ≡ length callees + 1
   pub within : IsWithin limit (depth + length callees)
 
 -- where the text ends, its lists are within the limits; and so are the texts that are open in a request
 abbrev pub EndWithin : Limits → Text → (depth : ℕ) → End → Type 0
-EndWithin limits text depth (Finished s left) = ListsWithin limits s
-EndWithin limits text depth (Asking request frames left) = OpenTexts limits.frames text depth frames
-EndWithin limits text depth (Failed fault) = Unit {0}
+EndWithin limits text depth (CompleteEnd s left) = ListsWithin limits s
+EndWithin limits text depth (RequestEnd request positions left) = OpenTexts limits.callers text depth positions
+EndWithin limits text depth (FaultEnd fault) = Unit {0}
 
 -- the texts that are open, or the pieces, are within the limits
 abbrev pub OutcomeWithin : Limits → Text → Outcome → Type 0
-OutcomeWithin limits text (Requests request frames) = OpenTexts limits.frames text 0 frames
-OutcomeWithin limits text (Faults fault) = Unit {0}
-OutcomeWithin limits text (Completes pieces value) = IsWithin limits.pieces (length pieces)
+OutcomeWithin limits text (RequestOutcome request positions) = OpenTexts limits.callers text 0 positions
+OutcomeWithin limits text (FaultOutcome fault) = Unit {0}
+OutcomeWithin limits text (CompleteOutcome pieces value) = IsWithin limits.pieces (length pieces)
 
 -- the outermost text, with a text's callers, the innermost first
-abbrev pub outermost : Text → (callers : List Frame) → Text
+abbrev pub outermost : Text → (callers : List Position) → Text
 outermost text [] = text
 outermost text (caller ∷ callers) = outermost caller.text callers
 
@@ -139,19 +139,19 @@ pub record IsCallee (inputs : List Input) (text : Text) : Type 0 where
   pub some_bytes : 0 < length text.bytes
 
 -- the texts that are open in a run of a text: the text alone, or those that are open in its callee and then the text
-pub data Open (inputs : List Input) : Text → List Frame → Type 0 where
-  alone : (frame : Frame) → Open inputs frame.text (frame ∷ [])
-  calling : (frame : Frame) (callee : Text) (frames : List Frame) → IsCallee inputs callee → Open inputs callee frames
-      → Open inputs frame.text (frames ++ frame ∷ [])
+pub data Open (inputs : List Input) : Text → List Position → Type 0 where
+  alone : (position : Position) → Open inputs position.text (position ∷ [])
+  calling : (position : Position) (callee : Text) (positions : List Position) → IsCallee inputs callee → Open inputs callee positions
+      → Open inputs position.text (positions ++ position ∷ [])
 
 -- at a request the open texts are the text and callees
 abbrev pub EndOpen : List Input → Text → End → Type 0
-EndOpen inputs text (Finished s left) = Unit {0}
-EndOpen inputs text (Asking request frames left) = Open inputs text frames
-EndOpen inputs text (Failed fault) = Unit {0}
+EndOpen inputs text (CompleteEnd s left) = Unit {0}
+EndOpen inputs text (RequestEnd request positions left) = Open inputs text positions
+EndOpen inputs text (FaultEnd fault) = Unit {0}
 
 -- in a request that comes of a text the open texts are the text and callees
 abbrev pub OutcomeOpen : List Input → Text → Outcome → Type 0
-OutcomeOpen inputs text (Requests request frames) = Open inputs text frames
-OutcomeOpen inputs text (Faults fault) = Unit {0}
-OutcomeOpen inputs text (Completes pieces value) = Unit {0}
+OutcomeOpen inputs text (RequestOutcome request positions) = Open inputs text positions
+OutcomeOpen inputs text (FaultOutcome fault) = Unit {0}
+OutcomeOpen inputs text (CompleteOutcome pieces value) = Unit {0}

@@ -1,12 +1,12 @@
--- Which bytes spell which operation, and which texts are refused: relations on whole lists of bytes (DWARF 5, sections 7.6 and 7.7.1).
+-- Which bytes spell which operation, and which texts are malformed: relations on whole lists of bytes (DWARF 5, sections 7.6 and 7.7.1).
 use Rattle.std.specs.Prelude.{ℕ, ◌*◌, ◌<◌, ◌≡◌, ℤ, Bool, true, false, List, [], ◌∷◌, ◌++◌, Ok, Err, length}
 use Rattle.dwarf_base.specs.declared.common.Encoding.{Encoding}
 use Rattle.dwarf_base.specs.Faults.{Fault, UnexpectedEof, UnsupportedAddressSize, InvalidExpression}
-use Rattle.dwarf_base.specs.Leb.{SpellsLeb, RefusedLeb, unsigned_leb, signed_leb}
+use Rattle.dwarf_base.specs.Leb.{SpellsLeb, MalformedLeb, unsigned_leb, signed_leb}
 use Rattle.dwarf_base.specs.Numbers.{number_of, signed_of}
 use Rattle.dwarf_base.specs.Reads.{is_fixed_size}
 use Rattle.dwarf_meaning.specs.Operations.{Operation, Text}
-use Rattle.dwarf_meaning.specs.Operands.{Context, context_of, block_of, Form, SignedForm, SignedFixed, SignedLeb128, Layout, InBytes, InAddress, InLeb128, layout_of, value_of}
+use Rattle.dwarf_meaning.specs.Operands.{Context, context_of, block_of, Form, SignedForm, SignedFixed, SignedLeb128, Layout, InBytes, InAddress, InLeb128, layout_of, operand_value}
 use Rattle.dwarf_meaning.specs.Opcodes.{Row, Makes, Unsigned, Signed, Block, Invalid, row_of}
 
 -- the bytes spell the number
@@ -18,14 +18,14 @@ pub data SpellsNumber (big : Bool) : Layout → List ℕ → ℕ → Type 0 wher
       → SpellsNumber big InLeb128 bytes number
 
 -- no front of the bytes spells a number, for this fault
-pub data RefusesNumber (big : Bool) : Layout → List ℕ → Fault → Type 0 where
-  few_bytes : (size : ℕ) (bytes : List ℕ) → length bytes < size → RefusesNumber big (InBytes size) bytes UnexpectedEof
+pub data MalformedNumber (big : Bool) : Layout → List ℕ → Fault → Type 0 where
+  few_bytes : (size : ℕ) (bytes : List ℕ) → length bytes < size → MalformedNumber big (InBytes size) bytes UnexpectedEof
   few_address_bytes : (size : ℕ) (bytes : List ℕ) → is_fixed_size size ≡ true → length bytes < size
-      → RefusesNumber big (InAddress size) bytes UnexpectedEof
+      → MalformedNumber big (InAddress size) bytes UnexpectedEof
   address_size : (size : ℕ) (bytes : List ℕ) → is_fixed_size size ≡ false
-      → RefusesNumber big (InAddress size) bytes (UnsupportedAddressSize size)
-  no_leb128 : (bytes : List ℕ) (fault : Fault) → RefusedLeb unsigned_leb bytes fault
-      → RefusesNumber big InLeb128 bytes fault
+      → MalformedNumber big (InAddress size) bytes (UnsupportedAddressSize size)
+  no_leb128 : (bytes : List ℕ) (fault : Fault) → MalformedLeb unsigned_leb bytes fault
+      → MalformedNumber big InLeb128 bytes fault
 
 -- the bytes spell the signed number
 pub data SpellsInteger (big : Bool) : SignedForm → List ℕ → ℤ → Type 0 where
@@ -35,26 +35,26 @@ pub data SpellsInteger (big : Bool) : SignedForm → List ℕ → ℤ → Type 0
       → SpellsInteger big SignedLeb128 bytes number
 
 -- no front of the bytes spells a signed number, for this fault
-pub data RefusesInteger (big : Bool) : SignedForm → List ℕ → Fault → Type 0 where
+pub data MalformedInteger (big : Bool) : SignedForm → List ℕ → Fault → Type 0 where
   few_signed_bytes : (size : ℕ) (bytes : List ℕ) → length bytes < size
-      → RefusesInteger big (SignedFixed size) bytes UnexpectedEof
-  no_signed_leb128 : (bytes : List ℕ) (fault : Fault) → RefusedLeb signed_leb bytes fault
-      → RefusesInteger big SignedLeb128 bytes fault
+      → MalformedInteger big (SignedFixed size) bytes UnexpectedEof
+  no_signed_leb128 : (bytes : List ℕ) (fault : Fault) → MalformedLeb signed_leb bytes fault
+      → MalformedInteger big SignedLeb128 bytes fault
 
 -- the bytes spell an unsigned operand with this value
 pub data SpellsUnsigned (context : Context) (form : Form) : List ℕ → ℕ → Type 0 where
   in_range : (bytes : List ℕ) (number value : ℕ)
       → SpellsNumber context.is_big (layout_of context.encoding form) bytes number
-      → value_of context.offset_bits form number ≡ Ok value → SpellsUnsigned context form bytes value
+      → operand_value context.offset_bits form number ≡ Ok value → SpellsUnsigned context form bytes value
 
 -- no front of the bytes spells a number, or one does that is out of the operand's range
-pub data RefusesUnsigned (context : Context) (form : Form) : List ℕ → Fault → Type 0 where
+pub data MalformedUnsigned (context : Context) (form : Form) : List ℕ → Fault → Type 0 where
   no_number : (bytes : List ℕ) (fault : Fault)
-      → RefusesNumber context.is_big (layout_of context.encoding form) bytes fault
-      → RefusesUnsigned context form bytes fault
+      → MalformedNumber context.is_big (layout_of context.encoding form) bytes fault
+      → MalformedUnsigned context form bytes fault
   out_of_range : (front rest : List ℕ) (number : ℕ) (fault : Fault)
       → SpellsNumber context.is_big (layout_of context.encoding form) front number
-      → value_of context.offset_bits form number ≡ Err fault → RefusesUnsigned context form (front ++ rest) fault
+      → operand_value context.offset_bits form number ≡ Err fault → MalformedUnsigned context form (front ++ rest) fault
 
 -- the bytes are the spellings of a row's operands, joined in order, which make the operation
 pub data SpellsOperands (context : Context) : Row → List ℕ → Operation → Type 0 where
@@ -69,24 +69,24 @@ pub data SpellsOperands (context : Context) : Row → List ℕ → Operation →
       → SpellsOperands context (next (block_of context front)) rest op
       → SpellsOperands context (Block (length front) next) (front ++ rest) op
 
--- The first of a row's operands that isn't allowed has this fault: those before it are spelled, and it is refused.
-pub data RefusesOperands (context : Context) : Row → List ℕ → Fault → Type 0 where
-  invalid : (opcode : ℕ) (bytes : List ℕ) → RefusesOperands context (Invalid opcode) bytes (InvalidExpression opcode)
+-- The first of a row's operands that isn't allowed has this fault: those before it are spelled, and it is malformed.
+pub data MalformedOperands (context : Context) : Row → List ℕ → Fault → Type 0 where
+  invalid : (opcode : ℕ) (bytes : List ℕ) → MalformedOperands context (Invalid opcode) bytes (InvalidExpression opcode)
   unsigned_here : (form : Form) (next : ℕ → Row) (bytes : List ℕ) (fault : Fault)
-      → RefusesUnsigned context form bytes fault → RefusesOperands context (Unsigned form next) bytes fault
+      → MalformedUnsigned context form bytes fault → MalformedOperands context (Unsigned form next) bytes fault
   unsigned_after : (form : Form) (next : ℕ → Row) (front rest : List ℕ) (value : ℕ) (fault : Fault)
-      → SpellsUnsigned context form front value → RefusesOperands context (next value) rest fault
-      → RefusesOperands context (Unsigned form next) (front ++ rest) fault
+      → SpellsUnsigned context form front value → MalformedOperands context (next value) rest fault
+      → MalformedOperands context (Unsigned form next) (front ++ rest) fault
   signed_here : (form : SignedForm) (next : ℤ → Row) (bytes : List ℕ) (fault : Fault)
-      → RefusesInteger context.is_big form bytes fault → RefusesOperands context (Signed form next) bytes fault
+      → MalformedInteger context.is_big form bytes fault → MalformedOperands context (Signed form next) bytes fault
   signed_after : (form : SignedForm) (next : ℤ → Row) (front rest : List ℕ) (value : ℤ) (fault : Fault)
-      → SpellsInteger context.is_big form front value → RefusesOperands context (next value) rest fault
-      → RefusesOperands context (Signed form next) (front ++ rest) fault
+      → SpellsInteger context.is_big form front value → MalformedOperands context (next value) rest fault
+      → MalformedOperands context (Signed form next) (front ++ rest) fault
   block_here : (size : ℕ) (next : Text → Row) (bytes : List ℕ) → length bytes < size
-      → RefusesOperands context (Block size next) bytes UnexpectedEof
+      → MalformedOperands context (Block size next) bytes UnexpectedEof
   block_after : (next : Text → Row) (front rest : List ℕ) (fault : Fault)
-      → RefusesOperands context (next (block_of context front)) rest fault
-      → RefusesOperands context (Block (length front) next) (front ++ rest) fault
+      → MalformedOperands context (next (block_of context front)) rest fault
+      → MalformedOperands context (Block (length front) next) (front ++ rest) fault
 
 -- the bytes are an opcode and the spellings of its operands, and the operation is the one of its row
 pub data Spells (encoding : Encoding) (offset_bits : ℕ) (is_big : Bool) : List ℕ → Operation → Type 0 where
@@ -95,8 +95,8 @@ pub data Spells (encoding : Encoding) (offset_bits : ℕ) (is_big : Bool) : List
       → Spells encoding offset_bits is_big (opcode ∷ operands) op
 
 -- no front of the bytes spells an operation, for this fault
-pub data Refused (encoding : Encoding) (offset_bits : ℕ) (is_big : Bool) : List ℕ → Fault → Type 0 where
-  no_opcode : Refused encoding offset_bits is_big [] UnexpectedEof
+pub data Malformed (encoding : Encoding) (offset_bits : ℕ) (is_big : Bool) : List ℕ → Fault → Type 0 where
+  no_opcode : Malformed encoding offset_bits is_big [] UnexpectedEof
   bad_operands : (opcode : ℕ) (bytes : List ℕ) (fault : Fault)
-      → RefusesOperands (context_of encoding offset_bits is_big) (row_of encoding opcode) bytes fault
-      → Refused encoding offset_bits is_big (opcode ∷ bytes) fault
+      → MalformedOperands (context_of encoding offset_bits is_big) (row_of encoding opcode) bytes fault
+      → Malformed encoding offset_bits is_big (opcode ∷ bytes) fault

@@ -1,11 +1,11 @@
--- The calls of an evaluation, one after another: which are allowed, and what each answers (DWARF 5, section 2.5).
+-- The calls of an evaluation, one after another: which are allowed, and what each replies (DWARF 5, section 2.5).
 use Rattle.std.specs.Prelude.{ℕ, ◌≡◌, List, [], ◌∷◌, ◌++◌, Option, Some, None}
 use Rattle.dwarf_base.specs.Faults.{Fault}
 use Rattle.dwarf_meaning.specs.Operations.{Text}
 use Rattle.dwarf_meaning.specs.Requests.{Request, Answer, Input}
 use Rattle.dwarf_meaning.specs.Kinds.{kind_of_request, kind_of_answer}
 use Rattle.dwarf_meaning.specs.Stores.{Setup, Refusal}
-use Rattle.dwarf_meaning.specs.Meaning.{Outcome, Requests, Faults, Completes, First, meaning}
+use Rattle.dwarf_meaning.specs.Meaning.{Outcome, RequestOutcome, FaultOutcome, CompleteOutcome, First, meaning}
 
 -- a setting, the start, or an answer
 pub data Step : Type 0 where
@@ -26,6 +26,7 @@ abbrev pub outcome_from : Setup → Refusal → Text → List Input → Option F
 outcome_from setup refusal text inputs None = None
 outcome_from setup refusal text inputs (Some first) = Some (meaning setup refusal text first inputs)
 
+-- what comes of all that was told
 abbrev pub outcome_of : Setup → Refusal → Text → Told → Option Outcome
 outcome_of setup refusal text told = outcome_from setup refusal text told.inputs told.first
 
@@ -34,22 +35,23 @@ outcome_of setup refusal text told = outcome_from setup refusal text told.inputs
 -- no request is open
 abbrev pub IsEvaluable : Option Outcome → Type 0
 IsEvaluable None = Unit {0}
-IsEvaluable (Some (Requests request frames)) = ⊥
-IsEvaluable (Some (Faults fault)) = Unit {0}
-IsEvaluable (Some (Completes pieces value)) = Unit {0}
+IsEvaluable (Some (RequestOutcome request positions)) = ⊥
+IsEvaluable (Some (FaultOutcome fault)) = Unit {0}
+IsEvaluable (Some (CompleteOutcome pieces value)) = Unit {0}
 
 -- a request of the answer's kind is open; after a fault every answer is allowed
 abbrev pub Awaits : Answer → Option Outcome → Type 0
 Awaits answer None = ⊥
-Awaits answer (Some (Requests request frames)) = kind_of_request request ≡ kind_of_answer answer
-Awaits answer (Some (Faults fault)) = Unit {0}
-Awaits answer (Some (Completes pieces value)) = ⊥
+Awaits answer (Some (RequestOutcome request positions)) = kind_of_request request ≡ kind_of_answer answer
+Awaits answer (Some (FaultOutcome fault)) = Unit {0}
+Awaits answer (Some (CompleteOutcome pieces value)) = ⊥
 
 -- it wasn't started, and has no initial value
 pub record IsUntold (told : Told) : Type 0 where
   pub first : told.first ≡ None
   pub initial_value : told.settings.initial_value ≡ None
 
+-- whether a step may come where this came of the steps before
 abbrev pub Allows : Told → Option Outcome → Step → Type 0
 Allows told outcome (InitialValue number) = IsUntold told
 Allows told outcome (ObjectAddress address) = Unit {0}
@@ -67,11 +69,12 @@ begun settings (Some first) = first
 -- an answer, with the settings that hold now; after a fault it says nothing
 abbrev pub heard : First → List Input → Answer → Option Outcome → List Input
 heard settings inputs answer None = inputs
-heard settings inputs answer (Some (Requests request frames)) =
+heard settings inputs answer (Some (RequestOutcome request positions)) =
     inputs ++ record { object_address = settings.object_address; maximum = settings.maximum; answer = answer } ∷ []
-heard settings inputs answer (Some (Faults fault)) = inputs
-heard settings inputs answer (Some (Completes pieces value)) = inputs
+heard settings inputs answer (Some (FaultOutcome fault)) = inputs
+heard settings inputs answer (Some (CompleteOutcome pieces value)) = inputs
 
+-- what was told once a step is done
 abbrev pub after : Told → Option Outcome → Step → Told
 after told outcome (InitialValue number) = record told { settings = record told.settings { initial_value = Some number } }
 after told outcome (ObjectAddress address) = record told { settings = record told.settings { object_address = Some address } }
@@ -79,24 +82,26 @@ after told outcome (MaxIterations maximum) = record told { settings = record tol
 after told outcome Evaluate = record told { first = Some (begun told.settings told.first) }
 after told outcome (Resume answer) = record told { inputs = heard told.settings told.inputs answer outcome }
 
--- ---- what the steps answer
+-- ---- what the steps reply
 
--- what a call answers: it is complete, it asks, or it met a fault
+-- what a call replies: it is complete, it requests something, or it met a fault
 pub data Reply : Type 0 where
-  Completed : Reply
-  Asked : Request → Reply
-  Faulted : Fault → Reply
+  CompleteReply : Reply
+  RequestReply : Request → Reply
+  FaultReply : Fault → Reply
 
+-- the reply that an outcome gives
 abbrev pub reply : Outcome → Reply
-reply (Requests request frames) = Asked request
-reply (Completes pieces value) = Completed
-reply (Faults fault) = Faulted fault
+reply (RequestOutcome request positions) = RequestReply request
+reply (CompleteOutcome pieces value) = CompleteReply
+reply (FaultOutcome fault) = FaultReply fault
 
+-- the reply, where it was started
 abbrev pub replies : Option Outcome → List Reply
 replies None = []
 replies (Some outcome) = reply outcome ∷ []
 
--- a setting answers nothing; `outcome` is what comes of what was told, the step included
+-- a setting has no reply; `outcome` is what comes of what was told, the step included
 abbrev pub step_replies : Step → Option Outcome → List Reply
 step_replies (InitialValue number) outcome = []
 step_replies (ObjectAddress address) outcome = []
@@ -105,6 +110,7 @@ step_replies Evaluate outcome = replies outcome
 step_replies (Resume answer) outcome = replies outcome
 
 module _ (setup : Setup) (refusal : Refusal) (text : Text) where
+  -- what was told once a step is done, by what came of the steps before
   abbrev pub after_step : Told → Step → Told
   after_step told step = after told (outcome_of setup refusal text told) step
 
@@ -118,8 +124,8 @@ module _ (setup : Setup) (refusal : Refusal) (text : Text) where
   AllAllowed told [] = Unit {0}
   AllAllowed told (step ∷ steps) = Allows told (outcome_of setup refusal text told) step × AllAllowed (after_step told step) steps
 
-  -- what the steps answer, one after another: each what comes of all that was told up to it
-  abbrev pub answers : Told → List Step → List Reply
-  answers told [] = []
-  answers told (step ∷ steps) =
-      let told_now = after_step told step in step_replies step (outcome_of setup refusal text told_now) ++ answers told_now steps
+  -- the replies to the steps, one after another: each what comes of all that was told up to it
+  abbrev pub replies_of : Told → List Step → List Reply
+  replies_of told [] = []
+  replies_of told (step ∷ steps) =
+      let told_now = after_step told step in step_replies step (outcome_of setup refusal text told_now) ++ replies_of told_now steps

@@ -6,12 +6,12 @@ use Rattle.dwarf_base.specs.Numbers.{residue}
 use Rattle.dwarf_value.specs.declared.types.Value.{Value}
 use Rattle.dwarf_meaning.specs.Locations.{Location, Piece}
 use Rattle.dwarf_meaning.specs.Requests.{Request, Waiting}
-use Rattle.dwarf_meaning.specs.Acts.{choose, Act, Pushes, Branches, Locates, Ends, Asks, Refuses}
+use Rattle.dwarf_meaning.specs.Acts.{choose, Act, Pushes, Branches, Locates, EndsPiece, RequestAct, FaultAct}
 
 -- how many items each list holds at most, where there is such a number
 pub record Limits : Type 0 where
   pub values : Option ℕ
-  pub frames : Option ℕ
+  pub callers : Option ℕ
   pub pieces : Option ℕ
 
 -- no more than the limit, where there is one
@@ -25,6 +25,7 @@ pub record Setup : Type 0 where
   pub offset_bits : ℕ
   pub limits : Limits
 
+-- how many bits an address has
 abbrev pub address_bits : Setup → ℕ
 address_bits setup = 8 * setup.encoding.address_size
 
@@ -47,6 +48,7 @@ pub data Last : Type 0 where
   -- its location waits for a piece
   Located : (location : Location) → Last
 
+-- what a run keeps
 pub record Store : Type 0 where
   -- the top first
   pub values : List Value
@@ -80,15 +82,17 @@ taken Never = Never
 taken (After zero pushes) = Never
 taken (After (suc inputs) pushes) = After inputs pushes
 
+-- a value, on top
 unfoldable pub push_value : Setup → Value → Store → Result Store Fault
 push_value setup value s = room setup.limits.values (length s.values) s.refusal >>= λ left. Ok (record s { values = value ∷ s.values; refusal = left })
 
+-- a piece, behind the others
 unfoldable pub push_piece : Setup → Piece → Store → Result Store Fault
 push_piece setup piece s = room setup.limits.pieces (length s.pieces) s.refusal >>= λ left. Ok (record s { pieces = s.pieces ++ piece ∷ []; refusal = left })
 
--- a frame, where `depth` frames stand
-unfoldable pub push_frame : Setup → (depth : ℕ) → Store → Result Store Fault
-push_frame setup depth s = room setup.limits.frames depth s.refusal >>= λ left. Ok (record s { refusal = left })
+-- a caller, where `depth` callers wait
+unfoldable pub push_caller : Setup → (depth : ℕ) → Store → Result Store Fault
+push_caller setup depth s = room setup.limits.callers depth s.refusal >>= λ left. Ok (record s { refusal = left })
 
 -- values in order, the last on top
 abbrev pub push_values : Setup → List Value → Store → Result Store Fault
@@ -100,12 +104,13 @@ push_values setup (value ∷ values) s = push_value setup value s >>= push_value
 -- what an operation leads to: a place of its text, a request, or a fault
 pub data Next : Type 0 where
   Goes : (place : ℕ) → Store → Next
-  Stops : Request → Waiting → Store → Next
-  Fails : Fault → Next
+  RequestNext : Request → Waiting → Store → Next
+  FaultNext : Fault → Next
 
+-- on at this place, where the pushes found room
 abbrev pub goes : (place : ℕ) → Result Store Fault → Next
 goes place (Ok s) = Goes place s
-goes place (Err fault) = Fails fault
+goes place (Err fault) = FaultNext fault
 
 -- where a branch leads to, from the place behind it: offsets wrap
 abbrev pub branch_target : Setup → (place : ℕ) → ℤ → ℕ
@@ -113,13 +118,13 @@ branch_target setup place target = residue setup.offset_bits (pos place +ℤ tar
 
 -- a place of a text of this length, or its end
 abbrev pub branch : (len place : ℕ) → Store → Next
-branch len place s = choose (nat_lt len place) (Fails (BadBranchTarget place)) (Goes place s)
+branch len place s = choose (nat_lt len place) (FaultNext (BadBranchTarget place)) (Goes place s)
 
 -- What an operation does to what is kept; `place` is the one behind it, in a text of length `len`.
 abbrev pub done : Setup → (place len : ℕ) → Act → Store → Next
 done setup place len (Pushes rest pushed) s = goes place (push_values setup pushed (record s { values = rest; last = Plain }))
 done setup place len (Branches rest target) s = branch len (branch_target setup place target) (record s { values = rest; last = Plain })
 done setup place len (Locates rest location) s = Goes place (record s { values = rest; last = Located location })
-done setup place len (Ends rest piece) s = goes place (push_piece setup piece (record s { values = rest; last = Pieced }))
-done setup place len (Asks rest request waiting) s = Stops request waiting (record s { values = rest })
-done setup place len (Refuses fault) s = Fails fault
+done setup place len (EndsPiece rest piece) s = goes place (push_piece setup piece (record s { values = rest; last = Pieced }))
+done setup place len (RequestAct rest request waiting) s = RequestNext request waiting (record s { values = rest })
+done setup place len (FaultAct fault) s = FaultNext fault

@@ -8,7 +8,7 @@ ghost use Rattle.dwarf_meaning.specs.Splitting.{Splitting};
 ghost use Rattle.dwarf_meaning.specs.Branches.{AreBytes, BranchesNear};
 ghost use Rattle.dwarf_meaning.specs.Requests.{Input};
 ghost use Rattle.dwarf_meaning.specs.Stores.{Setup, IsWithin, Store, Refusal};
-ghost use Rattle.dwarf_meaning.specs.Run.{Frame, End, most, turn, run_for, enough, run};
+ghost use Rattle.dwarf_meaning.specs.Run.{Position, End, most, turn, run_for, enough, run};
 ghost use Rattle.dwarf_meaning.specs.Meaning.{First, unwound, meaning};
 ghost use Rattle.dwarf_meaning.specs.DecodeLaws.{ReadsExactlyTheSpelled, IsDecided, IsWhole, SplitsOnce, IsSplitting, IsDecodingFault};
 ghost use Rattle.dwarf_meaning.specs.RunLaws.{turns_left, IsSettled, course_before, IsOver, EndTook, MaximaWithin, EndCounts, EndMaximumWithin, CountsWithin, ListsWithin, EndWithin, OutcomeWithin, outermost, EndOpen, OutcomeOpen};
@@ -46,8 +46,8 @@ pub fn run_laws()
     ensures maximum { (bound : ℕ) (setup : Setup) (text : Text) (place depth : ℕ) (s : Store) (inputs : List Input) → s.count ≤ bound → s.maximum ≤ bound → MaximaWithin bound inputs → CountsWithin bound s.count (run setup text place depth s inputs) }
     ensures maximum_kept { (bound : ℕ) (setup : Setup) (text : Text) (place depth : ℕ) (s : Store) (inputs : List Input) → s.count ≤ bound → s.maximum ≤ bound → MaximaWithin bound inputs → EndMaximumWithin bound (run setup text place depth s inputs).end }
     ensures most_of_all { (setup : Setup) (text : Text) (place depth : ℕ) (s : Store) (inputs : List Input) → s.count ≤ most → CountsWithin most s.count (run setup text place depth s inputs) }
-    ensures within { (setup : Setup) (text : Text) (place depth : ℕ) (s : Store) (inputs : List Input) → IsWithin setup.limits.frames depth → ListsWithin setup.limits s → EndWithin setup.limits text depth (run setup text place depth s inputs).end }
-    ensures within_callers { (setup : Setup) (text : Text) (callers : List Frame) (end : End) → IsWithin setup.limits.frames (length callers) → EndWithin setup.limits text (length callers) end → OutcomeWithin setup.limits (outermost text callers) (unwound setup callers end) }
+    ensures within { (setup : Setup) (text : Text) (place depth : ℕ) (s : Store) (inputs : List Input) → IsWithin setup.limits.callers depth → ListsWithin setup.limits s → EndWithin setup.limits text depth (run setup text place depth s inputs).end }
+    ensures within_callers { (setup : Setup) (text : Text) (callers : List Position) (end : End) → IsWithin setup.limits.callers (length callers) → EndWithin setup.limits text (length callers) end → OutcomeWithin setup.limits (outermost text callers) (unwound setup callers end) }
     ensures within_meaning { (setup : Setup) (refusal : Refusal) (text : Text) (first : First) (inputs : List Input) → OutcomeWithin setup.limits text (meaning setup refusal text first inputs) }
     ensures callees { (setup : Setup) (text : Text) (place depth : ℕ) (s : Store) (inputs : List Input) → EndOpen inputs text (run setup text place depth s inputs).end }
     ensures callees_of_meaning { (setup : Setup) (refusal : Refusal) (text : Text) (first : First) (inputs : List Input) → OutcomeOpen inputs text (meaning setup refusal text first inputs) }

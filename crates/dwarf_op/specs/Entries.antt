@@ -36,6 +36,7 @@ use Rattle.dwarf_op.specs.declared.opcodes.Entry.TheVariants as entry
 use Rattle.dwarf_op.specs.declared.opcodes.Rare.{Rare}
 use Rattle.dwarf_op.specs.declared.opcodes.Rare.TheVariants as rare_entry
 
+-- the operation without operands
 abbrev pub plain_operation : Plain → meaning.Operation
 plain_operation plain.Drop = meaning.Drop
 plain_operation plain.Swap = meaning.Swap
@@ -67,6 +68,7 @@ plain_operation plain.CallFrameCFA = meaning.CallFrameCFA
 plain_operation plain.StackValue = meaning.StackValue
 plain_operation plain.Uninitialized = meaning.Uninitialized
 
+-- the form of an unsigned operand
 abbrev pub unsigned_form : shapes.Unsigned → Form
 unsigned_form unsigned_shape.U16 = Fixed 2
 unsigned_form unsigned_shape.U32 = Fixed 4
@@ -74,6 +76,7 @@ unsigned_form unsigned_shape.U64 = Fixed 8
 unsigned_form unsigned_shape.Uleb128 = Leb128
 unsigned_form unsigned_shape.Address = Address
 
+-- the form of a signed operand
 abbrev pub signed_form : signed_shapes.Signed → SignedForm
 signed_form signed_shape.I8 = SignedFixed 1
 signed_form signed_shape.I16 = SignedFixed 2
@@ -81,6 +84,7 @@ signed_form signed_shape.I32 = SignedFixed 4
 signed_form signed_shape.I64 = SignedFixed 8
 signed_form signed_shape.Sleb128 = SignedLeb128
 
+-- the form of an offset
 abbrev pub offset_form : offset_shapes.Offset → Form
 offset_form offset_shape.U16 = Fixed 2
 offset_form offset_shape.U32 = Fixed 4
@@ -88,25 +92,30 @@ offset_form offset_shape.Uleb128 = form.Offset
 offset_form offset_shape.Section = SectionOffset
 offset_form offset_shape.Reference = InfoReference
 
+-- what a byte makes
 abbrev pub byte_operation : FromByte → ℕ → meaning.Operation
 byte_operation from_byte.Constant byte = meaning.UnsignedConstant byte
 byte_operation from_byte.Pick byte = meaning.Pick byte
 byte_operation from_byte.Deref byte = meaning.Deref 0 byte false
 byte_operation from_byte.SpaceDeref byte = meaning.Deref 0 byte true
 
+-- what an unsigned number makes
 abbrev pub unsigned_operation : FromUnsigned → ℕ → meaning.Operation
 unsigned_operation from_unsigned.Constant number = meaning.UnsignedConstant number
 unsigned_operation from_unsigned.PlusConstant number = meaning.PlusConstant number
 unsigned_operation from_unsigned.Address number = meaning.Address number
 
+-- what a signed number makes
 abbrev pub signed_operation : FromSigned → ℤ → meaning.Operation
 signed_operation from_signed.Constant number = meaning.SignedConstant number
 signed_operation from_signed.FrameOffset number = meaning.FrameOffset number
 
+-- what a branch's operand makes
 abbrev pub branch_operation : FromBranch → ℤ → meaning.Operation
 branch_operation from_branch.Bra target = meaning.Bra target
 branch_operation from_branch.Skip target = meaning.Skip target
 
+-- what an offset makes
 abbrev pub offset_operation : FromOffset → ℕ → meaning.Operation
 offset_operation from_offset.UnitCall offset = meaning.Call (meaning.UnitRef offset)
 offset_operation from_offset.InfoCall offset = meaning.Call (meaning.DebugInfoRef offset)
@@ -117,10 +126,12 @@ offset_operation from_offset.Convert offset = meaning.Convert offset
 offset_operation from_offset.Reinterpret offset = meaning.Reinterpret offset
 offset_operation from_offset.VariableValue offset = meaning.VariableValue offset
 
+-- what a block makes
 abbrev pub block_operation : FromBlock → Text → meaning.Operation
 block_operation from_block.ImplicitValue block = meaning.ImplicitValue block
 block_operation from_block.EntryValue block = meaning.EntryValue block
 
+-- what an index makes, by its place in a WebAssembly machine
 abbrev pub wasm_operation : WasmPlace → ℕ → meaning.Operation
 wasm_operation wasm_place.Local index = meaning.WasmLocal index
 wasm_operation wasm_place.Global index = meaning.WasmGlobal index

@@ -3,7 +3,7 @@ use Rattle.std.specs.Prelude.{ℕ, Bool, List, Option, Result, Ok}
 use Rattle.dwarf_base.specs.Faults.{Fault, ◌>>=◌}
 use Rattle.dwarf_meaning.specs.Operations as meaning
 use Rattle.dwarf_meaning.specs.Operations.{Text}
-use Rattle.dwarf_meaning.specs.Run.{piece_of}
+use Rattle.dwarf_meaning.specs.Run.{piece_ended_by}
 use Rattle.dwarf_op.specs.declared.operations.Operation.{Operation}
 use Rattle.dwarf_op.specs.declared.operations.Operation.TheVariants as operation
 use Rattle.dwarf_op.specs.declared.operations.DieReference.{DieReference}
@@ -13,10 +13,12 @@ use Rattle.dwarf_op.specs.declared.operations.DieReference.TheVariants as refere
 abbrev pub text_of : {R : Type 0} → (R → List ℕ) → (R → Bool) → R → Text
 text_of bytes is_big reader = record { bytes = bytes reader; is_big = is_big reader }
 
+-- a reference of the code, as the definitions have it
 abbrev pub reference_of : {O : Type 0} → (O → ℕ) → DieReference O → meaning.DieReference
 reference_of number (reference.UnitRef offset) = meaning.UnitRef (number offset.0)
 reference_of number (reference.DebugInfoRef offset) = meaning.DebugInfoRef (number offset.0)
 
+-- an operation of the code, as the definitions have it
 abbrev pub operation_of : {R O P : Type 0} → (R → Text) → (O → ℕ) → Operation R O P → meaning.Operation
 operation_of text number (operation.Deref base_type size space) = meaning.Deref (number base_type.0) size space
 operation_of text number operation.Drop = meaning.Drop
@@ -76,4 +78,4 @@ operation_of text number (operation.VariableValue offset) = meaning.VariableValu
 
 -- an operation that was read, as the piece that it ends, where it ends one
 abbrev pub piece_read : Result (meaning.Operation × List ℕ) Fault → Result (Option (ℕ × Option ℕ) × List ℕ) Fault
-piece_read read = read >>= λ op. Ok (piece_of op.0, op.1)
+piece_read read = read >>= λ op. Ok (piece_ended_by op.0, op.1)

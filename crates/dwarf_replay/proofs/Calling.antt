@@ -8,12 +8,12 @@ use Rattle.dwarf_meaning.specs.Operations.{Text}
 use Rattle.dwarf_meaning.specs.Requests.{Request, Waiting, Answer, Input}
 use Rattle.dwarf_meaning.specs.Kinds.{kind_of_request, kind_of_answer}
 use Rattle.dwarf_meaning.specs.Stores.{Setup, Refusal}
-use Rattle.dwarf_meaning.specs.Run.{Frame}
-use Rattle.dwarf_meaning.specs.Meaning.{Outcome, Requests, Faults, Completes, First, meaning}
-use Rattle.dwarf_meaning.specs.Rest.{State, Status, Start, Running, Waits, Complete, Stopped, with_refusal, rest_by, rest}
-use Rattle.dwarf_meaning.specs.Steps.{Step, InitialValue, ObjectAddress, MaxIterations, Evaluate, Resume, Told, Reply, Completed, Faulted, reply, replies, IsEvaluable, Awaits, Allows, begun, after, outcome_of, outcome_from, step_replies}
-use Rattle.dwarf_eval.specs.Calls.{IsTold, IsLater, Follows, first_of, means, IsClosed, Evaluates, Resumes, reply_of, MayPick, before_input, IsOpen, after_input, input_of}
-use Rattle.dwarf_replay.specs.Stepping.{IsAskingFor, IsCalled}
+use Rattle.dwarf_meaning.specs.Run.{Position}
+use Rattle.dwarf_meaning.specs.Meaning.{Outcome, RequestOutcome, FaultOutcome, CompleteOutcome, First, meaning}
+use Rattle.dwarf_meaning.specs.Rest.{State, Status, Start, Running, RequestStatus, CompleteStatus, FaultStatus, with_refusal, rest_by, rest}
+use Rattle.dwarf_meaning.specs.Steps.{Step, InitialValue, ObjectAddress, MaxIterations, Evaluate, Resume, Told, Reply, CompleteReply, FaultReply, reply, replies, IsEvaluable, Awaits, Allows, begun, after, outcome_of, outcome_from, step_replies}
+use Rattle.dwarf_eval.specs.Evaluation.{IsReplied, IsLater, Follows, first_of, means, IsClosed, Evaluates, Resumes, reply_of, MayPick, before_input, IsOpen, after_input, input_of}
+use Rattle.dwarf_replay.specs.Stepping.{IsInRequestFor, HasReplied}
 use Rattle.dwarf_replay.specs.Replays.{Tells, before_inputs}
 use Rattle.dwarf_eval.specs.declared.op.results.EvaluationResult.{EvaluationResult}
 use Rattle.dwarf_eval.specs.Bounds.{SpendsInAll, initial_items}
@@ -28,10 +28,10 @@ use Rattle.dwarf_replay.proofs.Standings.{Holds, Unstarted, Going, Over, WentBy,
 pub some_not_none : (settings : First) → Some settings ≡ None → ⊥
 some_not_none settings e = cc
 
-reply_fault : (o : Outcome) (fault : Fault) → reply o ≡ Faulted fault → o ≡ Faults fault
-reply_fault (Requests request frames) fault e = cc
-reply_fault (Completes pieces value) fault e = cc
-reply_fault (Faults other) fault e = cc
+reply_fault : (o : Outcome) (fault : Fault) → reply o ≡ FaultReply fault → o ≡ FaultOutcome fault
+reply_fault (RequestOutcome request positions) fault e = cc
+reply_fault (CompleteOutcome pieces value) fault e = cc
+reply_fault (FaultOutcome other) fault e = cc
 
 module _ (first : State) where
   -- what the steps come to, in a state that goes on
@@ -69,7 +69,7 @@ module _ (first : State) where
       spent = spent;
     }
 
-    called_over : (error : Error) → new.status ≡ Stopped error → MayPick first.setup.limits (before_inputs n h.refusal) → SpendsInAll (initial_items now.settings.initial_value) first new → Tells first (steps ++ step ∷ []) (given ++ told ∷ []) now (before_inputs n h.refusal) → Over first (steps ++ step ∷ []) (given ++ told ∷ []) new error
+    called_over : (error : Error) → new.status ≡ FaultStatus error → MayPick first.setup.limits (before_inputs n h.refusal) → SpendsInAll (initial_items now.settings.initial_value) first new → Tells first (steps ++ step ∷ []) (given ++ told ∷ []) now (before_inputs n h.refusal) → Over first (steps ++ step ∷ []) (given ++ told ∷ []) new error
     called_over error e may spent walked = record {
       told = now;
       refusal = before_inputs n h.refusal;
@@ -80,20 +80,20 @@ module _ (first : State) where
       fails =
           ap (meaning first.setup (before_inputs n h.refusal) first.text settings) (sym (append-nil now.inputs))
           ∙ (sym (means_is h.refusal [])
-          ∙ reply_fault (outcomes h.refusal []) (fault_of error) (sym h.answer ∙ subst (IsTold told) e h.status));
+          ∙ reply_fault (outcomes h.refusal []) (fault_of error) (sym h.reply ∙ subst (IsReplied told) e h.status));
       spent = spent;
     }
 
     called_by : (status : Status) → new.status ≡ status → MayPick first.setup.limits (before_inputs n h.refusal) → (IsOpen new.status → Holds first now new) → SpendsInAll (initial_items now.settings.initial_value) first new → ((r : Refusal) → (IsLater r ⊎ (r ≡ h.refusal)) → told ≡ reply (outcomes r []) → Tells first (steps ++ step ∷ []) (given ++ told ∷ []) now (before_inputs n r)) → WentBy first (steps ++ step ∷ []) (given ++ told ∷ []) new status
-    called_by (Waits request waiting) e may holds spent walked =
+    called_by (RequestStatus request waiting) e may holds spent walked =
         let o : IsOpen new.status = subst IsOpen (sym e) tt in
         called_going o (holds o) spent (λ r l. walked r (inl l))
-    called_by (Complete value) e may holds spent walked =
+    called_by (CompleteStatus value) e may holds spent walked =
         let o : IsOpen new.status = subst IsOpen (sym e) tt in
         called_going o (holds o) spent (λ r l. walked r (inl l))
-    called_by (Stopped error) e may holds spent walked = called_over error e may spent (walked h.refusal (inr refl) h.answer)
-    called_by (Start initial_value) e may holds spent walked = absurd (subst (IsTold told) e h.status)
-    called_by Running e may holds spent walked = absurd (subst (IsTold told) e h.status)
+    called_by (FaultStatus error) e may holds spent walked = called_over error e may spent (walked h.refusal (inr refl) h.reply)
+    called_by (Start initial_value) e may holds spent walked = absurd (subst (IsReplied told) e h.status)
+    called_by Running e may holds spent walked = absurd (subst (IsReplied told) e h.status)
 
 -- ---- each call
 
@@ -136,15 +136,15 @@ module _ (first : State) (steps : List Step) (given : List Reply) (x new : State
       ∙ ap (λ (f : Option First). record { settings = told.settings; first = f; inputs = told.inputs }) (sym e)
 
   -- `evaluate` once it is complete
-  completes_again : (value : Option Value) → x.status ≡ Complete value → Going first steps given x → Going first (steps ++ Evaluate ∷ []) (given ++ Completed ∷ []) x
+  completes_again : (value : Option Value) → x.status ≡ CompleteStatus value → Going first steps given x → Going first (steps ++ Evaluate ∷ []) (given ++ CompleteReply ∷ []) x
   completes_again value e w =
-      let is : (r : Refusal) → IsLater r → outcome_of first.setup (before_inputs w.taken r) first.text w.told ≡ Some (Completes x.store.pieces value) = λ r l.
-      going_outcome first steps given x w r l ∙ ap Some (rest_by_status r x [] (Complete value) e) in
+      let is : (r : Refusal) → IsLater r → outcome_of first.setup (before_inputs w.taken r) first.text w.told ≡ Some (CompleteOutcome x.store.pieces value) = λ r l.
+      going_outcome first steps given x w r l ∙ ap Some (rest_by_status r x [] (CompleteStatus value) e) in
       record {
         told = w.told;
         taken = w.taken;
         counted = w.counted;
-        walked = λ r l. walked_more first steps given (given ++ Completed ∷ []) Evaluate (before_inputs w.taken r) w.told w.told (w.walked r l)
+        walked = λ r l. walked_more first steps given (given ++ CompleteReply ∷ []) Evaluate (before_inputs w.taken r) w.told w.told (w.walked r l)
             (subst IsEvaluable (sym (is r l)) tt)
             (begun_already w.told w.settings (outcome_of first.setup (before_inputs w.taken r) first.text w.told) w.started)
             (ap (λ (o : Option Outcome). given ++ replies o) (sym (is r l)));
@@ -156,15 +156,15 @@ module _ (first : State) (steps : List Step) (given : List Reply) (x new : State
       }
 
   -- a call after a fault
-  fails_again : (error : Error) (step : Step) (w : Over first steps given x error) → Allows w.told (Some (Faults (fault_of error))) step → after w.told (Some (Faults (fault_of error))) step ≡ w.told → step_replies step (Some (Faults (fault_of error))) ≡ Faulted (fault_of error) ∷ [] → Over first (steps ++ step ∷ []) (given ++ Faulted (fault_of error) ∷ []) x error
+  fails_again : (error : Error) (step : Step) (w : Over first steps given x error) → Allows w.told (Some (FaultOutcome (fault_of error))) step → after w.told (Some (FaultOutcome (fault_of error))) step ≡ w.told → step_replies step (Some (FaultOutcome (fault_of error))) ≡ FaultReply (fault_of error) ∷ [] → Over first (steps ++ step ∷ []) (given ++ FaultReply (fault_of error) ∷ []) x error
   fails_again error step w allowed after_is replies_are =
-      let is : outcome_of first.setup w.refusal first.text w.told ≡ Some (Faults (fault_of error)) =
+      let is : outcome_of first.setup w.refusal first.text w.told ≡ Some (FaultOutcome (fault_of error)) =
       ap (outcome_from first.setup w.refusal first.text w.told.inputs) w.started ∙ ap Some w.fails in
       record {
         told = w.told;
         refusal = w.refusal;
         may = w.may;
-        walked = walked_more first steps given (given ++ Faulted (fault_of error) ∷ []) step w.refusal w.told w.told w.walked
+        walked = walked_more first steps given (given ++ FaultReply (fault_of error) ∷ []) step w.refusal w.told w.told w.walked
             (subst (λ (o : Option Outcome). Allows w.told o step) (sym is) allowed)
             (ap (λ (o : Option Outcome). after w.told o step) is ∙ after_is)
             (ap (λ (l : List Reply). given ++ l) (sym replies_are ∙ ap (step_replies step) (sym is)));
@@ -175,15 +175,15 @@ module _ (first : State) (steps : List Step) (given : List Reply) (x new : State
       }
 
   -- an answer to an open request
-  goes_on : (told : Reply) (answer : Answer) (request : Request) (waiting : Waiting) → x.status ≡ Waits request waiting → kind_of_request request ≡ kind_of_answer answer → Going first steps given x → Follows x (after_input x (input_of x answer)) told new → Went first (steps ++ Resume answer ∷ []) (given ++ told ∷ []) new
+  goes_on : (told : Reply) (answer : Answer) (request : Request) (waiting : Waiting) → x.status ≡ RequestStatus request waiting → kind_of_request request ≡ kind_of_answer answer → Going first steps given x → Follows x (after_input x (input_of x answer)) told new → Went first (steps ++ Resume answer ∷ []) (given ++ told ∷ []) new
   goes_on told answer request waiting e kind w h =
       let input = input_of x answer in
       let settings = w.told.settings in
       let now : Told = record { settings = settings; first = w.told.first; inputs = w.told.inputs ++ input ∷ [] } in
-      let frame : Frame = record { text = x.text; place = x.place } in
-      let is : (r : Refusal) → outcome_of first.setup (before_inputs w.taken (before_input r)) first.text w.told ≡ Some (Requests request (frame ∷ x.callers)) = λ r.
+      let position : Position = record { text = x.text; place = x.place } in
+      let is : (r : Refusal) → outcome_of first.setup (before_inputs w.taken (before_input r)) first.text w.told ≡ Some (RequestOutcome request (position ∷ x.callers)) = λ r.
       going_outcome first steps given x w (before_input r) (later_before r)
-      ∙ ap Some (rest_by_status (before_input r) x [] (Waits request waiting) e ∙ unwound_open x.setup x.callers request (frame ∷ []) []) in
+      ∙ ap Some (rest_by_status (before_input r) x [] (RequestStatus request waiting) e ∙ unwound_open x.setup x.callers request (position ∷ []) []) in
       let input_is : record { object_address = settings.object_address; maximum = settings.maximum; answer = answer } ≡ input =
       ap (λ (a : Option ℕ). record { object_address = a; maximum = settings.maximum; answer = answer }) (sym w.holds.object_address)
       ∙ ap (λ (m : ℕ). record { object_address = x.store.object_address; maximum = m; answer = answer }) (sym w.holds.maximum) in
@@ -210,36 +210,36 @@ module _ (first : State) (steps : List Step) (given : List Reply) (x new : State
 module _ {R O P : Type 0} (text : R → Text) (number : O → ℕ) (first : State) (steps : List Step) (given : List Reply) (x new : State) where
   evaluates : (status : Status) → x.status ≡ status → (told : Result (EvaluationResult R O P) Error) → WentBy first steps given x status → Evaluates text number x new told status → IsClosed status → Went first (steps ++ Evaluate ∷ []) (given ++ reply_of text number told ∷ []) new
   evaluates (Start initial_value) e told w h c = starts first steps given x new (reply_of text number told) initial_value w h
-  evaluates (Complete value) e told w h c =
-      let again : Went first (steps ++ Evaluate ∷ []) (given ++ Completed ∷ []) x =
-      subst (WentBy first (steps ++ Evaluate ∷ []) (given ++ Completed ∷ []) x) (sym e) (completes_again first steps given x new value e w) in
+  evaluates (CompleteStatus value) e told w h c =
+      let again : Went first (steps ++ Evaluate ∷ []) (given ++ CompleteReply ∷ []) x =
+      subst (WentBy first (steps ++ Evaluate ∷ []) (given ++ CompleteReply ∷ []) x) (sym e) (completes_again first steps given x new value e w) in
       let replied : Went first (steps ++ Evaluate ∷ []) (given ++ reply_of text number told ∷ []) x =
       subst (λ (t : Result (EvaluationResult R O P) Error). Went first (steps ++ Evaluate ∷ []) (given ++ reply_of text number t ∷ []) x) (sym h.0) again in
       subst (Went first (steps ++ Evaluate ∷ []) (given ++ reply_of text number told ∷ [])) (sym h.1) replied
-  evaluates (Stopped error) e told w h c =
-      let again : Went first (steps ++ Evaluate ∷ []) (given ++ Faulted (fault_of error) ∷ []) x =
-      subst (WentBy first (steps ++ Evaluate ∷ []) (given ++ Faulted (fault_of error) ∷ []) x) (sym e)
-      (fails_again first steps given x new error Evaluate w tt (begun_already first steps given x new w.told w.settings (Some (Faults (fault_of error))) w.started) refl) in
+  evaluates (FaultStatus error) e told w h c =
+      let again : Went first (steps ++ Evaluate ∷ []) (given ++ FaultReply (fault_of error) ∷ []) x =
+      subst (WentBy first (steps ++ Evaluate ∷ []) (given ++ FaultReply (fault_of error) ∷ []) x) (sym e)
+      (fails_again first steps given x new error Evaluate w tt (begun_already first steps given x new w.told w.settings (Some (FaultOutcome (fault_of error))) w.started) refl) in
       let replied : Went first (steps ++ Evaluate ∷ []) (given ++ reply_of text number told ∷ []) x =
       subst (λ (t : Result (EvaluationResult R O P) Error). Went first (steps ++ Evaluate ∷ []) (given ++ reply_of text number t ∷ []) x) (sym h.0) again in
       subst (Went first (steps ++ Evaluate ∷ []) (given ++ reply_of text number told ∷ [])) (sym h.1) replied
-  evaluates (Waits request waiting) e told w h c = absurd c
+  evaluates (RequestStatus request waiting) e told w h c = absurd c
   evaluates Running e told w h c = absurd w
 
-  resumes : (status : Status) → x.status ≡ status → (answer : Answer) (told : Result (EvaluationResult R O P) Error) → WentBy first steps given x status → Resumes text number (input_of x answer) x new told status → IsAskingFor (kind_of_answer answer) status → Went first (steps ++ Resume answer ∷ []) (given ++ reply_of text number told ∷ []) new
-  resumes (Waits request waiting) e answer told w h k = goes_on first steps given x new (reply_of text number told) answer request waiting e k w h
-  resumes (Stopped error) e answer told w h k =
-      let again : Went first (steps ++ Resume answer ∷ []) (given ++ Faulted (fault_of error) ∷ []) x =
-      subst (WentBy first (steps ++ Resume answer ∷ []) (given ++ Faulted (fault_of error) ∷ []) x) (sym e)
+  resumes : (status : Status) → x.status ≡ status → (answer : Answer) (told : Result (EvaluationResult R O P) Error) → WentBy first steps given x status → Resumes text number (input_of x answer) x new told status → IsInRequestFor (kind_of_answer answer) status → Went first (steps ++ Resume answer ∷ []) (given ++ reply_of text number told ∷ []) new
+  resumes (RequestStatus request waiting) e answer told w h k = goes_on first steps given x new (reply_of text number told) answer request waiting e k w h
+  resumes (FaultStatus error) e answer told w h k =
+      let again : Went first (steps ++ Resume answer ∷ []) (given ++ FaultReply (fault_of error) ∷ []) x =
+      subst (WentBy first (steps ++ Resume answer ∷ []) (given ++ FaultReply (fault_of error) ∷ []) x) (sym e)
       (fails_again first steps given x new error (Resume answer) w tt refl refl) in
       let replied : Went first (steps ++ Resume answer ∷ []) (given ++ reply_of text number told ∷ []) x =
       subst (λ (t : Result (EvaluationResult R O P) Error). Went first (steps ++ Resume answer ∷ []) (given ++ reply_of text number t ∷ []) x) (sym h.0) again in
       subst (Went first (steps ++ Resume answer ∷ []) (given ++ reply_of text number told ∷ [])) (sym h.1) replied
   resumes (Start initial_value) e answer told w h k = absurd k
-  resumes (Complete value) e answer told w h k = absurd k
+  resumes (CompleteStatus value) e answer told w h k = absurd k
   resumes Running e answer told w h k = absurd k
 
-  pub called_went_on : (step : Step) (told : Result (EvaluationResult R O P) Error) → IsCalled text number step x new told → Went first steps given x → Went first (steps ++ step ∷ []) (given ++ reply_of text number told ∷ []) new
+  pub called_went_on : (step : Step) (told : Result (EvaluationResult R O P) Error) → HasReplied text number step x new told → Went first steps given x → Went first (steps ++ step ∷ []) (given ++ reply_of text number told ∷ []) new
   called_went_on Evaluate told h w = evaluates x.status refl told w h.1 h.0
   called_went_on (Resume answer) told h w = resumes x.status refl answer told w h.1 h.0
   called_went_on (InitialValue value) told h w = absurd h

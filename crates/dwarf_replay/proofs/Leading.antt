@@ -2,13 +2,13 @@
 use Rattle.std.proofs.Common.{ℕ, ◌≡◌, List, [], ◌∷◌, ◌++◌, length, Option, Some, None, take, slice_get, ap, ◌∙◌, sym, refl, subst}
 use Rattle.dwarf_base.specs.Faults.{fault_of}
 use Rattle.dwarf_meaning.specs.Stores.{Refusal, Never}
-use Rattle.dwarf_meaning.specs.Run.{Frame}
-use Rattle.dwarf_meaning.specs.Meaning.{Outcome, Requests, Faults, Completes, First, meaning}
-use Rattle.dwarf_meaning.specs.Rest.{State, Status, Start, Running, Waits, Complete, Stopped}
+use Rattle.dwarf_meaning.specs.Run.{Position}
+use Rattle.dwarf_meaning.specs.Meaning.{Outcome, RequestOutcome, FaultOutcome, CompleteOutcome, First, meaning}
+use Rattle.dwarf_meaning.specs.Rest.{State, Status, Start, Running, RequestStatus, CompleteStatus, FaultStatus}
 use Rattle.dwarf_meaning.specs.Steps.{Step, InitialValue, ObjectAddress, MaxIterations, Evaluate, Resume, Told, Reply, Allows, outcome_of, outcome_from}
-use Rattle.dwarf_eval.specs.Calls.{MayPick}
+use Rattle.dwarf_eval.specs.Evaluation.{MayPick}
 use Rattle.dwarf_replay.specs.Stepping.{MayTake}
-use Rattle.dwarf_replay.specs.Replays.{IsAsking, IsStopped, AreSet, StandsAt, Tells, before_inputs, IsUnbegun, IsLeft, Leaves, Walks, WalksTo}
+use Rattle.dwarf_replay.specs.Replays.{IsInRequest, IsInFault, AreSet, StandsAt, Tells, before_inputs, IsUnbegun, IsLeft, Leaves, Walks, WalksTo}
 use Rattle.dwarf_eval.specs.Bounds.{SpendsInAll, initial_items}
 use Rattle.dwarf_replay.proofs.Rests.{unwound_open}
 use Rattle.dwarf_replay.proofs.Standings.{Holds, Unstarted, Going, WentBy, Went, may_inputs}
@@ -54,9 +54,9 @@ module _ (first : State) (steps : List Step) (given : List Reply) (x : State) (P
   -- what has to hold of what was told, by where the evaluation stands
   abbrev Wanted : Status → Type 0
   Wanted (Start initial_value) = (told : Told) → told.first ≡ None → told.settings.initial_value ≡ initial_value → P told None
-  Wanted (Waits request waiting) = (told : Told) (settings : First) (frames : List Frame) → told.first ≡ Some settings → P told (Some (Requests request frames))
-  Wanted (Complete value) = (told : Told) (settings : First) → told.first ≡ Some settings → P told (Some (Completes x.store.pieces value))
-  Wanted (Stopped error) = (told : Told) (settings : First) → told.first ≡ Some settings → P told (Some (Faults (fault_of error)))
+  Wanted (RequestStatus request waiting) = (told : Told) (settings : First) (positions : List Position) → told.first ≡ Some settings → P told (Some (RequestOutcome request positions))
+  Wanted (CompleteStatus value) = (told : Told) (settings : First) → told.first ≡ Some settings → P told (Some (CompleteOutcome x.store.pieces value))
+  Wanted (FaultStatus error) = (told : Told) (settings : First) → told.first ≡ Some settings → P told (Some (FaultOutcome (fault_of error)))
   Wanted Running = Unit {0}
 
   are_set : (told : Told) → Holds first told x → AreSet told x
@@ -66,26 +66,26 @@ module _ (first : State) (steps : List Step) (given : List Reply) (x : State) (P
   led_by (Start initial_value) e w wanted =
       led w.told Never None (w.walked Never) tt (ap (outcome_from first.setup Never first.text w.told.inputs) w.started) (e ∙ ap Start (sym w.initial), are_set w.told w.holds) w.spent
       (subst (Leaves first steps given w.told x) (sym e) (unbegun_leaves first steps given x initial_value w)) (wanted w.told w.started w.initial)
-  led_by (Waits request waiting) e w wanted =
-      let frame : Frame = record { text = x.text; place = x.place } in
-      led w.told (before_inputs w.taken Never) (Some (Requests request (frame ∷ x.callers))) (w.walked Never tt) (may_inputs first.setup.limits w.taken Never tt)
+  led_by (RequestStatus request waiting) e w wanted =
+      let position : Position = record { text = x.text; place = x.place } in
+      led w.told (before_inputs w.taken Never) (Some (RequestOutcome request (position ∷ x.callers))) (w.walked Never tt) (may_inputs first.setup.limits w.taken Never tt)
       (going_outcome first steps given x w Never tt
-      ∙ ap Some (rest_by_status Never x [] (Waits request waiting) e ∙ unwound_open x.setup x.callers request (frame ∷ []) []))
-      (subst (IsAsking request (frame ∷ x.callers) x) (sym e) (refl, refl), are_set w.told w.holds)
+      ∙ ap Some (rest_by_status Never x [] (RequestStatus request waiting) e ∙ unwound_open x.setup x.callers request (position ∷ []) []))
+      (subst (IsInRequest request (position ∷ x.callers) x) (sym e) (refl, refl), are_set w.told w.holds)
       w.spent
       (subst (Leaves first steps given w.told x) (sym e) (going_leaves first steps given x w))
-      (wanted w.told w.settings (frame ∷ x.callers) w.started)
-  led_by (Complete value) e w wanted =
-      led w.told (before_inputs w.taken Never) (Some (Completes x.store.pieces value)) (w.walked Never tt) (may_inputs first.setup.limits w.taken Never tt)
-      (going_outcome first steps given x w Never tt ∙ ap Some (rest_by_status Never x [] (Complete value) e))
+      (wanted w.told w.settings (position ∷ x.callers) w.started)
+  led_by (CompleteStatus value) e w wanted =
+      led w.told (before_inputs w.taken Never) (Some (CompleteOutcome x.store.pieces value)) (w.walked Never tt) (may_inputs first.setup.limits w.taken Never tt)
+      (going_outcome first steps given x w Never tt ∙ ap Some (rest_by_status Never x [] (CompleteStatus value) e))
       (e, refl)
       w.spent
       (subst (Leaves first steps given w.told x) (sym e) (going_leaves first steps given x w))
       (wanted w.told w.settings w.started)
-  led_by (Stopped error) e w wanted =
-      led w.told w.refusal (Some (Faults (fault_of error))) w.walked w.may
+  led_by (FaultStatus error) e w wanted =
+      led w.told w.refusal (Some (FaultOutcome (fault_of error))) w.walked w.may
       (ap (outcome_from first.setup w.refusal first.text w.told.inputs) w.started ∙ ap Some w.fails)
-      (subst (IsStopped (fault_of error)) (sym e) refl)
+      (subst (IsInFault (fault_of error)) (sym e) refl)
       w.spent
       (subst (Leaves first steps given w.told x) (sym e) tt)
       (wanted w.told w.settings w.started)
@@ -94,9 +94,9 @@ module _ (first : State) (steps : List Step) (given : List Reply) (x : State) (P
 -- all steps were done
 wanted_all : (x : State) (first : State) (steps : List Step) (given : List Reply) (status : Status) → Wanted first steps given x (λ told outcome. Unit {0}) status
 wanted_all x first steps given (Start initial_value) = λ told s i. tt
-wanted_all x first steps given (Waits request waiting) = λ told settings frames s. tt
-wanted_all x first steps given (Complete value) = λ told settings s. tt
-wanted_all x first steps given (Stopped error) = λ told settings s. tt
+wanted_all x first steps given (RequestStatus request waiting) = λ told settings positions s. tt
+wanted_all x first steps given (CompleteStatus value) = λ told settings s. tt
+wanted_all x first steps given (FaultStatus error) = λ told settings s. tt
 wanted_all x first steps given Running = tt
 
 pub walks_all : (first : State) (steps : List Step) (given : List Reply) (x : State) → Went first steps given x → Walks first steps given x
@@ -109,29 +109,29 @@ Misplaced step told outcome = Allows told outcome step → ⊥
 
 wanted_not : (first : State) (steps : List Step) (given : List Reply) (x : State) (step : Step) (status : Status) → (MayTake step status → ⊥) → Wanted first steps given x (Misplaced step) status
 wanted_not first steps given x (InitialValue number) (Start initial_value) h = λ told s i a. h (ap Start (sym i ∙ a.initial_value))
-wanted_not first steps given x (InitialValue number) (Waits request waiting) h = λ told settings frames s a. some_not_none settings (sym s ∙ a.first)
-wanted_not first steps given x (InitialValue number) (Complete value) h = λ told settings s a. some_not_none settings (sym s ∙ a.first)
-wanted_not first steps given x (InitialValue number) (Stopped error) h = λ told settings s a. some_not_none settings (sym s ∙ a.first)
+wanted_not first steps given x (InitialValue number) (RequestStatus request waiting) h = λ told settings positions s a. some_not_none settings (sym s ∙ a.first)
+wanted_not first steps given x (InitialValue number) (CompleteStatus value) h = λ told settings s a. some_not_none settings (sym s ∙ a.first)
+wanted_not first steps given x (InitialValue number) (FaultStatus error) h = λ told settings s a. some_not_none settings (sym s ∙ a.first)
 wanted_not first steps given x (InitialValue number) Running h = tt
 wanted_not first steps given x (ObjectAddress address) (Start initial_value) h = absurd (h tt)
-wanted_not first steps given x (ObjectAddress address) (Waits request waiting) h = absurd (h tt)
-wanted_not first steps given x (ObjectAddress address) (Complete value) h = absurd (h tt)
-wanted_not first steps given x (ObjectAddress address) (Stopped error) h = absurd (h tt)
+wanted_not first steps given x (ObjectAddress address) (RequestStatus request waiting) h = absurd (h tt)
+wanted_not first steps given x (ObjectAddress address) (CompleteStatus value) h = absurd (h tt)
+wanted_not first steps given x (ObjectAddress address) (FaultStatus error) h = absurd (h tt)
 wanted_not first steps given x (ObjectAddress address) Running h = tt
 wanted_not first steps given x (MaxIterations maximum) (Start initial_value) h = absurd (h tt)
-wanted_not first steps given x (MaxIterations maximum) (Waits request waiting) h = absurd (h tt)
-wanted_not first steps given x (MaxIterations maximum) (Complete value) h = absurd (h tt)
-wanted_not first steps given x (MaxIterations maximum) (Stopped error) h = absurd (h tt)
+wanted_not first steps given x (MaxIterations maximum) (RequestStatus request waiting) h = absurd (h tt)
+wanted_not first steps given x (MaxIterations maximum) (CompleteStatus value) h = absurd (h tt)
+wanted_not first steps given x (MaxIterations maximum) (FaultStatus error) h = absurd (h tt)
 wanted_not first steps given x (MaxIterations maximum) Running h = tt
 wanted_not first steps given x Evaluate (Start initial_value) h = absurd (h tt)
-wanted_not first steps given x Evaluate (Waits request waiting) h = λ told settings frames s a. a
-wanted_not first steps given x Evaluate (Complete value) h = absurd (h tt)
-wanted_not first steps given x Evaluate (Stopped error) h = absurd (h tt)
+wanted_not first steps given x Evaluate (RequestStatus request waiting) h = λ told settings positions s a. a
+wanted_not first steps given x Evaluate (CompleteStatus value) h = absurd (h tt)
+wanted_not first steps given x Evaluate (FaultStatus error) h = absurd (h tt)
 wanted_not first steps given x Evaluate Running h = tt
 wanted_not first steps given x (Resume answer) (Start initial_value) h = λ told s i a. a
-wanted_not first steps given x (Resume answer) (Waits request waiting) h = λ told settings frames s a. h a
-wanted_not first steps given x (Resume answer) (Complete value) h = λ told settings s a. a
-wanted_not first steps given x (Resume answer) (Stopped error) h = absurd (h tt)
+wanted_not first steps given x (Resume answer) (RequestStatus request waiting) h = λ told settings positions s a. h a
+wanted_not first steps given x (Resume answer) (CompleteStatus value) h = λ told settings s a. a
+wanted_not first steps given x (Resume answer) (FaultStatus error) h = absurd (h tt)
 wanted_not first steps given x (Resume answer) Running h = tt
 
 pub walks_to : (first : State) (all : List Step) (index : ℕ) (given : List Reply) (x : State) (step : Step) → slice_get all index ≡ Some step → Went first (take index all) given x → (MayTake step x.status → ⊥) → WalksTo index first all given x

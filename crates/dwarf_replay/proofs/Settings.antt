@@ -4,9 +4,9 @@ use Rattle.std.proofs.lemmas.List.{append-nil}
 use Rattle.dwarf_meaning.specs.Requests.{Request, Waiting, Input}
 use Rattle.dwarf_meaning.specs.Stores.{Refusal}
 use Rattle.dwarf_meaning.specs.Meaning.{Outcome, meaning}
-use Rattle.dwarf_meaning.specs.Rest.{State, Status, Start, Running, Waits, Complete, Stopped, with_refusal, rest_by, rest}
+use Rattle.dwarf_meaning.specs.Rest.{State, Status, Start, Running, RequestStatus, CompleteStatus, FaultStatus, with_refusal, rest_by, rest}
 use Rattle.dwarf_meaning.specs.Steps.{Step, InitialValue, ObjectAddress, MaxIterations, Evaluate, Resume, Told, Reply, Allows, after, step_replies}
-use Rattle.dwarf_eval.specs.Calls.{with_object, with_maximum, IsOpen, with_status}
+use Rattle.dwarf_eval.specs.Evaluation.{with_object, with_maximum, IsOpen, with_status}
 use Rattle.dwarf_replay.specs.Stepping.{IsSet}
 use Rattle.dwarf_replay.specs.Replays.{Tells, before_inputs}
 use Rattle.dwarf_eval.specs.Bounds.{Spends, SpendsInAll, initial_items}
@@ -21,15 +21,15 @@ module _ (first : State) where
   abbrev set_to : Option ℕ → ℕ → State → State
   set_to object maximum x = record x { store = record x.store { object_address = object; maximum = maximum } }
 
-  waits_set : (object : Option ℕ) (maximum : ℕ) (r : Refusal) (x : State) (inputs : List Input) (request : Request) (waiting : Waiting) → rest_by (set_to object maximum x) (with_refusal r (set_to object maximum x).store) inputs (Waits request waiting) ≡ rest_by x (with_refusal r x.store) inputs (Waits request waiting)
+  waits_set : (object : Option ℕ) (maximum : ℕ) (r : Refusal) (x : State) (inputs : List Input) (request : Request) (waiting : Waiting) → rest_by (set_to object maximum x) (with_refusal r (set_to object maximum x).store) inputs (RequestStatus request waiting) ≡ rest_by x (with_refusal r x.store) inputs (RequestStatus request waiting)
   waits_set object maximum r x [] request waiting = refl
   waits_set object maximum r x (input ∷ inputs) request waiting = refl
 
   rest_set_by : (object : Option ℕ) (maximum : ℕ) (r : Refusal) (x : State) (inputs : List Input) (status : Status) → IsOpen status → rest_by (set_to object maximum x) (with_refusal r (set_to object maximum x).store) inputs status ≡ rest_by x (with_refusal r x.store) inputs status
-  rest_set_by object maximum r x inputs (Waits request waiting) h = waits_set object maximum r x inputs request waiting
-  rest_set_by object maximum r x inputs (Complete value) h = refl
+  rest_set_by object maximum r x inputs (RequestStatus request waiting) h = waits_set object maximum r x inputs request waiting
+  rest_set_by object maximum r x inputs (CompleteStatus value) h = refl
   rest_set_by object maximum r x inputs (Start initial_value) h = absurd h
-  rest_set_by object maximum r x inputs (Stopped error) h = absurd h
+  rest_set_by object maximum r x inputs (FaultStatus error) h = absurd h
   rest_set_by object maximum r x inputs Running h = absurd h
 
   rest_set : (object : Option ℕ) (maximum : ℕ) (r : Refusal) (x : State) (inputs : List Input) → IsOpen x.status → rest r (set_to object maximum x) inputs ≡ rest r x inputs
@@ -89,9 +89,9 @@ module _ (first : State) where
       holds = s.holds w.told w.holds;
       spent = set_spent w.told w.spent;
     }
-    set_by (Waits request waiting) e w = set_going (subst IsOpen (sym e) tt) w
-    set_by (Complete value) e w = set_going (subst IsOpen (sym e) tt) w
-    set_by (Stopped error) e w = record {
+    set_by (RequestStatus request waiting) e w = set_going (subst IsOpen (sym e) tt) w
+    set_by (CompleteStatus value) e w = set_going (subst IsOpen (sym e) tt) w
+    set_by (FaultStatus error) e w = record {
       told = s.tells w.told;
       refusal = w.refusal;
       may = w.may;

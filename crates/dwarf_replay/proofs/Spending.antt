@@ -37,7 +37,7 @@ spent_initial number a b c was is h =
     let p = ap (piece_due b.store.last) was in
     let i = ap initial_due was in
     let d = ap answer_due was in
-    let frames = ap (λ (z : State). length z.callers) is in
+    let positions = ap (λ (z : State). length z.callers) is in
     let count = ap (λ (z : State). z.store.count) is in
     let q = ap (λ (z : State). piece_due z.store.last z.status) is in
     let j = ap (λ (z : State). initial_due z.status) is in
@@ -46,7 +46,7 @@ spent_initial number a b c was is h =
     let lists = ap (λ (z : State). length z.store.values + length z.callers + length z.store.pieces) is in
     record {
       items = omega (arith, items, p, i, d, lists, count, q, j, e);
-      callers = omega (arith, callers, d, e, frames, count);
+      callers = omega (arith, callers, d, e, positions, count);
       decodings = omega (arith, decodings, p, q, read, count);
       once = λ was_once.
           let met = ap faults_in was in

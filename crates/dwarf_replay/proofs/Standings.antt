@@ -4,10 +4,10 @@ use Rattle.dwarf_base.specs.declared.errors.Error.{Error}
 use Rattle.dwarf_base.specs.Faults.{fault_of}
 use Rattle.dwarf_meaning.specs.Requests.{Input}
 use Rattle.dwarf_meaning.specs.Stores.{Refusal, Never, After, Limits}
-use Rattle.dwarf_meaning.specs.Meaning.{Faults, First, meaning}
-use Rattle.dwarf_meaning.specs.Rest.{State, Status, Start, Running, Waits, Complete, Stopped, rest}
+use Rattle.dwarf_meaning.specs.Meaning.{FaultOutcome, First, meaning}
+use Rattle.dwarf_meaning.specs.Rest.{State, Status, Start, Running, RequestStatus, CompleteStatus, FaultStatus, rest}
 use Rattle.dwarf_meaning.specs.Steps.{Step, Told, Reply}
-use Rattle.dwarf_eval.specs.Calls.{IsLater, MayPick, before_input}
+use Rattle.dwarf_eval.specs.Evaluation.{IsLater, MayPick, before_input}
 use Rattle.dwarf_replay.specs.Replays.{told_at, Tells, before_inputs}
 use Rattle.dwarf_eval.specs.Bounds.{SpendsInAll, initial_items}
 use Rattle.dwarf_replay.proofs.Spending.{spent_here}
@@ -51,14 +51,14 @@ pub record Over (first : State) (steps : List Step) (given : List Reply) (x : St
   pub walked : Tells first steps given told refusal
   pub settings : First
   pub started : told.first ≡ Some settings
-  pub fails : meaning first.setup refusal first.text settings told.inputs ≡ Faults (fault_of error)
+  pub fails : meaning first.setup refusal first.text settings told.inputs ≡ FaultOutcome (fault_of error)
   pub spent : SpendsInAll (initial_items told.settings.initial_value) first x
 
 abbrev pub WentBy : State → List Step → List Reply → State → Status → Type 0
 WentBy first steps given x (Start initial_value) = Unstarted first steps given x initial_value
-WentBy first steps given x (Waits request waiting) = Going first steps given x
-WentBy first steps given x (Complete value) = Going first steps given x
-WentBy first steps given x (Stopped error) = Over first steps given x error
+WentBy first steps given x (RequestStatus request waiting) = Going first steps given x
+WentBy first steps given x (CompleteStatus value) = Going first steps given x
+WentBy first steps given x (FaultStatus error) = Over first steps given x error
 WentBy first steps given x Running = ⊥
 
 abbrev pub Went : State → List Step → List Reply → State → Type 0

@@ -10,9 +10,9 @@ use Rattle.dwarf_meaning.specs.Requests.{Answer}
 use Rattle.dwarf_meaning.specs.Stores.{Setup, Refusal}
 use Rattle.dwarf_meaning.specs.Meaning.{First, meaning}
 use Rattle.dwarf_meaning.specs.Rest.{State}
-use Rattle.dwarf_meaning.specs.Steps.{Step, InitialValue, ObjectAddress, MaxIterations, Evaluate, Resume, Told, Reply, reply, replies, Awaits, Allows, AllAllowed, begun, after_step, after_steps, answers, outcome_of, outcome_from, step_replies}
+use Rattle.dwarf_meaning.specs.Steps.{Step, InitialValue, ObjectAddress, MaxIterations, Evaluate, Resume, Told, Reply, reply, replies, Awaits, Allows, AllAllowed, begun, after_step, after_steps, replies_of, outcome_of, outcome_from, step_replies}
 use Rattle.dwarf_store.specs.Lists.{MayRefuse}
-use Rattle.dwarf_replay.specs.Stepping.{step_of, MayTake, IsSet, IsCalled}
+use Rattle.dwarf_replay.specs.Stepping.{step_of, MayTake, IsSet, HasReplied}
 use Rattle.dwarf_replay.specs.inner.Keeping.{IsKept}
 use Rattle.dwarf_replay.specs.Replays.{told_at, steps_of, reply_in, replies_in, Walks, WalksTo, WalksOver}
 use Rattle.dwarf_replay.specs.declared.steps.Step as code
@@ -57,7 +57,7 @@ module _ (setup : Setup) (refusal : Refusal) (text : Text) where
         one = ap (λ (f : Option First). replies (outcome_from setup refusal text now.inputs f)) e;
       }
 
-  call_replies : {R O P : Type 0} (view : R → Text) (number : O → ℕ) (step : Step) (told : Told) (x new : State) (given : Result (EvaluationResult R O P) Error) → IsCalled view number step x new given → Allows told (outcome_of setup refusal text told) step → Replies step told
+  call_replies : {R O P : Type 0} (view : R → Text) (number : O → ℕ) (step : Step) (told : Told) (x new : State) (given : Result (EvaluationResult R O P) Error) → HasReplied view number step x new given → Allows told (outcome_of setup refusal text told) step → Replies step told
   call_replies view number Evaluate told x new given c h = record { reply_is = reply (meaning setup refusal text (begun told.settings told.first) told.inputs); one = refl }
   call_replies view number (Resume answer) told x new given c h = started_replies answer told told.first refl h
   call_replies view number (InitialValue value) told x new given c h = absurd c
@@ -65,9 +65,9 @@ module _ (setup : Setup) (refusal : Refusal) (text : Text) where
   call_replies view number (MaxIterations maximum) told x new given c h = absurd c
 
 -- the steps up to one whose answer found no room, in either writing
-walks_over : (first : State) (all : List Step) (index : ℕ) (one : Reply) (limit : Option ℕ) (before : List Reply) (new : State) (done : List Step) → take (suc index) all ≡ done → (whole : Walks first done (before ++ one ∷ []) new) → before ≡ answers first.setup whole.refusal first.text (told_at first) (take index all) → (step : Step) × (slice_get all index ≡ Some step) → MayRefuse limit (length before) → WalksOver index one limit first all before new
+walks_over : (first : State) (all : List Step) (index : ℕ) (one : Reply) (limit : Option ℕ) (before : List Reply) (new : State) (done : List Step) → take (suc index) all ≡ done → (whole : Walks first done (before ++ one ∷ []) new) → before ≡ replies_of first.setup whole.refusal first.text (told_at first) (take index all) → (step : Step) × (slice_get all index ≡ Some step) → MayRefuse limit (length before) → WalksOver index one limit first all before new
 walks_over first all index one limit before new done e whole fits inside full =
-    let Over : List Step → Type 0 = λ l. (w : Walks first l (before ++ one ∷ []) new) → before ≡ answers first.setup w.refusal first.text (told_at first) (take index all) → WalksOver index one limit first all before new in
+    let Over : List Step → Type 0 = λ l. (w : Walks first l (before ++ one ∷ []) new) → before ≡ replies_of first.setup w.refusal first.text (told_at first) (take index all) → WalksOver index one limit first all before new in
     subst Over e (λ w f. record { walks = w; before = f; inside = inside; full = full }) whole fits
 
 module _ {R : Type 0} (view : R → Text) (all : List (code.Step R)) (index : ℕ) (step : code.Step R) (is_next : slice_get all index ≡ Some step) where
@@ -101,7 +101,7 @@ module _ {R O P : Type 0} (view : R → Text) (number : O → ℕ) (first : Stat
         (walks_to first (steps_of view all) index (replies_in view number given) x (step_of view step) (next_is view all index step is_next) w h.1))
 
     -- the step's answer found no room
-    pub overflowed : (limit : Option ℕ) (answer : kept_answer.Answer R O P) → IsCalled view number (step_of view step) x new answer.0 × (answers_now ≡ given) × MayRefuse limit (length given) → WalksOver index (reply_in view number answer) limit first (steps_of view all) (replies_in view number answers_now) new
+    pub overflowed : (limit : Option ℕ) (answer : kept_answer.Answer R O P) → HasReplied view number (step_of view step) x new answer.0 × (answers_now ≡ given) × MayRefuse limit (length given) → WalksOver index (reply_in view number answer) limit first (steps_of view all) (replies_in view number answers_now) new
     overflowed limit answer h =
         let done = take index (steps_of view all) in
         let one = reply_in view number answer in
@@ -111,10 +111,10 @@ module _ {R O P : Type 0} (view : R → Text) (number : O → ℕ) (first : Stat
         let r = whole.refusal in
         let told = after_steps first.setup r first.text (told_at first) done in
         let calls = call_replies first.setup r first.text view number (step_of view step) told x new answer.0 h.0 (last_allowed first.setup r first.text (told_at first) done (step_of view step) whole.tells.allowed) in
-        let fits : before ≡ answers first.setup r first.text (told_at first) done =
-        same_front before (answers first.setup r first.text (told_at first) done) one calls.reply_is
+        let fits : before ≡ replies_of first.setup r first.text (told_at first) done =
+        same_front before (replies_of first.setup r first.text (told_at first) done) one calls.reply_is
         (whole.tells.replies_are ∙ (answers_more first.setup r first.text (told_at first) done (step_of view step)
-        ∙ ap (λ (l : List Reply). answers first.setup r first.text (told_at first) done ++ l) calls.one)) in
+        ∙ ap (λ (l : List Reply). replies_of first.setup r first.text (told_at first) done ++ l) calls.one)) in
         let full = subst (MayRefuse limit) (sym (length-map given (reply_in view number))) h.2 in
         subst (λ (l : List (kept_answer.Answer R O P)). WalksOver index one limit first (steps_of view all) (replies_in view number l) new) (sym h.1)
         (walks_over first (steps_of view all) index one limit before new (done ++ step_of view step ∷ []) (take_next view all index step is_next) whole fits

@@ -3,9 +3,9 @@ use Rattle.std.proofs.Common.{◌≡◌, ap, ◌∙◌, sym, refl}
 use Rattle.dwarf_meaning.specs.Kinds as meaning
 use Rattle.dwarf_meaning.specs.Kinds.{Kind}
 use Rattle.dwarf_meaning.specs.Rest as rest
-use Rattle.dwarf_meaning.specs.Rest.{Start, Running, Waits, Complete, Stopped}
-use Rattle.dwarf_eval.specs.Answers.{Shows, kind_of}
-use Rattle.dwarf_replay.specs.Stepping.{IsAskingFor}
+use Rattle.dwarf_meaning.specs.Rest.{Start, Running, RequestStatus, CompleteStatus, FaultStatus}
+use Rattle.dwarf_eval.specs.Permits.{Shows, kind_of}
+use Rattle.dwarf_replay.specs.Stepping.{IsInRequestFor}
 use Rattle.dwarf_eval.specs.declared.eval.states.Status.TheVariants as status
 use Rattle.dwarf_eval.specs.declared.eval.states.WaitingKind.{WaitingKind}
 use Rattle.dwarf_eval.specs.declared.eval.states.WaitingKind.TheVariants as kind
@@ -42,16 +42,16 @@ same_name : (k j : WaitingKind) → kind_of k ≡ kind_of j → k ≡ j
 same_name k j e = sym (named k) ∙ (ap name_of e ∙ named j)
 
 -- the kind that is shown is that of what is asked
-pub asks : (s : rest.Status) (k j : WaitingKind) → Shows s (status.Waiting k) → k ≡ j → IsAskingFor (kind_of j) s
-asks (Waits request waiting) k j h e = sym h.1 ∙ ap kind_of e
+pub asks : (s : rest.Status) (k j : WaitingKind) → Shows s (status.Waiting k) → k ≡ j → IsInRequestFor (kind_of j) s
+asks (RequestStatus request waiting) k j h e = sym h.1 ∙ ap kind_of e
 asks (Start initial_value) k j h e = cc
-asks (Complete value) k j h e = cc
-asks (Stopped error) k j h e = cc
+asks (CompleteStatus value) k j h e = cc
+asks (FaultStatus error) k j h e = cc
 asks Running k j h e = absurd h
 
-pub is_asked : (s : rest.Status) (k j : WaitingKind) → Shows s (status.Waiting k) → IsAskingFor (kind_of j) s → k ≡ j
-is_asked (Waits request waiting) k j h a = same_name k j (h.1 ∙ a)
+pub is_asked : (s : rest.Status) (k j : WaitingKind) → Shows s (status.Waiting k) → IsInRequestFor (kind_of j) s → k ≡ j
+is_asked (RequestStatus request waiting) k j h a = same_name k j (h.1 ∙ a)
 is_asked (Start initial_value) k j h a = absurd a
-is_asked (Complete value) k j h a = absurd a
-is_asked (Stopped error) k j h a = cc
+is_asked (CompleteStatus value) k j h a = absurd a
+is_asked (FaultStatus error) k j h a = cc
 is_asked Running k j h a = absurd h

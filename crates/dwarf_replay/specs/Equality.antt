@@ -3,7 +3,7 @@ use Rattle.std.specs.Prelude.{ℕ, Result, Ok, Err}
 use Rattle.dwarf_base.specs.declared.errors.Error.{Error}
 use Rattle.dwarf_meaning.specs.Operations.{Text}
 use Rattle.dwarf_meaning.specs.Steps.{Reply}
-use Rattle.dwarf_eval.specs.Calls.{told_of}
+use Rattle.dwarf_eval.specs.Evaluation.{ok_reply}
 use Rattle.dwarf_replay.specs.declared.steps.Replayed.{Replayed}
 use Rattle.dwarf_replay.specs.declared.steps.Replayed.TheVariants as replayed
 use Rattle.dwarf_replay.specs.declared.steps.Stepped.{Stepped}
@@ -12,7 +12,7 @@ use Rattle.dwarf_eval.specs.declared.op.results.EvaluationResult.{EvaluationResu
 
 -- what a call gave
 abbrev pub given_of : {R O P : Type 0} → (R → Text) → (O → ℕ) → Result (EvaluationResult R O P) Error → Result Reply Error
-given_of text number (Ok told) = Ok (told_of text number told)
+given_of text number (Ok told) = Ok (ok_reply text number told)
 given_of text number (Err error) = Err error
 
 -- what came of a step
@@ -21,6 +21,7 @@ pub data Came : Type 0 where
   Set : Came
   Answered : Result Reply Error → Came
 
+-- what a step of the code came to
 abbrev pub came_of : {R O P : Type 0} → (R → Text) → (O → ℕ) → Stepped R O P → Came
 came_of text number stepped.Misplaced = Misplaced
 came_of text number stepped.Set = Set
@@ -32,6 +33,7 @@ pub data Ended : Type 0 where
   MisplacedAt : (index : ℕ) → Ended
   NoRoom : (index : ℕ) → Result Reply Error → Ended
 
+-- how a replay of the code ended
 abbrev pub ended_of : {R O P : Type 0} → (R → Text) → (O → ℕ) → Replayed R O P → Ended
 ended_of text number replayed.Done = Done
 ended_of text number (replayed.Misplaced index) = MisplacedAt index

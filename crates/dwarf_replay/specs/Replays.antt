@@ -4,13 +4,13 @@ use Rattle.dwarf_base.specs.Faults.{Fault, fault_of}
 use Rattle.dwarf_meaning.specs.Operations.{Text}
 use Rattle.dwarf_meaning.specs.Requests.{Request, Input}
 use Rattle.dwarf_meaning.specs.Stores.{Refusal}
-use Rattle.dwarf_meaning.specs.Run.{Frame}
-use Rattle.dwarf_meaning.specs.Meaning.{Outcome, Requests, Faults, Completes}
-use Rattle.dwarf_meaning.specs.Rest.{State, Status, Start, Running, Waits, Complete, Stopped, rest}
+use Rattle.dwarf_meaning.specs.Run.{Position}
+use Rattle.dwarf_meaning.specs.Meaning.{Outcome, RequestOutcome, FaultOutcome, CompleteOutcome}
+use Rattle.dwarf_meaning.specs.Rest.{State, Status, Start, Running, RequestStatus, CompleteStatus, FaultStatus, rest}
 use Rattle.dwarf_meaning.specs.Steps as meaning
-use Rattle.dwarf_meaning.specs.Steps.{Told, Reply, Allows, AllAllowed, answers, after_steps, outcome_of, outcome_from}
+use Rattle.dwarf_meaning.specs.Steps.{Told, Reply, Allows, AllAllowed, replies_of, after_steps, outcome_of, outcome_from}
 use Rattle.dwarf_eval.specs.Bounds.{initial_items, SpendsInAll}
-use Rattle.dwarf_eval.specs.Calls.{first_of, reply_of, before_input, IsLater, MayPick}
+use Rattle.dwarf_eval.specs.Evaluation.{first_of, reply_of, before_input, IsLater, MayPick}
 use Rattle.dwarf_store.specs.Lists.{MayRefuse}
 use Rattle.dwarf_replay.specs.Stepping.{step_of}
 use Rattle.dwarf_replay.specs.declared.steps.Step.{Step}
@@ -18,13 +18,15 @@ use Rattle.dwarf_replay.specs.declared.steps.Answer.{Answer}
 use Rattle.dwarf_replay.specs.declared.steps.Replayed.{Replayed}
 use Rattle.dwarf_replay.specs.declared.steps.Replayed.TheVariants as replayed
 
+-- the steps of the code, as the definitions have them
 abbrev pub steps_of : {R : Type 0} → (R → Text) → List (Step R) → List meaning.Step
 steps_of text steps = map (step_of text) steps
 
--- what an answer in the list says
+-- the reply that an item of the list says
 abbrev pub reply_in : {R O P : Type 0} → (R → Text) → (O → ℕ) → Answer R O P → Reply
 reply_in text number answer = reply_of text number answer.0
 
+-- the replies that the list says
 abbrev pub replies_in : {R O P : Type 0} → (R → Text) → (O → ℕ) → List (Answer R O P) → List Reply
 replies_in text number given = map (reply_in text number) given
 
@@ -35,20 +37,20 @@ told_at x = record { settings = first_of x None; first = None; inputs = [] }
 -- ---- where an evaluation stands
 
 -- it waits in this request, with these texts open
-abbrev pub IsAsking : Request → List Frame → State → Status → Type 0
-IsAsking request frames x (Waits open_request waiting) = (open_request ≡ request) × (frames ≡ record { text = x.text; place = x.place } ∷ x.callers)
-IsAsking request frames x (Start initial_value) = ⊥
-IsAsking request frames x (Complete value) = ⊥
-IsAsking request frames x (Stopped error) = ⊥
-IsAsking request frames x Running = ⊥
+abbrev pub IsInRequest : Request → List Position → State → Status → Type 0
+IsInRequest request positions x (RequestStatus open_request waiting) = (open_request ≡ request) × (positions ≡ record { text = x.text; place = x.place } ∷ x.callers)
+IsInRequest request positions x (Start initial_value) = ⊥
+IsInRequest request positions x (CompleteStatus value) = ⊥
+IsInRequest request positions x (FaultStatus error) = ⊥
+IsInRequest request positions x Running = ⊥
 
 -- it met this fault
-abbrev pub IsStopped : Fault → Status → Type 0
-IsStopped fault (Stopped error) = fault_of error ≡ fault
-IsStopped fault (Start initial_value) = ⊥
-IsStopped fault (Waits request waiting) = ⊥
-IsStopped fault (Complete value) = ⊥
-IsStopped fault Running = ⊥
+abbrev pub IsInFault : Fault → Status → Type 0
+IsInFault fault (FaultStatus error) = fault_of error ≡ fault
+IsInFault fault (Start initial_value) = ⊥
+IsInFault fault (RequestStatus request waiting) = ⊥
+IsInFault fault (CompleteStatus value) = ⊥
+IsInFault fault Running = ⊥
 
 -- the settings that were told last hold
 pub record AreSet (told : Told) (x : State) : Type 0 where
@@ -58,14 +60,14 @@ pub record AreSet (told : Told) (x : State) : Type 0 where
 -- it is where the steps lead: not started yet, in a request, at a fault, or complete with pieces and a value
 abbrev pub StandsAt : Told → State → Option Outcome → Type 0
 StandsAt told x None = (x.status ≡ Start told.settings.initial_value) × AreSet told x
-StandsAt told x (Some (Requests request frames)) = IsAsking request frames x x.status × AreSet told x
-StandsAt told x (Some (Faults fault)) = IsStopped fault x.status
-StandsAt told x (Some (Completes pieces value)) = (x.status ≡ Complete value) × (x.store.pieces ≡ pieces)
+StandsAt told x (Some (RequestOutcome request positions)) = IsInRequest request positions x x.status × AreSet told x
+StandsAt told x (Some (FaultOutcome fault)) = IsInFault fault x.status
+StandsAt told x (Some (CompleteOutcome pieces value)) = (x.status ≡ CompleteStatus value) × (x.store.pieces ≡ pieces)
 
 -- With this refusal each step is allowed when it comes, the replies are theirs, and this is what they told.
 pub record Tells (old : State) (steps : List meaning.Step) (replies : List Reply) (told : Told) (refusal : Refusal) : Type 0 where
   pub allowed : AllAllowed old.setup refusal old.text (told_at old) steps
-  pub replies_are : replies ≡ answers old.setup refusal old.text (told_at old) steps
+  pub replies_are : replies ≡ replies_of old.setup refusal old.text (told_at old) steps
   pub told_is : after_steps old.setup refusal old.text (told_at old) steps ≡ told
 
 -- ---- what is left, for a caller who goes on
@@ -89,11 +91,12 @@ pub record IsLeft (old : State) (steps : List meaning.Step) (replies : List Repl
   pub more : (r : Refusal) (inputs : List Input) → IsLater r →
       outcome_from old.setup (before_inputs (length told.inputs) r) old.text (told.inputs ++ inputs) told.first ≡ Some (rest r new inputs)
 
+-- what is left, by the status
 abbrev pub Leaves : State → List meaning.Step → List Reply → Told → State → Status → Type 0
 Leaves old steps replies told new (Start initial_value) = IsUnbegun old steps replies told new
-Leaves old steps replies told new (Waits request waiting) = IsLeft old steps replies told new
-Leaves old steps replies told new (Complete value) = IsLeft old steps replies told new
-Leaves old steps replies told new (Stopped error) = Unit {0}
+Leaves old steps replies told new (RequestStatus request waiting) = IsLeft old steps replies told new
+Leaves old steps replies told new (CompleteStatus value) = IsLeft old steps replies told new
+Leaves old steps replies told new (FaultStatus error) = Unit {0}
 Leaves old steps replies told new Running = ⊥
 
 -- ---- replay
@@ -117,13 +120,14 @@ pub record WalksTo (index : ℕ) (old : State) (steps : List meaning.Step) (repl
   pub is_next : slice_get steps index ≡ Some step
   pub misplaced : Allows walks.told (outcome_of old.setup walks.refusal old.text walks.told) step → ⊥
 
--- the steps up to this one were done, and its answer found no room
+-- the steps up to this one were done, and its reply found no room
 pub record WalksOver (index : ℕ) (answer : Reply) (limit : Option ℕ) (old : State) (steps : List meaning.Step) (replies : List Reply) (new : State) : Type 0 where
   pub walks : Walks old (take (suc index) steps) (replies ++ answer ∷ []) new
-  pub before : replies ≡ answers old.setup walks.refusal old.text (told_at old) (take index steps)
+  pub before : replies ≡ replies_of old.setup walks.refusal old.text (told_at old) (take index steps)
   pub inside : (step : meaning.Step) × (slice_get steps index ≡ Some step)
   pub full : MayRefuse limit (length replies)
 
+-- by how it ended: all steps were done, one isn't allowed, or a reply found no room
 abbrev pub Replays : {R O P : Type 0} → (R → Text) → (O → ℕ) → Option ℕ → State → List (Step R) → List (Answer R O P) → State → Replayed R O P → Type 0
 Replays text number limit old steps given new replayed.Done = Walks old (steps_of text steps) (replies_in text number given) new
 Replays text number limit old steps given new (replayed.Misplaced index) = WalksTo index old (steps_of text steps) (replies_in text number given) new

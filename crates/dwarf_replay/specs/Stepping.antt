@@ -1,13 +1,13 @@
--- What one step does to the state of an evaluation, and what it answers (DWARF 5, section 2.5).
+-- What one step does to the state of an evaluation, and what it replies (DWARF 5, section 2.5).
 use Rattle.std.specs.Prelude.{ℕ, ◌≡◌, Some, None, Result}
 use Rattle.dwarf_base.specs.declared.errors.Error.{Error}
 use Rattle.dwarf_meaning.specs.Operations.{Text}
 use Rattle.dwarf_meaning.specs.Kinds.{Kind, kind_of_request, kind_of_answer}
 use Rattle.dwarf_meaning.specs.Requests as asked
-use Rattle.dwarf_meaning.specs.Rest.{State, Status, Start, Running, Waits, Complete, Stopped}
+use Rattle.dwarf_meaning.specs.Rest.{State, Status, Start, Running, RequestStatus, CompleteStatus, FaultStatus}
 use Rattle.dwarf_meaning.specs.Steps as meaning
 use Rattle.dwarf_meaning.specs.Steps.{InitialValue, ObjectAddress, MaxIterations, Evaluate, Resume}
-use Rattle.dwarf_eval.specs.Calls.{Evaluates, Resumes, IsClosed, with_object, with_maximum, input_of, with_status}
+use Rattle.dwarf_eval.specs.Evaluation.{Evaluates, Resumes, IsClosed, with_object, with_maximum, input_of, with_status}
 use Rattle.dwarf_eval.specs.declared.op.results.EvaluationResult.{EvaluationResult}
 use Rattle.dwarf_replay.specs.declared.steps.Step.{Step}
 use Rattle.dwarf_replay.specs.declared.steps.Step.TheVariants as step
@@ -34,19 +34,20 @@ step_of text (step.AtLocation expression) = meaning.Resume (asked.LocationAnswer
 step_of text (step.BaseType value_type) = meaning.Resume (asked.BaseTypeAnswer value_type)
 
 -- a request of this kind is open, or the evaluation met a fault
-abbrev pub IsAskingFor : Kind → Status → Type 0
-IsAskingFor kind (Waits request waiting) = kind_of_request request ≡ kind
-IsAskingFor kind (Stopped error) = Unit {0}
-IsAskingFor kind (Start initial_value) = ⊥
-IsAskingFor kind (Complete value) = ⊥
-IsAskingFor kind Running = ⊥
+abbrev pub IsInRequestFor : Kind → Status → Type 0
+IsInRequestFor kind (RequestStatus request waiting) = kind_of_request request ≡ kind
+IsInRequestFor kind (FaultStatus error) = Unit {0}
+IsInRequestFor kind (Start initial_value) = ⊥
+IsInRequestFor kind (CompleteStatus value) = ⊥
+IsInRequestFor kind Running = ⊥
 
+-- the status allows the step
 abbrev pub MayTake : meaning.Step → Status → Type 0
 MayTake (InitialValue number) status = status ≡ Start None
 MayTake (ObjectAddress address) status = Unit {0}
 MayTake (MaxIterations maximum) status = Unit {0}
 MayTake Evaluate status = IsClosed status
-MayTake (Resume answer) status = IsAskingFor (kind_of_answer answer) status
+MayTake (Resume answer) status = IsInRequestFor (kind_of_answer answer) status
 
 -- a setting
 abbrev pub IsSet : meaning.Step → State → State → Type 0
@@ -56,16 +57,16 @@ IsSet (MaxIterations maximum) old new = new ≡ with_maximum maximum old
 IsSet Evaluate old new = ⊥
 IsSet (Resume answer) old new = ⊥
 
--- a call that answers
-abbrev pub IsCalled : {R O P : Type 0} → (R → Text) → (O → ℕ) → meaning.Step → State → State → Result (EvaluationResult R O P) Error → Type 0
-IsCalled text number Evaluate old new told = IsClosed old.status × Evaluates text number old new told old.status
-IsCalled text number (Resume answer) old new told = IsAskingFor (kind_of_answer answer) old.status × Resumes text number (input_of old answer) old new told old.status
-IsCalled text number (InitialValue value) old new told = ⊥
-IsCalled text number (ObjectAddress address) old new told = ⊥
-IsCalled text number (MaxIterations maximum) old new told = ⊥
+-- the evaluation replied
+abbrev pub HasReplied : {R O P : Type 0} → (R → Text) → (O → ℕ) → meaning.Step → State → State → Result (EvaluationResult R O P) Error → Type 0
+HasReplied text number Evaluate old new replied = IsClosed old.status × Evaluates text number old new replied old.status
+HasReplied text number (Resume answer) old new replied = IsInRequestFor (kind_of_answer answer) old.status × Resumes text number (input_of old answer) old new replied old.status
+HasReplied text number (InitialValue value) old new replied = ⊥
+HasReplied text number (ObjectAddress address) old new replied = ⊥
+HasReplied text number (MaxIterations maximum) old new replied = ⊥
 
 -- what came of the step
 abbrev pub IsStepped : {R O P : Type 0} → (R → Text) → (O → ℕ) → meaning.Step → State → State → Stepped R O P → Type 0
 IsStepped text number step old new stepped.Misplaced = (new ≡ old) × (MayTake step old.status → ⊥)
 IsStepped text number step old new stepped.Set = IsSet step old new
-IsStepped text number step old new (stepped.Answered answer) = IsCalled text number step old new answer.0
+IsStepped text number step old new (stepped.Answered answer) = HasReplied text number step old new answer.0

@@ -1,8 +1,8 @@
 ghost use Rattle.std.specs.Prelude.{◌≡◌, ◌↔◌, true};
-ghost use Rattle.dwarf_eval.specs.Answers.{IsOpenFor, kind_of};
+ghost use Rattle.dwarf_eval.specs.Permits.{IsOpenFor, kind_of};
 ghost use Rattle.dwarf_meaning.specs.Steps as meaning;
 ghost use Rattle.dwarf_op.specs.Views.{text_of};
-ghost use Rattle.dwarf_replay.specs.Stepping.{IsAskingFor, IsStepped, step_of};
+ghost use Rattle.dwarf_replay.specs.Stepping.{IsInRequestFor, IsStepped, step_of};
 ghost use Rattle.dwarf_replay.specs.inner.Keeping.{IsKindOf, IsOpenAt, IsResumed};
 
 use crate::steps::{Answer, Step, Stepped};
@@ -44,7 +44,7 @@ fn awaits<R: Reader + Copy, S: EvaluationStorage<R>>(
     eval: &Evaluation<R, S>,
     kind: WaitingKind,
 ) -> bool
-    ensures asked { (result ≡ true) ↔ IsAskingFor (kind_of kind) eval.now.status }
+    ensures asked { (result ≡ true) ↔ IsInRequestFor (kind_of kind) eval.now.status }
     ensures open { result ≡ true → IsOpenFor (kind_of kind) eval.now.status }
 {
     match eval.status() {

@@ -3,7 +3,7 @@ ghost use Rattle.dwarf_meaning.specs.Rest.{Start};
 ghost use Rattle.dwarf_op.specs.Views.{text_of};
 ghost use Rattle.dwarf_replay.specs.Replays.{Replays};
 ghost use Rattle.dwarf_replay.specs.Stepping.{step_of};
-ghost use Rattle.dwarf_replay.specs.inner.Keeping.{Keeps};
+ghost use Rattle.dwarf_replay.specs.inner.Keeping.{TakesStep};
 
 use crate::stepping::take_step;
 use crate::steps::{Answer, Replayed, Step, Stepped};
@@ -26,7 +26,7 @@ fn keep_step<R: Reader + Copy, S: EvaluationStorage<R>, L: ArrayLike<Item = Answ
     step: Step<R>,
     answers: &mut L,
 ) -> Result<(), Stop<R>>
-    ensures keeps { Keeps (text_of R.bytes R.is_big) R.Offset.number (step_of (text_of R.bytes R.is_big) step) (L.limit answers.old) eval.old (L.items answers.old) eval.new (L.items answers.new) result }
+    ensures keeps { TakesStep (text_of R.bytes R.is_big) R.Offset.number (step_of (text_of R.bytes R.is_big) step) (L.limit answers.old) eval.old (L.items answers.old) eval.new (L.items answers.new) result }
     ensures limit { L.limit answers.new ≡ L.limit answers.old }
 {
     match take_step(eval, step) {

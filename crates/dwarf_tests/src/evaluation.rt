@@ -1,8 +1,8 @@
 ghost use Rattle.std.specs.Borrow.{ffalse};
 ghost use Rattle.std.specs.Prelude.{◌≡◌, None};
 ghost use Rattle.dwarf_meaning.specs.Rest.{Start};
-ghost use Rattle.dwarf_eval.specs.Answers.{IsOpenFor, kind_of};
-ghost use Rattle.dwarf_eval.specs.Calls.{IsComplete};
+ghost use Rattle.dwarf_eval.specs.Permits.{IsOpenFor, kind_of};
+ghost use Rattle.dwarf_eval.specs.Evaluation.{IsComplete};
 
 use arrayvec::ArrayVec;
 use dwarf_base::{

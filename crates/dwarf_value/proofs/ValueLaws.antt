@@ -13,7 +13,7 @@ use Rattle.dwarf_value.specs.declared.types.Value.TheVariants.{Generic}
 use Rattle.dwarf_value.specs.declared.types.ValueType.{ValueType}
 use Rattle.dwarf_value.specs.declared.types.ValueType.TheVariants as kind
 use Rattle.dwarf_value.specs.Values.{type_of, bit_size_of, is_same, is_signed, unsigned_integer, signed_integer, value_of, Agree, to_u64_of, from_u64_of, reinterpret_of}
-use Rattle.dwarf_value.specs.Laws.{IsWidth, Trichotomy, Opposites, QuotientAndRemainder, NegateTwice, NegateTwiceGeneric, ReinterpretTwice, AgreeingAnswers, values, refusals, AgreementIsKept}
+use Rattle.dwarf_value.specs.Laws.{IsWidth, Trichotomy, Opposites, QuotientAndRemainder, NegateTwice, NegateTwiceGeneric, ReinterpretTwice, AgreeingResults, values, errors, AgreementIsKept}
 use Rattle.dwarf_value.proofs.Congruences.{Congruent, Congruent-sym, Congruent-trans, Congruent-add, Congruent-neg, Congruent-mul, Congruent-lower, Congruent-residue}
 use Rattle.dwarf_value.proofs.Integers.{int_eq-false}
 use Rattle.dwarf_value.proofs.RoundTrips.{type_of-value_of, integer_of-value_of, Congruent-Generic, Agree-content, value_of-Congruent, Agree-value_of, value_of-unsigned_integer, integer_of-typed, Congruent-all_bits, bit_size_of-le, bit_size_of-below}
@@ -195,10 +195,10 @@ reinterpret_twice w t x v r e =
     answers : (w : ℕ) (t : ValueType) (x : Value) → (bit_size_of w (type_of x) == bit_size_of w t) ≡ true → reinterpret_of w t x ≡ Ok (from_u64_of t (to_u64_of 64 x))
     answers w t x e = rw e
 
-pub reinterpret_of-Agree : (w : ℕ) (t : ValueType) (x x' : Value) → IsWidth w → Agree w x x' → AgreeingAnswers w (reinterpret_of w t x) (reinterpret_of w t x')
+pub reinterpret_of-Agree : (w : ℕ) (t : ValueType) (x x' : Value) → IsWidth w → Agree w x x' → AgreeingResults w (reinterpret_of w t x) (reinterpret_of w t x')
 reinterpret_of-Agree w t x x' v a = by_test (bit_size_of w (type_of x) == bit_size_of w t) refl
   where
-    by_test : (b : Bool) → (bit_size_of w (type_of x) == bit_size_of w t) ≡ b → AgreeingAnswers w (reinterpret_of w t x) (reinterpret_of w t x')
+    by_test : (b : Bool) → (bit_size_of w (type_of x) == bit_size_of w t) ≡ b → AgreeingResults w (reinterpret_of w t x) (reinterpret_of w t x')
     by_test true e =
         let X = unsigned_integer 64 x in
         let X' = unsigned_integer 64 x' in
@@ -216,7 +216,7 @@ reinterpret_of-Agree w t x x' v a = by_test (bit_size_of w (type_of x) == bit_si
         rw (e, e') (values agree)
     by_test false e =
         let e' : (bit_size_of w (type_of x') == bit_size_of w t) ≡ false = ap (λ n. bit_size_of w n == bit_size_of w t) (sym a.types) ∙ e in
-        rw (e, e') refusals
+        rw (e, e') errors
 
 pub agreement_is_kept : AgreementIsKept
 agreement_is_kept = record {

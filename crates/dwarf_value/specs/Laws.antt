@@ -1,4 +1,4 @@
--- Laws of values, over what the calls on them answer.
+-- Laws of values, over what the calls on them return.
 use Rattle.std.specs.Prelude.{ℕ, ◌^◌, ◌<◌, ◌≤◌, pos, ◌≡◌, ◌≢◌, ◌⊎◌, true, false, FitsSigned, Result, Ok, Err}
 use Rattle.std.specs.Int.{w8, w16, w32, w64}
 use Rattle.dwarf_base.specs.declared.errors.Error.{Error}
@@ -27,15 +27,15 @@ InRange (U64 n) = n < 2 ^ 64
 
 -- ---- comparisons
 
--- a comparison answers 1
+-- a comparison gives 1
 abbrev pub Holds : Result Value Error → Type 0
-Holds answer = answer ≡ Ok (Generic 1)
+Holds result = result ≡ Ok (Generic 1)
 
--- a comparison answers 0
+-- a comparison gives 0
 abbrev pub Fails : Result Value Error → Type 0
-Fails answer = answer ≡ Ok (Generic 0)
+Fails result = result ≡ Ok (Generic 0)
 
--- exactly one of three answers is 1
+-- exactly one of three results is 1
 abbrev pub OneHolds : (first second third : Result Value Error) → Type 0
 OneHolds a b c = (Holds a × Fails b × Fails c) ⊎ (Fails a × Holds b × Fails c) ⊎ (Fails a × Fails b × Holds c)
 
@@ -43,7 +43,7 @@ OneHolds a b c = (Holds a × Fails b × Fails c) ⊎ (Fails a × Holds b × Fail
 abbrev pub Trichotomy : Type 0
 Trichotomy = (w : ℕ) (x y : Value) → IsWidth w → type_of x ≡ type_of y → OneHolds (lt_of w x y) (eq_of w x y) (gt_of w x y)
 
--- one of two answers is 1, and the other 0
+-- one of two results is 1, and the other 0
 abbrev pub AreOpposite : (first second : Result Value Error) → Type 0
 AreOpposite a b = (Holds a × Fails b) ⊎ (Fails a × Holds b)
 
@@ -81,24 +81,24 @@ ReinterpretTwice =
 
 -- ---- agreement
 
--- agreeing values, or the same refusal
-pub data AgreeingAnswers (w : ℕ) : Result Value Error → Result Value Error → Type 0 where
-  values : {x y : Value} → Agree w x y → AgreeingAnswers w (Ok x) (Ok y)
-  refusals : {e : Error} → AgreeingAnswers w (Err e) (Err e)
+-- agreeing values, or the same error
+pub data AgreeingResults (w : ℕ) : Result Value Error → Result Value Error → Type 0 where
+  values : {x y : Value} → Agree w x y → AgreeingResults w (Ok x) (Ok y)
+  errors : {e : Error} → AgreeingResults w (Err e) (Err e)
 
--- a call on one value has the same answer or refusal for agreeing ones
+-- a call on one value has the same result for agreeing ones
 abbrev pub SameForOne : (ℕ → Value → Result Value Error) → Type 0
-SameForOne answer = (w : ℕ) (x x' : Value) → Agree w x x' → answer w x ≡ answer w x'
+SameForOne result = (w : ℕ) (x x' : Value) → Agree w x x' → result w x ≡ result w x'
 
--- a call on two values has the same answer or refusal for agreeing ones
+-- a call on two values has the same result for agreeing ones
 abbrev pub SameForTwo : (ℕ → Value → Value → Result Value Error) → Type 0
-SameForTwo answer = (w : ℕ) (x x' y y' : Value) → Agree w x x' → Agree w y y' → answer w x y ≡ answer w x' y'
+SameForTwo result = (w : ℕ) (x x' y y' : Value) → Agree w x x' → Agree w y y' → result w x y ≡ result w x' y'
 
--- agreeing arguments give agreeing answers, and equal ones but for `reinterpret`, which reads all bits of a generic value
+-- agreeing arguments give agreeing results, and equal ones but for `reinterpret`, which reads all bits of a generic value
 pub record AgreementIsKept : Type 0 where
   pub to_u64 : (w : ℕ) (x x' : Value) → Agree w x x' → to_u64_of w x ≡ to_u64_of w x'
   pub convert : (t : ValueType) → SameForOne (λ w. convert_of w t)
-  pub reinterpret : (w : ℕ) (t : ValueType) (x x' : Value) → IsWidth w → Agree w x x' → AgreeingAnswers w (reinterpret_of w t x) (reinterpret_of w t x')
+  pub reinterpret : (w : ℕ) (t : ValueType) (x x' : Value) → IsWidth w → Agree w x x' → AgreeingResults w (reinterpret_of w t x) (reinterpret_of w t x')
   pub add_constant : (w n : ℕ) (x x' : Value) → Agree w x x' → add_of w x (from_u64_of (type_of x) n) ≡ add_of w x' (from_u64_of (type_of x') n)
   pub abs : SameForOne abs_of
   pub neg : SameForOne neg_of

@@ -20,7 +20,7 @@ pub record AreOperands (signed : Bool) (w : ℕ) (x y : Value) (t : ValueType) (
   pub second_most : b <ℤ pos (2 ^ 64)
 
 -- the types differ, and the fault says so
-pub record RefusesOperands (x y : Value) (e : Error) : Type 0 where
+pub record UnfitOperands (x y : Value) (e : Error) : Type 0 where
   pub differ : is_same (type_of x) (type_of y) ≡ false
   pub fault : e ≡ TypeMismatch
 
@@ -31,10 +31,10 @@ pub record AreDivided (signed : Bool) (w : ℕ) (x y : Value) (t : ValueType) (a
   pub divisor : b ≢ pos 0
 
 -- the divisor is zero, or the types differ
-abbrev pub RefusesDivision : (w : ℕ) → Value → Value → Error → Type 0
-RefusesDivision w x y e =
+abbrev pub UnfitDivision : (w : ℕ) → Value → Value → Error → Type 0
+UnfitDivision w x y e =
     ((int_eq (unsigned_integer w y) (pos 0) ≡ true) × (e ≡ DivisionByZero))
-    ⊎ ((int_eq (unsigned_integer w y) (pos 0) ≡ false) × RefusesOperands x y e)
+    ⊎ ((int_eq (unsigned_integer w y) (pos 0) ≡ false) × UnfitOperands x y e)
 
 -- n is the length of a shift by y
 pub record IsLength (w : ℕ) (y : Value) (n : ℕ) : Type 0 where
@@ -42,6 +42,6 @@ pub record IsLength (w : ℕ) (y : Value) (n : ℕ) : Type 0 where
   pub length : n ≡ unsigned_abs (unsigned_integer w y)
 
 -- the length of a shift by y is negative
-pub record RefusesLength (w : ℕ) (y : Value) (e : Error) : Type 0 where
+pub record UnfitLength (w : ℕ) (y : Value) (e : Error) : Type 0 where
   pub negative : is_negative (unsigned_integer w y) ≡ true
   pub fault : e ≡ InvalidShiftExpression

@@ -1,4 +1,4 @@
--- Values as types and integers, and what each call on values answers (DWARF 5, section 2.5).
+-- Values as types and integers, and what each call on values returns (DWARF 5, section 2.5).
 use Rattle.std.specs.Prelude.{ℕ, ◌-◌, ◌/◌, ◌%◌, ◌^◌, ◌<◌, ◌≡◌, ℤ, pos, negsuc, neg_ℤ, ◌+ℤ◌, ◌-ℤ◌, ◌*ℤ◌, Bool, true, false, not, if◌then◌else◌, nat_le, ◌==◌, unsigned_abs, int_lt, int_le, int_div, int_rem, bit_and, bit_or, bit_xor, List, Option, Some, None, Result, Ok, Err}
 use Rattle.std.specs.Int.{is_negative}
 use Rattle.std.specs.Int.RustNames.{count_ones}
@@ -163,9 +163,9 @@ reinterpret_of w t x =
 
 -- ---- arithmetic
 
--- an answer for two values of one type; two types are refused
+-- a result for two values of one type; two types don't fit
 abbrev pub of_one_type : Value → Value → Value → Result Value Error
-of_one_type x y answer = if is_same (type_of x) (type_of y) then Ok answer else Err TypeMismatch
+of_one_type x y result = if is_same (type_of x) (type_of y) then Ok result else Err TypeMismatch
 
 -- the sum
 abbrev pub add_of : (w : ℕ) → Value → Value → Result Value Error
@@ -179,9 +179,9 @@ sub_of w x y = of_one_type x y (value_of w (type_of x) (unsigned_integer w x -�
 abbrev pub mul_of : (w : ℕ) → Value → Value → Result Value Error
 mul_of w x y = of_one_type x y (value_of w (type_of x) (unsigned_integer w x *ℤ unsigned_integer w y))
 
--- an answer for a dividend and a divisor; a zero divisor is refused first, of whatever type
+-- a result for a dividend and a divisor; a zero divisor doesn't fit, of whatever type
 abbrev pub divided : (w : ℕ) → Value → Value → Value → Result Value Error
-divided w x y answer = if int_eq (unsigned_integer w y) (pos 0) then Err DivisionByZero else of_one_type x y answer
+divided w x y result = if int_eq (unsigned_integer w y) (pos 0) then Err DivisionByZero else of_one_type x y result
 
 -- the quotient, rounded towards zero
 abbrev pub div_of : (w : ℕ) → Value → Value → Result Value Error
@@ -225,11 +225,11 @@ xor_of = digits_of bit_xor
 
 -- ---- shifts
 
--- an answer for a shift's length, which may be of any type; a negative one is refused first
+-- a result for a shift's length, which may be of any type; a negative one doesn't fit
 abbrev pub shifted : (w : ℕ) (length : Value) → (ℕ → Result Value Error) → Result Value Error
-shifted w length answer =
+shifted w length result =
     if is_negative (unsigned_integer w length) then Err InvalidShiftExpression
-    else answer (unsigned_abs (unsigned_integer w length))
+    else result (unsigned_abs (unsigned_integer w length))
 
 -- an integer divided by a positive number, rounded down
 abbrev pub floor_quotient : ℤ → ℕ → ℤ

@@ -1,6 +1,6 @@
 ghost use Rattle.std.specs.Prelude.{◌≡◌, pos, ◌*ℤ◌, MatchResult};
 ghost use Rattle.dwarf_base.specs.Numbers.{residue};
-ghost use Rattle.dwarf_value.specs.Operands.{AreDivided, RefusesDivision};
+ghost use Rattle.dwarf_value.specs.Operands.{AreDivided, UnfitDivision};
 ghost use Rattle.dwarf_value.specs.Values.{IsAddressMask, width_of, add_of, sub_of, mul_of, div_of, rem_of, abs_of, neg_of};
 
 use crate::types::{Value, ValueType};
@@ -92,7 +92,7 @@ impl Value {
     #[inline(always)]
     fn divided_by(self, rhs: Value, addr_mask: u64, signed: bool) -> Result<(ValueType, i128, i128)>
         requires { IsAddressMask addr_mask }
-        ensures { MatchResult result (λ r. AreDivided signed (width_of addr_mask) self rhs r.0 r.1 r.2) (RefusesDivision (width_of addr_mask) self rhs) }
+        ensures { MatchResult result (λ r. AreDivided signed (width_of addr_mask) self rhs r.0 r.1 r.2) (UnfitDivision (width_of addr_mask) self rhs) }
     {
         let (value_type, first) = self.apart(addr_mask, signed);
         let (other, second) = rhs.apart(addr_mask, signed);

@@ -1,5 +1,5 @@
 ghost use Rattle.std.specs.Prelude.{◌≡◌, Ok};
-ghost use Rattle.dwarf_base.specs.Faults.{Answers};
+ghost use Rattle.dwarf_base.specs.Faults.{Returns};
 ghost use Rattle.dwarf_value.specs.Values.{IsAddressMask, width_of, parse_of, to_u64_of, from_u64_of, convert_of, reinterpret_of};
 
 use crate::types::{Value, ValueType};
@@ -12,7 +12,7 @@ impl Value {
     /// `UnsupportedTypeOperation` at the generic type; else `UnexpectedEof` where there are too few bytes.
     #[inline(always)]
     pub fn parse<R: Reader + Copy>(value_type: ValueType, bytes: R) -> Result<Value>
-        ensures { Answers (λ value. value) result (parse_of value_type (R.is_big bytes) (R.bytes bytes)) }
+        ensures { Returns (λ value. value) result (parse_of value_type (R.is_big bytes) (R.bytes bytes)) }
     {
         if same_type(value_type, ValueType::Generic) {
             return Err(Error::UnsupportedTypeOperation);

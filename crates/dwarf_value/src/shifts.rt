@@ -1,5 +1,5 @@
 ghost use Rattle.std.specs.Prelude.{◌≡◌, ◌≤◌, ◌^◌, ◌*◌, ◌%◌, pos, neg_ℤ, ◌≤ℤ◌, ◌<ℤ◌, nat_le, if◌then◌else◌, MatchResult};
-ghost use Rattle.dwarf_value.specs.Operands.{IsLength, RefusesLength};
+ghost use Rattle.dwarf_value.specs.Operands.{IsLength, UnfitLength};
 ghost use Rattle.dwarf_value.specs.Values.{IsAddressMask, width_of, floor_quotient, shl_of, shr_of, shra_of};
 
 use crate::types::Value;
@@ -61,7 +61,7 @@ impl Value {
     #[inline(always)]
     fn shift_length(self, addr_mask: u64) -> Result<u64>
         requires { IsAddressMask addr_mask }
-        ensures { MatchResult result (IsLength (width_of addr_mask) self) (RefusesLength (width_of addr_mask) self) }
+        ensures { MatchResult result (IsLength (width_of addr_mask) self) (UnfitLength (width_of addr_mask) self) }
     {
         let (_, word) = self.apart(addr_mask, false);
         let length = word.integer();

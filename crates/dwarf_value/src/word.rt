@@ -1,6 +1,6 @@
 ghost use Rattle.std.specs.Prelude.{◌≡◌, ◌<◌, ◌≤◌, ◌^◌, ◌%◌, pos, neg_ℤ, ◌≤ℤ◌, ◌<ℤ◌, MatchResult};
 ghost use Rattle.dwarf_base.specs.Numbers.{residue};
-ghost use Rattle.dwarf_value.specs.Operands.{AreOperands, RefusesOperands};
+ghost use Rattle.dwarf_value.specs.Operands.{AreOperands, UnfitOperands};
 ghost use Rattle.dwarf_value.specs.Values.{IsAddressMask, width_of, word_integer, type_of, bit_size_of, is_signed, is_same, integer_of, value_of};
 
 use crate::types::{Value, ValueType, mask_width};
@@ -125,7 +125,7 @@ impl Value {
         signed: bool,
     ) -> Result<(ValueType, i128, i128)>
         requires { IsAddressMask addr_mask }
-        ensures { MatchResult result (λ r. AreOperands signed (width_of addr_mask) self rhs r.0 r.1 r.2) (RefusesOperands self rhs) }
+        ensures { MatchResult result (λ r. AreOperands signed (width_of addr_mask) self rhs r.0 r.1 r.2) (UnfitOperands self rhs) }
     {
         let (value_type, first) = self.apart(addr_mask, signed);
         let (other, second) = rhs.apart(addr_mask, signed);

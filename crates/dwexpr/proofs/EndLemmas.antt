@@ -3,7 +3,7 @@ use Rattle.std.proofs.Common.{◌≡◌, inl, inr, ℕ, ◌<◌, ◌≤◌, List
 use Rattle.std.specs.Prelude.{IfSome, IsSome}
 use Rattle.std.specs.Result.{result_unwrap_or}
 use Rattle.dwexpr.specs.Program.{EndsAsked, EndsCommand, EndsFor, Exits}
-use Rattle.dwexpr.specs.Runs.{Ending, Ends, bad_words, no_memory}
+use Rattle.dwexpr.specs.Endings.{Ending, WritesEnding, bad_words, no_memory}
 use Rattle.dwexpr.specs.Words.{Asked, asked_by, asked_in, bytes_in, command_in, reading_in}
 use Rattle.dwexpr.specs.declared.words.Command.{Command}
 use Rattle.dwexpr.specs.declared.words.Reading.{Reading}
@@ -16,7 +16,7 @@ input_read None old items input e f h = tt
 input_read (Some xs) old items input e f h = f ∙ h ∙ ap (λ z. z ++ xs) e
 
 pub exits_of : {E : Type 0} (old new : Option (List ℕ)) (ending : Ending) (r : Result ℕ E) (status : ℕ)
-    → status ≡ result_unwrap_or r 1 → Ends old new ending r
+    → status ≡ result_unwrap_or r 1 → WritesEnding old new ending r
     → Exits old new ending status
 exits_of old new ending (Ok x) status e h = inl (h.0, e ∙ h.1)
 exits_of old new ending (Err x) status e h = inr (h, e)

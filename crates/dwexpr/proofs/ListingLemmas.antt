@@ -7,7 +7,7 @@ use Rattle.dwarf_base.specs.Faults.{Fault}
 use Rattle.dwarf_meaning.specs.Decoding.{operation_at}
 use Rattle.dwarf_meaning.specs.Operations.{Operation}
 use Rattle.dwexpr.specs.Lines.{Listing, Lists, behind, fault_line, listing_within, operation_name}
-use Rattle.dwexpr.specs.Runs.{Ending, Ends}
+use Rattle.dwexpr.specs.Endings.{Ending, WritesEnding}
 use Rattle.dwexpr.specs.Writing.{AppendsFront, bytes_word, line}
 use Rattle.dwexpr.proofs.Fronts.{Written, appends_both, begun, last_of, more_of, refused_in}
 
@@ -55,13 +55,13 @@ lines_at f of xs i d inside =
 
 pub ends_refused : {E F : Type 0} (a b c : Option (List ℕ)) (ending : Ending) (x rest : List ℕ) (r : Result ℕ E)
     → Written a b ending.text (x ++ rest) → AppendsFront b c x → IsErr r × F
-    → Ends a c ending r
+    → WritesEnding a c ending r
 ends_refused a b c ending x rest (Ok u) h k refused = absurd (true≢false (sym refused.0))
 ends_refused a b c ending x rest (Err u) h k refused = refused_in {T = ℕ} a b c ending.text x rest (Err u) h k refused
 
 pub ends_behind : {E : Type 0} (a b c : Option (List ℕ)) (first : List ℕ) (ending : Ending) (r : Result ℕ E)
-    → Appends a b first → Ends b c ending r
-    → Ends a c (record ending { text = first ++ ending.text }) r
+    → Appends a b first → WritesEnding b c ending r
+    → WritesEnding a c (record ending { text = first ++ ending.text }) r
 ends_behind a b c first ending (Ok u) h k = (appends_both a b c first ending.text (first ++ ending.text) refl h k.0, k.1)
 ends_behind a b c first ending (Err u) h k =
     last_of {T = ℕ} a b c (first ++ ending.text) ending.text (Err u) (more_of a a b (first ++ ending.text) first ending.text (begun a (first ++ ending.text)) h) k

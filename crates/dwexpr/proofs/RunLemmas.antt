@@ -8,55 +8,55 @@ use Rattle.dwarf_base.specs.declared.byte_order.RunTimeEndian.{RunTimeEndian}
 use Rattle.dwarf_base.specs.Faults.{Fault}
 use Rattle.dwarf_meaning.specs.Operations.{Text}
 use Rattle.dwarf_meaning.specs.Requests.{Request}
-use Rattle.dwarf_meaning.specs.Run.{Frame}
-use Rattle.dwarf_meaning.specs.Meaning.{Outcome, Requests, Faults, Completes}
-use Rattle.dwarf_meaning.specs.Rest.{State, Status, Start, Running, Waits, Complete, Stopped}
+use Rattle.dwarf_meaning.specs.Run.{Position}
+use Rattle.dwarf_meaning.specs.Meaning.{Outcome, RequestOutcome, FaultOutcome, CompleteOutcome}
+use Rattle.dwarf_meaning.specs.Rest.{State, Status, Start, Running, RequestStatus, CompleteStatus, FaultStatus}
 use Rattle.dwarf_meaning.specs.Stores.{Setup}
 use Rattle.dwarf_meaning.specs.Steps as meaning
 use Rattle.dwarf_meaning.specs.Steps.{Allows, Told, outcome_of}
-use Rattle.dwarf_replay.specs.Replays.{IsAsking, IsStopped, Replays, StandsAt, replies_in, steps_of, told_at}
+use Rattle.dwarf_replay.specs.Replays.{IsInRequest, IsInFault, Replays, StandsAt, replies_in, steps_of, told_at}
 use Rattle.dwarf_replay.specs.declared.steps.Answer.{Answer}
 use Rattle.dwarf_replay.specs.declared.steps.Replayed.{Replayed}
 use Rattle.dwarf_replay.specs.declared.steps.Replayed.TheVariants as replayed
 use Rattle.dwarf_replay.specs.declared.steps.Step.{Step}
-use Rattle.dwexpr.specs.Evaluates.{Evaluates, Follows, behind_answers, outcome_ending, refused_steps, unset}
+use Rattle.dwexpr.specs.Evaluates.{EvaluatesSteps, EvaluatesSaid, behind_replies, outcome_ending, bad_steps, untold}
 use Rattle.dwexpr.specs.Steps.{ReadsSteps}
 use Rattle.dwexpr.specs.declared.steps.StepsFault.{StepsFault}
 use Rattle.dwexpr.specs.declared.steps.StepsFault.TheVariants as fault
-use Rattle.dwexpr.specs.Runs.{Ending, misplaced, no_memory, standing}
+use Rattle.dwexpr.specs.Endings.{Ending, misplaced, no_memory, standing}
 use Rattle.dwexpr.specs.inner.Replayed.{HasLine, ending_of}
 
-asking_ending : (request : Request) (frames : List Frame) (x : State) (status : Status) → IsAsking request frames x status
+asking_ending : (request : Request) (positions : List Position) (x : State) (status : Status) → IsInRequest request positions x status
     → standing x status ≡ record { text = []; status = 0 }
-asking_ending request frames x (Waits open_request waiting) h = refl
-asking_ending request frames x (Start initial_value) h = absurd h
-asking_ending request frames x (Complete value) h = absurd h
-asking_ending request frames x (Stopped error) h = absurd h
-asking_ending request frames x Running h = absurd h
+asking_ending request positions x (RequestStatus open_request waiting) h = refl
+asking_ending request positions x (Start initial_value) h = absurd h
+asking_ending request positions x (CompleteStatus value) h = absurd h
+asking_ending request positions x (FaultStatus error) h = absurd h
+asking_ending request positions x Running h = absurd h
 
-stopped_ending : (fault : Fault) (x : State) (status : Status) → IsStopped fault status
+stopped_ending : (fault : Fault) (x : State) (status : Status) → IsInFault fault status
     → standing x status ≡ record { text = []; status = 1 }
-stopped_ending fault x (Stopped error) h = refl
+stopped_ending fault x (FaultStatus error) h = refl
 stopped_ending fault x (Start initial_value) h = absurd h
-stopped_ending fault x (Waits request waiting) h = absurd h
-stopped_ending fault x (Complete value) h = absurd h
+stopped_ending fault x (RequestStatus request waiting) h = absurd h
+stopped_ending fault x (CompleteStatus value) h = absurd h
 stopped_ending fault x Running h = absurd h
 
 stands_ending : (told : Told) (x : State) (outcome : Option Outcome) → StandsAt told x outcome
     → standing x x.status ≡ outcome_ending outcome
 stands_ending told x None h = ap (standing x) h.0
-stands_ending told x (Some (Requests request frames)) h = asking_ending request frames x x.status h.0
-stands_ending told x (Some (Faults fault)) h = stopped_ending fault x x.status h
-stands_ending told x (Some (Completes pieces value)) h = ap (standing x) h.0 ∙ ap (λ z. standing (record x { store = record x.store { pieces = z } }) (Complete value)) h.1
+stands_ending told x (Some (RequestOutcome request positions)) h = asking_ending request positions x x.status h.0
+stands_ending told x (Some (FaultOutcome fault)) h = stopped_ending fault x x.status h
+stands_ending told x (Some (CompleteOutcome pieces value)) h = ap (standing x) h.0 ∙ ap (λ z. standing (record x { store = record x.store { pieces = z } }) (CompleteStatus value)) h.1
 
 pub evaluates_to : {R O P : Type 0} (text : R → Text) (number : O → ℕ) (limit : Option ℕ) (old new : State) (steps : List (Step R))
     (given : List (Answer R O P)) (ended : Replayed R O P) → Replays text number limit old steps given new ended
-    → Evaluates old.setup old.text (told_at old) (steps_of text steps) (behind_answers (replies_in text number given) (ending_of new ended))
+    → EvaluatesSteps old.setup old.text (told_at old) (steps_of text steps) (behind_replies (replies_in text number given) (ending_of new ended))
 evaluates_to text number limit old new steps given replayed.Done w = inl (record {
   refusal = w.refusal;
   allowed = w.tells.allowed;
-  ending_is = ap (λ z. behind_answers z (standing new new.status)) w.tells.replies_are
-      ∙ ap (behind_answers _) (stands_ending w.told new _ w.stands ∙ ap (λ told. outcome_ending (outcome_of old.setup w.refusal old.text told)) (sym w.tells.told_is));
+  ending_is = ap (λ z. behind_replies z (standing new new.status)) w.tells.replies_are
+      ∙ ap (behind_replies _) (stands_ending w.told new _ w.stands ∙ ap (λ told. outcome_ending (outcome_of old.setup w.refusal old.text told)) (sym w.tells.told_is));
 })
 evaluates_to text number limit old new steps given (replayed.Misplaced index) w = inr (inl (record {
   refusal = w.walks.refusal;
@@ -65,20 +65,20 @@ evaluates_to text number limit old new steps given (replayed.Misplaced index) w 
   step = w.step;
   is_next = w.is_next;
   not_allowed = subst (λ told. Allows told (outcome_of old.setup w.walks.refusal old.text told) w.step → ⊥) (sym w.walks.tells.told_is) w.misplaced;
-  ending_is = ap (λ z. behind_answers z (misplaced index)) w.walks.tells.replies_are;
+  ending_is = ap (λ z. behind_replies z (misplaced index)) w.walks.tells.replies_are;
 }))
 evaluates_to text number limit old new steps given (replayed.NoRoom index answer) w = inr (inr (record {
   refusal = w.walks.refusal;
   index = index;
   allowed = w.walks.tells.allowed;
-  ending_is = ap (λ z. behind_answers z no_memory) w.before;
+  ending_is = ap (λ z. behind_replies z no_memory) w.before;
 }))
 
 -- the same of a setup, a text and what was told, in other words
 pub evaluates_as : (setup setup' : Setup) (text text' : Text) (told told' : Told) (steps : List meaning.Step) (ending : Ending)
-    → setup ≡ setup' → text ≡ text' → told ≡ told' → Evaluates setup text told steps ending → Evaluates setup' text' told' steps ending
+    → setup ≡ setup' → text ≡ text' → told ≡ told' → EvaluatesSteps setup text told steps ending → EvaluatesSteps setup' text' told' steps ending
 evaluates_as setup setup' text text' told told' steps ending e f g h =
-    subst (λ z. Evaluates z text' told' steps ending) e (subst (λ z. Evaluates setup z told' steps ending) f (subst (λ z. Evaluates setup text z steps ending) g h))
+    subst (λ z. EvaluatesSteps z text' told' steps ending) e (subst (λ z. EvaluatesSteps setup z told' steps ending) f (subst (λ z. EvaluatesSteps setup text z steps ending) g h))
 
 pub has_line : {R O P : Type 0} (text : R → Text) (number : O → ℕ) (limit : Option ℕ) (old new : State) (steps : List (Step R))
     (given : List (Answer R O P)) (ended : Replayed R O P) → length steps < 2 ^ 63 → Replays text number limit old steps given new ended
@@ -105,18 +105,18 @@ told_by object_address maximum = record {
   inputs = [];
 }
 
-pub told_as : (x : State) → x.store.object_address ≡ None → x.store.maximum ≡ 4294967295 → told_at x ≡ unset
+pub told_as : (x : State) → x.store.object_address ≡ None → x.store.maximum ≡ 4294967295 → told_at x ≡ untold
 told_as x e f = ap₂ told_by e f
 
 -- ---- what lines say
 
 pub follows_refused : (big : Bool) (setup : Setup) (text : Text) (said : Result (List meaning.Step) ℕ) (A B : Type 0) (refused : StepsFault)
     → ReadsSteps {A = A} {B = B} big said (Err refused)
-    → Follows setup text said (refused_steps refused) ⊎ (refused_steps refused ≡ no_memory)
+    → EvaluatesSaid setup text said (bad_steps refused) ⊎ (bad_steps refused ≡ no_memory)
 follows_refused big setup text said A B (fault.Bad number) e = inl (rw e refl)
 follows_refused big setup text said A B fault.NoMemory e = inr refl
 
 pub follows_steps : (setup : Setup) (text : Text) (said : Result (List meaning.Step) ℕ) (steps told : List meaning.Step) (ending : Ending)
-    → said ≡ Ok steps → told ≡ steps → Evaluates setup text unset told ending
-    → Follows setup text said ending
-follows_steps setup text said steps told ending e f h = rw e (subst (λ z. Evaluates setup text unset z ending) f h)
+    → said ≡ Ok steps → told ≡ steps → EvaluatesSteps setup text untold told ending
+    → EvaluatesSaid setup text said ending
+follows_steps setup text said steps told ending e f h = rw e (subst (λ z. EvaluatesSteps setup text untold z ending) f h)

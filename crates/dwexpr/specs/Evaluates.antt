@@ -3,43 +3,43 @@ use Rattle.std.specs.Prelude.{ℕ, suc, ◌≡◌, ◌⊎◌, ◌++◌, List, []
 use Rattle.dwarf_base.specs.declared.common.Encoding.{Encoding}
 use Rattle.dwarf_meaning.specs.Operations.{Text}
 use Rattle.dwarf_meaning.specs.Stores.{Setup, Refusal}
-use Rattle.dwarf_meaning.specs.Meaning.{Outcome, Requests, Faults, Completes}
-use Rattle.dwarf_meaning.specs.Steps.{Step, Told, Reply, Allows, AllAllowed, answers, after_steps, outcome_of}
+use Rattle.dwarf_meaning.specs.Meaning.{Outcome, RequestOutcome, FaultOutcome, CompleteOutcome}
+use Rattle.dwarf_meaning.specs.Steps.{Step, Told, Reply, Allows, AllAllowed, replies_of, after_steps, outcome_of}
 use Rattle.dwexpr.specs.Lines.{reply_lines}
 use Rattle.dwexpr.specs.declared.steps.StepsFault.{StepsFault}
 use Rattle.dwexpr.specs.declared.steps.StepsFault.TheVariants as fault
 use Rattle.dwexpr.specs.Steps.{lines_in, steps_in}
-use Rattle.dwexpr.specs.Runs.{Ending, bad_step, complete, misplaced, no_memory}
+use Rattle.dwexpr.specs.Endings.{Ending, bad_step, complete_ending, misplaced, no_memory}
 
 -- no list has a limit
-abbrev pub setup_in : Encoding → Setup
-setup_in encoding =
-    record { encoding = encoding; offset_bits = 64; limits = record { values = None; frames = None; pieces = None } }
+abbrev pub unlimited_setup : Encoding → Setup
+unlimited_setup encoding =
+    record { encoding = encoding; offset_bits = 64; limits = record { values = None; callers = None; pieces = None } }
 
 -- no step was done
-abbrev pub unset : Told
-unset = record {
+abbrev pub untold : Told
+untold = record {
   settings = record { initial_value = None; object_address = None; maximum = 4294967295 };
   first = None;
   inputs = [];
 }
 
--- what comes out, behind the answers: pieces and a value, the status of a fault, or nothing
+-- what comes out, behind the replies: pieces and a value, the status of a fault, or nothing
 abbrev pub outcome_ending : Option Outcome → Ending
 outcome_ending None = record { text = []; status = 0 }
-outcome_ending (Some (Requests request frames)) = record { text = []; status = 0 }
-outcome_ending (Some (Faults fault)) = record { text = []; status = 1 }
-outcome_ending (Some (Completes pieces value)) = complete pieces value
+outcome_ending (Some (RequestOutcome request positions)) = record { text = []; status = 0 }
+outcome_ending (Some (FaultOutcome fault)) = record { text = []; status = 1 }
+outcome_ending (Some (CompleteOutcome pieces value)) = complete_ending pieces value
 
--- the answers, one a line, and what is behind them
-abbrev pub behind_answers : List Reply → Ending → Ending
-behind_answers replies ending = record ending { text = reply_lines replies ++ ending.text }
+-- the replies, one a line, and what is behind them
+abbrev pub behind_replies : List Reply → Ending → Ending
+behind_replies replies ending = record ending { text = reply_lines replies ++ ending.text }
 
 -- each step was allowed when it came, for some push that memory was refused to, or for none
 pub record AllDone (setup : Setup) (text : Text) (told : Told) (steps : List Step) (ending : Ending) : Type 0 where
   pub refusal : Refusal
   pub allowed : AllAllowed setup refusal text told steps
-  pub ending_is : ending ≡ behind_answers (answers setup refusal text told steps)
+  pub ending_is : ending ≡ behind_replies (replies_of setup refusal text told steps)
       (outcome_ending (outcome_of setup refusal text (after_steps setup refusal text told steps)))
 
 -- the steps before one were done, and that one isn't allowed
@@ -52,32 +52,33 @@ pub record EndsMisplaced (setup : Setup) (text : Text) (told : Told) (steps : Li
   pub is_next : slice_get steps index ≡ Some step
   pub not_allowed : Allows (after_steps setup refusal text told (take index steps))
       (outcome_of setup refusal text (after_steps setup refusal text told (take index steps))) step → ⊥
-  pub ending_is : ending ≡ behind_answers (answers setup refusal text told (take index steps)) (misplaced index)
+  pub ending_is : ending ≡ behind_replies (replies_of setup refusal text told (take index steps)) (misplaced index)
 
--- the steps up to one were done, and there was no memory for its answer
+-- the steps up to one were done, and there was no memory for its reply
 pub record EndsWithoutMemory (setup : Setup) (text : Text) (told : Told) (steps : List Step) (ending : Ending)
     : Type 0 where
   pub refusal : Refusal
   pub index : ℕ
   pub allowed : AllAllowed setup refusal text told (take (suc index) steps)
-  pub ending_is : ending ≡ behind_answers (answers setup refusal text told (take index steps)) no_memory
+  pub ending_is : ending ≡ behind_replies (replies_of setup refusal text told (take index steps)) no_memory
 
-abbrev pub Evaluates : Setup → Text → Told → List Step → Ending → Type 0
-Evaluates setup text told steps ending =
+-- what the steps come to: one of the three
+abbrev pub EvaluatesSteps : Setup → Text → Told → List Step → Ending → Type 0
+EvaluatesSteps setup text told steps ending =
     AllDone setup text told steps ending
     ⊎ (EndsMisplaced setup text told steps ending ⊎ EndsWithoutMemory setup text told steps ending)
 
 -- what lines come to that say these steps, or of which one says none
-abbrev pub Follows : Setup → Text → Result (List Step) ℕ → Ending → Type 0
-Follows setup text (Ok steps) ending = Evaluates setup text unset steps ending
-Follows setup text (Err number) ending = ending ≡ bad_step number
+abbrev pub EvaluatesSaid : Setup → Text → Result (List Step) ℕ → Ending → Type 0
+EvaluatesSaid setup text (Ok steps) ending = EvaluatesSteps setup text untold steps ending
+EvaluatesSaid setup text (Err number) ending = ending ≡ bad_step number
 
 -- the same of an input, or there was no memory for its steps
 abbrev pub EvaluatesLines : Encoding → Text → (input : List ℕ) → Ending → Type 0
 EvaluatesLines encoding text input ending =
-    Follows (setup_in encoding) text (steps_in text.is_big (lines_in input)) ending ⊎ (ending ≡ no_memory)
+    EvaluatesSaid (unlimited_setup encoding) text (steps_in text.is_big (lines_in input)) ending ⊎ (ending ≡ no_memory)
 
 -- why lines give no steps, as it is printed
-abbrev pub refused_steps : StepsFault → Ending
-refused_steps (fault.Bad number) = bad_step number
-refused_steps fault.NoMemory = no_memory
+abbrev pub bad_steps : StepsFault → Ending
+bad_steps (fault.Bad number) = bad_step number
+bad_steps fault.NoMemory = no_memory

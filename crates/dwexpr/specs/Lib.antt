@@ -1,7 +1,7 @@
 pub mod Evaluates
 pub mod Lines
 pub mod Program
-pub mod Runs
+pub mod Endings
 pub mod Steps
 pub mod Values
 pub mod Words

@@ -12,7 +12,7 @@ use Rattle.dwarf_meaning.specs.Locations.{Location, Empty, InRegister, AtAddress
 use Rattle.dwarf_meaning.specs.Operations as op
 use Rattle.dwarf_meaning.specs.Operations.{Operation}
 use Rattle.dwarf_meaning.specs.Requests.{Request, RequiresMemory, RequiresRegister, RequiresWasmLocal, RequiresWasmGlobal, RequiresWasmStack, RequiresFrameBase, RequiresTls, RequiresCallFrameCfa, RequiresAtLocation, RequiresEntryValue, RequiresParameterRef, RequiresRelocatedAddress, RequiresIndexedAddress, RequiresBaseType}
-use Rattle.dwarf_meaning.specs.Steps.{Reply, Completed, Asked, Faulted}
+use Rattle.dwarf_meaning.specs.Steps.{Reply, CompleteReply, RequestReply, FaultReply}
 use Rattle.dwexpr.specs.Writing.{AppendsFront, bytes_word, hexadecimal, line, value_word}
 
 -- ---- faults
@@ -41,6 +41,7 @@ fault_words fault.InvalidPiece = codes "InvalidPiece" ∷ []
 fault_words (fault.InvalidExpressionTerminator place) = codes "InvalidExpressionTerminator" ∷ decimal place ∷ []
 fault_words fault.StackFull = codes "StackFull" ∷ []
 
+-- the line of a fault
 abbrev pub fault_line : Fault → List ℕ
 fault_line fault = line (codes "fault") (fault_words fault)
 
@@ -51,10 +52,12 @@ abbrev pub space_word : Option ℕ → List ℕ
 space_word None = codes "none"
 space_word (Some space) = hexadecimal space
 
+-- whether an index's address is to be relocated
 abbrev pub relocate_word : Bool → List ℕ
 relocate_word true = codes "relocate"
 relocate_word false = codes "keep"
 
+-- the line of a request
 abbrev pub request_line : Request → List ℕ
 request_line (RequiresMemory address size space base_type) =
     line (codes "memory") (hexadecimal address ∷ decimal size ∷ space_word space ∷ decimal base_type ∷ [])
@@ -75,18 +78,20 @@ request_line (RequiresIndexedAddress index relocate) =
     line (codes "indexed") (decimal index ∷ relocate_word relocate ∷ [])
 request_line (RequiresBaseType base_type) = line (codes "type") (decimal base_type ∷ [])
 
--- what a call answers
+-- what a call replies
 abbrev pub reply_line : Reply → List ℕ
-reply_line Completed = line (codes "complete") []
-reply_line (Asked request) = request_line request
-reply_line (Faulted fault) = fault_line fault
+reply_line CompleteReply = line (codes "complete") []
+reply_line (RequestReply request) = request_line request
+reply_line (FaultReply fault) = fault_line fault
 
 -- ---- what comes out
 
+-- a number, where there is one
 abbrev pub number_or_none : Option ℕ → List ℕ
 number_or_none None = codes "none"
 number_or_none (Some number) = decimal number
 
+-- where a piece is, or what it holds
 abbrev pub location_words : Location → List (List ℕ)
 location_words Empty = codes "empty" ∷ []
 location_words (InRegister register) = codes "register" ∷ decimal register ∷ []
@@ -95,6 +100,7 @@ location_words (HoldsValue value) = codes "value" ∷ value_word value ∷ []
 location_words (HoldsBytes value) = codes "bytes" ∷ bytes_word value.bytes ∷ []
 location_words (PointsInto value byte_offset) = codes "pointer" ∷ decimal value ∷ signed_decimal byte_offset ∷ []
 
+-- the line of a piece
 abbrev pub piece_line : Piece → List ℕ
 piece_line piece =
     line (codes "piece") (number_or_none piece.size_in_bits ∷ number_or_none piece.bit_offset ∷ location_words piece.location)
@@ -108,11 +114,13 @@ value_line (Some value) = line (codes "value") (value_word value ∷ [])
 abbrev pub reply_lines : List Reply → List ℕ
 reply_lines replies = concat (map reply_line replies)
 
+-- one line after another
 abbrev pub piece_lines : List Piece → List ℕ
 piece_lines pieces = concat (map piece_line pieces)
 
 -- ---- listed operations
 
+-- the name of an operation
 abbrev pub operation_name : Operation → List ℕ
 operation_name (op.Deref _ _ _) = codes "Deref"
 operation_name op.Drop = codes "Drop"
@@ -179,6 +187,7 @@ pub record Listing : Type 0 where
   pub text : List ℕ
   pub is_whole : Bool
 
+-- a line before the listing
 abbrev pub behind : List ℕ → Listing → Listing
 behind first listing = record listing { text = first ++ listing.text }
 

@@ -6,7 +6,7 @@ use Rattle.dwarf_base.specs.declared.common.Encoding.{Encoding}
 use Rattle.dwarf_meaning.specs.Operations.{Text}
 use Rattle.dwexpr.specs.Evaluates.{EvaluatesLines}
 use Rattle.dwexpr.specs.Lines.{listing_of}
-use Rattle.dwexpr.specs.Runs.{Ending, bad_words, listed, no_memory, unread}
+use Rattle.dwexpr.specs.Endings.{Ending, bad_words, listed, no_memory, unread}
 use Rattle.dwexpr.specs.Words.{Asked, asked_in}
 use Rattle.dwexpr.specs.Writing.{AppendsFront}
 use Rattle.dwexpr.specs.declared.words.Command.{Command}
@@ -31,6 +31,7 @@ abbrev pub EndsAsked : Option Asked → (left : Option (List ℕ)) → Ending �
 EndsAsked None left ending = ending ≡ bad_words
 EndsAsked (Some asked) left ending = EndsCommand asked.command asked left ending ⊎ (ending ≡ no_memory)
 
+-- what the program ends with, for these words
 abbrev pub EndsFor : (words : List (List ℕ)) → (left : Option (List ℕ)) → Ending → Type 0
 EndsFor words left ending = EndsAsked (asked_in words) left ending
 

@@ -18,12 +18,13 @@ use Rattle.dwexpr.specs.declared.steps.OwnedStep.TheVariants as owned
 -- ---- lines
 
 -- A line ends at a line feed (10), which a carriage return may precede, or at the end of the input. What follows it.
-abbrev pub first_of : List ℕ → Option (List ℕ × List ℕ) → List ℕ × List ℕ
-first_of input None = (input, [])
-first_of input (Some parts) = (strip_carriage_return parts.0, parts.1)
+abbrev pub line_and_rest : List ℕ → Option (List ℕ × List ℕ) → List ℕ × List ℕ
+line_and_rest input None = (input, [])
+line_and_rest input (Some parts) = (strip_carriage_return parts.0, parts.1)
 
+-- the first line, and what follows it
 abbrev pub first_line : List ℕ → List ℕ × List ℕ
-first_line input = first_of input (cut_at 10 input)
+first_line input = line_and_rest input (cut_at 10 input)
 
 -- up to so many lines
 abbrev pub lines_within : (most : ℕ) → List ℕ → List (List ℕ)
@@ -61,6 +62,7 @@ plain_step_in name word =
 abbrev pub location_step : (big : Bool) → List ℕ → Step
 location_step big bytes = Resume (asked.LocationAnswer (record { bytes = bytes; is_big = big }))
 
+-- the step of this name and word
 abbrev pub named_step_in : (big : Bool) → (name word : List ℕ) → Option Step
 named_step_in big name word =
     if bytes_eq name (codes "location") then option_map (location_step big) (bytes_in word) else plain_step_in name word
@@ -75,6 +77,7 @@ text_step_in big line =
 abbrev pub step_in : (big : Bool) → List ℕ → Option Step
 step_in big line = if is_utf8 line then text_step_in big line else None
 
+-- a line's step, and then those of the lines behind it
 abbrev pub said_then : Option Step → Result (List Step) ℕ → Result (List Step) ℕ
 said_then None more = Err 1
 said_then (Some step) (Ok steps) = Ok (step ∷ steps)

@@ -10,6 +10,7 @@ use Rattle.dwarf_value.specs.declared.types.ValueType.TheVariants as type
 
 -- ---- numbers
 
+-- each byte is a digit of the base
 abbrev pub all_digits : (base : ℕ) → List ℕ → Bool
 all_digits base [] = true
 all_digits base (digit ∷ digits) = is_digit digit base && all_digits base digits
@@ -43,6 +44,7 @@ integer_in word =
 
 -- ---- types and values
 
+-- T: the name of a type
 abbrev pub type_in : List ℕ → Option ValueType
 type_in word =
     if bytes_eq word (codes "generic") then Some type.Generic

@@ -12,18 +12,20 @@ use Rattle.dwexpr.specs.declared.words.Reading.{Reading}
 
 -- ---- HEX
 
-abbrev pub decoded : Result (List ℕ) FromHexError → Option (List ℕ)
-decoded (Ok bytes) = Some bytes
-decoded (Err e) = None
+-- the bytes, where the digits say some
+abbrev pub decoded_bytes : Result (List ℕ) FromHexError → Option (List ℕ)
+decoded_bytes (Ok bytes) = Some bytes
+decoded_bytes (Err e) = None
 
 -- the bytes of a word: none of the word `-`, and else those of a positive even number of digits
 abbrev pub bytes_in : List ℕ → Option (List ℕ)
 bytes_in [] = None
 bytes_in (byte ∷ []) = if byte == 45 then Some [] else None
-bytes_in (byte ∷ next ∷ rest) = decoded (decode_of (byte ∷ next ∷ rest))
+bytes_in (byte ∷ next ∷ rest) = decoded_bytes (decode_of (byte ∷ next ∷ rest))
 
 -- ---- the words before it
 
+-- the first word: `ops` or `eval`
 abbrev pub command_in : List ℕ → Option Command
 command_in word =
     if bytes_eq word (codes "ops") then Some Ops
@@ -72,6 +74,7 @@ reading_of (Some size) (Some format) (Some version) (Some order) =
     Some (record { encoding = record { address_size = size; format = format; version = version }; order = order })
 reading_of _ _ _ _ = None
 
+-- how the bytes are to be read
 abbrev pub reading_in : (size offsets version order : List ℕ) → Option Reading
 reading_in size offsets version order =
     reading_of (address_size_in size) (format_in offsets) (version_in version) (order_in order)
@@ -84,6 +87,7 @@ pub record Asked : Type 0 where
   pub reading : Reading
   pub bytes : List ℕ
 
+-- all three
 abbrev pub asked_by : Option Command → Option Reading → Option (List ℕ) → Option Asked
 asked_by (Some command) (Some reading) (Some bytes) = Some (record {
   command = command;

@@ -35,6 +35,7 @@ text_in slice = text_of slice_bytes (λ reader. is_big_of (slice_order reader)) 
 abbrev pub hexadecimal : ℕ → List ℕ
 hexadecimal number = codes "0x" ++ digits 16 false number
 
+-- V: a type, a colon and a number
 abbrev pub value_word : Value → List ℕ
 value_word (value.Generic content) = codes "generic:" ++ hexadecimal content
 value_word (value.I8 number) = codes "i8:" ++ signed_decimal number
@@ -56,6 +57,7 @@ abbrev pub bytes_word : List ℕ → List ℕ
 bytes_word [] = codes "-"
 bytes_word (byte ∷ bytes) = pairs (byte ∷ bytes)
 
+-- the bytes of a word
 abbrev pub word_text : Word → List ℕ
 word_text (word.Name name) = name.now
 word_text (word.Number number) = decimal number
@@ -71,5 +73,6 @@ abbrev pub ending : List (List ℕ) → List ℕ
 ending [] = 10 ∷ []
 ending (word ∷ words) = 32 ∷ (word ++ ending words)
 
+-- a word, further words, and the end of the line
 abbrev pub line : (first : List ℕ) → List (List ℕ) → List ℕ
 line first words = first ++ ending words

@@ -1,6 +1,6 @@
 ghost use Rattle.std.specs.Prelude.{◌≡◌, ◌++◌, [], ◌∷◌, decimal, codes, map};
 ghost use Rattle.dwarf_base.specs.Faults.{fault_of};
-ghost use Rattle.dwarf_eval.specs.Calls.{reply_of, told_of};
+ghost use Rattle.dwarf_eval.specs.Evaluation.{reply_of, ok_reply};
 ghost use Rattle.dwarf_eval.specs.Machine.{piece_of};
 ghost use Rattle.dwarf_meaning.specs.Requests.{RequiresAtLocation};
 ghost use Rattle.dwarf_op.specs.Views.{reference_of};
@@ -186,7 +186,7 @@ fn print_reference<W: Write>(output: &mut W, reference: DieReference<usize>) -> 
 /// The line of what a call of the evaluation answered.
 fn print_result<W: Write>(output: &mut W, answer: EvaluationResult<Text<'_>>) -> io::Result<()>
     ensures { Prints (W.contents output.old) (W.contents output.new)
-        (reply_line (told_of text_in (λ x. x) answer.entry)) result }
+        (reply_line (ok_reply text_in (λ x. x) answer.entry)) result }
 {
     match answer {
         EvaluationResult::Complete => put_line(output, "complete", &[]),

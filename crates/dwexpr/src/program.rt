@@ -2,11 +2,11 @@ ghost use Rattle.std.specs.Prelude.{◌<◌, ◌≤◌, ◌-◌, ◌^◌, length
 ghost use Rattle.dwarf_base.specs.ByteOrder.{is_big_of};
 ghost use Rattle.dwarf_eval.specs.Machine.{piece_of};
 ghost use Rattle.dwarf_replay.specs.Replays.{replies_in, steps_of};
-ghost use Rattle.dwexpr.specs.Evaluates.{Evaluates, EvaluatesLines, behind_answers, refused_steps, setup_in, unset};
+ghost use Rattle.dwexpr.specs.Evaluates.{EvaluatesSteps, EvaluatesLines, behind_replies, bad_steps, unlimited_setup, untold};
 ghost use Rattle.dwexpr.specs.Lines.{listing_of, piece_lines, reply_lines};
 ghost use Rattle.dwexpr.specs.Program.{EndsFor, EvaluatesInput, Exits};
-ghost use Rattle.dwexpr.specs.Runs as runs;
-ghost use Rattle.dwexpr.specs.Runs.{Ending, Ends, complete, listed, standing};
+ghost use Rattle.dwexpr.specs.Endings as runs;
+ghost use Rattle.dwexpr.specs.Endings.{Ending, WritesEnding, complete_ending, listed, standing};
 ghost use Rattle.dwexpr.specs.inner.Replayed.{HasLine, ending_of};
 ghost use Rattle.dwexpr.specs.Writing.{Prints, text_in};
 
@@ -35,7 +35,7 @@ const MISUSED: u8 = 2;
 
 /// Prints that the words are not those of the program.
 fn bad_words<W: Write>(output: &mut W) -> io::Result<u8>
-    ensures { Ends (W.contents output.old) (W.contents output.new) runs.bad_words result }
+    ensures { WritesEnding (W.contents output.old) (W.contents output.new) runs.bad_words result }
 {
     put_line(output, "bad words", &[])?;
     Ok(MISUSED)
@@ -43,7 +43,7 @@ fn bad_words<W: Write>(output: &mut W) -> io::Result<u8>
 
 /// Prints that there was no memory.
 fn no_memory<W: Write>(output: &mut W) -> io::Result<u8>
-    ensures { Ends (W.contents output.old) (W.contents output.new) runs.no_memory result }
+    ensures { WritesEnding (W.contents output.old) (W.contents output.new) runs.no_memory result }
 {
     put_line(output, "no memory", &[])?;
     Ok(FAILED)
@@ -51,7 +51,7 @@ fn no_memory<W: Write>(output: &mut W) -> io::Result<u8>
 
 /// Prints that the line of this number is no step.
 fn bad_step<W: Write>(output: &mut W, number: usize) -> io::Result<u8>
-    ensures { Ends (W.contents output.old) (W.contents output.new) (runs.bad_step number) result }
+    ensures { WritesEnding (W.contents output.old) (W.contents output.new) (runs.bad_step number) result }
 {
     put_line(output, "bad step", &[Word::Number(number as u64)])?;
     Ok(MISUSED)
@@ -60,7 +60,7 @@ fn bad_step<W: Write>(output: &mut W, number: usize) -> io::Result<u8>
 /// Prints that the step at this index, from 0, isn't allowed.
 fn misplaced<W: Write>(output: &mut W, index: usize) -> io::Result<u8>
     requires { index < 2 ^ 64 - 1 }
-    ensures { Ends (W.contents output.old) (W.contents output.new) (runs.misplaced index) result }
+    ensures { WritesEnding (W.contents output.old) (W.contents output.new) (runs.misplaced index) result }
 {
     put_line(output, "misplaced", &[Word::Number(index as u64 + 1)])?;
     Ok(MISUSED)
@@ -93,8 +93,8 @@ fn print_complete<W: Write>(
     value: Option<Value>,
     pieces: &[Piece<Text<'_>>],
 ) -> io::Result<u8>
-    ensures { Ends (W.contents output.old) (W.contents output.new)
-        (complete (map (piece_of text_in (λ x. x)) pieces.now) value) result }
+    ensures { WritesEnding (W.contents output.old) (W.contents output.new)
+        (complete_ending (map (piece_of text_in (λ x. x)) pieces.now) value) result }
 {
     print_pieces(output, pieces)?;
     print_value_line(output, value)?;
@@ -106,7 +106,7 @@ fn print_outcome<A: Allocator + Copy, W: Write>(
     output: &mut W,
     evaluation: &Evaluation<Text<'_>, StoreOnHeap<A>>,
 ) -> io::Result<u8>
-    ensures { Ends (W.contents output.old) (W.contents output.new)
+    ensures { WritesEnding (W.contents output.old) (W.contents output.new)
         (standing evaluation.now evaluation.now.status) result }
 {
     match evaluation.status() {
@@ -128,7 +128,7 @@ fn print_end<A: Allocator + Copy, W: Write>(
     replayed: Replayed<Text<'_>>,
 ) -> io::Result<u8>
     requires { HasLine replayed }
-    ensures { Ends (W.contents output.old) (W.contents output.new) (ending_of evaluation.now replayed.entry) result }
+    ensures { WritesEnding (W.contents output.old) (W.contents output.new) (ending_of evaluation.now replayed.entry) result }
 {
     match replayed {
         Replayed::Done => print_outcome(output, evaluation),
@@ -148,8 +148,8 @@ fn print_replay<A: Allocator + Copy, W: Write>(
     replayed: Replayed<Text<'_>>,
 ) -> io::Result<u8>
     requires { HasLine replayed }
-    ensures { Ends (W.contents output.old) (W.contents output.new)
-        (behind_answers (replies_in text_in (λ x. x) answers.now) (ending_of evaluation.now replayed.entry)) result }
+    ensures { WritesEnding (W.contents output.old) (W.contents output.new)
+        (behind_replies (replies_in text_in (λ x. x) answers.now) (ending_of evaluation.now replayed.entry)) result }
 {
     print_answers(output, answers)?;
     print_end(output, evaluation, replayed)
@@ -167,10 +167,10 @@ fn evaluate<'a, A: Allocator + Copy, W: Write>(
     requires fits { reading.encoding.address_size ≤ 8 }
     requires few { length steps.now < 2 ^ 63 }
     ensures { (ending : Ending)
-        × Evaluates (setup_in reading.encoding)
-        (record { bytes = bytes.now; is_big = is_big_of reading.order }) unset
+        × EvaluatesSteps (unlimited_setup reading.encoding)
+        (record { bytes = bytes.now; is_big = is_big_of reading.order }) untold
         (steps_of text_in steps.now) ending
-        × Ends (W.contents output.old) (W.contents output.new) ending result }
+        × WritesEnding (W.contents output.old) (W.contents output.new) ending result }
 {
     let text = EndianSlice::new(bytes, reading.order);
     let mut evaluation: Evaluation<_, StoreOnHeap<A>> = Evaluation::new(
@@ -185,7 +185,7 @@ fn evaluate<'a, A: Allocator + Copy, W: Write>(
 
 /// Prints why the lines give no steps.
 fn refuse_steps<W: Write>(output: &mut W, fault: StepsFault) -> io::Result<u8>
-    ensures { Ends (W.contents output.old) (W.contents output.new) (refused_steps fault) result }
+    ensures { WritesEnding (W.contents output.old) (W.contents output.new) (bad_steps fault) result }
 {
     match fault {
         StepsFault::Bad(number) => bad_step(output, number),
@@ -206,7 +206,7 @@ fn run_lines<A: Allocator + Copy, W: Write>(
     ensures { (ending : Ending)
         × EvaluatesLines reading.encoding
         (record { bytes = bytes.now; is_big = is_big_of reading.order }) lines.now ending
-        × Ends (W.contents output.old) (W.contents output.new) ending result }
+        × WritesEnding (W.contents output.old) (W.contents output.new) ending result }
 {
     let owned = match steps_in(alloc, lines) {
         Ok(steps) => steps,
@@ -231,7 +231,7 @@ fn run_eval<A: Allocator + Copy, I: Read + Drop, W: Write>(
     ensures { (ending : Ending)
         × EvaluatesInput reading.encoding
         (record { bytes = bytes.now; is_big = is_big_of reading.order }) (I.remaining input) ending
-        × Ends (W.contents output.old) (W.contents output.new) ending result }
+        × WritesEnding (W.contents output.old) (W.contents output.new) ending result }
 {
     let mut lines = Vec::new(alloc);
     match input.read_to_end(&mut lines) {
@@ -245,7 +245,7 @@ fn run_eval<A: Allocator + Copy, I: Read + Drop, W: Write>(
 
 /// Lists the operations of the bytes.
 fn run_ops<W: Write>(bytes: &[u8], reading: Reading, output: &mut W) -> io::Result<u8>
-    ensures { Ends (W.contents output.old) (W.contents output.new)
+    ensures { WritesEnding (W.contents output.old) (W.contents output.new)
         (listed (listing_of reading.encoding (is_big_of reading.order) bytes.now)) result }
 {
     if print_operations(output, bytes, reading)? {
@@ -264,7 +264,7 @@ fn run_words<A: Allocator + Copy, I: Read + Drop, W: Write>(
 ) -> io::Result<u8>
     ensures { (ending : Ending)
         × EndsFor (map string_bytes words.now) (I.remaining input) ending
-        × Ends (W.contents output.old) (W.contents output.new) ending result }
+        × WritesEnding (W.contents output.old) (W.contents output.new) ending result }
 {
     let [command, size, offsets, version, order, hexadecimal] = words else {
         return bad_words(output);

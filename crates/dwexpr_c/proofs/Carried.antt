@@ -8,11 +8,11 @@ use Rattle.dwarf_meaning.specs.Operations as operation
 use Rattle.dwarf_meaning.specs.Operations.{Operation, Text}
 use Rattle.dwarf_meaning.specs.Locations.{Location, HoldsBytes, Piece}
 use Rattle.dwarf_meaning.specs.Requests as asked_for
-use Rattle.dwarf_meaning.specs.Requests.{Request, Waiting, Memory, Register, WasmValue, EntryValue, FrameBase, Tls, CallFrameCfa, ParameterRef, RelocatedAddress, IndexedAddress, AtLocation, TypedLiteral, Convert, Reinterpret, Answer, LocationAnswer, Input, location_of}
-use Rattle.dwarf_meaning.specs.Acts.{on_top, on_some, on_answer, answer_of, Act, Pushes, Branches, Locates, Ends, Asks, Refuses, short, unary, binary, push, act, Use, Gives, Calls, Denies, Misfits, use_of}
-use Rattle.dwarf_meaning.specs.Stores.{Setup, address_bits, Refusal, Store, Last, Nothing, Plain, Pieced, Pushed, Called, Located, room, push_value, push_piece, push_frame, push_values, Next, Goes, Stops, Fails, goes, done}
-use Rattle.dwarf_meaning.specs.Run.{Frame, End, Finished, Asking, Failed, Course, ended, Continues, back, resumed, entered, called, used, with_input, asked, led, read, can_count, counted, does, counts, piece_of, holds, held, turn_by, turn, out_of_turns, run_for, enough}
-use Rattle.dwarf_meaning.specs.Meaning.{Outcome, Requests, Faults, Completes, completed, has_pieces, whole, finish_value, finish_judged, finish_free, finish_by, First, fresh, with_initial, course_from, unwound, meaning}
+use Rattle.dwarf_meaning.specs.Requests.{Request, Waiting, Memory, Register, WasmValue, EntryValue, FrameBase, Tls, CallFrameCfa, ParameterRef, RelocatedAddress, IndexedAddress, AtLocation, TypedLiteral, Convert, Reinterpret, Answer, LocationAnswer, Input, location_in}
+use Rattle.dwarf_meaning.specs.Acts.{on_top, on_some, on_result, result_of, Act, Pushes, Branches, Locates, EndsPiece, RequestAct, FaultAct, short, unary, binary, push, act, Use, PushesAnswer, Calls, FaultUse, WrongKind, use_of}
+use Rattle.dwarf_meaning.specs.Stores.{Setup, address_bits, Refusal, Store, Last, Nothing, Plain, Pieced, Pushed, Called, Located, room, push_value, push_piece, push_caller, push_values, Next, Goes, RequestNext, FaultNext, goes, done}
+use Rattle.dwarf_meaning.specs.Run.{Position, End, CompleteEnd, RequestEnd, FaultEnd, Course, only_end, Continues, return_to_caller, after_push, enter_callee, run_callee, after_answer, with_input, await_answer, after_operation, read, can_count, counted, do_operation, turn_counted, piece_ended_by, end_located, turn_located, turn_by, turn, out_of_turns, run_for, enough}
+use Rattle.dwarf_meaning.specs.Meaning.{Outcome, RequestOutcome, FaultOutcome, CompleteOutcome, completion_of, has_pieces, whole, finish_value, finish_judged, finish_free, finish_by, First, fresh, with_initial, course_from, unwound, meaning}
 use Rattle.dwarf_meaning.proofs.Choices.{choose_both}
 use Rattle.dwarf_meaning.proofs.Counts.{OnStore, bound_store, on_bound}
 use Rattle.dwexpr_c.specs.Operations.{block_in}
@@ -41,8 +41,8 @@ OnRequest Q _ = Unit {0}
 
 abbrev OnAct : (List ℕ → Type 0) → Act → Type 0
 OnAct Q (Locates rest location) = OnLocation Q location
-OnAct Q (Ends rest piece) = OnLocation Q piece.location
-OnAct Q (Asks rest request waiting) = OnRequest Q request
+OnAct Q (EndsPiece rest piece) = OnLocation Q piece.location
+OnAct Q (RequestAct rest request waiting) = OnRequest Q request
 OnAct Q _ = Unit {0}
 
 abbrev pub OnAnswer : (Text → Type 0) → Answer → Type 0
@@ -66,9 +66,9 @@ record Holds (Q : List ℕ → Type 0) (s : Store) : Type 0 where
   last : OnLast Q s.last
 
 abbrev pub OnOutcome : (List ℕ → Type 0) → Outcome → Type 0
-OnOutcome Q (Requests request frames) = OnRequest Q request
-OnOutcome Q (Completes pieces value) = OnPieces Q pieces
-OnOutcome Q (Faults fault) = Unit {0}
+OnOutcome Q (RequestOutcome request positions) = OnRequest Q request
+OnOutcome Q (CompleteOutcome pieces value) = OnPieces Q pieces
+OnOutcome Q (FaultOutcome fault) = Unit {0}
 
 -- ---- the words of the definitions
 
@@ -82,8 +82,8 @@ unfolding on_some
 some_both R None none go h k = h
 some_both R (Some x) none go h k = k x
 
-answer_both : {X A : Type 0} (R : A → Type 0) (r : Result X Fault) (refused : Fault → A) (go : X → A) → ((fault : Fault) → R (refused fault)) → ((x : X) → R (go x)) → R (on_answer r refused go)
-unfolding on_answer
+answer_both : {X A : Type 0} (R : A → Type 0) (r : Result X Fault) (refused : Fault → A) (go : X → A) → ((fault : Fault) → R (refused fault)) → ((x : X) → R (go x)) → R (on_result r refused go)
+unfolding on_result
 answer_both R (Ok x) refused go h k = k x
 answer_both R (Err fault) refused go h k = h fault
 
@@ -94,11 +94,11 @@ module _ (Q : List ℕ → Type 0) where
   top_acts values go k = top_both (OnAct Q) values short go tt k
 
   unary_acts : (call : Value → Result Value Error) (values : List Value) → OnAct Q (unary call values)
-  unary_acts call values = top_acts values _ (λ x rest. answer_both (OnAct Q) (answer_of (call x)) Refuses (push rest) (λ f. tt) (λ v. tt))
+  unary_acts call values = top_acts values _ (λ x rest. answer_both (OnAct Q) (result_of (call x)) FaultAct (push rest) (λ f. tt) (λ v. tt))
 
   binary_acts : (call : Value → Value → Result Value Error) (values : List Value) → OnAct Q (binary call values)
   binary_acts call values =
-      top_acts values _ (λ y below. top_acts below _ (λ x rest. answer_both (OnAct Q) (answer_of (call x y)) Refuses (push rest) (λ f. tt) (λ v. tt)))
+      top_acts values _ (λ y below. top_acts below _ (λ x rest. answer_both (OnAct Q) (result_of (call x y)) FaultAct (push rest) (λ f. tt) (λ v. tt)))
 
   act_holds : (bits : ℕ) (object : Option ℕ) (op : Operation) (values : List Value) → OnBlock Q (block_in op) → OnAct Q (act bits object op values)
   unfolding act
@@ -178,10 +178,10 @@ module _ (Q : List ℕ → Type 0) where
       bound_store (Holds Q) (room setup.limits.pieces (length s.pieces) s.refusal) (λ left. record s { pieces = s.pieces ++ piece ∷ []; refusal = left })
       (λ left. record { pieces = snoc_pieces s.pieces piece h.pieces i; last = h.last })
 
-  frame_holds : (setup : Setup) (depth : ℕ) (s : Store) → Holds Q s → OnStore (Holds Q) (push_frame setup depth s)
-  unfolding push_frame
+  frame_holds : (setup : Setup) (depth : ℕ) (s : Store) → Holds Q s → OnStore (Holds Q) (push_caller setup depth s)
+  unfolding push_caller
   frame_holds setup depth s h =
-      bound_store (Holds Q) (room setup.limits.frames depth s.refusal) (λ left. record s { refusal = left }) (λ left. record { pieces = h.pieces; last = h.last })
+      bound_store (Holds Q) (room setup.limits.callers depth s.refusal) (λ left. record s { refusal = left }) (λ left. record { pieces = h.pieces; last = h.last })
 
   values_hold : (setup : Setup) (values : List Value) (s : Store) → Holds Q s → OnStore (Holds Q) (push_values setup values s)
   values_hold setup [] s h = h
@@ -190,8 +190,8 @@ module _ (Q : List ℕ → Type 0) where
 
   abbrev OnNext : Next → Type 0
   OnNext (Goes place s) = Holds Q s
-  OnNext (Stops request waiting s) = OnRequest Q request × Holds Q s
-  OnNext (Fails fault) = Unit {0}
+  OnNext (RequestNext request waiting s) = OnRequest Q request × Holds Q s
+  OnNext (FaultNext fault) = Unit {0}
 
   goes_holds : (place : ℕ) (r : Result Store Fault) → OnStore (Holds Q) r → OnNext (goes place r)
   goes_holds place (Ok s) h = h
@@ -203,12 +203,12 @@ module _ (Q : List ℕ → Type 0) where
   done_holds setup place len (Branches rest target) s a h =
       choose_both OnNext _ _ _ (λ e. tt) (λ e. record { pieces = h.pieces; last = tt })
   done_holds setup place len (Locates rest location) s a h = record { pieces = h.pieces; last = a }
-  done_holds setup place len (Ends rest piece) s a h =
+  done_holds setup place len (EndsPiece rest piece) s a h =
       goes_holds place _ (piece_holds setup piece (record s { values = rest; last = Pieced }) (record { pieces = h.pieces; last = tt }) a)
-  done_holds setup place len (Asks rest request waiting) s a h = (a, record { pieces = h.pieces; last = h.last })
-  done_holds setup place len (Refuses fault) s a h = tt
+  done_holds setup place len (RequestAct rest request waiting) s a h = (a, record { pieces = h.pieces; last = h.last })
+  done_holds setup place len (FaultAct fault) s a h = tt
 
-  piece_next : (setup : Setup) (location : Location) (place : ℕ) (s : Store) (o : Option (ℕ × Option ℕ)) → OnLocation Q location → Holds Q s → OnNext (holds setup location place s o)
+  piece_next : (setup : Setup) (location : Location) (place : ℕ) (s : Store) (o : Option (ℕ × Option ℕ)) → OnLocation Q location → Holds Q s → OnNext (end_located setup location place s o)
   piece_next setup location place s (Some piece) l h =
       goes_holds place _ (piece_holds setup _ (record s { last = Pieced }) (record { pieces = h.pieces; last = tt }) l)
   piece_next setup location place s None l h = tt
@@ -216,10 +216,10 @@ module _ (Q : List ℕ → Type 0) where
 -- ---- answers
 
 module _ (P : Text → Type 0) where
-  denied : (values : List Value) (r : Result Value Fault) → OnUse P (on_answer r Denies (Gives values))
-  denied values r = answer_both (OnUse P) r Denies (Gives values) (λ f. tt) (λ v. tt)
+  denied : (values : List Value) (r : Result Value Fault) → OnUse P (on_result r FaultUse (PushesAnswer values))
+  denied values r = answer_both (OnUse P) r FaultUse (PushesAnswer values) (λ f. tt) (λ v. tt)
 
-  called_use : (answer : Answer) → OnAnswer P answer → OnUse P (on_some (location_of answer) Misfits Calls)
+  called_use : (answer : Answer) → OnAnswer P answer → OnUse P (on_some (location_in answer) WrongKind Calls)
   unfolding on_some
   called_use (LocationAnswer text) h = h
   called_use (asked_for.MemoryAnswer value) h = tt
@@ -255,9 +255,9 @@ module _ (P : Text → Type 0) where
 
 module _ (P : Text → Type 0) (Q : List ℕ → Type 0) where
   abbrev OnEnd : End → Type 0
-  OnEnd (Finished s inputs) = Holds Q s × OnInputs P inputs
-  OnEnd (Asking request frames inputs) = OnRequest Q request
-  OnEnd (Failed fault) = Unit {0}
+  OnEnd (CompleteEnd s inputs) = Holds Q s × OnInputs P inputs
+  OnEnd (RequestEnd request positions inputs) = OnRequest Q request
+  OnEnd (FaultEnd fault) = Unit {0}
 
   abbrev Carries : Continues → Type 0
   Carries go = (text : Text) (place depth : ℕ) (s : Store) (inputs : List Input) → P text → Holds Q s → OnInputs P inputs → OnEnd (go text place depth s inputs).end
@@ -267,60 +267,60 @@ module _ (P : Text → Type 0) (Q : List ℕ → Type 0) where
   Reads setup = (text : Text) (place : ℕ) → P text → OnRead Q (read setup text place)
 
   module _ (setup : Setup) (reads : Reads setup) (go : Continues) (carries : Carries go) where
-    back_carries : (frame : Frame) (depth : ℕ) (course : Course) (end : End) → P frame.text → OnEnd end → OnEnd (back go frame depth course end).end
-    back_carries frame depth course (Finished s inputs) p h = carries frame.text frame.place depth s inputs p h.0 h.1
-    back_carries frame depth course (Asking request frames inputs) p h = h
-    back_carries frame depth course (Failed fault) p h = tt
+    back_carries : (position : Position) (depth : ℕ) (course : Course) (end : End) → P position.text → OnEnd end → OnEnd (return_to_caller go position depth course end).end
+    back_carries position depth course (CompleteEnd s inputs) p h = carries position.text position.place depth s inputs p h.0 h.1
+    back_carries position depth course (RequestEnd request positions inputs) p h = h
+    back_carries position depth course (FaultEnd fault) p h = tt
 
-    resumed_carries : (frame : Frame) (depth : ℕ) (inputs : List Input) (r : Result Store Fault) → P frame.text → OnStore (Holds Q) r → OnInputs P inputs → OnEnd (resumed go frame depth inputs r).end
-    resumed_carries frame depth inputs (Ok s) p h i = carries frame.text frame.place depth s inputs p h i
-    resumed_carries frame depth inputs (Err fault) p h i = tt
+    resumed_carries : (position : Position) (depth : ℕ) (inputs : List Input) (r : Result Store Fault) → P position.text → OnStore (Holds Q) r → OnInputs P inputs → OnEnd (after_push go position depth inputs r).end
+    resumed_carries position depth inputs (Ok s) p h i = carries position.text position.place depth s inputs p h i
+    resumed_carries position depth inputs (Err fault) p h i = tt
 
-    entered_carries : (frame : Frame) (depth : ℕ) (callee : Text) (inputs : List Input) (r : Result Store Fault) → P frame.text → P callee → OnStore (Holds Q) r → OnInputs P inputs → OnEnd (entered go frame depth callee inputs r).end
-    entered_carries frame depth callee inputs (Ok s) p c h i =
+    entered_carries : (position : Position) (depth : ℕ) (callee : Text) (inputs : List Input) (r : Result Store Fault) → P position.text → P callee → OnStore (Holds Q) r → OnInputs P inputs → OnEnd (enter_callee go position depth callee inputs r).end
+    entered_carries position depth callee inputs (Ok s) p c h i =
         let course = go callee 0 (suc depth) s inputs in
-        back_carries frame depth course course.end p (carries callee 0 (suc depth) s inputs c h i)
-    entered_carries frame depth callee inputs (Err fault) p c h i = tt
+        back_carries position depth course course.end p (carries callee 0 (suc depth) s inputs c h i)
+    entered_carries position depth callee inputs (Err fault) p c h i = tt
 
-    called_carries : (frame : Frame) (depth : ℕ) (callee : Text) (bytes : List ℕ) (s : Store) (inputs : List Input) → P frame.text → P callee → Holds Q s → OnInputs P inputs → OnEnd (called go setup frame depth callee bytes s inputs).end
-    called_carries frame depth callee [] s inputs p c h i =
-        carries frame.text frame.place depth (record s { last = Called }) inputs p (record { pieces = h.pieces; last = tt }) i
-    called_carries frame depth callee (byte ∷ bytes) s inputs p c h i =
-        entered_carries frame depth callee inputs _ p c (frame_holds Q setup depth s h) i
+    called_carries : (position : Position) (depth : ℕ) (callee : Text) (bytes : List ℕ) (s : Store) (inputs : List Input) → P position.text → P callee → Holds Q s → OnInputs P inputs → OnEnd (run_callee go setup position depth callee bytes s inputs).end
+    called_carries position depth callee [] s inputs p c h i =
+        carries position.text position.place depth (record s { last = Called }) inputs p (record { pieces = h.pieces; last = tt }) i
+    called_carries position depth callee (byte ∷ bytes) s inputs p c h i =
+        entered_carries position depth callee inputs _ p c (frame_holds Q setup depth s h) i
 
-    used_carries : (frame : Frame) (depth : ℕ) (u : Use) (s : Store) (inputs : List Input) (unanswered : Course) → P frame.text → OnUse P u → Holds Q s → OnInputs P inputs → OnEnd unanswered.end → OnEnd (used go setup frame depth u s inputs unanswered).end
-    used_carries frame depth (Gives rest value) s inputs unanswered p u h i e =
-        resumed_carries frame depth inputs _ p (value_holds Q setup value (record s { values = rest; last = Pushed }) (record { pieces = h.pieces; last = tt })) i
-    used_carries frame depth (Calls callee) s inputs unanswered p u h i e = called_carries frame depth callee callee.bytes s inputs p u h i
-    used_carries frame depth (Denies fault) s inputs unanswered p u h i e = tt
-    used_carries frame depth Misfits s inputs unanswered p u h i e = e
+    used_carries : (position : Position) (depth : ℕ) (u : Use) (s : Store) (inputs : List Input) (unanswered : Course) → P position.text → OnUse P u → Holds Q s → OnInputs P inputs → OnEnd unanswered.end → OnEnd (after_answer go setup position depth u s inputs unanswered).end
+    used_carries position depth (PushesAnswer rest value) s inputs unanswered p u h i e =
+        resumed_carries position depth inputs _ p (value_holds Q setup value (record s { values = rest; last = Pushed }) (record { pieces = h.pieces; last = tt })) i
+    used_carries position depth (Calls callee) s inputs unanswered p u h i e = called_carries position depth callee callee.bytes s inputs p u h i
+    used_carries position depth (FaultUse fault) s inputs unanswered p u h i e = tt
+    used_carries position depth WrongKind s inputs unanswered p u h i e = e
 
-    asked_carries : (frame : Frame) (depth : ℕ) (request : Request) (waiting : Waiting) (s : Store) (inputs : List Input) → P frame.text → OnRequest Q request → Holds Q s → OnInputs P inputs → OnEnd (asked go setup frame depth request waiting s inputs).end
-    asked_carries frame depth request waiting s [] p r h i = r
-    asked_carries frame depth request waiting s (input ∷ inputs) p r h i =
-        used_carries frame depth (use_of (address_bits setup) waiting input.answer s.values) (with_input input s) inputs (ended (Asking request (frame ∷ []) (input ∷ inputs)))
+    asked_carries : (position : Position) (depth : ℕ) (request : Request) (waiting : Waiting) (s : Store) (inputs : List Input) → P position.text → OnRequest Q request → Holds Q s → OnInputs P inputs → OnEnd (await_answer go setup position depth request waiting s inputs).end
+    asked_carries position depth request waiting s [] p r h i = r
+    asked_carries position depth request waiting s (input ∷ inputs) p r h i =
+        used_carries position depth (use_of (address_bits setup) waiting input.answer s.values) (with_input input s) inputs (only_end (RequestEnd request (position ∷ []) (input ∷ inputs)))
         p (use_holds P (address_bits setup) waiting input.answer s.values i.0) (record { pieces = h.pieces; last = h.last }) i.1 r
 
-    led_carries : (text : Text) (depth place : ℕ) (inputs : List Input) (next : Next) → P text → OnNext Q next → OnInputs P inputs → OnEnd (led go setup text depth place inputs next).end
+    led_carries : (text : Text) (depth place : ℕ) (inputs : List Input) (next : Next) → P text → OnNext Q next → OnInputs P inputs → OnEnd (after_operation go setup text depth place inputs next).end
     led_carries text depth place inputs (Goes to s) p h i = carries text to depth s inputs p h i
-    led_carries text depth place inputs (Stops request waiting s) p h i =
+    led_carries text depth place inputs (RequestNext request waiting s) p h i =
         asked_carries (record { text = text; place = place }) depth request waiting s inputs p h.0 h.1 i
-    led_carries text depth place inputs (Fails fault) p h i = tt
+    led_carries text depth place inputs (FaultNext fault) p h i = tt
 
-    does_carries : (text : Text) (depth : ℕ) (s : Store) (inputs : List Input) (r : Result (Operation × List ℕ) Fault) → P text → OnRead Q r → Holds Q s → OnInputs P inputs → OnEnd (does go setup text depth s inputs r).end
+    does_carries : (text : Text) (depth : ℕ) (s : Store) (inputs : List Input) (r : Result (Operation × List ℕ) Fault) → P text → OnRead Q r → Holds Q s → OnInputs P inputs → OnEnd (do_operation go setup text depth s inputs r).end
     does_carries text depth s inputs (Ok x) p b h i =
         led_carries text depth _ inputs _ p (done_holds Q setup _ _ _ s (act_holds Q (address_bits setup) s.object_address x.0 s.values b) h) i
     does_carries text depth s inputs (Err fault) p b h i = tt
 
-    counts_carries : (text : Text) (place depth : ℕ) (s : Store) (inputs : List Input) → P text → Holds Q s → OnInputs P inputs → OnEnd (counts go setup text place depth s inputs).end
+    counts_carries : (text : Text) (place depth : ℕ) (s : Store) (inputs : List Input) → P text → Holds Q s → OnInputs P inputs → OnEnd (turn_counted go setup text place depth s inputs).end
     counts_carries text place depth s inputs p h i =
         choose_both (λ (c : Course). OnEnd c.end) (can_count s) _ _
         (λ e. does_carries text depth (counted s) inputs (read setup text place) p (reads text place p) (record { pieces = h.pieces; last = h.last }) i)
         (λ e. tt)
 
-    held_carries : (text : Text) (depth : ℕ) (location : Location) (s : Store) (inputs : List Input) (r : Result (Operation × List ℕ) Fault) → P text → OnLocation Q location → Holds Q s → OnInputs P inputs → OnEnd (held go setup text depth location s inputs r).end
+    held_carries : (text : Text) (depth : ℕ) (location : Location) (s : Store) (inputs : List Input) (r : Result (Operation × List ℕ) Fault) → P text → OnLocation Q location → Holds Q s → OnInputs P inputs → OnEnd (turn_located go setup text depth location s inputs r).end
     held_carries text depth location s inputs (Ok x) p l h i =
-        led_carries text depth _ inputs _ p (piece_next Q setup location _ s (piece_of x.0) l h) i
+        led_carries text depth _ inputs _ p (piece_next Q setup location _ s (piece_ended_by x.0) l h) i
     held_carries text depth location s inputs (Err fault) p l h i = tt
 
     by_carries : (text : Text) (place depth : ℕ) (s : Store) (inputs : List Input) (last : Last) → P text → OnLast Q last → Holds Q s → OnInputs P inputs → OnEnd (turn_by go setup text place depth s inputs last).end
@@ -343,7 +343,7 @@ module _ (P : Text → Type 0) (Q : List ℕ → Type 0) where
 
   -- ---- the end
 
-  completed_holds : (value : Option Value) (r : Result Store Fault) → OnStore (Holds Q) r → OnOutcome Q (completed value r)
+  completed_holds : (value : Option Value) (r : Result Store Fault) → OnStore (Holds Q) r → OnOutcome Q (completion_of value r)
   completed_holds value (Ok s) h = h.pieces
   completed_holds value (Err fault) h = tt
 
@@ -368,9 +368,9 @@ module _ (P : Text → Type 0) (Q : List ℕ → Type 0) where
   finish_holds setup s Called h l = free_ends setup s h
 
   ends_holds : (setup : Setup) (end : End) → OnEnd end → OnOutcome Q (unwound setup [] end)
-  ends_holds setup (Finished s inputs) h = finish_holds setup s s.last h.0 h.0.last
-  ends_holds setup (Asking request frames inputs) h = h
-  ends_holds setup (Failed fault) h = tt
+  ends_holds setup (CompleteEnd s inputs) h = finish_holds setup s s.last h.0 h.0.last
+  ends_holds setup (RequestEnd request positions inputs) h = h
+  ends_holds setup (FaultEnd fault) h = tt
 
   begins : (setup : Setup) (first : First) (refusal : Refusal) (initial : Option ℕ) → OnStore (Holds Q) (with_initial setup initial (fresh first refusal))
   begins setup first refusal None = record { pieces = tt; last = tt }

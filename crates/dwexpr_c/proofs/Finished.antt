@@ -2,18 +2,18 @@
 use Rattle.std.proofs.Common.{ℕ, ◌≡◌, ◌∙◌, inl, inr, Bool, List, [], ◌∷◌, Option, Some, None, Result, Ok, Err, length, slice_get, refl, sym, ap, subst}
 use Rattle.dwarf_base.specs.declared.common.Encoding.{Encoding}
 use Rattle.dwarf_meaning.specs.Locations.{Piece}
-use Rattle.dwarf_meaning.specs.Meaning.{Outcome, Requests, Faults, Completes}
+use Rattle.dwarf_meaning.specs.Meaning.{Outcome, RequestOutcome, FaultOutcome, CompleteOutcome}
 use Rattle.dwarf_meaning.specs.Operations.{Text}
 use Rattle.dwarf_meaning.specs.Requests.{Request}
-use Rattle.dwarf_meaning.specs.Rest.{State, Status, Start, Running, Waits, Complete, Stopped}
+use Rattle.dwarf_meaning.specs.Rest.{State, Status, Start, Running, RequestStatus, CompleteStatus, FaultStatus}
 use Rattle.dwarf_meaning.specs.Stores.{Setup}
-use Rattle.dwarf_replay.specs.Replays.{StandsAt, IsAsking, told_at}
-use Rattle.dwexpr_c.specs.Evaluated.{Evaluates, EvaluatesFirst, Given, IsEnded, ShowsOutcome, comes_of, setup_in, told_by, unset}
+use Rattle.dwarf_replay.specs.Replays.{StandsAt, IsInRequest, told_at}
+use Rattle.dwexpr_c.specs.Evaluated.{EvaluatesGiven, EvaluatesFirst, Given, IsCutShort, ShowsOutcome, comes_of, limited_setup, told_by, untold}
 use Rattle.dwexpr_c.specs.Outcomes.{ShowsRequest}
 use Rattle.dwexpr_c.specs.Texts.{TextAt}
 use Rattle.dwexpr_c.specs.inner.Places.{IsGiven}
 use Rattle.dwexpr_c.specs.inner.Runs.{EvaluatesFound, RanAll, Runs, given_at}
-use Rattle.dwexpr_c.specs.inner.Stepping.{Ends, Finishes, ShowsStatus}
+use Rattle.dwexpr_c.specs.inner.Stepping.{EndsOutcome, FinishesOutcome, ShowsStatus}
 use Rattle.dwexpr_c.specs.declared.outcomes.DwexprOutcome.{DwexprOutcome}
 use Rattle.dwexpr_c.specs.declared.pieces.DwexprPiece.{DwexprPiece}
 use Rattle.dwexpr_c.specs.declared.places.Placed.{Placed}
@@ -26,56 +26,56 @@ module _ (texts : List DwexprText) (numbers : List DwexprStep) (first new : Stat
   abbrev given : Given
   given = given_at first texts
 
-  done : (o : Option Outcome) → comes_of given ran.steps ≡ o → ShowsOutcome texts o after old places → Evaluates given numbers after old places
+  done : (o : Option Outcome) → comes_of given ran.steps ≡ o → ShowsOutcome texts o after old places → EvaluatesGiven given numbers after old places
   done o e h =
       inl (record { steps = ran.steps; taken = ran.taken; shown = subst (λ (z : Option Outcome). ShowsOutcome texts z after old places) (sym e) h })
 
-  finishes_as : (status : Status) → new.status ≡ status → Finishes texts (length numbers) new.store.pieces out after old places new.status → Finishes texts (length numbers) new.store.pieces out after old places status
-  finishes_as status e f = subst (Finishes texts (length numbers) new.store.pieces out after old places) e f
+  finishes_as : (status : Status) → new.status ≡ status → FinishesOutcome texts (length numbers) new.store.pieces out after old places new.status → FinishesOutcome texts (length numbers) new.store.pieces out after old places status
+  finishes_as status e f = subst (FinishesOutcome texts (length numbers) new.store.pieces out after old places) e f
 
-  asked_as : (request : Request) (frames : List _) (status : Status) → new.status ≡ status → IsAsking request frames new status → ShowsStatus texts status out → Finishes texts (length numbers) new.store.pieces out after old places status → ShowsRequest texts request after × (places ≡ old)
-  asked_as request frames (Waits other waiting) e a s f =
+  asked_as : (request : Request) (positions : List _) (status : Status) → new.status ≡ status → IsInRequest request positions new status → ShowsStatus texts status out → FinishesOutcome texts (length numbers) new.store.pieces out after old places status → ShowsRequest texts request after × (places ≡ old)
+  asked_as request positions (RequestStatus other waiting) e a s f =
       let shown : ShowsRequest texts request out = subst (λ (r : Request). ShowsRequest texts r out) a.0 s in
       (subst (ShowsRequest texts request) (sym f.0) shown, f.1)
-  asked_as request frames (Start initial_value) e a s f = absurd a
-  asked_as request frames (Complete value) e a s f = absurd a
-  asked_as request frames (Stopped error) e a s f = absurd a
-  asked_as request frames Running e a s f = absurd a
+  asked_as request positions (Start initial_value) e a s f = absurd a
+  asked_as request positions (CompleteStatus value) e a s f = absurd a
+  asked_as request positions (FaultStatus error) e a s f = absurd a
+  asked_as request positions Running e a s f = absurd a
 
-  completes_as : (pieces : List Piece) (value : Option _) → comes_of given ran.steps ≡ Some (Completes pieces value) → Finishes texts (length numbers) pieces out after old places (Complete value) → Evaluates given numbers after old places
-  completes_as pieces value e (inl f) = done (Some (Completes pieces value)) e f
+  completes_as : (pieces : List Piece) (value : Option _) → comes_of given ran.steps ≡ Some (CompleteOutcome pieces value) → FinishesOutcome texts (length numbers) pieces out after old places (CompleteStatus value) → EvaluatesGiven given numbers after old places
+  completes_as pieces value e (inl f) = done (Some (CompleteOutcome pieces value)) e f
   completes_as pieces value e (inr f) =
       absurd (pieces_somewhere texts first is_given numbers ran.steps ran.taken.said pieces value e f.1)
 
-  finished : (o : Option Outcome) → comes_of given ran.steps ≡ o → StandsAt (told_by given ran.steps) new o → Finishes texts (length numbers) new.store.pieces out after old places new.status → Evaluates given numbers after old places
+  finished : (o : Option Outcome) → comes_of given ran.steps ≡ o → StandsAt (told_by given ran.steps) new o → FinishesOutcome texts (length numbers) new.store.pieces out after old places new.status → EvaluatesGiven given numbers after old places
   finished None e h f =
       let k = finishes_as (Start _) h.0 f in
       let s = subst (λ (z : Status). ShowsStatus texts z out) h.0 ran.shown in
       done None e (k.0 ∙ s, k.1)
-  finished (Some (Requests request frames)) e h f =
-      done (Some (Requests request frames)) e (asked_as request frames new.status refl h.0 ran.shown f)
-  finished (Some (Faults fault)) e h f = absurd (no_fault texts (told_by given ran.steps) new (Some (Faults fault)) new.status out refl ran.shown h)
-  finished (Some (Completes pieces value)) e h f =
-      let k = finishes_as (Complete value) h.0 f in
-      completes_as pieces value e (subst (λ (p : List Piece). Finishes texts (length numbers) p out after old places (Complete value)) h.1 k)
+  finished (Some (RequestOutcome request positions)) e h f =
+      done (Some (RequestOutcome request positions)) e (asked_as request positions new.status refl h.0 ran.shown f)
+  finished (Some (FaultOutcome fault)) e h f = absurd (no_fault texts (told_by given ran.steps) new (Some (FaultOutcome fault)) new.status out refl ran.shown h)
+  finished (Some (CompleteOutcome pieces value)) e h f =
+      let k = finishes_as (CompleteStatus value) h.0 f in
+      completes_as pieces value e (subst (λ (p : List Piece). FinishesOutcome texts (length numbers) p out after old places (CompleteStatus value)) h.1 k)
 
   -- the steps were all done
-  pub all_done : Finishes texts (length numbers) new.store.pieces out after old places new.status → Evaluates given numbers after old places
+  pub all_done : FinishesOutcome texts (length numbers) new.store.pieces out after old places new.status → EvaluatesGiven given numbers after old places
   all_done f = finished (comes_of given ran.steps) refl ran.stands f
 
 -- they were done, or one ended it
-pub all_ends : (texts : List DwexprText) (numbers : List DwexprStep) (first new : State) (done : Result DwexprOutcome DwexprOutcome) (after : DwexprOutcome) (old places : List DwexprPiece) → IsGiven texts first.text.bytes → Runs texts numbers first new done → Ends texts (length numbers) new.store.pieces done after old places new.status → Evaluates (given_at first texts) numbers after old places
+pub all_ends : (texts : List DwexprText) (numbers : List DwexprStep) (first new : State) (done : Result DwexprOutcome DwexprOutcome) (after : DwexprOutcome) (old places : List DwexprPiece) → IsGiven texts first.text.bytes → Runs texts numbers first new done → EndsOutcome texts (length numbers) new.store.pieces done after old places new.status → EvaluatesGiven (given_at first texts) numbers after old places
 all_ends texts numbers first new (Ok out) after old places is_given ran f = all_done texts numbers first new out after old places ran is_given f
 all_ends texts numbers first new (Err end) after old places is_given ran f =
-    inr (subst (λ (o : DwexprOutcome). IsEnded (given_at first texts) numbers o) (sym f.0) ran, f.1)
+    inr (subst (λ (o : DwexprOutcome). IsCutShort (given_at first texts) numbers o) (sym f.0) ran, f.1)
 
 -- a fresh evaluation
-pub given_is : (first : State) (texts : List DwexprText) (encoding : Encoding) (text : Text) → first.setup ≡ setup_in encoding → first.text ≡ text → first.store.object_address ≡ None → first.store.maximum ≡ 4294967295 → given_at first texts ≡ record { setup = setup_in encoding; text = text; told = unset; texts = texts }
+pub given_is : (first : State) (texts : List DwexprText) (encoding : Encoding) (text : Text) → first.setup ≡ limited_setup encoding → first.text ≡ text → first.store.object_address ≡ None → first.store.maximum ≡ 4294967295 → given_at first texts ≡ record { setup = limited_setup encoding; text = text; told = untold; texts = texts }
 given_is first texts encoding text s t o m =
     ap (λ (z : Setup). record { setup = z; text = first.text; told = told_at first; texts = texts }) s
-    ∙ (ap (λ (z : Text). record { setup = setup_in encoding; text = z; told = told_at first; texts = texts }) t
-    ∙ (ap (λ (z : Option ℕ). record { setup = setup_in encoding; text = text; told = record { settings = record { initial_value = None; object_address = z; maximum = first.store.maximum }; first = None; inputs = [] }; texts = texts }) o
-    ∙ ap (λ (z : ℕ). record { setup = setup_in encoding; text = text; told = record { settings = record { initial_value = None; object_address = None; maximum = z }; first = None; inputs = [] }; texts = texts }) m))
+    ∙ (ap (λ (z : Text). record { setup = limited_setup encoding; text = z; told = told_at first; texts = texts }) t
+    ∙ (ap (λ (z : Option ℕ). record { setup = limited_setup encoding; text = text; told = record { settings = record { initial_value = None; object_address = z; maximum = first.store.maximum }; first = None; inputs = [] }; texts = texts }) o
+    ∙ ap (λ (z : ℕ). record { setup = limited_setup encoding; text = text; told = record { settings = record { initial_value = None; object_address = None; maximum = z }; first = None; inputs = [] }; texts = texts }) m))
 
 -- ---- the first of the texts
 
@@ -84,4 +84,4 @@ first_found encoding big [] numbers out old new None h e = e
 first_found encoding big [] numbers out old new (Some placed) h e = absurd cc
 first_found encoding big (text ∷ texts) numbers out old new None h e = absurd (let f = h.1 in cc)
 first_found encoding big (text ∷ texts) numbers out old new (Some placed) h e =
-    subst (λ (t : Text). Evaluates (record { setup = setup_in encoding; text = t; told = unset; texts = text ∷ texts }) numbers out old new) h.0 e
+    subst (λ (t : Text). EvaluatesGiven (record { setup = limited_setup encoding; text = t; told = untold; texts = text ∷ texts }) numbers out old new) h.0 e

@@ -9,14 +9,14 @@ use Rattle.dwarf_meaning.specs.Operations.{Operation, Text}
 use Rattle.dwarf_meaning.specs.Locations.{Location, Empty, InRegister, AtAddress, HoldsValue, HoldsBytes, PointsInto, Piece}
 use Rattle.dwarf_meaning.specs.Requests as asked
 use Rattle.dwarf_meaning.specs.Requests.{Request, Answer, Input}
-use Rattle.dwarf_meaning.specs.Meaning.{Outcome, Requests, Faults, Completes, First}
+use Rattle.dwarf_meaning.specs.Meaning.{Outcome, RequestOutcome, FaultOutcome, CompleteOutcome, First}
 use Rattle.dwarf_meaning.specs.Rest.{State}
 use Rattle.dwarf_meaning.specs.Run.{read}
-use Rattle.dwarf_meaning.specs.Steps.{Step, InitialValue, ObjectAddress, MaxIterations, Evaluate, Resume, Told, Asked, heard, after, after_step, after_steps, outcome_from, outcome_of}
+use Rattle.dwarf_meaning.specs.Steps.{Step, InitialValue, ObjectAddress, MaxIterations, Evaluate, Resume, Told, RequestReply, heard, after, after_step, after_steps, outcome_from, outcome_of}
 use Rattle.dwarf_meaning.specs.Stores.{Setup, Refusal, Never}
 use Rattle.dwarf_meaning.proofs.Decoded.{operation_begins}
 use Rattle.dwarf_replay.specs.Replays.{told_at}
-use Rattle.dwexpr_c.specs.Codes.{bad_step}
+use Rattle.dwexpr_c.specs.Codes.{bad_step_code}
 use Rattle.dwexpr_c.specs.Evaluated.{comes_of}
 use Rattle.dwexpr_c.specs.Operations.{block_in}
 use Rattle.dwexpr_c.specs.Steps.{step_in, with_value, with_type, with_text}
@@ -123,8 +123,8 @@ module _ (texts : List DwexprText) where
 
   on_said : (big : Bool) (step : DwexprStep) → IsSaid (step_in big texts step)
   on_said big step =
-      let t16 : Result Step ℕ = cond (step.kind == 16) (with_type (type_in step.value_type)) (Err bad_step) in
-      let s16 : IsSaid t16 = either (step.kind == 16) (with_type (type_in step.value_type)) (Err bad_step) (on_type (type_in step.value_type)) (none_named (Err bad_step) tt) in
+      let t16 : Result Step ℕ = cond (step.kind == 16) (with_type (type_in step.value_type)) (Err bad_step_code) in
+      let s16 : IsSaid t16 = either (step.kind == 16) (with_type (type_in step.value_type)) (Err bad_step_code) (on_type (type_in step.value_type)) (none_named (Err bad_step_code) tt) in
       let t15 : Result Step ℕ = cond (step.kind == 15) (with_text big (slice_get texts step.text)) t16 in
       let s15 : IsSaid t15 = either (step.kind == 15) (with_text big (slice_get texts step.text)) t16 (on_text big step.text (slice_get texts step.text) refl) s16 in
       let t14 : Result Step ℕ = cond (step.kind == 14) (Ok (Resume (asked.IndexedAnswer step.number))) t15 in
@@ -149,8 +149,8 @@ module _ (texts : List DwexprText) where
       let s5 : IsSaid t5 = either (step.kind == 5) (with_value asked.MemoryAnswer (value_in step.value_type step.number)) t6 (on_value asked.MemoryAnswer (value_in step.value_type step.number) (λ v. tt)) s6 in
       let t4 : Result Step ℕ = cond (step.kind == 4) (Ok Evaluate) t5 in
       let s4 : IsSaid t4 = either (step.kind == 4) (Ok Evaluate) t5 (none_named (Ok Evaluate) tt) s5 in
-      let t3 : Result Step ℕ = cond (step.kind == 3) (cond (nat_lt step.number (2 ^ 32)) (Ok (MaxIterations step.number)) (Err bad_step)) t4 in
-      let s3 : IsSaid t3 = either (step.kind == 3) (cond (nat_lt step.number (2 ^ 32)) (Ok (MaxIterations step.number)) (Err bad_step)) t4 (either (nat_lt step.number (2 ^ 32)) (Ok (MaxIterations step.number)) (Err bad_step) (none_named (Ok (MaxIterations step.number)) tt) (none_named (Err bad_step) tt)) s4 in
+      let t3 : Result Step ℕ = cond (step.kind == 3) (cond (nat_lt step.number (2 ^ 32)) (Ok (MaxIterations step.number)) (Err bad_step_code)) t4 in
+      let s3 : IsSaid t3 = either (step.kind == 3) (cond (nat_lt step.number (2 ^ 32)) (Ok (MaxIterations step.number)) (Err bad_step_code)) t4 (either (nat_lt step.number (2 ^ 32)) (Ok (MaxIterations step.number)) (Err bad_step_code) (none_named (Ok (MaxIterations step.number)) tt) (none_named (Err bad_step_code) tt)) s4 in
       let t2 : Result Step ℕ = cond (step.kind == 2) (Ok (ObjectAddress step.number)) t3 in
       let s2 : IsSaid t2 = either (step.kind == 2) (Ok (ObjectAddress step.number)) t3 (none_named (Ok (ObjectAddress step.number)) tt) s3 in
       let t1 : Result Step ℕ = cond (step.kind == 1) (Ok (InitialValue step.number)) t2 in
@@ -172,9 +172,9 @@ module _ (texts : List DwexprText) where
 
   on_heard : (settings : First) (inputs : List Input) (answer : Answer) (o : Option Outcome) → OnInputs P inputs → OnAnswer P answer → OnInputs P (heard settings inputs answer o)
   on_heard settings inputs answer None h a = h
-  on_heard settings inputs answer (Some (Requests request frames)) h a = snoc_inputs inputs _ h a
-  on_heard settings inputs answer (Some (Faults fault)) h a = h
-  on_heard settings inputs answer (Some (Completes pieces value)) h a = h
+  on_heard settings inputs answer (Some (RequestOutcome request positions)) h a = snoc_inputs inputs _ h a
+  on_heard settings inputs answer (Some (FaultOutcome fault)) h a = h
+  on_heard settings inputs answer (Some (CompleteOutcome pieces value)) h a = h
 
   on_after : (told : Told) (o : Option Outcome) (step : Step) → OnInputs P told.inputs → OnStep step → OnInputs P (after told o step).inputs
   on_after told o (InitialValue number) h a = h
@@ -205,7 +205,7 @@ module _ (texts : List DwexprText) where
         on_outcome first.setup Never first.text told.inputs told.first given
         (on_told first.setup Never first.text (told_at first) steps tt (on_steps first.text.is_big numbers steps said))
 
-    request_somewhere : (request : Request) → OnRequest Q request → AsksNowhere texts (Asked request) → ⊥
+    request_somewhere : (request : Request) → OnRequest Q request → AsksNowhere texts (RequestReply request) → ⊥
     request_somewhere (asked.RequiresEntryValue text) h n = n h.text h.offset h.placed
     request_somewhere (asked.RequiresMemory address size space base_type) h n = n
     request_somewhere (asked.RequiresRegister register base_type) h n = n
@@ -222,8 +222,8 @@ module _ (texts : List DwexprText) where
     request_somewhere (asked.RequiresWasmStack index) h n = n
 
     -- a block that is asked about is somewhere
-    pub asks_somewhere : (request : Request) (frames : List _) → comes_of (given_at first texts) steps ≡ Some (Requests request frames) → AsksNowhere texts (Asked request) → ⊥
-    asks_somewhere request frames e n = request_somewhere request (subst OnComes e comes) n
+    pub asks_somewhere : (request : Request) (positions : List _) → comes_of (given_at first texts) steps ≡ Some (RequestOutcome request positions) → AsksNowhere texts (RequestReply request) → ⊥
+    asks_somewhere request positions e n = request_somewhere request (subst OnComes e comes) n
 
     location_somewhere : (location : Location) → OnLocation Q location → HoldsNowhere texts location → ⊥
     location_somewhere (HoldsBytes text) h n = n h.text h.offset h.placed
@@ -239,6 +239,6 @@ module _ (texts : List DwexprText) where
     at_piece (other ∷ pieces) (suc index) piece e h = at_piece pieces index piece e h.1
 
     -- the bytes of a piece are
-    pub pieces_somewhere : (pieces : List Piece) (value : Option Value) → comes_of (given_at first texts) steps ≡ Some (Completes pieces value) → SomeNowhere texts pieces → ⊥
+    pub pieces_somewhere : (pieces : List Piece) (value : Option Value) → comes_of (given_at first texts) steps ≡ Some (CompleteOutcome pieces value) → SomeNowhere texts pieces → ⊥
     pieces_somewhere pieces value e some =
         location_somewhere some.piece.location (at_piece pieces some.index some.piece some.is_there (subst OnComes e comes)) some.nowhere

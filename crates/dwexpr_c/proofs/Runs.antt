@@ -5,28 +5,28 @@ use Rattle.std.proofs.lemmas.Option.{slice_get_within, get_or_from_slice_get}
 use Rattle.std.proofs.Math.Seq.{take-suc, take-append_seam}
 use Rattle.dwarf_base.specs.declared.errors.Error.{Error}
 use Rattle.dwarf_base.specs.Faults.{Fault, fault_of}
-use Rattle.dwarf_meaning.specs.Meaning.{Outcome, Requests, Faults, Completes}
+use Rattle.dwarf_meaning.specs.Meaning.{Outcome, RequestOutcome, FaultOutcome, CompleteOutcome}
 use Rattle.dwarf_meaning.specs.Requests as asked
 use Rattle.dwarf_meaning.specs.Requests.{Request}
-use Rattle.dwarf_meaning.specs.Rest.{State, Status, Start, Running, Waits, Complete, Stopped}
-use Rattle.dwarf_meaning.specs.Steps.{Step, InitialValue, ObjectAddress, MaxIterations, Evaluate, Resume, Told, Reply, Completed, Asked, Faulted, Allows, AllAllowed, after_steps, outcome_of}
+use Rattle.dwarf_meaning.specs.Rest.{State, Status, Start, Running, RequestStatus, CompleteStatus, FaultStatus}
+use Rattle.dwarf_meaning.specs.Steps.{Step, InitialValue, ObjectAddress, MaxIterations, Evaluate, Resume, Told, Reply, CompleteReply, RequestReply, FaultReply, Allows, AllAllowed, after_steps, outcome_of}
 use Rattle.dwarf_meaning.specs.Stores.{Limits, Refusal, Never, After}
 use Rattle.dwarf_meaning.specs.Kinds.{kind_of_answer}
-use Rattle.dwarf_eval.specs.Calls.{Evaluates, IsClosed, IsTold, MayPick, Resumes, input_of, reply_of, told_of}
+use Rattle.dwarf_eval.specs.Evaluation.{Evaluates, IsClosed, IsReplied, MayPick, Resumes, input_of, reply_of, ok_reply}
 use Rattle.dwarf_eval.specs.declared.op.results.EvaluationResult.{EvaluationResult}
-use Rattle.dwarf_replay.specs.Replays.{StandsAt, IsAsking, IsStopped, Tells, told_at}
-use Rattle.dwarf_replay.specs.Stepping.{IsAskingFor, IsCalled, IsSet, MayTake}
+use Rattle.dwarf_replay.specs.Replays.{StandsAt, IsInRequest, IsInFault, Tells, told_at}
+use Rattle.dwarf_replay.specs.Stepping.{IsInRequestFor, HasReplied, IsSet, MayTake}
 use Rattle.dwarf_replay.proofs.Standings.{Went, went_at_first}
 use Rattle.dwarf_replay.proofs.Settings.{set_went_on}
 use Rattle.dwarf_replay.proofs.Calling.{called_went_on}
 use Rattle.dwarf_replay.proofs.Leading.{walks_all, walks_to}
-use Rattle.dwexpr_c.specs.Evaluated.{AreTaken, EndsBy, Given, IsEnded, IsNoFault, capacities, comes_of, told_by}
-use Rattle.dwexpr_c.specs.Outcomes.{ShowsReply, asking, ended, untold}
+use Rattle.dwexpr_c.specs.Evaluated.{AreTaken, EndsByStep, Given, IsCutShort, IsNoFault, capacities, comes_of, told_by}
+use Rattle.dwexpr_c.specs.Outcomes.{ShowsReply, request_outcome, ended_outcome, blank_outcome}
 use Rattle.dwexpr_c.specs.Steps.{step_in}
 use Rattle.dwexpr_c.specs.Texts.{text_of_placed}
 use Rattle.dwexpr_c.specs.inner.Runs.{RanAll, given_at}
 use Rattle.dwexpr_c.specs.inner.Places.{AsksNowhere, IsGiven}
-use Rattle.dwexpr_c.specs.inner.Stepping.{Does, ShowsStatus}
+use Rattle.dwexpr_c.specs.inner.Stepping.{DoesStep, ShowsStatus}
 use Rattle.dwexpr_c.specs.declared.faults.FaultNumbers.{FaultNumbers}
 use Rattle.dwexpr_c.specs.declared.outcomes.DwexprOutcome.{DwexprOutcome}
 use Rattle.dwexpr_c.specs.declared.places.Placed.{Placed}
@@ -38,40 +38,40 @@ use Rattle.dwexpr_c.proofs.Given.{asks_somewhere}
 
 -- the status is what was answered, where no fault was met before
 module _ (x new : State) (told : Result (EvaluationResult Placed ℕ ℕ) Error) (texts : List DwexprText) (out : DwexprOutcome) where
-  told_evaluated : (status : Status) → x.status ≡ status → ShowsStatus texts status out → IsClosed status → Evaluates text_of_placed (λ x. x) x new told status → IsTold (reply_of text_of_placed (λ x. x) told) new.status
+  told_evaluated : (status : Status) → x.status ≡ status → ShowsStatus texts status out → IsClosed status → Evaluates text_of_placed (λ x. x) x new told status → IsReplied (reply_of text_of_placed (λ x. x) told) new.status
   told_evaluated (Start initial_value) e s closed h = h.status
-  told_evaluated (Complete value) e s closed h =
-      let stays : new.status ≡ Complete value = ap (λ (z : State). z.status) h.1 ∙ e in
-      subst (λ (t : Status). IsTold (reply_of text_of_placed (λ x. x) told) t) (sym stays) (ap (λ (t : Result (EvaluationResult Placed ℕ ℕ) Error). reply_of text_of_placed (λ x. x) t) h.0)
-  told_evaluated (Waits request waiting) e s closed h = absurd closed
-  told_evaluated (Stopped error) e s closed h = absurd s
+  told_evaluated (CompleteStatus value) e s closed h =
+      let stays : new.status ≡ CompleteStatus value = ap (λ (z : State). z.status) h.1 ∙ e in
+      subst (λ (t : Status). IsReplied (reply_of text_of_placed (λ x. x) told) t) (sym stays) (ap (λ (t : Result (EvaluationResult Placed ℕ ℕ) Error). reply_of text_of_placed (λ x. x) t) h.0)
+  told_evaluated (RequestStatus request waiting) e s closed h = absurd closed
+  told_evaluated (FaultStatus error) e s closed h = absurd s
   told_evaluated Running e s closed h = absurd s
 
-  told_resumed : (answer : asked.Answer) (status : Status) → ShowsStatus texts status out → IsAskingFor (kind_of_answer answer) status → Resumes text_of_placed (λ x. x) (input_of x answer) x new told status → IsTold (reply_of text_of_placed (λ x. x) told) new.status
-  told_resumed answer (Waits request waiting) s asking h = h.status
+  told_resumed : (answer : asked.Answer) (status : Status) → ShowsStatus texts status out → IsInRequestFor (kind_of_answer answer) status → Resumes text_of_placed (λ x. x) (input_of x answer) x new told status → IsReplied (reply_of text_of_placed (λ x. x) told) new.status
+  told_resumed answer (RequestStatus request waiting) s asking h = h.status
   told_resumed answer (Start initial_value) s asking h = absurd asking
-  told_resumed answer (Complete value) s asking h = absurd asking
-  told_resumed answer (Stopped error) s asking h = absurd s
+  told_resumed answer (CompleteStatus value) s asking h = absurd asking
+  told_resumed answer (FaultStatus error) s asking h = absurd s
   told_resumed answer Running s asking h = absurd s
 
-  told_by_call : (step : Step) → ShowsStatus texts x.status out → IsCalled text_of_placed (λ x. x) step x new told → IsTold (reply_of text_of_placed (λ x. x) told) new.status
+  told_by_call : (step : Step) → ShowsStatus texts x.status out → HasReplied text_of_placed (λ x. x) step x new told → IsReplied (reply_of text_of_placed (λ x. x) told) new.status
   told_by_call Evaluate s h = told_evaluated x.status refl s h.0 h.1
   told_by_call (Resume answer) s h = told_resumed answer x.status s h.0 h.1
   told_by_call (InitialValue number) s h = absurd h
   told_by_call (ObjectAddress address) s h = absurd h
   told_by_call (MaxIterations maximum) s h = absurd h
 
-shows_told : (texts : List DwexprText) (out : DwexprOutcome) (reply : Reply) (status : Status) → IsTold reply status → ShowsReply texts reply out → ShowsStatus texts status out
-shows_told texts out reply (Waits request waiting) e h = subst (λ (r : Reply). ShowsReply texts r out) e h
-shows_told texts out reply (Complete value) e h = subst (λ (r : Reply). ShowsReply texts r out) e h
-shows_told texts out reply (Stopped error) e h = absurd (subst (λ (r : Reply). ShowsReply texts r out) e h)
+shows_told : (texts : List DwexprText) (out : DwexprOutcome) (reply : Reply) (status : Status) → IsReplied reply status → ShowsReply texts reply out → ShowsStatus texts status out
+shows_told texts out reply (RequestStatus request waiting) e h = subst (λ (r : Reply). ShowsReply texts r out) e h
+shows_told texts out reply (CompleteStatus value) e h = subst (λ (r : Reply). ShowsReply texts r out) e h
+shows_told texts out reply (FaultStatus error) e h = absurd (subst (λ (r : Reply). ShowsReply texts r out) e h)
 shows_told texts out reply (Start initial_value) e h = absurd e
 shows_told texts out reply Running e h = absurd e
 
 -- a setting changes nothing of what is shown
 shows_set : (texts : List DwexprText) (out : DwexprOutcome) (step : Step) (x new : State) → IsSet step x new → ShowsStatus texts x.status out → ShowsStatus texts new.status out
 shows_set texts out (InitialValue number) x new h s =
-    let shown : out ≡ untold = subst (λ (t : Status). ShowsStatus texts t out) h.0 s in
+    let shown : out ≡ blank_outcome = subst (λ (t : Status). ShowsStatus texts t out) h.0 s in
     subst (λ (z : State). ShowsStatus texts z.status out) (sym h.1) shown
 shows_set texts out (ObjectAddress address) x new h s = subst (λ (z : State). ShowsStatus texts z.status out) (sym h) s
 shows_set texts out (MaxIterations maximum) x new h s = subst (λ (z : State). ShowsStatus texts z.status out) (sym h) s
@@ -81,48 +81,48 @@ shows_set texts out (Resume answer) x new h s = absurd h
 -- where the evaluation stands is no fault
 pub no_fault : (texts : List DwexprText) (told : Told) (x : State) (o : Option Outcome) (status : Status) (out : DwexprOutcome) → x.status ≡ status → ShowsStatus texts status out → StandsAt told x o → IsNoFault o
 no_fault texts told x None status out e s h = tt
-no_fault texts told x (Some (Requests request frames)) status out e s h = tt
-no_fault texts told x (Some (Completes pieces value)) status out e s h = tt
-no_fault texts told x (Some (Faults fault)) (Stopped error) out e s h = absurd s
-no_fault texts told x (Some (Faults fault)) (Start initial_value) out e s h = absurd (subst (IsStopped fault) e h)
-no_fault texts told x (Some (Faults fault)) (Waits request waiting) out e s h = absurd (subst (IsStopped fault) e h)
-no_fault texts told x (Some (Faults fault)) (Complete value) out e s h = absurd (subst (IsStopped fault) e h)
-no_fault texts told x (Some (Faults fault)) Running out e s h = absurd (subst (IsStopped fault) e h)
+no_fault texts told x (Some (RequestOutcome request positions)) status out e s h = tt
+no_fault texts told x (Some (CompleteOutcome pieces value)) status out e s h = tt
+no_fault texts told x (Some (FaultOutcome fault)) (FaultStatus error) out e s h = absurd s
+no_fault texts told x (Some (FaultOutcome fault)) (Start initial_value) out e s h = absurd (subst (IsInFault fault) e h)
+no_fault texts told x (Some (FaultOutcome fault)) (RequestStatus request waiting) out e s h = absurd (subst (IsInFault fault) e h)
+no_fault texts told x (Some (FaultOutcome fault)) (CompleteStatus value) out e s h = absurd (subst (IsInFault fault) e h)
+no_fault texts told x (Some (FaultOutcome fault)) Running out e s h = absurd (subst (IsInFault fault) e h)
 
-stopped_by : (told : Told) (x : State) (o : Option Outcome) (error : Error) → x.status ≡ Stopped error → StandsAt told x o → o ≡ Some (Faults (fault_of error))
-stopped_by told x None error e h = absurd (let s : Stopped error ≡ Start told.settings.initial_value = sym e ∙ h.0 in cc)
-stopped_by told x (Some (Requests request frames)) error e h = absurd (subst (IsAsking request frames x) e h.0)
-stopped_by told x (Some (Faults fault)) error e h = ap (λ (f : Fault). Some (Faults f)) (sym (subst (IsStopped fault) e h))
-stopped_by told x (Some (Completes pieces value)) error e h = absurd (let s : Stopped error ≡ Complete value = sym e ∙ h.0 in cc)
+stopped_by : (told : Told) (x : State) (o : Option Outcome) (error : Error) → x.status ≡ FaultStatus error → StandsAt told x o → o ≡ Some (FaultOutcome (fault_of error))
+stopped_by told x None error e h = absurd (let s : FaultStatus error ≡ Start told.settings.initial_value = sym e ∙ h.0 in cc)
+stopped_by told x (Some (RequestOutcome request positions)) error e h = absurd (subst (IsInRequest request positions x) e h.0)
+stopped_by told x (Some (FaultOutcome fault)) error e h = ap (λ (f : Fault). Some (FaultOutcome f)) (sym (subst (IsInFault fault) e h))
+stopped_by told x (Some (CompleteOutcome pieces value)) error e h = absurd (let s : FaultStatus error ≡ CompleteStatus value = sym e ∙ h.0 in cc)
 
 -- it stands at the fault that was told
-stands_at_fault : (told : Told) (x : State) (o : Option Outcome) (fault : Fault) (status : Status) → x.status ≡ status → IsTold (Faulted fault) status → StandsAt told x o → o ≡ Some (Faults fault)
-stands_at_fault told x o fault (Stopped error) e t h =
+stands_at_fault : (told : Told) (x : State) (o : Option Outcome) (fault : Fault) (status : Status) → x.status ≡ status → IsReplied (FaultReply fault) status → StandsAt told x o → o ≡ Some (FaultOutcome fault)
+stands_at_fault told x o fault (FaultStatus error) e t h =
     let same : fault_of error ≡ fault = cc in
-    stopped_by told x o error e h ∙ ap (λ (f : Fault). Some (Faults f)) same
-stands_at_fault told x o fault (Waits request waiting) e t h = absurd (let s : Faulted fault ≡ Asked request = t in cc)
-stands_at_fault told x o fault (Complete value) e t h = absurd (let s : Faulted fault ≡ Completed = t in cc)
+    stopped_by told x o error e h ∙ ap (λ (f : Fault). Some (FaultOutcome f)) same
+stands_at_fault told x o fault (RequestStatus request waiting) e t h = absurd (let s : FaultReply fault ≡ RequestReply request = t in cc)
+stands_at_fault told x o fault (CompleteStatus value) e t h = absurd (let s : FaultReply fault ≡ CompleteReply = t in cc)
 stands_at_fault told x o fault (Start initial_value) e t h = absurd t
 stands_at_fault told x o fault Running e t h = absurd t
 
 -- a block is asked about that is nowhere
 abbrev BlockNowhere : List DwexprText → Option Outcome → Type 0
-BlockNowhere texts (Some (Requests request frames)) = AsksNowhere texts (Asked request)
+BlockNowhere texts (Some (RequestOutcome request positions)) = AsksNowhere texts (RequestReply request)
 BlockNowhere texts _ = ⊥
 
-waiting_asks : (texts : List DwexprText) (told : Told) (x : State) (o : Option Outcome) (request : Request) (waiting : asked.Waiting) → x.status ≡ Waits request waiting → AsksNowhere texts (Asked request) → StandsAt told x o → BlockNowhere texts o
-waiting_asks texts told x None request waiting e a h = absurd (let s : Waits request waiting ≡ Start told.settings.initial_value = sym e ∙ h.0 in cc)
-waiting_asks texts told x (Some (Requests other frames)) request waiting e a h =
-    let is : IsAsking other frames x (Waits request waiting) = subst (IsAsking other frames x) e h.0 in
-    subst (λ (r : Request). AsksNowhere texts (Asked r)) is.0 a
-waiting_asks texts told x (Some (Faults fault)) request waiting e a h = absurd (subst (IsStopped fault) e h)
-waiting_asks texts told x (Some (Completes pieces value)) request waiting e a h = absurd (let s : Waits request waiting ≡ Complete value = sym e ∙ h.0 in cc)
+waiting_asks : (texts : List DwexprText) (told : Told) (x : State) (o : Option Outcome) (request : Request) (waiting : asked.Waiting) → x.status ≡ RequestStatus request waiting → AsksNowhere texts (RequestReply request) → StandsAt told x o → BlockNowhere texts o
+waiting_asks texts told x None request waiting e a h = absurd (let s : RequestStatus request waiting ≡ Start told.settings.initial_value = sym e ∙ h.0 in cc)
+waiting_asks texts told x (Some (RequestOutcome other positions)) request waiting e a h =
+    let is : IsInRequest other positions x (RequestStatus request waiting) = subst (IsInRequest other positions x) e h.0 in
+    subst (λ (r : Request). AsksNowhere texts (RequestReply r)) is.0 a
+waiting_asks texts told x (Some (FaultOutcome fault)) request waiting e a h = absurd (subst (IsInFault fault) e h)
+waiting_asks texts told x (Some (CompleteOutcome pieces value)) request waiting e a h = absurd (let s : RequestStatus request waiting ≡ CompleteStatus value = sym e ∙ h.0 in cc)
 
 -- it stands at the block that is asked about
-stands_at_block : (texts : List DwexprText) (told : Told) (x : State) (o : Option Outcome) (reply : Reply) (status : Status) → x.status ≡ status → IsTold reply status → AsksNowhere texts reply → StandsAt told x o → BlockNowhere texts o
-stands_at_block texts told x o reply (Waits request waiting) e t a h = waiting_asks texts told x o request waiting e (subst (AsksNowhere texts) t a) h
-stands_at_block texts told x o reply (Complete value) e t a h = absurd (subst (AsksNowhere texts) t a)
-stands_at_block texts told x o reply (Stopped error) e t a h = absurd (subst (AsksNowhere texts) t a)
+stands_at_block : (texts : List DwexprText) (told : Told) (x : State) (o : Option Outcome) (reply : Reply) (status : Status) → x.status ≡ status → IsReplied reply status → AsksNowhere texts reply → StandsAt told x o → BlockNowhere texts o
+stands_at_block texts told x o reply (RequestStatus request waiting) e t a h = waiting_asks texts told x o request waiting e (subst (AsksNowhere texts) t a) h
+stands_at_block texts told x o reply (CompleteStatus value) e t a h = absurd (subst (AsksNowhere texts) t a)
+stands_at_block texts told x o reply (FaultStatus error) e t a h = absurd (subst (AsksNowhere texts) t a)
 stands_at_block texts told x o reply (Start initial_value) e t a h = absurd t
 stands_at_block texts told x o reply Running e t a h = absurd t
 
@@ -131,7 +131,7 @@ stands_at_block texts told x o reply Running e t a h = absurd t
 none_free : (limits : Limits) (refusal : Refusal) → limits ≡ capacities → MayPick limits refusal → refusal ≡ Never
 none_free limits Never e h = refl
 none_free limits (After inputs pushes) e (inl h) = absurd (let v : Some 64 ≡ None = ap (λ (l : Limits). l.values) (sym e) ∙ h in cc)
-none_free limits (After inputs pushes) e (inr (inl h)) = absurd (let v : Some 16 ≡ None = ap (λ (l : Limits). l.frames) (sym e) ∙ h in cc)
+none_free limits (After inputs pushes) e (inr (inl h)) = absurd (let v : Some 16 ≡ None = ap (λ (l : Limits). l.callers) (sym e) ∙ h in cc)
 none_free limits (After inputs pushes) e (inr (inr h)) = absurd (let v : Some 32 ≡ None = ap (λ (l : Limits). l.pieces) (sym e) ∙ h in cc)
 
 -- these steps were done without a refusal
@@ -185,13 +185,13 @@ pub record Reached (texts : List DwexprText) (numbers : List DwexprStep) (first 
   pub went : Went first steps replies x
   pub shown : ShowsStatus texts x.status out
 
-pub at_first : (texts : List DwexprText) (x : State) → x.status ≡ Start None → Reached texts [] x x untold
+pub at_first : (texts : List DwexprText) (x : State) → x.status ≡ Start None → Reached texts [] x x blank_outcome
 at_first texts x fresh = record {
   steps = [];
   said = refl;
   replies = [];
   went = went_at_first x fresh;
-  shown = subst (λ (s : Status). ShowsStatus texts s untold) (sym fresh) refl;
+  shown = subst (λ (s : Status). ShowsStatus texts s blank_outcome) (sym fresh) refl;
 }
 
 module _ (texts : List DwexprText) (all : List DwexprStep) (index : ℕ) (at : DwexprStep) (is_there : slice_get all index ≡ Some at) (first : State) (limits : first.setup.limits ≡ capacities) (is_given : IsGiven texts first.text.bytes) where
@@ -209,7 +209,7 @@ module _ (texts : List DwexprText) (all : List DwexprStep) (index : ℕ) (at : D
       ∙ sym (map-append Ok steps (step ∷ [])))))
 
   module _ (x new : State) (out : DwexprOutcome) (r : Reached texts (take index all) first x out) where
-    next_by : (now : DwexprOutcome) (o : Result Step ℕ) → step_in first.text.is_big texts at ≡ o → Does texts o x new out now (Ok tt) → Reached texts (take (suc index) all) first new now
+    next_by : (now : DwexprOutcome) (o : Result Step ℕ) → step_in first.text.is_big texts at ≡ o → DoesStep texts o x new out now (Ok tt) → Reached texts (take (suc index) all) first new now
     next_by now (Ok step) one (inl h) =
         subst (Reached texts (take (suc index) all) first new) (sym h.1)
         (record {
@@ -224,12 +224,12 @@ module _ (texts : List DwexprText) (all : List DwexprStep) (index : ℕ) (at : D
       said = said_next r.steps step r.said one;
       replies = r.replies ++ reply_of text_of_placed (λ x. x) (Ok h.told) ∷ [];
       went = called_went_on text_of_placed (λ x. x) first r.steps r.replies x new step (Ok h.told) h.called r.went;
-      shown = shows_told texts now (told_of text_of_placed (λ x. x) h.told) new.status (told_by_call x new (Ok h.told) texts out step r.shown h.called) h.shown;
+      shown = shows_told texts now (ok_reply text_of_placed (λ x. x) h.told) new.status (told_by_call x new (Ok h.told) texts out step r.shown h.called) h.shown;
     }
     next_by now (Err code) one h = absurd h
 
     -- the step was done
-    pub next : (now : DwexprOutcome) → Does texts (step_in first.text.is_big texts at) x new out now (Ok tt) → Reached texts (take (suc index) all) first new now
+    pub next : (now : DwexprOutcome) → DoesStep texts (step_in first.text.is_big texts at) x new out now (Ok tt) → Reached texts (take (suc index) all) first new now
     next now h = next_by now (step_in first.text.is_big texts at) refl h
 
     abbrev given : Given
@@ -241,7 +241,7 @@ module _ (texts : List DwexprText) (all : List DwexprStep) (index : ℕ) (at : D
     taken : AreTaken given (take index all) r.steps
     taken = record { said = r.said; allowed = walks.allowed }
 
-    ends_by : (end : FaultNumbers) → EndsBy given r.steps (step_in first.text.is_big texts at) (ended end.code end.number index) → IsEnded given all (ended end.code end.number index)
+    ends_by : (end : FaultNumbers) → EndsByStep given r.steps (step_in first.text.is_big texts at) (ended_outcome end.code end.number index) → IsCutShort given all (ended_outcome end.code end.number index)
     ends_by end h = record {
       before = r.steps;
       taken = taken;
@@ -251,7 +251,7 @@ module _ (texts : List DwexprText) (all : List DwexprStep) (index : ℕ) (at : D
       ends = h;
     }
 
-    called_walks : (step : Step) (told : Result (EvaluationResult Placed ℕ ℕ) Error) → IsCalled text_of_placed (λ x. x) step x new told → Done first (r.steps ++ step ∷ []) (r.replies ++ reply_of text_of_placed (λ x. x) told ∷ []) new
+    called_walks : (step : Step) (told : Result (EvaluationResult Placed ℕ ℕ) Error) → HasReplied text_of_placed (λ x. x) step x new told → Done first (r.steps ++ step ∷ []) (r.replies ++ reply_of text_of_placed (λ x. x) told ∷ []) new
     called_walks step told called =
         done_never first (r.steps ++ step ∷ []) _ new limits (called_went_on text_of_placed (λ x. x) first r.steps r.replies x new step told called r.went)
 
@@ -268,15 +268,15 @@ module _ (texts : List DwexprText) (all : List DwexprStep) (index : ℕ) (at : D
         refused_as first w.walks.refusal w.step step (take (length r.steps) behind) r.steps (none_free first.setup.limits w.walks.refusal limits w.walks.may) same front refused
 
     nowhere_never : (step : Step) → step_in first.text.is_big texts at ≡ Ok step → (o : Option Outcome) → comes_of given (r.steps ++ step ∷ []) ≡ o → BlockNowhere texts o → ⊥
-    nowhere_never step one (Some (Requests request frames)) e a =
-        asks_somewhere texts first is_given (take (suc index) all) (r.steps ++ step ∷ []) (said_next r.steps step r.said one) request frames e a
-    nowhere_never step one (Some (Faults fault)) e a = a
-    nowhere_never step one (Some (Completes pieces value)) e a = a
+    nowhere_never step one (Some (RequestOutcome request positions)) e a =
+        asks_somewhere texts first is_given (take (suc index) all) (r.steps ++ step ∷ []) (said_next r.steps step r.said one) request positions e a
+    nowhere_never step one (Some (FaultOutcome fault)) e a = a
+    nowhere_never step one (Some (CompleteOutcome pieces value)) e a = a
     nowhere_never step one None e a = a
 
-    ends_at : (end : FaultNumbers) (step : Step) → step_in first.text.is_big texts at ≡ Ok step → Does texts (Ok step) x new out out (Err end) → EndsBy given r.steps (Ok step) (ended end.code end.number index)
+    ends_at : (end : FaultNumbers) (step : Step) → step_in first.text.is_big texts at ≡ Ok step → DoesStep texts (Ok step) x new out out (Err end) → EndsByStep given r.steps (Ok step) (ended_outcome end.code end.number index)
     ends_at end step one (inl h) =
-        inl (record { not_allowed = misplaced_at step h.not_taken; shown = ap (λ (e : FaultNumbers). ended e.code e.number index) h.shown })
+        inl (record { not_allowed = misplaced_at step h.not_taken; shown = ap (λ (e : FaultNumbers). ended_outcome e.code e.number index) h.shown })
     ends_at end step one (inr (inl h)) =
         let w = called_walks step (Err h.error) h.called in
         let told = told_by_call x new (Err h.error) texts out step r.shown h.called in
@@ -284,19 +284,19 @@ module _ (texts : List DwexprText) (all : List DwexprStep) (index : ℕ) (at : D
           allowed = w.allowed;
           fault = fault_of h.error;
           comes = stands_at_fault _ new _ (fault_of h.error) new.status refl told w.stands;
-          shown = ap (λ (e : FaultNumbers). ended e.code e.number index) h.shown;
+          shown = ap (λ (e : FaultNumbers). ended_outcome e.code e.number index) h.shown;
         })
     ends_at end step one (inr (inr h)) =
         let w = called_walks step (Ok h.told) h.called in
         let told = told_by_call x new (Ok h.told) texts out step r.shown h.called in
-        absurd (nowhere_never step one _ refl (stands_at_block texts _ new _ (told_of text_of_placed (λ x. x) h.told) new.status refl told h.asks w.stands))
+        absurd (nowhere_never step one _ refl (stands_at_block texts _ new _ (ok_reply text_of_placed (λ x. x) h.told) new.status refl told h.asks w.stands))
 
-    stops_by : (end : FaultNumbers) (now : DwexprOutcome) (o : Result Step ℕ) → step_in first.text.is_big texts at ≡ o → Does texts o x new out now (Err end) → EndsBy given r.steps o (ended end.code end.number index)
+    stops_by : (end : FaultNumbers) (now : DwexprOutcome) (o : Result Step ℕ) → step_in first.text.is_big texts at ≡ o → DoesStep texts o x new out now (Err end) → EndsByStep given r.steps o (ended_outcome end.code end.number index)
     stops_by end now (Ok step) one h = ends_at end step one h
-    stops_by end now (Err code) one h = ap (λ (e : FaultNumbers). ended e.code e.number index) h
+    stops_by end now (Err code) one h = ap (λ (e : FaultNumbers). ended_outcome e.code e.number index) h
 
     -- it was not
-    pub stops : (end : FaultNumbers) (now : DwexprOutcome) → Does texts (step_in first.text.is_big texts at) x new out now (Err end) → IsEnded given all (ended end.code end.number index)
+    pub stops : (end : FaultNumbers) (now : DwexprOutcome) → DoesStep texts (step_in first.text.is_big texts at) x new out now (Err end) → IsCutShort given all (ended_outcome end.code end.number index)
     stops end now h = ends_by end (stops_by end now (step_in first.text.is_big texts at) refl h)
 
 -- all were

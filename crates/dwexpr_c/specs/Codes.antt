@@ -2,6 +2,7 @@
 use Rattle.std.specs.Prelude.{ℕ}
 use Rattle.dwarf_base.specs.Faults.{Fault, UnexpectedEof, BadUnsignedLeb128, BadSignedLeb128, UnsupportedAddressSize, UnsupportedOffset, UnsupportedRegister, InvalidExpression, InvalidPieceSize, UnsupportedTypeOperation, TypeMismatch, DivisionByZero, InvalidShiftExpression, NotEnoughStackItems, InvalidDerefSize, InvalidPushObjectAddress, UnsupportedEvaluation, BadBranchTarget, TooManyIterations, InvalidPiece, InvalidExpressionTerminator, StackFull}
 
+-- the code of a fault
 abbrev pub code_of_fault : Fault → ℕ
 code_of_fault UnexpectedEof = 1
 code_of_fault BadUnsignedLeb128 = 2
@@ -25,6 +26,7 @@ code_of_fault InvalidPiece = 19
 code_of_fault (InvalidExpressionTerminator place) = 20
 code_of_fault StackFull = 21
 
+-- the number that a fault carries, or 0
 abbrev pub number_of_fault : Fault → ℕ
 number_of_fault (UnsupportedAddressSize size) = size
 number_of_fault (UnsupportedRegister register) = register
@@ -36,17 +38,21 @@ number_of_fault (InvalidExpressionTerminator place) = place
 number_of_fault _ = 0
 
 -- an argument that isn't allowed
-abbrev pub bad_encoding : ℕ
-bad_encoding = 64
+abbrev pub bad_encoding_code : ℕ
+bad_encoding_code = 64
 
-abbrev pub bad_offset : ℕ
-bad_offset = 65
+-- no such place in the bytes
+abbrev pub bad_offset_code : ℕ
+bad_offset_code = 65
 
-abbrev pub bad_text : ℕ
-bad_text = 66
+-- no such text
+abbrev pub bad_text_code : ℕ
+bad_text_code = 66
 
-abbrev pub bad_step : ℕ
-bad_step = 67
+-- the numbers say no step
+abbrev pub bad_step_code : ℕ
+bad_step_code = 67
 
-abbrev pub misplaced : ℕ
-misplaced = 68
+-- the step isn't allowed here
+abbrev pub misplaced_code : ℕ
+misplaced_code = 68

@@ -4,16 +4,16 @@ use Rattle.dwarf_base.specs.Faults.{Fault}
 use Rattle.dwarf_meaning.specs.Operations.{Operation}
 use Rattle.dwexpr_c.specs.declared.operations.DwexprOperation.{DwexprOperation}
 use Rattle.dwexpr_c.specs.Codes.{code_of_fault, number_of_fault}
-use Rattle.dwexpr_c.specs.Operations.{nothing, operands_of, block_in}
+use Rattle.dwexpr_c.specs.Operations.{blank_operation, operands_of, block_in}
 
 -- nothing was decoded at this offset, for an argument that isn't allowed
-abbrev pub refused : (offset code : ℕ) → DwexprOperation
-refused offset code = record nothing { offset = offset; fault = code }
+abbrev pub disallowed : (offset code : ℕ) → DwexprOperation
+disallowed offset code = record blank_operation { offset = offset; fault = code }
 
 -- a fault was met behind this opcode
 abbrev pub faulted : (offset opcode : ℕ) → Fault → DwexprOperation
 faulted offset opcode fault =
-    record nothing { offset = offset; opcode = opcode; fault = code_of_fault fault; detail = number_of_fault fault }
+    record blank_operation { offset = offset; opcode = opcode; fault = code_of_fault fault; detail = number_of_fault fault }
 
 -- a block is the last part of its operation, which ends here
 abbrev pub with_block : (end : ℕ) → Option (List ℕ) → DwexprOperation → DwexprOperation
@@ -36,6 +36,7 @@ HasBlock bytes shown None = Unit {0}
 HasBlock bytes shown (Some block) =
     slice_range bytes shown.block_offset (shown.block_offset + shown.block_length) ≡ block
 
+-- the bytes at the place that is shown are the block of what was read
 abbrev pub IsBlockAt : (bytes : List ℕ) → DwexprOperation → Result (Operation × List ℕ) Fault → Type 0
 IsBlockAt bytes shown (Ok read) = HasBlock bytes shown (block_in read.0)
 IsBlockAt bytes shown (Err fault) = Unit {0}

@@ -4,10 +4,10 @@ use Rattle.dwarf_base.specs.declared.common.Encoding.{Encoding}
 use Rattle.dwarf_base.specs.Faults.{Fault}
 use Rattle.dwarf_meaning.specs.Operations.{Text}
 use Rattle.dwarf_meaning.specs.Stores.{Setup, Limits, Never}
-use Rattle.dwarf_meaning.specs.Meaning.{Outcome, Requests, Faults, Completes}
+use Rattle.dwarf_meaning.specs.Meaning.{Outcome, RequestOutcome, FaultOutcome, CompleteOutcome}
 use Rattle.dwarf_meaning.specs.Steps.{Step, Told, Allows, AllAllowed, after_steps, outcome_of}
-use Rattle.dwexpr_c.specs.Codes.{misplaced}
-use Rattle.dwexpr_c.specs.Outcomes.{ShowsRequest, completed, ended, ended_by, untold}
+use Rattle.dwexpr_c.specs.Codes.{misplaced_code}
+use Rattle.dwexpr_c.specs.Outcomes.{ShowsRequest, complete_outcome, ended_outcome, fault_outcome, blank_outcome}
 use Rattle.dwexpr_c.specs.Pieces.{AreWritten}
 use Rattle.dwexpr_c.specs.Steps.{step_in}
 use Rattle.dwexpr_c.specs.Texts.{text_in}
@@ -18,14 +18,15 @@ use Rattle.dwexpr_c.specs.declared.steps.DwexprText.{DwexprText}
 
 -- how many values, callers and pieces an evaluation holds at most
 abbrev pub capacities : Limits
-capacities = record { values = Some 64; frames = Some 16; pieces = Some 32 }
+capacities = record { values = Some 64; callers = Some 16; pieces = Some 32 }
 
-abbrev pub setup_in : Encoding → Setup
-setup_in encoding = record { encoding = encoding; offset_bits = 64; limits = capacities }
+-- an encoding, with those limits
+abbrev pub limited_setup : Encoding → Setup
+limited_setup encoding = record { encoding = encoding; offset_bits = 64; limits = capacities }
 
 -- no step was done
-abbrev pub unset : Told
-unset =
+abbrev pub untold : Told
+untold =
     record { settings = record { initial_value = None; object_address = None; maximum = 4294967295 }; first = None; inputs = [] }
 
 -- an expression, what was told before its steps, and the texts that these may name
@@ -35,6 +36,7 @@ pub record Given : Type 0 where
   pub told : Told
   pub texts : List DwexprText
 
+-- what was told once the steps are done
 abbrev pub told_by : Given → List Step → Told
 told_by given steps = after_steps given.setup Never given.text given.told steps
 
@@ -51,18 +53,20 @@ pub record AreTaken (given : Given) (numbers : List DwexprStep) (steps : List St
   pub said : map (step_in given.text.is_big given.texts) numbers ≡ map Ok steps
   pub allowed : MayAll given steps
 
+-- no fault came
 abbrev pub IsNoFault : Option Outcome → Type 0
-IsNoFault (Some (Faults fault)) = ⊥
+IsNoFault (Some (FaultOutcome fault)) = ⊥
 IsNoFault _ = Unit {0}
 
 -- what is shown once all steps are done, and of the places for pieces
 abbrev pub ShowsOutcome : List DwexprText → Option Outcome → DwexprOutcome → (old new : List DwexprPiece) → Type 0
-ShowsOutcome texts None out old new = (out ≡ untold) × (new ≡ old)
-ShowsOutcome texts (Some (Requests request frames)) out old new = ShowsRequest texts request out × (new ≡ old)
-ShowsOutcome texts (Some (Completes pieces value)) out old new =
-    (out ≡ completed (length pieces) value) × AreWritten texts pieces old new
-ShowsOutcome texts (Some (Faults fault)) out old new = ⊥
+ShowsOutcome texts None out old new = (out ≡ blank_outcome) × (new ≡ old)
+ShowsOutcome texts (Some (RequestOutcome request positions)) out old new = ShowsRequest texts request out × (new ≡ old)
+ShowsOutcome texts (Some (CompleteOutcome pieces value)) out old new =
+    (out ≡ complete_outcome (length pieces) value) × AreWritten texts pieces old new
+ShowsOutcome texts (Some (FaultOutcome fault)) out old new = ⊥
 
+-- all steps were done, and what came of them is shown
 pub record IsDone (given : Given) (numbers : List DwexprStep) (out : DwexprOutcome) (old new : List DwexprPiece) : Type 0 where
   pub steps : List Step
   pub taken : AreTaken given numbers steps
@@ -73,36 +77,36 @@ pub record IsDone (given : Given) (numbers : List DwexprStep) (out : DwexprOutco
 -- it isn't allowed
 pub record IsMisplaced (given : Given) (before : List Step) (step : Step) (out : DwexprOutcome) : Type 0 where
   pub not_allowed : Allows (told_by given before) (comes_of given before) step → ⊥
-  pub shown : out ≡ ended misplaced 0 out.step
+  pub shown : out ≡ ended_outcome misplaced_code 0 out.step
 
 -- it is allowed, and meets a fault
 pub record MeetsFault (given : Given) (before : List Step) (step : Step) (out : DwexprOutcome) : Type 0 where
   pub allowed : MayAll given (before ++ step ∷ [])
   pub fault : Fault
-  pub comes : comes_of given (before ++ step ∷ []) ≡ Some (Faults fault)
-  pub shown : out ≡ ended_by fault out.step
+  pub comes : comes_of given (before ++ step ∷ []) ≡ Some (FaultOutcome fault)
+  pub shown : out ≡ fault_outcome fault out.step
 
 -- the numbers say no step, or one that ends the evaluation
-abbrev pub EndsBy : Given → (before : List Step) → Result Step ℕ → DwexprOutcome → Type 0
-EndsBy given before (Err code) out = out ≡ ended code 0 out.step
-EndsBy given before (Ok step) out = IsMisplaced given before step out ⊎ MeetsFault given before step out
+abbrev pub EndsByStep : Given → (before : List Step) → Result Step ℕ → DwexprOutcome → Type 0
+EndsByStep given before (Err code) out = out ≡ ended_outcome code 0 out.step
+EndsByStep given before (Ok step) out = IsMisplaced given before step out ⊎ MeetsFault given before step out
 
 -- the steps before the one that is shown were done without a fault, and that one ended the evaluation
-pub record IsEnded (given : Given) (numbers : List DwexprStep) (out : DwexprOutcome) : Type 0 where
+pub record IsCutShort (given : Given) (numbers : List DwexprStep) (out : DwexprOutcome) : Type 0 where
   pub before : List Step
   pub taken : AreTaken given (take out.step numbers) before
   pub no_fault : IsNoFault (comes_of given before)
   pub at : DwexprStep
   pub is_there : slice_get numbers out.step ≡ Some at
-  pub ends : EndsBy given before (step_in given.text.is_big given.texts at) out
+  pub ends : EndsByStep given before (step_in given.text.is_big given.texts at) out
 
 -- what the steps come to, from the first on
-abbrev pub Evaluates : Given → List DwexprStep → DwexprOutcome → (old new : List DwexprPiece) → Type 0
-Evaluates given numbers out old new =
-    IsDone given numbers out old new ⊎ (IsEnded given numbers out × (new ≡ old))
+abbrev pub EvaluatesGiven : Given → List DwexprStep → DwexprOutcome → (old new : List DwexprPiece) → Type 0
+EvaluatesGiven given numbers out old new =
+    IsDone given numbers out old new ⊎ (IsCutShort given numbers out × (new ≡ old))
 
 -- the first of the texts is evaluated
 abbrev pub EvaluatesFirst : Encoding → (big : Bool) → List DwexprText → List DwexprStep → DwexprOutcome → (old new : List DwexprPiece) → Type 0
-EvaluatesFirst encoding big [] numbers out old new = (out ≡ ended 66 0 0) × (new ≡ old)
+EvaluatesFirst encoding big [] numbers out old new = (out ≡ ended_outcome 66 0 0) × (new ≡ old)
 EvaluatesFirst encoding big (text ∷ texts) numbers out old new =
-    Evaluates (record { setup = setup_in encoding; text = text_in big text; told = unset; texts = text ∷ texts }) numbers out old new
+    EvaluatesGiven (record { setup = limited_setup encoding; text = text_in big text; told = untold; texts = text ∷ texts }) numbers out old new

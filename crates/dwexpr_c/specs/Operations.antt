@@ -4,22 +4,27 @@ use Rattle.dwarf_meaning.specs.Operations as meaning
 use Rattle.dwexpr_c.specs.declared.operations.DwexprOperation.{DwexprOperation}
 
 -- all numbers are 0
-abbrev pub nothing : DwexprOperation
-nothing =
+abbrev pub blank_operation : DwexprOperation
+blank_operation =
     record { offset = 0; size = 0; opcode = 0; kind = 0; number = 0; signed_number = pos 0; base_type = 0; register_number = 0; deref_size = 0; flag = 0; fault = 0; block_offset = 0; block_length = 0; detail = 0 }
 
-abbrev pub plain : (kind : ℕ) → DwexprOperation
-plain kind = record nothing { kind = kind }
+-- a kind alone
+abbrev pub of_kind : (kind : ℕ) → DwexprOperation
+of_kind kind = record blank_operation { kind = kind }
 
+-- a kind and a number
 abbrev pub numbered : (kind number : ℕ) → DwexprOperation
-numbered kind number = record (plain kind) { number = number }
+numbered kind number = record (of_kind kind) { number = number }
 
-abbrev pub signed : (kind : ℕ) → ℤ → DwexprOperation
-signed kind number = record (plain kind) { signed_number = number }
+-- a kind and a signed number
+abbrev pub signed_operand : (kind : ℕ) → ℤ → DwexprOperation
+signed_operand kind number = record (of_kind kind) { signed_number = number }
 
+-- a kind and a base type
 abbrev pub typed : (kind base_type : ℕ) → DwexprOperation
-typed kind base_type = record (plain kind) { base_type = base_type }
+typed kind base_type = record (of_kind kind) { base_type = base_type }
 
+-- 1 where it is so
 abbrev pub flag_of : Bool → ℕ
 flag_of true = 1
 flag_of false = 0
@@ -28,52 +33,52 @@ flag_of false = 0
 abbrev pub operands_of : meaning.Operation → DwexprOperation
 operands_of (meaning.Deref base_type size space) =
     record (typed 1 base_type) { deref_size = size; flag = flag_of space }
-operands_of meaning.Drop = plain 2
+operands_of meaning.Drop = of_kind 2
 operands_of (meaning.Pick index) = numbered 3 index
-operands_of meaning.Swap = plain 4
-operands_of meaning.Rot = plain 5
-operands_of meaning.Abs = plain 6
-operands_of meaning.And = plain 7
-operands_of meaning.Div = plain 8
-operands_of meaning.Minus = plain 9
-operands_of meaning.Mod = plain 10
-operands_of meaning.Mul = plain 11
-operands_of meaning.Neg = plain 12
-operands_of meaning.Not = plain 13
-operands_of meaning.Or = plain 14
-operands_of meaning.Plus = plain 15
+operands_of meaning.Swap = of_kind 4
+operands_of meaning.Rot = of_kind 5
+operands_of meaning.Abs = of_kind 6
+operands_of meaning.And = of_kind 7
+operands_of meaning.Div = of_kind 8
+operands_of meaning.Minus = of_kind 9
+operands_of meaning.Mod = of_kind 10
+operands_of meaning.Mul = of_kind 11
+operands_of meaning.Neg = of_kind 12
+operands_of meaning.Not = of_kind 13
+operands_of meaning.Or = of_kind 14
+operands_of meaning.Plus = of_kind 15
 operands_of (meaning.PlusConstant value) = numbered 16 value
-operands_of meaning.Shl = plain 17
-operands_of meaning.Shr = plain 18
-operands_of meaning.Shra = plain 19
-operands_of meaning.Xor = plain 20
-operands_of (meaning.Bra target) = signed 21 target
-operands_of meaning.Eq = plain 22
-operands_of meaning.Ge = plain 23
-operands_of meaning.Gt = plain 24
-operands_of meaning.Le = plain 25
-operands_of meaning.Lt = plain 26
-operands_of meaning.Ne = plain 27
-operands_of (meaning.Skip target) = signed 28 target
+operands_of meaning.Shl = of_kind 17
+operands_of meaning.Shr = of_kind 18
+operands_of meaning.Shra = of_kind 19
+operands_of meaning.Xor = of_kind 20
+operands_of (meaning.Bra target) = signed_operand 21 target
+operands_of meaning.Eq = of_kind 22
+operands_of meaning.Ge = of_kind 23
+operands_of meaning.Gt = of_kind 24
+operands_of meaning.Le = of_kind 25
+operands_of meaning.Lt = of_kind 26
+operands_of meaning.Ne = of_kind 27
+operands_of (meaning.Skip target) = signed_operand 28 target
 operands_of (meaning.UnsignedConstant value) = numbered 29 value
-operands_of (meaning.SignedConstant value) = signed 30 value
-operands_of (meaning.Register register) = record (plain 31) { register_number = register }
+operands_of (meaning.SignedConstant value) = signed_operand 30 value
+operands_of (meaning.Register register) = record (of_kind 31) { register_number = register }
 operands_of (meaning.RegisterOffset register offset base_type) =
-    record (signed 32 offset) { register_number = register; base_type = base_type }
-operands_of (meaning.FrameOffset offset) = signed 33 offset
-operands_of meaning.Nop = plain 34
-operands_of meaning.PushObjectAddress = plain 35
+    record (signed_operand 32 offset) { register_number = register; base_type = base_type }
+operands_of (meaning.FrameOffset offset) = signed_operand 33 offset
+operands_of meaning.Nop = of_kind 34
+operands_of meaning.PushObjectAddress = of_kind 35
 operands_of (meaning.Call (meaning.UnitRef offset)) = numbered 36 offset
 operands_of (meaning.Call (meaning.DebugInfoRef offset)) = record (numbered 36 offset) { flag = 1 }
-operands_of meaning.TLS = plain 37
-operands_of meaning.CallFrameCFA = plain 38
+operands_of meaning.TLS = of_kind 37
+operands_of meaning.CallFrameCFA = of_kind 38
 operands_of (meaning.Piece size_in_bits None) = numbered 39 size_in_bits
 operands_of (meaning.Piece size_in_bits (Some bit_offset)) =
     record (numbered 39 size_in_bits) { flag = 1; detail = bit_offset }
-operands_of (meaning.ImplicitValue bytes) = plain 40
-operands_of meaning.StackValue = plain 41
+operands_of (meaning.ImplicitValue bytes) = of_kind 40
+operands_of meaning.StackValue = of_kind 41
 operands_of (meaning.ImplicitPointer value byte_offset) = record (numbered 42 value) { signed_number = byte_offset }
-operands_of (meaning.EntryValue expression) = plain 43
+operands_of (meaning.EntryValue expression) = of_kind 43
 operands_of (meaning.ParameterRef offset) = numbered 44 offset
 operands_of (meaning.Address address) = numbered 45 address
 operands_of (meaning.AddressIndex index) = numbered 46 index
@@ -81,7 +86,7 @@ operands_of (meaning.ConstantIndex index) = numbered 47 index
 operands_of (meaning.TypedLiteral base_type value) = typed 48 base_type
 operands_of (meaning.Convert base_type) = typed 49 base_type
 operands_of (meaning.Reinterpret base_type) = typed 50 base_type
-operands_of meaning.Uninitialized = plain 51
+operands_of meaning.Uninitialized = of_kind 51
 operands_of (meaning.WasmLocal index) = numbered 52 index
 operands_of (meaning.WasmGlobal index) = numbered 53 index
 operands_of (meaning.WasmStack index) = numbered 54 index

@@ -6,10 +6,12 @@ use Rattle.dwexpr_c.specs.Values.{shown_value}
 use Rattle.dwexpr_c.specs.declared.pieces.DwexprPiece.{DwexprPiece}
 use Rattle.dwexpr_c.specs.declared.steps.DwexprText.{DwexprText}
 
+-- 1 where there is a number
 abbrev pub has : Option ℕ → ℕ
 has None = 0
 has (Some number) = 1
 
+-- the number, or 0
 abbrev pub or_zero : Option ℕ → ℕ
 or_zero None = 0
 or_zero (Some number) = number
@@ -25,6 +27,7 @@ ShowsBytes texts block shown out =
     (out ≡ record shown { block_text = out.block_text; block_offset = out.block_offset; block_length = length block })
     × IsPlaced texts out.block_text out.block_offset (length block) block
 
+-- the place shows a location, with its size and offset
 abbrev pub ShowsLocation : List DwexprText → (size_in_bits bit_offset : Option ℕ) → Location → DwexprPiece → Type 0
 ShowsLocation texts size offset Empty out = out ≡ sized 1 size offset
 ShowsLocation texts size offset (InRegister register) out = out ≡ record (sized 2 size offset) { number = register }
@@ -35,6 +38,7 @@ ShowsLocation texts size offset (HoldsBytes value) out = ShowsBytes texts value.
 ShowsLocation texts size offset (PointsInto value byte_offset) out =
     out ≡ record (sized 6 size offset) { number = value; byte_offset = byte_offset }
 
+-- the place shows a piece
 abbrev pub ShowsPiece : List DwexprText → Piece → DwexprPiece → Type 0
 ShowsPiece texts piece out = ShowsLocation texts piece.size_in_bits piece.bit_offset piece.location out
 

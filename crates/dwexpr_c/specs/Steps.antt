@@ -4,22 +4,25 @@ use Rattle.dwarf_meaning.specs.Requests as asked
 use Rattle.dwarf_meaning.specs.Steps as meaning
 use Rattle.dwarf_value.specs.declared.types.Value.{Value}
 use Rattle.dwarf_value.specs.declared.types.ValueType.{ValueType}
-use Rattle.dwexpr_c.specs.Codes.{bad_step, bad_text}
+use Rattle.dwexpr_c.specs.Codes.{bad_step_code, bad_text_code}
 use Rattle.dwexpr_c.specs.Texts.{text_in}
 use Rattle.dwexpr_c.specs.Values.{type_in, value_in}
 use Rattle.dwexpr_c.specs.declared.steps.DwexprText.{DwexprText}
 use Rattle.dwexpr_c.specs.declared.steps.DwexprStep.{DwexprStep}
 
+-- an answer with a value, where the numbers say one
 abbrev pub with_value : (Value → asked.Answer) → Option Value → Result meaning.Step ℕ
-with_value answer None = Err bad_step
+with_value answer None = Err bad_step_code
 with_value answer (Some value) = Ok (meaning.Resume (answer value))
 
+-- an answer with a type, where the code is one
 abbrev pub with_type : Option ValueType → Result meaning.Step ℕ
-with_type None = Err bad_step
+with_type None = Err bad_step_code
 with_type (Some t) = Ok (meaning.Resume (asked.BaseTypeAnswer t))
 
+-- an answer with a text, where the index has one
 abbrev pub with_text : (big : Bool) → Option DwexprText → Result meaning.Step ℕ
-with_text big None = Err bad_text
+with_text big None = Err bad_text_code
 with_text big (Some text) = Ok (meaning.Resume (asked.LocationAnswer (text_in big text)))
 
 -- the step that the numbers say, or the code where they say none
@@ -27,7 +30,7 @@ abbrev pub step_in : (big : Bool) → List DwexprText → DwexprStep → Result 
 step_in big texts step =
     if step.kind == 1 then Ok (meaning.InitialValue step.number)
     else if step.kind == 2 then Ok (meaning.ObjectAddress step.number)
-    else if step.kind == 3 then (if nat_lt step.number (2 ^ 32) then Ok (meaning.MaxIterations step.number) else Err bad_step)
+    else if step.kind == 3 then (if nat_lt step.number (2 ^ 32) then Ok (meaning.MaxIterations step.number) else Err bad_step_code)
     else if step.kind == 4 then Ok meaning.Evaluate
     else if step.kind == 5 then with_value asked.MemoryAnswer (value_in step.value_type step.number)
     else if step.kind == 6 then with_value asked.RegisterAnswer (value_in step.value_type step.number)
@@ -41,4 +44,4 @@ step_in big texts step =
     else if step.kind == 14 then Ok (meaning.Resume (asked.IndexedAnswer step.number))
     else if step.kind == 15 then with_text big (slice_get texts step.text)
     else if step.kind == 16 then with_type (type_in step.value_type)
-    else Err bad_step
+    else Err bad_step_code

@@ -1,8 +1,8 @@
 ghost use Rattle.std.specs.Prelude.{◌≡◌, ◌<◌, ◌≤◌, true, false, length, drop, slice_index};
 ghost use Rattle.dwarf_base.specs.ByteOrder.{is_big_of};
 ghost use Rattle.dwarf_meaning.specs.Decoding.{operation_at};
-ghost use Rattle.dwexpr_c.specs.Codes.{bad_encoding, bad_offset};
-ghost use Rattle.dwexpr_c.specs.Decoded.{Decodes, IsBlockAt, refused};
+ghost use Rattle.dwexpr_c.specs.Codes.{bad_encoding_code, bad_offset_code};
+ghost use Rattle.dwexpr_c.specs.Decoded.{Decodes, IsBlockAt, disallowed};
 ghost use Rattle.dwexpr_c.specs.Encodings.{is_encoding, encoding_in, is_big_in};
 
 use crate::encodings::{DwexprEncoding, Reading, reading_of};
@@ -27,8 +27,8 @@ fn decode_at(bytes: &[u8], reading: Reading, offset: usize) -> DwexprOperation
 
 /// What is shown of the operation at an offset.
 fn decode(bytes: &[u8], numbers: DwexprEncoding, offset: usize) -> DwexprOperation
-    ensures encoding { is_encoding numbers ≡ false → result ≡ refused offset bad_encoding }
-    ensures offset { is_encoding numbers ≡ true → length bytes.now ≤ offset → result ≡ refused offset bad_offset }
+    ensures encoding { is_encoding numbers ≡ false → result ≡ disallowed offset bad_encoding_code }
+    ensures offset { is_encoding numbers ≡ true → length bytes.now ≤ offset → result ≡ disallowed offset bad_offset_code }
     ensures decodes { is_encoding numbers ≡ true → offset < length bytes.now → Decodes offset (slice_index bytes.now offset) (length (drop offset bytes.now)) (operation_at (encoding_in numbers) 64 (record { bytes = drop offset bytes.now; is_big = is_big_in numbers })) result }
 {
     match reading_of(numbers) {
@@ -50,8 +50,8 @@ pub extern "C" fn dwexpr_decode(
     operation: &mut DwexprOperation,
 ) -> u32
     ensures code { result ≡ operation.new.fault }
-    ensures encoding { is_encoding encoding ≡ false → operation.new ≡ refused offset bad_encoding }
-    ensures offset { is_encoding encoding ≡ true → length bytes.now ≤ offset → operation.new ≡ refused offset bad_offset }
+    ensures encoding { is_encoding encoding ≡ false → operation.new ≡ disallowed offset bad_encoding_code }
+    ensures offset { is_encoding encoding ≡ true → length bytes.now ≤ offset → operation.new ≡ disallowed offset bad_offset_code }
     ensures decodes { is_encoding encoding ≡ true → offset < length bytes.now → Decodes offset (slice_index bytes.now offset) (length (drop offset bytes.now)) (operation_at (encoding_in encoding) 64 (record { bytes = drop offset bytes.now; is_big = is_big_in encoding })) operation.new }
     ensures block { is_encoding encoding ≡ true → offset < length bytes.now → IsBlockAt bytes.now operation.new (operation_at (encoding_in encoding) 64 (record { bytes = drop offset bytes.now; is_big = is_big_in encoding })) }
 {

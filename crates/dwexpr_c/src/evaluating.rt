@@ -1,17 +1,17 @@
 ghost use Rattle.std.specs.Prelude.{◌≡◌, ◌<◌, ◌≤◌, Some, None, true, false, IfSome, length, map, slice_get};
 ghost use Rattle.dwarf_base.specs.ByteOrder.{is_big_of};
-ghost use Rattle.dwarf_eval.specs.Calls.{HasResult, IsComplete};
+ghost use Rattle.dwarf_eval.specs.Evaluation.{HasResult, IsComplete};
 ghost use Rattle.dwarf_eval.specs.Machine.{piece_of};
-ghost use Rattle.dwarf_meaning.specs.Rest.{Complete, Start};
+ghost use Rattle.dwarf_meaning.specs.Rest.{CompleteStatus, Start};
 ghost use Rattle.dwarf_replay.specs.Replays.{told_at};
-ghost use Rattle.dwexpr_c.specs.Codes.{bad_encoding};
+ghost use Rattle.dwexpr_c.specs.Codes.{bad_encoding_code};
 ghost use Rattle.dwexpr_c.specs.Encodings.{is_encoding, encoding_in, is_big_in};
-ghost use Rattle.dwexpr_c.specs.Evaluated.{Evaluates, EvaluatesFirst, capacities, setup_in, unset};
-ghost use Rattle.dwexpr_c.specs.Outcomes.{ended};
+ghost use Rattle.dwexpr_c.specs.Evaluated.{EvaluatesGiven, EvaluatesFirst, capacities, limited_setup, untold};
+ghost use Rattle.dwexpr_c.specs.Outcomes.{ended_outcome};
 ghost use Rattle.dwexpr_c.specs.Steps.{step_in};
 ghost use Rattle.dwexpr_c.specs.Texts.{text_of_placed};
 ghost use Rattle.dwexpr_c.specs.inner.Places.{IsGiven};
-ghost use Rattle.dwexpr_c.specs.inner.Stepping.{Does, Ends, Finishes};
+ghost use Rattle.dwexpr_c.specs.inner.Stepping.{DoesStep, EndsOutcome, FinishesOutcome};
 ghost use Rattle.dwexpr_c.specs.inner.Runs.{EvaluatesFound, Runs};
 
 use crate::encodings::{DwexprEncoding, Reading, reading_of};
@@ -47,7 +47,7 @@ fn do_step<'a, S: EvaluationStorage<Placed<'a>>>(
     numbers: DwexprStep,
     outcome: &mut DwexprOutcome,
 ) -> Result<(), FaultNumbers>
-    ensures { Does texts.now (step_in (is_big_of order) texts.now numbers) evaluation.old evaluation.new outcome.old outcome.new result }
+    ensures { DoesStep texts.now (step_in (is_big_of order) texts.now numbers) evaluation.old evaluation.new outcome.old outcome.new result }
 {
     let step = match step_of(texts, order, numbers) {
         Ok(step) => step,
@@ -112,7 +112,7 @@ fn show_result(
     pieces: &[Piece<Placed<'_>>],
     places: &mut [DwexprPiece],
 ) -> DwexprOutcome
-    ensures { Finishes texts.now count (map (piece_of text_of_placed (λ x. x)) pieces.now) result result places.old places.new (Complete value) }
+    ensures { FinishesOutcome texts.now count (map (piece_of text_of_placed (λ x. x)) pieces.now) result result places.old places.new (CompleteStatus value) }
 {
     if write_pieces(texts, pieces, places) {
         show_complete(pieces.len(), value)
@@ -129,7 +129,7 @@ fn show_status<'a, S: EvaluationStorage<Placed<'a>>>(
     outcome: DwexprOutcome,
     places: &mut [DwexprPiece],
 ) -> DwexprOutcome
-    ensures { Finishes texts.now count evaluation.now.store.pieces outcome result places.old places.new evaluation.now.status }
+    ensures { FinishesOutcome texts.now count evaluation.now.store.pieces outcome result places.old places.new evaluation.now.status }
 {
     match evaluation.status() {
         Status::Complete => show_result(
@@ -151,7 +151,7 @@ fn finish<'a, S: EvaluationStorage<Placed<'a>>>(
     done: Result<DwexprOutcome, DwexprOutcome>,
     places: &mut [DwexprPiece],
 ) -> DwexprOutcome
-    ensures { Ends texts.now count evaluation.now.store.pieces done result places.old places.new evaluation.now.status }
+    ensures { EndsOutcome texts.now count evaluation.now.store.pieces done result places.old places.new evaluation.now.status }
 {
     match done {
         Ok(outcome) => show_status(evaluation, texts, count, outcome, places),
@@ -171,7 +171,7 @@ fn evaluate_text<'a>(
     requires fits { reading.encoding.address_size ≤ 8 }
     requires order { (text_of_placed text).is_big ≡ is_big_of reading.order }
     requires given { IsGiven texts.now (text_of_placed text).bytes }
-    ensures { Evaluates (record { setup = setup_in reading.encoding; text = text_of_placed text.entry; told = unset; texts = texts.now }) steps.now result places.old places.new }
+    ensures { EvaluatesGiven (record { setup = limited_setup reading.encoding; text = text_of_placed text.entry; told = untold; texts = texts.now }) steps.now result places.old places.new }
 {
     let mut evaluation: Evaluation<Placed<'a>, Fixed> = Evaluation::new_in(
         text,
@@ -226,7 +226,7 @@ fn evaluate(
     steps: &[DwexprStep],
     places: &mut [DwexprPiece],
 ) -> DwexprOutcome
-    ensures encoding { is_encoding numbers ≡ false → (result ≡ ended bad_encoding 0 0) × (places.new ≡ places.old) }
+    ensures encoding { is_encoding numbers ≡ false → (result ≡ ended_outcome bad_encoding_code 0 0) × (places.new ≡ places.old) }
     ensures evaluates { is_encoding numbers ≡ true → EvaluatesFirst (encoding_in numbers) (is_big_in numbers) texts.now steps.now result places.old places.new }
 {
     match reading_of(numbers) {
@@ -250,7 +250,7 @@ pub extern "C" fn dwexpr_evaluate(
     pieces: &mut [DwexprPiece],
 ) -> u32
     ensures code { result ≡ outcome.new.code }
-    ensures encoding { is_encoding encoding ≡ false → (outcome.new ≡ ended bad_encoding 0 0) × (pieces.new ≡ pieces.old) }
+    ensures encoding { is_encoding encoding ≡ false → (outcome.new ≡ ended_outcome bad_encoding_code 0 0) × (pieces.new ≡ pieces.old) }
     ensures evaluates { is_encoding encoding ≡ true → EvaluatesFirst (encoding_in encoding) (is_big_in encoding) texts.now steps.now outcome.new pieces.old pieces.new }
 {
     *outcome = evaluate(texts, encoding, steps, pieces);

@@ -2,8 +2,8 @@ ghost use Rattle.std.specs.Prelude.{◌≡◌, ◌+◌, ◌-◌, ◌^◌, ◌<�
 ghost use Rattle.dwarf_base.specs.ByteOrder.{is_big_of};
 ghost use Rattle.dwarf_base.specs.EndianSlice.{slice_bytes, slice_order};
 ghost use Rattle.dwarf_op.specs.Views.{operation_of, text_of};
-ghost use Rattle.dwexpr_c.specs.Decoded.{decoded, faulted, refused, with_block};
-ghost use Rattle.dwexpr_c.specs.Operations.{block_in, numbered, operands_of, plain, signed, typed};
+ghost use Rattle.dwexpr_c.specs.Decoded.{decoded, faulted, disallowed, with_block};
+ghost use Rattle.dwexpr_c.specs.Operations.{block_in, numbered, operands_of, of_kind, signed_operand, typed};
 
 use crate::faults::{FaultNumbers, OK};
 use dwarf_base::{EndianSlice, Reader, RunTimeEndian};
@@ -65,7 +65,7 @@ const NOTHING: DwexprOperation = DwexprOperation {
 
 /// What is shown where an argument isn't allowed.
 pub(crate) fn refuse(offset: usize, code: u32) -> DwexprOperation
-    ensures { result ≡ refused offset code }
+    ensures { result ≡ disallowed offset code }
 {
     DwexprOperation {
         offset,
@@ -76,7 +76,7 @@ pub(crate) fn refuse(offset: usize, code: u32) -> DwexprOperation
 
 /// What is shown of a fault.
 pub(crate) fn show_fault(offset: usize, opcode: u8, fault: FaultNumbers) -> DwexprOperation
-    ensures { result ≡ record (refused offset fault.code) { opcode = opcode; detail = fault.number } }
+    ensures { result ≡ record (disallowed offset fault.code) { opcode = opcode; detail = fault.number } }
 {
     DwexprOperation {
         opcode: u32::from(opcode),
@@ -86,7 +86,7 @@ pub(crate) fn show_fault(offset: usize, opcode: u8, fault: FaultNumbers) -> Dwex
 }
 
 fn plain(kind: u32) -> DwexprOperation
-    ensures { result ≡ plain kind }
+    ensures { result ≡ of_kind kind }
 {
     DwexprOperation { kind, ..NOTHING }
 }
@@ -102,7 +102,7 @@ fn numbered(kind: u32, number: u64) -> DwexprOperation
 }
 
 fn signed(kind: u32, signed_number: i64) -> DwexprOperation
-    ensures { result ≡ signed kind signed_number }
+    ensures { result ≡ signed_operand kind signed_number }
 {
     DwexprOperation {
         kind,

@@ -1,6 +1,6 @@
 ghost use Rattle.std.specs.Prelude.{◌≡◌, IfSome, IfNone};
-ghost use Rattle.dwarf_eval.specs.Calls.{told_of};
-ghost use Rattle.dwexpr_c.specs.Outcomes.{ShowsReply, asking, completed, ended, untold};
+ghost use Rattle.dwarf_eval.specs.Evaluation.{ok_reply};
+ghost use Rattle.dwexpr_c.specs.Outcomes.{ShowsReply, request_outcome, complete_outcome, ended_outcome, blank_outcome};
 ghost use Rattle.dwexpr_c.specs.Texts.{text_of_placed};
 ghost use Rattle.dwexpr_c.specs.inner.Places.{AsksNowhere};
 
@@ -72,7 +72,7 @@ pub(crate) const UNTOLD: DwexprOutcome = DwexprOutcome {
 
 /// What is shown where a step ended the evaluation.
 pub(crate) fn show_end(fault: FaultNumbers, step: usize) -> DwexprOutcome
-    ensures { result ≡ ended fault.code fault.number step }
+    ensures { result ≡ ended_outcome fault.code fault.number step }
 {
     DwexprOutcome {
         code: fault.code,
@@ -83,7 +83,7 @@ pub(crate) fn show_end(fault: FaultNumbers, step: usize) -> DwexprOutcome
 }
 
 fn asking(request: u32, number: u64) -> DwexprOutcome
-    ensures { result ≡ asking request number }
+    ensures { result ≡ request_outcome request number }
 {
     DwexprOutcome {
         request,
@@ -94,7 +94,7 @@ fn asking(request: u32, number: u64) -> DwexprOutcome
 
 /// A request of memory.
 fn asking_memory(address: u64, size: u8, base_type: usize) -> DwexprOutcome
-    ensures { result ≡ record (asking 2 address) { size = size; base_type = base_type } }
+    ensures { result ≡ record (request_outcome 2 address) { size = size; base_type = base_type } }
 {
     DwexprOutcome {
         size: u32::from(size),
@@ -120,8 +120,8 @@ pub(crate) fn show_told(
     texts: &[DwexprText<'_>],
     told: EvaluationResult<Placed<'_>>,
 ) -> Option<DwexprOutcome>
-    ensures some { IfSome result (λ out. ShowsReply texts.now (told_of text_of_placed (λ x. x) told.entry) out) }
-    ensures none { IfNone result (AsksNowhere texts.now (told_of text_of_placed (λ x. x) told.entry)) }
+    ensures some { IfSome result (λ out. ShowsReply texts.now (ok_reply text_of_placed (λ x. x) told.entry) out) }
+    ensures none { IfNone result (AsksNowhere texts.now (ok_reply text_of_placed (λ x. x) told.entry)) }
 {
     Some(match told {
         EvaluationResult::Complete => asking(1, 0),
@@ -182,7 +182,7 @@ pub(crate) fn show_told(
 
 /// What is shown of a complete evaluation.
 pub(crate) fn show_complete(pieces: usize, value: Option<Value>) -> DwexprOutcome
-    ensures { result ≡ completed pieces value }
+    ensures { result ≡ complete_outcome pieces value }
 {
     let complete = DwexprOutcome {
         pieces,

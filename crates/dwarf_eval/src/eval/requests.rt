@@ -1,12 +1,12 @@
 ghost use Rattle.std.specs.Prelude.{◌≡◌, IfOk};
 ghost use Rattle.dwarf_meaning.specs.Kinds.{kind_of_request, kind_of_waiting};
-ghost use Rattle.dwarf_meaning.specs.Rest.{Waits};
-ghost use Rattle.dwarf_meaning.specs.Steps.{Asked};
+ghost use Rattle.dwarf_meaning.specs.Rest.{RequestStatus};
+ghost use Rattle.dwarf_meaning.specs.Steps.{RequestReply};
 ghost use Rattle.dwarf_machine.specs.Machine.{request_of, waiting_of};
-ghost use Rattle.dwarf_machine.specs.inner.Steps.{IsOver};
+ghost use Rattle.dwarf_machine.specs.inner.Steps.{HasStopped};
 ghost use Rattle.dwarf_op.specs.Views.{text_of};
-ghost use Rattle.dwarf_eval.specs.Answers.{Admits, kind_of};
-ghost use Rattle.dwarf_eval.specs.Calls.{IsTold, reply_of, told_of};
+ghost use Rattle.dwarf_eval.specs.Permits.{Admits, kind_of};
+ghost use Rattle.dwarf_eval.specs.Evaluation.{IsReplied, reply_of, ok_reply};
 
 use crate::eval::states::WaitingKind;
 use crate::op::{EvaluationResult, Expression};
@@ -17,8 +17,8 @@ use dwarf_store::EvaluationStorage;
 
 /// What is asked.
 pub(crate) fn result_of<R: Reader + Copy>(request: OpenRequest<R>) -> EvaluationResult<R>
-    ensures told { told_of (text_of R.bytes R.is_big) R.Offset.number result ≡ Asked (request_of (text_of R.bytes R.is_big) R.Offset.number request) }
-    ensures admits { Admits result (Waits (request_of (text_of R.bytes R.is_big) R.Offset.number request) (waiting_of (text_of R.bytes R.is_big) request)) }
+    ensures told { ok_reply (text_of R.bytes R.is_big) R.Offset.number result ≡ RequestReply (request_of (text_of R.bytes R.is_big) R.Offset.number request) }
+    ensures admits { Admits result (RequestStatus (request_of (text_of R.bytes R.is_big) R.Offset.number request) (waiting_of (text_of R.bytes R.is_big) request)) }
 {
     match request {
         OpenRequest::Memory {
@@ -91,12 +91,12 @@ pub(crate) fn kind_of_open<R: Reader + Copy>(request: OpenRequest<R>) -> Waiting
     }
 }
 
-/// What the state answers to the caller.
-pub(crate) fn answer<R: Reader + Copy, S: EvaluationStorage<R>>(
+/// What the state replies to the caller.
+pub(crate) fn reply<R: Reader + Copy, S: EvaluationStorage<R>>(
     machine: &Machine<R, S>,
 ) -> Result<EvaluationResult<R>>
-    requires { IsOver machine.now.status }
-    ensures told { IsTold (reply_of (text_of R.bytes R.is_big) R.Offset.number result) machine.now.status }
+    requires { HasStopped machine.now.status }
+    ensures told { IsReplied (reply_of (text_of R.bytes R.is_big) R.Offset.number result) machine.now.status }
     ensures admits { IfOk result (λ told. Admits told machine.now.status) }
 {
     match machine.state() {

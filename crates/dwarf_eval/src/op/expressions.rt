@@ -3,7 +3,7 @@ ghost use Rattle.std.specs.Iterator.{item_count};
 ghost use Rattle.dwarf_base.specs.Reads.{IsSuffix};
 ghost use Rattle.dwarf_meaning.specs.Decoding.{operation_at};
 ghost use Rattle.dwarf_meaning.specs.Splitting.{items_at};
-ghost use Rattle.dwarf_eval.specs.Iteration.{input_of, encoding_of, items_left, GivesFirst, GivesNext, GivesItem};
+ghost use Rattle.dwarf_eval.specs.Iteration.{unread_of, encoding_of, items_left, GivesFirst, GivesNext, GivesItem};
 ghost use Rattle.dwarf_op.specs.Views.{operation_of, text_of};
 
 use dwarf_base::{Encoding, Reader, Result};
@@ -17,7 +17,7 @@ impl<R: Reader + Copy> Expression<R> {
     /// Its operations, in order.
     #[inline]
     pub fn operations(self, encoding: Encoding) -> OperationIter<R>
-        ensures input { input_of result ≡ self.0 }
+        ensures input { unread_of result ≡ self.0 }
         ensures encoding { encoding_of result ≡ encoding }
     {
         OperationIter {
@@ -40,9 +40,9 @@ impl<R: Reader + Copy> OperationIter<R> {
     /// The errors are those of [`Operation::parse`]. After one nothing is left.
     #[inline]
     pub fn next(&mut self) -> Result<Option<Operation<R>>>
-        ensures value { GivesNext (operation_of (text_of R.bytes R.is_big) R.Offset.number) result (R.bytes (input_of self.new)) (R.bytes (input_of self.old)) (operation_at (encoding_of self.old) R.Offset.BITS (text_of R.bytes R.is_big (input_of self.old))) }
-        ensures rest { IsSuffix (R.bytes (input_of self.new)) (R.bytes (input_of self.old)) }
-        ensures order { R.is_big (input_of self.new) ≡ R.is_big (input_of self.old) }
+        ensures value { GivesNext (operation_of (text_of R.bytes R.is_big) R.Offset.number) result (R.bytes (unread_of self.new)) (R.bytes (unread_of self.old)) (operation_at (encoding_of self.old) R.Offset.BITS (text_of R.bytes R.is_big (unread_of self.old))) }
+        ensures rest { IsSuffix (R.bytes (unread_of self.new)) (R.bytes (unread_of self.old)) }
+        ensures order { R.is_big (unread_of self.new) ≡ R.is_big (unread_of self.old) }
         ensures encoding { encoding_of self.new ≡ encoding_of self.old }
         ensures items { GivesItem (operation_of (text_of R.bytes R.is_big) R.Offset.number) result (items_left R.bytes R.is_big R.Offset.BITS self.new) (items_left R.bytes R.is_big R.Offset.BITS self.old) }
     {
@@ -63,8 +63,8 @@ impl<R: Reader + Copy> OperationIter<R> {
     /// Before an error these are the bytes of the operations so far; after one, all of them.
     #[inline]
     pub fn offset_from(&self, expression: &Expression<R>) -> R::Offset
-        requires { IsSuffix (R.bytes (input_of self.now)) (R.bytes expression.now.0) }
-        ensures { R.Offset.number result ≡ length (R.bytes expression.now.0) - length (R.bytes (input_of self.now)) }
+        requires { IsSuffix (R.bytes (unread_of self.now)) (R.bytes expression.now.0) }
+        ensures { R.Offset.number result ≡ length (R.bytes expression.now.0) - length (R.bytes (unread_of self.now)) }
     {
         self.input.offset_from(&expression.0)
     }

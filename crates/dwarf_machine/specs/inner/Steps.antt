@@ -12,10 +12,10 @@ use Rattle.dwarf_meaning.specs.Locations.{Location}
 use Rattle.dwarf_meaning.specs.Requests.{Request, Waiting, Answer, Input}
 use Rattle.dwarf_meaning.specs.Acts.{Act, act}
 use Rattle.dwarf_meaning.specs.RunLaws.{waits_of}
-use Rattle.dwarf_meaning.specs.Stores.{Limits, address_bits, Store, Last, Pieced, Located, Refusal, Never, After, push_piece, push_frame, Next, Goes, Stops, Fails, done}
-use Rattle.dwarf_meaning.specs.Run.{Frame, can_count, counted, piece_of, read, most}
-use Rattle.dwarf_meaning.specs.Meaning.{Outcome, Faults, Completes}
-use Rattle.dwarf_meaning.specs.Rest.{State, Status, Start, Running, Waits, Complete, Stopped, with_refusal, rest}
+use Rattle.dwarf_meaning.specs.Stores.{Limits, address_bits, Store, Last, Pieced, Located, Refusal, Never, After, push_piece, push_caller, Next, Goes, RequestNext, FaultNext, done}
+use Rattle.dwarf_meaning.specs.Run.{Position, can_count, counted, piece_ended_by, read, most}
+use Rattle.dwarf_meaning.specs.Meaning.{Outcome, FaultOutcome, CompleteOutcome}
+use Rattle.dwarf_meaning.specs.Rest.{State, Status, Start, Running, RequestStatus, CompleteStatus, FaultStatus, with_refusal, rest}
 use Rattle.dwarf_machine.specs.Bounds.{Spends, calls_left}
 use Rattle.dwarf_machine.specs.Inputs.{MayPick, before_input, input_of, Keeps, with_status}
 use Rattle.dwarf_machine.specs.Paths.{path}
@@ -76,7 +76,7 @@ pub record Does (f : Store → Result Store Fault) (old new : State) : Type 0 wh
 -- f gives a fault for some refusal, and the state keeps it
 pub record Refused (more : ℕ) (f : Store → Result Store Fault) (old new : State) : Type 0 where
   pub error : Error
-  pub stopped : new.status ≡ Stopped error
+  pub stopped : new.status ≡ FaultStatus error
   pub gets : Gets old.setup.limits f old.store (Err (fault_of error))
   pub stays : Stays more old new
 
@@ -114,12 +114,12 @@ PopsNumber old new None = (old.store.values ≡ []) × (new ≡ old)
 -- one more operation is counted, or the maximum doesn't allow it
 abbrev pub CountsOne : State → State → Bool → Type 0
 CountsOne old new true = (can_count old.store ≡ true) × (new ≡ with_store (counted old.store) old)
-CountsOne old new false = (can_count old.store ≡ false) × (new ≡ with_status (Stopped TooManyIterations) old)
+CountsOne old new false = (can_count old.store ≡ false) × (new ≡ with_status (FaultStatus TooManyIterations) old)
 
 -- went to a place of the text, or there is no such place
 abbrev pub Jumps : ℕ → State → State → Bool → Type 0
 Jumps place old new true = (place ≤ length old.text.bytes) × (new ≡ with_place place old)
-Jumps place old new false = (length old.text.bytes < place) × (new ≡ with_status (Stopped (BadBranchTarget place)) old)
+Jumps place old new false = (length old.text.bytes < place) × (new ≡ with_status (FaultStatus (BadBranchTarget place)) old)
 
 -- what is left belongs to the running text
 pub record IsRest (left : List ℕ) (is_big : Bool) (x : State) : Type 0 where
@@ -143,7 +143,7 @@ pub record Reads (op : Operation) (old new : State) : Type 0 where
 -- an operation at the place was read that ends this piece, or none
 pub record ReadsPiece (piece : Option (ℕ × Option ℕ)) (old new : State) : Type 0 where
   pub op : Operation
-  pub is : piece_of op ≡ piece
+  pub is : piece_ended_by op ≡ piece
   pub reads : Reads op old new
 
 -- ---- operations
@@ -157,26 +157,26 @@ abbrev pub done_at : Act → State → Store → Next
 done_at a x s = done x.setup x.place (length x.text.bytes) a s
 
 -- f, of what is kept, leads to a place
-pub record GoesOn (f : Store → Next) (old new : State) : Type 0 where
+pub record LeadsToPlace (f : Store → Next) (old new : State) : Type 0 where
   pub steps : Steps f old.store (Goes new.place) new.store
   pub alone : new ≡ with_store new.store (with_place new.place old)
 
 -- f leads to a request
-pub record AsksFor (f : Store → Next) (request : Request) (waiting : Waiting) (old new : State) : Type 0 where
-  pub steps : Steps f old.store (Stops request waiting) new.store
-  pub alone : new ≡ with_store new.store (with_status (Waits request waiting) old)
+pub record LeadsToRequest (f : Store → Next) (request : Request) (waiting : Waiting) (old new : State) : Type 0 where
+  pub steps : Steps f old.store (RequestNext request waiting) new.store
+  pub alone : new ≡ with_store new.store (with_status (RequestStatus request waiting) old)
 
 -- f leads to the fault for some refusal
-pub record FailsBy (f : Store → Next) (error : Error) (old new : State) : Type 0 where
-  pub gets : Gets old.setup.limits f old.store (Fails (fault_of error))
+pub record LeadsToFault (f : Store → Next) (error : Error) (old new : State) : Type 0 where
+  pub gets : Gets old.setup.limits f old.store (FaultNext (fault_of error))
   pub stays : Stays 0 old new
 
 abbrev pub LeadsBy : (Store → Next) → State → State → Status → Type 0
-LeadsBy f old new Running = GoesOn f old new
-LeadsBy f old new (Waits request waiting) = AsksFor f request waiting old new
-LeadsBy f old new (Stopped error) = FailsBy f error old new
+LeadsBy f old new Running = LeadsToPlace f old new
+LeadsBy f old new (RequestStatus request waiting) = LeadsToRequest f request waiting old new
+LeadsBy f old new (FaultStatus error) = LeadsToFault f error old new
 LeadsBy f old new (Start initial_value) = ⊥
-LeadsBy f old new (Complete value) = ⊥
+LeadsBy f old new (CompleteStatus value) = ⊥
 
 -- f leads on, or to a request, or for some refusal to a fault, which the state keeps
 abbrev pub Leads : (Store → Next) → State → State → Type 0
@@ -199,10 +199,10 @@ TriesToPerform read left old new (Ok done) = PerformsRead read left old new
 TriesToPerform read left old new (Err error) = (read ≡ Err (fault_of error)) × (new ≡ old)
 
 -- a piece behind a location: it is ended, or the state keeps the fault
-abbrev pub Holds : Location → Option (ℕ × Option ℕ) → State → State → Type 0
-Holds location (Some size) old new =
+abbrev pub EndsLocated : Location → Option (ℕ × Option ℕ) → State → State → Type 0
+EndsLocated location (Some size) old new =
     Tried 0 (push_piece old.setup (record { size_in_bits = Some size.0; bit_offset = size.1; location = location })) (with_last Pieced old) new
-Holds location None old new = new ≡ with_status (Stopped (InvalidExpressionTerminator (old.place - 1))) old
+EndsLocated location None old new = new ≡ with_status (FaultStatus (InvalidExpressionTerminator (old.place - 1))) old
 
 -- ---- turns
 
@@ -220,11 +220,11 @@ total_after x input r inputs = total x (before_input r) (input ∷ inputs)
 
 -- 1 where a call stops
 abbrev pub stop_of : Status → ℕ
-stop_of (Waits request waiting) = 1
-stop_of (Complete value) = 1
+stop_of (RequestStatus request waiting) = 1
+stop_of (CompleteStatus value) = 1
 stop_of (Start initial_value) = 0
 stop_of Running = 0
-stop_of (Stopped error) = 0
+stop_of (FaultStatus error) = 0
 
 -- where the call stops, fewer calls are left
 abbrev pub Nears : State → State → Type 0
@@ -242,36 +242,36 @@ pub record Reaches (old : State) (totals : Refusal → List Input → Total) (ne
 pub record Falls (old : State) (totals : Refusal → List Input → Total) (fault : Fault) (new : State) : Type 0 where
   pub refusal : Refusal
   pub may : MayPick old.setup.limits refusal
-  pub same : (inputs : List Input) → totals refusal inputs ≡ record { outcome = Faults fault; count = new.store.count }
+  pub same : (inputs : List Input) → totals refusal inputs ≡ record { outcome = FaultOutcome fault; count = new.store.count }
   pub kept : Keeps old new
   pub spends : Spends old new
 
 abbrev pub ComesBy : State → (Refusal → List Input → Total) → State → Status → Type 0
 ComesBy old totals new Running = Reaches old totals new
-ComesBy old totals new (Waits request waiting) = Reaches old totals new
-ComesBy old totals new (Complete value) = Reaches old totals new
-ComesBy old totals new (Stopped error) = Falls old totals (fault_of error) new
+ComesBy old totals new (RequestStatus request waiting) = Reaches old totals new
+ComesBy old totals new (CompleteStatus value) = Reaches old totals new
+ComesBy old totals new (FaultStatus error) = Falls old totals (fault_of error) new
 ComesBy old totals new (Start initial_value) = ⊥
 
 -- it came to the new state, or to a fault, which the new state keeps
 abbrev pub Comes : State → (Refusal → List Input → Total) → State → Type 0
 Comes old totals new = ComesBy old totals new new.status
 
-abbrev pub BeginsBy : State → (Refusal → List Input → Total) → State → Status → Type 0
-BeginsBy old totals new Running = Reaches old totals new
-BeginsBy old totals new (Stopped error) = Falls old totals (fault_of error) new
-BeginsBy old totals new (Waits request waiting) = ⊥
-BeginsBy old totals new (Complete value) = ⊥
-BeginsBy old totals new (Start initial_value) = ⊥
+abbrev pub RunsOnBy : State → (Refusal → List Input → Total) → State → Status → Type 0
+RunsOnBy old totals new Running = Reaches old totals new
+RunsOnBy old totals new (FaultStatus error) = Falls old totals (fault_of error) new
+RunsOnBy old totals new (RequestStatus request waiting) = ⊥
+RunsOnBy old totals new (CompleteStatus value) = ⊥
+RunsOnBy old totals new (Start initial_value) = ⊥
 
 -- the run begins, or goes on behind an answer
-abbrev pub Begins : State → (Refusal → List Input → Total) → State → Type 0
-Begins old totals new = BeginsBy old totals new new.status
+abbrev pub RunsOn : State → (Refusal → List Input → Total) → State → Type 0
+RunsOn old totals new = RunsOnBy old totals new new.status
 
 abbrev pub EndsBy : State → (Refusal → List Input → Total) → State → Status → Type 0
-EndsBy old totals new (Waits request waiting) = Reaches old totals new
-EndsBy old totals new (Complete value) = Reaches old totals new
-EndsBy old totals new (Stopped error) = Falls old totals (fault_of error) new
+EndsBy old totals new (RequestStatus request waiting) = Reaches old totals new
+EndsBy old totals new (CompleteStatus value) = Reaches old totals new
+EndsBy old totals new (FaultStatus error) = Falls old totals (fault_of error) new
 EndsBy old totals new Running = ⊥
 EndsBy old totals new (Start initial_value) = ⊥
 
@@ -292,7 +292,7 @@ pub record IsReady (x : State) : Type 0 where
 
 -- back in the innermost caller, where there is one
 abbrev pub GoesBack : Bool → State → State → Type 0
-GoesBack true old new = (f : Frame) × (fs : List Frame) × (old.callers ≡ f ∷ fs) × (new ≡ record old { text = f.text; place = f.place; callers = fs })
+GoesBack true old new = (f : Position) × (fs : List Position) × (old.callers ≡ f ∷ fs) × (new ≡ record old { text = f.text; place = f.place; callers = fs })
 GoesBack false old new = (old.callers ≡ []) × (new ≡ old)
 
 -- Nothing is counted, and of values and pieces there are so many more at most.
@@ -301,23 +301,23 @@ pub record Adds (more : ℕ) (old new : State) : Type 0 where
   pub count : new.store.count ≡ old.store.count
 
 -- the run is over, as f says, with this value, and so many more items at most
-pub record Finishes (more : ℕ) (f : Store → Outcome) (value : Option Value) (old new : State) : Type 0 where
-  pub steps : Steps f old.store (λ s. Completes s.pieces value) new.store
-  pub alone : new ≡ with_store new.store (with_status (Complete value) old)
+pub record ClosesComplete (more : ℕ) (f : Store → Outcome) (value : Option Value) (old new : State) : Type 0 where
+  pub steps : Steps f old.store (λ s. CompleteOutcome s.pieces value) new.store
+  pub alone : new ≡ with_store new.store (with_status (CompleteStatus value) old)
   pub kept : Keeps old new
   pub adds : Adds more old new
 
 -- f gives the fault for some refusal
-pub record Denies (f : Store → Outcome) (error : Error) (old new : State) : Type 0 where
-  pub gets : Gets old.setup.limits f old.store (Faults (fault_of error))
+pub record ClosesInFault (f : Store → Outcome) (error : Error) (old new : State) : Type 0 where
+  pub gets : Gets old.setup.limits f old.store (FaultOutcome (fault_of error))
   pub stays : Stays 0 old new
 
 abbrev pub ClosesBy : ℕ → (Store → Outcome) → State → State → Status → Type 0
-ClosesBy more f old new (Complete value) = Finishes more f value old new
-ClosesBy more f old new (Stopped error) = Denies f error old new
+ClosesBy more f old new (CompleteStatus value) = ClosesComplete more f value old new
+ClosesBy more f old new (FaultStatus error) = ClosesInFault f error old new
 ClosesBy more f old new Running = ⊥
 ClosesBy more f old new (Start initial_value) = ⊥
-ClosesBy more f old new (Waits request waiting) = ⊥
+ClosesBy more f old new (RequestStatus request waiting) = ⊥
 
 -- the run is over, as f says, with so many more items at most, or for some refusal in a fault, which the state keeps
 abbrev pub Closes : ℕ → (Store → Outcome) → State → State → Type 0
@@ -349,24 +349,24 @@ abbrev pub goes_on : State → Bool
 goes_on x = is_running x.status && is_free x.store.last && not (x.place == length x.text.bytes)
 
 -- it waits, is complete, or a fault was met
-abbrev pub IsOver : Status → Type 0
-IsOver (Waits request waiting) = Unit {0}
-IsOver (Complete value) = Unit {0}
-IsOver (Stopped error) = Unit {0}
-IsOver Running = ⊥
-IsOver (Start initial_value) = ⊥
+abbrev pub HasStopped : Status → Type 0
+HasStopped (RequestStatus request waiting) = Unit {0}
+HasStopped (CompleteStatus value) = Unit {0}
+HasStopped (FaultStatus error) = Unit {0}
+HasStopped Running = ⊥
+HasStopped (Start initial_value) = ⊥
 
 -- ---- answers
 
--- a called text runs, its caller one more frame
+-- a called text runs, and there is one caller more
 pub record Enters (callee : Text) (old new : State) : Type 0 where
-  pub steps : Steps (push_frame old.setup (length old.callers)) old.store Ok new.store
+  pub steps : Steps (push_caller old.setup (length old.callers)) old.store Ok new.store
   pub alone : new ≡ record old { text = callee; place = 0; callers = record { text = old.text; place = old.place } ∷ old.callers; store = new.store }
 
 abbrev pub TriesToEnter : Text → State → State → Bool → Type 0
 TriesToEnter callee old new true = Enters callee old new
-TriesToEnter callee old new false = Refused 0 (push_frame old.setup (length old.callers)) old new
+TriesToEnter callee old new false = Refused 0 (push_caller old.setup (length old.callers)) old new
 
 -- the answer is taken
 abbrev pub Takes : Answer → State → State → Type 0
-Takes answer old new = Begins old (total_after old (input_of old answer)) new
+Takes answer old new = RunsOn old (total_after old (input_of old answer)) new

@@ -5,27 +5,27 @@ use Rattle.dwarf_meaning.specs.Operations.{Text}
 use Rattle.dwarf_meaning.specs.Kinds.{kind_of_answer}
 use Rattle.dwarf_meaning.specs.Rest.{State, Status}
 use Rattle.dwarf_meaning.specs.Steps.{Step, InitialValue, ObjectAddress, MaxIterations, Evaluate, Resume}
-use Rattle.dwarf_eval.specs.Answers.{IsOpenFor, kind_of}
-use Rattle.dwarf_eval.specs.Calls.{Resumes, input_of}
+use Rattle.dwarf_eval.specs.Permits.{IsOpenFor, kind_of}
+use Rattle.dwarf_eval.specs.Evaluation.{Resumes, input_of}
 use Rattle.dwarf_eval.specs.declared.eval.states.WaitingKind.{WaitingKind}
 use Rattle.dwarf_eval.specs.declared.op.results.EvaluationResult.{EvaluationResult}
 use Rattle.dwarf_store.specs.Lists.{MayRefuse}
-use Rattle.dwarf_replay.specs.Stepping.{MayTake, IsSet, IsCalled}
+use Rattle.dwarf_replay.specs.Stepping.{MayTake, IsSet, HasReplied}
 use Rattle.dwarf_replay.specs.declared.steps.Answer.{Answer}
 use Rattle.dwarf_replay.specs.declared.walk.Stop.{Stop}
 use Rattle.dwarf_replay.specs.declared.walk.Stop.TheVariants as stop
 
--- a call's answer was kept
+-- a call's reply was kept
 pub record IsKept {R O P : Type 0} (text : R → Text) (number : O → ℕ) (step : Step) (old : State) (given : List (Answer R O P)) (new : State) (all : List (Answer R O P)) : Type 0 where
   pub answer : Answer R O P
-  pub called : IsCalled text number step old new answer.0
+  pub called : HasReplied text number step old new answer.0
   pub kept : all ≡ given ++ answer ∷ []
 
--- a setting was set, or a call's answer was kept; or the step isn't allowed, or its answer found no room
-abbrev pub Keeps : {R O P : Type 0} → (R → Text) → (O → ℕ) → Step → Option ℕ → State → List (Answer R O P) → State → List (Answer R O P) → Result (Unit {0}) (Stop R O P) → Type 0
-Keeps text number step limit old given new all (Ok u) = (IsSet step old new × (all ≡ given)) ⊎ IsKept text number step old given new all
-Keeps text number step limit old given new all (Err stop.Misplaced) = (new ≡ old) × (MayTake step old.status → ⊥) × (all ≡ given)
-Keeps text number step limit old given new all (Err (stop.NoRoom answer)) = IsCalled text number step old new answer.0 × (all ≡ given) × MayRefuse limit (length given)
+-- a setting was set, or a call's reply was kept; or the step isn't allowed, or its reply found no room
+abbrev pub TakesStep : {R O P : Type 0} → (R → Text) → (O → ℕ) → Step → Option ℕ → State → List (Answer R O P) → State → List (Answer R O P) → Result (Unit {0}) (Stop R O P) → Type 0
+TakesStep text number step limit old given new all (Ok u) = (IsSet step old new × (all ≡ given)) ⊎ IsKept text number step old given new all
+TakesStep text number step limit old given new all (Err stop.Misplaced) = (new ≡ old) × (MayTake step old.status → ⊥) × (all ≡ given)
+TakesStep text number step limit old given new all (Err (stop.NoRoom answer)) = HasReplied text number step old new answer.0 × (all ≡ given) × MayRefuse limit (length given)
 
 -- the kind of the step's answer, or none where it is a setting or the start
 abbrev pub IsKindOf : Step → Option WaitingKind → Type 0
@@ -46,8 +46,8 @@ IsOpenAt Evaluate status = ⊥
 
 -- the evaluation went on with the step's answer
 abbrev pub IsResumed : {R O P : Type 0} → (R → Text) → (O → ℕ) → Step → State → State → Result (EvaluationResult R O P) Error → Type 0
-IsResumed text number (Resume answer) old new told = Resumes text number (input_of old answer) old new told old.status
-IsResumed text number (InitialValue value) old new told = ⊥
-IsResumed text number (ObjectAddress address) old new told = ⊥
-IsResumed text number (MaxIterations maximum) old new told = ⊥
-IsResumed text number Evaluate old new told = ⊥
+IsResumed text number (Resume answer) old new replied = Resumes text number (input_of old answer) old new replied old.status
+IsResumed text number (InitialValue value) old new replied = ⊥
+IsResumed text number (ObjectAddress address) old new replied = ⊥
+IsResumed text number (MaxIterations maximum) old new replied = ⊥
+IsResumed text number Evaluate old new replied = ⊥

@@ -2,7 +2,7 @@
 use Rattle.std.specs.Prelude.{ℕ, ◌+◌, ◌≡◌, ◌≤◌, List, Some, length, slice_get, slice_range}
 use Rattle.dwarf_meaning.specs.Locations.{Location, HoldsBytes, Piece}
 use Rattle.dwarf_meaning.specs.Requests as asked
-use Rattle.dwarf_meaning.specs.Steps.{Reply, Asked}
+use Rattle.dwarf_meaning.specs.Steps.{Reply, RequestReply}
 use Rattle.dwexpr_c.specs.Texts.{IsPlaced}
 use Rattle.dwexpr_c.specs.declared.steps.DwexprText.{DwexprText}
 
@@ -30,7 +30,7 @@ IsNowhere texts block = (text : ℕ) → IsNotAt texts text block
 
 -- a block is asked about that is nowhere
 abbrev pub AsksNowhere : List DwexprText → Reply → Type 0
-AsksNowhere texts (Asked (asked.RequiresEntryValue expression)) = IsNowhere texts expression.bytes
+AsksNowhere texts (RequestReply (asked.RequiresEntryValue expression)) = IsNowhere texts expression.bytes
 AsksNowhere texts _ = ⊥
 
 -- the location has bytes that are nowhere

@@ -4,8 +4,8 @@ use Rattle.dwarf_base.specs.declared.common.Encoding.{Encoding}
 use Rattle.dwarf_meaning.specs.Rest.{State}
 use Rattle.dwarf_meaning.specs.Steps.{Step}
 use Rattle.dwarf_replay.specs.Replays.{StandsAt, told_at}
-use Rattle.dwexpr_c.specs.Evaluated.{AreTaken, Evaluates, Given, IsEnded, comes_of, setup_in, told_by, unset}
-use Rattle.dwexpr_c.specs.Outcomes.{ended}
+use Rattle.dwexpr_c.specs.Evaluated.{AreTaken, EvaluatesGiven, Given, IsCutShort, comes_of, limited_setup, told_by, untold}
+use Rattle.dwexpr_c.specs.Outcomes.{ended_outcome}
 use Rattle.dwexpr_c.specs.Texts.{text_of_placed}
 use Rattle.dwexpr_c.specs.inner.Stepping.{ShowsStatus}
 use Rattle.dwexpr_c.specs.declared.outcomes.DwexprOutcome.{DwexprOutcome}
@@ -27,10 +27,10 @@ pub record RanAll (texts : List DwexprText) (numbers : List DwexprStep) (first n
 
 abbrev pub Runs : List DwexprText → List DwexprStep → State → State → Result DwexprOutcome DwexprOutcome → Type 0
 Runs texts numbers first new (Ok out) = RanAll texts numbers first new out
-Runs texts numbers first new (Err out) = IsEnded (given_at first texts) numbers out
+Runs texts numbers first new (Err out) = IsCutShort (given_at first texts) numbers out
 
 -- a text is evaluated, where there is one
 abbrev pub EvaluatesFound : Encoding → List DwexprText → List DwexprStep → DwexprOutcome → (old new : List DwexprPiece) → Option Placed → Type 0
-EvaluatesFound encoding texts numbers out old new None = (out ≡ ended 66 0 0) × (new ≡ old)
+EvaluatesFound encoding texts numbers out old new None = (out ≡ ended_outcome 66 0 0) × (new ≡ old)
 EvaluatesFound encoding texts numbers out old new (Some text) =
-    Evaluates (record { setup = setup_in encoding; text = text_of_placed text; told = unset; texts = texts }) numbers out old new
+    EvaluatesGiven (record { setup = limited_setup encoding; text = text_of_placed text; told = untold; texts = texts }) numbers out old new

@@ -3,13 +3,13 @@ use Rattle.std.specs.Prelude.{ℕ, ◌≡◌, ◌⊎◌, List, Result, Ok, Err, 
 use Rattle.dwarf_base.specs.declared.errors.Error.{Error}
 use Rattle.dwarf_base.specs.Faults.{fault_of}
 use Rattle.dwarf_meaning.specs.Locations.{Piece}
-use Rattle.dwarf_meaning.specs.Rest.{State, Status, Start, Running, Waits, Complete, Stopped}
+use Rattle.dwarf_meaning.specs.Rest.{State, Status, Start, Running, RequestStatus, CompleteStatus, FaultStatus}
 use Rattle.dwarf_meaning.specs.Steps.{Step}
-use Rattle.dwarf_eval.specs.Calls.{told_of}
+use Rattle.dwarf_eval.specs.Evaluation.{ok_reply}
 use Rattle.dwarf_eval.specs.declared.op.results.EvaluationResult.{EvaluationResult}
-use Rattle.dwarf_replay.specs.Stepping.{IsCalled, IsSet, MayTake}
-use Rattle.dwexpr_c.specs.Codes.{code_of_fault, number_of_fault, misplaced}
-use Rattle.dwexpr_c.specs.Outcomes.{ShowsReply, ShowsRequest, asking, completed, ended, untold}
+use Rattle.dwarf_replay.specs.Stepping.{HasReplied, IsSet, MayTake}
+use Rattle.dwexpr_c.specs.Codes.{code_of_fault, number_of_fault, misplaced_code}
+use Rattle.dwexpr_c.specs.Outcomes.{ShowsReply, ShowsRequest, request_outcome, complete_outcome, ended_outcome, blank_outcome}
 use Rattle.dwexpr_c.specs.Pieces.{AreWritten}
 use Rattle.dwexpr_c.specs.Texts.{text_of_placed}
 use Rattle.dwexpr_c.specs.inner.Places.{AsksNowhere, SomeNowhere}
@@ -19,61 +19,61 @@ use Rattle.dwexpr_c.specs.declared.pieces.DwexprPiece.{DwexprPiece}
 use Rattle.dwexpr_c.specs.declared.places.Placed.{Placed}
 use Rattle.dwexpr_c.specs.declared.steps.DwexprText.{DwexprText}
 
--- A block is nowhere in the caller's texts. No evaluation comes to that, so that no call answers this code.
-abbrev pub unplaced : ℕ
-unplaced = 69
+-- A block is nowhere in the caller's texts. No evaluation comes to that, so that no call replies this code.
+abbrev pub unplaced_code : ℕ
+unplaced_code = 69
 
 abbrev pub plain_end : (code : ℕ) → FaultNumbers
 plain_end code = record { code = code; number = 0 }
 
--- a call answered, and the answer is shown
-pub record Answered (texts : List DwexprText) (step : Step) (old new : State) (after : DwexprOutcome) : Type 0 where
+-- a call replied, and the reply is shown
+pub record Replied (texts : List DwexprText) (step : Step) (old new : State) (after : DwexprOutcome) : Type 0 where
   pub told : EvaluationResult Placed ℕ ℕ
-  pub called : IsCalled text_of_placed (λ x. x) step old new (Ok told)
-  pub shown : ShowsReply texts (told_of text_of_placed (λ x. x) told) after
+  pub called : HasReplied text_of_placed (λ x. x) step old new (Ok told)
+  pub shown : ShowsReply texts (ok_reply text_of_placed (λ x. x) told) after
 
 -- a call met a fault
 pub record Failed (step : Step) (old new : State) (end : FaultNumbers) : Type 0 where
   pub error : Error
-  pub called : IsCalled {R = Placed} {O = ℕ} {P = ℕ} text_of_placed (λ x. x) step old new (Err error)
+  pub called : HasReplied {R = Placed} {O = ℕ} {P = ℕ} text_of_placed (λ x. x) step old new (Err error)
   pub shown : end ≡ record { code = code_of_fault (fault_of error); number = number_of_fault (fault_of error) }
 
 -- a call asks of a block that is nowhere
 pub record Unplaced (texts : List DwexprText) (step : Step) (old new : State) (end : FaultNumbers) : Type 0 where
   pub told : EvaluationResult Placed ℕ ℕ
-  pub called : IsCalled text_of_placed (λ x. x) step old new (Ok told)
-  pub asks : AsksNowhere texts (told_of text_of_placed (λ x. x) told)
-  pub shown : end ≡ plain_end unplaced
+  pub called : HasReplied text_of_placed (λ x. x) step old new (Ok told)
+  pub asks : AsksNowhere texts (ok_reply text_of_placed (λ x. x) told)
+  pub shown : end ≡ plain_end unplaced_code
 
-pub record Misplaced (step : Step) (old new : State) (end : FaultNumbers) : Type 0 where
+pub record NotTaken (step : Step) (old new : State) (end : FaultNumbers) : Type 0 where
   pub same : new ≡ old
   pub not_taken : MayTake step old.status → ⊥
-  pub shown : end ≡ plain_end misplaced
+  pub shown : end ≡ plain_end misplaced_code
 
 -- what came of a step that the numbers say, or of its code where they say none
-abbrev pub Does : List DwexprText → Result Step ℕ → (old new : State) → (before after : DwexprOutcome) → Result (Unit {0}) FaultNumbers → Type 0
-Does texts (Ok step) old new before after (Ok _) = (IsSet step old new × (after ≡ before)) ⊎ Answered texts step old new after
-Does texts (Ok step) old new before after (Err end) = Misplaced step old new end ⊎ (Failed step old new end ⊎ Unplaced texts step old new end)
-Does texts (Err code) old new before after (Ok _) = ⊥
-Does texts (Err code) old new before after (Err end) = end ≡ plain_end code
+abbrev pub DoesStep : List DwexprText → Result Step ℕ → (old new : State) → (before after : DwexprOutcome) → Result (Unit {0}) FaultNumbers → Type 0
+DoesStep texts (Ok step) old new before after (Ok _) = (IsSet step old new × (after ≡ before)) ⊎ Replied texts step old new after
+DoesStep texts (Ok step) old new before after (Err end) = NotTaken step old new end ⊎ (Failed step old new end ⊎ Unplaced texts step old new end)
+DoesStep texts (Err code) old new before after (Ok _) = ⊥
+DoesStep texts (Err code) old new before after (Err end) = end ≡ plain_end code
 
 -- the outcome shows where an evaluation without a fault stands
 abbrev pub ShowsStatus : List DwexprText → Status → DwexprOutcome → Type 0
-ShowsStatus texts (Start initial_value) out = out ≡ untold
-ShowsStatus texts (Waits request waiting) out = ShowsRequest texts request out
-ShowsStatus texts (Complete value) out = out ≡ asking 1 0
-ShowsStatus texts (Stopped error) out = ⊥
+ShowsStatus texts (Start initial_value) out = out ≡ blank_outcome
+ShowsStatus texts (RequestStatus request waiting) out = ShowsRequest texts request out
+ShowsStatus texts (CompleteStatus value) out = out ≡ request_outcome 1 0
+ShowsStatus texts (FaultStatus error) out = ⊥
 ShowsStatus texts Running out = ⊥
 
 -- the outcome gets the pieces and the value of a complete evaluation
-abbrev pub Finishes : List DwexprText → (count : ℕ) → List Piece → (before after : DwexprOutcome) → (old new : List DwexprPiece) → Status → Type 0
-Finishes texts count pieces before after old new (Complete value) =
-    ((after ≡ completed (length pieces) value) × AreWritten texts pieces old new) ⊎ ((after ≡ ended unplaced 0 count) × SomeNowhere texts pieces)
-Finishes texts count pieces before after old new (Start initial_value) = (after ≡ before) × (new ≡ old)
-Finishes texts count pieces before after old new (Waits request waiting) = (after ≡ before) × (new ≡ old)
-Finishes texts count pieces before after old new (Stopped error) = (after ≡ before) × (new ≡ old)
-Finishes texts count pieces before after old new Running = Unit {0}
+abbrev pub FinishesOutcome : List DwexprText → (count : ℕ) → List Piece → (before after : DwexprOutcome) → (old new : List DwexprPiece) → Status → Type 0
+FinishesOutcome texts count pieces before after old new (CompleteStatus value) =
+    ((after ≡ complete_outcome (length pieces) value) × AreWritten texts pieces old new) ⊎ ((after ≡ ended_outcome unplaced_code 0 count) × SomeNowhere texts pieces)
+FinishesOutcome texts count pieces before after old new (Start initial_value) = (after ≡ before) × (new ≡ old)
+FinishesOutcome texts count pieces before after old new (RequestStatus request waiting) = (after ≡ before) × (new ≡ old)
+FinishesOutcome texts count pieces before after old new (FaultStatus error) = (after ≡ before) × (new ≡ old)
+FinishesOutcome texts count pieces before after old new Running = Unit {0}
 
-abbrev pub Ends : List DwexprText → (count : ℕ) → List Piece → Result DwexprOutcome DwexprOutcome → (after : DwexprOutcome) → (old new : List DwexprPiece) → Status → Type 0
-Ends texts count pieces (Ok before) after old new status = Finishes texts count pieces before after old new status
-Ends texts count pieces (Err end) after old new status = (after ≡ end) × (new ≡ old)
+abbrev pub EndsOutcome : List DwexprText → (count : ℕ) → List Piece → Result DwexprOutcome DwexprOutcome → (after : DwexprOutcome) → (old new : List DwexprPiece) → Status → Type 0
+EndsOutcome texts count pieces (Ok before) after old new status = FinishesOutcome texts count pieces before after old new status
+EndsOutcome texts count pieces (Err end) after old new status = (after ≡ end) × (new ≡ old)

@@ -1,9 +1,9 @@
 use Rattle.std.specs.Prelude.{◌-◌, IfOk}
-use Rattle.dwarf_eval.specs.Answers.{Admits}
+use Rattle.dwarf_eval.specs.Permits.{Admits}
 use Rattle.dwarf_bench.proofs.evaluating.complete.Given as goal
 
 abbrev pub invariant-requests : goal.invariant-requests
-invariant-requests g l = IfOk l.answer (λ told. Admits told l.evaluation.status)
+invariant-requests g l = IfOk l.reply (λ told. Admits told l.evaluation.status)
 
 abbrev pub decreases-requests : goal.decreases-requests
 decreases-requests g l = l.job.answers - l.met

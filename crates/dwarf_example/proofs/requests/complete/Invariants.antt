@@ -1,4 +1,4 @@
-use Rattle.dwarf_eval.specs.Answers.{Admits}
+use Rattle.dwarf_eval.specs.Permits.{Admits}
 use Rattle.dwarf_eval.specs.Bounds.{calls_left}
 use Rattle.dwarf_example.proofs.requests.complete.Given as goal
 

@@ -6,42 +6,42 @@ use Rattle.dwarf_value.specs.Values.{type_of, bit_size_of, is_signed, is_same, w
 use Rattle.dwarf_meaning.specs.Operations.{UnitRef}
 use Rattle.dwarf_meaning.specs.Locations.{InRegister}
 use Rattle.dwarf_meaning.specs.Requests.{RequiresCallFrameCfa, CfaAnswer}
-use Rattle.dwarf_meaning.specs.Acts.{choose, on_top, on_some, on_answer, answer_of, act, use_of}
+use Rattle.dwarf_meaning.specs.Acts.{choose, on_top, on_some, on_result, result_of, act, use_of}
 use Rattle.dwarf_meaning.specs.Decoding.{operation_at}
 use Rattle.dwarf_meaning.specs.Opcodes.{row_of}
-use Rattle.dwarf_meaning.specs.Stores.{push_value, push_piece, push_frame}
+use Rattle.dwarf_meaning.specs.Stores.{push_value, push_piece, push_caller}
 use Rattle.dwarf_meaning.specs.Run.{most, run_for}
 use Rattle.dwarf_meaning.specs.Rows.{plain, unset, given, word_at, valued, pieced}
-use Rattle.dwarf_laws.specs.Rows.{calling}
+use Rattle.dwarf_laws.specs.Rows.{call_site}
 use Rattle.dwarf_laws.proofs.Computed.{worked}
 use Rattle.dwarf_laws.proofs.Placed.{stands_in}
 use Rattle.dwarf_laws.proofs.rows.called_rows.Goals as goal
 
 pub returns : goal.returns
-unfolding uleb_at sleb_at fixed_at type_of bit_size_of is_signed is_same word_integer integer_of value_of choose on_top on_some on_answer answer_of act use_of operation_at items_at row_of push_value push_piece push_frame most run_for
+unfolding uleb_at sleb_at fixed_at type_of bit_size_of is_signed is_same word_integer integer_of value_of choose on_top on_some on_result result_of act use_of operation_at items_at row_of push_value push_piece push_caller most run_for
 returns c = record {
   sum =
-      worked (calling (0x31 ∷ []) (0x22 ∷ []) (0x32 ∷ [])) [] []
+      worked (call_site (0x31 ∷ []) (0x22 ∷ []) (0x32 ∷ [])) [] []
       [] [] (valued 3 3)
-      (stands_in plain (calling (0x31 ∷ []) (0x22 ∷ []) (0x32 ∷ [])) (UnitRef 5) tt refl (tt, (tt, (tt, tt))))
+      (stands_in plain (call_site (0x31 ∷ []) (0x22 ∷ []) (0x32 ∷ [])) (UnitRef 5) tt refl (tt, (tt, (tt, tt))))
       (record { some = omega arith; bytes = (omega arith, tt); short = omega arith })
       (λ more. refl) (λ more. refl) (λ fault e. cc) (λ more. refl) (λ more. refl) (λ more. refl) (λ more. refl);
   location =
-      worked (calling [] (0x93 ∷ 0x04 ∷ []) (0x50 ∷ [])) [] []
+      worked (call_site [] (0x93 ∷ 0x04 ∷ []) (0x50 ∷ [])) [] []
       [] [] (pieced (word_at (InRegister 0) ∷ []))
-      (stands_in plain (calling [] (0x93 ∷ 0x04 ∷ []) (0x50 ∷ [])) (UnitRef 5) tt refl (tt, (tt, tt)))
+      (stands_in plain (call_site [] (0x93 ∷ 0x04 ∷ []) (0x50 ∷ [])) (UnitRef 5) tt refl (tt, (tt, tt)))
       (record { some = omega arith; bytes = (omega arith, tt); short = omega arith })
       (λ more. refl) (λ more. refl) (λ fault e. cc) (λ more. refl) (λ more. refl) (λ more. refl) (λ more. refl);
   asks =
-      worked (calling [] (0x9c ∷ 0x22 ∷ []) (0x9c ∷ [])) [] (given unset (CfaAnswer 1 ∷ CfaAnswer 2 ∷ []))
+      worked (call_site [] (0x9c ∷ 0x22 ∷ []) (0x9c ∷ [])) [] (given unset (CfaAnswer 1 ∷ CfaAnswer 2 ∷ []))
       [] (RequiresCallFrameCfa ∷ RequiresCallFrameCfa ∷ []) (valued 3 3)
-      (stands_in plain (calling [] (0x9c ∷ 0x22 ∷ []) (0x9c ∷ [])) (UnitRef 5) tt refl (tt, (tt, (tt, tt))))
+      (stands_in plain (call_site [] (0x9c ∷ 0x22 ∷ []) (0x9c ∷ [])) (UnitRef 5) tt refl (tt, (tt, (tt, tt))))
       (record { some = omega arith; bytes = (omega arith, tt); short = omega arith })
       (λ more. refl) (λ more. refl) (λ fault e. cc) (λ more. refl) (λ more. refl) (λ more. refl) (λ more. refl);
   branches =
-      worked (calling (0x31 ∷ []) (0x22 ∷ []) (0x32 ∷ 0x2f ∷ 0x01 ∷ 0x00 ∷ 0xff ∷ [])) [] []
+      worked (call_site (0x31 ∷ []) (0x22 ∷ []) (0x32 ∷ 0x2f ∷ 0x01 ∷ 0x00 ∷ 0xff ∷ [])) [] []
       [] [] (valued 3 3)
-      (stands_in plain (calling (0x31 ∷ []) (0x22 ∷ []) (0x32 ∷ 0x2f ∷ 0x01 ∷ 0x00 ∷ 0xff ∷ [])) (UnitRef 5) tt refl
+      (stands_in plain (call_site (0x31 ∷ []) (0x22 ∷ []) (0x32 ∷ 0x2f ∷ 0x01 ∷ 0x00 ∷ 0xff ∷ [])) (UnitRef 5) tt refl
       (tt, (tt, (tt, tt))))
       (record {
         some = omega arith;
@@ -53,10 +53,10 @@ returns c = record {
       })
       (λ more. refl) (λ more. refl) (λ fault e. cc) (λ more. refl) (λ more. refl) (λ more. refl) (λ more. refl);
   asked_before =
-      worked (calling (0x9c ∷ []) (0x9c ∷ 0x22 ∷ []) (0x32 ∷ 0x22 ∷ [])) (given unset (CfaAnswer 1 ∷ []))
+      worked (call_site (0x9c ∷ []) (0x9c ∷ 0x22 ∷ []) (0x32 ∷ 0x22 ∷ [])) (given unset (CfaAnswer 1 ∷ []))
       (given unset (CfaAnswer 2 ∷ []))
       (RequiresCallFrameCfa ∷ []) (RequiresCallFrameCfa ∷ []) (valued 5 5)
-      (stands_in plain (calling (0x9c ∷ []) (0x9c ∷ 0x22 ∷ []) (0x32 ∷ 0x22 ∷ [])) (UnitRef 5) tt refl (tt, (tt, (tt, (tt, tt)))))
+      (stands_in plain (call_site (0x9c ∷ []) (0x9c ∷ 0x22 ∷ []) (0x32 ∷ 0x22 ∷ [])) (UnitRef 5) tt refl (tt, (tt, (tt, (tt, tt)))))
       (record { some = omega arith; bytes = (omega arith, (omega arith, tt)); short = omega arith })
       (λ more. refl) (λ more. refl) (λ fault e. cc) (λ more. refl) (λ more. refl) (λ more. refl) (λ more. refl);
 }

@@ -6,26 +6,26 @@ use Rattle.dwarf_value.specs.Values.{type_of, bit_size_of, is_signed, is_same, w
 use Rattle.dwarf_meaning.specs.Operations.{UnitRef}
 use Rattle.dwarf_meaning.specs.Locations.{AtAddress}
 use Rattle.dwarf_meaning.specs.Requests.{RequiresCallFrameCfa, RequiresAtLocation, CfaAnswer, LocationAnswer}
-use Rattle.dwarf_meaning.specs.Acts.{choose, on_top, on_some, on_answer, answer_of, act, use_of}
+use Rattle.dwarf_meaning.specs.Acts.{choose, on_top, on_some, on_result, result_of, act, use_of}
 use Rattle.dwarf_meaning.specs.Decoding.{operation_at}
 use Rattle.dwarf_meaning.specs.Opcodes.{row_of}
-use Rattle.dwarf_meaning.specs.Stores.{Never, push_value, push_piece, push_frame}
+use Rattle.dwarf_meaning.specs.Stores.{Never, push_value, push_piece, push_caller}
 use Rattle.dwarf_meaning.specs.Run.{most, run_for}
-use Rattle.dwarf_meaning.specs.Meaning.{Requests, Faults}
+use Rattle.dwarf_meaning.specs.Meaning.{RequestOutcome, FaultOutcome}
 use Rattle.dwarf_meaning.specs.Rows.{text, no_limits, with_limits, plain, at_most, unset, given, calls, open_at, word_at, valued, pieced}
 use Rattle.dwarf_meaning.proofs.FewTurns.{in_twenty}
 use Rattle.dwarf_laws.proofs.Apart.{end_ended, number_of}
 use Rattle.dwarf_laws.proofs.rows.premises_of_inlining.Goals as goal
 
 pub returns : goal.returns
-unfolding uleb_at sleb_at fixed_at type_of bit_size_of is_signed is_same word_integer integer_of value_of choose on_top on_some on_answer answer_of act use_of operation_at row_of push_value push_piece push_frame most run_for
+unfolding uleb_at sleb_at fixed_at type_of bit_size_of is_signed is_same word_integer integer_of value_of choose on_top on_some on_result result_of act use_of operation_at row_of push_value push_piece push_caller most run_for
 returns c = record {
-  frames_have_a_limit = record {
+  callers_have_a_limit = record {
     outer_comes =
-        in_twenty (with_limits (record no_limits { frames = Some 0 })) Never (text (0x98 ∷ 0x05 ∷ 0x00 ∷ [])) unset
-        (given unset (calls (0x31 ∷ []) ∷ [])) (Faults StackFull) (λ more. refl);
+        in_twenty (with_limits (record no_limits { callers = Some 0 })) Never (text (0x98 ∷ 0x05 ∷ 0x00 ∷ [])) unset
+        (given unset (calls (0x31 ∷ []) ∷ [])) (FaultOutcome StackFull) (λ more. refl);
     inlined_comes =
-        in_twenty (with_limits (record no_limits { frames = Some 0 })) Never (text (0x31 ∷ [])) unset [] (valued 1 1)
+        in_twenty (with_limits (record no_limits { callers = Some 0 })) Never (text (0x31 ∷ [])) unset [] (valued 1 1)
         (λ more. refl);
     differ = λ h. end_ended _ _ h;
   };
@@ -33,18 +33,18 @@ returns c = record {
     outer_comes =
         in_twenty plain Never (text (0x98 ∷ 0x05 ∷ 0x00 ∷ 0x2f ∷ 0xfa ∷ 0xff ∷ [])) unset
         (given unset (calls (0x31 ∷ []) ∷ []))
-        (Requests (RequiresAtLocation (UnitRef 5)) (open_at (0x98 ∷ 0x05 ∷ 0x00 ∷ 0x2f ∷ 0xfa ∷ 0xff ∷ []) 3 ∷ []))
+        (RequestOutcome (RequiresAtLocation (UnitRef 5)) (open_at (0x98 ∷ 0x05 ∷ 0x00 ∷ 0x2f ∷ 0xfa ∷ 0xff ∷ []) 3 ∷ []))
         (λ more. refl);
     inlined_comes =
         in_twenty plain Never (text (0x31 ∷ 0x2f ∷ 0xfa ∷ 0xff ∷ [])) unset []
-        (Faults (BadBranchTarget 0xfffffffffffffffe)) (λ more. refl);
+        (FaultOutcome (BadBranchTarget 0xfffffffffffffffe)) (λ more. refl);
     differ = λ h. end_ended _ _ h;
   };
   callee_is_empty = record {
     outer_comes =
         in_twenty plain Never (text (0x31 ∷ 0x93 ∷ 0x04 ∷ 0x31 ∷ 0x98 ∷ 0x05 ∷ 0x00 ∷ [])) unset
         (given unset (calls [] ∷ [])) (pieced (word_at (AtAddress 1) ∷ [])) (λ more. refl);
-    inlined_comes = in_twenty plain Never (text (0x31 ∷ 0x93 ∷ 0x04 ∷ 0x31 ∷ [])) unset [] (Faults InvalidPiece) (λ more. refl);
+    inlined_comes = in_twenty plain Never (text (0x31 ∷ 0x93 ∷ 0x04 ∷ 0x31 ∷ [])) unset [] (FaultOutcome InvalidPiece) (λ more. refl);
     differ = λ h. end_ended _ _ h;
   };
   callee_in_the_other_order = record {
@@ -61,14 +61,14 @@ returns c = record {
         (given (at_most 3) (calls (0x2f ∷ 0x00 ∷ 0x00 ∷ []) ∷ [])) (valued 1 1) (λ more. refl);
     inlined_comes =
         in_twenty (record plain { offset_bits = 2 }) Never (text (0x31 ∷ 0x2f ∷ 0x00 ∷ 0x00 ∷ [])) (at_most 3) []
-        (Faults TooManyIterations) (λ more. refl);
+        (FaultOutcome TooManyIterations) (λ more. refl);
     differ = λ h. end_ended _ _ h;
   };
   call_is_not_reached = record {
     outer_comes =
         in_twenty plain Never (text (0x9c ∷ 0x98 ∷ 0x05 ∷ 0x00 ∷ [])) unset
         (given unset (calls (0x31 ∷ []) ∷ CfaAnswer 0 ∷ []))
-        (Requests RequiresCallFrameCfa (open_at (0x9c ∷ 0x98 ∷ 0x05 ∷ 0x00 ∷ []) 1 ∷ [])) (λ more. refl);
+        (RequestOutcome RequiresCallFrameCfa (open_at (0x9c ∷ 0x98 ∷ 0x05 ∷ 0x00 ∷ []) 1 ∷ [])) (λ more. refl);
     inlined_comes =
         in_twenty plain Never (text (0x9c ∷ 0x31 ∷ [])) unset (given unset (CfaAnswer 0 ∷ [])) (valued 1 1) (λ more. refl);
     differ = λ h. end_ended _ _ h;
@@ -77,20 +77,20 @@ returns c = record {
     outer_comes =
         in_twenty plain Never (text (0x98 ∷ 0x05 ∷ 0x00 ∷ [])) (at_most 1)
         (given (at_most 3) (calls (0x31 ∷ 0x96 ∷ []) ∷ [])) (valued 1 1) (λ more. refl);
-    inlined_comes = in_twenty plain Never (text (0x31 ∷ 0x96 ∷ [])) (at_most 1) [] (Faults TooManyIterations) (λ more. refl);
+    inlined_comes = in_twenty plain Never (text (0x31 ∷ 0x96 ∷ [])) (at_most 1) [] (FaultOutcome TooManyIterations) (λ more. refl);
     differ = λ h. end_ended _ _ h;
   };
   object_is_set_at_the_answer = record {
     outer_comes =
         in_twenty plain Never (text (0x98 ∷ 0x05 ∷ 0x00 ∷ [])) unset
         (given (record unset { object_address = Some 7 }) (calls (0x97 ∷ []) ∷ [])) (valued 7 7) (λ more. refl);
-    inlined_comes = in_twenty plain Never (text (0x97 ∷ [])) unset [] (Faults InvalidPushObjectAddress) (λ more. refl);
+    inlined_comes = in_twenty plain Never (text (0x97 ∷ [])) unset [] (FaultOutcome InvalidPushObjectAddress) (λ more. refl);
     differ = λ h. end_ended _ _ h;
   };
   outer_run_meets_a_fault = record {
     outer_comes =
         in_twenty plain Never (text (0x98 ∷ 0x05 ∷ 0x00 ∷ [])) (at_most 1)
-        (given (at_most 1) (calls (0x31 ∷ []) ∷ [])) (Faults TooManyIterations) (λ more. refl);
+        (given (at_most 1) (calls (0x31 ∷ []) ∷ [])) (FaultOutcome TooManyIterations) (λ more. refl);
     inlined_comes = in_twenty plain Never (text (0x31 ∷ [])) (at_most 1) [] (valued 1 1) (λ more. refl);
     differ = λ h. end_ended _ _ h;
   };

@@ -9,11 +9,11 @@ use Rattle.dwarf_value.specs.declared.types.ValueType.TheVariants as kind
 use Rattle.dwarf_meaning.specs.Operations.{UnitRef}
 use Rattle.dwarf_meaning.specs.Locations.{AtAddress, HoldsValue}
 use Rattle.dwarf_meaning.specs.Requests.{RequiresMemory, RequiresRegister, RequiresWasmLocal, RequiresWasmGlobal, RequiresWasmStack, RequiresFrameBase, RequiresTls, RequiresCallFrameCfa, RequiresAtLocation, RequiresEntryValue, RequiresParameterRef, RequiresRelocatedAddress, RequiresIndexedAddress, RequiresBaseType, MemoryAnswer, RegisterAnswer, WasmAnswer, EntryAnswer, FrameBaseAnswer, TlsAnswer, CfaAnswer, ParameterAnswer, RelocatedAnswer, IndexedAnswer, BaseTypeAnswer}
-use Rattle.dwarf_meaning.specs.Meaning.{Faults, Completes, whole}
-use Rattle.dwarf_meaning.specs.Acts.{choose, on_top, on_some, on_answer, answer_of, act, use_of}
+use Rattle.dwarf_meaning.specs.Meaning.{FaultOutcome, CompleteOutcome, whole}
+use Rattle.dwarf_meaning.specs.Acts.{choose, on_top, on_some, on_result, result_of, act, use_of}
 use Rattle.dwarf_meaning.specs.Decoding.{operation_at}
 use Rattle.dwarf_meaning.specs.Opcodes.{row_of}
-use Rattle.dwarf_meaning.specs.Stores.{Never, push_value, push_piece, push_frame}
+use Rattle.dwarf_meaning.specs.Stores.{Never, push_value, push_piece, push_caller}
 use Rattle.dwarf_meaning.specs.Run.{most, run_for}
 use Rattle.dwarf_meaning.specs.Rows.{text, no_limits, with_limits, plain, unset, calls, open_at, valued, pieced}
 use Rattle.dwarf_meaning.specs.Steps.{InitialValue, ObjectAddress}
@@ -24,7 +24,7 @@ use Rattle.dwarf_laws.proofs.Computed.{set_once, once, twice}
 use Rattle.dwarf_laws.proofs.rows.twin_rows.Goals as goal
 
 pub returns : goal.returns
-unfolding uleb_at sleb_at fixed_at type_of bit_size_of is_signed is_same word_integer integer_of value_of choose on_top on_some on_answer answer_of act use_of operation_at row_of push_value push_piece push_frame most run_for
+unfolding uleb_at sleb_at fixed_at type_of bit_size_of is_signed is_same word_integer integer_of value_of choose on_top on_some on_result result_of act use_of operation_at row_of push_value push_piece push_caller most run_for
 returns c = record {
   frame_address = record {
     agree = more evaluate (more (resume (cfa refl)) none);
@@ -185,32 +185,32 @@ returns c = record {
     agree = more evaluate (more (resume (cfa refl)) (more (resume base_type) none));
     one = twice plain (0x9c ∷ 0xa9 ∷ 0x09 ∷ []) RequiresCallFrameCfa (RequiresBaseType 9)
         (open_at (0x9c ∷ 0xa9 ∷ 0x09 ∷ []) 1 ∷ []) (open_at (0x9c ∷ 0xa9 ∷ 0x09 ∷ []) 3 ∷ [])
-        (CfaAnswer 0x10) (BaseTypeAnswer kind.U32) (Completes (whole (AtAddress 0x10) ∷ []) (Some (U32 0x10))) refl
+        (CfaAnswer 0x10) (BaseTypeAnswer kind.U32) (CompleteOutcome (whole (AtAddress 0x10) ∷ []) (Some (U32 0x10))) refl
         refl (λ more. refl) (λ more. refl) (λ more. refl);
     another = twice plain (0x9c ∷ 0xa9 ∷ 0x09 ∷ []) RequiresCallFrameCfa (RequiresBaseType 9)
         (open_at (0x9c ∷ 0xa9 ∷ 0x09 ∷ []) 1 ∷ []) (open_at (0x9c ∷ 0xa9 ∷ 0x09 ∷ []) 3 ∷ [])
-        (CfaAnswer 0x100000010) (BaseTypeAnswer kind.U32) (Completes (whole (AtAddress 0x10) ∷ []) (Some (U32 0x10)))
+        (CfaAnswer 0x100000010) (BaseTypeAnswer kind.U32) (CompleteOutcome (whole (AtAddress 0x10) ∷ []) (Some (U32 0x10)))
         refl refl (λ more. refl) (λ more. refl) (λ more. refl);
   };
   converted = record {
     agree = more evaluate (more (resume (cfa refl)) (more (resume base_type) none));
     one = twice plain (0x9c ∷ 0xa8 ∷ 0x09 ∷ []) RequiresCallFrameCfa (RequiresBaseType 9)
         (open_at (0x9c ∷ 0xa8 ∷ 0x09 ∷ []) 1 ∷ []) (open_at (0x9c ∷ 0xa8 ∷ 0x09 ∷ []) 3 ∷ [])
-        (CfaAnswer 0x10) (BaseTypeAnswer kind.U64) (Completes (whole (AtAddress 0x10) ∷ []) (Some (U64 0x10))) refl
+        (CfaAnswer 0x10) (BaseTypeAnswer kind.U64) (CompleteOutcome (whole (AtAddress 0x10) ∷ []) (Some (U64 0x10))) refl
         refl (λ more. refl) (λ more. refl) (λ more. refl);
     another = twice plain (0x9c ∷ 0xa8 ∷ 0x09 ∷ []) RequiresCallFrameCfa (RequiresBaseType 9)
         (open_at (0x9c ∷ 0xa8 ∷ 0x09 ∷ []) 1 ∷ []) (open_at (0x9c ∷ 0xa8 ∷ 0x09 ∷ []) 3 ∷ [])
-        (CfaAnswer 0x100000010) (BaseTypeAnswer kind.U64) (Completes (whole (AtAddress 0x10) ∷ []) (Some (U64 0x10)))
+        (CfaAnswer 0x100000010) (BaseTypeAnswer kind.U64) (CompleteOutcome (whole (AtAddress 0x10) ∷ []) (Some (U64 0x10)))
         refl refl (λ more. refl) (λ more. refl) (λ more. refl);
   };
   full_stack = record {
     agree = more evaluate (more (resume (cfa refl)) none);
     one = once (with_limits (record no_limits { values = Some 1 })) (0x9c ∷ 0x31 ∷ []) RequiresCallFrameCfa
         (open_at (0x9c ∷ 0x31 ∷ []) 1 ∷ [])
-        (CfaAnswer 0x10) (Faults StackFull) refl (λ more. refl) (λ more. refl);
+        (CfaAnswer 0x10) (FaultOutcome StackFull) refl (λ more. refl) (λ more. refl);
     another = once (with_limits (record no_limits { values = Some 1 })) (0x9c ∷ 0x31 ∷ []) RequiresCallFrameCfa
         (open_at (0x9c ∷ 0x31 ∷ []) 1 ∷ [])
-        (CfaAnswer 0x100000010) (Faults StackFull) refl (λ more. refl) (λ more. refl);
+        (CfaAnswer 0x100000010) (FaultOutcome StackFull) refl (λ more. refl) (λ more. refl);
   };
   object_address = record {
     agree = more (agreeing.object_address refl) (more evaluate none);

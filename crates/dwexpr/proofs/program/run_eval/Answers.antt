@@ -1,5 +1,5 @@
 use Rattle.std.proofs.Common.{refl, inl, inr}
-use Rattle.dwexpr.specs.Runs.{no_memory, unread}
+use Rattle.dwexpr.specs.Endings.{no_memory, unread}
 use Rattle.dwexpr.proofs.Fronts.{appends_nothing}
 use Rattle.dwexpr.proofs.program.run_eval.Goals as goal
 

@@ -1,8 +1,8 @@
 use Rattle.std.proofs.Common.{refl, inl, inr, ◌∙◌, ap, map}
 use Rattle.dwarf_base.specs.ByteOrder.{is_big_of}
 use Rattle.dwarf_replay.specs.Replays.{steps_of}
-use Rattle.dwexpr.specs.Evaluates.{refused_steps}
-use Rattle.dwexpr.specs.Runs.{no_memory}
+use Rattle.dwexpr.specs.Evaluates.{bad_steps}
+use Rattle.dwexpr.specs.Endings.{no_memory}
 use Rattle.dwexpr.specs.Steps.{step_owned}
 use Rattle.dwexpr.specs.Writing.{text_in}
 use Rattle.dwexpr.proofs.RunLemmas.{follows_refused, follows_steps}
@@ -13,7 +13,7 @@ returns g c = (no_memory, inr refl, c.no_memory.ensures)
 
 pub returns-in-Err : goal.returns-in-Err
 returns-in-Err g c = (
-  refused_steps c.in-Err.fault,
+  bad_steps c.in-Err.fault,
   follows_refused (is_big_of c.args.reading.order) _ _ _ g.row.A.Denot g.row.A.Denot c.in-Err.fault (c.in-Err.ensures (is_big_of c.args.reading.order)),
   c.refuse_steps.ensures,
 )

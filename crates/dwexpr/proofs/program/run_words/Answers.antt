@@ -1,7 +1,7 @@
 use Rattle.std.proofs.Common.{Some, None, Err, sym, ◌∙◌, ap, refl, arith, map, string_bytes}
 use Rattle.dwarf_base.specs.ByteOrder.{is_big_of}
 use Rattle.dwexpr.specs.Lines.{listing_of}
-use Rattle.dwexpr.specs.Runs.{bad_words, listed, no_memory}
+use Rattle.dwexpr.specs.Endings.{bad_words, listed, no_memory}
 use Rattle.dwexpr.specs.Words.{bytes_in, command_in}
 use Rattle.dwexpr.specs.declared.words.Command.TheVariants.{Ops, Eval}
 use Rattle.dwexpr.proofs.EndLemmas.{asked_of, ends_asked, ends_bad_words, ends_without_memory, lacks_bytes, lacks_reading, not_six, reading_as, six_words}

@@ -1,6 +1,6 @@
 use Rattle.std.proofs.Common.{sym, ◌∙◌}
 use Rattle.dwarf_base.specs.Faults.{InvalidPiece}
-use Rattle.dwarf_meaning.specs.Meaning.{Faults, finish_value}
+use Rattle.dwarf_meaning.specs.Meaning.{FaultOutcome, finish_value}
 use Rattle.dwarf_machine.proofs.Finishing.{mixed, closes_else}
 use Rattle.dwarf_machine.proofs.machine.Machine.finish_judged.Goals as goal
 
@@ -9,4 +9,4 @@ returns-then-has_pieces g c = mixed 0 (finish_value c.args.self.now.setup) c.arg
 
 pub returns : goal.returns
 returns g c =
-    closes_else 0 (λ s. Faults InvalidPiece) (finish_value c.args.self.now.setup) c.args.self.now c.finish_value.new.self (sym c.has_pieces.ensures ∙ c.if-has_pieces.false) c.finish_value.ensures
+    closes_else 0 (λ s. FaultOutcome InvalidPiece) (finish_value c.args.self.now.setup) c.args.self.now c.finish_value.new.self (sym c.has_pieces.ensures ∙ c.if-has_pieces.false) c.finish_value.ensures

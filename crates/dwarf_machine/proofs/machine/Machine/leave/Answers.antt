@@ -6,10 +6,10 @@ use Rattle.dwarf_machine.specs.inner.Steps.{GoesBack, Closes}
 use Rattle.dwarf_machine.proofs.Finishing.{back_turned, finish_turns}
 use Rattle.dwarf_machine.proofs.machine.Machine.leave.Goals as goal
 
-pub returns-else-not-pop_frame : goal.returns-else-not-pop_frame
-returns-else-not-pop_frame g c = back_turned c.args.self.now c.requires.runs c.requires.ends c.pop_frame.new.self (subst (λ (b : Bool). GoesBack b c.args.self.now c.pop_frame.new.self) c.if-not-pop_frame.false c.pop_frame.ensures)
+pub returns-else-not-pop_caller : goal.returns-else-not-pop_caller
+returns-else-not-pop_caller g c = back_turned c.args.self.now c.requires.runs c.requires.ends c.pop_caller.new.self (subst (λ (b : Bool). GoesBack b c.args.self.now c.pop_caller.new.self) c.if-not-pop_caller.false c.pop_caller.ensures)
 
-pub returns-then-not-pop_frame : goal.returns-then-not-pop_frame
-returns-then-not-pop_frame g c =
-    let h = subst (λ (b : Bool). GoesBack b c.args.self.now c.pop_frame.new.self) c.if-not-pop_frame.true c.pop_frame.ensures in
+pub returns-then-not-pop_caller : goal.returns-then-not-pop_caller
+returns-then-not-pop_caller g c =
+    let h = subst (λ (b : Bool). GoesBack b c.args.self.now c.pop_caller.new.self) c.if-not-pop_caller.true c.pop_caller.ensures in
     finish_turns c.args.self.now c.requires.runs c.requires.ends c.finish.new.self h.0 (subst (λ (z : State). Closes (waits_of z.store.last) (finish z.setup) z c.finish.new.self) h.1 c.finish.ensures)

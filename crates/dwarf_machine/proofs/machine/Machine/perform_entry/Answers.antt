@@ -2,7 +2,7 @@ use Rattle.std.proofs.Common.{ℕ, ℤ, FitsSigned, None, of_z, refl, rules, sub
 use Rattle.std.proofs.lemmas.Int.{to_z-of_z}
 use Rattle.std.proofs.lemmas.Result.{err_from_is_err_and}
 use Rattle.dwarf_value.specs.declared.types.Value.TheVariants.{Generic}
-use Rattle.dwarf_meaning.specs.Acts.{Asks, Locates, act, push}
+use Rattle.dwarf_meaning.specs.Acts.{RequestAct, Locates, act, push}
 use Rattle.dwarf_meaning.specs.Locations.{InRegister}
 use Rattle.dwarf_meaning.specs.Operands.{context_of, Fixed, SignedLeb128}
 use Rattle.dwarf_meaning.specs.Operations as operation
@@ -82,9 +82,9 @@ returns-in_ok-offset-in-BaseRegister-clause-performs g c =
     let fits : FitsSigned w64 c.in_ok-offset-in-BaseRegister.offset = search rules in
     rw (c.in-BaseRegister.is)
     (read_done (operation.RegisterOffset c.in-BaseRegister.register c.in_ok-offset-in-BaseRegister.offset 0) _ (g.R.Reader.bytes c.read_sleb128.new.bytes) c.args.self.now c.ask.new.self
-    (signed_made (context_of c.args.encoding g.R.Offset.ReaderOffset.BITS (g.R.Reader.is_big c.args.left.now)) SignedLeb128 (λ offset. operation.RegisterOffset c.in-BaseRegister.register offset 0) _ _ _ c.in_ok-offset-in-BaseRegister.ensures.value) (tt) (subst (λ (base_type : ℕ). Performs (Asks c.args.self.now.store.values (RequiresRegister c.in-BaseRegister.register base_type) (asked.Register c.in_ok-offset-in-BaseRegister.offset)) c.args.self.now c.ask.new.self) c.generic_type-in-BaseRegister.ensures
-    (subst (λ (offset : ℤ). Performs (Asks c.args.self.now.store.values (RequiresRegister c.in-BaseRegister.register (g.R.Offset.ReaderOffset.number c.generic_type-in-BaseRegister.result.0)) (asked.Register offset)) c.args.self.now c.ask.new.self) (to_z-of_z w64 c.in_ok-offset-in-BaseRegister.offset fits)
-    (subst (λ (register : ℕ). Performs (Asks c.args.self.now.store.values (RequiresRegister register (g.R.Offset.ReaderOffset.number c.generic_type-in-BaseRegister.result.0)) (asked.Register (to_z w64 (of_z w64 c.in_ok-offset-in-BaseRegister.offset)))) c.args.self.now c.ask.new.self) c.from-in-BaseRegister.ensures c.ask.ensures))))
+    (signed_made (context_of c.args.encoding g.R.Offset.ReaderOffset.BITS (g.R.Reader.is_big c.args.left.now)) SignedLeb128 (λ offset. operation.RegisterOffset c.in-BaseRegister.register offset 0) _ _ _ c.in_ok-offset-in-BaseRegister.ensures.value) (tt) (subst (λ (base_type : ℕ). Performs (RequestAct c.args.self.now.store.values (RequiresRegister c.in-BaseRegister.register base_type) (asked.Register c.in_ok-offset-in-BaseRegister.offset)) c.args.self.now c.ask.new.self) c.generic_type-in-BaseRegister.ensures
+    (subst (λ (offset : ℤ). Performs (RequestAct c.args.self.now.store.values (RequiresRegister c.in-BaseRegister.register (g.R.Offset.ReaderOffset.number c.generic_type-in-BaseRegister.result.0)) (asked.Register offset)) c.args.self.now c.ask.new.self) (to_z-of_z w64 c.in_ok-offset-in-BaseRegister.offset fits)
+    (subst (λ (register : ℕ). Performs (RequestAct c.args.self.now.store.values (RequiresRegister register (g.R.Offset.ReaderOffset.number c.generic_type-in-BaseRegister.result.0)) (asked.Register (to_z w64 (of_z w64 c.in_ok-offset-in-BaseRegister.offset)))) c.args.self.now c.ask.new.self) c.from-in-BaseRegister.ensures c.ask.ensures))))
 
 pub returns-in_ok-size_in_bits-in-Piece-clause-performs : goal.returns-in_ok-size_in_bits-in-Piece-clause-performs
 returns-in_ok-size_in_bits-in-Piece-clause-performs g c =

@@ -1,7 +1,7 @@
 use Rattle.std.proofs.Common.{ℕ, ℤ, FitsSigned, pos, Some, refl, rules, subst, w64}
 use Rattle.std.proofs.lemmas.Int.{to_z-of_z}
 use Rattle.std.proofs.lemmas.Result.{err_from_is_err_and}
-use Rattle.dwarf_meaning.specs.Acts.{Asks, Locates, act}
+use Rattle.dwarf_meaning.specs.Acts.{RequestAct, Locates, act}
 use Rattle.dwarf_meaning.specs.Locations.{PointsInto}
 use Rattle.dwarf_meaning.specs.Operations as operation
 use Rattle.dwarf_meaning.specs.Requests.{RequiresRegister}
@@ -35,8 +35,8 @@ returns-in_ok-register-in-NamedBaseRegister-clause-performs g c =
     let fits : FitsSigned w64 c.in_ok-register-in-NamedBaseRegister.offset = search rules in
     rw (c.in-NamedBaseRegister.is)
     (read_done (operation.RegisterOffset c.in_ok-register-in-NamedBaseRegister.register.0 c.in_ok-register-in-NamedBaseRegister.offset 0) _ (g.R.Reader.bytes c.read_named_base_register.new.bytes) c.args.self.now c.ask.new.self
-    (c.in_ok-register-in-NamedBaseRegister.ensures.value c.args.encoding) tt (subst (λ (base_type : ℕ). Performs (Asks c.args.self.now.store.values (RequiresRegister c.in_ok-register-in-NamedBaseRegister.register.0 base_type) (asked.Register c.in_ok-register-in-NamedBaseRegister.offset)) c.args.self.now c.ask.new.self) c.generic_type.ensures
-    (subst (λ (offset : ℤ). Performs (Asks c.args.self.now.store.values (RequiresRegister c.in_ok-register-in-NamedBaseRegister.register.0 (g.R.Offset.ReaderOffset.number c.generic_type.result.0)) (asked.Register offset)) c.args.self.now c.ask.new.self) (to_z-of_z w64 c.in_ok-register-in-NamedBaseRegister.offset fits) c.ask.ensures)))
+    (c.in_ok-register-in-NamedBaseRegister.ensures.value c.args.encoding) tt (subst (λ (base_type : ℕ). Performs (RequestAct c.args.self.now.store.values (RequiresRegister c.in_ok-register-in-NamedBaseRegister.register.0 base_type) (asked.Register c.in_ok-register-in-NamedBaseRegister.offset)) c.args.self.now c.ask.new.self) c.generic_type.ensures
+    (subst (λ (offset : ℤ). Performs (RequestAct c.args.self.now.store.values (RequiresRegister c.in_ok-register-in-NamedBaseRegister.register.0 (g.R.Offset.ReaderOffset.number c.generic_type.result.0)) (asked.Register offset)) c.args.self.now c.ask.new.self) (to_z-of_z w64 c.in_ok-register-in-NamedBaseRegister.offset fits) c.ask.ensures)))
 
 pub returns-in_ok-register-in-TypedRegister-clause-performs : goal.returns-in_ok-register-in-TypedRegister-clause-performs
 unfolding act

@@ -22,4 +22,4 @@ returns g c =
     let text = text_of g.R.Reader.bytes g.R.Reader.is_big c.args.callee in
     let some = some_bytes text.bytes (sym c.is_empty.ensures ∙ c.if-is_empty.false) in
     text_takes c.args.self.now now.request now.waiting now.is (LocationAnswer text) text some.0 some.1 (location_calls _ c.args.self.now.store.values now.waiting text now.fits) some.2
-    c.enter.new.self c.push_frame.new.self c.push_frame.result c.enter.ensures c.push_frame.ensures
+    c.enter.new.self c.push_caller.new.self c.push_caller.result c.enter.ensures c.push_caller.ensures

@@ -1,4 +1,0 @@
-use Rattle.dwarf_eval.proofs.eval.calls.Evaluation.resume_with_wasm_value.Goals as goal
-
-pub returns : goal.returns
-returns g c = c.resume.ensures

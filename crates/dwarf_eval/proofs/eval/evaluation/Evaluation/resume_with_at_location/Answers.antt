@@ -1,0 +1,4 @@
+use Rattle.dwarf_eval.proofs.eval.evaluation.Evaluation.resume_with_at_location.Goals as goal
+
+pub returns : goal.returns
+returns g c = c.resume.ensures

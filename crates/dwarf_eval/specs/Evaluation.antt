@@ -1,0 +1,167 @@
+-- What a call of an evaluation replies: the nested meaning, and what is left of it.
+pub use Rattle.dwarf_machine.specs.Inputs.{HasFreeList, MayPick, before_input, input_of, Keeps, with_status, first_of, IsFresh, most_iterations, with_object, with_maximum}
+use Rattle.std.specs.Prelude.{ℕ, zero, suc, ◌≡◌, ◌+◌, List, [], ◌∷◌, Option, Result, Ok, Err, length}
+use Rattle.dwarf_base.specs.declared.errors.Error.{Error}
+use Rattle.dwarf_base.specs.Faults.{fault_of}
+use Rattle.dwarf_value.specs.declared.types.Value.{Value}
+use Rattle.dwarf_meaning.specs.Operations.{Text}
+use Rattle.dwarf_meaning.specs.Requests as asked
+use Rattle.dwarf_meaning.specs.Requests.{Input}
+use Rattle.dwarf_meaning.specs.Stores.{Refusal, Never, After}
+use Rattle.dwarf_meaning.specs.Run.{Position}
+use Rattle.dwarf_meaning.specs.Meaning.{Outcome, course_of, meaning}
+use Rattle.dwarf_meaning.specs.Rest.{State, Status, Start, Running, RequestStatus, CompleteStatus, FaultStatus, rest}
+use Rattle.dwarf_meaning.specs.Steps.{Reply, CompleteReply, RequestReply, FaultReply, reply}
+use Rattle.dwarf_op.specs.Views.{reference_of}
+use Rattle.dwarf_eval.specs.Bounds.{Spends}
+use Rattle.dwarf_eval.specs.Paths.{path}
+use Rattle.dwarf_eval.specs.declared.op.results.EvaluationResult.{EvaluationResult}
+use Rattle.dwarf_eval.specs.declared.op.results.EvaluationResult.TheVariants as result
+
+-- what comes of a state and its next input
+abbrev pub after_input : State → Input → Refusal → List Input → Outcome
+after_input x input r inputs = rest (before_input r) x (input ∷ inputs)
+
+-- it waits or is complete
+abbrev pub IsOpen : Status → Type 0
+IsOpen (RequestStatus request waiting) = Unit {0}
+IsOpen (CompleteStatus value) = Unit {0}
+IsOpen Running = ⊥
+IsOpen (Start initial_value) = ⊥
+IsOpen (FaultStatus error) = ⊥
+
+-- ---- replies
+
+-- the reply of a result: the request that it names, or completion
+abbrev pub ok_reply : {R O P : Type 0} → (R → Text) → (O → ℕ) → EvaluationResult R O P → Reply
+ok_reply text number result.Complete = CompleteReply
+ok_reply text number (result.RequiresMemory address size space base_type) = RequestReply (asked.RequiresMemory address size space (number base_type.0))
+ok_reply text number (result.RequiresRegister register base_type) = RequestReply (asked.RequiresRegister register.0 (number base_type.0))
+ok_reply text number (result.RequiresWasmLocal index) = RequestReply (asked.RequiresWasmLocal index)
+ok_reply text number (result.RequiresWasmGlobal index) = RequestReply (asked.RequiresWasmGlobal index)
+ok_reply text number (result.RequiresWasmStack index) = RequestReply (asked.RequiresWasmStack index)
+ok_reply text number result.RequiresFrameBase = RequestReply asked.RequiresFrameBase
+ok_reply text number (result.RequiresTls index) = RequestReply (asked.RequiresTls index)
+ok_reply text number result.RequiresCallFrameCfa = RequestReply asked.RequiresCallFrameCfa
+ok_reply text number (result.RequiresAtLocation offset) = RequestReply (asked.RequiresAtLocation (reference_of number offset))
+ok_reply text number (result.RequiresEntryValue expression) = RequestReply (asked.RequiresEntryValue (text expression.0))
+ok_reply text number (result.RequiresParameterRef offset) = RequestReply (asked.RequiresParameterRef (number offset.0))
+ok_reply text number (result.RequiresRelocatedAddress address) = RequestReply (asked.RequiresRelocatedAddress address)
+ok_reply text number (result.RequiresIndexedAddress index relocate) = RequestReply (asked.RequiresIndexedAddress (number index.0) relocate)
+ok_reply text number (result.RequiresBaseType base_type) = RequestReply (asked.RequiresBaseType (number base_type.0))
+
+-- the reply of a call: a result's, or a fault
+abbrev pub reply_of : {R O P : Type 0} → (R → Text) → (O → ℕ) → Result (EvaluationResult R O P) Error → Reply
+reply_of text number (Ok replied) = ok_reply text number replied
+reply_of text number (Err error) = FaultReply (fault_of error)
+
+-- the status is that of the reply
+abbrev pub IsReplied : Reply → Status → Type 0
+IsReplied replied (RequestStatus request waiting) = replied ≡ RequestReply request
+IsReplied replied (CompleteStatus value) = replied ≡ CompleteReply
+IsReplied replied (FaultStatus error) = replied ≡ FaultReply (fault_of error)
+IsReplied replied (Start initial_value) = ⊥
+IsReplied replied Running = ⊥
+
+-- no push is refused before the next input is taken
+abbrev pub IsLater : Refusal → Type 0
+IsLater Never = Unit {0}
+IsLater (After zero pushes) = ⊥
+IsLater (After (suc inputs) pushes) = Unit {0}
+
+-- A call replied what `outcomes` gives for some refusal, or for none; and as long as it isn't over, what is
+-- left of the new state is what `outcomes` gives, for all inputs to come.
+pub record Follows (old : State) (outcomes : Refusal → List Input → Outcome) (replied : Reply) (new : State) : Type 0 where
+  pub refusal : Refusal
+  pub may : MayPick old.setup.limits refusal
+  pub reply : replied ≡ reply (outcomes refusal [])
+  pub status : IsReplied replied new.status
+  pub more : IsOpen new.status → (r : Refusal) (inputs : List Input) → IsLater r → outcomes r inputs ≡ rest r new inputs
+  pub kept : IsOpen new.status → Keeps old new
+  pub spends : Spends old new
+
+-- The same call counts what `paths` gives: for some refusal, or for none, it replies what `outcomes` gives and
+-- counts as many operations as there are on the path; and the inputs to come count what is left of the path.
+pub record Counts (old : State) (outcomes : Refusal → List Input → Outcome) (paths : Refusal → List Input → List Position) (replied : Reply) (new : State) : Type 0 where
+  pub refusal : Refusal
+  pub may : MayPick old.setup.limits refusal
+  pub reply : replied ≡ reply (outcomes refusal [])
+  pub count : new.store.count ≡ old.store.count + length (paths refusal [])
+  pub more : IsOpen new.status → (r : Refusal) (inputs : List Input) → IsLater r → old.store.count + length (paths r inputs) ≡ new.store.count + length (path r new inputs)
+
+-- the meaning of a fresh evaluation, with this initial value
+abbrev pub means : State → Option ℕ → Refusal → List Input → Outcome
+means x initial_value r inputs = meaning x.setup r x.text (first_of x initial_value) inputs
+
+-- the path of the meaning
+abbrev pub means_path : State → Option ℕ → Refusal → List Input → List Position
+means_path x initial_value r inputs = (course_of x.setup r x.text (first_of x initial_value) inputs).path
+
+-- the path behind a state and its next input
+abbrev pub path_after : State → Input → Refusal → List Input → List Position
+path_after x input r inputs = path (before_input r) x (input ∷ inputs)
+
+-- `evaluate`: at the start it replies the meaning; after that it replies what it replied, and changes nothing
+abbrev pub Evaluates : {R O P : Type 0} → (R → Text) → (O → ℕ) → State → State → Result (EvaluationResult R O P) Error → Status → Type 0
+Evaluates text number old new replied (Start initial_value) = Follows old (means old initial_value) (reply_of text number replied) new
+Evaluates text number old new replied (CompleteStatus value) = (replied ≡ Ok result.Complete) × (new ≡ old)
+Evaluates text number old new replied (FaultStatus error) = (replied ≡ Err error) × (new ≡ old)
+Evaluates text number old new replied (RequestStatus request waiting) = Unit {0}
+Evaluates text number old new replied Running = Unit {0}
+
+-- `evaluate` counts the operations on the path of the meaning, and after the start none
+abbrev pub EvaluatesPath : State → State → Reply → Status → Type 0
+EvaluatesPath old new replied (Start initial_value) = Counts old (means old initial_value) (means_path old initial_value) replied new
+EvaluatesPath old new replied (CompleteStatus value) = new ≡ old
+EvaluatesPath old new replied (FaultStatus error) = new ≡ old
+EvaluatesPath old new replied (RequestStatus request waiting) = Unit {0}
+EvaluatesPath old new replied Running = Unit {0}
+
+-- a resume: it goes on with the input; after a fault it replies that, and changes nothing
+abbrev pub Resumes : {R O P : Type 0} → (R → Text) → (O → ℕ) → Input → State → State → Result (EvaluationResult R O P) Error → Status → Type 0
+Resumes text number input old new replied (RequestStatus request waiting) = Follows old (after_input old input) (reply_of text number replied) new
+Resumes text number input old new replied (FaultStatus error) = (replied ≡ Err error) × (new ≡ old)
+Resumes text number input old new replied (Start initial_value) = Unit {0}
+Resumes text number input old new replied (CompleteStatus value) = Unit {0}
+Resumes text number input old new replied Running = Unit {0}
+
+-- a resume counts the operations on the path behind its input, and after a fault none
+abbrev pub ResumesPath : Input → State → State → Reply → Status → Type 0
+ResumesPath input old new replied (RequestStatus request waiting) = Counts old (after_input old input) (path_after old input) replied new
+ResumesPath input old new replied (FaultStatus error) = new ≡ old
+ResumesPath input old new replied (Start initial_value) = Unit {0}
+ResumesPath input old new replied (CompleteStatus value) = Unit {0}
+ResumesPath input old new replied Running = Unit {0}
+
+-- by the status: an evaluation at the start is fresh, and none runs
+abbrev pub IsAtRestBy : State → Status → Type 0
+IsAtRestBy x (Start initial_value) = IsFresh x initial_value
+IsAtRestBy x Running = ⊥
+IsAtRestBy x (RequestStatus request waiting) = Unit {0}
+IsAtRestBy x (CompleteStatus value) = Unit {0}
+IsAtRestBy x (FaultStatus error) = Unit {0}
+
+-- between calls nothing runs
+abbrev pub IsAtRest : State → Type 0
+IsAtRest x = IsAtRestBy x x.status
+
+-- no request is open
+abbrev pub IsClosed : Status → Type 0
+IsClosed (RequestStatus request waiting) = ⊥
+IsClosed _ = Unit {0}
+
+-- the evaluation is complete
+abbrev pub IsComplete : Status → Type 0
+IsComplete (CompleteStatus value) = Unit {0}
+IsComplete (Start initial_value) = ⊥
+IsComplete (RequestStatus request waiting) = ⊥
+IsComplete (FaultStatus error) = ⊥
+IsComplete Running = ⊥
+
+-- the evaluation is complete with this value
+abbrev pub HasResult : Option Value → Status → Type 0
+HasResult result (CompleteStatus value) = result ≡ value
+HasResult result (Start initial_value) = ⊥
+HasResult result (RequestStatus request waiting) = ⊥
+HasResult result (FaultStatus error) = ⊥
+HasResult result Running = ⊥

@@ -1,0 +1,360 @@
+ghost use Rattle.std.specs.Prelude.{◌≡◌, ◌<◌, ◌≤◌, [], None, Some, IfOk, map};
+ghost use Rattle.dwarf_meaning.specs.Kinds as kind;
+ghost use Rattle.dwarf_meaning.specs.Kinds.{kind_of_answer};
+ghost use Rattle.dwarf_meaning.specs.Requests as asked;
+ghost use Rattle.dwarf_meaning.specs.Rest.{Start, CompleteStatus};
+ghost use Rattle.dwarf_eval.specs.Permits.{Admits, IsOpenFor, Permits, Shows, answer_of};
+ghost use Rattle.dwarf_eval.specs.Bounds.{IsUnspent, calls_left};
+ghost use Rattle.dwarf_eval.specs.Evaluation.{Evaluates, EvaluatesPath, HasResult, IsClosed, IsComplete, Resumes, ResumesPath, most_iterations, reply_of, with_maximum, with_object, input_of, with_status};
+ghost use Rattle.dwarf_eval.specs.Machine.{piece_of, setup_of};
+ghost use Rattle.dwarf_op.specs.Views.{text_of};
+
+use crate::eval::requests::{kind_of_open, reply};
+use crate::eval::states::Status;
+use crate::op::{EvaluationResult, Expression, Piece};
+use dwarf_base::{Encoding, Reader, Result};
+use dwarf_machine::machine::Machine;
+use dwarf_machine::states::{EvaluationState, Given};
+use dwarf_store::{EvaluationStorage, StoreOnHeap};
+use dwarf_value::{Value, ValueType};
+use std::alloc::Allocator;
+use std::marker::Model;
+
+/// An evaluation of an expression (DWARF 5, section 2.5).
+///
+/// `evaluate` starts it, and answers either that it is complete or what it has to be told before it goes on;
+/// the caller then calls the resume of that kind, as `status` says, until it is complete. A fault is kept:
+/// every later call answers it.
+#[derive(Drop)]
+pub struct Evaluation<R: Reader + Copy, S: EvaluationStorage<R>> {
+    machine: Machine<R, S>,
+}
+
+impl<R: Reader + Copy, S: EvaluationStorage<R>> Model for Evaluation<R, S> {
+    ghost use Rattle.dwarf_meaning.specs.Rest.{State};
+
+    ghost Value = { State };
+
+    ghost use Rattle.dwarf_eval.specs.Evaluation.{IsAtRest};
+
+    ghost view = { λ e. e.machine };
+
+    ghost invariant = { λ e. IsAtRest e.machine };
+}
+
+impl<R: Reader + Copy> Expression<R> {
+    /// A fresh evaluation of the expression, on the heap. It takes no memory yet.
+    ///
+    /// The encoding's addresses have from 1 to 8 bytes.
+    pub fn evaluation<A: Allocator + Copy>(
+        self,
+        alloc: A,
+        encoding: Encoding,
+    ) -> Evaluation<R, StoreOnHeap<A>>
+        requires some { 0 < encoding.address_size }
+        requires fits { encoding.address_size ≤ 8 }
+        ensures status { result.status ≡ Start None }
+        ensures setup { result.setup ≡ setup_of encoding R.Offset.BITS None None None }
+        ensures text { result.text ≡ text_of R.bytes R.is_big self.0 }
+        ensures object_address { result.store.object_address ≡ None }
+        ensures maximum { result.store.maximum ≡ most_iterations }
+        ensures unspent { IsUnspent result }
+    {
+        Evaluation::new(alloc, self.0, encoding)
+    }
+}
+
+impl<R: Reader + Copy, A: Allocator + Copy> Evaluation<R, StoreOnHeap<A>> {
+    /// A fresh evaluation of `bytecode`, on the heap. It takes no memory yet.
+    ///
+    /// The encoding's addresses have from 1 to 8 bytes.
+    pub fn new(alloc: A, bytecode: R, encoding: Encoding) -> Self
+        requires some { 0 < encoding.address_size }
+        requires fits { encoding.address_size ≤ 8 }
+        ensures status { result.status ≡ Start None }
+        ensures setup { result.setup ≡ setup_of encoding R.Offset.BITS None None None }
+        ensures text { result.text ≡ text_of R.bytes R.is_big bytecode }
+        ensures object_address { result.store.object_address ≡ None }
+        ensures maximum { result.store.maximum ≡ most_iterations }
+        ensures unspent { IsUnspent result }
+    {
+        Evaluation::new_in(
+            bytecode,
+            encoding,
+            Vec::new(alloc),
+            Vec::new(alloc),
+            Vec::new(alloc),
+        )
+    }
+
+    /// The pieces of a complete evaluation.
+    pub fn result(self) -> Vec<Piece<R>, A>
+        requires { IsComplete self.status }
+        ensures { map (piece_of (text_of R.bytes R.is_big) R.Offset.number) result.items ≡ self.store.pieces }
+    {
+        self.machine.into_pieces()
+    }
+}
+
+impl<R: Reader + Copy, S: EvaluationStorage<R>> Evaluation<R, S> {
+    /// A fresh evaluation of `bytecode`, over three empty lists. It takes no memory.
+    ///
+    /// The encoding's addresses have from 1 to 8 bytes.
+    pub fn new_in(
+        bytecode: R,
+        encoding: Encoding,
+        stack: S::Stack,
+        expression_stack: S::ExpressionStack,
+        pieces: S::Result,
+    ) -> Self
+        requires some { 0 < encoding.address_size }
+        requires fits { encoding.address_size ≤ 8 }
+        requires stack { S.Stack.items stack ≡ [] }
+        requires expression_stack { S.ExpressionStack.items expression_stack ≡ [] }
+        requires pieces { S.Result.items pieces ≡ [] }
+        ensures status { result.status ≡ Start None }
+        ensures setup { result.setup ≡ setup_of encoding R.Offset.BITS (S.Stack.limit stack) (S.ExpressionStack.limit expression_stack) (S.Result.limit pieces) }
+        ensures text { result.text ≡ text_of R.bytes R.is_big bytecode }
+        ensures object_address { result.store.object_address ≡ None }
+        ensures maximum { result.store.maximum ≡ most_iterations }
+        ensures unspent { IsUnspent result }
+    {
+        Evaluation {
+            machine: Machine::new_in(bytecode, encoding, stack, expression_stack, pieces),
+        }
+    }
+
+    /// Where the evaluation stands, and so which calls it allows.
+    pub fn status(&self) -> Status
+        ensures shows { Shows self.now.status result }
+        ensures permits { Permits self.now.status result }
+    {
+        match self.machine.state() {
+            EvaluationState::Start(initial_value) => Status::Start {
+                initial: initial_value.is_some(),
+            },
+            EvaluationState::Waiting(request) => Status::Waiting(kind_of_open(request)),
+            EvaluationState::Complete(_) => Status::Complete,
+            EvaluationState::Failed(error) => Status::Failed(error),
+            EvaluationState::Running => unreachable!(),
+        }
+    }
+
+    /// Lets the evaluation start with this value on the stack, as `DW_AT_vtable_elem_location` and
+    /// `DW_AT_data_member_location` want it: the object's address. It may be set once, before the start.
+    pub fn set_initial_value(&mut self, value: u64)
+        requires { self.old.status ≡ Start None }
+        ensures { self.new ≡ with_status (Start (Some value)) self.old }
+    {
+        self.machine.enter(EvaluationState::Start(Some(value)));
+    }
+
+    /// Sets the address of the object that is described, for `DW_OP_push_object_address`. It holds from now on.
+    pub fn set_object_address(&mut self, value: u64)
+        ensures { self.new ≡ with_object (Some value) self.old }
+    {
+        self.machine.set_object_address(value);
+    }
+
+    /// Sets how many operations may be evaluated in all. It holds from now on, and can't be unset. While it isn't
+    /// set, there may be 4294967295. A location and the piece behind it count as one.
+    pub fn set_max_iterations(&mut self, value: u32)
+        ensures { self.new ≡ with_maximum value self.old }
+    {
+        self.machine.set_max_iterations(value);
+    }
+
+    /// Evaluates from the start to a request or to the end.
+    ///
+    /// No request may be open. After the end it answers `Complete` again, and after a fault that fault.
+    pub fn evaluate(&mut self) -> Result<EvaluationResult<R>>
+        requires { IsClosed self.old.status }
+        ensures follows { Evaluates (text_of R.bytes R.is_big) R.Offset.number self.old self.new result self.old.status }
+        ensures counts { EvaluatesPath self.old self.new (reply_of (text_of R.bytes R.is_big) R.Offset.number result) self.old.status }
+        ensures admits { IfOk result (λ told. Admits told self.new.status) }
+    {
+        match self.machine.state() {
+            EvaluationState::Start(initial_value) => {
+                self.machine.start(initial_value);
+                return reply(&self.machine);
+            }
+            EvaluationState::Complete(_) => return Ok(EvaluationResult::Complete),
+            EvaluationState::Failed(error) => return Err(error),
+            EvaluationState::Waiting(_) => unreachable!(),
+            EvaluationState::Running => unreachable!(),
+        }
+    }
+
+    /// Goes on with an answer.
+    fn resume(&mut self, given: Given<R>) -> Result<EvaluationResult<R>>
+        requires { IsOpenFor (kind_of_answer (answer_of (text_of R.bytes R.is_big) given)) self.old.status }
+        ensures follows { Resumes (text_of R.bytes R.is_big) R.Offset.number (input_of self.old (answer_of (text_of R.bytes R.is_big) given)) self.old self.new result self.old.status }
+        ensures counts { ResumesPath (input_of self.old (answer_of (text_of R.bytes R.is_big) given)) self.old self.new (reply_of (text_of R.bytes R.is_big) R.Offset.number result) self.old.status }
+        ensures admits { IfOk result (λ told. Admits told self.new.status) }
+        ensures fewer { IfOk result (λ told. calls_left self.new < calls_left self.old) }
+    {
+        match self.machine.state() {
+            EvaluationState::Waiting(_) => {
+                self.machine.resume(given);
+                return reply(&self.machine);
+            }
+            EvaluationState::Failed(error) => return Err(error),
+            EvaluationState::Start(_) => unreachable!(),
+            EvaluationState::Complete(_) => unreachable!(),
+            EvaluationState::Running => unreachable!(),
+        }
+    }
+
+    /// Goes on with what memory holds, after `RequiresMemory`.
+    pub fn resume_with_memory(&mut self, value: Value) -> Result<EvaluationResult<R>>
+        requires { IsOpenFor kind.Memory self.old.status }
+        ensures follows { Resumes (text_of R.bytes R.is_big) R.Offset.number (input_of self.old (asked.MemoryAnswer value)) self.old self.new result self.old.status }
+        ensures counts { ResumesPath (input_of self.old (asked.MemoryAnswer value)) self.old self.new (reply_of (text_of R.bytes R.is_big) R.Offset.number result) self.old.status }
+        ensures admits { IfOk result (λ told. Admits told self.new.status) }
+        ensures fewer { IfOk result (λ told. calls_left self.new < calls_left self.old) }
+    {
+        self.resume(Given::Memory(value))
+    }
+
+    /// Goes on with what a register holds, after `RequiresRegister`.
+    pub fn resume_with_register(&mut self, value: Value) -> Result<EvaluationResult<R>>
+        requires { IsOpenFor kind.Register self.old.status }
+        ensures follows { Resumes (text_of R.bytes R.is_big) R.Offset.number (input_of self.old (asked.RegisterAnswer value)) self.old self.new result self.old.status }
+        ensures counts { ResumesPath (input_of self.old (asked.RegisterAnswer value)) self.old self.new (reply_of (text_of R.bytes R.is_big) R.Offset.number result) self.old.status }
+        ensures admits { IfOk result (λ told. Admits told self.new.status) }
+        ensures fewer { IfOk result (λ told. calls_left self.new < calls_left self.old) }
+    {
+        self.resume(Given::Register(value))
+    }
+
+    /// Goes on with a value of WebAssembly, after `RequiresWasmLocal`, `RequiresWasmGlobal` or
+    /// `RequiresWasmStack`.
+    pub fn resume_with_wasm_value(&mut self, value: Value) -> Result<EvaluationResult<R>>
+        requires { IsOpenFor kind.WasmValue self.old.status }
+        ensures follows { Resumes (text_of R.bytes R.is_big) R.Offset.number (input_of self.old (asked.WasmAnswer value)) self.old self.new result self.old.status }
+        ensures counts { ResumesPath (input_of self.old (asked.WasmAnswer value)) self.old self.new (reply_of (text_of R.bytes R.is_big) R.Offset.number result) self.old.status }
+        ensures admits { IfOk result (λ told. Admits told self.new.status) }
+        ensures fewer { IfOk result (λ told. calls_left self.new < calls_left self.old) }
+    {
+        self.resume(Given::WasmValue(value))
+    }
+
+    /// Goes on with what the expression gave at the function's entry, after `RequiresEntryValue`.
+    pub fn resume_with_entry_value(&mut self, value: Value) -> Result<EvaluationResult<R>>
+        requires { IsOpenFor kind.EntryValue self.old.status }
+        ensures follows { Resumes (text_of R.bytes R.is_big) R.Offset.number (input_of self.old (asked.EntryAnswer value)) self.old self.new result self.old.status }
+        ensures counts { ResumesPath (input_of self.old (asked.EntryAnswer value)) self.old self.new (reply_of (text_of R.bytes R.is_big) R.Offset.number result) self.old.status }
+        ensures admits { IfOk result (λ told. Admits told self.new.status) }
+        ensures fewer { IfOk result (λ told. calls_left self.new < calls_left self.old) }
+    {
+        self.resume(Given::EntryValue(value))
+    }
+
+    /// Goes on with the frame base, after `RequiresFrameBase`.
+    pub fn resume_with_frame_base(&mut self, frame_base: u64) -> Result<EvaluationResult<R>>
+        requires { IsOpenFor kind.FrameBase self.old.status }
+        ensures follows { Resumes (text_of R.bytes R.is_big) R.Offset.number (input_of self.old (asked.FrameBaseAnswer frame_base)) self.old self.new result self.old.status }
+        ensures counts { ResumesPath (input_of self.old (asked.FrameBaseAnswer frame_base)) self.old self.new (reply_of (text_of R.bytes R.is_big) R.Offset.number result) self.old.status }
+        ensures admits { IfOk result (λ told. Admits told self.new.status) }
+        ensures fewer { IfOk result (λ told. calls_left self.new < calls_left self.old) }
+    {
+        self.resume(Given::FrameBase(frame_base))
+    }
+
+    /// Goes on with an address in thread-local storage, after `RequiresTls`.
+    pub fn resume_with_tls(&mut self, value: u64) -> Result<EvaluationResult<R>>
+        requires { IsOpenFor kind.Tls self.old.status }
+        ensures follows { Resumes (text_of R.bytes R.is_big) R.Offset.number (input_of self.old (asked.TlsAnswer value)) self.old self.new result self.old.status }
+        ensures counts { ResumesPath (input_of self.old (asked.TlsAnswer value)) self.old self.new (reply_of (text_of R.bytes R.is_big) R.Offset.number result) self.old.status }
+        ensures admits { IfOk result (λ told. Admits told self.new.status) }
+        ensures fewer { IfOk result (λ told. calls_left self.new < calls_left self.old) }
+    {
+        self.resume(Given::Tls(value))
+    }
+
+    /// Goes on with the canonical frame address, after `RequiresCallFrameCfa`.
+    pub fn resume_with_call_frame_cfa(&mut self, cfa: u64) -> Result<EvaluationResult<R>>
+        requires { IsOpenFor kind.CallFrameCfa self.old.status }
+        ensures follows { Resumes (text_of R.bytes R.is_big) R.Offset.number (input_of self.old (asked.CfaAnswer cfa)) self.old self.new result self.old.status }
+        ensures counts { ResumesPath (input_of self.old (asked.CfaAnswer cfa)) self.old self.new (reply_of (text_of R.bytes R.is_big) R.Offset.number result) self.old.status }
+        ensures admits { IfOk result (λ told. Admits told self.new.status) }
+        ensures fewer { IfOk result (λ told. calls_left self.new < calls_left self.old) }
+    {
+        self.resume(Given::CallFrameCfa(cfa))
+    }
+
+    /// Goes on with the expression that stands there, after `RequiresAtLocation`. It is evaluated in the
+    /// call's place; with no bytes there is nothing to evaluate.
+    pub fn resume_with_at_location(&mut self, bytes: R) -> Result<EvaluationResult<R>>
+        requires { IsOpenFor kind.AtLocation self.old.status }
+        ensures follows { Resumes (text_of R.bytes R.is_big) R.Offset.number (input_of self.old (asked.LocationAnswer (text_of R.bytes R.is_big bytes))) self.old self.new result self.old.status }
+        ensures counts { ResumesPath (input_of self.old (asked.LocationAnswer (text_of R.bytes R.is_big bytes))) self.old self.new (reply_of (text_of R.bytes R.is_big) R.Offset.number result) self.old.status }
+        ensures admits { IfOk result (λ told. Admits told self.new.status) }
+        ensures fewer { IfOk result (λ told. calls_left self.new < calls_left self.old) }
+    {
+        self.resume(Given::AtLocation(bytes))
+    }
+
+    /// Goes on with the value of the parameter, after `RequiresParameterRef`.
+    pub fn resume_with_parameter_ref(&mut self, parameter_value: u64) -> Result<EvaluationResult<R>>
+        requires { IsOpenFor kind.ParameterRef self.old.status }
+        ensures follows { Resumes (text_of R.bytes R.is_big) R.Offset.number (input_of self.old (asked.ParameterAnswer parameter_value)) self.old self.new result self.old.status }
+        ensures counts { ResumesPath (input_of self.old (asked.ParameterAnswer parameter_value)) self.old self.new (reply_of (text_of R.bytes R.is_big) R.Offset.number result) self.old.status }
+        ensures admits { IfOk result (λ told. Admits told self.new.status) }
+        ensures fewer { IfOk result (λ told. calls_left self.new < calls_left self.old) }
+    {
+        self.resume(Given::ParameterRef(parameter_value))
+    }
+
+    /// Goes on with the relocated address, after `RequiresRelocatedAddress`.
+    pub fn resume_with_relocated_address(&mut self, address: u64) -> Result<EvaluationResult<R>>
+        requires { IsOpenFor kind.RelocatedAddress self.old.status }
+        ensures follows { Resumes (text_of R.bytes R.is_big) R.Offset.number (input_of self.old (asked.RelocatedAnswer address)) self.old self.new result self.old.status }
+        ensures counts { ResumesPath (input_of self.old (asked.RelocatedAnswer address)) self.old self.new (reply_of (text_of R.bytes R.is_big) R.Offset.number result) self.old.status }
+        ensures admits { IfOk result (λ told. Admits told self.new.status) }
+        ensures fewer { IfOk result (λ told. calls_left self.new < calls_left self.old) }
+    {
+        self.resume(Given::RelocatedAddress(address))
+    }
+
+    /// Goes on with what stands at the index, after `RequiresIndexedAddress`.
+    pub fn resume_with_indexed_address(&mut self, address: u64) -> Result<EvaluationResult<R>>
+        requires { IsOpenFor kind.IndexedAddress self.old.status }
+        ensures follows { Resumes (text_of R.bytes R.is_big) R.Offset.number (input_of self.old (asked.IndexedAnswer address)) self.old self.new result self.old.status }
+        ensures counts { ResumesPath (input_of self.old (asked.IndexedAnswer address)) self.old self.new (reply_of (text_of R.bytes R.is_big) R.Offset.number result) self.old.status }
+        ensures admits { IfOk result (λ told. Admits told self.new.status) }
+        ensures fewer { IfOk result (λ told. calls_left self.new < calls_left self.old) }
+    {
+        self.resume(Given::IndexedAddress(address))
+    }
+
+    /// Goes on with the base type, after `RequiresBaseType`.
+    pub fn resume_with_base_type(&mut self, base_type: ValueType) -> Result<EvaluationResult<R>>
+        requires { IsOpenFor kind.BaseType self.old.status }
+        ensures follows { Resumes (text_of R.bytes R.is_big) R.Offset.number (input_of self.old (asked.BaseTypeAnswer base_type)) self.old self.new result self.old.status }
+        ensures counts { ResumesPath (input_of self.old (asked.BaseTypeAnswer base_type)) self.old self.new (reply_of (text_of R.bytes R.is_big) R.Offset.number result) self.old.status }
+        ensures admits { IfOk result (λ told. Admits told self.new.status) }
+        ensures fewer { IfOk result (λ told. calls_left self.new < calls_left self.old) }
+    {
+        self.resume(Given::BaseType(base_type))
+    }
+
+    /// The value of a complete evaluation, as it stands; `None` where it has pieces or a location instead.
+    pub fn value_result(&self) -> Option<Value>
+        requires { IsComplete self.now.status }
+        ensures { HasResult result self.now.status }
+    {
+        match self.machine.state() {
+            EvaluationState::Complete(value) => value,
+            _ => unreachable!(),
+        }
+    }
+
+    /// The pieces of a complete evaluation.
+    pub fn as_result(&self) -> &[Piece<R>]
+        requires { IsComplete self.now.status }
+        ensures { map (piece_of (text_of R.bytes R.is_big) R.Offset.number) result.now ≡ self.now.store.pieces }
+    {
+        self.machine.pieces()
+    }
+}

@@ -1,0 +1,23 @@
+-- The innermost caller is the last of the list.
+use Rattle.std.proofs.Common.{ℕ, ◌≡◌, Bool, List, [], ◌∷◌, ◌++◌, length, map, reverse, ap, ◌∙◌}
+use Rattle.std.specs.List.{AllByRecursion}
+use Rattle.std.proofs.lemmas.List.{reverse-append, map-append, length-reverse, length-map}
+use Rattle.dwarf_machine.specs.Machine.{caller_of, callers_of}
+
+pub callers-push : {R : Type 0} (bytes : R → List ℕ) (is_big : R → Bool) (f : R × R) (low all : List (R × R)) → all ≡ low ++ f ∷ [] → callers_of bytes is_big all ≡ caller_of bytes is_big f ∷ callers_of bytes is_big low
+callers-push bytes is_big f low all e =
+    ap (callers_of bytes is_big) e
+    ∙ (ap reverse (map-append (caller_of bytes is_big) low (f ∷ []))
+    ∙ reverse-append (map (caller_of bytes is_big) low) (caller_of bytes is_big f ∷ []))
+
+pub length-callers : {R : Type 0} (bytes : R → List ℕ) (is_big : R → Bool) (items : List (R × R)) → length (callers_of bytes is_big items) ≡ length items
+length-callers bytes is_big items = length-reverse (map (caller_of bytes is_big) items) ∙ length-map items (caller_of bytes is_big)
+
+-- what holds of all items but the last, and of the last
+pub all_but_last : {X : Type 0} (P : X → Type 0) (xs : List X) (x : X) → AllByRecursion P (xs ++ x ∷ []) → AllByRecursion P xs × P x
+all_but_last P [] x h = (tt, h.0)
+all_but_last P (y ∷ ys) x h = let r = all_but_last P ys x h.1 in ((h.0, r.0), r.1)
+
+pub all_and_last : {X : Type 0} (P : X → Type 0) (xs : List X) (x : X) → AllByRecursion P xs → P x → AllByRecursion P (xs ++ x ∷ [])
+all_and_last P [] x h p = (p, tt)
+all_and_last P (y ∷ ys) x h p = (h.0, all_and_last P ys x h.1 p)

@@ -1,0 +1,35 @@
+use Rattle.std.proofs.Common.{◌≡◌, ◌-◌, refl, subst, length, sym, arith}
+use Rattle.std.specs.List.{AllByRecursion}
+use Rattle.dwarf_meaning.specs.Rest.{State}
+use Rattle.dwarf_base.proofs.Suffixes.{suffix_whole}
+use Rattle.dwarf_store.specs.Lists.{MayRefuse}
+use Rattle.dwarf_machine.specs.Machine.{IsLeftOf}
+use Rattle.dwarf_machine.proofs.Callers.{callers-push, length-callers, all_and_last}
+use Rattle.dwarf_machine.proofs.Pushes.{frame_pushed, frame_stops}
+use Rattle.dwarf_machine.proofs.machine.Machine.push_caller.Goals as goal
+
+pub returns-in_default : goal.returns-in_default
+returns-in_default g c =
+    let is = rw (c.in_default.ensures.err, c.push.ensures.limit) at c.fail.ensures in
+    frame_stops c.args.self.now c.fail.new.self
+    (subst (λ (s : State). MayRefuse s.setup.limits.callers (length s.callers)) c.self.view_is (rw length-callers c.in_default.ensures.full))
+    (rw (← c.self.view_is) is)
+
+pub invariant_of-self-2 : goal.invariant_of-self-2
+invariant_of-self-2 g c =
+    let R = g.row.R.Denot in
+    let P = λ (f : R × R). IsLeftOf g.R.Reader.bytes g.R.Reader.is_big f.1 f.0 in
+    record {
+      mask = c.self.invariant.mask;
+      width = c.self.invariant.width;
+      here = record { rest = suffix_whole _; order = refl };
+      callers = subst (AllByRecursion P) (sym c.in-Ok.ensures.ok) (all_and_last P (g.S.ExpressionStack.ArrayLike.items c.self.inside.expression_stack) (c.self.inside.pc, c.self.inside.bytecode) c.self.invariant.callers c.self.invariant.here);
+    }
+
+pub returns : goal.returns
+returns g c =
+    let none : length (g.R.Reader.bytes c.args.callee) - length (g.R.Reader.bytes c.args.callee) ≡ 0 = omega arith in
+    rw (← c.self.view_is) (record {
+      steps = frame_pushed _ _ _ _ (rw length-callers c.in-Ok.ensures.room) refl;
+      alone = rw (none, c.push.ensures.limit, callers-push g.R.Reader.bytes g.R.Reader.is_big (c.self.inside.pc, c.self.inside.bytecode) _ _ c.in-Ok.ensures.ok) refl;
+    })

@@ -17,20 +17,24 @@ pub fn status_equality_laws()
 
 /// Expressions are equal exactly where their readers are. It does nothing; its contract is the law.
 pub fn expression_equality_laws<R: Reader + Eq>()
-    ensures { IsEqualityBy ⟦<Expression<R> as PartialEq>⟧.eq (λ expression. expression.0) R.PartialEq.eq }
+    ensures { IsEqualityBy ⟦<Expression<R> as PartialEq>⟧.eq
+        (λ expression. expression.0) R.PartialEq.eq }
 {}
 
 /// Results are equal exactly where they are seen as the same, as far as readers and offsets are. It does nothing;
 /// its contract is the law.
 pub fn result_equality_laws<R: Reader + Eq, O: Eq>()
-    ensures { (text : R → Text) (number : O → ℕ) → IsEqualityOf text R.PartialEq.eq → IsEqualityOf number O.PartialEq.eq
+    ensures { (text : R → Text) (number : O → ℕ) → IsEqualityOf text R.PartialEq.eq
+        → IsEqualityOf number O.PartialEq.eq
         → IsEqualityOf (ok_reply text number) ⟦<EvaluationResult<R, O> as PartialEq>⟧.eq }
 {}
 
 /// The same of locations and of pieces.
 pub fn piece_equality_laws<R: Reader + Eq, O: Eq>()
-    ensures location { (text : R → Text) (number : O → ℕ) → IsEqualityOf text R.PartialEq.eq → IsEqualityOf number O.PartialEq.eq
+    ensures location { (text : R → Text) (number : O → ℕ) → IsEqualityOf text R.PartialEq.eq
+        → IsEqualityOf number O.PartialEq.eq
         → IsEqualityOf (location_of text number) ⟦<Location<R, O> as PartialEq>⟧.eq }
-    ensures piece { (text : R → Text) (number : O → ℕ) → IsEqualityOf text R.PartialEq.eq → IsEqualityOf number O.PartialEq.eq
+    ensures piece { (text : R → Text) (number : O → ℕ) → IsEqualityOf text R.PartialEq.eq
+        → IsEqualityOf number O.PartialEq.eq
         → IsEqualityOf (piece_of text number) ⟦<Piece<R, O> as PartialEq>⟧.eq }
 {}

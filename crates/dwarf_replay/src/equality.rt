@@ -11,15 +11,19 @@ use dwarf_base::Reader;
 /// Steps are equal exactly where they are seen as the same, as far as readers are. It does nothing; its contract is
 /// the law.
 pub fn step_equality_laws<R: Reader + Eq>()
-    ensures { (text : R → Text) → IsEqualityOf text R.PartialEq.eq → IsEqualityOf (step_of text) ⟦<Step<R> as PartialEq>⟧.eq }
+    ensures { (text : R → Text) → IsEqualityOf text R.PartialEq.eq
+        → IsEqualityOf (step_of text) ⟦<Step<R> as PartialEq>⟧.eq }
 {}
 
 /// The same of what calls, steps and replays gave, as far as readers and offsets are.
 pub fn answer_equality_laws<R: Reader + Eq, O: Eq>()
-    ensures answer { (text : R → Text) (number : O → ℕ) → IsEqualityOf text R.PartialEq.eq → IsEqualityOf number O.PartialEq.eq
+    ensures answer { (text : R → Text) (number : O → ℕ) → IsEqualityOf text R.PartialEq.eq
+        → IsEqualityOf number O.PartialEq.eq
         → IsEqualityOf (λ answer. given_of text number answer.0) ⟦<Answer<R, O> as PartialEq>⟧.eq }
-    ensures stepped { (text : R → Text) (number : O → ℕ) → IsEqualityOf text R.PartialEq.eq → IsEqualityOf number O.PartialEq.eq
+    ensures stepped { (text : R → Text) (number : O → ℕ) → IsEqualityOf text R.PartialEq.eq
+        → IsEqualityOf number O.PartialEq.eq
         → IsEqualityOf (came_of text number) ⟦<Stepped<R, O> as PartialEq>⟧.eq }
-    ensures replayed { (text : R → Text) (number : O → ℕ) → IsEqualityOf text R.PartialEq.eq → IsEqualityOf number O.PartialEq.eq
+    ensures replayed { (text : R → Text) (number : O → ℕ) → IsEqualityOf text R.PartialEq.eq
+        → IsEqualityOf number O.PartialEq.eq
         → IsEqualityOf (ended_of text number) ⟦<Replayed<R, O> as PartialEq>⟧.eq }
 {}

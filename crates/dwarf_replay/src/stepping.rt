@@ -16,7 +16,8 @@ fn try_initial_value<R: Reader + Copy, S: EvaluationStorage<R>>(
     eval: &mut Evaluation<R, S>,
     value: u64,
 ) -> Stepped<R>
-    ensures { IsStepped (text_of R.bytes R.is_big) R.Offset.number (meaning.InitialValue value) eval.old eval.new result }
+    ensures { IsStepped (text_of R.bytes R.is_big) R.Offset.number
+        (meaning.InitialValue value) eval.old eval.new result }
 {
     match eval.status() {
         Status::Start { initial: false } => {
@@ -31,7 +32,8 @@ fn try_initial_value<R: Reader + Copy, S: EvaluationStorage<R>>(
 fn try_evaluate<R: Reader + Copy, S: EvaluationStorage<R>>(
     eval: &mut Evaluation<R, S>,
 ) -> Stepped<R>
-    ensures { IsStepped (text_of R.bytes R.is_big) R.Offset.number meaning.Evaluate eval.old eval.new result }
+    ensures { IsStepped (text_of R.bytes R.is_big) R.Offset.number meaning.Evaluate eval.old
+        eval.new result }
 {
     match eval.status() {
         Status::Waiting(_) => Stepped::Misplaced,
@@ -83,7 +85,8 @@ fn resume<R: Reader + Copy, S: EvaluationStorage<R>>(
     step: Step<R>,
 ) -> Result<EvaluationResult<R>>
     requires { IsOpenAt (step_of (text_of R.bytes R.is_big) step) eval.old.status }
-    ensures { IsResumed (text_of R.bytes R.is_big) R.Offset.number (step_of (text_of R.bytes R.is_big) step) eval.old eval.new result }
+    ensures { IsResumed (text_of R.bytes R.is_big) R.Offset.number
+        (step_of (text_of R.bytes R.is_big) step) eval.old eval.new result }
 {
     match step {
         Step::Memory(value) => eval.resume_with_memory(value),
@@ -111,7 +114,8 @@ pub fn take_step<R: Reader + Copy, S: EvaluationStorage<R>>(
     eval: &mut Evaluation<R, S>,
     step: Step<R>,
 ) -> Stepped<R>
-    ensures { IsStepped (text_of R.bytes R.is_big) R.Offset.number (step_of (text_of R.bytes R.is_big) step) eval.old eval.new result }
+    ensures { IsStepped (text_of R.bytes R.is_big) R.Offset.number
+        (step_of (text_of R.bytes R.is_big) step) eval.old eval.new result }
 {
     if let Some(kind) = kind_of_step(step) {
         if awaits(eval, kind) {

@@ -26,7 +26,9 @@ fn keep_step<R: Reader + Copy, S: EvaluationStorage<R>, L: ArrayLike<Item = Answ
     step: Step<R>,
     answers: &mut L,
 ) -> Result<(), Stop<R>>
-    ensures keeps { TakesStep (text_of R.bytes R.is_big) R.Offset.number (step_of (text_of R.bytes R.is_big) step) (L.limit answers.old) eval.old (L.items answers.old) eval.new (L.items answers.new) result }
+    ensures keeps { TakesStep (text_of R.bytes R.is_big) R.Offset.number
+        (step_of (text_of R.bytes R.is_big) step) (L.limit answers.old) eval.old
+        (L.items answers.old) eval.new (L.items answers.new) result }
     ensures limit { L.limit answers.new ≡ L.limit answers.old }
 {
     match take_step(eval, step) {
@@ -52,7 +54,8 @@ pub fn replay<R: Reader + Copy, S: EvaluationStorage<R>, L: ArrayLike<Item = Ans
 ) -> Replayed<R>
     requires fresh { eval.old.status ≡ Start None }
     requires empty { L.items answers.old ≡ [] }
-    ensures replays { Replays (text_of R.bytes R.is_big) R.Offset.number (L.limit answers.old) eval.old steps.now (L.items answers.new) eval.new result }
+    ensures replays { Replays (text_of R.bytes R.is_big) R.Offset.number
+        (L.limit answers.old) eval.old steps.now (L.items answers.new) eval.new result }
     ensures limit { L.limit answers.new ≡ L.limit answers.old }
 {
     let mut index = 0;

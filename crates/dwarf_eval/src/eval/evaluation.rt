@@ -90,7 +90,8 @@ impl<R: Reader + Copy, A: Allocator + Copy> Evaluation<R, StoreOnHeap<A>> {
     /// The pieces of a complete evaluation.
     pub fn result(self) -> Vec<Piece<R>, A>
         requires { IsComplete self.status }
-        ensures { map (piece_of (text_of R.bytes R.is_big) R.Offset.number) result.items ≡ self.store.pieces }
+        ensures { map (piece_of (text_of R.bytes R.is_big) R.Offset.number) result.items
+            ≡ self.store.pieces }
     {
         self.machine.into_pieces()
     }
@@ -113,7 +114,9 @@ impl<R: Reader + Copy, S: EvaluationStorage<R>> Evaluation<R, S> {
         requires expression_stack { S.ExpressionStack.items expression_stack ≡ [] }
         requires pieces { S.Result.items pieces ≡ [] }
         ensures status { result.status ≡ Start None }
-        ensures setup { result.setup ≡ setup_of encoding R.Offset.BITS (S.Stack.limit stack) (S.ExpressionStack.limit expression_stack) (S.Result.limit pieces) }
+        ensures setup { result.setup
+            ≡ setup_of encoding R.Offset.BITS (S.Stack.limit stack)
+            (S.ExpressionStack.limit expression_stack) (S.Result.limit pieces) }
         ensures text { result.text ≡ text_of R.bytes R.is_big bytecode }
         ensures object_address { result.store.object_address ≡ None }
         ensures maximum { result.store.maximum ≡ most_iterations }
@@ -169,8 +172,10 @@ impl<R: Reader + Copy, S: EvaluationStorage<R>> Evaluation<R, S> {
     /// No request may be open. After the end it answers `Complete` again, and after a fault that fault.
     pub fn evaluate(&mut self) -> Result<EvaluationResult<R>>
         requires { IsClosed self.old.status }
-        ensures follows { Evaluates (text_of R.bytes R.is_big) R.Offset.number self.old self.new result self.old.status }
-        ensures counts { EvaluatesPath self.old self.new (reply_of (text_of R.bytes R.is_big) R.Offset.number result) self.old.status }
+        ensures follows { Evaluates (text_of R.bytes R.is_big) R.Offset.number self.old self.new
+            result self.old.status }
+        ensures counts { EvaluatesPath self.old self.new
+            (reply_of (text_of R.bytes R.is_big) R.Offset.number result) self.old.status }
         ensures admits { IfOk result (λ told. Admits told self.new.status) }
     {
         match self.machine.state() {
@@ -187,9 +192,14 @@ impl<R: Reader + Copy, S: EvaluationStorage<R>> Evaluation<R, S> {
 
     /// Goes on with an answer.
     fn resume(&mut self, given: Given<R>) -> Result<EvaluationResult<R>>
-        requires { IsOpenFor (kind_of_answer (answer_of (text_of R.bytes R.is_big) given)) self.old.status }
-        ensures follows { Resumes (text_of R.bytes R.is_big) R.Offset.number (input_of self.old (answer_of (text_of R.bytes R.is_big) given)) self.old self.new result self.old.status }
-        ensures counts { ResumesPath (input_of self.old (answer_of (text_of R.bytes R.is_big) given)) self.old self.new (reply_of (text_of R.bytes R.is_big) R.Offset.number result) self.old.status }
+        requires { IsOpenFor (kind_of_answer (answer_of (text_of R.bytes R.is_big) given))
+            self.old.status }
+        ensures follows { Resumes (text_of R.bytes R.is_big) R.Offset.number
+            (input_of self.old (answer_of (text_of R.bytes R.is_big) given)) self.old self.new
+            result self.old.status }
+        ensures counts { ResumesPath (input_of self.old
+            (answer_of (text_of R.bytes R.is_big) given)) self.old self.new
+            (reply_of (text_of R.bytes R.is_big) R.Offset.number result) self.old.status }
         ensures admits { IfOk result (λ told. Admits told self.new.status) }
         ensures fewer { IfOk result (λ told. calls_left self.new < calls_left self.old) }
     {
@@ -208,8 +218,11 @@ impl<R: Reader + Copy, S: EvaluationStorage<R>> Evaluation<R, S> {
     /// Goes on with what memory holds, after `RequiresMemory`.
     pub fn resume_with_memory(&mut self, value: Value) -> Result<EvaluationResult<R>>
         requires { IsOpenFor kind.Memory self.old.status }
-        ensures follows { Resumes (text_of R.bytes R.is_big) R.Offset.number (input_of self.old (asked.MemoryAnswer value)) self.old self.new result self.old.status }
-        ensures counts { ResumesPath (input_of self.old (asked.MemoryAnswer value)) self.old self.new (reply_of (text_of R.bytes R.is_big) R.Offset.number result) self.old.status }
+        ensures follows { Resumes (text_of R.bytes R.is_big) R.Offset.number
+            (input_of self.old (asked.MemoryAnswer value)) self.old self.new result
+            self.old.status }
+        ensures counts { ResumesPath (input_of self.old (asked.MemoryAnswer value)) self.old
+            self.new (reply_of (text_of R.bytes R.is_big) R.Offset.number result) self.old.status }
         ensures admits { IfOk result (λ told. Admits told self.new.status) }
         ensures fewer { IfOk result (λ told. calls_left self.new < calls_left self.old) }
     {
@@ -219,8 +232,11 @@ impl<R: Reader + Copy, S: EvaluationStorage<R>> Evaluation<R, S> {
     /// Goes on with what a register holds, after `RequiresRegister`.
     pub fn resume_with_register(&mut self, value: Value) -> Result<EvaluationResult<R>>
         requires { IsOpenFor kind.Register self.old.status }
-        ensures follows { Resumes (text_of R.bytes R.is_big) R.Offset.number (input_of self.old (asked.RegisterAnswer value)) self.old self.new result self.old.status }
-        ensures counts { ResumesPath (input_of self.old (asked.RegisterAnswer value)) self.old self.new (reply_of (text_of R.bytes R.is_big) R.Offset.number result) self.old.status }
+        ensures follows { Resumes (text_of R.bytes R.is_big) R.Offset.number
+            (input_of self.old (asked.RegisterAnswer value)) self.old self.new result
+            self.old.status }
+        ensures counts { ResumesPath (input_of self.old (asked.RegisterAnswer value)) self.old
+            self.new (reply_of (text_of R.bytes R.is_big) R.Offset.number result) self.old.status }
         ensures admits { IfOk result (λ told. Admits told self.new.status) }
         ensures fewer { IfOk result (λ told. calls_left self.new < calls_left self.old) }
     {
@@ -231,8 +247,10 @@ impl<R: Reader + Copy, S: EvaluationStorage<R>> Evaluation<R, S> {
     /// `RequiresWasmStack`.
     pub fn resume_with_wasm_value(&mut self, value: Value) -> Result<EvaluationResult<R>>
         requires { IsOpenFor kind.WasmValue self.old.status }
-        ensures follows { Resumes (text_of R.bytes R.is_big) R.Offset.number (input_of self.old (asked.WasmAnswer value)) self.old self.new result self.old.status }
-        ensures counts { ResumesPath (input_of self.old (asked.WasmAnswer value)) self.old self.new (reply_of (text_of R.bytes R.is_big) R.Offset.number result) self.old.status }
+        ensures follows { Resumes (text_of R.bytes R.is_big) R.Offset.number
+            (input_of self.old (asked.WasmAnswer value)) self.old self.new result self.old.status }
+        ensures counts { ResumesPath (input_of self.old (asked.WasmAnswer value)) self.old self.new
+            (reply_of (text_of R.bytes R.is_big) R.Offset.number result) self.old.status }
         ensures admits { IfOk result (λ told. Admits told self.new.status) }
         ensures fewer { IfOk result (λ told. calls_left self.new < calls_left self.old) }
     {
@@ -242,8 +260,10 @@ impl<R: Reader + Copy, S: EvaluationStorage<R>> Evaluation<R, S> {
     /// Goes on with what the expression gave at the function's entry, after `RequiresEntryValue`.
     pub fn resume_with_entry_value(&mut self, value: Value) -> Result<EvaluationResult<R>>
         requires { IsOpenFor kind.EntryValue self.old.status }
-        ensures follows { Resumes (text_of R.bytes R.is_big) R.Offset.number (input_of self.old (asked.EntryAnswer value)) self.old self.new result self.old.status }
-        ensures counts { ResumesPath (input_of self.old (asked.EntryAnswer value)) self.old self.new (reply_of (text_of R.bytes R.is_big) R.Offset.number result) self.old.status }
+        ensures follows { Resumes (text_of R.bytes R.is_big) R.Offset.number
+            (input_of self.old (asked.EntryAnswer value)) self.old self.new result self.old.status }
+        ensures counts { ResumesPath (input_of self.old (asked.EntryAnswer value)) self.old self.new
+            (reply_of (text_of R.bytes R.is_big) R.Offset.number result) self.old.status }
         ensures admits { IfOk result (λ told. Admits told self.new.status) }
         ensures fewer { IfOk result (λ told. calls_left self.new < calls_left self.old) }
     {
@@ -253,8 +273,11 @@ impl<R: Reader + Copy, S: EvaluationStorage<R>> Evaluation<R, S> {
     /// Goes on with the frame base, after `RequiresFrameBase`.
     pub fn resume_with_frame_base(&mut self, frame_base: u64) -> Result<EvaluationResult<R>>
         requires { IsOpenFor kind.FrameBase self.old.status }
-        ensures follows { Resumes (text_of R.bytes R.is_big) R.Offset.number (input_of self.old (asked.FrameBaseAnswer frame_base)) self.old self.new result self.old.status }
-        ensures counts { ResumesPath (input_of self.old (asked.FrameBaseAnswer frame_base)) self.old self.new (reply_of (text_of R.bytes R.is_big) R.Offset.number result) self.old.status }
+        ensures follows { Resumes (text_of R.bytes R.is_big) R.Offset.number
+            (input_of self.old (asked.FrameBaseAnswer frame_base)) self.old self.new result
+            self.old.status }
+        ensures counts { ResumesPath (input_of self.old (asked.FrameBaseAnswer frame_base)) self.old
+            self.new (reply_of (text_of R.bytes R.is_big) R.Offset.number result) self.old.status }
         ensures admits { IfOk result (λ told. Admits told self.new.status) }
         ensures fewer { IfOk result (λ told. calls_left self.new < calls_left self.old) }
     {
@@ -264,8 +287,10 @@ impl<R: Reader + Copy, S: EvaluationStorage<R>> Evaluation<R, S> {
     /// Goes on with an address in thread-local storage, after `RequiresTls`.
     pub fn resume_with_tls(&mut self, value: u64) -> Result<EvaluationResult<R>>
         requires { IsOpenFor kind.Tls self.old.status }
-        ensures follows { Resumes (text_of R.bytes R.is_big) R.Offset.number (input_of self.old (asked.TlsAnswer value)) self.old self.new result self.old.status }
-        ensures counts { ResumesPath (input_of self.old (asked.TlsAnswer value)) self.old self.new (reply_of (text_of R.bytes R.is_big) R.Offset.number result) self.old.status }
+        ensures follows { Resumes (text_of R.bytes R.is_big) R.Offset.number
+            (input_of self.old (asked.TlsAnswer value)) self.old self.new result self.old.status }
+        ensures counts { ResumesPath (input_of self.old (asked.TlsAnswer value)) self.old self.new
+            (reply_of (text_of R.bytes R.is_big) R.Offset.number result) self.old.status }
         ensures admits { IfOk result (λ told. Admits told self.new.status) }
         ensures fewer { IfOk result (λ told. calls_left self.new < calls_left self.old) }
     {
@@ -275,8 +300,10 @@ impl<R: Reader + Copy, S: EvaluationStorage<R>> Evaluation<R, S> {
     /// Goes on with the canonical frame address, after `RequiresCallFrameCfa`.
     pub fn resume_with_call_frame_cfa(&mut self, cfa: u64) -> Result<EvaluationResult<R>>
         requires { IsOpenFor kind.CallFrameCfa self.old.status }
-        ensures follows { Resumes (text_of R.bytes R.is_big) R.Offset.number (input_of self.old (asked.CfaAnswer cfa)) self.old self.new result self.old.status }
-        ensures counts { ResumesPath (input_of self.old (asked.CfaAnswer cfa)) self.old self.new (reply_of (text_of R.bytes R.is_big) R.Offset.number result) self.old.status }
+        ensures follows { Resumes (text_of R.bytes R.is_big) R.Offset.number
+            (input_of self.old (asked.CfaAnswer cfa)) self.old self.new result self.old.status }
+        ensures counts { ResumesPath (input_of self.old (asked.CfaAnswer cfa)) self.old self.new
+            (reply_of (text_of R.bytes R.is_big) R.Offset.number result) self.old.status }
         ensures admits { IfOk result (λ told. Admits told self.new.status) }
         ensures fewer { IfOk result (λ told. calls_left self.new < calls_left self.old) }
     {
@@ -287,8 +314,12 @@ impl<R: Reader + Copy, S: EvaluationStorage<R>> Evaluation<R, S> {
     /// call's place; with no bytes there is nothing to evaluate.
     pub fn resume_with_at_location(&mut self, bytes: R) -> Result<EvaluationResult<R>>
         requires { IsOpenFor kind.AtLocation self.old.status }
-        ensures follows { Resumes (text_of R.bytes R.is_big) R.Offset.number (input_of self.old (asked.LocationAnswer (text_of R.bytes R.is_big bytes))) self.old self.new result self.old.status }
-        ensures counts { ResumesPath (input_of self.old (asked.LocationAnswer (text_of R.bytes R.is_big bytes))) self.old self.new (reply_of (text_of R.bytes R.is_big) R.Offset.number result) self.old.status }
+        ensures follows { Resumes (text_of R.bytes R.is_big) R.Offset.number
+            (input_of self.old (asked.LocationAnswer (text_of R.bytes R.is_big bytes))) self.old
+            self.new result self.old.status }
+        ensures counts { ResumesPath (input_of self.old
+            (asked.LocationAnswer (text_of R.bytes R.is_big bytes))) self.old self.new
+            (reply_of (text_of R.bytes R.is_big) R.Offset.number result) self.old.status }
         ensures admits { IfOk result (λ told. Admits told self.new.status) }
         ensures fewer { IfOk result (λ told. calls_left self.new < calls_left self.old) }
     {
@@ -298,8 +329,12 @@ impl<R: Reader + Copy, S: EvaluationStorage<R>> Evaluation<R, S> {
     /// Goes on with the value of the parameter, after `RequiresParameterRef`.
     pub fn resume_with_parameter_ref(&mut self, parameter_value: u64) -> Result<EvaluationResult<R>>
         requires { IsOpenFor kind.ParameterRef self.old.status }
-        ensures follows { Resumes (text_of R.bytes R.is_big) R.Offset.number (input_of self.old (asked.ParameterAnswer parameter_value)) self.old self.new result self.old.status }
-        ensures counts { ResumesPath (input_of self.old (asked.ParameterAnswer parameter_value)) self.old self.new (reply_of (text_of R.bytes R.is_big) R.Offset.number result) self.old.status }
+        ensures follows { Resumes (text_of R.bytes R.is_big) R.Offset.number
+            (input_of self.old (asked.ParameterAnswer parameter_value)) self.old self.new result
+            self.old.status }
+        ensures counts { ResumesPath (input_of self.old (asked.ParameterAnswer parameter_value))
+            self.old self.new (reply_of (text_of R.bytes R.is_big) R.Offset.number result)
+            self.old.status }
         ensures admits { IfOk result (λ told. Admits told self.new.status) }
         ensures fewer { IfOk result (λ told. calls_left self.new < calls_left self.old) }
     {
@@ -309,8 +344,11 @@ impl<R: Reader + Copy, S: EvaluationStorage<R>> Evaluation<R, S> {
     /// Goes on with the relocated address, after `RequiresRelocatedAddress`.
     pub fn resume_with_relocated_address(&mut self, address: u64) -> Result<EvaluationResult<R>>
         requires { IsOpenFor kind.RelocatedAddress self.old.status }
-        ensures follows { Resumes (text_of R.bytes R.is_big) R.Offset.number (input_of self.old (asked.RelocatedAnswer address)) self.old self.new result self.old.status }
-        ensures counts { ResumesPath (input_of self.old (asked.RelocatedAnswer address)) self.old self.new (reply_of (text_of R.bytes R.is_big) R.Offset.number result) self.old.status }
+        ensures follows { Resumes (text_of R.bytes R.is_big) R.Offset.number
+            (input_of self.old (asked.RelocatedAnswer address)) self.old self.new result
+            self.old.status }
+        ensures counts { ResumesPath (input_of self.old (asked.RelocatedAnswer address)) self.old
+            self.new (reply_of (text_of R.bytes R.is_big) R.Offset.number result) self.old.status }
         ensures admits { IfOk result (λ told. Admits told self.new.status) }
         ensures fewer { IfOk result (λ told. calls_left self.new < calls_left self.old) }
     {
@@ -320,8 +358,11 @@ impl<R: Reader + Copy, S: EvaluationStorage<R>> Evaluation<R, S> {
     /// Goes on with what stands at the index, after `RequiresIndexedAddress`.
     pub fn resume_with_indexed_address(&mut self, address: u64) -> Result<EvaluationResult<R>>
         requires { IsOpenFor kind.IndexedAddress self.old.status }
-        ensures follows { Resumes (text_of R.bytes R.is_big) R.Offset.number (input_of self.old (asked.IndexedAnswer address)) self.old self.new result self.old.status }
-        ensures counts { ResumesPath (input_of self.old (asked.IndexedAnswer address)) self.old self.new (reply_of (text_of R.bytes R.is_big) R.Offset.number result) self.old.status }
+        ensures follows { Resumes (text_of R.bytes R.is_big) R.Offset.number
+            (input_of self.old (asked.IndexedAnswer address)) self.old self.new result
+            self.old.status }
+        ensures counts { ResumesPath (input_of self.old (asked.IndexedAnswer address)) self.old
+            self.new (reply_of (text_of R.bytes R.is_big) R.Offset.number result) self.old.status }
         ensures admits { IfOk result (λ told. Admits told self.new.status) }
         ensures fewer { IfOk result (λ told. calls_left self.new < calls_left self.old) }
     {
@@ -331,8 +372,11 @@ impl<R: Reader + Copy, S: EvaluationStorage<R>> Evaluation<R, S> {
     /// Goes on with the base type, after `RequiresBaseType`.
     pub fn resume_with_base_type(&mut self, base_type: ValueType) -> Result<EvaluationResult<R>>
         requires { IsOpenFor kind.BaseType self.old.status }
-        ensures follows { Resumes (text_of R.bytes R.is_big) R.Offset.number (input_of self.old (asked.BaseTypeAnswer base_type)) self.old self.new result self.old.status }
-        ensures counts { ResumesPath (input_of self.old (asked.BaseTypeAnswer base_type)) self.old self.new (reply_of (text_of R.bytes R.is_big) R.Offset.number result) self.old.status }
+        ensures follows { Resumes (text_of R.bytes R.is_big) R.Offset.number
+            (input_of self.old (asked.BaseTypeAnswer base_type)) self.old self.new result
+            self.old.status }
+        ensures counts { ResumesPath (input_of self.old (asked.BaseTypeAnswer base_type)) self.old
+            self.new (reply_of (text_of R.bytes R.is_big) R.Offset.number result) self.old.status }
         ensures admits { IfOk result (λ told. Admits told self.new.status) }
         ensures fewer { IfOk result (λ told. calls_left self.new < calls_left self.old) }
     {
@@ -353,7 +397,8 @@ impl<R: Reader + Copy, S: EvaluationStorage<R>> Evaluation<R, S> {
     /// The pieces of a complete evaluation.
     pub fn as_result(&self) -> &[Piece<R>]
         requires { IsComplete self.now.status }
-        ensures { map (piece_of (text_of R.bytes R.is_big) R.Offset.number) result.now ≡ self.now.store.pieces }
+        ensures { map (piece_of (text_of R.bytes R.is_big) R.Offset.number) result.now
+            ≡ self.now.store.pieces }
     {
         self.machine.pieces()
     }

@@ -17,8 +17,11 @@ use dwarf_store::EvaluationStorage;
 
 /// What is asked.
 pub(crate) fn result_of<R: Reader + Copy>(request: OpenRequest<R>) -> EvaluationResult<R>
-    ensures told { ok_reply (text_of R.bytes R.is_big) R.Offset.number result ≡ RequestReply (request_of (text_of R.bytes R.is_big) R.Offset.number request) }
-    ensures admits { Admits result (RequestStatus (request_of (text_of R.bytes R.is_big) R.Offset.number request) (waiting_of (text_of R.bytes R.is_big) request)) }
+    ensures told { ok_reply (text_of R.bytes R.is_big) R.Offset.number result
+        ≡ RequestReply (request_of (text_of R.bytes R.is_big) R.Offset.number request) }
+    ensures admits { Admits result
+        (RequestStatus (request_of (text_of R.bytes R.is_big) R.Offset.number request)
+        (waiting_of (text_of R.bytes R.is_big) request)) }
 {
     match request {
         OpenRequest::Memory {
@@ -68,8 +71,10 @@ pub(crate) fn result_of<R: Reader + Copy>(request: OpenRequest<R>) -> Evaluation
 
 /// The kind of its answer.
 pub(crate) fn kind_of_open<R: Reader + Copy>(request: OpenRequest<R>) -> WaitingKind
-    ensures waits { kind_of result ≡ kind_of_waiting (waiting_of (text_of R.bytes R.is_big) request) }
-    ensures asks { kind_of result ≡ kind_of_request (request_of (text_of R.bytes R.is_big) R.Offset.number request) }
+    ensures waits { kind_of result
+        ≡ kind_of_waiting (waiting_of (text_of R.bytes R.is_big) request) }
+    ensures asks { kind_of result
+        ≡ kind_of_request (request_of (text_of R.bytes R.is_big) R.Offset.number request) }
 {
     match request {
         OpenRequest::Memory { .. } => WaitingKind::Memory,
@@ -96,7 +101,8 @@ pub(crate) fn reply<R: Reader + Copy, S: EvaluationStorage<R>>(
     machine: &Machine<R, S>,
 ) -> Result<EvaluationResult<R>>
     requires { HasStopped machine.now.status }
-    ensures told { IsReplied (reply_of (text_of R.bytes R.is_big) R.Offset.number result) machine.now.status }
+    ensures told { IsReplied (reply_of (text_of R.bytes R.is_big) R.Offset.number result)
+        machine.now.status }
     ensures admits { IfOk result (λ told. Admits told machine.now.status) }
 {
     match machine.state() {

@@ -40,11 +40,16 @@ impl<R: Reader + Copy> OperationIter<R> {
     /// The errors are those of [`Operation::parse`]. After one nothing is left.
     #[inline]
     pub fn next(&mut self) -> Result<Option<Operation<R>>>
-        ensures value { GivesNext (operation_of (text_of R.bytes R.is_big) R.Offset.number) result (R.bytes (unread_of self.new)) (R.bytes (unread_of self.old)) (operation_at (encoding_of self.old) R.Offset.BITS (text_of R.bytes R.is_big (unread_of self.old))) }
+        ensures value { GivesNext (operation_of (text_of R.bytes R.is_big) R.Offset.number) result
+            (R.bytes (unread_of self.new)) (R.bytes (unread_of self.old))
+            (operation_at (encoding_of self.old) R.Offset.BITS
+            (text_of R.bytes R.is_big (unread_of self.old))) }
         ensures rest { IsSuffix (R.bytes (unread_of self.new)) (R.bytes (unread_of self.old)) }
         ensures order { R.is_big (unread_of self.new) ≡ R.is_big (unread_of self.old) }
         ensures encoding { encoding_of self.new ≡ encoding_of self.old }
-        ensures items { GivesItem (operation_of (text_of R.bytes R.is_big) R.Offset.number) result (items_left R.bytes R.is_big R.Offset.BITS self.new) (items_left R.bytes R.is_big R.Offset.BITS self.old) }
+        ensures items { GivesItem (operation_of (text_of R.bytes R.is_big) R.Offset.number) result
+            (items_left R.bytes R.is_big R.Offset.BITS self.new)
+            (items_left R.bytes R.is_big R.Offset.BITS self.old) }
     {
         if self.input.is_empty() {
             return Ok(None);
@@ -64,7 +69,8 @@ impl<R: Reader + Copy> OperationIter<R> {
     #[inline]
     pub fn offset_from(&self, expression: &Expression<R>) -> R::Offset
         requires { IsSuffix (R.bytes (unread_of self.now)) (R.bytes expression.now.0) }
-        ensures { R.Offset.number result ≡ length (R.bytes expression.now.0) - length (R.bytes (unread_of self.now)) }
+        ensures { R.Offset.number result
+            ≡ length (R.bytes expression.now.0) - length (R.bytes (unread_of self.now)) }
     {
         self.input.offset_from(&expression.0)
     }

@@ -32,8 +32,8 @@ returns-clause-performs g c =
     let left = g.R.Reader.bytes c.perform_entry.new.left in
     let row = entry_row c.args.encoding opcode c.entry_at.result in
     let same : operation_at c.args.encoding bits (text_of g.R.Reader.bytes g.R.Reader.is_big c.args.left.now) ≡ operands_at (context_of c.args.encoding bits (g.R.Reader.is_big c.read_u8.new.self)) row rest =
-        ap (λ (z : Result (ℕ × List ℕ) Fault). z >>= λ opcode. operands_at (context_of c.args.encoding bits big) (row_of c.args.encoding opcode.0) opcode.1) c.in_ok-opcode.ensures.value
-        ∙ (ap (λ (r : Row). operands_at (context_of c.args.encoding bits big) r rest) (sym (c.entry_at.ensures c.args.encoding))
-        ∙ ap (λ (b : Bool). operands_at (context_of c.args.encoding bits b) row rest) (sym c.in_ok-opcode.ensures.order)) in
+    ap (λ (z : Result (ℕ × List ℕ) Fault). z >>= λ opcode. operands_at (context_of c.args.encoding bits big) (row_of c.args.encoding opcode.0) opcode.1) c.in_ok-opcode.ensures.value
+    ∙ (ap (λ (r : Row). operands_at (context_of c.args.encoding bits big) r rest) (sym (c.entry_at.ensures c.args.encoding))
+    ∙ ap (λ (b : Bool). operands_at (context_of c.args.encoding bits b) row rest) (sym c.in_ok-opcode.ensures.order)) in
     subst (λ (read : Result (Operation × List ℕ) Fault). TriesToPerform read left (read_to c.args.self.now.place c.args.self.now) c.perform_entry.new.self c.perform_entry.result) (sym same)
     (subst (λ (old : State). TriesToPerform (operands_at (context_of c.args.encoding bits (g.R.Reader.is_big c.read_u8.new.self)) row rest) left old c.perform_entry.new.self c.perform_entry.result) c.tick.ensures c.perform_entry.ensures.performs)

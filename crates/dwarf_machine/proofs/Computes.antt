@@ -3,14 +3,12 @@ use Rattle.std.proofs.Common.{ℕ, ◌≡◌, List, [], ◌∷◌, Result, Ok, E
 use Rattle.dwarf_base.specs.declared.errors.Error.{Error}
 use Rattle.dwarf_base.specs.Faults.{fault_of, NotEnoughStackItems}
 use Rattle.dwarf_value.specs.declared.types.Value.{Value}
-use Rattle.dwarf_value.specs.Values.{width_of}
 use Rattle.dwarf_meaning.specs.Acts.{FaultAct, on_top, on_result, result_of, short, push, unary, binary}
 use Rattle.dwarf_meaning.specs.Stores.{Plain, address_bits, push_value}
 use Rattle.dwarf_meaning.specs.Rest.{State, Running, FaultStatus}
 use Rattle.dwarf_meaning.proofs.Choices.{top_none, top_some, answer_ok, answer_err}
 use Rattle.dwarf_machine.specs.inner.Steps.{Pops, Tried, Performs, with_values}
 use Rattle.dwarf_machine.specs.Inputs.{with_status}
-use Rattle.dwarf_machine.specs.inner.Operators.{Computes}
 use Rattle.dwarf_machine.proofs.Performances.{performs_as, performs_push, performs_refuses, PopsTwo, fewer_two, stays_two}
 use Rattle.dwarf_machine.proofs.Staying.{fewer_one, stays_popped}
 
@@ -66,20 +64,20 @@ module _ (F : ℕ → Value → Result Value Error) (old mid : State) (x : Value
   unary_refuses error new e is =
       performs_refuses _ error old mid new (unary_err (F (address_bits old.setup)) old.store.values x pops.0 error pops.1 (call_is (Err error) e)) (stays_popped (Some x) old mid pops) is
 
--- a call of two values that gives what f gives
-module _ (post : Value → Value → ℕ → Result Value Error → Type 0) (f : Value → Value → Result Value Error) (old mid : State) (y x : Value) (mask : ℕ) (r : Result Value Error) (is : Computes post (address_bits old.setup) f) (pops : PopsTwo y x old mid) (width : width_of mask ≡ address_bits mid.setup) (called : post x y mask r) where
-  call_two : r ≡ f x y
-  call_two = is x y mask r (width_old (width_of mask) pops.rest old mid pops.alone width) called
+-- the same of two values
+module _ (F : ℕ → Value → Value → Result Value Error) (old mid : State) (y x : Value) (width : ℕ) (pops : PopsTwo y x old mid) (is : width ≡ address_bits mid.setup) where
+  call_two : (r : Result Value Error) → r ≡ F width x y → F (address_bits old.setup) x y ≡ r
+  call_two r e = ap (λ (w : ℕ). F w x y) (sym (width_old width pops.rest old mid pops.alone is)) ∙ sym e
 
-  pub binary_pushes : (new : State) (v : Value) → old.status ≡ Running → r ≡ Ok v → Tried 0 (λ s. push_value mid.setup v (record s { last = Plain })) mid new → Performs (binary f old.store.values) old new
+  pub binary_pushes : (new : State) (v : Value) → old.status ≡ Running → Ok v ≡ F width x y → Tried 0 (λ s. push_value mid.setup v (record s { last = Plain })) mid new → Performs (binary (F (address_bits old.setup)) old.store.values) old new
   binary_pushes new v runs e h =
-      performs_as _ (push pops.rest v) old new (binary_ok f old.store.values y x pops.rest v pops.values (sym call_two ∙ e))
+      performs_as _ (push pops.rest v) old new (binary_ok (F (address_bits old.setup)) old.store.values y x pops.rest v pops.values (call_two (Ok v) e))
       (performs_push pops.rest v old mid new runs (let n = fewer_two y x pops.rest old.store.values pops.values in omega (arith, n)) pops.alone h)
 
-  pub binary_refuses : (error : Error) (new : State) → r ≡ Err error → new ≡ with_status (FaultStatus error) mid → Performs (binary f old.store.values) old new
+  pub binary_refuses : (error : Error) (new : State) → Err error ≡ F width x y → new ≡ with_status (FaultStatus error) mid → Performs (binary (F (address_bits old.setup)) old.store.values) old new
   binary_refuses error new e stopped =
-      performs_refuses _ error old mid new (binary_err f old.store.values y x pops.rest error pops.values (sym call_two ∙ e)) (stays_two y x old mid pops) stopped
+      performs_refuses _ error old mid new (binary_err (F (address_bits old.setup)) old.store.values y x pops.rest error pops.values (call_two (Err error) e)) (stays_two y x old mid pops) stopped
 
 -- the same from a state that is the old one
-pub same_binary : (post : Value → Value → ℕ → Result Value Error → Type 0) (f : Value → Value → Result Value Error) (old mid new : State) → mid ≡ old → (Computes post (address_bits mid.setup) f → Performs (binary f mid.store.values) mid new) → Computes post (address_bits old.setup) f → Performs (binary f old.store.values) old new
-same_binary post f old mid new e h = subst (λ (z : State). Computes post (address_bits z.setup) f → Performs (binary f z.store.values) z new) e h
+pub same_binary : (F : ℕ → Value → Value → Result Value Error) (old mid new : State) → mid ≡ old → Performs (binary (F (address_bits mid.setup)) mid.store.values) mid new → Performs (binary (F (address_bits old.setup)) old.store.values) old new
+same_binary F old mid new e h = subst (λ (z : State). Performs (binary (F (address_bits z.setup)) z.store.values) z new) e h

@@ -5,6 +5,7 @@
 #![tactic(auto)]
 
 mod answers;
+mod binary;
 mod entries;
 pub mod machine;
 mod operate;

@@ -8,10 +8,11 @@ ghost use Rattle.dwarf_base.specs.Faults.{UnsupportedEvaluation};
 ghost use Rattle.dwarf_value.specs.Values.{add_of, from_u64_of, to_u64_of, type_of};
 ghost use Rattle.dwarf_machine.specs.Inputs.{with_status};
 ghost use Rattle.dwarf_machine.specs.Machine.{location_of, request_of, waiting_of};
-ghost use Rattle.dwarf_machine.specs.inner.Operators.{Computes, IsCallable, unary_of};
+ghost use Rattle.dwarf_machine.specs.inner.Operators.{unary_of};
 ghost use Rattle.dwarf_machine.specs.inner.Steps.{IsRest, Performs, PopsNumber, Tried, Tries, act_of, at};
 ghost use Rattle.dwarf_op.specs.Views.{text_of};
 
+use crate::binary::BinaryOperator;
 use crate::machine::Machine;
 use crate::operators::UnaryOperator;
 use crate::states::{EvaluationState, LastOperation, OpenRequest};
@@ -88,16 +89,15 @@ impl<R: Reader + Copy, S: EvaluationStorage<R>> Machine<R, S> {
 
     /// Puts the call's answer in the place of the two on top.
     #[inline(never)]
-    pub(crate) fn compute_binary<F: Fn(Value, Value, u64) -> Result<Value>>(&mut self, call: F)
-        requires runs { self.old.status ≡ Running }
-        requires callable { IsCallable (F.pre call) }
-        ensures { (f : _) → Computes (F.post call) (address_bits self.old.setup) f → Performs (binary f self.old.store.values) self.old self.new }
+    pub(crate) fn compute_binary<O: BinaryOperator>(&mut self)
+        requires { self.old.status ≡ Running }
+        ensures { Performs (binary (O.meaning (address_bits self.old.setup)) self.old.store.values) self.old self.new }
     {
         let Some((left, right)) = self.pop_generics() else {
-            self.compute_typed(call);
+            self.compute_typed::<O>();
             return;
         };
-        match call(
+        match O::apply(
             Value::Generic(left),
             Value::Generic(right),
             self.addr_mask(),
@@ -109,10 +109,9 @@ impl<R: Reader + Copy, S: EvaluationStorage<R>> Machine<R, S> {
 
     /// The same, of values of any types.
     #[inline(never)]
-    fn compute_typed<F: Fn(Value, Value, u64) -> Result<Value>>(&mut self, call: F)
-        requires runs { self.old.status ≡ Running }
-        requires callable { IsCallable (F.pre call) }
-        ensures { (f : _) → Computes (F.post call) (address_bits self.old.setup) f → Performs (binary f self.old.store.values) self.old self.new }
+    fn compute_typed<O: BinaryOperator>(&mut self)
+        requires { self.old.status ≡ Running }
+        ensures { Performs (binary (O.meaning (address_bits self.old.setup)) self.old.store.values) self.old self.new }
     {
         let Some(right) = self.pop() else {
             self.fall_short();
@@ -122,7 +121,7 @@ impl<R: Reader + Copy, S: EvaluationStorage<R>> Machine<R, S> {
             self.fall_short();
             return;
         };
-        match call(left, right, self.addr_mask()) {
+        match O::apply(left, right, self.addr_mask()) {
             Ok(answer) => self.push_plain(answer),
             Err(error) => self.fail(error),
         }

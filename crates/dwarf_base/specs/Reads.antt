@@ -1,10 +1,15 @@
 -- What is read from the front of a list of bytes: a value and the bytes behind it, or a fault.
-use Rattle.std.specs.Prelude.{ℕ, ◌-◌, ◌*◌, ◌≤◌, ◌≡◌, ◌==◌, ◌||◌, ℤ, Bool, List, [], ◌∷◌, Result, Ok, Err, length, take, drop, nat_lt, if◌then◌else◌}
+use Rattle.std.specs.Prelude.{ℕ, ◌-◌, ◌*◌, ◌≤◌, ◌≡◌, ◌==◌, ◌||◌, ℤ, Bool, List, [], ◌∷◌, Result, Ok, Err, length, take, drop, nat_lt, OnErr, if◌then◌else◌}
 use Rattle.dwarf_base.specs.declared.common.Format.{Format}
 use Rattle.dwarf_base.specs.declared.common.Format.TheVariants.{Dwarf32, Dwarf64}
 use Rattle.dwarf_base.specs.declared.errors.Error.{Error}
 use Rattle.dwarf_base.specs.Faults.{Fault, UnexpectedEof, UnsupportedAddressSize, fault_of, ◌>>=◌}
 use Rattle.dwarf_base.specs.Numbers.{number_of, signed_of, offset_of}
+
+-- bytes in a byte order
+pub record Text : Type 0 where
+  pub bytes : List ℕ
+  pub is_big : Bool
 
 -- what a call gives, seen through `view`, with the bytes that it leaves, is what is read, or its fault
 abbrev pub Gives : {X Y : Type 0} → (X → Y) → Result X Error → List ℕ → Result (Y × List ℕ) Fault → Type 0
@@ -15,6 +20,24 @@ Gives view (Err e) left read = read ≡ Err (fault_of e)
 pub record IsSuffix (rest bytes : List ℕ) : Type 0 where
   pub no_longer : length rest ≤ length bytes
   pub same : drop (length bytes - length rest) bytes ≡ rest
+
+-- a read, from the text before to the text behind it: what is read or its fault, and some end of the text in the same order
+pub record Reads {X Y : Type 0} (view : X → Y) (old new : Text) (result : Result X Error) (read : Result (Y × List ℕ) Fault) : Type 0 where
+  pub value : Gives view result new.bytes read
+  pub rest : IsSuffix new.bytes old.bytes
+  pub order : new.is_big ≡ old.is_big
+
+-- the same of a single read: where it is refused all bytes are left
+pub record ReadsAtOnce {X Y : Type 0} (view : X → Y) (old new : Text) (result : Result X Error) (read : Result (Y × List ℕ) Fault) : Type 0 where
+  pub value : Gives view result new.bytes read
+  pub kept : OnErr result (new.bytes ≡ old.bytes)
+  pub rest : IsSuffix new.bytes old.bytes
+  pub order : new.is_big ≡ old.is_big
+
+-- what is left of a text
+pub record IsLeftOf (left whole : Text) : Type 0 where
+  pub rest : IsSuffix left.bytes whole.bytes
+  pub order : left.is_big ≡ whole.is_big
 
 -- the first n bytes
 abbrev pub split_at : ℕ → List ℕ → Result (List ℕ × List ℕ) Fault

@@ -1,6 +1,6 @@
 ghost use Rattle.std.specs.Prelude.{◌≡◌, ℕ, Bool, List, [], length, ◌-◌, ◌%◌, ◌^◌, ◌<◌, ◌==◌, IfOk, OnErr, IsTrue};
 ghost use Rattle.dwarf_base.specs.Leb.{uleb_at, uleb_u32_at, sleb_at, leb_from, unsigned_leb, signed_leb};
-ghost use Rattle.dwarf_base.specs.Reads.{Gives, IsSuffix, u8_at, split_at, skip_at, fixed_at, signed_at, address_at, format_at, is_fixed_size};
+ghost use Rattle.dwarf_base.specs.Reads.{Reads, ReadsAtOnce, Text, IsSuffix, u8_at, split_at, skip_at, fixed_at, signed_at, address_at, format_at, is_fixed_size};
 
 use crate::common::Format;
 use crate::errors::{Error, Result};
@@ -17,68 +17,50 @@ pub trait Reader: Debug {
     /// How it counts bytes.
     type Offset: ReaderOffset;
 
-    // The bytes that are left to read.
-    ghost bytes: { Self → List ℕ };
-
-    // Whether the first byte of a number is its highest.
-    ghost is_big: { Self → Bool };
+    // The bytes that are left to read, and their order.
+    ghost text: { Self → Text };
 
     /// How many bytes are left.
     fn len(&self) -> Self::Offset
-        ensures { Self.Offset.number result ≡ length (bytes self.now) };
+        ensures { Self.Offset.number result ≡ length (text self.now).bytes };
 
     /// Whether no byte is left.
     fn is_empty(&self) -> bool
-        ensures { result ≡ (length (bytes self.now) == 0) };
+        ensures { result ≡ (length (text self.now).bytes == 0) };
 
     /// Drops all bytes.
     fn empty(&mut self)
-        ensures bytes { bytes self.new ≡ [] }
-        ensures order { is_big self.new ≡ is_big self.old };
+        ensures bytes { (text self.new).bytes ≡ [] }
+        ensures order { (text self.new).is_big ≡ (text self.old).is_big };
 
     /// How many bytes of `base` come before these, which are a suffix of its bytes.
     fn offset_from(&self, base: &Self) -> Self::Offset
-        requires { IsSuffix (bytes self.now) (bytes base.now) }
-        ensures { Self.Offset.number result ≡ length (bytes base.now) - length (bytes self.now) };
+        requires { IsSuffix (text self.now).bytes (text base.now).bytes }
+        ensures { Self.Offset.number result ≡ length (text base.now).bytes - length (text self.now).bytes };
 
     /// Drops the first `len` bytes. `UnexpectedEof` where there are fewer.
     fn skip(&mut self, len: Self::Offset) -> Result<()>
-        ensures value { Gives (λ x. x) result (bytes self.new) (skip_at (Self.Offset.number len) (bytes self.old)) }
-        ensures kept { OnErr result (bytes self.new ≡ bytes self.old) }
-        ensures rest { IsSuffix (bytes self.new) (bytes self.old) }
-        ensures order { is_big self.new ≡ is_big self.old };
+        ensures { ReadsAtOnce (λ x. x) (text self.old) (text self.new) result (skip_at (Self.Offset.number len) (text self.old).bytes) };
 
     /// Takes the first `len` bytes, in the same byte order. `UnexpectedEof` where there are fewer.
     fn split(&mut self, len: Self::Offset) -> Result<Self>
-        ensures value { Gives bytes result (bytes self.new) (split_at (Self.Offset.number len) (bytes self.old)) }
-        ensures front_order { IfOk result (λ front. is_big front ≡ is_big self.old) }
-        ensures kept { OnErr result (bytes self.new ≡ bytes self.old) }
-        ensures rest { IsSuffix (bytes self.new) (bytes self.old) }
-        ensures order { is_big self.new ≡ is_big self.old };
+        ensures reads { ReadsAtOnce (λ front. (text front).bytes) (text self.old) (text self.new) result (split_at (Self.Offset.number len) (text self.old).bytes) }
+        ensures front_order { IfOk result (λ front. (text front).is_big ≡ (text self.old).is_big) };
 
     /// Reads one byte. `UnexpectedEof` where there is none.
     fn read_u8(&mut self) -> Result<u8>
-        ensures value { Gives (λ n. n) result (bytes self.new) (u8_at (bytes self.old)) }
-        ensures kept { OnErr result (bytes self.new ≡ bytes self.old) }
-        ensures rest { IsSuffix (bytes self.new) (bytes self.old) }
-        ensures order { is_big self.new ≡ is_big self.old };
+        ensures { ReadsAtOnce (λ n. n) (text self.old) (text self.new) result (u8_at (text self.old).bytes) };
 
     /// Reads an unsigned number of `n` bytes, which are 1, 2, 4 or 8. `UnexpectedEof` where there are fewer.
     fn read_fixed(&mut self, n: u8) -> Result<u64>
         requires { IsTrue (is_fixed_size n) }
-        ensures value { Gives (λ x. x) result (bytes self.new) (fixed_at (is_big self.old) n (bytes self.old)) }
-        ensures fits { IfOk result (λ number. number < 256 ^ n) }
-        ensures kept { OnErr result (bytes self.new ≡ bytes self.old) }
-        ensures rest { IsSuffix (bytes self.new) (bytes self.old) }
-        ensures order { is_big self.new ≡ is_big self.old };
+        ensures reads { ReadsAtOnce (λ x. x) (text self.old) (text self.new) result (fixed_at (text self.old).is_big n (text self.old).bytes) }
+        ensures fits { IfOk result (λ number. number < 256 ^ n) };
 
     /// Reads an unsigned number of 2 bytes. `UnexpectedEof` where there are fewer.
     #[inline]
     fn read_u16(&mut self) -> Result<u16>
-        ensures value { Gives (λ x. x) result (bytes self.new) (fixed_at (is_big self.old) 2 (bytes self.old)) }
-        ensures kept { OnErr result (bytes self.new ≡ bytes self.old) }
-        ensures rest { IsSuffix (bytes self.new) (bytes self.old) }
-        ensures order { is_big self.new ≡ is_big self.old }
+        ensures { ReadsAtOnce (λ x. x) (text self.old) (text self.new) result (fixed_at (text self.old).is_big 2 (text self.old).bytes) }
     {
         let number = self.read_fixed(2)?;
         Ok(number as u16)
@@ -87,10 +69,7 @@ pub trait Reader: Debug {
     /// Reads an unsigned number of 4 bytes. `UnexpectedEof` where there are fewer.
     #[inline]
     fn read_u32(&mut self) -> Result<u32>
-        ensures value { Gives (λ x. x) result (bytes self.new) (fixed_at (is_big self.old) 4 (bytes self.old)) }
-        ensures kept { OnErr result (bytes self.new ≡ bytes self.old) }
-        ensures rest { IsSuffix (bytes self.new) (bytes self.old) }
-        ensures order { is_big self.new ≡ is_big self.old }
+        ensures { ReadsAtOnce (λ x. x) (text self.old) (text self.new) result (fixed_at (text self.old).is_big 4 (text self.old).bytes) }
     {
         let number = self.read_fixed(4)?;
         Ok(number as u32)
@@ -99,10 +78,7 @@ pub trait Reader: Debug {
     /// Reads an unsigned number of 8 bytes. `UnexpectedEof` where there are fewer.
     #[inline]
     fn read_u64(&mut self) -> Result<u64>
-        ensures value { Gives (λ x. x) result (bytes self.new) (fixed_at (is_big self.old) 8 (bytes self.old)) }
-        ensures kept { OnErr result (bytes self.new ≡ bytes self.old) }
-        ensures rest { IsSuffix (bytes self.new) (bytes self.old) }
-        ensures order { is_big self.new ≡ is_big self.old }
+        ensures { ReadsAtOnce (λ x. x) (text self.old) (text self.new) result (fixed_at (text self.old).is_big 8 (text self.old).bytes) }
     {
         self.read_fixed(8)
     }
@@ -110,10 +86,7 @@ pub trait Reader: Debug {
     /// Reads a signed number of 1 byte, in two's complement. `UnexpectedEof` where there is none.
     #[inline]
     fn read_i8(&mut self) -> Result<i8>
-        ensures value { Gives (λ x. x) result (bytes self.new) (signed_at (is_big self.old) 1 (bytes self.old)) }
-        ensures kept { OnErr result (bytes self.new ≡ bytes self.old) }
-        ensures rest { IsSuffix (bytes self.new) (bytes self.old) }
-        ensures order { is_big self.new ≡ is_big self.old }
+        ensures { ReadsAtOnce (λ x. x) (text self.old) (text self.new) result (signed_at (text self.old).is_big 1 (text self.old).bytes) }
     {
         let number = self.read_fixed(1)?;
         Ok((number as u8).cast_signed())
@@ -122,10 +95,7 @@ pub trait Reader: Debug {
     /// Reads a signed number of 2 bytes, in two's complement. `UnexpectedEof` where there are fewer.
     #[inline]
     fn read_i16(&mut self) -> Result<i16>
-        ensures value { Gives (λ x. x) result (bytes self.new) (signed_at (is_big self.old) 2 (bytes self.old)) }
-        ensures kept { OnErr result (bytes self.new ≡ bytes self.old) }
-        ensures rest { IsSuffix (bytes self.new) (bytes self.old) }
-        ensures order { is_big self.new ≡ is_big self.old }
+        ensures { ReadsAtOnce (λ x. x) (text self.old) (text self.new) result (signed_at (text self.old).is_big 2 (text self.old).bytes) }
     {
         let number = self.read_u16()?;
         Ok(number.cast_signed())
@@ -134,10 +104,7 @@ pub trait Reader: Debug {
     /// Reads a signed number of 4 bytes, in two's complement. `UnexpectedEof` where there are fewer.
     #[inline]
     fn read_i32(&mut self) -> Result<i32>
-        ensures value { Gives (λ x. x) result (bytes self.new) (signed_at (is_big self.old) 4 (bytes self.old)) }
-        ensures kept { OnErr result (bytes self.new ≡ bytes self.old) }
-        ensures rest { IsSuffix (bytes self.new) (bytes self.old) }
-        ensures order { is_big self.new ≡ is_big self.old }
+        ensures { ReadsAtOnce (λ x. x) (text self.old) (text self.new) result (signed_at (text self.old).is_big 4 (text self.old).bytes) }
     {
         let number = self.read_u32()?;
         Ok(number.cast_signed())
@@ -146,10 +113,7 @@ pub trait Reader: Debug {
     /// Reads a signed number of 8 bytes, in two's complement. `UnexpectedEof` where there are fewer.
     #[inline]
     fn read_i64(&mut self) -> Result<i64>
-        ensures value { Gives (λ x. x) result (bytes self.new) (signed_at (is_big self.old) 8 (bytes self.old)) }
-        ensures kept { OnErr result (bytes self.new ≡ bytes self.old) }
-        ensures rest { IsSuffix (bytes self.new) (bytes self.old) }
-        ensures order { is_big self.new ≡ is_big self.old }
+        ensures { ReadsAtOnce (λ x. x) (text self.old) (text self.new) result (signed_at (text self.old).is_big 8 (text self.old).bytes) }
     {
         let number = self.read_u64()?;
         Ok(number.cast_signed())
@@ -159,10 +123,7 @@ pub trait Reader: Debug {
     /// read, where that is none of 1, 2, 4 and 8. `UnexpectedEof` where there are fewer bytes.
     #[inline]
     fn read_address(&mut self, size: u8) -> Result<u64>
-        ensures value { Gives (λ x. x) result (bytes self.new) (address_at (is_big self.old) size (bytes self.old)) }
-        ensures kept { OnErr result (bytes self.new ≡ bytes self.old) }
-        ensures rest { IsSuffix (bytes self.new) (bytes self.old) }
-        ensures order { is_big self.new ≡ is_big self.old }
+        ensures { ReadsAtOnce (λ x. x) (text self.old) (text self.new) result (address_at (text self.old).is_big size (text self.old).bytes) }
     {
         if !matches!(size, 1 | 2 | 4 | 8) {
             return Err(Error::UnsupportedAddressSize(size));
@@ -174,9 +135,7 @@ pub trait Reader: Debug {
     /// `UnexpectedEof` where there are fewer bytes, then `UnsupportedOffset` where it doesn't fit.
     #[inline]
     fn read_offset(&mut self, format: Format) -> Result<Self::Offset>
-        ensures value { Gives Self.Offset.number result (bytes self.new) (format_at (is_big self.old) format Self.Offset.BITS (bytes self.old)) }
-        ensures rest { IsSuffix (bytes self.new) (bytes self.old) }
-        ensures order { is_big self.new ≡ is_big self.old }
+        ensures { Reads Self.Offset.number (text self.old) (text self.new) result (format_at (text self.old).is_big format Self.Offset.BITS (text self.old).bytes) }
     {
         let number = match format {
             Format::Dwarf32 => self.read_fixed(4)?,
@@ -189,9 +148,7 @@ pub trait Reader: Debug {
     /// 64 bits. `UnexpectedEof` where the bytes end before.
     #[inline(always)]
     final fn read_uleb128(&mut self) -> Result<u64>
-        ensures value { Gives (λ x. x) result (bytes self.new) (uleb_at (bytes self.old)) }
-        ensures rest { IsSuffix (bytes self.new) (bytes self.old) }
-        ensures order { is_big self.new ≡ is_big self.old }
+        ensures { Reads (λ x. x) (text self.old) (text self.new) result (uleb_at (text self.old).bytes) }
     {
         let first = self.read_u8()?;
         if first < 128 {
@@ -204,9 +161,7 @@ pub trait Reader: Debug {
     /// the number is above 4294967295.
     #[inline(always)]
     final fn read_uleb128_u32(&mut self) -> Result<u32>
-        ensures value { Gives (λ x. x) result (bytes self.new) (uleb_u32_at (bytes self.old)) }
-        ensures rest { IsSuffix (bytes self.new) (bytes self.old) }
-        ensures order { is_big self.new ≡ is_big self.old }
+        ensures { Reads (λ x. x) (text self.old) (text self.new) result (uleb_u32_at (text self.old).bytes) }
     {
         let number = self.read_uleb128()?;
         match u32::try_from(number) {
@@ -219,9 +174,7 @@ pub trait Reader: Debug {
     /// 64 bits. `UnexpectedEof` where the bytes end before.
     #[inline(always)]
     final fn read_sleb128(&mut self) -> Result<i64>
-        ensures value { Gives (λ x. x) result (bytes self.new) (sleb_at (bytes self.old)) }
-        ensures rest { IsSuffix (bytes self.new) (bytes self.old) }
-        ensures order { is_big self.new ≡ is_big self.old }
+        ensures { Reads (λ x. x) (text self.old) (text self.new) result (sleb_at (text self.old).bytes) }
     {
         let first = self.read_u8()?;
         if first < 64 {
@@ -237,9 +190,7 @@ pub trait Reader: Debug {
 // The number of a first byte that goes on, and the bytes behind it. Apart, so that one byte is read in line.
 #[inline(never)]
 fn rest_of_uleb128<R: Reader>(reader: &mut R, first: u8) -> Result<u64>
-    ensures value { Gives (λ x. x) result (R.bytes reader.new) (leb_from unsigned_leb 1 (first % 128) (R.bytes reader.old)) }
-    ensures rest { IsSuffix (R.bytes reader.new) (R.bytes reader.old) }
-    ensures order { R.is_big reader.new ≡ R.is_big reader.old }
+    ensures { Reads (λ x. x) (R.text reader.old) (R.text reader.new) result (leb_from unsigned_leb 1 (first % 128) (R.text reader.old).bytes) }
 {
     let mut number = u64::from(first % 128);
     for place in 1..9u32 {
@@ -261,9 +212,7 @@ fn rest_of_uleb128<R: Reader>(reader: &mut R, first: u8) -> Result<u64>
 // The number of a first byte that goes on, and the bytes behind it. Apart, so that one byte is read in line.
 #[inline(never)]
 fn rest_of_sleb128<R: Reader>(reader: &mut R, first: u8) -> Result<i64>
-    ensures value { Gives (λ x. x) result (R.bytes reader.new) (leb_from signed_leb 1 (first % 128) (R.bytes reader.old)) }
-    ensures rest { IsSuffix (R.bytes reader.new) (R.bytes reader.old) }
-    ensures order { R.is_big reader.new ≡ R.is_big reader.old }
+    ensures { Reads (λ x. x) (R.text reader.old) (R.text reader.new) result (leb_from signed_leb 1 (first % 128) (R.text reader.old).bytes) }
 {
     let mut number = u64::from(first % 128);
     for place in 1..9u32 {

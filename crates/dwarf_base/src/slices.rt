@@ -104,9 +104,7 @@ impl<'input, E: Endianity + Default> Default for EndianSlice<'input, E> {
 impl<'input, E: Endianity> Reader for EndianSlice<'input, E> {
     type Offset = usize;
 
-    ghost bytes = { slice_bytes };
-
-    ghost is_big = { λ reader. E.is_big (slice_order reader) };
+    ghost text = { λ reader. record { bytes = slice_bytes reader; is_big = E.is_big (slice_order reader) } };
 
     #[inline]
     fn len(&self) -> usize {

@@ -12,12 +12,11 @@ pub fn decode(bytes: &[u8], job: Job) -> u64 {
     let mut count = 0u64;
     let mut sum = 0u64;
     'operations: while !text.is_empty() {
-        let parsed = Operation::parse(&mut text, encoding);
-        match &parsed {
+        match Operation::parse(&mut text, encoding) {
             Ok(operation) => {
                 // That this may be so at any operation makes the compiler build each of them.
                 if count >= u64::from(job.counted) {
-                    sum = mix_operation(sum, operation);
+                    sum = mix_operation(sum, &operation);
                 }
                 count = count.wrapping_add(1);
             }

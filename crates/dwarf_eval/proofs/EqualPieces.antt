@@ -10,8 +10,8 @@ use Rattle.std.specs.Option.{option_eq}
 use Rattle.dwarf_base.specs.declared.offsets.ReaderOffset as reader_offset
 use Rattle.dwarf_base.specs.declared.reading.Reader as reader
 use Rattle.dwarf_base.specs.Equality.{IsEqualityOf}
+use Rattle.dwarf_base.specs.Reads.{Text}
 use Rattle.dwarf_meaning.specs.Locations as meaning
-use Rattle.dwarf_meaning.specs.Operations.{Text}
 use Rattle.dwarf_op.specs.contracts.locations.LocationPartialEq.TheImpl as locations
 use Rattle.dwarf_op.specs.contracts.locations.PiecePartialEq.TheImpl as pieces
 use Rattle.dwarf_op.specs.declared.locations.Location.{Location}

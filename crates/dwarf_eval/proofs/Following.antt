@@ -4,14 +4,15 @@ use Rattle.std.proofs.lemmas.List.{append-nil}
 use Rattle.dwarf_base.specs.declared.errors.Error.{Error}
 use Rattle.dwarf_base.specs.Faults.{Fault, fault_of}
 use Rattle.dwarf_meaning.specs.Requests.{Request, Input}
-use Rattle.dwarf_meaning.specs.Stores.{Setup, Store, Refusal, Never, After}
+use Rattle.dwarf_meaning.specs.Stores.{Setup, Store}
 use Rattle.dwarf_meaning.specs.Run.{Position, Course, End, CompleteEnd, RequestEnd, FaultEnd, run}
 use Rattle.dwarf_meaning.specs.Meaning.{Outcome, unwound, with_initial, course_from, meaning}
 use Rattle.dwarf_meaning.specs.Rest.{State, Status, Start, Running, RequestStatus, CompleteStatus, FaultStatus, with_refusal, rest_from_start, rest_by, rest}
 use Rattle.dwarf_meaning.specs.Steps.{Reply, RequestReply, reply}
-use Rattle.dwarf_eval.specs.Evaluation.{Counts, Follows, IsFresh, IsLater, IsOpen, IsReplied, after_input, means, means_path, path_after}
+use Rattle.dwarf_meaning.specs.Refusals.{Refusal, Never, After, before_pushes, IsLater}
+use Rattle.dwarf_eval.specs.Evaluation.{Counts, Follows, IsFresh, IsOpen, IsReplied, after_input, means, means_path, path_after}
 use Rattle.dwarf_eval.specs.Paths.{path, path_behind, path_by, path_started, path_through}
-use Rattle.dwarf_machine.specs.inner.Steps.{before_pushes, Total, total, total_after, Reaches, Falls, EndsBy, Ends}
+use Rattle.dwarf_machine.specs.inner.Steps.{Total, total, total_after, Reaches, Falls, EndsBy, Ends}
 use Rattle.dwarf_machine.proofs.Refusals.{before_never, before_later}
 
 open_reply : (setup : Setup) (callers : List Position) (request : Request) (positions : List Position) (inputs : List Input) → reply (unwound setup callers (RequestEnd request positions inputs)) ≡ RequestReply request

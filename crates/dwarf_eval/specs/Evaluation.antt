@@ -1,13 +1,13 @@
 -- What a call of an evaluation replies: the nested meaning, and what is left of it.
-pub use Rattle.dwarf_machine.specs.Inputs.{HasFreeList, MayPick, before_input, input_of, Keeps, with_status, first_of, IsFresh, most_iterations, with_object, with_maximum}
-use Rattle.std.specs.Prelude.{ℕ, zero, suc, ◌≡◌, ◌+◌, List, [], ◌∷◌, Option, Result, Ok, Err, length}
+pub use Rattle.dwarf_machine.specs.Inputs.{input_of, Keeps, with_status, first_of, IsFresh, most_iterations, with_object, with_maximum}
+use Rattle.std.specs.Prelude.{ℕ, ◌≡◌, ◌+◌, List, [], ◌∷◌, Option, Result, Ok, Err, length}
 use Rattle.dwarf_base.specs.declared.errors.Error.{Error}
 use Rattle.dwarf_base.specs.Faults.{fault_of}
+use Rattle.dwarf_base.specs.Reads.{Text}
 use Rattle.dwarf_value.specs.declared.types.Value.{Value}
-use Rattle.dwarf_meaning.specs.Operations.{Text}
 use Rattle.dwarf_meaning.specs.Requests as asked
 use Rattle.dwarf_meaning.specs.Requests.{Input}
-use Rattle.dwarf_meaning.specs.Stores.{Refusal, Never, After}
+use Rattle.dwarf_meaning.specs.Refusals.{IsLater, MayPick, Refusal, before_input}
 use Rattle.dwarf_meaning.specs.Run.{Position}
 use Rattle.dwarf_meaning.specs.Meaning.{Outcome, course_of, meaning}
 use Rattle.dwarf_meaning.specs.Rest.{State, Status, Start, Running, RequestStatus, CompleteStatus, FaultStatus, rest}
@@ -62,12 +62,6 @@ IsReplied replied (CompleteStatus value) = replied ≡ CompleteReply
 IsReplied replied (FaultStatus error) = replied ≡ FaultReply (fault_of error)
 IsReplied replied (Start initial_value) = ⊥
 IsReplied replied Running = ⊥
-
--- no push is refused before the next input is taken
-abbrev pub IsLater : Refusal → Type 0
-IsLater Never = Unit {0}
-IsLater (After zero pushes) = ⊥
-IsLater (After (suc inputs) pushes) = Unit {0}
 
 -- A call replied what `outcomes` gives for some refusal, or for none; and as long as it isn't over, what is
 -- left of the new state is what `outcomes` gives, for all inputs to come.

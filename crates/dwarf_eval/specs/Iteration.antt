@@ -1,15 +1,14 @@
 -- What iterators over operations give.
-use Rattle.std.specs.Prelude.{ℕ, Bool, ◌≡◌, ◌≢◌, List, [], ◌∷◌, Result, Ok, Err, Option, Some, None}
+use Rattle.std.specs.Prelude.{ℕ, ◌≡◌, ◌≢◌, List, [], ◌∷◌, Result, Ok, Err, Option, Some, None}
 use Rattle.std.specs.Iterator.{YieldsFirstBy}
 use Rattle.std.specs.Option.{option_transpose}
 use Rattle.dwarf_base.specs.declared.common.Encoding.{Encoding}
 use Rattle.dwarf_base.specs.declared.errors.Error.{Error}
 use Rattle.dwarf_base.specs.Faults.{Fault, fault_of}
-use Rattle.dwarf_base.specs.Reads.{IsSuffix}
+use Rattle.dwarf_base.specs.Reads.{IsLeftOf, Text}
 use Rattle.dwarf_meaning.specs.Decoding.{operation_at}
 use Rattle.dwarf_meaning.specs.Operations as meaning
 use Rattle.dwarf_meaning.specs.Splitting.{items_at}
-use Rattle.dwarf_op.specs.Views.{text_of}
 use Rattle.dwarf_eval.specs.declared.op.expressions.OperationIter.{OperationIter}
 
 -- the bytes that are left
@@ -38,13 +37,12 @@ item_of view (Ok x) = Ok (view x)
 item_of view (Err e) = Err (fault_of e)
 
 -- the items that are left: those of the splitting of the bytes that are left
-abbrev pub items_left : {R P : Type 0} → (R → List ℕ) → (R → Bool) → (offset_bits : ℕ) → OperationIter R P → List (Result meaning.Operation Fault)
-items_left bytes is_big offset_bits iterator = items_at (encoding_of iterator) offset_bits (text_of bytes is_big (unread_of iterator))
+abbrev pub items_left : {R P : Type 0} → (R → Text) → (offset_bits : ℕ) → OperationIter R P → List (Result meaning.Operation Fault)
+items_left text offset_bits iterator = items_at (encoding_of iterator) offset_bits (text (unread_of iterator))
 
 -- A step of an iterator: it gives the first of the items that are left, and is behind the bytes of that one.
-pub record GivesFirst {R P X : Type 0} (bytes : R → List ℕ) (is_big : R → Bool) (offset_bits : ℕ) (view : X → meaning.Operation) (old : OperationIter R P) (given : Option (Result X Error)) (new : OperationIter R P) : Type 0 where
-  pub items : YieldsFirstBy (item_of view) (items_left bytes is_big offset_bits) old given new
-  pub value : GivesNext view (option_transpose given) (bytes (unread_of new)) (bytes (unread_of old)) (operation_at (encoding_of old) offset_bits (text_of bytes is_big (unread_of old)))
-  pub rest : IsSuffix (bytes (unread_of new)) (bytes (unread_of old))
-  pub order : is_big (unread_of new) ≡ is_big (unread_of old)
+pub record GivesFirst {R P X : Type 0} (text : R → Text) (offset_bits : ℕ) (view : X → meaning.Operation) (old : OperationIter R P) (given : Option (Result X Error)) (new : OperationIter R P) : Type 0 where
+  pub items : YieldsFirstBy (item_of view) (items_left text offset_bits) old given new
+  pub value : GivesNext view (option_transpose given) (text (unread_of new)).bytes (text (unread_of old)).bytes (operation_at (encoding_of old) offset_bits (text (unread_of old)))
+  pub left : IsLeftOf (text (unread_of new)) (text (unread_of old))
   pub encoding : encoding_of new ≡ encoding_of old

@@ -1,7 +1,7 @@
 //! Laws of equality.
 ghost use Rattle.std.specs.Prelude.{ℕ};
 ghost use Rattle.dwarf_base.specs.Equality.{IsEquality, IsEqualityBy, IsEqualityOf};
-ghost use Rattle.dwarf_meaning.specs.Operations.{Text};
+ghost use Rattle.dwarf_base.specs.Reads.{Text};
 ghost use Rattle.dwarf_eval.specs.Evaluation.{ok_reply};
 ghost use Rattle.dwarf_eval.specs.Machine.{location_of, piece_of};
 

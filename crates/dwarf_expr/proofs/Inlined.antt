@@ -2,13 +2,15 @@
 use Rattle.std.proofs.Common.{ℕ, ◌≡◌, ◌≢◌, ap, refl, sym, subst, ◌∙◌, List, [], ◌∷◌, ◌++◌, Option, Some, None}
 use Rattle.dwarf_base.specs.declared.errors.Error.{Error}
 use Rattle.dwarf_base.specs.Faults.{Fault}
-use Rattle.dwarf_meaning.specs.Operations.{Text, DieReference, UnitRef}
+use Rattle.dwarf_base.specs.Reads.{Text}
+use Rattle.dwarf_meaning.specs.Operations.{DieReference, UnitRef}
 use Rattle.dwarf_meaning.specs.Requests.{Request, LocationAnswer, Input}
-use Rattle.dwarf_meaning.specs.Stores.{Setup, Never}
+use Rattle.dwarf_meaning.specs.Stores.{Setup}
 use Rattle.dwarf_meaning.specs.Meaning.{Outcome, FaultOutcome, First, meaning}
 use Rattle.dwarf_meaning.specs.Rest.{State, FaultStatus}
 use Rattle.dwarf_meaning.specs.Steps.{Step, Evaluate, Resume, Told, Reply, outcome_from, outcome_of, AllAllowed, after_steps}
 use Rattle.dwarf_meaning.specs.Rows.{unset}
+use Rattle.dwarf_meaning.specs.Refusals.{Never}
 use Rattle.dwarf_laws.specs.Rows.{IsWorked}
 use Rattle.dwarf_laws.specs.TwoRuns.{NoneIsFull}
 use Rattle.dwarf_laws.specs.Inlining as inlining

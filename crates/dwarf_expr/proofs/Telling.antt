@@ -2,12 +2,13 @@
 use Rattle.std.proofs.Common.{◌≡◌, ◌≢◌, ap, refl, sym, subst, ◌∙◌, ◌⊎◌, inl, inr, List, [], ◌∷◌, ◌++◌, Option, Some, None, append_assoc}
 use Rattle.std.proofs.lemmas.List.{append-nil}
 use Rattle.dwarf_base.specs.Faults.{Fault, StackFull}
-use Rattle.dwarf_meaning.specs.Operations.{Text}
+use Rattle.dwarf_base.specs.Reads.{Text}
 use Rattle.dwarf_meaning.specs.Requests.{Answer, Input}
-use Rattle.dwarf_meaning.specs.Stores.{Setup, Refusal, Never}
+use Rattle.dwarf_meaning.specs.Stores.{Setup}
 use Rattle.dwarf_meaning.specs.Meaning.{Outcome, RequestOutcome, FaultOutcome, CompleteOutcome, First, meaning}
 use Rattle.dwarf_meaning.specs.RunLaws.{IsOver}
 use Rattle.dwarf_meaning.specs.Steps.{Step, InitialValue, ObjectAddress, MaxIterations, Evaluate, Resume, Told, outcome_from, outcome_of, Awaits, Allows, begun, heard, after, step_replies, after_step, after_steps, AllAllowed, replies_of}
+use Rattle.dwarf_meaning.specs.Refusals.{Refusal, Never}
 use Rattle.dwarf_meaning.proofs.Inputs.{over_meaning}
 use Rattle.dwarf_laws.specs.TwoRuns.{NoneIsFull}
 use Rattle.dwarf_laws.specs.Inlining.{HasNoLimits}

@@ -5,19 +5,19 @@ use Rattle.std.proofs.lemmas.Option.{slice_get_within}
 use Rattle.std.specs.Prelude.{slice_get}
 use Rattle.dwarf_base.specs.declared.errors.Error.{Error}
 use Rattle.dwarf_base.specs.Faults.{Fault, fault_of}
-use Rattle.dwarf_meaning.specs.Operations.{Text}
+use Rattle.dwarf_base.specs.Reads.{Text}
 use Rattle.dwarf_meaning.specs.Requests.{Request, Waiting}
-use Rattle.dwarf_meaning.specs.Stores.{Limits, Setup, address_bits, Refusal, Never, After}
+use Rattle.dwarf_meaning.specs.Stores.{Setup, address_bits}
 use Rattle.dwarf_meaning.specs.Run.{Position}
 use Rattle.dwarf_meaning.specs.Meaning.{Outcome}
 use Rattle.dwarf_meaning.specs.Rest.{State, Status, Start, Running, RequestStatus, CompleteStatus, FaultStatus}
 use Rattle.dwarf_meaning.specs.Steps.{Step, Told, Reply, outcome_of, Allows, AllAllowed, step_replies, after_step, after_steps, replies_of}
+use Rattle.dwarf_meaning.specs.Refusals.{Limits, Refusal, Never, After, HasFreeList, MayPick}
 use Rattle.dwarf_laws.specs.Agreement as agreeing
 use Rattle.dwarf_laws.specs.Agreement.{Pairwise, none, more, Both, nothing, something, AgreeingNumbers, AgreeingSteps, AgreeingTold, AgreeingOutcomes}
 use Rattle.dwarf_laws.specs.TwoRuns.{NoneIsFull, AreAlike}
 use Rattle.dwarf_laws.proofs.Pairs.{same_length, get_both}
 use Rattle.dwarf_laws.proofs.Evaluations.{two_runs}
-use Rattle.dwarf_eval.specs.Evaluation.{HasFreeList, MayPick}
 use Rattle.dwarf_replay.specs.Replays.{told_at, IsInRequest, IsInFault, StandsAt, Walks, WalksTo, WalksOver}
 use Rattle.dwarf_expr.specs.Twins.{fresh_at, MayReplay, AreComparableReplays, open_texts, StatesStandAlike, unstarted, in_request, in_fault, in_completion, IsFront, BothDone, BothMisplaced, NoneMisplacedAlone, NoRoomThere}
 

@@ -3,20 +3,20 @@
 use Rattle.std.specs.Prelude.{ℕ, ◌<◌, ◌≤◌, ◌≡◌, ◌⊎◌, List, [], ◌∷◌, ◌++◌, Option, None}
 use Rattle.dwarf_base.specs.declared.errors.Error.{Error}
 use Rattle.dwarf_base.specs.Faults.{fault_of}
+use Rattle.dwarf_base.specs.Reads.{Text}
 use Rattle.dwarf_value.specs.declared.types.Value.{Value}
 use Rattle.dwarf_value.specs.Values.{Agree}
 use Rattle.dwarf_value.specs.Laws.{IsWidth}
-use Rattle.dwarf_meaning.specs.Operations.{Text}
 use Rattle.dwarf_meaning.specs.Requests.{Request, Waiting}
-use Rattle.dwarf_meaning.specs.Stores.{address_bits, Never}
+use Rattle.dwarf_meaning.specs.Stores.{address_bits}
 use Rattle.dwarf_meaning.specs.Run.{Position}
 use Rattle.dwarf_meaning.specs.Meaning.{fresh}
 use Rattle.dwarf_meaning.specs.Rows.{plain, unset}
 use Rattle.dwarf_meaning.specs.Rest.{State, Start, RequestStatus, CompleteStatus, FaultStatus}
 use Rattle.dwarf_meaning.specs.Steps.{Step, Reply}
+use Rattle.dwarf_meaning.specs.Refusals.{Never, HasFreeList}
 use Rattle.dwarf_laws.specs.Agreement.{Pairwise, Both, AgreeingNumbers, AgreeingSteps, AgreeingPieces}
 use Rattle.dwarf_laws.specs.TwoRuns.{NoneIsFull}
-use Rattle.dwarf_eval.specs.Evaluation.{HasFreeList}
 use Rattle.dwarf_replay.specs.Replays.{Walks, WalksTo, WalksOver}
 
 -- ---- the premises

@@ -1,7 +1,8 @@
 //! Laws over the definitions, each the contract of a function that does nothing.
 
 ghost use Rattle.std.specs.Prelude.{List, [], ◌∷◌};
-ghost use Rattle.dwarf_meaning.specs.Operations.{Text, UnitRef};
+ghost use Rattle.dwarf_base.specs.Reads.{Text};
+ghost use Rattle.dwarf_meaning.specs.Operations.{UnitRef};
 ghost use Rattle.dwarf_meaning.specs.Requests.{Request, Input};
 ghost use Rattle.dwarf_meaning.specs.Meaning.{Outcome};
 ghost use Rattle.dwarf_meaning.specs.Steps.{Step, Evaluate};

@@ -3,18 +3,17 @@ use Rattle.std.proofs.Common.{ℕ, ◌≡◌, ap, refl, subst, ◌==◌, ℤ, tr
 use Rattle.dwarf_base.specs.declared.errors.Error.{Error}
 use Rattle.dwarf_base.specs.Faults.{Fault}
 use Rattle.dwarf_base.specs.Numbers.{residue}
+use Rattle.dwarf_base.specs.Reads.{Text}
 use Rattle.dwarf_value.specs.declared.types.Value.{Value}
-use Rattle.dwarf_value.specs.declared.types.Value.TheVariants.{Generic}
-use Rattle.dwarf_value.specs.declared.types.ValueType.{ValueType}
-use Rattle.dwarf_value.specs.Values.{type_of, Agree, to_u64_of, from_u64_of, abs_of, neg_of, not_of, add_of, sub_of, mul_of, div_of, rem_of, and_of, or_of, xor_of, shl_of, shr_of, shra_of, eq_of, ge_of, gt_of, le_of, lt_of, ne_of, convert_of, reinterpret_of, parse_of}
+use Rattle.dwarf_value.specs.Values.{type_of, Agree, to_u64_of, from_u64_of, abs_of, neg_of, not_of, add_of, sub_of, mul_of, div_of, rem_of, and_of, or_of, xor_of, shl_of, shr_of, shra_of, eq_of, ge_of, gt_of, le_of, lt_of, ne_of}
 use Rattle.dwarf_value.specs.Laws.{IsWidth, AgreeingResults}
 use Rattle.dwarf_value.proofs.Agreements.{Agree-refl, Agree-Generic, Agree-sums, to_u64_of-Agree, convert_of-Agree, add_of_constant-Agree, abs_of-Agree, neg_of-Agree, not_of-Agree, add_of-Agree, sub_of-Agree, mul_of-Agree, div_of-Agree, rem_of-Agree, and_of-Agree, or_of-Agree, xor_of-Agree, shl_of-Agree, shr_of-Agree, shra_of-Agree, eq_of-Agree, ge_of-Agree, gt_of-Agree, le_of-Agree, lt_of-Agree, ne_of-Agree}
 use Rattle.dwarf_value.proofs.ValueLaws.{reinterpret_of-Agree}
 use Rattle.dwarf_meaning.specs.Operations as operation
-use Rattle.dwarf_meaning.specs.Operations.{Operation, Text}
+use Rattle.dwarf_meaning.specs.Operations.{Operation}
 use Rattle.dwarf_meaning.specs.Locations.{Location, AtAddress, Piece}
-use Rattle.dwarf_meaning.specs.Requests.{Request, RequiresMemory, RequiresTls, Waiting, Memory, Register, WasmValue, EntryValue, FrameBase, Tls, CallFrameCfa, ParameterRef, RelocatedAddress, IndexedAddress, AtLocation, TypedLiteral, Convert, Reinterpret, Answer, memory_in, register_in, wasm_in, entry_in, frame_base_in, tls_in, cfa_in, parameter_in, relocated_in, indexed_in, location_in, base_type_in}
-use Rattle.dwarf_meaning.specs.Acts.{on_top, on_some, on_result, result_of, Act, Pushes, Branches, Locates, EndsPiece, RequestAct, FaultAct, short, unary, binary, act, Use, PushesAnswer, Calls, FaultUse, WrongKind, use_of}
+use Rattle.dwarf_meaning.specs.Requests.{Request, RequiresMemory, RequiresTls, Waiting, Memory, Register, WasmValue, EntryValue, FrameBase, Tls, CallFrameCfa, ParameterRef, RelocatedAddress, IndexedAddress, AtLocation, TypedLiteral, Convert, Reinterpret, Answer}
+use Rattle.dwarf_meaning.specs.Acts.{on_top, on_result, result_of, Act, Pushes, Branches, Locates, EndsPiece, RequestAct, FaultAct, short, unary, binary, act, Use, PushesAnswer, Calls, FaultUse, WrongKind, use_of}
 use Rattle.dwarf_laws.specs.Agreement as agreeing
 use Rattle.dwarf_laws.specs.Agreement.{Pairwise, none, more, Both, nothing, something, AgreeingNumbers, AgreeingAnswers, AgreeingLocations, same, AgreeingPieces}
 use Rattle.dwarf_laws.proofs.Pairs.{get_both, choose_pair, top_pair, some_pair, answer_pair, read_pair, answers_agree}
@@ -166,110 +165,34 @@ module _ (w : ℕ) where
 
 -- ---- answers
 
--- what two agreeing answers say
-module _ (w : ℕ) where
-  memory_both : (a b : Answer) → AgreeingAnswers w a b → Both (Agree w) (memory_in a) (memory_in b)
-  memory_both a b (agreeing.memory h) = something h
-  memory_both a b _ = nothing
-
-  register_both : (a b : Answer) → AgreeingAnswers w a b → Both (Agree w) (register_in a) (register_in b)
-  register_both a b (agreeing.register h) = something h
-  register_both a b _ = nothing
-
-  wasm_value_both : (a b : Answer) → AgreeingAnswers w a b → Both (Agree w) (wasm_in a) (wasm_in b)
-  wasm_value_both a b (agreeing.wasm_value h) = something h
-  wasm_value_both a b _ = nothing
-
-  entry_value_both : (a b : Answer) → AgreeingAnswers w a b → Both (Agree w) (entry_in a) (entry_in b)
-  entry_value_both a b (agreeing.entry_value h) = something h
-  entry_value_both a b _ = nothing
-
-  frame_base_both : (a b : Answer) → AgreeingAnswers w a b → Both (AgreeingNumbers w) (frame_base_in a) (frame_base_in b)
-  frame_base_both a b (agreeing.frame_base h) = something h
-  frame_base_both a b _ = nothing
-
-  tls_both : (a b : Answer) → AgreeingAnswers w a b → Both (AgreeingNumbers w) (tls_in a) (tls_in b)
-  tls_both a b (agreeing.tls h) = something h
-  tls_both a b _ = nothing
-
-  cfa_both : (a b : Answer) → AgreeingAnswers w a b → Both (AgreeingNumbers w) (cfa_in a) (cfa_in b)
-  cfa_both a b (agreeing.cfa h) = something h
-  cfa_both a b _ = nothing
-
-  parameter_both : (a b : Answer) → AgreeingAnswers w a b → Both (AgreeingNumbers w) (parameter_in a) (parameter_in b)
-  parameter_both a b (agreeing.parameter h) = something h
-  parameter_both a b _ = nothing
-
-  relocated_both : (a b : Answer) → AgreeingAnswers w a b → Both (AgreeingNumbers w) (relocated_in a) (relocated_in b)
-  relocated_both a b (agreeing.relocated h) = something h
-  relocated_both a b _ = nothing
-
-  indexed_both : (a b : Answer) → AgreeingAnswers w a b → Both (AgreeingNumbers w) (indexed_in a) (indexed_in b)
-  indexed_both a b (agreeing.indexed h) = something h
-  indexed_both a b _ = nothing
-
-  location_both : (a b : Answer) → AgreeingAnswers w a b → Both (λ (s t : Text). s ≡ t) (location_in a) (location_in b)
-  location_both a b agreeing.location = something refl
-  location_both a b _ = nothing
-
-  base_type_both : (a b : Answer) → AgreeingAnswers w a b → Both (λ (s t : ValueType). s ≡ t) (base_type_in a) (base_type_in b)
-  base_type_both a b agreeing.base_type = something refl
-  base_type_both a b _ = nothing
-
 module _ (w : ℕ) (width : IsWidth w) where
-  some_uses : {X : Type 0} (Q : X → X → Type 0) (o o' : Option X) (go go' : X → Use) → Both Q o o'
-      → ((x x' : X) → Q x x' → AgreeingUses w (go x) (go' x')) → AgreeingUses w (on_some o WrongKind go) (on_some o' WrongKind go')
-  some_uses Q o o' go go' h g = some_pair (AgreeingUses w) Q o o' WrongKind WrongKind go go' h misfits g
-
   answer_uses : (r r' : Result Value Error) (rest rest' : List Value) → AgreeingResults w r r' → Pairwise (Agree w) rest rest'
       → AgreeingUses w (on_result (result_of r) FaultUse (PushesAnswer rest)) (on_result (result_of r') FaultUse (PushesAnswer rest'))
   answer_uses r r' rest rest' h b =
       answer_pair (AgreeingUses w) w r r' FaultUse FaultUse _ _ h (λ fault. denies) (λ x x' a. gives b a)
 
-  generic_uses : (values others : List Value) (o o' : Option ℕ) → Pairwise (Agree w) values others → Both (AgreeingNumbers w) o o'
-      → AgreeingUses w (on_some o WrongKind (λ n. PushesAnswer values (Generic n))) (on_some o' WrongKind (λ n. PushesAnswer others (Generic n)))
-  generic_uses values others o o' h b = some_uses (AgreeingNumbers w) o o' _ _ b (λ m n e. gives h (Agree-Generic w m n e))
-
   pub use_both : (waiting : Waiting) (x y : Answer) (values others : List Value) → AgreeingAnswers w x y
       → Pairwise (Agree w) values others → AgreeingUses w (use_of w waiting x values) (use_of w waiting y others)
   unfolding use_of
-  use_both Memory x y values others a h = some_uses (Agree w) _ _ _ _ (memory_both w x y a) (λ v v' b. gives h b)
-  use_both (Register offset) x y values others a h =
-      some_uses (Agree w) _ _ _ _ (register_both w x y a) (λ v v' b.
-      answer_uses _ _ values others (answers_agree w _ _ (add_of_constant-Agree w (residue 64 offset) v v' b)) h)
-  use_both WasmValue x y values others a h = some_uses (Agree w) _ _ _ _ (wasm_value_both w x y a) (λ v v' b. gives h b)
-  use_both EntryValue x y values others a h = some_uses (Agree w) _ _ _ _ (entry_value_both w x y a) (λ v v' b. gives h b)
-  use_both (FrameBase offset) x y values others a h =
-      some_uses (AgreeingNumbers w) _ _ _ _ (frame_base_both w x y a)
-      (λ m n e. gives h (Agree-sums w m n offset width.within_64 e))
-  use_both Tls x y values others a h = generic_uses values others _ _ h (tls_both w x y a)
-  use_both CallFrameCfa x y values others a h = generic_uses values others _ _ h (cfa_both w x y a)
-  use_both ParameterRef x y values others a h = generic_uses values others _ _ h (parameter_both w x y a)
-  use_both RelocatedAddress x y values others a h = generic_uses values others _ _ h (relocated_both w x y a)
-  use_both IndexedAddress x y values others a h = generic_uses values others _ _ h (indexed_both w x y a)
-  use_both AtLocation x y values others a h =
-      some_uses (λ (s t : Text). s ≡ t) _ _ Calls Calls (location_both w x y a)
-      (λ s t e. subst (λ (p : Text). AgreeingUses w (Calls s) (Calls p)) e calls)
-  use_both (TypedLiteral value) x y values others a h =
-      some_uses (λ (s t : ValueType). s ≡ t) _ _ _ _ (base_type_both w x y a) (λ s t e.
-      subst (λ (p : ValueType). AgreeingUses w (on_result (parse_of s value.is_big value.bytes) FaultUse (PushesAnswer values))
-      (on_result (parse_of p value.is_big value.bytes) FaultUse (PushesAnswer others))) e
-      (read_pair (AgreeingUses w) (parse_of s value.is_big value.bytes) FaultUse FaultUse (PushesAnswer values) (PushesAnswer others)
-      (λ fault. denies) (λ v. gives h (Agree-refl w v))))
-  use_both Convert x y values others a h =
-      some_uses (λ (s t : ValueType). s ≡ t) _ _ _ _ (base_type_both w x y a) (λ s t e.
-      top_pair (AgreeingUses w) w values others _ _ _ _ h denies (λ v v' rest rest' b c.
-      answer_uses _ _ rest rest' (answers_agree w _ _ (typed_convert s t v v' e b)) c))
-    where
-      typed_convert : (s t : ValueType) (v v' : Value) → s ≡ t → Agree w v v' → convert_of w s v ≡ convert_of w t v'
-      typed_convert s t v v' e b = subst (λ (p : ValueType). convert_of w s v ≡ convert_of w p v') e (convert_of-Agree s w v v' b)
-  use_both Reinterpret x y values others a h =
-      some_uses (λ (s t : ValueType). s ≡ t) _ _ _ _ (base_type_both w x y a) (λ s t e.
-      top_pair (AgreeingUses w) w values others _ _ _ _ h denies (λ v v' rest rest' b c.
-      answer_uses _ _ rest rest' (typed_reinterpret s t v v' e b) c))
-    where
-      typed_reinterpret : (s t : ValueType) (v v' : Value) → s ≡ t → Agree w v v'
-          → AgreeingResults w (reinterpret_of w s v) (reinterpret_of w t v')
-      typed_reinterpret s t v v' e b =
-          subst (λ (p : ValueType). AgreeingResults w (reinterpret_of w s v) (reinterpret_of w p v')) e
-          (reinterpret_of-Agree w s v v' width b)
+  use_both Memory x y values others (agreeing.memory a) h = gives h a
+  use_both (Register offset) x y values others (agreeing.register a) h =
+      answer_uses _ _ values others (answers_agree w _ _ (add_of_constant-Agree w (residue 64 offset) _ _ a)) h
+  use_both WasmValue x y values others (agreeing.wasm_value a) h = gives h a
+  use_both EntryValue x y values others (agreeing.entry_value a) h = gives h a
+  use_both (FrameBase offset) x y values others (agreeing.frame_base e) h = gives h (Agree-sums w _ _ offset width.within_64 e)
+  use_both Tls x y values others (agreeing.tls e) h = gives h (Agree-Generic w _ _ e)
+  use_both CallFrameCfa x y values others (agreeing.cfa e) h = gives h (Agree-Generic w _ _ e)
+  use_both ParameterRef x y values others (agreeing.parameter e) h = gives h (Agree-Generic w _ _ e)
+  use_both RelocatedAddress x y values others (agreeing.relocated e) h = gives h (Agree-Generic w _ _ e)
+  use_both IndexedAddress x y values others (agreeing.indexed e) h = gives h (Agree-Generic w _ _ e)
+  use_both AtLocation x y values others agreeing.location h = calls
+  use_both (TypedLiteral literal) x y values others agreeing.base_type h =
+      read_pair (AgreeingUses w) _ FaultUse FaultUse (PushesAnswer values) (PushesAnswer others)
+      (λ fault. denies) (λ v. gives h (Agree-refl w v))
+  use_both Convert x y values others agreeing.base_type h =
+      top_pair (AgreeingUses w) w values others _ _ _ _ h denies (λ v v' rest rest' a b.
+      answer_uses _ _ rest rest' (answers_agree w _ _ (convert_of-Agree _ w v v' a)) b)
+  use_both Reinterpret x y values others agreeing.base_type h =
+      top_pair (AgreeingUses w) w values others _ _ _ _ h denies (λ v v' rest rest' a b.
+      answer_uses _ _ rest rest' (reinterpret_of-Agree w _ v v' width a) b)
+  use_both _ x y values others _ h = misfits

@@ -1,18 +1,19 @@
 -- Up to the call: what is asked, and what is kept there.
-use Rattle.std.proofs.Common.{ℕ, ◌+◌, ◌-◌, ◌≡◌, ◌≤◌, ◌<◌, Bool, true, false, List, [], ◌∷◌, ◌++◌, length, drop, Option, Some, None, Ok, refl, sym, ap, subst, ◌∙◌, ◌==◌, arith, append_assoc, length-append}
+use Rattle.std.proofs.Common.{ℕ, ◌+◌, ◌-◌, ◌≡◌, ◌≤◌, ◌<◌, Bool, true, false, List, [], ◌∷◌, ◌++◌, length, drop, Ok, refl, sym, ap, subst, ◌∙◌, ◌==◌, arith, append_assoc, length-append}
 use Rattle.std.proofs.lemmas.Bool.Decides.{nat_tests}
 use Rattle.std.proofs.lemmas.List.{drop-append-le, length-drop}
 use Rattle.std.proofs.Math.Seq.{drop-append_seam}
 use Rattle.dwarf_base.specs.declared.common.Encoding.{Encoding}
 use Rattle.dwarf_base.specs.Faults.{TooManyIterations, InvalidExpressionTerminator}
+use Rattle.dwarf_base.specs.Reads.{Text}
 use Rattle.dwarf_meaning.specs.Operations as operation
-use Rattle.dwarf_meaning.specs.Operations.{Operation, Text, DieReference}
+use Rattle.dwarf_meaning.specs.Operations.{Operation, DieReference}
 use Rattle.dwarf_meaning.specs.Locations.{Location}
 use Rattle.dwarf_meaning.specs.Spelling.{Spells}
 use Rattle.dwarf_meaning.specs.Splitting.{Joined}
 use Rattle.dwarf_meaning.specs.Splitting as splitting
-use Rattle.dwarf_meaning.specs.Requests.{Request, RequiresAtLocation, AtLocation, location_in, Input}
-use Rattle.dwarf_meaning.specs.Acts.{on_some, act, Calls, WrongKind, use_of}
+use Rattle.dwarf_meaning.specs.Requests.{Request, RequiresAtLocation, AtLocation, Answer, LocationAnswer, Input}
+use Rattle.dwarf_meaning.specs.Acts.{act, use_of}
 use Rattle.dwarf_meaning.specs.Stores.{Setup, address_bits, Store, Last, Nothing, Plain, Pieced, Pushed, Called, Located, push_caller, done}
 use Rattle.dwarf_meaning.specs.Run.{Position, End, CompleteEnd, RequestEnd, FaultEnd, Course, only_end, add_to_path, add_request, return_to_caller, run_callee, after_answer, await_answer, after_operation, read, can_count, counted, do_operation, turn_counted, turn_located, turn_by, run}
 use Rattle.dwarf_meaning.specs.Meaning.{First}
@@ -156,18 +157,17 @@ module _ (encoding : Encoding) (bits : ℕ) (A K B : List ℕ) (big : Bool) (off
         back_not callee s inputs (run S callee 0 1 (calm s) inputs) (run S callee 0 1 (calm s) inputs).end
         (run_open S callee 0 1 (calm s) inputs) at_call
 
-    used_not : (o : Option Text) (s : Store) (input : Input) (inputs : List Input)
-        → AtCall (after_answer (run S) S behind_call 0 (on_some o WrongKind Calls) (calm s) inputs
+    used_not : (answer : Answer) (s : Store) (input : Input) (inputs : List Input)
+        → AtCall (after_answer (run S) S behind_call 0 (use_of (address_bits S) AtLocation answer s.values) (calm s) inputs
         (only_end (RequestEnd call (behind_call ∷ []) (input ∷ inputs)))).end → ⊥
-    unfolding on_some
-    used_not None s input inputs at_call = let x : input ∷ inputs ≡ [] = ap inputs_of at_call in cc
-    used_not (Some callee) s input inputs at_call = called_not callee callee.bytes s inputs at_call
+    unfolding use_of
+    used_not (LocationAnswer callee) s input inputs at_call = called_not callee callee.bytes s inputs at_call
+    used_not _ s input inputs at_call = let x : input ∷ inputs ≡ [] = ap inputs_of at_call in cc
 
     asked_not : (t : Store) (input : Input) (inputs : List Input)
         → AtCall (await_answer (run S) S behind_call 0 call AtLocation (counted (calm t)) (input ∷ inputs)).end → ⊥
-    unfolding use_of
     asked_not t input inputs at_call =
-        used_not (location_in input.answer) (record t
+        used_not input.answer (record t
         { count = t.count + 1; object_address = input.object_address; maximum = input.maximum }) input inputs at_call
 
   module _ (target : First) where

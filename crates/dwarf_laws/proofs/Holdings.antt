@@ -7,8 +7,9 @@ use Rattle.dwarf_value.specs.Values.{Agree}
 use Rattle.dwarf_meaning.specs.Locations.{Location, Piece}
 use Rattle.dwarf_meaning.specs.Requests.{Request, Waiting}
 use Rattle.dwarf_meaning.specs.Acts.{Act}
-use Rattle.dwarf_meaning.specs.Stores.{Limits, Setup, address_bits, Refusal, Never, After, Store, Last, Nothing, Plain, Pieced, Pushed, Called, Located, spent, room, push_value, push_piece, push_caller, push_values, Next, Goes, RequestNext, FaultNext, goes, done}
+use Rattle.dwarf_meaning.specs.Stores.{Setup, address_bits, Store, Last, Nothing, Plain, Pieced, Pushed, Called, Located, push_value, push_piece, push_caller, push_values, Next, Goes, RequestNext, FaultNext, goes, done}
 use Rattle.dwarf_meaning.specs.Run.{end_located}
+use Rattle.dwarf_meaning.specs.Refusals.{Limits, Refusal, Never, After, spent, room}
 use Rattle.dwarf_laws.specs.Agreement.{Pairwise, none, more, Both, AgreeingNumbers, AgreeingLocations, AgreeingPieces}
 use Rattle.dwarf_meaning.proofs.Choices.{choose_both}
 use Rattle.dwarf_laws.proofs.Pairs.{same_length, snoc_both, choose_pair}

@@ -3,15 +3,17 @@ use Rattle.std.proofs.Common.{ℕ, ◌+◌, ◌≡◌, ◌≢◌, ◌<◌, Bool,
 use Rattle.std.proofs.lemmas.List.{append-nil}
 use Rattle.dwarf_base.specs.declared.common.Encoding.{Encoding}
 use Rattle.dwarf_base.specs.Faults.{Fault}
+use Rattle.dwarf_base.specs.Reads.{Text}
 use Rattle.dwarf_value.specs.declared.types.Value.TheVariants.{Generic}
-use Rattle.dwarf_meaning.specs.Operations.{Operation, Text, DieReference}
+use Rattle.dwarf_meaning.specs.Operations.{Operation, DieReference}
 use Rattle.dwarf_meaning.specs.Splitting.{Joined, items_at}
 use Rattle.dwarf_meaning.specs.Splitting as splitting
 use Rattle.dwarf_meaning.specs.Requests.{Request, RequiresAtLocation, AtLocation, Input}
-use Rattle.dwarf_meaning.specs.Acts.{on_some, use_of}
-use Rattle.dwarf_meaning.specs.Stores.{Setup, Store, Last, Nothing, Plain, Pieced, Pushed, Called, Located, Never, push_caller, push_value, push_piece}
+use Rattle.dwarf_meaning.specs.Acts.{use_of}
+use Rattle.dwarf_meaning.specs.Stores.{Setup, Store, Last, Nothing, Plain, Pieced, Pushed, Called, Located, push_caller, push_value, push_piece}
 use Rattle.dwarf_meaning.specs.Run.{Position, End, CompleteEnd, RequestEnd, FaultEnd, Course, add_to_path, add_request, return_to_caller, run_callee, await_answer, counted, run}
 use Rattle.dwarf_meaning.specs.Meaning.{Outcome, RequestOutcome, FaultOutcome, CompleteOutcome, First, finish, finish_by, unwound, fresh, with_initial, course_from, course_of, meaning}
+use Rattle.dwarf_meaning.specs.Refusals.{Never}
 use Rattle.dwarf_laws.specs.Inlining as inlining
 use Rattle.dwarf_laws.specs.Inlining.{CallSite, in_force, answered, with_answer, HasNoLimits, StandsIn, IsInlinable, LeadsToCall, EndAlike, LacksOne, IsInlined, Inlining}
 use Rattle.dwarf_meaning.proofs.Splittings.{splitting_items, items_ok}
@@ -212,7 +214,7 @@ module _ (encoding : Encoding) (bits : ℕ) where
         (answered site settings ∷ inputs)
         ≡ (let u : Store = record t { object_address = settings.object_address; maximum = settings.maximum } in
         let c = run S callee 0 1 (ahead 1 u) inputs in return_to_caller (run S) behind_call 0 c c.end)
-    unfolding use_of on_some
+    unfolding use_of
     answered_call t settings inputs =
         enters behind_call callee C (record t
         { object_address = settings.object_address; maximum = settings.maximum }) inputs fit.some

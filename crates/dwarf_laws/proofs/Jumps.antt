@@ -1,16 +1,16 @@
 -- Only a branch's act is a branch, to its target.
-use Rattle.std.proofs.Common.{ℕ, ℤ, Bool, true, false, List, length, Option, Result, arith}
+use Rattle.std.proofs.Common.{ℕ, ℤ, inl, inr, subst, List, Option}
 use Rattle.dwarf_base.specs.Faults.{Fault}
-use Rattle.dwarf_base.specs.declared.errors.Error.{Error}
 use Rattle.dwarf_value.specs.declared.types.Value.{Value}
-use Rattle.dwarf_meaning.specs.Operations as operation
-use Rattle.dwarf_meaning.specs.Operations.{Operation, Text}
+use Rattle.dwarf_meaning.specs.Operations.{Operation}
 use Rattle.dwarf_meaning.specs.Locations.{Location, Piece}
 use Rattle.dwarf_meaning.specs.Requests.{Request, Waiting}
 use Rattle.dwarf_meaning.specs.Branches.{IsNear, BranchesNear}
 use Rattle.dwarf_laws.specs.Inlining.{IsStraight}
-use Rattle.dwarf_meaning.specs.Acts.{choose, on_top, Act, Pushes, Branches, Locates, EndsPiece, RequestAct, FaultAct, short, unary, binary, act}
-use Rattle.dwarf_meaning.proofs.Shorter.{all_top, all_some, all_answer}
+use Rattle.dwarf_meaning.specs.Acts.{Act, Pushes, Branches, Locates, EndsPiece, RequestAct, FaultAct, act}
+use Rattle.dwarf_meaning.proofs.Effects.{IsActOf, act_is}
+use Rattle.dwarf_meaning.specs.Operations as operation
+use Rattle.dwarf_meaning.proofs.Effects as effect
 
 -- P holds of the target of a branch
 abbrev pub AllJumps : (ℤ → Type 0) → Operation → Type 0
@@ -41,84 +41,16 @@ pub data Jumping (P : ℤ → Type 0) : Act → Type 0 where
   asks : {rest : List Value} {request : Request} {waiting : Waiting} → Jumping P (RequestAct rest request waiting)
   refuses : {fault : Fault} → Jumping P (FaultAct fault)
 
-all_choose : {A : Type 0} (P : A → Type 0) (b : Bool) (x y : A) → P x → P y → P (choose b x y)
-unfolding choose
-all_choose P true x y p q = p
-all_choose P false x y p q = q
+-- what an operation does, by its target
+jumping : (P : ℤ → Type 0) (op : Operation) {n : ℕ} (a : Act) → IsActOf op n a → AllJumps P op → Jumping P a
+jumping P op (Pushes rest pushed) d j = pushes
+jumping P op (Branches rest target) (effect.branches l (inl e)) j = branches (subst (AllJumps P) e j)
+jumping P op (Branches rest target) (effect.branches l (inr e)) j = branches (subst (AllJumps P) e j)
+jumping P op (Locates rest location) d j = locates
+jumping P op (EndsPiece rest piece) d j = ends
+jumping P op (RequestAct rest request waiting) d j = asks
+jumping P op (FaultAct fault) d j = refuses
 
-module _ (P : ℤ → Type 0) where
-  top_jumps : (values : List Value) (go : Value → List Value → Act)
-      → ((x : Value) (rest : List Value) → Jumping P (go x rest)) → Jumping P (on_top values short go)
-  top_jumps values go h = all_top (Jumping P) (length values) values short go (omega arith) refuses (λ x rest l. h x rest)
-
-  unary_jumps : (call : Value → Result Value Error) (values : List Value) → Jumping P (unary call values)
-  unary_jumps call values = top_jumps values _ (λ x rest. all_answer (Jumping P) _ _ _ (λ fault. refuses) (λ y. pushes))
-
-  binary_jumps : (call : Value → Value → Result Value Error) (values : List Value) → Jumping P (binary call values)
-  binary_jumps call values =
-      top_jumps values _ (λ y below. top_jumps below _ (λ x rest. all_answer (Jumping P) _ _ _ (λ fault. refuses) (λ z. pushes)))
-
-  pub act_jumps : (bits : ℕ) (object : Option ℕ) (op : Operation) (values : List Value) → AllJumps P op
-      → Jumping P (act bits object op values)
-  unfolding act
-  act_jumps bits object operation.Drop values j = top_jumps values _ (λ x rest. pushes)
-  act_jumps bits object (operation.Pick index) values j = all_some (Jumping P) _ _ _ refuses (λ x. pushes)
-  act_jumps bits object operation.Swap values j = top_jumps values _ (λ y below. top_jumps below _ (λ x rest. pushes))
-  act_jumps bits object operation.Rot values j =
-      top_jumps values _ (λ z below. top_jumps below _ (λ y lower. top_jumps lower _ (λ x rest. pushes)))
-  act_jumps bits object operation.Abs values j = unary_jumps _ values
-  act_jumps bits object operation.Neg values j = unary_jumps _ values
-  act_jumps bits object operation.Not values j = unary_jumps _ values
-  act_jumps bits object operation.Plus values j = binary_jumps _ values
-  act_jumps bits object operation.Minus values j = binary_jumps _ values
-  act_jumps bits object operation.Mul values j = binary_jumps _ values
-  act_jumps bits object operation.Div values j = binary_jumps _ values
-  act_jumps bits object operation.Mod values j = binary_jumps _ values
-  act_jumps bits object operation.And values j = binary_jumps _ values
-  act_jumps bits object operation.Or values j = binary_jumps _ values
-  act_jumps bits object operation.Xor values j = binary_jumps _ values
-  act_jumps bits object operation.Shl values j = binary_jumps _ values
-  act_jumps bits object operation.Shr values j = binary_jumps _ values
-  act_jumps bits object operation.Shra values j = binary_jumps _ values
-  act_jumps bits object operation.Eq values j = binary_jumps _ values
-  act_jumps bits object operation.Ge values j = binary_jumps _ values
-  act_jumps bits object operation.Gt values j = binary_jumps _ values
-  act_jumps bits object operation.Le values j = binary_jumps _ values
-  act_jumps bits object operation.Lt values j = binary_jumps _ values
-  act_jumps bits object operation.Ne values j = binary_jumps _ values
-  act_jumps bits object (operation.PlusConstant value) values j = unary_jumps _ values
-  act_jumps bits object (operation.UnsignedConstant value) values j = pushes
-  act_jumps bits object (operation.SignedConstant value) values j = pushes
-  act_jumps bits object operation.PushObjectAddress values j = all_some (Jumping P) _ _ _ refuses (λ address. pushes)
-  act_jumps bits object (operation.Bra target) values j =
-      top_jumps values _ (λ x rest. all_choose (Jumping P) _ _ _ pushes (branches j))
-  act_jumps bits object (operation.Skip target) values j = (branches j)
-  act_jumps bits object operation.Nop values j = pushes
-  act_jumps bits object (operation.VariableValue offset) values j = refuses
-  act_jumps bits object operation.Uninitialized values j = refuses
-  act_jumps bits object (operation.Deref base_type size false) values j =
-      all_choose (Jumping P) _ _ _ refuses (top_jumps values _ (λ x rest. asks))
-  act_jumps bits object (operation.Deref base_type size true) values j =
-      all_choose (Jumping P) _ _ _ refuses (top_jumps values _ (λ x below. top_jumps below _ (λ y rest. asks)))
-  act_jumps bits object (operation.RegisterOffset register offset base_type) values j = asks
-  act_jumps bits object (operation.FrameOffset offset) values j = asks
-  act_jumps bits object operation.TLS values j = top_jumps values _ (λ x rest. asks)
-  act_jumps bits object operation.CallFrameCFA values j = asks
-  act_jumps bits object (operation.Call offset) values j = asks
-  act_jumps bits object (operation.EntryValue expression) values j = asks
-  act_jumps bits object (operation.ParameterRef offset) values j = asks
-  act_jumps bits object (operation.Address address) values j = asks
-  act_jumps bits object (operation.AddressIndex index) values j = asks
-  act_jumps bits object (operation.ConstantIndex index) values j = asks
-  act_jumps bits object (operation.TypedLiteral base_type value) values j = asks
-  act_jumps bits object (operation.Convert base_type) values j = asks
-  act_jumps bits object (operation.Reinterpret base_type) values j = asks
-  act_jumps bits object (operation.WasmLocal index) values j = asks
-  act_jumps bits object (operation.WasmGlobal index) values j = asks
-  act_jumps bits object (operation.WasmStack index) values j = asks
-  act_jumps bits object (operation.Register register) values j = locates
-  act_jumps bits object (operation.ImplicitValue bytes) values j = locates
-  act_jumps bits object operation.StackValue values j = top_jumps values _ (λ x rest. locates)
-  act_jumps bits object (operation.ImplicitPointer value byte_offset) values j = locates
-  act_jumps bits object (operation.Piece size_in_bits bit_offset) values j =
-      all_top (Jumping P) (length values) values _ _ (omega arith) ends (λ x rest h. ends)
+pub act_jumps : (P : ℤ → Type 0) (bits : ℕ) (object : Option ℕ) (op : Operation) (values : List Value) → AllJumps P op
+    → Jumping P (act bits object op values)
+act_jumps P bits object op values j = jumping P op (act bits object op values) (act_is bits object op values) j

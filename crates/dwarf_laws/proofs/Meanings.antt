@@ -1,16 +1,17 @@
 -- What comes of two runs of one text.
 use Rattle.std.proofs.Common.{ℕ, ◌≡◌, ◌≢◌, ap, refl, ◌⊎◌, List, [], Option, Some, None, Result}
 use Rattle.dwarf_base.specs.Faults.{Fault, StackFull}
+use Rattle.dwarf_base.specs.Reads.{Text}
 use Rattle.dwarf_value.specs.declared.types.Value.{Value}
 use Rattle.dwarf_value.specs.Values.{Agree}
 use Rattle.dwarf_value.specs.Laws.{IsWidth}
 use Rattle.dwarf_value.proofs.Agreements.{Agree-Generic}
-use Rattle.dwarf_meaning.specs.Operations.{Text}
 use Rattle.dwarf_meaning.specs.Locations.{Location, Piece}
 use Rattle.dwarf_meaning.specs.Requests.{Input}
-use Rattle.dwarf_meaning.specs.Stores.{Limits, Setup, address_bits, Store, Last, Refusal}
+use Rattle.dwarf_meaning.specs.Stores.{Setup, address_bits, Store, Last}
 use Rattle.dwarf_meaning.specs.Run.{End, Course}
 use Rattle.dwarf_meaning.specs.Meaning.{Outcome, FaultOutcome, completion_of, has_pieces, finish_located, finish_value, finish_judged, finish_free, finish_by, unwound, First, fresh, with_initial, course_from, course_of, meaning}
+use Rattle.dwarf_meaning.specs.Refusals.{Limits, Refusal}
 use Rattle.dwarf_laws.specs.Agreement.{Pairwise, none, more, Both, nothing, something, AgreeingNumbers, AgreeingFirsts, AgreeingInputs, AgreeingLocations, AgreeingPieces, AgreeingOutcomes, requests, faults, completions}
 use Rattle.dwarf_laws.proofs.Pairs.{choose_pair, top_pair}
 use Rattle.dwarf_laws.proofs.Actions.{same_addresses}

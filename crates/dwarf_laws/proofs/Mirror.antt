@@ -4,7 +4,8 @@ use Rattle.std.proofs.lemmas.Bool.Decides.{nat_tests}
 use Rattle.std.proofs.lemmas.List.{append-nil}
 use Rattle.dwarf_base.specs.declared.common.Encoding.{Encoding}
 use Rattle.dwarf_base.specs.Faults.{Fault, TooManyIterations}
-use Rattle.dwarf_meaning.specs.Operations.{Operation, Text}
+use Rattle.dwarf_base.specs.Reads.{Text}
+use Rattle.dwarf_meaning.specs.Operations.{Operation}
 use Rattle.dwarf_meaning.specs.Locations.{Location}
 use Rattle.dwarf_meaning.specs.Requests.{Request, Waiting, Input}
 use Rattle.dwarf_meaning.specs.Acts.{act, Use, PushesAnswer, Calls, FaultUse, WrongKind, use_of}

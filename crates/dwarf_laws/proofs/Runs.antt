@@ -1,13 +1,15 @@
 -- Two runs of one text, side by side.
 use Rattle.std.proofs.Common.{ℕ, zero, suc, ◌+◌, ◌≡◌, ap, refl, ◌⊎◌, List, [], ◌∷◌, length, Result, Ok, Err}
 use Rattle.dwarf_base.specs.Faults.{Fault, StackFull}
+use Rattle.dwarf_base.specs.Reads.{Text}
 use Rattle.dwarf_value.specs.Laws.{IsWidth}
-use Rattle.dwarf_meaning.specs.Operations.{Operation, Text}
+use Rattle.dwarf_meaning.specs.Operations.{Operation}
 use Rattle.dwarf_meaning.specs.Locations.{Location}
 use Rattle.dwarf_meaning.specs.Requests.{Request, Waiting, Input}
 use Rattle.dwarf_meaning.specs.Acts.{Use}
-use Rattle.dwarf_meaning.specs.Stores.{Limits, Setup, address_bits, Store, Last, taken, Next}
+use Rattle.dwarf_meaning.specs.Stores.{Setup, address_bits, Store, Last, Next}
 use Rattle.dwarf_meaning.specs.Run.{Position, End, CompleteEnd, RequestEnd, FaultEnd, Course, only_end, add_to_path, add_request, append_course, Continues, return_to_caller, after_push, enter_callee, run_callee, after_answer, with_input, await_answer, after_operation, read, can_count, counted, do_operation, turn_counted, piece_ended_by, turn_located, turn_by, turn, out_of_turns, run_for, enough, run}
+use Rattle.dwarf_meaning.specs.Refusals.{Limits, taken}
 use Rattle.dwarf_laws.specs.Agreement.{Pairwise, none, more, AgreeingInputs, AgreeingLocations}
 use Rattle.dwarf_laws.proofs.Pairs.{choose_pair}
 use Rattle.dwarf_laws.proofs.Actions.{AgreeingUses, gives, calls, denies, misfits, act_both, use_both}

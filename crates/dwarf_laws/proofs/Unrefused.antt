@@ -2,14 +2,16 @@
 use Rattle.std.proofs.Common.{ℕ, zero, suc, ◌≡◌, ap, refl, sym, subst, ◌⊎◌, inl, inr, List, [], ◌∷◌, ◌++◌, length, Option, Some, None, Result, Ok, Err}
 use Rattle.dwarf_base.specs.declared.common.Encoding.{Encoding}
 use Rattle.dwarf_base.specs.Faults.{Fault, StackFull, ◌>>=◌}
+use Rattle.dwarf_base.specs.Reads.{Text}
 use Rattle.dwarf_value.specs.declared.types.Value.{Value}
-use Rattle.dwarf_meaning.specs.Operations.{Operation, Text}
+use Rattle.dwarf_meaning.specs.Operations.{Operation}
 use Rattle.dwarf_meaning.specs.Locations.{Location, Piece}
 use Rattle.dwarf_meaning.specs.Requests.{Request, Waiting, Input}
 use Rattle.dwarf_meaning.specs.Acts.{on_top, Act, Pushes, Branches, Locates, EndsPiece, RequestAct, FaultAct, Use, PushesAnswer, Calls, FaultUse, WrongKind, use_of}
-use Rattle.dwarf_meaning.specs.Stores.{Setup, address_bits, Store, Last, Nothing, Plain, Pieced, Pushed, Called, Located, Refusal, Never, push_value, push_piece, push_caller, push_values, Next, Goes, RequestNext, FaultNext, goes, done}
+use Rattle.dwarf_meaning.specs.Stores.{Setup, address_bits, Store, Last, Nothing, Plain, Pieced, Pushed, Called, Located, push_value, push_piece, push_caller, push_values, Next, Goes, RequestNext, FaultNext, goes, done}
 use Rattle.dwarf_meaning.specs.Run.{Position, End, CompleteEnd, RequestEnd, FaultEnd, Course, only_end, add_to_path, add_request, append_course, Continues, return_to_caller, after_push, enter_callee, run_callee, after_answer, with_input, await_answer, after_operation, read, can_count, counted, do_operation, turn_counted, piece_ended_by, end_located, turn_located, turn_by, turn, out_of_turns, run_for, enough}
 use Rattle.dwarf_meaning.specs.Meaning.{Outcome, FaultOutcome, completion_of, finish_located, finish_value, finish_judged, finish_free, finish_by, unwound, First, fresh, with_initial, course_from, meaning}
+use Rattle.dwarf_meaning.specs.Refusals.{Refusal, Never}
 use Rattle.dwarf_laws.proofs.Pairs.{choose_pair}
 use Rattle.dwarf_laws.proofs.Holdings.{IsRoom, is_left, is_full, spent_is}
 use Rattle.dwarf_laws.proofs.Calm.{free, calm}

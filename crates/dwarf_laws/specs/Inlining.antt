@@ -1,16 +1,18 @@
 -- A called text may be written in its call's place (DWARF 5, section 2.5.1.5).
 use Rattle.std.specs.Prelude.{ℕ, ◌+◌, ◌^◌, ◌<◌, ◌≡◌, ◌≢◌, Bool, List, [], ◌∷◌, ◌++◌, Option, None, length}
 use Rattle.dwarf_base.specs.Faults.{Fault}
+use Rattle.dwarf_base.specs.Reads.{Text}
 use Rattle.dwarf_value.specs.declared.types.Value.{Value}
-use Rattle.dwarf_meaning.specs.Operations.{Operation, Bra, Skip, Call, Text, DieReference}
+use Rattle.dwarf_meaning.specs.Operations.{Operation, Bra, Skip, Call, DieReference}
 use Rattle.dwarf_meaning.specs.Spelling.{Spells}
 use Rattle.dwarf_meaning.specs.Splitting.{Splitting, Joined}
 use Rattle.dwarf_meaning.specs.Branches.{AreBytes}
 use Rattle.dwarf_meaning.specs.Locations.{Piece}
 use Rattle.dwarf_meaning.specs.Requests.{Request, RequiresAtLocation, LocationAnswer, Input}
-use Rattle.dwarf_meaning.specs.Stores.{Setup, Never}
+use Rattle.dwarf_meaning.specs.Stores.{Setup}
 use Rattle.dwarf_meaning.specs.Run.{Position, RequestEnd}
 use Rattle.dwarf_meaning.specs.Meaning.{Outcome, RequestOutcome, FaultOutcome, CompleteOutcome, First, course_of, meaning}
+use Rattle.dwarf_meaning.specs.Refusals.{Never}
 
 -- ---- the texts
 

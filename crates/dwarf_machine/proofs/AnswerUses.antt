@@ -3,15 +3,15 @@ use Rattle.std.proofs.Common.{ℕ, ℤ, pos, ◌≡◌, ◌+ℤ◌, List, [], �
 use Rattle.dwarf_base.specs.declared.errors.Error.{Error}
 use Rattle.dwarf_base.specs.Faults.{Fault, fault_of, NotEnoughStackItems}
 use Rattle.dwarf_base.specs.Numbers.{residue}
+use Rattle.dwarf_base.specs.Reads.{Text}
 use Rattle.dwarf_value.specs.declared.types.Value.{Value}
 use Rattle.dwarf_value.specs.declared.types.Value.TheVariants.{Generic}
 use Rattle.dwarf_value.specs.declared.types.ValueType.{ValueType}
 use Rattle.dwarf_value.specs.Values.{add_of, from_u64_of, type_of, convert_of, reinterpret_of, parse_of}
-use Rattle.dwarf_meaning.specs.Operations.{Text}
 use Rattle.dwarf_meaning.specs.Kinds as kind
 use Rattle.dwarf_meaning.specs.Kinds.{Kind, kind_of_waiting, kind_of_answer}
 use Rattle.dwarf_meaning.specs.Requests.{Request, Waiting, Memory, Register, WasmValue, EntryValue, FrameBase, Tls, CallFrameCfa, ParameterRef, RelocatedAddress, IndexedAddress, AtLocation, TypedLiteral, Convert, Reinterpret, MemoryAnswer, RegisterAnswer, WasmAnswer, EntryAnswer, FrameBaseAnswer, TlsAnswer, CfaAnswer, ParameterAnswer, RelocatedAnswer, IndexedAnswer, LocationAnswer, BaseTypeAnswer}
-use Rattle.dwarf_meaning.specs.Acts.{Use, PushesAnswer, Calls, FaultUse, on_top, on_some, on_result, result_of, use_of}
+use Rattle.dwarf_meaning.specs.Acts.{Use, PushesAnswer, Calls, FaultUse, on_top, on_result, result_of, use_of}
 use Rattle.dwarf_meaning.specs.Rest.{Status, Start, Running, RequestStatus, CompleteStatus, FaultStatus}
 use Rattle.dwarf_meaning.proofs.Choices.{answer_ok, answer_err, read_ok, read_err, top_none, top_some}
 use Rattle.dwarf_machine.specs.Answers.{IsWaitingFor, IsWaitingTo}
@@ -46,162 +46,54 @@ open_for kind Running h = absurd h
 
 module _ (bits : ℕ) (values : List Value) where
   pub memory_gives : (w : Waiting) (v : Value) → kind_of_waiting w ≡ kind.Memory → use_of bits w (MemoryAnswer v) values ≡ PushesAnswer values v
-  unfolding use_of on_some
+  unfolding use_of
   memory_gives Memory v e = refl
-  memory_gives (Register offset) v e = cc
-  memory_gives WasmValue v e = cc
-  memory_gives EntryValue v e = cc
-  memory_gives (FrameBase offset) v e = cc
-  memory_gives Tls v e = cc
-  memory_gives CallFrameCfa v e = cc
-  memory_gives ParameterRef v e = cc
-  memory_gives RelocatedAddress v e = cc
-  memory_gives IndexedAddress v e = cc
-  memory_gives AtLocation v e = cc
-  memory_gives (TypedLiteral value) v e = cc
-  memory_gives Convert v e = cc
-  memory_gives Reinterpret v e = cc
+  memory_gives _ v e = cc
 
   pub wasm_gives : (w : Waiting) (v : Value) → kind_of_waiting w ≡ kind.WasmValue → use_of bits w (WasmAnswer v) values ≡ PushesAnswer values v
-  unfolding use_of on_some
-  wasm_gives Memory v e = cc
-  wasm_gives (Register offset) v e = cc
+  unfolding use_of
   wasm_gives WasmValue v e = refl
-  wasm_gives EntryValue v e = cc
-  wasm_gives (FrameBase offset) v e = cc
-  wasm_gives Tls v e = cc
-  wasm_gives CallFrameCfa v e = cc
-  wasm_gives ParameterRef v e = cc
-  wasm_gives RelocatedAddress v e = cc
-  wasm_gives IndexedAddress v e = cc
-  wasm_gives AtLocation v e = cc
-  wasm_gives (TypedLiteral value) v e = cc
-  wasm_gives Convert v e = cc
-  wasm_gives Reinterpret v e = cc
+  wasm_gives _ v e = cc
 
   pub entry_gives : (w : Waiting) (v : Value) → kind_of_waiting w ≡ kind.EntryValue → use_of bits w (EntryAnswer v) values ≡ PushesAnswer values v
-  unfolding use_of on_some
-  entry_gives Memory v e = cc
-  entry_gives (Register offset) v e = cc
-  entry_gives WasmValue v e = cc
+  unfolding use_of
   entry_gives EntryValue v e = refl
-  entry_gives (FrameBase offset) v e = cc
-  entry_gives Tls v e = cc
-  entry_gives CallFrameCfa v e = cc
-  entry_gives ParameterRef v e = cc
-  entry_gives RelocatedAddress v e = cc
-  entry_gives IndexedAddress v e = cc
-  entry_gives AtLocation v e = cc
-  entry_gives (TypedLiteral value) v e = cc
-  entry_gives Convert v e = cc
-  entry_gives Reinterpret v e = cc
+  entry_gives _ v e = cc
 
   pub tls_gives : (w : Waiting) (n : ℕ) → kind_of_waiting w ≡ kind.Tls → use_of bits w (TlsAnswer n) values ≡ PushesAnswer values (Generic n)
-  unfolding use_of on_some
-  tls_gives Memory n e = cc
-  tls_gives (Register offset) n e = cc
-  tls_gives WasmValue n e = cc
-  tls_gives EntryValue n e = cc
-  tls_gives (FrameBase offset) n e = cc
+  unfolding use_of
   tls_gives Tls n e = refl
-  tls_gives CallFrameCfa n e = cc
-  tls_gives ParameterRef n e = cc
-  tls_gives RelocatedAddress n e = cc
-  tls_gives IndexedAddress n e = cc
-  tls_gives AtLocation n e = cc
-  tls_gives (TypedLiteral value) n e = cc
-  tls_gives Convert n e = cc
-  tls_gives Reinterpret n e = cc
+  tls_gives _ n e = cc
 
   pub cfa_gives : (w : Waiting) (n : ℕ) → kind_of_waiting w ≡ kind.CallFrameCfa → use_of bits w (CfaAnswer n) values ≡ PushesAnswer values (Generic n)
-  unfolding use_of on_some
-  cfa_gives Memory n e = cc
-  cfa_gives (Register offset) n e = cc
-  cfa_gives WasmValue n e = cc
-  cfa_gives EntryValue n e = cc
-  cfa_gives (FrameBase offset) n e = cc
-  cfa_gives Tls n e = cc
+  unfolding use_of
   cfa_gives CallFrameCfa n e = refl
-  cfa_gives ParameterRef n e = cc
-  cfa_gives RelocatedAddress n e = cc
-  cfa_gives IndexedAddress n e = cc
-  cfa_gives AtLocation n e = cc
-  cfa_gives (TypedLiteral value) n e = cc
-  cfa_gives Convert n e = cc
-  cfa_gives Reinterpret n e = cc
+  cfa_gives _ n e = cc
 
   pub parameter_gives : (w : Waiting) (n : ℕ) → kind_of_waiting w ≡ kind.ParameterRef → use_of bits w (ParameterAnswer n) values ≡ PushesAnswer values (Generic n)
-  unfolding use_of on_some
-  parameter_gives Memory n e = cc
-  parameter_gives (Register offset) n e = cc
-  parameter_gives WasmValue n e = cc
-  parameter_gives EntryValue n e = cc
-  parameter_gives (FrameBase offset) n e = cc
-  parameter_gives Tls n e = cc
-  parameter_gives CallFrameCfa n e = cc
+  unfolding use_of
   parameter_gives ParameterRef n e = refl
-  parameter_gives RelocatedAddress n e = cc
-  parameter_gives IndexedAddress n e = cc
-  parameter_gives AtLocation n e = cc
-  parameter_gives (TypedLiteral value) n e = cc
-  parameter_gives Convert n e = cc
-  parameter_gives Reinterpret n e = cc
+  parameter_gives _ n e = cc
 
   pub relocated_gives : (w : Waiting) (n : ℕ) → kind_of_waiting w ≡ kind.RelocatedAddress → use_of bits w (RelocatedAnswer n) values ≡ PushesAnswer values (Generic n)
-  unfolding use_of on_some
-  relocated_gives Memory n e = cc
-  relocated_gives (Register offset) n e = cc
-  relocated_gives WasmValue n e = cc
-  relocated_gives EntryValue n e = cc
-  relocated_gives (FrameBase offset) n e = cc
-  relocated_gives Tls n e = cc
-  relocated_gives CallFrameCfa n e = cc
-  relocated_gives ParameterRef n e = cc
+  unfolding use_of
   relocated_gives RelocatedAddress n e = refl
-  relocated_gives IndexedAddress n e = cc
-  relocated_gives AtLocation n e = cc
-  relocated_gives (TypedLiteral value) n e = cc
-  relocated_gives Convert n e = cc
-  relocated_gives Reinterpret n e = cc
+  relocated_gives _ n e = cc
 
   pub indexed_gives : (w : Waiting) (n : ℕ) → kind_of_waiting w ≡ kind.IndexedAddress → use_of bits w (IndexedAnswer n) values ≡ PushesAnswer values (Generic n)
-  unfolding use_of on_some
-  indexed_gives Memory n e = cc
-  indexed_gives (Register offset) n e = cc
-  indexed_gives WasmValue n e = cc
-  indexed_gives EntryValue n e = cc
-  indexed_gives (FrameBase offset) n e = cc
-  indexed_gives Tls n e = cc
-  indexed_gives CallFrameCfa n e = cc
-  indexed_gives ParameterRef n e = cc
-  indexed_gives RelocatedAddress n e = cc
+  unfolding use_of
   indexed_gives IndexedAddress n e = refl
-  indexed_gives AtLocation n e = cc
-  indexed_gives (TypedLiteral value) n e = cc
-  indexed_gives Convert n e = cc
-  indexed_gives Reinterpret n e = cc
+  indexed_gives _ n e = cc
 
   pub location_calls : (w : Waiting) (text : Text) → kind_of_waiting w ≡ kind.AtLocation → use_of bits w (LocationAnswer text) values ≡ Calls text
-  unfolding use_of on_some
-  location_calls Memory text e = cc
-  location_calls (Register offset) text e = cc
-  location_calls WasmValue text e = cc
-  location_calls EntryValue text e = cc
-  location_calls (FrameBase offset) text e = cc
-  location_calls Tls text e = cc
-  location_calls CallFrameCfa text e = cc
-  location_calls ParameterRef text e = cc
-  location_calls RelocatedAddress text e = cc
-  location_calls IndexedAddress text e = cc
+  unfolding use_of
   location_calls AtLocation text e = refl
-  location_calls (TypedLiteral value) text e = cc
-  location_calls Convert text e = cc
-  location_calls Reinterpret text e = cc
+  location_calls _ text e = cc
 
   -- ---- answers from which a value is made
 
   register_is : (offset : ℤ) (x : Value) → use_of bits (Register offset) (RegisterAnswer x) values ≡ on_result (result_of (add_of bits x (from_u64_of (type_of x) (residue 64 offset)))) FaultUse (PushesAnswer values)
-  unfolding use_of on_some
+  unfolding use_of
   register_is offset x = refl
 
   pub register_gives : (offset : ℤ) (x v : Value) → add_of bits x (from_u64_of (type_of x) (residue 64 offset)) ≡ Ok v → use_of bits (Register offset) (RegisterAnswer x) values ≡ PushesAnswer values v
@@ -211,11 +103,11 @@ module _ (bits : ℕ) (values : List Value) where
   register_denies offset x error e = register_is offset x ∙ answer_err (add_of bits x (from_u64_of (type_of x) (residue 64 offset))) FaultUse (PushesAnswer values) error e
 
   pub frame_base_gives : (offset : ℤ) (base number : ℕ) → number ≡ residue 64 (pos base +ℤ offset) → use_of bits (FrameBase offset) (FrameBaseAnswer base) values ≡ PushesAnswer values (Generic number)
-  unfolding use_of on_some
+  unfolding use_of
   frame_base_gives offset base number e = ap (λ (n : ℕ). PushesAnswer values (Generic n)) (sym e)
 
   literal_is : (literal : Text) (t : ValueType) → use_of bits (TypedLiteral literal) (BaseTypeAnswer t) values ≡ on_result (parse_of t literal.is_big literal.bytes) FaultUse (PushesAnswer values)
-  unfolding use_of on_some
+  unfolding use_of
   literal_is literal t = refl
 
   pub literal_gives : (literal : Text) (t : ValueType) (v : Value) → parse_of t literal.is_big literal.bytes ≡ Ok v → use_of bits (TypedLiteral literal) (BaseTypeAnswer t) values ≡ PushesAnswer values v
@@ -242,25 +134,25 @@ module _ (bits : ℕ) (values : List Value) where
       ∙ answer_err (call bits t x) FaultUse (PushesAnswer rest) error f
 
   pub convert_none : (t : ValueType) → values ≡ [] → use_of bits Convert (BaseTypeAnswer t) values ≡ FaultUse NotEnoughStackItems
-  unfolding use_of on_some
+  unfolding use_of
   convert_none t e = turned_none convert_of t e
 
   pub convert_gives : (t : ValueType) (x : Value) (rest : List Value) (v : Value) → values ≡ x ∷ rest → convert_of bits t x ≡ Ok v → use_of bits Convert (BaseTypeAnswer t) values ≡ PushesAnswer rest v
-  unfolding use_of on_some
+  unfolding use_of
   convert_gives t x rest v e f = turned_ok convert_of t x rest v e f
 
   pub convert_denies : (t : ValueType) (x : Value) (rest : List Value) (error : Error) → values ≡ x ∷ rest → convert_of bits t x ≡ Err error → use_of bits Convert (BaseTypeAnswer t) values ≡ FaultUse (fault_of error)
-  unfolding use_of on_some
+  unfolding use_of
   convert_denies t x rest error e f = turned_err convert_of t x rest error e f
 
   pub reinterpret_none : (t : ValueType) → values ≡ [] → use_of bits Reinterpret (BaseTypeAnswer t) values ≡ FaultUse NotEnoughStackItems
-  unfolding use_of on_some
+  unfolding use_of
   reinterpret_none t e = turned_none reinterpret_of t e
 
   pub reinterpret_gives : (t : ValueType) (x : Value) (rest : List Value) (v : Value) → values ≡ x ∷ rest → reinterpret_of bits t x ≡ Ok v → use_of bits Reinterpret (BaseTypeAnswer t) values ≡ PushesAnswer rest v
-  unfolding use_of on_some
+  unfolding use_of
   reinterpret_gives t x rest v e f = turned_ok reinterpret_of t x rest v e f
 
   pub reinterpret_denies : (t : ValueType) (x : Value) (rest : List Value) (error : Error) → values ≡ x ∷ rest → reinterpret_of bits t x ≡ Err error → use_of bits Reinterpret (BaseTypeAnswer t) values ≡ FaultUse (fault_of error)
-  unfolding use_of on_some
+  unfolding use_of
   reinterpret_denies t x rest error e f = turned_err reinterpret_of t x rest error e f

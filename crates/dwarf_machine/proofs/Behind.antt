@@ -1,31 +1,32 @@
 -- An operation that takes no branch does the same in front of any place, and none changes the text.
-use Rattle.std.proofs.Common.{ℕ, ℤ, ◌≡◌, ◌-◌, Bool, true, false, List, [], ◌∷◌, length, Option, Some, None, Result, Ok, Err, ap, ◌∙◌, sym, refl, subst}
+use Rattle.std.proofs.Common.{ℕ, ℤ, ◌≡◌, ◌-◌, inl, inr, List, length, Result, Ok, Err, ap, ◌∙◌, sym, refl, subst}
 use Rattle.dwarf_base.specs.declared.errors.Error.{Error}
 use Rattle.dwarf_base.specs.Faults.{Fault}
-use Rattle.dwarf_base.specs.Reads.{IsSuffix}
+use Rattle.dwarf_base.specs.Reads.{IsLeftOf, Reads, Text}
 use Rattle.dwarf_base.proofs.Suffixes.{suffix_trans}
-use Rattle.dwarf_value.specs.declared.types.Value.{Value}
-use Rattle.dwarf_meaning.specs.Operations as operation
-use Rattle.dwarf_meaning.specs.Operations.{Operation, Text}
-use Rattle.dwarf_meaning.specs.Acts.{Act, Pushes, Branches, Locates, EndsPiece, RequestAct, FaultAct, choose, on_top, on_some, on_result, result_of, short, push, unary, binary, act}
+use Rattle.dwarf_meaning.specs.Operations.{Operation}
+use Rattle.dwarf_meaning.specs.Acts.{Act, Pushes, Branches, Locates, EndsPiece, RequestAct, FaultAct}
 use Rattle.dwarf_meaning.specs.Stores.{Setup, Store, Next, Goes, RequestNext, FaultNext, goes, done, address_bits}
 use Rattle.dwarf_meaning.specs.Rest.{State, Status, Start, Running, RequestStatus, CompleteStatus, FaultStatus, with_refusal}
+use Rattle.dwarf_meaning.specs.Refusals.{before_pushes}
+use Rattle.dwarf_meaning.proofs.Effects.{IsActOf, branches, act_is}
 use Rattle.dwarf_op.specs.Entries.{plain_operation, byte_operation, unsigned_operation, signed_operation, offset_operation, block_operation, wasm_operation}
 use Rattle.dwarf_op.specs.declared.opcodes.Plain.{Plain}
-use Rattle.dwarf_op.specs.declared.opcodes.Plain.TheVariants as plain
 use Rattle.dwarf_op.specs.declared.opcodes.FromByte.{FromByte}
-use Rattle.dwarf_op.specs.declared.opcodes.FromByte.TheVariants as from_byte
 use Rattle.dwarf_op.specs.declared.opcodes.FromUnsigned.{FromUnsigned}
-use Rattle.dwarf_op.specs.declared.opcodes.FromUnsigned.TheVariants as from_unsigned
 use Rattle.dwarf_op.specs.declared.opcodes.FromSigned.{FromSigned}
-use Rattle.dwarf_op.specs.declared.opcodes.FromSigned.TheVariants as from_signed
 use Rattle.dwarf_op.specs.declared.opcodes.FromOffset.{FromOffset}
-use Rattle.dwarf_op.specs.declared.opcodes.FromOffset.TheVariants as from_offset
 use Rattle.dwarf_op.specs.declared.opcodes.FromBlock.{FromBlock}
-use Rattle.dwarf_op.specs.declared.opcodes.FromBlock.TheVariants as from_block
 use Rattle.dwarf_op.specs.declared.operands.WasmPlace.{WasmPlace}
+use Rattle.dwarf_machine.specs.inner.Steps.{LeadsBy, Performs, PerformsRead, Stays, act_of, at, done_at, with_place}
+use Rattle.dwarf_meaning.specs.Operations as operation
+use Rattle.dwarf_op.specs.declared.opcodes.Plain.TheVariants as plain
+use Rattle.dwarf_op.specs.declared.opcodes.FromByte.TheVariants as from_byte
+use Rattle.dwarf_op.specs.declared.opcodes.FromUnsigned.TheVariants as from_unsigned
+use Rattle.dwarf_op.specs.declared.opcodes.FromSigned.TheVariants as from_signed
+use Rattle.dwarf_op.specs.declared.opcodes.FromOffset.TheVariants as from_offset
+use Rattle.dwarf_op.specs.declared.opcodes.FromBlock.TheVariants as from_block
 use Rattle.dwarf_op.specs.declared.operands.WasmPlace.TheVariants as wasm_place
-use Rattle.dwarf_machine.specs.inner.Steps.{IsRest, LeadsBy, Performs, PerformsRead, Stays, act_of, at, before_pushes, done_at, with_place}
 
 -- ---- the text
 
@@ -109,96 +110,15 @@ performs_at a left old new still h =
 
 -- ---- the operations that take no branch
 
-top_still : (values : List Value) (none : Act) (go : Value → List Value → Act) → IsStill none → ((x : Value) (rest : List Value) → IsStill (go x rest)) → IsStill (on_top values none go)
-unfolding on_top
-top_still [] none go h i = h
-top_still (x ∷ rest) none go h i = i x rest
-
-some_still : {X : Type 0} (o : Option X) (none : Act) (go : X → Act) → IsStill none → ((x : X) → IsStill (go x)) → IsStill (on_some o none go)
-unfolding on_some
-some_still None none go h i = h
-some_still (Some x) none go h i = i x
-
-answer_still : {X : Type 0} (r : Result X Error) (go : X → Act) → ((x : X) → IsStill (go x)) → IsStill (on_result (result_of r) FaultAct go)
-unfolding on_result result_of
-answer_still (Ok x) go i = i x
-answer_still (Err error) go i = tt
-
-choose_still : (b : Bool) (first second : Act) → IsStill first → IsStill second → IsStill (choose b first second)
-unfolding choose
-choose_still true first second h i = h
-choose_still false first second h i = i
-
-unary_still : (call : Value → Result Value Error) (values : List Value) → IsStill (unary call values)
-unary_still call values = top_still values short _ tt (λ x rest. answer_still (call x) (push rest) (λ y. tt))
-
-binary_still : (call : Value → Value → Result Value Error) (values : List Value) → IsStill (binary call values)
-binary_still call values =
-    top_still values short _ tt (λ y below. top_still below short _ tt (λ x rest. answer_still (call x y) (push rest) (λ z. tt)))
-
 abbrev pub IsNoBranch : Operation → Type 0
 IsNoBranch (operation.Bra target) = ⊥
 IsNoBranch (operation.Skip target) = ⊥
 IsNoBranch _ = Unit {0}
 
-act_still : (bits : ℕ) (object : Option ℕ) (op : Operation) (values : List Value) → IsNoBranch op → IsStill (act bits object op values)
-unfolding act
-act_still bits object operation.Drop values h = top_still values _ _ tt (λ x rest. tt)
-act_still bits object (operation.Pick index) values h = some_still _ _ _ tt (λ x. tt)
-act_still bits object operation.Swap values h = top_still values short _ tt (λ y below. top_still below short _ tt (λ x rest. tt))
-act_still bits object operation.Rot values h = top_still values short _ tt (λ z below. top_still below short _ tt (λ y lower. top_still lower short _ tt (λ x rest. tt)))
-act_still bits object operation.Abs values h = unary_still _ values
-act_still bits object operation.Neg values h = unary_still _ values
-act_still bits object operation.Not values h = unary_still _ values
-act_still bits object operation.Plus values h = binary_still _ values
-act_still bits object operation.Minus values h = binary_still _ values
-act_still bits object operation.Mul values h = binary_still _ values
-act_still bits object operation.Div values h = binary_still _ values
-act_still bits object operation.Mod values h = binary_still _ values
-act_still bits object operation.And values h = binary_still _ values
-act_still bits object operation.Or values h = binary_still _ values
-act_still bits object operation.Xor values h = binary_still _ values
-act_still bits object operation.Shl values h = binary_still _ values
-act_still bits object operation.Shr values h = binary_still _ values
-act_still bits object operation.Shra values h = binary_still _ values
-act_still bits object operation.Eq values h = binary_still _ values
-act_still bits object operation.Ge values h = binary_still _ values
-act_still bits object operation.Gt values h = binary_still _ values
-act_still bits object operation.Le values h = binary_still _ values
-act_still bits object operation.Lt values h = binary_still _ values
-act_still bits object operation.Ne values h = binary_still _ values
-act_still bits object (operation.PlusConstant value) values h = unary_still _ values
-act_still bits object (operation.UnsignedConstant value) values h = tt
-act_still bits object (operation.SignedConstant value) values h = tt
-act_still bits object operation.PushObjectAddress values h = some_still _ _ _ tt (λ x. tt)
-act_still bits object (operation.Bra target) values h = absurd h
-act_still bits object (operation.Skip target) values h = absurd h
-act_still bits object operation.Nop values h = tt
-act_still bits object (operation.VariableValue offset) values h = tt
-act_still bits object operation.Uninitialized values h = tt
-act_still bits object (operation.Deref base_type size false) values h = choose_still _ _ _ tt (top_still values short _ tt (λ x rest. tt))
-act_still bits object (operation.Deref base_type size true) values h = choose_still _ _ _ tt (top_still values short _ tt (λ x below. top_still below short _ tt (λ y rest. tt)))
-act_still bits object (operation.RegisterOffset register offset base_type) values h = tt
-act_still bits object (operation.FrameOffset offset) values h = tt
-act_still bits object operation.TLS values h = top_still values _ _ tt (λ x rest. tt)
-act_still bits object operation.CallFrameCFA values h = tt
-act_still bits object (operation.Call offset) values h = tt
-act_still bits object (operation.EntryValue expression) values h = tt
-act_still bits object (operation.ParameterRef offset) values h = tt
-act_still bits object (operation.Address address) values h = tt
-act_still bits object (operation.AddressIndex index) values h = tt
-act_still bits object (operation.ConstantIndex index) values h = tt
-act_still bits object (operation.TypedLiteral base_type value) values h = tt
-act_still bits object (operation.Convert base_type) values h = tt
-act_still bits object (operation.Reinterpret base_type) values h = tt
-act_still bits object (operation.WasmLocal index) values h = tt
-act_still bits object (operation.WasmGlobal index) values h = tt
-act_still bits object (operation.WasmStack index) values h = tt
-act_still bits object (operation.Register register) values h = tt
-act_still bits object (operation.ImplicitValue bytes) values h = tt
-act_still bits object operation.StackValue values h = top_still values _ _ tt (λ x rest. tt)
-act_still bits object (operation.ImplicitPointer value byte_offset) values h = tt
-act_still bits object (operation.Piece size_in_bits bit_offset) values h = top_still values _ _ tt (λ x rest. tt)
+still : (op : Operation) {n : ℕ} (a : Act) → IsActOf op n a → IsNoBranch op → IsStill a
+still op (Branches rest target) (branches l (inl e)) h = subst IsNoBranch e h
+still op (Branches rest target) (branches l (inr e)) h = subst IsNoBranch e h
+still op _ d h = tt
 
 -- ---- the entries that make no branch
 
@@ -271,14 +191,19 @@ wasm_still wasm_place.Stack index = tt
 
 -- what takes no branch was done behind the bytes that were read
 pub read_done : (op : Operation) (read : Result (Operation × List ℕ) Fault) (left : List ℕ) (old new : State) → read ≡ Ok (op, left) → IsNoBranch op → Performs (act_of old op) old new → PerformsRead read left old new
-read_done op read left old new was still h = record {
+read_done op read left old new was none h = record {
   op = op;
   behind = left;
   was = was;
-  performs = performs_at (act_of old op) left old new (act_still (address_bits old.setup) old.store.object_address op old.store.values still) h;
+  performs = performs_at (act_of old op) left old new (still op (act_of old op) (act_is (address_bits old.setup) old.store.object_address op old.store.values) none) h;
 }
 
--- what is left still belongs to the text
-pub rest_then : (before left : List ℕ) (was_big is_big : Bool) (old new : State) → IsRest before was_big old → IsSuffix left before → is_big ≡ was_big → new.text ≡ old.text → IsRest left is_big new
-rest_then before left was_big is_big old new h fewer order text =
-    subst (λ (t : Text). IsRest left is_big (record new { text = t })) (sym text) (record { rest = suffix_trans left before old.text.bytes fewer h.rest; order = order ∙ h.order })
+-- ---- what is left
+
+-- what a read leaves belongs to the text still
+pub left_then : {X Y : Type 0} {view : X → Y} {result : Result X Error} {read : Result (Y × List ℕ) Fault} (before left whole : Text) → IsLeftOf before whole → Reads view before left result read → IsLeftOf left whole
+left_then before left whole h reads = record { rest = suffix_trans left.bytes before.bytes whole.bytes reads.rest h.rest; order = reads.order ∙ h.order }
+
+-- and once an operation was done
+pub left_after : {X Y : Type 0} {view : X → Y} {result : Result X Error} {read : Result (Y × List ℕ) Fault} (before left : Text) (a : Act) (old new : State) → IsLeftOf before old.text → Reads view before left result read → Performs a old new → IsLeftOf left new.text
+left_after before left a old new h reads performs = subst (IsLeftOf left) (sym (performs_text a old new performs)) (left_then before left old.text h reads)

@@ -2,16 +2,17 @@
 use Rattle.std.proofs.Common.{ℕ, ◌≡◌, Bool, List, [], ◌∷◌, ◌++◌, length, map, reverse, ap, ◌∙◌}
 use Rattle.std.specs.List.{AllByRecursion}
 use Rattle.std.proofs.lemmas.List.{reverse-append, map-append, length-reverse, length-map}
+use Rattle.dwarf_base.specs.Reads.{Text}
 use Rattle.dwarf_machine.specs.Machine.{caller_of, callers_of}
 
-pub callers-push : {R : Type 0} (bytes : R → List ℕ) (is_big : R → Bool) (f : R × R) (low all : List (R × R)) → all ≡ low ++ f ∷ [] → callers_of bytes is_big all ≡ caller_of bytes is_big f ∷ callers_of bytes is_big low
-callers-push bytes is_big f low all e =
-    ap (callers_of bytes is_big) e
-    ∙ (ap reverse (map-append (caller_of bytes is_big) low (f ∷ []))
-    ∙ reverse-append (map (caller_of bytes is_big) low) (caller_of bytes is_big f ∷ []))
+pub callers-push : {R : Type 0} (text : R → Text) (f : R × R) (low all : List (R × R)) → all ≡ low ++ f ∷ [] → callers_of text all ≡ caller_of text f ∷ callers_of text low
+callers-push text f low all e =
+    ap (callers_of text) e
+    ∙ (ap reverse (map-append (caller_of text) low (f ∷ []))
+    ∙ reverse-append (map (caller_of text) low) (caller_of text f ∷ []))
 
-pub length-callers : {R : Type 0} (bytes : R → List ℕ) (is_big : R → Bool) (items : List (R × R)) → length (callers_of bytes is_big items) ≡ length items
-length-callers bytes is_big items = length-reverse (map (caller_of bytes is_big) items) ∙ length-map items (caller_of bytes is_big)
+pub length-callers : {R : Type 0} (text : R → Text) (items : List (R × R)) → length (callers_of text items) ≡ length items
+length-callers text items = length-reverse (map (caller_of text) items) ∙ length-map items (caller_of text)
 
 -- what holds of all items but the last, and of the last
 pub all_but_last : {X : Type 0} (P : X → Type 0) (xs : List X) (x : X) → AllByRecursion P (xs ++ x ∷ []) → AllByRecursion P xs × P x

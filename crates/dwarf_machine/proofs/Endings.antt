@@ -3,16 +3,18 @@ use Rattle.std.proofs.Common.{ℕ, ◌≡◌, ◌+◌, ◌≤◌, List, [], ◌�
 use Rattle.dwarf_base.specs.Faults.{Fault, NotEnoughStackItems}
 use Rattle.dwarf_value.specs.declared.types.Value.{Value}
 use Rattle.dwarf_value.specs.Values.{to_u64_of}
+use Rattle.dwarf_meaning.specs.Operations.{Operation}
 use Rattle.dwarf_meaning.specs.Locations.{Location, Empty, InRegister, AtAddress, HoldsValue, HoldsBytes, PointsInto, Piece}
 use Rattle.dwarf_meaning.specs.Acts.{Act, Pushes, Branches, Locates, EndsPiece, RequestAct, FaultAct, on_top}
 use Rattle.dwarf_meaning.specs.RunLaws.{waits_of}
-use Rattle.dwarf_meaning.specs.Stores.{Setup, address_bits, Store, Last, Nothing, Plain, Pieced, Pushed, Called, Located, room, push_value, push_piece, push_values, done}
+use Rattle.dwarf_meaning.specs.Stores.{Setup, address_bits, Store, Last, Nothing, Plain, Pieced, Pushed, Called, Located, push_value, push_piece, push_values, done}
 use Rattle.dwarf_meaning.specs.Meaning.{Outcome, RequestOutcome, FaultOutcome, CompleteOutcome, completion_of, whole, finish_value, finish}
+use Rattle.dwarf_meaning.specs.Refusals.{room}
 use Rattle.dwarf_meaning.proofs.Choices.{choose_both}
 use Rattle.dwarf_meaning.proofs.Counts.{OnStore, OnNext, bound_store, on_bound, on_goes}
+use Rattle.dwarf_meaning.proofs.Effects.{IsActOf, IsGivenBy, IsOwnPlace, locates, ends}
 use Rattle.dwarf_machine.specs.Bounds.{located_by, ending_by, endings, located}
 use Rattle.dwarf_machine.specs.inner.Steps.{IsFree}
-use Rattle.dwarf_machine.proofs.Light.{IsLight}
 
 located_little : (location : Location) → located_by location ≤ 1
 located_little Empty = omega arith
@@ -85,19 +87,32 @@ own_ends n setup piece s none h =
     bound_store (EndsNoMore n) (room setup.limits.pieces (length s.pieces) s.refusal) (λ left. record s { pieces = s.pieces ++ piece ∷ []; refusal = left })
     (λ left. record { pieces = omega (arith, more, same, none); waits = h.waits })
 
+given_by : (op : Operation) (location : Location) → IsGivenBy op location → located_by location ≡ 1
+given_by op (InRegister register) g = refl
+given_by op (HoldsValue value) g = refl
+given_by op (HoldsBytes text) g = refl
+given_by op (PointsInto value byte_offset) g = refl
+given_by op _ g = absurd g
+
+own_by : (size_in_bits : Option ℕ) (location : Location) → IsOwnPlace location → ending_by size_in_bits location ≡ 0
+own_by None location o = refl
+own_by (Some size_in_bits) Empty o = refl
+own_by (Some size_in_bits) (AtAddress address) o = refl
+own_by (Some size_in_bits) _ o = absurd o
+
 -- an operation that is counted ends no location
-pub done_ends : (setup : Setup) (place len : ℕ) (a : Act) (s : Store) → IsLight (length s.values) a → waits_of s.last ≡ 0 → OnNext (EndsNoMore (endings s.pieces)) (done setup place len a s)
-done_ends setup place len (Pushes rest pushed) s h free =
+pub done_ends : (op : Operation) (setup : Setup) (place len : ℕ) (a : Act) (s : Store) → IsActOf op (length s.values) a → waits_of s.last ≡ 0 → OnNext (EndsNoMore (endings s.pieces)) (done setup place len a s)
+done_ends op setup place len (Pushes rest pushed) s h free =
     on_goes (EndsNoMore (endings s.pieces)) place _ (values_end (endings s.pieces) setup pushed _ (record { pieces = refl; waits = omega arith }))
-done_ends setup place len (Branches rest target) s h free =
+done_ends op setup place len (Branches rest target) s h free =
     choose_both (OnNext (EndsNoMore (endings s.pieces))) _ _ _ (λ e. tt) (λ e. record { pieces = refl; waits = omega arith })
-done_ends setup place len (Locates rest location) s h free =
-    let given = h.1 in
+done_ends op setup place len (Locates rest location) s (locates _ g) free =
+    let given = given_by op location g in
     record { pieces = refl; waits = omega (arith, given) }
-done_ends setup place len (EndsPiece rest piece) s h free =
-    on_goes (EndsNoMore (endings s.pieces)) place _ (own_ends (endings s.pieces) setup piece _ h.1 (record { pieces = refl; waits = omega arith }))
-done_ends setup place len (RequestAct rest request waiting) s h free = record { pieces = refl; waits = omega (arith, free) }
-done_ends setup place len (FaultAct fault) s h free = tt
+done_ends op setup place len (EndsPiece rest piece) s (ends _ own) free =
+    on_goes (EndsNoMore (endings s.pieces)) place _ (own_ends (endings s.pieces) setup piece _ (own_by piece.size_in_bits piece.location own) (record { pieces = refl; waits = omega arith }))
+done_ends op setup place len (RequestAct rest request waiting) s h free = record { pieces = refl; waits = omega (arith, free) }
+done_ends op setup place len (FaultAct fault) s h free = tt
 
 -- ---- the end
 

@@ -9,16 +9,17 @@ use Rattle.dwarf_meaning.specs.Locations.{AtAddress, Piece}
 use Rattle.dwarf_meaning.specs.Requests.{Input}
 use Rattle.dwarf_meaning.specs.Acts.{choose}
 use Rattle.dwarf_meaning.specs.RunLaws.{waits_of}
-use Rattle.dwarf_meaning.specs.Stores.{Setup, address_bits, Store, Refusal, Never, push_piece}
+use Rattle.dwarf_meaning.specs.Stores.{Setup, address_bits, Store, push_piece}
 use Rattle.dwarf_meaning.specs.Run.{Position, CompleteEnd, only_end, turn_by, run}
 use Rattle.dwarf_meaning.specs.Meaning.{Outcome, FaultOutcome, CompleteOutcome, completion_of, has_pieces, whole, finish_value, finish}
 use Rattle.dwarf_meaning.specs.Rest.{State, Status, Start, Running, RequestStatus, CompleteStatus, FaultStatus, with_refusal}
+use Rattle.dwarf_meaning.specs.Refusals.{Refusal, Never, before_pushes}
 use Rattle.dwarf_meaning.proofs.Choices.{choose_true, choose_false, top_none, top_some}
 use Rattle.dwarf_meaning.proofs.Counts.{HasTally, OnStore, Tally, tally_of, tally-push_piece}
 use Rattle.dwarf_meaning.proofs.Turns.{run_turn}
 use Rattle.dwarf_machine.specs.Bounds.{endings, faults_in}
 use Rattle.dwarf_machine.specs.Inputs.{Keeps, with_status}
-use Rattle.dwarf_machine.specs.inner.Steps.{Does, Refused, Stays, Pops, before_pushes, total, ComesBy, GoesBack, Adds, ClosesBy, Closes, Turns, with_store, with_values}
+use Rattle.dwarf_machine.specs.inner.Steps.{Does, Refused, Stays, Pops, total, ComesBy, GoesBack, Adds, ClosesBy, Closes, Turns, with_store, with_values}
 use Rattle.dwarf_machine.proofs.Reaching.{may_along}
 use Rattle.dwarf_machine.proofs.Endings.{EndsAlike, finish_alike}
 use Rattle.dwarf_machine.proofs.Loads.{Extended, piece_extends}

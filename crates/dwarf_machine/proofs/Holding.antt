@@ -7,14 +7,15 @@ use Rattle.dwarf_meaning.specs.Operations.{Operation}
 use Rattle.dwarf_meaning.specs.Locations.{Location, Piece}
 use Rattle.dwarf_meaning.specs.Requests.{Input}
 use Rattle.dwarf_meaning.specs.RunLaws.{waits_of}
-use Rattle.dwarf_meaning.specs.Stores.{Store, Last, Pieced, Located, Refusal, Never, push_piece, Next, Goes, FaultNext, goes}
+use Rattle.dwarf_meaning.specs.Stores.{Store, Last, Pieced, Located, push_piece, Next, Goes, FaultNext, goes}
 use Rattle.dwarf_meaning.specs.Run.{after_operation, end_located, turn_located, piece_ended_by, read, run, turn_by}
 use Rattle.dwarf_meaning.specs.Meaning.{FaultOutcome}
 use Rattle.dwarf_meaning.specs.Rest.{State, Running, FaultStatus, with_refusal}
+use Rattle.dwarf_meaning.specs.Refusals.{Refusal, Never, before_pushes}
 use Rattle.dwarf_meaning.proofs.Counts.{OnStore, KeepsBoth, Tally, tally_of, both-push_piece}
 use Rattle.dwarf_machine.specs.Bounds.{piece_due, located_by, endings, located, faults_in}
 use Rattle.dwarf_machine.specs.Inputs.{with_status}
-use Rattle.dwarf_machine.specs.inner.Steps.{Does, Refused, Tries, ReadsPiece, EndsLocated, before_pushes, total, ComesBy, Turns, read_to, with_last}
+use Rattle.dwarf_machine.specs.inner.Steps.{Does, Refused, Tries, ReadsPiece, EndsLocated, total, ComesBy, Turns, read_to, with_last}
 use Rattle.dwarf_machine.proofs.Endings.{Ending, piece_ends}
 use Rattle.dwarf_machine.proofs.Loads.{Keeping, kept_in, piece_adds}
 use Rattle.dwarf_machine.proofs.Nearing.{nears_by}

@@ -23,7 +23,6 @@ pub mod Finishing
 pub mod Holding
 pub mod AnswerUses
 pub mod Resuming
-pub mod Light
 pub mod Behind
 pub mod OneOperand
 pub mod Loads

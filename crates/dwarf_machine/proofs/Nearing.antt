@@ -2,7 +2,7 @@
 use Rattle.std.proofs.Common.{◌≡◌, ◌+◌, ◌≤◌, ◌<◌, List, Result, Ok, Err, IfOk, arith, ap, refl}
 use Rattle.dwarf_base.specs.declared.errors.Error.{Error}
 use Rattle.dwarf_meaning.specs.Requests.{Input, Request, Waiting}
-use Rattle.dwarf_meaning.specs.Stores.{Refusal}
+use Rattle.dwarf_meaning.specs.Refusals.{Refusal}
 use Rattle.dwarf_meaning.specs.Rest.{State, Status, Start, Running, RequestStatus, CompleteStatus, FaultStatus}
 use Rattle.dwarf_machine.specs.Bounds.{calls_left, calls_left_by}
 use Rattle.dwarf_machine.specs.inner.Steps.{EndsBy, Ends, Nears, Total, stop_of}

@@ -8,11 +8,12 @@ use Rattle.dwarf_value.specs.declared.types.Value.{Value}
 use Rattle.dwarf_meaning.specs.Locations.{Location, Piece}
 use Rattle.dwarf_meaning.specs.Requests.{Request, Waiting}
 use Rattle.dwarf_meaning.specs.Acts.{Act, Pushes, Branches, Locates, EndsPiece, RequestAct, FaultAct, push}
-use Rattle.dwarf_meaning.specs.Stores.{Setup, Store, Refusal, Never, Last, Plain, Pieced, Located, push_value, push_piece, push_values, Next, Goes, RequestNext, FaultNext, goes, branch_target, branch}
+use Rattle.dwarf_meaning.specs.Stores.{Setup, Store, Last, Plain, Pieced, Located, push_value, push_piece, push_values, Next, Goes, RequestNext, FaultNext, goes, branch_target, branch}
 use Rattle.dwarf_meaning.specs.Rest.{State, Status, Start, Running, RequestStatus, CompleteStatus, FaultStatus, with_refusal}
+use Rattle.dwarf_meaning.specs.Refusals.{Refusal, Never, before_pushes}
 use Rattle.dwarf_meaning.proofs.Choices.{choose_true, choose_false}
 use Rattle.dwarf_machine.specs.Inputs.{with_status}
-use Rattle.dwarf_machine.specs.inner.Steps.{Stays, Tries, Tried, Pops, Jumps, before_pushes, done_at, LeadsToFault, LeadsBy, Performs, with_store, with_values, with_last, with_place}
+use Rattle.dwarf_machine.specs.inner.Steps.{Stays, Tries, Tried, Pops, Jumps, done_at, LeadsToFault, LeadsBy, Performs, with_store, with_values, with_last, with_place}
 use Rattle.dwarf_machine.proofs.Refusals.{tries_as, bind_ok}
 use Rattle.dwarf_machine.proofs.Staying.{stays_from, stays_low, stays_then}
 

@@ -5,12 +5,13 @@ use Rattle.dwarf_base.specs.declared.errors.Error.TheVariants as error
 use Rattle.dwarf_base.specs.Faults.{Fault, StackFull, ◌>>=◌}
 use Rattle.dwarf_value.specs.declared.types.Value.{Value}
 use Rattle.dwarf_meaning.specs.Locations.{Piece}
-use Rattle.dwarf_meaning.specs.Stores.{Limits, Setup, Store, Refusal, Never, After, room, spent, push_value, push_piece, push_caller}
+use Rattle.dwarf_meaning.specs.Stores.{Setup, Store, push_value, push_piece, push_caller}
 use Rattle.dwarf_meaning.specs.Rest.{State, FaultStatus, with_refusal}
+use Rattle.dwarf_meaning.specs.Refusals.{Limits, Refusal, Never, After, room, spent, MayPick, before_push, before_pushes}
 use Rattle.dwarf_meaning.proofs.Choices.{choose_true, choose_false}
 use Rattle.dwarf_store.specs.Lists.{HasRoom, MayRefuse}
-use Rattle.dwarf_machine.specs.Inputs.{MayPick, with_status}
-use Rattle.dwarf_machine.specs.inner.Steps.{before_push, before_pushes, Steps, Gets, Refused}
+use Rattle.dwarf_machine.specs.Inputs.{with_status}
+use Rattle.dwarf_machine.specs.inner.Steps.{Steps, Gets, Refused}
 use Rattle.dwarf_machine.proofs.Staying.{stays_status}
 
 -- how many pushes on lists without a limit a push is

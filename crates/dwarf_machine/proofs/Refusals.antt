@@ -2,10 +2,10 @@
 use Rattle.std.proofs.Common.{ℕ, zero, suc, ◌≡◌, ◌+◌, Bool, true, false, [], ◌∷◌, Result, Ok, Err, arith, ap, ◌∙◌, sym, refl, subst}
 use Rattle.dwarf_base.specs.Faults.{Fault, ◌>>=◌}
 use Rattle.dwarf_value.specs.declared.types.Value.{Value}
-use Rattle.dwarf_meaning.specs.Stores.{Limits, Setup, Store, Refusal, Never, After, push_value, push_values}
+use Rattle.dwarf_meaning.specs.Stores.{Setup, Store, push_value, push_values}
 use Rattle.dwarf_meaning.specs.Rest.{State, with_refusal}
-use Rattle.dwarf_machine.specs.Inputs.{MayPick}
-use Rattle.dwarf_machine.specs.inner.Steps.{before_push, before_pushes, Gets, Does, Stays, Tries, with_store}
+use Rattle.dwarf_meaning.specs.Refusals.{Limits, Refusal, Never, After, MayPick, before_push, before_pushes}
+use Rattle.dwarf_machine.specs.inner.Steps.{Gets, Does, Stays, Tries, with_store}
 
 pub before_more : (p q : ℕ) (r : Refusal) → before_pushes (p + q) r ≡ before_pushes p (before_pushes q r)
 before_more zero q r =

@@ -2,20 +2,21 @@
 use Rattle.std.proofs.Common.{ℕ, suc, ◌≡◌, ◌+◌, ◌≤◌, arith, Bool, true, false, List, [], ◌∷◌, length, Result, Ok, Err, ap, ◌∙◌, sym, refl, subst}
 use Rattle.dwarf_base.specs.declared.errors.Error.{Error}
 use Rattle.dwarf_base.specs.Faults.{Fault, fault_of}
+use Rattle.dwarf_base.specs.Reads.{Text}
 use Rattle.dwarf_value.specs.declared.types.Value.{Value}
-use Rattle.dwarf_meaning.specs.Operations.{Text}
 use Rattle.dwarf_meaning.specs.Requests.{Request, Waiting, Answer, Input}
 use Rattle.dwarf_meaning.specs.Acts.{Use, PushesAnswer, Calls, FaultUse, use_of}
 use Rattle.dwarf_meaning.specs.RunLaws.{waits_of}
-use Rattle.dwarf_meaning.specs.Stores.{address_bits, Store, Pushed, Called, Refusal, Never, After, taken, push_value, push_caller}
+use Rattle.dwarf_meaning.specs.Stores.{address_bits, Store, Pushed, Called, push_value, push_caller}
 use Rattle.dwarf_meaning.specs.Run.{Position, Course, RequestEnd, only_end, run_callee, enter_callee, after_push, after_answer, run}
 use Rattle.dwarf_meaning.specs.Meaning.{FaultOutcome}
 use Rattle.dwarf_meaning.specs.Rest.{State, Running, RequestStatus, FaultStatus, with_refusal}
+use Rattle.dwarf_meaning.specs.Refusals.{Refusal, Never, After, taken, MayPick, before_input, before_pushes}
 use Rattle.dwarf_meaning.proofs.Counts.{HasTally, OnStore, Tally, tally_of, tally-push_caller}
+use Rattle.dwarf_meaning.proofs.Effects.{IsUseOf, use_is}
 use Rattle.dwarf_machine.specs.Bounds.{located, faults_in}
-use Rattle.dwarf_machine.specs.Inputs.{MayPick, before_input, input_of, with_status}
-use Rattle.dwarf_machine.specs.inner.Steps.{before_pushes, Total, total_after, Does, Refused, Stays, Tries, Tried, Enters, TriesToEnter, RunsOnBy, Takes, with_last, with_values}
-use Rattle.dwarf_machine.proofs.Light.{IsLightUse, use_light}
+use Rattle.dwarf_machine.specs.Inputs.{input_of, with_status}
+use Rattle.dwarf_machine.specs.inner.Steps.{Total, total_after, Does, Refused, Stays, Tries, Tried, Enters, TriesToEnter, RunsOnBy, Takes, with_last, with_values}
 use Rattle.dwarf_machine.proofs.Loads.{HasLast, HasPieces, Keeping, kept_in, value_adds, value_last, value_pieces, frame_adds, frame_last, frame_pieces}
 use Rattle.dwarf_machine.proofs.Nearing.{nears_by}
 use Rattle.dwarf_machine.proofs.Spending.{answered_spends, fallen_spends}
@@ -70,7 +71,7 @@ module _ (x : State) (request : Request) (waiting : Waiting) (open_now : x.statu
     answered = with_status Running (with_last Pushed (with_values values x))
 
     fewer : length values ≤ length x.store.values
-    fewer = subst (IsLightUse (length x.store.values)) gives (use_light (address_bits x.setup) waiting answer x.store.values)
+    fewer = subst (IsUseOf answer (length x.store.values)) gives (use_is (address_bits x.setup) waiting answer x.store.values)
 
     value_taken : (new : State) → Does (push_value x.setup value) answered new → Takes answer x new
     value_taken new d =

@@ -2,11 +2,12 @@
 use Rattle.std.proofs.Common.{ℕ, ◌≡◌, ◌+◌, ◌≤◌, List, ◌∷◌, length, Option, Some, None, arith, ap, ◌∙◌, sym, refl, subst}
 use Rattle.dwarf_value.specs.declared.types.Value.{Value}
 use Rattle.dwarf_meaning.specs.RunLaws.{waits_of}
-use Rattle.dwarf_meaning.specs.Stores.{Setup, Store, Last, Never, push_value}
+use Rattle.dwarf_meaning.specs.Stores.{Setup, Store, Last, push_value}
 use Rattle.dwarf_meaning.specs.Rest.{State, Status, with_refusal}
+use Rattle.dwarf_meaning.specs.Refusals.{Never, before_pushes}
 use Rattle.dwarf_meaning.proofs.Counts.{HasTally, OnStore, Tally, tally_of, tally-push_value}
 use Rattle.dwarf_machine.specs.Inputs.{Keeps, with_status}
-use Rattle.dwarf_machine.specs.inner.Steps.{Does, Pops, PopsNumber, Stays, before_pushes, with_last, with_values}
+use Rattle.dwarf_machine.specs.inner.Steps.{Does, Pops, PopsNumber, Stays, with_last, with_values}
 use Rattle.dwarf_machine.proofs.Loads.{HasLast, HasPieces, Keeping, kept_in, value_adds, value_last, value_pieces}
 
 pub keeps_here : (x : State) → Keeps x x

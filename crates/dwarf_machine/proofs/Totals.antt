@@ -3,10 +3,11 @@ use Rattle.std.proofs.Common.{ℕ, suc, ◌≡◌, ◌+◌, arith, length, List,
 use Rattle.dwarf_base.specs.Faults.{Fault}
 use Rattle.dwarf_value.specs.declared.types.Value.{Value}
 use Rattle.dwarf_meaning.specs.Requests.{Request, Waiting, Input}
-use Rattle.dwarf_meaning.specs.Stores.{Setup, Store, Refusal}
+use Rattle.dwarf_meaning.specs.Stores.{Setup, Store}
 use Rattle.dwarf_meaning.specs.Run.{Position, Course, End, CompleteEnd, RequestEnd, FaultEnd, only_end, add_to_path, return_to_caller, run, await_answer}
 use Rattle.dwarf_meaning.specs.Meaning.{Outcome, RequestOutcome, FaultOutcome, CompleteOutcome, unwound, with_initial}
 use Rattle.dwarf_meaning.specs.Rest.{State, Status, Start, Running, RequestStatus, CompleteStatus, with_refusal, rest_from_start, rest_by, rest}
+use Rattle.dwarf_meaning.specs.Refusals.{Refusal}
 use Rattle.dwarf_machine.specs.Paths.{path, path_behind, path_by, path_through, path_started}
 use Rattle.dwarf_machine.specs.inner.Steps.{Total, total}
 

@@ -3,21 +3,23 @@ use Rattle.std.proofs.Common.{ℕ, ◌≡◌, ◌+◌, ◌-◌, ◌*◌, ◌<◌
 use Rattle.dwarf_base.specs.declared.errors.Error.{Error}
 use Rattle.dwarf_base.specs.declared.errors.Error.TheVariants as error
 use Rattle.dwarf_base.specs.Faults.{Fault, TooManyIterations, fault_of}
-use Rattle.dwarf_meaning.specs.Operations.{Operation, Text}
+use Rattle.dwarf_base.specs.Reads.{Text}
+use Rattle.dwarf_meaning.specs.Operations.{Operation}
 use Rattle.dwarf_meaning.specs.Requests.{Request, Waiting, Input}
 use Rattle.dwarf_meaning.specs.RunLaws.{waits_of}
-use Rattle.dwarf_meaning.specs.Stores.{Setup, address_bits, Store, Last, Nothing, Plain, Pieced, Pushed, Called, Located, Refusal, Never, Next, Goes, RequestNext, FaultNext}
+use Rattle.dwarf_meaning.specs.Stores.{Setup, address_bits, Store, Last, Nothing, Plain, Pieced, Pushed, Called, Located, Next, Goes, RequestNext, FaultNext}
 use Rattle.dwarf_meaning.specs.Run.{Position, CompleteEnd, FaultEnd, Course, only_end, add_to_path, read, most, can_count, counted, do_operation, turn_counted, after_operation, turn_by, run}
 use Rattle.dwarf_meaning.specs.Meaning.{FaultOutcome}
 use Rattle.dwarf_meaning.specs.Rest.{State, Status, Start, Running, RequestStatus, CompleteStatus, FaultStatus, with_refusal}
+use Rattle.dwarf_meaning.specs.Refusals.{Refusal, Never, before_pushes}
 use Rattle.dwarf_meaning.proofs.Choices.{choose_true, choose_false}
 use Rattle.dwarf_meaning.proofs.Counts.{HasTally, OnNext, Tally, tally_of, tally-done}
+use Rattle.dwarf_meaning.proofs.Effects.{act_is}
 use Rattle.dwarf_meaning.proofs.Turns.{run_turn, below_most}
 use Rattle.dwarf_machine.specs.Bounds.{endings, faults_in}
 use Rattle.dwarf_machine.specs.Inputs.{Keeps, with_status}
-use Rattle.dwarf_machine.specs.inner.Steps.{total, CountsOne, Reads, before_pushes, act_of, done_at, LeadsToPlace, LeadsToRequest, LeadsToFault, LeadsBy, Performs, read_to, with_store, Falls, ComesBy, IsFree, IsReady, Turns, effort, effort_by}
+use Rattle.dwarf_machine.specs.inner.Steps.{total, CountsOne, Reads, act_of, done_at, LeadsToPlace, LeadsToRequest, LeadsToFault, LeadsBy, Performs, read_to, with_store, Falls, ComesBy, IsFree, IsReady, Turns, effort, effort_by}
 use Rattle.dwarf_machine.proofs.Endings.{EndsNoMore, done_ends, free_waits}
-use Rattle.dwarf_machine.proofs.Light.{act_light}
 use Rattle.dwarf_machine.proofs.Loads.{IsLighter, kept_in, done_lighter}
 use Rattle.dwarf_machine.proofs.Nearing.{nears_by}
 use Rattle.dwarf_machine.proofs.Spending.{asked_spends, counted_spends, fallen_spends, waits_little}
@@ -165,13 +167,13 @@ module _ (x : State) (ready : IsReady x) where
       next_lighter : (r : Refusal) (next : Next) → done_at (act_of there op) there (with_refusal r there.store) ≡ next → IsLighter (kept_in there.store) next
       next_lighter r next e =
           subst (IsLighter (kept_in there.store)) e
-          (done_lighter x.setup place_then (length x.text.bytes) (act_of there op) (with_refusal r there.store) (act_light (address_bits there.setup) there.store.object_address op there.store.values))
+          (done_lighter x.setup place_then (length x.text.bytes) (act_of there op) (with_refusal r there.store) (act_is (address_bits there.setup) there.store.object_address op there.store.values))
 
       -- no piece that it gives ended a location, and it gave the one that waits
       next_ends : (r : Refusal) (next : Next) → done_at (act_of there op) there (with_refusal r there.store) ≡ next → OnNext (EndsNoMore (endings x.store.pieces)) next
       next_ends r next e =
           subst (OnNext (EndsNoMore (endings x.store.pieces))) e
-          (done_ends x.setup place_then (length x.text.bytes) (act_of there op) (with_refusal r there.store) (act_light (address_bits there.setup) there.store.object_address op there.store.values)
+          (done_ends op x.setup place_then (length x.text.bytes) (act_of there op) (with_refusal r there.store) (act_is (address_bits there.setup) there.store.object_address op there.store.values)
           (free_waits x.store.last ready.free))
 
       keeps_by : (new : State) → new.setup ≡ x.setup → tally_of new.store ≡ tally_of there.store → Keeps x new

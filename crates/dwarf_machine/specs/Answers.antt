@@ -1,6 +1,6 @@
 -- What a machine is given, and what it waits for.
 use Rattle.std.specs.Prelude.{◌≡◌}
-use Rattle.dwarf_meaning.specs.Operations.{Text}
+use Rattle.dwarf_base.specs.Reads.{Text}
 use Rattle.dwarf_meaning.specs.Kinds.{Kind, kind_of_waiting}
 use Rattle.dwarf_meaning.specs.Requests as asked
 use Rattle.dwarf_meaning.specs.Rest as rest

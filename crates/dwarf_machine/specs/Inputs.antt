@@ -1,23 +1,9 @@
--- Refusals, the inputs of a state, and its settings.
-use Rattle.std.specs.Prelude.{ℕ, suc, ◌≡◌, ◌⊎◌, [], Option, None}
+-- The inputs of a state, and its settings.
+use Rattle.std.specs.Prelude.{ℕ, ◌≡◌, [], Option}
 use Rattle.dwarf_meaning.specs.Requests.{Answer, Input}
-use Rattle.dwarf_meaning.specs.Stores.{Limits, Refusal, Never, After}
+use Rattle.dwarf_meaning.specs.Refusals.{Never}
 use Rattle.dwarf_meaning.specs.Meaning.{First, fresh}
 use Rattle.dwarf_meaning.specs.Rest.{State, Status}
-
--- one of the lists has no limit
-abbrev pub HasFreeList : Limits → Type 0
-HasFreeList limits = (limits.values ≡ None) ⊎ (limits.callers ≡ None) ⊎ (limits.pieces ≡ None)
-
--- only a push on a list without a limit may be refused before a limit is met
-abbrev pub MayPick : Limits → Refusal → Type 0
-MayPick limits Never = Unit {0}
-MayPick limits (After inputs pushes) = HasFreeList limits
-
--- the refusal before an input is taken
-abbrev pub before_input : Refusal → Refusal
-before_input Never = Never
-before_input (After inputs pushes) = After (suc inputs) pushes
 
 -- an answer, with the settings as they stand
 abbrev pub input_of : State → Answer → Input

@@ -1,17 +1,17 @@
 -- What an evaluation stands for: a state of the nested meaning, its readers seen as texts and places.
-use Rattle.std.specs.Prelude.{ℕ, Bool, List, Option, ◌*◌, ◌-◌, ◌≡◌, length, reverse, map}
+use Rattle.std.specs.Prelude.{ℕ, List, Option, ◌*◌, ◌-◌, ◌≡◌, length, reverse, map}
 use Rattle.std.specs.List.{AllByRecursion}
 use Rattle.dwarf_base.specs.declared.common.Encoding.{Encoding}
-use Rattle.dwarf_base.specs.Reads.{IsSuffix}
+use Rattle.dwarf_base.specs.Reads.{IsLeftOf, Text}
 use Rattle.dwarf_value.specs.declared.types.Value.{Value}
 use Rattle.dwarf_value.specs.Values.{IsAddressMask, width_of}
-use Rattle.dwarf_meaning.specs.Operations.{Text}
 use Rattle.dwarf_meaning.specs.Locations as meaning
 use Rattle.dwarf_meaning.specs.Requests as asked
-use Rattle.dwarf_meaning.specs.Stores.{Setup, Store, Last, Nothing, Plain, Pieced, Pushed, Called, Located, Never}
+use Rattle.dwarf_meaning.specs.Stores.{Setup, Store, Last, Nothing, Plain, Pieced, Pushed, Called, Located}
 use Rattle.dwarf_meaning.specs.Run.{Position}
 use Rattle.dwarf_meaning.specs.Rest.{Status, Start, Running, RequestStatus, CompleteStatus, FaultStatus}
-use Rattle.dwarf_op.specs.Views.{text_of, reference_of}
+use Rattle.dwarf_meaning.specs.Refusals.{Never}
+use Rattle.dwarf_op.specs.Views.{reference_of}
 use Rattle.dwarf_op.specs.declared.locations.Location.{Location}
 use Rattle.dwarf_op.specs.declared.locations.Location.TheVariants as location
 use Rattle.dwarf_op.specs.declared.locations.Piece.{Piece}
@@ -92,16 +92,16 @@ status_of text number (state.Complete value) = CompleteStatus value
 status_of text number (state.Failed error) = FaultStatus error
 
 -- how many bytes of the text come before what is left of it
-abbrev pub place_of : {R : Type 0} → (R → List ℕ) → (text left : R) → ℕ
-place_of bytes text left = length (bytes text) - length (bytes left)
+abbrev pub place_of : (whole left : Text) → ℕ
+place_of whole left = length whole.bytes - length left.bytes
 
 -- a caller: what is left of it, and the whole of it
-abbrev pub caller_of : {R : Type 0} → (R → List ℕ) → (R → Bool) → R × R → Position
-caller_of bytes is_big f = record { text = text_of bytes is_big f.1; place = place_of bytes f.1 f.0 }
+abbrev pub caller_of : {R : Type 0} → (R → Text) → R × R → Position
+caller_of text f = record { text = text f.1; place = place_of (text f.1) (text f.0) }
 
 -- the innermost caller first
-abbrev pub callers_of : {R : Type 0} → (R → List ℕ) → (R → Bool) → List (R × R) → List Position
-callers_of bytes is_big readers = reverse (map (caller_of bytes is_big) readers)
+abbrev pub callers_of : {R : Type 0} → (R → Text) → List (R × R) → List Position
+callers_of text readers = reverse (map (caller_of text) readers)
 
 -- the setup: an encoding, the bits of an offset, and a limit for each list
 abbrev pub setup_of : Encoding → ℕ → Option ℕ → Option ℕ → Option ℕ → Setup
@@ -120,14 +120,9 @@ store_of text number values pieces count object_address maximum last = record {
   refusal = Never;
 }
 
--- what is left belongs to the text
-pub record IsLeftOf {R : Type 0} (bytes : R → List ℕ) (is_big : R → Bool) (text left : R) : Type 0 where
-  pub rest : IsSuffix (bytes left) (bytes text)
-  pub order : is_big left ≡ is_big text
-
 -- the mask is that of the encoding's addresses, and all that is left belongs to its text
-pub record IsSound {R : Type 0} (bytes : R → List ℕ) (is_big : R → Bool) (encoding : Encoding) (addr_mask : ℕ) (text left : R) (readers : List (R × R)) : Type 0 where
+pub record IsSound {R : Type 0} (text : R → Text) (encoding : Encoding) (addr_mask : ℕ) (whole left : R) (readers : List (R × R)) : Type 0 where
   pub mask : IsAddressMask addr_mask
   pub width : width_of addr_mask ≡ 8 * encoding.address_size
-  pub here : IsLeftOf bytes is_big text left
-  pub callers : AllByRecursion (λ (f : R × R). IsLeftOf bytes is_big f.1 f.0) readers
+  pub here : IsLeftOf (text left) (text whole)
+  pub callers : AllByRecursion (λ (f : R × R). IsLeftOf (text f.0) (text f.1)) readers

@@ -6,7 +6,6 @@ ghost use Rattle.dwarf_meaning.specs.Stores.{Pushed, push_value};
 ghost use Rattle.dwarf_machine.specs.Answers.{IsWaitingFor, IsWaitingTo, answer_of};
 ghost use Rattle.dwarf_machine.specs.Inputs.{input_of, with_status};
 ghost use Rattle.dwarf_machine.specs.inner.Steps.{Ends, Takes, Tried, total_after, with_last};
-ghost use Rattle.dwarf_op.specs.Views.{text_of};
 
 use crate::machine::Machine;
 use crate::states::{EvaluationState, Given, LastOperation, OpenRequest};
@@ -99,7 +98,7 @@ impl<R: Reader + Copy, S: EvaluationStorage<R>> Machine<R, S> {
 
     /// Pushes the literal's bytes as a value of the type.
     fn take_literal(&mut self, base_type: ValueType, literal: R)
-        requires { IsWaitingTo (asked.TypedLiteral (text_of R.bytes R.is_big literal)) self.old.status }
+        requires { IsWaitingTo (asked.TypedLiteral (R.text literal)) self.old.status }
         ensures { Takes (asked.BaseTypeAnswer base_type) self.old self.new }
     {
         match Value::parse(base_type, literal) {
@@ -141,7 +140,7 @@ impl<R: Reader + Copy, S: EvaluationStorage<R>> Machine<R, S> {
     /// Runs the called text in the call's place; goes on at once where it is empty.
     fn take_location(&mut self, callee: R)
         requires { IsWaitingFor kind.AtLocation self.old.status }
-        ensures { Takes (asked.LocationAnswer (text_of R.bytes R.is_big callee)) self.old self.new }
+        ensures { Takes (asked.LocationAnswer (R.text callee)) self.old self.new }
     {
         self.enter(EvaluationState::Running);
         if callee.is_empty() {
@@ -153,8 +152,8 @@ impl<R: Reader + Copy, S: EvaluationStorage<R>> Machine<R, S> {
 
     /// Takes an answer.
     fn take(&mut self, given: Given<R>)
-        requires { IsWaitingFor (kind_of_answer (answer_of (text_of R.bytes R.is_big) given)) self.old.status }
-        ensures { Takes (answer_of (text_of R.bytes R.is_big) given) self.old self.new }
+        requires { IsWaitingFor (kind_of_answer (answer_of R.text given)) self.old.status }
+        ensures { Takes (answer_of R.text given) self.old self.new }
     {
         match given {
             Given::Memory(value) => self.push_answer(value),
@@ -174,8 +173,8 @@ impl<R: Reader + Copy, S: EvaluationStorage<R>> Machine<R, S> {
 
     /// Takes an answer, and runs on to a request, to the end, or to a fault, which it keeps.
     pub fn resume(&mut self, given: Given<R>)
-        requires { IsWaitingFor (kind_of_answer (answer_of (text_of R.bytes R.is_big) given)) self.old.status }
-        ensures { Ends self.old (total_after self.old (input_of self.old (answer_of (text_of R.bytes R.is_big) given))) self.new }
+        requires { IsWaitingFor (kind_of_answer (answer_of R.text given)) self.old.status }
+        ensures { Ends self.old (total_after self.old (input_of self.old (answer_of R.text given))) self.new }
     {
         self.take(given);
         if self.is_running() {

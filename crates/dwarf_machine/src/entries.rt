@@ -2,13 +2,13 @@
 //! operation made of it.
 
 ghost use Rattle.std.specs.Prelude.{◌≡◌};
+ghost use Rattle.dwarf_base.specs.Reads.{IsLeftOf};
 ghost use Rattle.dwarf_meaning.specs.Decoding.{operands_at, operation_at};
 ghost use Rattle.dwarf_meaning.specs.Operands.{context_of};
 ghost use Rattle.dwarf_meaning.specs.Rest.{Running};
-ghost use Rattle.dwarf_machine.specs.inner.Steps.{IsRest, Performs, TriesToPerform, act_of, at, read_to};
+ghost use Rattle.dwarf_machine.specs.inner.Steps.{Performs, TriesToPerform, act_of, at, read_to};
 ghost use Rattle.dwarf_op.specs.Entries as entries;
 ghost use Rattle.dwarf_op.specs.Entries.{entry_row, rare_row};
-ghost use Rattle.dwarf_op.specs.Views.{text_of};
 
 use crate::binary;
 use crate::machine::Machine;
@@ -115,9 +115,9 @@ impl<R: Reader + Copy, S: EvaluationStorage<R>> Machine<R, S> {
     #[tactic(auto, unfolding(dwarf_meaning::specs::Acts::act))]
     fn perform_branch(&mut self, make: FromBranch, target: i16, left: &mut R)
         requires runs { self.old.status ≡ Running }
-        requires rest { IsRest (R.bytes left.old) (R.is_big left.old) self.old }
-        ensures performs { Performs (act_of self.old (entries.branch_operation make target)) (at (R.bytes left.old) self.old) (at (R.bytes left.new) self.new) }
-        ensures rest { IsRest (R.bytes left.new) (R.is_big left.new) self.new }
+        requires rest { IsLeftOf (R.text left.old) self.old.text }
+        ensures performs { Performs (act_of self.old (entries.branch_operation make target)) (at (R.text left.old).bytes self.old) (at (R.text left.new).bytes self.new) }
+        ensures rest { IsLeftOf (R.text left.new) self.new.text }
     {
         match make {
             FromBranch::Bra => self.branch_if(target, left),
@@ -163,7 +163,7 @@ impl<R: Reader + Copy, S: EvaluationStorage<R>> Machine<R, S> {
     #[tactic(auto, unfolding(dwarf_meaning::specs::Acts::act))]
     fn perform_block(&mut self, make: FromBlock, block: R)
         requires { self.old.status ≡ Running }
-        ensures { Performs (act_of self.old (entries.block_operation make (text_of R.bytes R.is_big block))) self.old self.new }
+        ensures { Performs (act_of self.old (entries.block_operation make (R.text block))) self.old self.new }
     {
         match make {
             FromBlock::ImplicitValue => self.locate(Location::Bytes { value: block }),
@@ -188,9 +188,9 @@ impl<R: Reader + Copy, S: EvaluationStorage<R>> Machine<R, S> {
     #[inline(never)]
     fn perform_rare(&mut self, entry: Rare, left: &mut R, encoding: Encoding) -> Result<()>
         requires runs { self.old.status ≡ Running }
-        requires rest { IsRest (R.bytes left.old) (R.is_big left.old) self.old }
-        ensures performs { TriesToPerform (operands_at (context_of encoding R.Offset.BITS (R.is_big left.old)) (rare_row entry) (R.bytes left.old)) (R.bytes left.new) self.old self.new result }
-        ensures rest { IsRest (R.bytes left.new) (R.is_big left.new) self.new }
+        requires rest { IsLeftOf (R.text left.old) self.old.text }
+        ensures performs { TriesToPerform (operands_at (context_of encoding R.Offset.BITS (R.text left.old).is_big) (rare_row entry) (R.text left.old).bytes) (R.text left.new).bytes self.old self.new result }
+        ensures rest { IsLeftOf (R.text left.new) self.new.text }
     {
         match entry {
             Rare::NamedRegister => {
@@ -256,9 +256,9 @@ impl<R: Reader + Copy, S: EvaluationStorage<R>> Machine<R, S> {
         encoding: Encoding,
     ) -> Result<()>
         requires runs { self.old.status ≡ Running }
-        requires rest { IsRest (R.bytes left.old) (R.is_big left.old) self.old }
-        ensures performs { TriesToPerform (operands_at (context_of encoding R.Offset.BITS (R.is_big left.old)) (entry_row encoding opcode entry) (R.bytes left.old)) (R.bytes left.new) self.old self.new result }
-        ensures rest { IsRest (R.bytes left.new) (R.is_big left.new) self.new }
+        requires rest { IsLeftOf (R.text left.old) self.old.text }
+        ensures performs { TriesToPerform (operands_at (context_of encoding R.Offset.BITS (R.text left.old).is_big) (entry_row encoding opcode entry) (R.text left.old).bytes) (R.text left.new).bytes self.old self.new result }
+        ensures rest { IsLeftOf (R.text left.new) self.new.text }
     {
         match entry {
             Entry::Unknown => return Err(Error::InvalidExpression(DwOp(opcode))),
@@ -318,9 +318,9 @@ impl<R: Reader + Copy, S: EvaluationStorage<R>> Machine<R, S> {
     #[inline(always)]
     pub(crate) fn perform_opcode(&mut self, left: &mut R, encoding: Encoding) -> Result<()>
         requires runs { self.old.status ≡ Running }
-        requires rest { IsRest (R.bytes left.old) (R.is_big left.old) self.old }
-        ensures performs { TriesToPerform (operation_at encoding R.Offset.BITS (text_of R.bytes R.is_big left.old)) (R.bytes left.new) (read_to self.old.place self.old) self.new result }
-        ensures rest { IsRest (R.bytes left.new) (R.is_big left.new) self.new }
+        requires rest { IsLeftOf (R.text left.old) self.old.text }
+        ensures performs { TriesToPerform (operation_at encoding R.Offset.BITS (R.text left.old)) (R.text left.new).bytes (read_to self.old.place self.old) self.new result }
+        ensures rest { IsLeftOf (R.text left.new) self.new.text }
     {
         self.tick();
         let opcode = left.read_u8()?;

@@ -1,4 +1,5 @@
 ghost use Rattle.std.specs.Prelude.{◌≡◌, ◌==◌, ◌<◌, ◌≤◌, ◌*◌, ℕ, [], None, Some, Err, map, length, slice_get, OnOk, IfOk, IfErr, IfSome, IfNone};
+ghost use Rattle.dwarf_base.specs.Reads.{IsLeftOf};
 ghost use Rattle.dwarf_base.specs.Faults.{fault_of};
 ghost use Rattle.dwarf_value.specs.Values.{IsAddressMask, width_of};
 ghost use Rattle.dwarf_meaning.specs.Meaning.{has_pieces};
@@ -8,8 +9,7 @@ ghost use Rattle.dwarf_meaning.specs.Stores.{Located, Plain, address_bits, push_
 ghost use Rattle.dwarf_machine.specs.Bounds.{IsUnspent};
 ghost use Rattle.dwarf_machine.specs.Inputs.{IsFresh, most_iterations, with_maximum, with_object, with_status};
 ghost use Rattle.dwarf_machine.specs.Machine.{last_of, location_of, piece_of, setup_of, status_of};
-ghost use Rattle.dwarf_machine.specs.inner.Steps.{CountsOne, GoesBack, IsFree, IsRest, Jumps, Pops, PopsGenerics, ReadsPiece, Tries, TriesToEnter, at, is_free, is_running, read_to, with_last};
-ghost use Rattle.dwarf_op.specs.Views.{text_of};
+ghost use Rattle.dwarf_machine.specs.inner.Steps.{CountsOne, GoesBack, IsFree, Jumps, Pops, PopsGenerics, ReadsPiece, Tries, TriesToEnter, at, is_free, is_running, read_to, with_last};
 
 use crate::states::{EvaluationState, LastOperation};
 use dwarf_base::{Encoding, Error, Reader, ReaderOffset, Result};
@@ -45,11 +45,10 @@ impl<R: Reader + Copy, S: EvaluationStorage<R>> Model for Machine<R, S> {
     ghost Value = { State };
 
     ghost use Rattle.dwarf_machine.specs.Machine.{setup_of, status_of, store_of, place_of, callers_of, IsSound};
-    ghost use Rattle.dwarf_op.specs.Views.{text_of};
 
-    ghost view = { λ e. record { status = status_of (text_of R.bytes R.is_big) R.Offset.number e.state; setup = setup_of e.encoding R.Offset.BITS (S.Stack.limit e.stack) (S.ExpressionStack.limit e.expression_stack) (S.Result.limit e.pieces); text = text_of R.bytes R.is_big e.bytecode; place = place_of R.bytes e.bytecode e.pc; callers = callers_of R.bytes R.is_big (S.ExpressionStack.items e.expression_stack); store = store_of (text_of R.bytes R.is_big) R.Offset.number (S.Stack.items e.stack) (S.Result.items e.pieces) e.iteration e.object_address e.max_iterations e.last; decodings = e.decodings.count } };
+    ghost view = { λ e. record { status = status_of R.text R.Offset.number e.state; setup = setup_of e.encoding R.Offset.BITS (S.Stack.limit e.stack) (S.ExpressionStack.limit e.expression_stack) (S.Result.limit e.pieces); text = R.text e.bytecode; place = place_of (R.text e.bytecode) (R.text e.pc); callers = callers_of R.text (S.ExpressionStack.items e.expression_stack); store = store_of R.text R.Offset.number (S.Stack.items e.stack) (S.Result.items e.pieces) e.iteration e.object_address e.max_iterations e.last; decodings = e.decodings.count } };
 
-    ghost invariant = { λ e. IsSound R.bytes R.is_big e.encoding e.addr_mask e.bytecode e.pc (S.ExpressionStack.items e.expression_stack) };
+    ghost invariant = { λ e. IsSound R.text e.encoding e.addr_mask e.bytecode e.pc (S.ExpressionStack.items e.expression_stack) };
 }
 
 impl<R: Reader + Copy, S: EvaluationStorage<R>> Machine<R, S> {
@@ -113,7 +112,7 @@ impl<R: Reader + Copy, S: EvaluationStorage<R>> Machine<R, S> {
     /// Adds a piece, or keeps the fault of a list that doesn't take it.
     #[inline(always)]
     pub(crate) fn push_piece(&mut self, piece: Piece<R>) -> bool
-        ensures { Tries 0 (push_piece self.old.setup (piece_of (text_of R.bytes R.is_big) R.Offset.number piece)) self.old self.new result }
+        ensures { Tries 0 (push_piece self.old.setup (piece_of R.text R.Offset.number piece)) self.old self.new result }
     {
         let Ok(()) = self.pieces.push(piece) else {
             self.fail(Error::StackFull);
@@ -138,7 +137,7 @@ impl<R: Reader + Copy, S: EvaluationStorage<R>> Machine<R, S> {
     /// Notes of what sort the last operation was.
     #[inline(always)]
     pub(crate) fn mark(&mut self, last: LastOperation<R>)
-        ensures { self.new ≡ with_last (last_of (text_of R.bytes R.is_big) R.Offset.number last) self.old }
+        ensures { self.new ≡ with_last (last_of R.text R.Offset.number last) self.old }
     {
         self.last = last;
     }
@@ -156,7 +155,7 @@ impl<R: Reader + Copy, S: EvaluationStorage<R>> Machine<R, S> {
     /// Of what sort the last operation was.
     #[inline(always)]
     pub(crate) fn last(&self) -> LastOperation<R>
-        ensures { last_of (text_of R.bytes R.is_big) R.Offset.number result ≡ self.now.store.last }
+        ensures { last_of R.text R.Offset.number result ≡ self.now.store.last }
     {
         self.last
     }
@@ -164,7 +163,7 @@ impl<R: Reader + Copy, S: EvaluationStorage<R>> Machine<R, S> {
     /// The location that waits for its piece.
     #[inline(always)]
     pub(crate) fn located(&self) -> Option<Location<R>>
-        ensures some { IfSome result (λ location. self.now.store.last ≡ Located (location_of (text_of R.bytes R.is_big) R.Offset.number location)) }
+        ensures some { IfSome result (λ location. self.now.store.last ≡ Located (location_of R.text R.Offset.number location)) }
         ensures none { IfNone result (IsFree self.now.store.last) }
     {
         match self.last {
@@ -180,7 +179,7 @@ impl<R: Reader + Copy, S: EvaluationStorage<R>> Machine<R, S> {
     /// Goes over to another state.
     #[inline(always)]
     pub fn enter(&mut self, state: EvaluationState<R>)
-        ensures { self.new ≡ with_status (status_of (text_of R.bytes R.is_big) R.Offset.number state) self.old }
+        ensures { self.new ≡ with_status (status_of R.text R.Offset.number state) self.old }
     {
         self.state = state;
     }
@@ -188,7 +187,7 @@ impl<R: Reader + Copy, S: EvaluationStorage<R>> Machine<R, S> {
     /// Where the evaluation stands.
     #[inline(always)]
     pub fn state(&self) -> EvaluationState<R>
-        ensures { status_of (text_of R.bytes R.is_big) R.Offset.number result ≡ self.now.status }
+        ensures { status_of R.text R.Offset.number result ≡ self.now.status }
     {
         self.state
     }
@@ -261,8 +260,8 @@ impl<R: Reader + Copy, S: EvaluationStorage<R>> Machine<R, S> {
     /// The place that is in front of what is left of the running text.
     #[inline(always)]
     pub(crate) fn place_of(&self, left: R) -> R::Offset
-        requires { IsRest (R.bytes left) (R.is_big left) self.now }
-        ensures value { R.Offset.number result ≡ (at (R.bytes left) self.now).place }
+        requires { IsLeftOf (R.text left) self.now.text }
+        ensures value { R.Offset.number result ≡ (at (R.text left).bytes self.now).place }
         ensures bits { self.now.setup.offset_bits ≡ R.Offset.BITS }
     {
         left.offset_from(&self.bytecode)
@@ -271,8 +270,8 @@ impl<R: Reader + Copy, S: EvaluationStorage<R>> Machine<R, S> {
     /// What is left of the running text.
     #[inline(always)]
     pub(crate) fn left(&self) -> R
-        ensures rest { IsRest (R.bytes result) (R.is_big result) self.now }
-        ensures here { at (R.bytes result) self.now ≡ self.now }
+        ensures rest { IsLeftOf (R.text result) self.now.text }
+        ensures here { at (R.text result).bytes self.now ≡ self.now }
     {
         self.pc
     }
@@ -280,8 +279,8 @@ impl<R: Reader + Copy, S: EvaluationStorage<R>> Machine<R, S> {
     /// Goes to what is left of the running text.
     #[inline(always)]
     pub(crate) fn go_to(&mut self, left: R)
-        requires { IsRest (R.bytes left) (R.is_big left) self.old }
-        ensures { self.new ≡ at (R.bytes left) self.old }
+        requires { IsLeftOf (R.text left) self.old.text }
+        ensures { self.new ≡ at (R.text left).bytes self.old }
     {
         self.pc = left;
     }
@@ -319,9 +318,9 @@ impl<R: Reader + Copy, S: EvaluationStorage<R>> Machine<R, S> {
     /// Goes to a place of the running text, or keeps the fault of a place that it doesn't have.
     #[inline(always)]
     pub(crate) fn jump(&mut self, place: R::Offset, left: &mut R) -> bool
-        requires { IsRest (R.bytes left.old) (R.is_big left.old) self.old }
-        ensures jumps { Jumps (R.Offset.number place) (at (R.bytes left.old) self.old) (at (R.bytes left.new) self.new) result }
-        ensures rest { IsRest (R.bytes left.new) (R.is_big left.new) self.new }
+        requires { IsLeftOf (R.text left.old) self.old.text }
+        ensures jumps { Jumps (R.Offset.number place) (at (R.text left.old).bytes self.old) (at (R.text left.new).bytes self.new) result }
+        ensures rest { IsLeftOf (R.text left.new) self.new.text }
     {
         let mut target = self.bytecode;
         let Ok(()) = target.skip(place) else {
@@ -334,7 +333,7 @@ impl<R: Reader + Copy, S: EvaluationStorage<R>> Machine<R, S> {
 
     /// Runs a called text and keeps its caller, or keeps the fault of a list that doesn't take it.
     pub(crate) fn push_caller(&mut self, callee: R) -> bool
-        ensures { TriesToEnter (text_of R.bytes R.is_big callee) self.old self.new result }
+        ensures { TriesToEnter (R.text callee) self.old self.new result }
     {
         let caller = (self.pc, self.bytecode);
         let Ok(()) = self.expression_stack.push(caller) else {
@@ -375,14 +374,14 @@ impl<R: Reader + Copy, S: EvaluationStorage<R>> Machine<R, S> {
     /// The pieces.
     #[inline(always)]
     pub fn pieces(&self) -> &[Piece<R>]
-        ensures { map (piece_of (text_of R.bytes R.is_big) R.Offset.number) result.now ≡ self.now.store.pieces }
+        ensures { map (piece_of R.text R.Offset.number) result.now ≡ self.now.store.pieces }
     {
         self.pieces.as_slice()
     }
 
     /// The list of the pieces.
     pub fn into_pieces(self) -> S::Result
-        ensures { map (piece_of (text_of R.bytes R.is_big) R.Offset.number) (S.Result.items result) ≡ self.store.pieces }
+        ensures { map (piece_of R.text R.Offset.number) (S.Result.items result) ≡ self.store.pieces }
     {
         self.pieces
     }
@@ -402,7 +401,7 @@ impl<R: Reader + Copy, S: EvaluationStorage<R>> Machine<R, S> {
         requires pieces { S.Result.items pieces ≡ [] }
         ensures status { result.status ≡ Start None }
         ensures setup { result.setup ≡ setup_of encoding R.Offset.BITS (S.Stack.limit stack) (S.ExpressionStack.limit expression_stack) (S.Result.limit pieces) }
-        ensures text { result.text ≡ text_of R.bytes R.is_big bytecode }
+        ensures text { result.text ≡ R.text bytecode }
         ensures object_address { result.store.object_address ≡ None }
         ensures maximum { result.store.maximum ≡ most_iterations }
         ensures fresh { IsFresh result None }

@@ -1,4 +1,5 @@
 ghost use Rattle.std.specs.Prelude.{◌≡◌, [], ◌∷◌};
+ghost use Rattle.dwarf_base.specs.Reads.{IsLeftOf};
 ghost use Rattle.dwarf_meaning.specs.Acts.{RequestAct, Branches, Locates, Pushes, FaultAct, binary, push, unary};
 ghost use Rattle.dwarf_meaning.specs.Operations as meaning;
 ghost use Rattle.dwarf_meaning.specs.Rest.{Running, FaultStatus};
@@ -9,8 +10,7 @@ ghost use Rattle.dwarf_value.specs.Values.{add_of, from_u64_of, to_u64_of, type_
 ghost use Rattle.dwarf_machine.specs.Inputs.{with_status};
 ghost use Rattle.dwarf_machine.specs.Machine.{location_of, request_of, waiting_of};
 ghost use Rattle.dwarf_machine.specs.inner.Operators.{unary_of};
-ghost use Rattle.dwarf_machine.specs.inner.Steps.{IsRest, Performs, PopsNumber, Tried, Tries, act_of, at};
-ghost use Rattle.dwarf_op.specs.Views.{text_of};
+ghost use Rattle.dwarf_machine.specs.inner.Steps.{Performs, PopsNumber, Tried, Tries, act_of, at};
 
 use crate::binary::BinaryOperator;
 use crate::machine::Machine;
@@ -286,9 +286,9 @@ impl<R: Reader + Copy, S: EvaluationStorage<R>> Machine<R, S> {
     #[inline(always)]
     pub(crate) fn take_branch(&mut self, target: i16, left: &mut R)
         requires runs { self.old.status ≡ Running }
-        requires rest { IsRest (R.bytes left.old) (R.is_big left.old) self.old }
-        ensures performs { Performs (Branches self.old.store.values target) (at (R.bytes left.old) self.old) (at (R.bytes left.new) self.new) }
-        ensures rest { IsRest (R.bytes left.new) (R.is_big left.new) self.new }
+        requires rest { IsLeftOf (R.text left.old) self.old.text }
+        ensures performs { Performs (Branches self.old.store.values target) (at (R.text left.old).bytes self.old) (at (R.text left.new).bytes self.new) }
+        ensures rest { IsLeftOf (R.text left.new) self.new.text }
     {
         self.mark_plain();
         let place = self.place_of(*left);
@@ -299,9 +299,9 @@ impl<R: Reader + Copy, S: EvaluationStorage<R>> Machine<R, S> {
     #[inline(always)]
     pub(crate) fn branch_if(&mut self, target: i16, left: &mut R)
         requires runs { self.old.status ≡ Running }
-        requires rest { IsRest (R.bytes left.old) (R.is_big left.old) self.old }
-        ensures performs { Performs (act_of self.old (meaning.Bra target)) (at (R.bytes left.old) self.old) (at (R.bytes left.new) self.new) }
-        ensures rest { IsRest (R.bytes left.new) (R.is_big left.new) self.new }
+        requires rest { IsLeftOf (R.text left.old) self.old.text }
+        ensures performs { Performs (act_of self.old (meaning.Bra target)) (at (R.text left.old).bytes self.old) (at (R.text left.new).bytes self.new) }
+        ensures rest { IsLeftOf (R.text left.new) self.new.text }
     {
         let Some(number) = self.pop_number() else {
             self.fall_short();
@@ -318,7 +318,7 @@ impl<R: Reader + Copy, S: EvaluationStorage<R>> Machine<R, S> {
     #[inline(always)]
     pub(crate) fn locate(&mut self, location: Location<R>)
         requires { self.old.status ≡ Running }
-        ensures { Performs (Locates self.old.store.values (location_of (text_of R.bytes R.is_big) R.Offset.number location)) self.old self.new }
+        ensures { Performs (Locates self.old.store.values (location_of R.text R.Offset.number location)) self.old self.new }
     {
         self.mark(LastOperation::Located(location));
     }
@@ -361,7 +361,7 @@ impl<R: Reader + Copy, S: EvaluationStorage<R>> Machine<R, S> {
     /// Opens a request.
     #[inline(always)]
     pub(crate) fn ask(&mut self, request: OpenRequest<R>)
-        ensures { Performs (RequestAct self.old.store.values (request_of (text_of R.bytes R.is_big) R.Offset.number request) (waiting_of (text_of R.bytes R.is_big) request)) self.old self.new }
+        ensures { Performs (RequestAct self.old.store.values (request_of R.text R.Offset.number request) (waiting_of R.text request)) self.old self.new }
     {
         self.enter(EvaluationState::Waiting(request));
     }

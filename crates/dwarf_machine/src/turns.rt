@@ -1,11 +1,11 @@
 ghost use Rattle.std.specs.Prelude.{◌≡◌, ◌==◌, ◌<◌, length, true, false};
+ghost use Rattle.dwarf_base.specs.Reads.{IsLeftOf};
 ghost use Rattle.dwarf_meaning.specs.Meaning.{whole as meant_whole, completion_of, finish, finish_free, finish_judged, finish_located, finish_value};
 ghost use Rattle.dwarf_meaning.specs.Rest.{Running, Start};
 ghost use Rattle.dwarf_meaning.specs.RunLaws.{waits_of};
 ghost use Rattle.dwarf_meaning.specs.Stores.{Located, push_piece};
 ghost use Rattle.dwarf_machine.specs.Machine.{location_of, piece_of};
-ghost use Rattle.dwarf_machine.specs.inner.Steps.{RunsOn, Closes, Ends, EndsLocated, IsReady, IsRest, Turns, at, goes_on, total};
-ghost use Rattle.dwarf_op.specs.Views.{text_of};
+ghost use Rattle.dwarf_machine.specs.inner.Steps.{RunsOn, Closes, Ends, EndsLocated, IsReady, Turns, at, goes_on, total};
 
 use crate::machine::Machine;
 use crate::states::{EvaluationState, LastOperation};
@@ -17,7 +17,7 @@ use dwarf_value::Value;
 /// A piece that is the whole variable.
 #[inline(always)]
 fn whole<R: Reader + Copy>(location: Location<R>) -> Piece<R>
-    ensures { piece_of (text_of R.bytes R.is_big) R.Offset.number result ≡ meant_whole (location_of (text_of R.bytes R.is_big) R.Offset.number location) }
+    ensures { piece_of R.text R.Offset.number result ≡ meant_whole (location_of R.text R.Offset.number location) }
 {
     Piece {
         size_in_bits: None,
@@ -29,10 +29,10 @@ fn whole<R: Reader + Copy>(location: Location<R>) -> Piece<R>
 impl<R: Reader + Copy, S: EvaluationStorage<R>> Machine<R, S> {
     /// Counts the operation in front of what is left, and does it.
     fn perform(&mut self, left: &mut R)
-        requires ready { IsReady (at (R.bytes left.old) self.old) }
-        requires rest { IsRest (R.bytes left.old) (R.is_big left.old) self.old }
-        ensures turns { Turns (at (R.bytes left.old) self.old) (at (R.bytes left.new) self.new) }
-        ensures rest { IsRest (R.bytes left.new) (R.is_big left.new) self.new }
+        requires ready { IsReady (at (R.text left.old).bytes self.old) }
+        requires rest { IsLeftOf (R.text left.old) self.old.text }
+        ensures turns { Turns (at (R.text left.old).bytes self.old) (at (R.text left.new).bytes self.new) }
+        ensures rest { IsLeftOf (R.text left.new) self.new.text }
     {
         if !self.count() {
             return;
@@ -45,8 +45,8 @@ impl<R: Reader + Copy, S: EvaluationStorage<R>> Machine<R, S> {
     /// Whether the operation in front of what is left comes next.
     #[inline(always)]
     fn goes_on(&self, left: R) -> bool
-        requires { IsRest (R.bytes left) (R.is_big left) self.now }
-        ensures { result ≡ goes_on (at (R.bytes left) self.now) }
+        requires { IsLeftOf (R.text left) self.now.text }
+        ensures { result ≡ goes_on (at (R.text left).bytes self.now) }
     {
         self.is_running() && self.is_free() && !left.is_empty()
     }
@@ -70,7 +70,7 @@ impl<R: Reader + Copy, S: EvaluationStorage<R>> Machine<R, S> {
     #[inline(always)]
     fn end_located(&mut self, location: Location<R>, piece: Option<(u64, Option<u64>)>)
         requires { 0 < self.old.place }
-        ensures { EndsLocated (location_of (text_of R.bytes R.is_big) R.Offset.number location) piece self.old self.new }
+        ensures { EndsLocated (location_of R.text R.Offset.number location) piece self.old self.new }
     {
         let Some(size) = piece else {
             let place = self.place().into_u64();
@@ -89,7 +89,7 @@ impl<R: Reader + Copy, S: EvaluationStorage<R>> Machine<R, S> {
     fn hold(&mut self, location: Location<R>)
         requires runs { self.old.status ≡ Running }
         requires inside { (self.old.place == length self.old.text.bytes) ≡ false }
-        requires waits { self.old.store.last ≡ Located (location_of (text_of R.bytes R.is_big) R.Offset.number location) }
+        requires waits { self.old.store.last ≡ Located (location_of R.text R.Offset.number location) }
         ensures { Turns self.old self.new }
     {
         match self.read_piece() {
@@ -101,7 +101,7 @@ impl<R: Reader + Copy, S: EvaluationStorage<R>> Machine<R, S> {
     /// Ends the run with one more piece.
     fn complete(&mut self, piece: Piece<R>, value: Option<Value>)
         requires { self.old.status ≡ Running }
-        ensures { Closes 1 (λ s. completion_of value (push_piece self.old.setup (piece_of (text_of R.bytes R.is_big) R.Offset.number piece) s)) self.old self.new }
+        ensures { Closes 1 (λ s. completion_of value (push_piece self.old.setup (piece_of R.text R.Offset.number piece) s)) self.old self.new }
     {
         if self.push_piece(piece) {
             self.enter(EvaluationState::Complete(value));
@@ -124,7 +124,7 @@ impl<R: Reader + Copy, S: EvaluationStorage<R>> Machine<R, S> {
     /// Ends the run with a location that waits for a piece.
     fn finish_located(&mut self, location: Location<R>)
         requires { self.old.status ≡ Running }
-        ensures { Closes 1 (finish_located self.old.setup (location_of (text_of R.bytes R.is_big) R.Offset.number location)) self.old self.new }
+        ensures { Closes 1 (finish_located self.old.setup (location_of R.text R.Offset.number location)) self.old self.new }
     {
         if self.has_pieces() {
             self.fail(Error::InvalidPiece);

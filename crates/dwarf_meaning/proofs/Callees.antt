@@ -1,63 +1,19 @@
 -- The texts that are open in a request are the text that is run and callees, which were answered.
 use Rattle.std.proofs.Common.{ℕ, zero, suc, ◌≡◌, ◌<◌, inl, inr, List, [], ◌∷◌, length, Option, Some, None, Result, Ok, Err, arith, refl, sym, subst, ◌==◌, append-nil}
 use Rattle.dwarf_base.specs.Faults.{Fault}
+use Rattle.dwarf_base.specs.Reads.{Text}
 use Rattle.dwarf_value.specs.declared.types.Value.{Value}
-use Rattle.dwarf_meaning.specs.Operations.{Operation, Text}
+use Rattle.dwarf_meaning.specs.Operations.{Operation}
 use Rattle.dwarf_meaning.specs.Locations.{Location}
-use Rattle.dwarf_meaning.specs.Requests.{Request, Waiting, Memory, Register, WasmValue, EntryValue, FrameBase, Tls, CallFrameCfa, ParameterRef, RelocatedAddress, IndexedAddress, AtLocation, TypedLiteral, Convert, Reinterpret, Answer, MemoryAnswer, RegisterAnswer, WasmAnswer, EntryAnswer, FrameBaseAnswer, TlsAnswer, CfaAnswer, ParameterAnswer, RelocatedAnswer, IndexedAnswer, LocationAnswer, BaseTypeAnswer, Input, location_in}
-use Rattle.dwarf_meaning.specs.Acts.{on_some, on_result, Use, PushesAnswer, Calls, FaultUse, WrongKind, use_of}
-use Rattle.dwarf_meaning.specs.Stores.{Setup, address_bits, Refusal, Store, Last, Nothing, Plain, Pieced, Pushed, Called, Located, push_value, push_caller, Next, Goes, RequestNext, FaultNext}
+use Rattle.dwarf_meaning.specs.Requests.{Request, Waiting, LocationAnswer, Input}
+use Rattle.dwarf_meaning.specs.Acts.{Use, PushesAnswer, Calls, FaultUse, WrongKind, use_of}
+use Rattle.dwarf_meaning.specs.Stores.{Setup, address_bits, Store, Last, Nothing, Plain, Pieced, Pushed, Called, Located, push_value, push_caller, Next, Goes, RequestNext, FaultNext}
 use Rattle.dwarf_meaning.specs.Run.{Position, End, CompleteEnd, RequestEnd, FaultEnd, Course, only_end, Continues, return_to_caller, after_push, enter_callee, run_callee, after_answer, with_input, await_answer, after_operation, read, can_count, counted, do_operation, turn_counted, turn_located, turn_by, turn, out_of_turns, run_for, enough, run}
 use Rattle.dwarf_meaning.specs.Meaning.{completion_of, has_pieces, finish_value, finish_by, unwound, First, course_from, meaning}
 use Rattle.dwarf_meaning.specs.RunLaws.{IsAnswered, IsCallee, Open, alone, calling, EndOpen, OutcomeOpen}
-use Rattle.dwarf_meaning.proofs.Choices.{choose_both}
-use Rattle.dwarf_meaning.proofs.Shorter.{all_some, all_answer, all_top}
-
--- a text that is called is the answer
-data CallsAnswer (answer : Answer) : Use → Type 0 where
-  gives : (rest : List Value) (value : Value) → CallsAnswer answer (PushesAnswer rest value)
-  calls : (text : Text) → answer ≡ LocationAnswer text → CallsAnswer answer (Calls text)
-  denies : (fault : Fault) → CallsAnswer answer (FaultUse fault)
-  misfits : CallsAnswer answer WrongKind
-
-location_calls : (answer : Answer) → CallsAnswer answer (on_some (location_in answer) WrongKind Calls)
-unfolding on_some
-location_calls (MemoryAnswer value) = misfits
-location_calls (RegisterAnswer value) = misfits
-location_calls (WasmAnswer value) = misfits
-location_calls (EntryAnswer value) = misfits
-location_calls (FrameBaseAnswer number) = misfits
-location_calls (TlsAnswer number) = misfits
-location_calls (CfaAnswer number) = misfits
-location_calls (ParameterAnswer number) = misfits
-location_calls (RelocatedAnswer number) = misfits
-location_calls (IndexedAnswer number) = misfits
-location_calls (LocationAnswer text) = calls text refl
-location_calls (BaseTypeAnswer value_type) = misfits
-
-module _ (answer : Answer) where
-  some_calls : {X : Type 0} (o : Option X) (go : X → Use) → ((x : X) → CallsAnswer answer (go x)) → CallsAnswer answer (on_some o WrongKind go)
-  some_calls o go = all_some (CallsAnswer answer) o WrongKind go misfits
-
-  answer_calls : {X : Type 0} (r : Result X Fault) (go : X → Use) → ((x : X) → CallsAnswer answer (go x)) → CallsAnswer answer (on_result r FaultUse go)
-  answer_calls r go = all_answer (CallsAnswer answer) r FaultUse go (λ fault. denies fault)
-
-  use_calls : (bits : ℕ) (waiting : Waiting) (values : List Value) → CallsAnswer answer (use_of bits waiting answer values)
-  unfolding use_of
-  use_calls bits Memory values = some_calls _ _ (λ x. gives values x)
-  use_calls bits (Register offset) values = some_calls _ _ (λ x. answer_calls _ _ (λ y. gives values y))
-  use_calls bits WasmValue values = some_calls _ _ (λ x. gives values x)
-  use_calls bits EntryValue values = some_calls _ _ (λ x. gives values x)
-  use_calls bits (FrameBase offset) values = some_calls _ _ (λ x. gives values _)
-  use_calls bits Tls values = some_calls _ _ (λ x. gives values _)
-  use_calls bits CallFrameCfa values = some_calls _ _ (λ x. gives values _)
-  use_calls bits ParameterRef values = some_calls _ _ (λ x. gives values _)
-  use_calls bits RelocatedAddress values = some_calls _ _ (λ x. gives values _)
-  use_calls bits IndexedAddress values = some_calls _ _ (λ x. gives values _)
-  use_calls bits AtLocation values = location_calls answer
-  use_calls bits (TypedLiteral value) values = some_calls _ _ (λ kind. answer_calls _ _ (λ y. gives values y))
-  use_calls bits Convert values = some_calls _ _ (λ kind. all_top (CallsAnswer answer) (length values) values _ _ (omega arith) (denies _) (λ x rest i. answer_calls _ _ (λ y. gives rest y)))
-  use_calls bits Reinterpret values = some_calls _ _ (λ kind. all_top (CallsAnswer answer) (length values) values _ _ (omega arith) (denies _) (λ x rest i. answer_calls _ _ (λ y. gives rest y)))
+use Rattle.dwarf_meaning.specs.Refusals.{Refusal}
+use Rattle.dwarf_meaning.proofs.Choices.{choose_both, top_both}
+use Rattle.dwarf_meaning.proofs.Effects.{IsUseOf, use_is}
 
 -- the answers of these inputs are among all of them
 abbrev Known : (all : List Input) → List Input → Type 0
@@ -101,9 +57,9 @@ module _ (all : List Input) where
         opens_entered position depth callee inputs (push_caller setup depth s)
         (record { answered = a; some_bytes = subst (λ (bs : List ℕ). 0 < length bs) (sym e) (omega arith) }) k
 
-    opens_used : (setup : Setup) (position : Position) (depth : ℕ) (input : Input) (u : Use) (s : Store) (inputs : List Input) (unanswered : Course) → CallsAnswer input.answer u → Known all (input ∷ inputs) → Ends position.text unanswered.end → Ends position.text (after_answer go setup position depth u s inputs unanswered).end
+    opens_used : (setup : Setup) (position : Position) (depth : ℕ) (input : Input) (u : Use) (s : Store) (inputs : List Input) (unanswered : Course) → IsUseOf input.answer (length s.values) u → Known all (input ∷ inputs) → Ends position.text unanswered.end → Ends position.text (after_answer go setup position depth u s inputs unanswered).end
     opens_used setup position depth input (PushesAnswer rest value) s inputs unanswered c k h = opens_resumed position depth inputs (push_value setup value (record s { values = rest; last = Pushed })) k.1
-    opens_used setup position depth input (Calls callee) s inputs unanswered (calls _ e) k h = opens_called setup position depth callee callee.bytes s inputs refl (k.0 callee e) k.1
+    opens_used setup position depth input (Calls callee) s inputs unanswered e k h = opens_called setup position depth callee callee.bytes s inputs refl (k.0 callee e) k.1
     opens_used setup position depth input (FaultUse fault) s inputs unanswered c k h = tt
     opens_used setup position depth input WrongKind s inputs unanswered c k h = h
 
@@ -111,7 +67,7 @@ module _ (all : List Input) where
     opens_asked setup position depth request waiting s [] k = alone position
     opens_asked setup position depth request waiting s (input ∷ inputs) k =
         opens_used setup position depth input (use_of (address_bits setup) waiting input.answer s.values) (with_input input s) inputs (only_end (RequestEnd request (position ∷ []) (input ∷ inputs)))
-        (use_calls input.answer (address_bits setup) waiting s.values) k (alone position)
+        (use_is (address_bits setup) waiting input.answer s.values) k (alone position)
 
     opens_led : (setup : Setup) (text : Text) (depth place : ℕ) (inputs : List Input) (next : Next) → Known all inputs → Ends text (after_operation go setup text depth place inputs next).end
     opens_led setup text depth place inputs (Goes to s) k = opens text to depth s inputs k
@@ -161,7 +117,7 @@ module _ (inputs : List Input) (text : Text) where
   completed_open value (Err fault) = tt
 
   value_open : (setup : Setup) (s : Store) → OutcomeOpen inputs text (finish_value setup s)
-  value_open setup s = all_top (OutcomeOpen inputs text) (length s.values) s.values _ _ (omega arith) tt (λ x rest h. completed_open (Some x) _)
+  value_open setup s = top_both (OutcomeOpen inputs text) s.values _ _ tt (λ x rest e. completed_open (Some x) _)
 
   finish_open : (setup : Setup) (s : Store) (last : Last) → OutcomeOpen inputs text (finish_by setup s last)
   finish_open setup s (Located location) = choose_both (OutcomeOpen inputs text) (has_pieces s.pieces) _ _ (λ e. tt) (λ e. completed_open None _)

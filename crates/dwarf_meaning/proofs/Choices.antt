@@ -1,5 +1,5 @@
 -- The words of the definitions, case by case.
-use Rattle.std.proofs.Common.{◌≡◌, refl, ap, Bool, true, false, List, [], ◌∷◌, Option, Some, None, Result, Ok, Err}
+use Rattle.std.proofs.Common.{suc, length, ◌≡◌, refl, ap, Bool, true, false, List, [], ◌∷◌, Option, Some, None, Result, Ok, Err}
 use Rattle.dwarf_base.specs.declared.errors.Error.{Error}
 use Rattle.dwarf_base.specs.Faults.{Fault, fault_of}
 use Rattle.dwarf_value.specs.declared.types.Value.{Value}
@@ -15,11 +15,29 @@ unfolding choose
 choose_false true x y e = cc
 choose_false false x y e = refl
 
--- what holds of both holds of the choice
+-- ---- what holds of both holds of the choice
+
 pub choose_both : {A : Type 0} (P : A → Type 0) (b : Bool) (x y : A) → (b ≡ true → P x) → (b ≡ false → P y) → P (choose b x y)
 unfolding choose
 choose_both P true x y p q = p refl
 choose_both P false x y p q = q refl
+
+pub top_both : {A : Type 0} (P : A → Type 0) (values : List Value) (none : A) (go : Value → List Value → A) → P none → ((x : Value) (rest : List Value) → length values ≡ suc (length rest) → P (go x rest)) → P (on_top values none go)
+unfolding on_top
+top_both P [] none go p q = p
+top_both P (x ∷ rest) none go p q = q x rest refl
+
+pub some_both : {X A : Type 0} (P : A → Type 0) (o : Option X) (none : A) (go : X → A) → P none → ((x : X) → P (go x)) → P (on_some o none go)
+unfolding on_some
+some_both P None none go p q = p
+some_both P (Some x) none go p q = q x
+
+pub answer_both : {X A : Type 0} (P : A → Type 0) (r : Result X Fault) (refused : Fault → A) (go : X → A) → ((fault : Fault) → P (refused fault)) → ((x : X) → P (go x)) → P (on_result r refused go)
+unfolding on_result
+answer_both P (Ok x) refused go p q = q x
+answer_both P (Err fault) refused go p q = p fault
+
+-- ---- which of both it is
 
 pub top_none : {A : Type 0} (values : List Value) (none : A) (go : Value → List Value → A) → values ≡ [] → on_top values none go ≡ none
 unfolding on_top

@@ -1,11 +1,12 @@
 -- Worked rows are computed with a few turns, and however many more there are.
 use Rattle.std.proofs.Common.{ℕ, suc, ◌≡◌, ◌-◌, List, [], Result, Ok, Err, ap, ◌∙◌, sym, refl, subst}
 use Rattle.dwarf_base.specs.Faults.{Fault}
-use Rattle.dwarf_meaning.specs.Operations.{Text}
+use Rattle.dwarf_base.specs.Reads.{Text}
 use Rattle.dwarf_meaning.specs.Requests.{Input}
-use Rattle.dwarf_meaning.specs.Stores.{Setup, Store, Refusal}
+use Rattle.dwarf_meaning.specs.Stores.{Setup, Store}
 use Rattle.dwarf_meaning.specs.Run.{FaultEnd, Course, only_end, run_for, most, enough}
 use Rattle.dwarf_meaning.specs.Meaning.{Outcome, unwound, First, fresh, with_initial, course_from, meaning}
+use Rattle.dwarf_meaning.specs.Refusals.{Refusal}
 
 abbrev course_for : (turns : ℕ) → Setup → Text → List Input → Result Store Fault → Course
 course_for turns setup text inputs (Ok s) = run_for turns setup text 0 0 s inputs

@@ -12,7 +12,7 @@ pub mod Turns
 pub mod FewTurns
 pub mod Inputs
 pub mod Counting
-pub mod Shorter
+pub mod Effects
 pub mod Limited
 pub mod Callees
 pub mod Taken

@@ -3,18 +3,20 @@ use Rattle.std.proofs.Common.{ℕ, zero, suc, ◌≡◌, ◌≤◌, ◌<◌, Lis
 use Rattle.std.specs.Prelude.{nat_lt}
 use Rattle.std.proofs.lemmas.Bool.Decides.{nat_tests}
 use Rattle.dwarf_base.specs.Faults.{Fault, StackFull, ◌>>=◌}
+use Rattle.dwarf_base.specs.Reads.{Text}
 use Rattle.dwarf_value.specs.declared.types.Value.{Value}
-use Rattle.dwarf_meaning.specs.Operations.{Operation, Text}
+use Rattle.dwarf_meaning.specs.Operations.{Operation}
 use Rattle.dwarf_meaning.specs.Locations.{Location, Piece}
-use Rattle.dwarf_meaning.specs.Requests.{Request, Waiting, Input}
+use Rattle.dwarf_meaning.specs.Requests.{Request, Waiting, Answer, Input}
 use Rattle.dwarf_meaning.specs.Acts.{on_top, Act, Pushes, Branches, Locates, EndsPiece, RequestAct, FaultAct, Use, PushesAnswer, Calls, FaultUse, WrongKind, use_of}
-use Rattle.dwarf_meaning.specs.Stores.{IsWithin, Setup, address_bits, Refusal, Store, Last, Nothing, Plain, Pieced, Pushed, Called, Located, spent, room, push_value, push_piece, push_caller, push_values, Next, Goes, RequestNext, FaultNext, done}
+use Rattle.dwarf_meaning.specs.Stores.{IsWithin, Setup, address_bits, Store, Last, Nothing, Plain, Pieced, Pushed, Called, Located, push_value, push_piece, push_caller, push_values, Next, Goes, RequestNext, FaultNext, done}
 use Rattle.dwarf_meaning.specs.Run.{Position, End, CompleteEnd, RequestEnd, FaultEnd, Course, only_end, Continues, return_to_caller, after_push, enter_callee, run_callee, after_answer, with_input, await_answer, after_operation, read, can_count, counted, do_operation, turn_counted, piece_ended_by, end_located, turn_located, turn_by, turn, out_of_turns, run_for, enough, run}
 use Rattle.dwarf_meaning.specs.Meaning.{completion_of, has_pieces, whole, finish_located, finish_value, finish_judged, finish_free, finish_by, unwound, First, fresh, with_initial, course_from, meaning}
 use Rattle.dwarf_meaning.specs.RunLaws.{ListsWithin, OpenTexts, EndWithin, OutcomeWithin, outermost}
+use Rattle.dwarf_meaning.specs.Refusals.{Refusal, spent, room}
 use Rattle.dwarf_meaning.proofs.Choices.{choose_both}
 use Rattle.dwarf_meaning.proofs.Counts.{OnStore, OnNext, bound_store, on_bound, on_goes}
-use Rattle.dwarf_meaning.proofs.Shorter.{Leaves, pushes, branches, locates, ends, asks, refuses, act_leaves, Keeps, gives, use_keeps}
+use Rattle.dwarf_meaning.proofs.Effects.{IsActOf, pushes, branches, locates, ends, asks, act_is, IsUseOf, use_is}
 
 within_less : (limit : Option ℕ) (n m : ℕ) → m ≤ n → IsWithin limit n → IsWithin limit m
 within_less None n m h i = tt
@@ -65,16 +67,16 @@ module _ (setup : Setup) where
 
   -- ---- operations
 
-  kept_done : (place len : ℕ) (a : Act) (s : Store) → Leaves (length s.values) a → Kept s → OnNext Kept (done setup place len a s)
-  kept_done place len (Pushes rest pushed) s (pushes _ _ l) h =
+  kept_done : {op : Operation} (place len : ℕ) (a : Act) (s : Store) → IsActOf op (length s.values) a → Kept s → OnNext Kept (done setup place len a s)
+  kept_done place len (Pushes rest pushed) s (pushes l _) h =
       on_goes Kept place _ (kept_values pushed (record s { values = rest; last = Plain }) (record { values = within_less setup.limits.values _ _ l h.values; pieces = h.pieces }))
-  kept_done place len (Branches rest target) s (branches _ _ l) h =
+  kept_done place len (Branches rest target) s (branches l _) h =
       choose_both (OnNext Kept) _ _ _ (λ e. tt) (λ e. record { values = within_less setup.limits.values _ _ l h.values; pieces = h.pieces })
-  kept_done place len (Locates rest location) s (locates _ _ l) h = record { values = within_less setup.limits.values _ _ l h.values; pieces = h.pieces }
-  kept_done place len (EndsPiece rest piece) s (ends _ _ l) h =
+  kept_done place len (Locates rest location) s (locates l _) h = record { values = within_less setup.limits.values _ _ l h.values; pieces = h.pieces }
+  kept_done place len (EndsPiece rest piece) s (ends l _) h =
       on_goes Kept place _ (kept_piece piece (record s { values = rest; last = Pieced }) (record { values = within_less setup.limits.values _ _ l h.values; pieces = h.pieces }))
-  kept_done place len (RequestAct rest request waiting) s (asks _ _ _ l) h = record { values = within_less setup.limits.values _ _ l h.values; pieces = h.pieces }
-  kept_done place len (FaultAct fault) s (refuses _) h = tt
+  kept_done place len (RequestAct rest request waiting) s (asks l _) h = record { values = within_less setup.limits.values _ _ l h.values; pieces = h.pieces }
+  kept_done place len (FaultAct fault) s _ h = tt
 
   kept_holds : (location : Location) (place : ℕ) (s : Store) (o : Option (ℕ × Option ℕ)) → Kept s → OnNext Kept (end_located setup location place s o)
   kept_holds location place s (Some piece) h = on_goes Kept place _ (kept_piece _ (record s { last = Pieced }) (record { values = h.values; pieces = h.pieces }))
@@ -115,18 +117,18 @@ module _ (setup : Setup) where
     limited_called position depth callee [] s inputs d h = limited position.text position.place depth (record s { last = Called }) inputs d (record { values = h.values; pieces = h.pieces })
     limited_called position depth callee (byte ∷ bytes) s inputs d h = limited_entered position depth callee inputs _ d (kept_frame depth s h)
 
-    limited_used : (position : Position) (depth : ℕ) (u : Use) (s : Store) (inputs : List Input) (unanswered : Course) → IsWithin setup.limits.callers depth → Keeps (length s.values) u → Kept s → EndWithin setup.limits position.text depth unanswered.end → EndWithin setup.limits position.text depth (after_answer go setup position depth u s inputs unanswered).end
-    limited_used position depth (PushesAnswer rest value) s inputs unanswered d (gives _ _ l) h i =
+    limited_used : (position : Position) (depth : ℕ) (u : Use) (s : Store) (inputs : List Input) (unanswered : Course) (answer : Answer) → IsWithin setup.limits.callers depth → IsUseOf answer (length s.values) u → Kept s → EndWithin setup.limits position.text depth unanswered.end → EndWithin setup.limits position.text depth (after_answer go setup position depth u s inputs unanswered).end
+    limited_used position depth (PushesAnswer rest value) s inputs unanswered answer d l h i =
         limited_resumed position depth inputs _ d (kept_value value (record s { values = rest; last = Pushed }) (record { values = within_less setup.limits.values _ _ l h.values; pieces = h.pieces }))
-    limited_used position depth (Calls callee) s inputs unanswered d k h i = limited_called position depth callee callee.bytes s inputs d h
-    limited_used position depth (FaultUse fault) s inputs unanswered d k h i = tt
-    limited_used position depth WrongKind s inputs unanswered d k h i = i
+    limited_used position depth (Calls callee) s inputs unanswered answer d k h i = limited_called position depth callee callee.bytes s inputs d h
+    limited_used position depth (FaultUse fault) s inputs unanswered answer d k h i = tt
+    limited_used position depth WrongKind s inputs unanswered answer d k h i = i
 
     limited_asked : (position : Position) (depth : ℕ) (request : Request) (waiting : Waiting) (s : Store) (inputs : List Input) → IsWithin setup.limits.callers depth → Kept s → EndWithin setup.limits position.text depth (await_answer go setup position depth request waiting s inputs).end
     limited_asked position depth request waiting s [] d h = one_open position depth d
     limited_asked position depth request waiting s (input ∷ inputs) d h =
-        limited_used position depth (use_of (address_bits setup) waiting input.answer s.values) (with_input input s) inputs (only_end (RequestEnd request (position ∷ []) (input ∷ inputs))) d
-        (use_keeps (length s.values) (address_bits setup) waiting input.answer s.values (omega arith)) (record { values = h.values; pieces = h.pieces }) (one_open position depth d)
+        limited_used position depth (use_of (address_bits setup) waiting input.answer s.values) (with_input input s) inputs (only_end (RequestEnd request (position ∷ []) (input ∷ inputs))) input.answer d
+        (use_is (address_bits setup) waiting input.answer s.values) (record { values = h.values; pieces = h.pieces }) (one_open position depth d)
 
     limited_led : (text : Text) (depth place : ℕ) (inputs : List Input) (next : Next) → IsWithin setup.limits.callers depth → OnNext Kept next → EndWithin setup.limits text depth (after_operation go setup text depth place inputs next).end
     limited_led text depth place inputs (Goes to s) d h = limited text to depth s inputs d h
@@ -135,7 +137,7 @@ module _ (setup : Setup) where
 
     limited_does : (text : Text) (depth : ℕ) (s : Store) (inputs : List Input) (r : Result (Operation × List ℕ) Fault) → IsWithin setup.limits.callers depth → Kept s → EndWithin setup.limits text depth (do_operation go setup text depth s inputs r).end
     limited_does text depth s inputs (Ok x) d h =
-        limited_led text depth _ inputs _ d (kept_done _ _ _ s (act_leaves (length s.values) (address_bits setup) s.object_address x.0 s.values (omega arith)) h)
+        limited_led text depth _ inputs _ d (kept_done _ _ _ s (act_is (address_bits setup) s.object_address x.0 s.values) h)
     limited_does text depth s inputs (Err fault) d h = tt
 
     limited_counts : (text : Text) (place depth : ℕ) (s : Store) (inputs : List Input) → IsWithin setup.limits.callers depth → Kept s → EndWithin setup.limits text depth (turn_counted go setup text place depth s inputs).end

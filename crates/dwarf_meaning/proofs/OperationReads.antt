@@ -3,8 +3,8 @@ use Rattle.std.proofs.Common.{ℕ, ◌≡◌, inl, inr, ℤ, Bool, List, [], ◌
 use Rattle.dwarf_base.specs.declared.common.Encoding.{Encoding}
 use Rattle.dwarf_base.specs.Faults.{Fault, UnexpectedEof, InvalidExpression, ◌>>=◌}
 use Rattle.dwarf_base.specs.Fronts.{Begins}
-use Rattle.dwarf_base.specs.Reads.{split_at}
-use Rattle.dwarf_meaning.specs.Operations.{Operation, Text}
+use Rattle.dwarf_base.specs.Reads.{split_at, Text}
+use Rattle.dwarf_meaning.specs.Operations.{Operation}
 use Rattle.dwarf_meaning.specs.Operands.{Context, block_of, context_of}
 use Rattle.dwarf_meaning.specs.Opcodes.{Row, Makes, Unsigned, Signed, Block, Invalid, row_of}
 use Rattle.dwarf_meaning.specs.Decoding.{unsigned_at, integer_at, operands_at, operation_at}

@@ -1,7 +1,8 @@
 -- Each request takes one input, in order, but the one that stays open.
 use Rattle.std.proofs.Common.{ℕ, zero, suc, ◌≡◌, ◌+◌, List, [], ◌∷◌, ◌++◌, length, Result, Ok, Err, arith, refl, ap, ◌∙◌, sym, ◌==◌, length-append, append_assoc}
 use Rattle.dwarf_base.specs.Faults.{Fault}
-use Rattle.dwarf_meaning.specs.Operations.{Operation, Text}
+use Rattle.dwarf_base.specs.Reads.{Text}
+use Rattle.dwarf_meaning.specs.Operations.{Operation}
 use Rattle.dwarf_meaning.specs.Locations.{Location}
 use Rattle.dwarf_meaning.specs.Requests.{Request, Waiting, Input}
 use Rattle.dwarf_meaning.specs.Acts.{Use, PushesAnswer, Calls, FaultUse, WrongKind, use_of}

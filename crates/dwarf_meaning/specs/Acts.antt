@@ -3,13 +3,14 @@ use Rattle.std.specs.Prelude.{ℕ, ◌*◌, ℤ, ◌==◌, pos, ◌+ℤ◌, Bool
 use Rattle.dwarf_base.specs.declared.errors.Error.{Error}
 use Rattle.dwarf_base.specs.Faults.{Fault, fault_of, NotEnoughStackItems, InvalidDerefSize, InvalidPushObjectAddress, UnsupportedEvaluation}
 use Rattle.dwarf_base.specs.Numbers.{residue}
+use Rattle.dwarf_base.specs.Reads.{Text}
 use Rattle.dwarf_value.specs.declared.types.Value.{Value}
 use Rattle.dwarf_value.specs.declared.types.Value.TheVariants.{Generic}
 use Rattle.dwarf_value.specs.Values.{type_of, to_u64_of, from_u64_of, abs_of, neg_of, not_of, add_of, sub_of, mul_of, div_of, rem_of, and_of, or_of, xor_of, shl_of, shr_of, shra_of, eq_of, ge_of, gt_of, le_of, lt_of, ne_of, convert_of, reinterpret_of, parse_of}
 use Rattle.dwarf_meaning.specs.Operations as operation
-use Rattle.dwarf_meaning.specs.Operations.{Operation, Text}
+use Rattle.dwarf_meaning.specs.Operations.{Operation}
 use Rattle.dwarf_meaning.specs.Locations.{Location, Empty, InRegister, AtAddress, HoldsValue, HoldsBytes, PointsInto, Piece}
-use Rattle.dwarf_meaning.specs.Requests.{Request, RequiresMemory, RequiresRegister, RequiresWasmLocal, RequiresWasmGlobal, RequiresWasmStack, RequiresFrameBase, RequiresTls, RequiresCallFrameCfa, RequiresAtLocation, RequiresEntryValue, RequiresParameterRef, RequiresRelocatedAddress, RequiresIndexedAddress, RequiresBaseType, Waiting, Memory, Register, WasmValue, EntryValue, FrameBase, Tls, CallFrameCfa, ParameterRef, RelocatedAddress, IndexedAddress, AtLocation, TypedLiteral, Convert, Reinterpret, Answer, memory_in, register_in, wasm_in, entry_in, frame_base_in, tls_in, cfa_in, parameter_in, relocated_in, indexed_in, location_in, base_type_in}
+use Rattle.dwarf_meaning.specs.Requests.{Request, RequiresMemory, RequiresRegister, RequiresWasmLocal, RequiresWasmGlobal, RequiresWasmStack, RequiresFrameBase, RequiresTls, RequiresCallFrameCfa, RequiresAtLocation, RequiresEntryValue, RequiresParameterRef, RequiresRelocatedAddress, RequiresIndexedAddress, RequiresBaseType, Waiting, Memory, Register, WasmValue, EntryValue, FrameBase, Tls, CallFrameCfa, ParameterRef, RelocatedAddress, IndexedAddress, AtLocation, TypedLiteral, Convert, Reinterpret, Answer, MemoryAnswer, RegisterAnswer, WasmAnswer, EntryAnswer, FrameBaseAnswer, TlsAnswer, CfaAnswer, ParameterAnswer, RelocatedAnswer, IndexedAnswer, LocationAnswer, BaseTypeAnswer}
 
 -- What an operation does: `rest` are the values that it leaves of the stack, the top first.
 pub data Act : Type 0 where
@@ -147,23 +148,24 @@ pub data Use : Type 0 where
   -- the answer isn't of the kind that is waited for
   WrongKind : Use
 
--- what an answer is used for, by what waits for it; the values are those on the stack
+-- What an answer is used for, by what waits for it; the values are those on the stack. An answer of another kind isn't used.
 unfoldable pub use_of : (bits : ℕ) → Waiting → Answer → List Value → Use
-use_of bits Memory answer values = on_some (memory_in answer) WrongKind (PushesAnswer values)
-use_of bits (Register offset) answer values =
-    on_some (register_in answer) WrongKind (λ x. on_result (result_of (add_of bits x (from_u64_of (type_of x) (residue 64 offset)))) FaultUse (PushesAnswer values))
-use_of bits WasmValue answer values = on_some (wasm_in answer) WrongKind (PushesAnswer values)
-use_of bits EntryValue answer values = on_some (entry_in answer) WrongKind (PushesAnswer values)
-use_of bits (FrameBase offset) answer values = on_some (frame_base_in answer) WrongKind (λ n. PushesAnswer values (Generic (residue 64 (pos n +ℤ offset))))
-use_of bits Tls answer values = on_some (tls_in answer) WrongKind (λ n. PushesAnswer values (Generic n))
-use_of bits CallFrameCfa answer values = on_some (cfa_in answer) WrongKind (λ n. PushesAnswer values (Generic n))
-use_of bits ParameterRef answer values = on_some (parameter_in answer) WrongKind (λ n. PushesAnswer values (Generic n))
-use_of bits RelocatedAddress answer values = on_some (relocated_in answer) WrongKind (λ n. PushesAnswer values (Generic n))
-use_of bits IndexedAddress answer values = on_some (indexed_in answer) WrongKind (λ n. PushesAnswer values (Generic n))
-use_of bits AtLocation answer values = on_some (location_in answer) WrongKind Calls
-use_of bits (TypedLiteral value) answer values =
-    on_some (base_type_in answer) WrongKind (λ kind. on_result (parse_of kind value.is_big value.bytes) FaultUse (PushesAnswer values))
-use_of bits Convert answer values =
-    on_some (base_type_in answer) WrongKind (λ kind. on_top values (FaultUse NotEnoughStackItems) (λ x rest. on_result (result_of (convert_of bits kind x)) FaultUse (PushesAnswer rest)))
-use_of bits Reinterpret answer values =
-    on_some (base_type_in answer) WrongKind (λ kind. on_top values (FaultUse NotEnoughStackItems) (λ x rest. on_result (result_of (reinterpret_of bits kind x)) FaultUse (PushesAnswer rest)))
+use_of bits Memory (MemoryAnswer value) values = PushesAnswer values value
+use_of bits (Register offset) (RegisterAnswer x) values =
+    on_result (result_of (add_of bits x (from_u64_of (type_of x) (residue 64 offset)))) FaultUse (PushesAnswer values)
+use_of bits WasmValue (WasmAnswer value) values = PushesAnswer values value
+use_of bits EntryValue (EntryAnswer value) values = PushesAnswer values value
+use_of bits (FrameBase offset) (FrameBaseAnswer number) values = PushesAnswer values (Generic (residue 64 (pos number +ℤ offset)))
+use_of bits Tls (TlsAnswer number) values = PushesAnswer values (Generic number)
+use_of bits CallFrameCfa (CfaAnswer number) values = PushesAnswer values (Generic number)
+use_of bits ParameterRef (ParameterAnswer number) values = PushesAnswer values (Generic number)
+use_of bits RelocatedAddress (RelocatedAnswer number) values = PushesAnswer values (Generic number)
+use_of bits IndexedAddress (IndexedAnswer number) values = PushesAnswer values (Generic number)
+use_of bits AtLocation (LocationAnswer text) values = Calls text
+use_of bits (TypedLiteral literal) (BaseTypeAnswer value_type) values =
+    on_result (parse_of value_type literal.is_big literal.bytes) FaultUse (PushesAnswer values)
+use_of bits Convert (BaseTypeAnswer value_type) values =
+    on_top values (FaultUse NotEnoughStackItems) (λ x rest. on_result (result_of (convert_of bits value_type x)) FaultUse (PushesAnswer rest))
+use_of bits Reinterpret (BaseTypeAnswer value_type) values =
+    on_top values (FaultUse NotEnoughStackItems) (λ x rest. on_result (result_of (reinterpret_of bits value_type x)) FaultUse (PushesAnswer rest))
+use_of bits _ _ values = WrongKind

@@ -3,7 +3,8 @@ use Rattle.std.specs.Prelude.{ℕ, ◌<◌, ◌≤◌, ◌≡◌, ◌⊎◌, ◌
 use Rattle.dwarf_base.specs.declared.common.Encoding.{Encoding}
 use Rattle.dwarf_base.specs.Faults.{Fault, UnexpectedEof, BadUnsignedLeb128, BadSignedLeb128, UnsupportedAddressSize, UnsupportedOffset, UnsupportedRegister, InvalidExpression, InvalidPieceSize}
 use Rattle.dwarf_base.specs.Fronts.{Begins}
-use Rattle.dwarf_meaning.specs.Operations.{Operation, Text}
+use Rattle.dwarf_base.specs.Reads.{Text}
+use Rattle.dwarf_meaning.specs.Operations.{Operation}
 use Rattle.dwarf_meaning.specs.Decoding.{operation_at}
 use Rattle.dwarf_meaning.specs.Spelling.{Spells, Malformed}
 use Rattle.dwarf_meaning.specs.Splitting.{Splitting, Joined, items_of, items_at}

@@ -10,6 +10,7 @@ pub mod Locations
 pub mod Requests
 pub mod Kinds
 pub mod Acts
+pub mod Refusals
 pub mod Stores
 pub mod Run
 pub mod Meaning

@@ -1,7 +1,7 @@
 -- Locations and the pieces of a variable (DWARF 5, section 2.6.1).
 use Rattle.std.specs.Prelude.{ℕ, ℤ, Option}
+use Rattle.dwarf_base.specs.Reads.{Text}
 use Rattle.dwarf_value.specs.declared.types.Value.{Value}
-use Rattle.dwarf_meaning.specs.Operations.{Text}
 
 -- where a piece is, or what it holds
 pub data Location : Type 0 where

@@ -1,15 +1,16 @@
 -- The meaning of an expression, for the settings and the answers of its caller (DWARF 5, sections 2.5, 2.6.1.1 and 2.6.1.2).
 use Rattle.std.specs.Prelude.{Bool, true, false, ℕ, List, [], ◌∷◌, ◌++◌, Option, Some, None, Result, Ok, Err, length}
 use Rattle.dwarf_base.specs.Faults.{Fault, InvalidPiece, NotEnoughStackItems}
+use Rattle.dwarf_base.specs.Reads.{Text}
 use Rattle.dwarf_value.specs.declared.types.Value.{Value}
 use Rattle.dwarf_value.specs.declared.types.Value.TheVariants.{Generic}
 use Rattle.dwarf_value.specs.Values.{to_u64_of}
-use Rattle.dwarf_meaning.specs.Operations.{Text}
 use Rattle.dwarf_meaning.specs.Locations.{Location, AtAddress, Piece}
 use Rattle.dwarf_meaning.specs.Requests.{Request, Input}
 use Rattle.dwarf_meaning.specs.Acts.{choose, on_top}
-use Rattle.dwarf_meaning.specs.Stores.{Setup, address_bits, Store, Last, Nothing, Plain, Pieced, Pushed, Called, Located, Refusal, push_value, push_piece}
+use Rattle.dwarf_meaning.specs.Stores.{Setup, address_bits, Store, Last, Nothing, Plain, Pieced, Pushed, Called, Located, push_value, push_piece}
 use Rattle.dwarf_meaning.specs.Run.{Position, End, CompleteEnd, RequestEnd, FaultEnd, Course, only_end, run}
+use Rattle.dwarf_meaning.specs.Refusals.{Refusal}
 
 -- what comes of an evaluation
 pub data Outcome : Type 0 where

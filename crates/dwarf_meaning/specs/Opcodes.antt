@@ -1,8 +1,9 @@
 -- The table of opcodes (DWARF 5, section 7.7.1, and the extensions of GNU and WebAssembly).
 use Rattle.std.specs.Prelude.{ℕ, ◌-◌, ◌*◌, ◌==◌, ◌&&◌, nat_le, ℤ, pos, true, false, List, [], ◌∷◌, Some, None, if◌then◌else◌}
 use Rattle.dwarf_base.specs.declared.common.Encoding.{Encoding}
+use Rattle.dwarf_base.specs.Reads.{Text}
 use Rattle.dwarf_meaning.specs.Operations as operation
-use Rattle.dwarf_meaning.specs.Operations.{Operation, Text, UnitRef, DebugInfoRef}
+use Rattle.dwarf_meaning.specs.Operations.{Operation, UnitRef, DebugInfoRef}
 use Rattle.dwarf_meaning.specs.Operands.{Form, Fixed, Address, Leb128, Offset, RegisterNumber, PieceSize, WasmIndex, SectionOffset, InfoReference, SignedForm, SignedFixed, SignedLeb128}
 
 -- What follows an opcode: operands in order, then the operation that their values make; or the opcode has no operation.

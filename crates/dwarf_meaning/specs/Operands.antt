@@ -3,8 +3,7 @@ use Rattle.std.specs.Prelude.{ℕ, ◌*◌, ◌^◌, ◌==◌, nat_lt, Bool, Lis
 use Rattle.dwarf_base.specs.declared.common.Encoding.{Encoding}
 use Rattle.dwarf_base.specs.Faults.{Fault, BadUnsignedLeb128, InvalidPieceSize}
 use Rattle.dwarf_base.specs.Numbers.{offset_of, register_of}
-use Rattle.dwarf_base.specs.Reads.{offset_size}
-use Rattle.dwarf_meaning.specs.Operations.{Text}
+use Rattle.dwarf_base.specs.Reads.{offset_size, Text}
 
 -- what the operands of an operation depend on besides their bytes
 pub record Context : Type 0 where

@@ -1,10 +1,6 @@
 -- Operations of DWARF expressions (DWARF 5, sections 2.5 and 2.6), with no readers in them.
-use Rattle.std.specs.Prelude.{ℕ, ℤ, Bool, List, Option}
-
--- bytes in an order
-pub record Text : Type 0 where
-  pub bytes : List ℕ
-  pub is_big : Bool
+use Rattle.std.specs.Prelude.{ℕ, ℤ, Bool, Option}
+use Rattle.dwarf_base.specs.Reads.{Text}
 
 -- where a called expression stands: in this unit, or in `.debug_info`
 pub data DieReference : Type 0 where

@@ -2,12 +2,13 @@
 use Rattle.std.specs.Prelude.{ℕ, List, Option, Result, Ok, Err, length}
 use Rattle.dwarf_base.specs.declared.errors.Error.{Error}
 use Rattle.dwarf_base.specs.Faults.{Fault, fault_of}
+use Rattle.dwarf_base.specs.Reads.{Text}
 use Rattle.dwarf_value.specs.declared.types.Value.{Value}
-use Rattle.dwarf_meaning.specs.Operations.{Text}
 use Rattle.dwarf_meaning.specs.Requests.{Request, Waiting, Input}
-use Rattle.dwarf_meaning.specs.Stores.{Setup, Store, Refusal}
+use Rattle.dwarf_meaning.specs.Stores.{Setup, Store}
 use Rattle.dwarf_meaning.specs.Run.{Position, run, await_answer}
 use Rattle.dwarf_meaning.specs.Meaning.{Outcome, FaultOutcome, CompleteOutcome, unwound, with_initial}
+use Rattle.dwarf_meaning.specs.Refusals.{Refusal}
 
 -- where an evaluation stands
 pub data Status : Type 0 where

@@ -1,13 +1,14 @@
 -- Words that shorten the worked rows: expressions whose meaning is computed (DWARF 5, sections 2.5 and 2.6).
 use Rattle.std.specs.Prelude.{ℕ, false, List, [], ◌∷◌, Some, None}
 use Rattle.dwarf_base.specs.declared.common.Format.TheVariants.{Dwarf32}
+use Rattle.dwarf_base.specs.Reads.{Text}
 use Rattle.dwarf_value.specs.declared.types.Value.TheVariants.{Generic}
-use Rattle.dwarf_meaning.specs.Operations.{Text}
 use Rattle.dwarf_meaning.specs.Locations.{Location, AtAddress, Piece}
 use Rattle.dwarf_meaning.specs.Requests.{Answer, LocationAnswer, Input}
-use Rattle.dwarf_meaning.specs.Stores.{Limits, Setup}
+use Rattle.dwarf_meaning.specs.Stores.{Setup}
 use Rattle.dwarf_meaning.specs.Run.{Position}
 use Rattle.dwarf_meaning.specs.Meaning.{Outcome, CompleteOutcome, First, whole}
+use Rattle.dwarf_meaning.specs.Refusals.{Limits}
 
 -- bytes in little-endian order
 abbrev pub text : List ℕ → Text

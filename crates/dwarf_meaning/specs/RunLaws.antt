@@ -1,10 +1,11 @@
 -- Laws of runs: turns, inputs, counts, limits and calls (DWARF 5, section 2.5).
-use Rattle.std.specs.Prelude.{ℕ, ◌+◌, ◌-◌, ◌*◌, ◌<◌, ◌≤◌, ◌≡◌, ◌⊎◌, List, [], ◌∷◌, ◌++◌, Option, Some, None, length}
-use Rattle.dwarf_meaning.specs.Operations.{Text}
+use Rattle.std.specs.Prelude.{ℕ, ◌+◌, ◌-◌, ◌*◌, ◌<◌, ◌≤◌, ◌≡◌, ◌⊎◌, List, [], ◌∷◌, ◌++◌, Option, length}
 use Rattle.dwarf_meaning.specs.Requests.{Request, Input, LocationAnswer}
-use Rattle.dwarf_meaning.specs.Stores.{Limits, IsWithin, Store, Last, Located}
+use Rattle.dwarf_meaning.specs.Stores.{IsWithin, Store, Last, Located}
 use Rattle.dwarf_meaning.specs.Run.{Position, End, CompleteEnd, RequestEnd, FaultEnd, Course, most}
 use Rattle.dwarf_meaning.specs.Meaning.{Outcome, RequestOutcome, FaultOutcome, CompleteOutcome}
+use Rattle.dwarf_meaning.specs.Refusals.{Limits}
+use Rattle.dwarf_base.specs.Reads.{Text}
 
 -- ---- turns
 

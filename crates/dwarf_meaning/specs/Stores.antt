@@ -1,18 +1,13 @@
 -- What a run keeps beside texts and places, and the rule by which its lists take one more item (DWARF 5, sections 2.5.1, 2.5.1.5 and 2.6.1.2).
-use Rattle.std.specs.Prelude.{ℕ, zero, suc, ◌*◌, ◌≤◌, ℤ, pos, ◌+ℤ◌, List, [], ◌∷◌, ◌++◌, Option, Some, None, Result, Ok, Err, length, nat_lt}
+use Rattle.std.specs.Prelude.{ℕ, ◌*◌, ◌≤◌, ℤ, pos, ◌+ℤ◌, List, [], ◌∷◌, ◌++◌, Option, Some, None, Result, Ok, Err, length, nat_lt}
 use Rattle.dwarf_base.specs.declared.common.Encoding.{Encoding}
-use Rattle.dwarf_base.specs.Faults.{Fault, StackFull, BadBranchTarget, ◌>>=◌}
+use Rattle.dwarf_base.specs.Faults.{Fault, BadBranchTarget, ◌>>=◌}
 use Rattle.dwarf_base.specs.Numbers.{residue}
 use Rattle.dwarf_value.specs.declared.types.Value.{Value}
 use Rattle.dwarf_meaning.specs.Locations.{Location, Piece}
 use Rattle.dwarf_meaning.specs.Requests.{Request, Waiting}
 use Rattle.dwarf_meaning.specs.Acts.{choose, Act, Pushes, Branches, Locates, EndsPiece, RequestAct, FaultAct}
-
--- how many items each list holds at most, where there is such a number
-pub record Limits : Type 0 where
-  pub values : Option ℕ
-  pub callers : Option ℕ
-  pub pieces : Option ℕ
+use Rattle.dwarf_meaning.specs.Refusals.{Limits, Refusal, room}
 
 -- no more than the limit, where there is one
 abbrev pub IsWithin : (limit : Option ℕ) → ℕ → Type 0
@@ -28,12 +23,6 @@ pub record Setup : Type 0 where
 -- how many bits an address has
 abbrev pub address_bits : Setup → ℕ
 address_bits setup = 8 * setup.encoding.address_size
-
--- Which push on a list without a limit is refused: none, or the one that comes after so many more inputs
--- were taken, and then after so many more of such pushes.
-pub data Refusal : Type 0 where
-  Never : Refusal
-  After : (inputs pushes : ℕ) → Refusal
 
 -- of what sort the last operation was
 pub data Last : Type 0 where
@@ -63,24 +52,6 @@ pub record Store : Type 0 where
   pub refusal : Refusal
 
 -- ---- pushes
-
--- what is left of the refusal after a push on a list without a limit
-abbrev pub spent : Refusal → Result Refusal Fault
-spent Never = Ok Never
-spent (After zero zero) = Err StackFull
-spent (After zero (suc pushes)) = Ok (After zero pushes)
-spent (After (suc inputs) pushes) = Ok (After (suc inputs) pushes)
-
--- what is left of the refusal after a push on a list with this limit, of n items
-abbrev pub room : Option ℕ → (n : ℕ) → Refusal → Result Refusal Fault
-room None n refusal = spent refusal
-room (Some limit) n refusal = choose (nat_lt n limit) (Ok refusal) (Err StackFull)
-
--- what is left of it once an input is taken
-abbrev pub taken : Refusal → Refusal
-taken Never = Never
-taken (After zero pushes) = Never
-taken (After (suc inputs) pushes) = After inputs pushes
 
 -- a value, on top
 unfoldable pub push_value : Setup → Value → Store → Result Store Fault

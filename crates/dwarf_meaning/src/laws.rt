@@ -1,17 +1,19 @@
 ghost use Rattle.std.specs.Prelude.{◌≡◌, ◌+◌, ◌≤◌, ◌++◌, ℕ, Bool, List, Ok, Err, Option, length};
 ghost use Rattle.dwarf_base.specs.declared.common.Encoding.{Encoding};
 ghost use Rattle.dwarf_base.specs.Faults.{Fault};
-ghost use Rattle.dwarf_meaning.specs.Operations.{Operation, Text};
+ghost use Rattle.dwarf_base.specs.Reads.{Text};
+ghost use Rattle.dwarf_meaning.specs.Operations.{Operation};
 ghost use Rattle.dwarf_meaning.specs.Decoding.{operation_at};
 ghost use Rattle.dwarf_meaning.specs.Spelling.{Spells};
 ghost use Rattle.dwarf_meaning.specs.Splitting.{Splitting};
 ghost use Rattle.dwarf_meaning.specs.Branches.{AreBytes, BranchesNear};
 ghost use Rattle.dwarf_meaning.specs.Requests.{Input};
-ghost use Rattle.dwarf_meaning.specs.Stores.{Setup, IsWithin, Store, Refusal};
+ghost use Rattle.dwarf_meaning.specs.Stores.{Setup, IsWithin, Store};
 ghost use Rattle.dwarf_meaning.specs.Run.{Position, End, most, turn, run_for, enough, run};
 ghost use Rattle.dwarf_meaning.specs.Meaning.{First, unwound, meaning};
 ghost use Rattle.dwarf_meaning.specs.DecodeLaws.{ReadsExactlyTheSpelled, IsDecided, IsWhole, SplitsOnce, IsSplitting, IsDecodingFault};
 ghost use Rattle.dwarf_meaning.specs.RunLaws.{turns_left, IsSettled, course_before, IsOver, EndTook, MaximaWithin, EndCounts, EndMaximumWithin, CountsWithin, ListsWithin, EndWithin, OutcomeWithin, outermost, EndOpen, OutcomeOpen};
+ghost use Rattle.dwarf_meaning.specs.Refusals.{Refusal};
 
 /// Laws of decoding, for every text.
 ///

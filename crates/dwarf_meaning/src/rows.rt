@@ -4,7 +4,7 @@ ghost use Rattle.dwarf_value.specs.declared.types.Value.TheVariants.{Generic};
 ghost use Rattle.dwarf_meaning.specs.Operations.{UnitRef};
 ghost use Rattle.dwarf_meaning.specs.Locations.{InRegister, AtAddress};
 ghost use Rattle.dwarf_meaning.specs.Requests.{RequiresCallFrameCfa, RequiresAtLocation, RequiresRelocatedAddress, RegisterAnswer, CfaAnswer, RelocatedAnswer};
-ghost use Rattle.dwarf_meaning.specs.Stores.{Never, After};
+ghost use Rattle.dwarf_meaning.specs.Refusals.{Never, After};
 ghost use Rattle.dwarf_meaning.specs.Meaning.{RequestOutcome, FaultOutcome, meaning};
 ghost use Rattle.dwarf_meaning.specs.Rows.{text, no_limits, with_limits, plain, at_most, unset, given, calls, open_at, word_at, valued, pieced};
 

@@ -10,8 +10,8 @@ use Rattle.std.specs.Option.{option_eq}
 use Rattle.dwarf_base.specs.declared.offsets.ReaderOffset as reader_offset
 use Rattle.dwarf_base.specs.declared.reading.Reader as reader
 use Rattle.dwarf_base.specs.Equality.{IsEqualityOf}
+use Rattle.dwarf_base.specs.Reads.{Text}
 use Rattle.dwarf_meaning.specs.Operations as meaning
-use Rattle.dwarf_meaning.specs.Operations.{Text}
 use Rattle.dwarf_op.specs.contracts.operations.DieReferencePartialEq.TheImpl as references
 use Rattle.dwarf_op.specs.contracts.operations.OperationPartialEq.TheImpl as operations
 use Rattle.dwarf_op.specs.declared.operations.DieReference.{DieReference}
@@ -143,8 +143,8 @@ module _ (R O P : RattleType)
       (texts : IsEqualityOf text are_readers_equal.eq) (numbers : IsEqualityOf number are_offsets_equal.eq) where
     pub equal_operations : (x y : Operation R.Denot O.Denot P.Denot)
         → IsTrue (are_operations_equal x y) ↔ (operation_of text number x ≡ operation_of text number y)
-    equal_operations (operation.Deref base_type size space) (operation.Deref base_type' size' space') =
-        decided (both (numbers base_type.0 base_type'.0) (both (unsigned_Decides size size') (bools space space')))
+    equal_operations (operation.Deref size space base_type) (operation.Deref size' space' base_type') =
+        decided (both (unsigned_Decides size size') (both (bools space space') (numbers base_type.0 base_type'.0)))
         (λ (h, (t, u)). cc) (λ h. (cc, (cc, cc)))
     equal_operations operation.Drop operation.Drop = same
     equal_operations (operation.Pick index) (operation.Pick index') =

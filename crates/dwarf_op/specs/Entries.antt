@@ -4,8 +4,8 @@ use Rattle.dwarf_base.specs.Faults.{Fault, ◌>>=◌}
 use Rattle.dwarf_base.specs.Leb.{uleb_at}
 use Rattle.dwarf_base.specs.Numbers.{register_of}
 use Rattle.dwarf_base.specs.declared.common.Encoding.{Encoding}
+use Rattle.dwarf_base.specs.Reads.{Text}
 use Rattle.dwarf_meaning.specs.Operations as meaning
-use Rattle.dwarf_meaning.specs.Operations.{Text}
 use Rattle.dwarf_meaning.specs.Operands.{Form, Fixed, Address, Leb128, RegisterNumber, PieceSize, SectionOffset, InfoReference, SignedForm, SignedFixed, SignedLeb128}
 use Rattle.dwarf_meaning.specs.Operands as form
 use Rattle.dwarf_meaning.specs.Opcodes.{Row, Makes, Unsigned, Invalid, unsigned, signed, unsigned_two, unsigned_signed, sized_block, wasm_row}

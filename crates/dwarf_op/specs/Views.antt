@@ -1,17 +1,13 @@
 -- What operations and their operands stand for, once a reader is seen as a text and an offset as a number.
-use Rattle.std.specs.Prelude.{ℕ, Bool, List, Option, Result, Ok}
+use Rattle.std.specs.Prelude.{ℕ, List, Option, Result, Ok}
 use Rattle.dwarf_base.specs.Faults.{Fault, ◌>>=◌}
+use Rattle.dwarf_base.specs.Reads.{Text}
 use Rattle.dwarf_meaning.specs.Operations as meaning
-use Rattle.dwarf_meaning.specs.Operations.{Text}
 use Rattle.dwarf_meaning.specs.Run.{piece_ended_by}
 use Rattle.dwarf_op.specs.declared.operations.Operation.{Operation}
 use Rattle.dwarf_op.specs.declared.operations.Operation.TheVariants as operation
 use Rattle.dwarf_op.specs.declared.operations.DieReference.{DieReference}
 use Rattle.dwarf_op.specs.declared.operations.DieReference.TheVariants as reference
-
--- a reader as a text
-abbrev pub text_of : {R : Type 0} → (R → List ℕ) → (R → Bool) → R → Text
-text_of bytes is_big reader = record { bytes = bytes reader; is_big = is_big reader }
 
 -- a reference of the code, as the definitions have it
 abbrev pub reference_of : {O : Type 0} → (O → ℕ) → DieReference O → meaning.DieReference
@@ -20,7 +16,7 @@ reference_of number (reference.DebugInfoRef offset) = meaning.DebugInfoRef (numb
 
 -- an operation of the code, as the definitions have it
 abbrev pub operation_of : {R O P : Type 0} → (R → Text) → (O → ℕ) → Operation R O P → meaning.Operation
-operation_of text number (operation.Deref base_type size space) = meaning.Deref (number base_type.0) size space
+operation_of text number (operation.Deref size space base_type) = meaning.Deref (number base_type.0) size space
 operation_of text number operation.Drop = meaning.Drop
 operation_of text number (operation.Pick index) = meaning.Pick index
 operation_of text number operation.Swap = meaning.Swap

@@ -1,12 +1,12 @@
 //! Reading the operation at the front of a text.
 
 ghost use Rattle.std.specs.Prelude.{◌≡◌, ◌<◌, length, OnOk};
-ghost use Rattle.dwarf_base.specs.Reads.{Gives, IsSuffix};
+ghost use Rattle.dwarf_base.specs.Reads.{Reads};
 ghost use Rattle.dwarf_meaning.specs.Operands.{context_of};
 ghost use Rattle.dwarf_meaning.specs.Decoding.{operands_at, operation_at};
 ghost use Rattle.dwarf_op.specs.Entries.{entry_row, rare_row};
 ghost use Rattle.dwarf_op.specs.Entries as entries;
-ghost use Rattle.dwarf_op.specs.Views.{operation_of, piece_read, text_of};
+ghost use Rattle.dwarf_op.specs.Views.{operation_of, piece_read};
 
 use crate::opcodes::{
     Entry, FromBlock, FromBranch, FromByte, FromOffset, FromSigned, FromUnsigned, Plain, Rare,
@@ -24,7 +24,7 @@ use dwarf_base::{
 
 #[inline(always)]
 fn plain_operation<R: Reader>(operation: Plain) -> Operation<R>
-    ensures { operation_of (text_of R.bytes R.is_big) R.Offset.number result ≡ entries.plain_operation operation }
+    ensures { operation_of R.text R.Offset.number result ≡ entries.plain_operation operation }
 {
     match operation {
         Plain::Drop => Operation::Drop,
@@ -61,7 +61,7 @@ fn plain_operation<R: Reader>(operation: Plain) -> Operation<R>
 
 #[inline(always)]
 fn byte_operation<R: Reader>(make: FromByte, byte: u8) -> Operation<R>
-    ensures { operation_of (text_of R.bytes R.is_big) R.Offset.number result ≡ entries.byte_operation make byte }
+    ensures { operation_of R.text R.Offset.number result ≡ entries.byte_operation make byte }
 {
     match make {
         FromByte::Constant => Operation::UnsignedConstant {
@@ -83,7 +83,7 @@ fn byte_operation<R: Reader>(make: FromByte, byte: u8) -> Operation<R>
 
 #[inline(always)]
 fn unsigned_operation<R: Reader>(make: FromUnsigned, number: u64) -> Operation<R>
-    ensures { operation_of (text_of R.bytes R.is_big) R.Offset.number result ≡ entries.unsigned_operation make number }
+    ensures { operation_of R.text R.Offset.number result ≡ entries.unsigned_operation make number }
 {
     match make {
         FromUnsigned::Constant => Operation::UnsignedConstant { value: number },
@@ -94,7 +94,7 @@ fn unsigned_operation<R: Reader>(make: FromUnsigned, number: u64) -> Operation<R
 
 #[inline(always)]
 fn signed_operation<R: Reader>(make: FromSigned, number: i64) -> Operation<R>
-    ensures { operation_of (text_of R.bytes R.is_big) R.Offset.number result ≡ entries.signed_operation make number }
+    ensures { operation_of R.text R.Offset.number result ≡ entries.signed_operation make number }
 {
     match make {
         FromSigned::Constant => Operation::SignedConstant { value: number },
@@ -104,7 +104,7 @@ fn signed_operation<R: Reader>(make: FromSigned, number: i64) -> Operation<R>
 
 #[inline(always)]
 fn branch_operation<R: Reader>(make: FromBranch, target: i16) -> Operation<R>
-    ensures { operation_of (text_of R.bytes R.is_big) R.Offset.number result ≡ entries.branch_operation make target }
+    ensures { operation_of R.text R.Offset.number result ≡ entries.branch_operation make target }
 {
     match make {
         FromBranch::Bra => Operation::Bra { target },
@@ -114,7 +114,7 @@ fn branch_operation<R: Reader>(make: FromBranch, target: i16) -> Operation<R>
 
 #[inline(always)]
 fn offset_operation<R: Reader>(make: FromOffset, offset: R::Offset) -> Operation<R>
-    ensures { operation_of (text_of R.bytes R.is_big) R.Offset.number result ≡ entries.offset_operation make (R.Offset.number offset) }
+    ensures { operation_of R.text R.Offset.number result ≡ entries.offset_operation make (R.Offset.number offset) }
 {
     match make {
         FromOffset::UnitCall => Operation::Call {
@@ -146,7 +146,7 @@ fn offset_operation<R: Reader>(make: FromOffset, offset: R::Offset) -> Operation
 
 #[inline(always)]
 fn block_operation<R: Reader + Copy>(make: FromBlock, block: R) -> Operation<R>
-    ensures { operation_of (text_of R.bytes R.is_big) R.Offset.number result ≡ entries.block_operation make (text_of R.bytes R.is_big block) }
+    ensures { operation_of R.text R.Offset.number result ≡ entries.block_operation make (R.text block) }
 {
     match make {
         FromBlock::ImplicitValue => Operation::ImplicitValue { bytes: block },
@@ -156,7 +156,7 @@ fn block_operation<R: Reader + Copy>(make: FromBlock, block: R) -> Operation<R>
 
 #[inline(always)]
 fn wasm_operation<R: Reader>(place: WasmPlace, index: u32) -> Operation<R>
-    ensures { operation_of (text_of R.bytes R.is_big) R.Offset.number result ≡ entries.wasm_operation place index }
+    ensures { operation_of R.text R.Offset.number result ≡ entries.wasm_operation place index }
 {
     match place {
         WasmPlace::Local => Operation::WasmLocal { index },
@@ -173,9 +173,7 @@ fn read_rare_operands<R: Reader + Copy>(
     bytes: &mut R,
     encoding: Encoding,
 ) -> Result<Operation<R>>
-    ensures value { Gives (operation_of (text_of R.bytes R.is_big) R.Offset.number) result (R.bytes bytes.new) (operands_at (context_of encoding R.Offset.BITS (R.is_big bytes.old)) (rare_row entry) (R.bytes bytes.old)) }
-    ensures rest { IsSuffix (R.bytes bytes.new) (R.bytes bytes.old) }
-    ensures order { R.is_big bytes.new ≡ R.is_big bytes.old }
+    ensures { Reads (operation_of R.text R.Offset.number) (R.text bytes.old) (R.text bytes.new) result (operands_at (context_of encoding R.Offset.BITS (R.text bytes.old).is_big) (rare_row entry) (R.text bytes.old).bytes) }
 {
     match entry {
         Rare::NamedRegister => Ok(Operation::Register {
@@ -242,9 +240,7 @@ fn read_operands<R: Reader + Copy>(
     bytes: &mut R,
     encoding: Encoding,
 ) -> Result<Operation<R>>
-    ensures value { Gives (operation_of (text_of R.bytes R.is_big) R.Offset.number) result (R.bytes bytes.new) (operands_at (context_of encoding R.Offset.BITS (R.is_big bytes.old)) (entry_row encoding opcode entry) (R.bytes bytes.old)) }
-    ensures rest { IsSuffix (R.bytes bytes.new) (R.bytes bytes.old) }
-    ensures order { R.is_big bytes.new ≡ R.is_big bytes.old }
+    ensures { Reads (operation_of R.text R.Offset.number) (R.text bytes.old) (R.text bytes.new) result (operands_at (context_of encoding R.Offset.BITS (R.text bytes.old).is_big) (entry_row encoding opcode entry) (R.text bytes.old).bytes) }
 {
     match entry {
         Entry::Unknown => Err(Error::InvalidExpression(DwOp(opcode))),
@@ -299,10 +295,8 @@ impl<R: Reader + Copy> Operation<R> {
     #[tactic(auto, using(dwarf_base::proofs::Suffixes::suffix_trans), unfolding(dwarf_meaning::specs::Decoding::operation_at))]
     #[inline(always)]
     pub fn parse(bytes: &mut R, encoding: Encoding) -> Result<Operation<R>>
-        ensures less { OnOk result (length (R.bytes bytes.new) < length (R.bytes bytes.old)) }
-        ensures value { Gives (operation_of (text_of R.bytes R.is_big) R.Offset.number) result (R.bytes bytes.new) (operation_at encoding R.Offset.BITS (text_of R.bytes R.is_big bytes.old)) }
-        ensures rest { IsSuffix (R.bytes bytes.new) (R.bytes bytes.old) }
-        ensures order { R.is_big bytes.new ≡ R.is_big bytes.old }
+        ensures reads { Reads (operation_of R.text R.Offset.number) (R.text bytes.old) (R.text bytes.new) result (operation_at encoding R.Offset.BITS (R.text bytes.old)) }
+        ensures less { OnOk result (length (R.text bytes.new).bytes < length (R.text bytes.old).bytes) }
     {
         let opcode = bytes.read_u8()?;
         read_operands(entry_at(opcode), opcode, bytes, encoding)
@@ -319,10 +313,8 @@ pub fn parse_piece<R: Reader + Copy>(
     bytes: &mut R,
     encoding: Encoding,
 ) -> Result<Option<(u64, Option<u64>)>>
-    ensures less { OnOk result (length (R.bytes bytes.new) < length (R.bytes bytes.old)) }
-    ensures value { Gives (λ piece. piece) result (R.bytes bytes.new) (piece_read (operation_at encoding R.Offset.BITS (text_of R.bytes R.is_big bytes.old))) }
-    ensures rest { IsSuffix (R.bytes bytes.new) (R.bytes bytes.old) }
-    ensures order { R.is_big bytes.new ≡ R.is_big bytes.old }
+    ensures reads { Reads (λ piece. piece) (R.text bytes.old) (R.text bytes.new) result (piece_read (operation_at encoding R.Offset.BITS (R.text bytes.old))) }
+    ensures less { OnOk result (length (R.text bytes.new).bytes < length (R.text bytes.old).bytes) }
 {
     let opcode = bytes.read_u8()?;
     match entry_at(opcode) {
@@ -348,9 +340,7 @@ fn read_other_piece<R: Reader + Copy>(
     bytes: &mut R,
     encoding: Encoding,
 ) -> Result<Option<(u64, Option<u64>)>>
-    ensures value { Gives (λ piece. piece) result (R.bytes bytes.new) (piece_read (operands_at (context_of encoding R.Offset.BITS (R.is_big bytes.old)) (entry_row encoding opcode entry) (R.bytes bytes.old))) }
-    ensures rest { IsSuffix (R.bytes bytes.new) (R.bytes bytes.old) }
-    ensures order { R.is_big bytes.new ≡ R.is_big bytes.old }
+    ensures { Reads (λ piece. piece) (R.text bytes.old) (R.text bytes.new) result (piece_read (operands_at (context_of encoding R.Offset.BITS (R.text bytes.old).is_big) (entry_row encoding opcode entry) (R.text bytes.old).bytes)) }
 {
     match read_operands(entry, opcode, bytes, encoding)? {
         Operation::Piece {

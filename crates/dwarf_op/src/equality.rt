@@ -1,7 +1,7 @@
 //! Laws of equality.
 ghost use Rattle.std.specs.Prelude.{ℕ};
 ghost use Rattle.dwarf_base.specs.Equality.{IsEqualityOf};
-ghost use Rattle.dwarf_meaning.specs.Operations.{Text};
+ghost use Rattle.dwarf_base.specs.Reads.{Text};
 ghost use Rattle.dwarf_op.specs.Views.{operation_of, reference_of};
 
 use crate::operations::{DieReference, Operation};

@@ -5,14 +5,13 @@
 ghost use Rattle.std.specs.Prelude.{◌≡◌, ◌<◌, Bool, pos, neg_ℤ, ◌≤ℤ◌, ◌<ℤ◌, Some, None};
 ghost use Rattle.dwarf_base.specs.declared.common.Encoding.{Encoding};
 ghost use Rattle.dwarf_base.specs.Leb.{uleb_at, sleb_at, sign_extended};
-ghost use Rattle.dwarf_base.specs.Reads.{Gives, IsSuffix, address_at};
+ghost use Rattle.dwarf_base.specs.Reads.{Reads, address_at};
 ghost use Rattle.dwarf_meaning.specs.Operands.{context_of};
 ghost use Rattle.dwarf_meaning.specs.Operations as meaning;
 ghost use Rattle.dwarf_meaning.specs.Decoding.{unsigned_at, integer_at, operands_at};
 ghost use Rattle.dwarf_op.specs.declared.opcodes.FromBlock.{FromBlock};
 ghost use Rattle.dwarf_op.specs.Entries.{unsigned_form, signed_form, offset_form, register_at, entry_row, rare_row};
 ghost use Rattle.dwarf_op.specs.Entries as entries;
-ghost use Rattle.dwarf_op.specs.Views.{text_of};
 
 use crate::opcodes::{Entry, Offset, Rare, Signed, Unsigned};
 use dwarf_base::{Encoding, Error, Reader, ReaderOffset, Register, Result, UnitOffset, constants};
@@ -21,9 +20,7 @@ use dwarf_base::{Encoding, Error, Reader, ReaderOffset, Register, Result, UnitOf
 /// `UnexpectedEof` where the bytes end before.
 #[inline(always)]
 pub fn read_uleb128<R: Reader + Copy>(bytes: &mut R) -> Result<u64>
-    ensures value { Gives (λ n. n) result (R.bytes bytes.new) (uleb_at (R.bytes bytes.old)) }
-    ensures rest { IsSuffix (R.bytes bytes.new) (R.bytes bytes.old) }
-    ensures order { R.is_big bytes.new ≡ R.is_big bytes.old }
+    ensures { Reads (λ n. n) (R.text bytes.old) (R.text bytes.new) result (uleb_at (R.text bytes.old).bytes) }
 {
     let mut rest = *bytes;
     let first = rest.read_u8()?;
@@ -46,9 +43,7 @@ pub fn read_uleb128<R: Reader + Copy>(bytes: &mut R) -> Result<u64>
 /// `UnexpectedEof` where the bytes end before.
 #[inline(always)]
 pub fn read_sleb128<R: Reader + Copy>(bytes: &mut R) -> Result<i64>
-    ensures value { Gives (λ n. n) result (R.bytes bytes.new) (sleb_at (R.bytes bytes.old)) }
-    ensures rest { IsSuffix (R.bytes bytes.new) (R.bytes bytes.old) }
-    ensures order { R.is_big bytes.new ≡ R.is_big bytes.old }
+    ensures { Reads (λ n. n) (R.text bytes.old) (R.text bytes.new) result (sleb_at (R.text bytes.old).bytes) }
 {
     let mut rest = *bytes;
     let first = rest.read_u8()?;
@@ -80,18 +75,14 @@ fn last_byte(byte: u8) -> i64
 
 #[inline(never)]
 fn read_long_uleb128<R: Reader>(bytes: &mut R) -> Result<u64>
-    ensures value { Gives (λ n. n) result (R.bytes bytes.new) (uleb_at (R.bytes bytes.old)) }
-    ensures rest { IsSuffix (R.bytes bytes.new) (R.bytes bytes.old) }
-    ensures order { R.is_big bytes.new ≡ R.is_big bytes.old }
+    ensures { Reads (λ n. n) (R.text bytes.old) (R.text bytes.new) result (uleb_at (R.text bytes.old).bytes) }
 {
     bytes.read_uleb128()
 }
 
 #[inline(never)]
 fn read_long_sleb128<R: Reader>(bytes: &mut R) -> Result<i64>
-    ensures value { Gives (λ n. n) result (R.bytes bytes.new) (sleb_at (R.bytes bytes.old)) }
-    ensures rest { IsSuffix (R.bytes bytes.new) (R.bytes bytes.old) }
-    ensures order { R.is_big bytes.new ≡ R.is_big bytes.old }
+    ensures { Reads (λ n. n) (R.text bytes.old) (R.text bytes.new) result (sleb_at (R.text bytes.old).bytes) }
 {
     bytes.read_sleb128()
 }
@@ -99,9 +90,7 @@ fn read_long_sleb128<R: Reader>(bytes: &mut R) -> Result<i64>
 // An address of so many bytes.
 #[inline(always)]
 fn read_address<R: Reader + Copy>(bytes: &mut R, size: u8) -> Result<u64>
-    ensures value { Gives (λ n. n) result (R.bytes bytes.new) (address_at (R.is_big bytes.old) size (R.bytes bytes.old)) }
-    ensures rest { IsSuffix (R.bytes bytes.new) (R.bytes bytes.old) }
-    ensures order { R.is_big bytes.new ≡ R.is_big bytes.old }
+    ensures { Reads (λ n. n) (R.text bytes.old) (R.text bytes.new) result (address_at (R.text bytes.old).is_big size (R.text bytes.old).bytes) }
 {
     let mut apart = *bytes;
     let address = read_address_apart(&mut apart, size)?;
@@ -111,9 +100,7 @@ fn read_address<R: Reader + Copy>(bytes: &mut R, size: u8) -> Result<u64>
 
 #[inline(never)]
 fn read_address_apart<R: Reader>(bytes: &mut R, size: u8) -> Result<u64>
-    ensures value { Gives (λ n. n) result (R.bytes bytes.new) (address_at (R.is_big bytes.old) size (R.bytes bytes.old)) }
-    ensures rest { IsSuffix (R.bytes bytes.new) (R.bytes bytes.old) }
-    ensures order { R.is_big bytes.new ≡ R.is_big bytes.old }
+    ensures { Reads (λ n. n) (R.text bytes.old) (R.text bytes.new) result (address_at (R.text bytes.old).is_big size (R.text bytes.old).bytes) }
 {
     bytes.read_address(size)
 }
@@ -126,9 +113,7 @@ pub fn read_unsigned<R: Reader + Copy>(
     bytes: &mut R,
     encoding: Encoding,
 ) -> Result<u64>
-    ensures value { Gives (λ n. n) result (R.bytes bytes.new) (unsigned_at (context_of encoding R.Offset.BITS (R.is_big bytes.old)) (unsigned_form shape) (R.bytes bytes.old)) }
-    ensures rest { IsSuffix (R.bytes bytes.new) (R.bytes bytes.old) }
-    ensures order { R.is_big bytes.new ≡ R.is_big bytes.old }
+    ensures { Reads (λ n. n) (R.text bytes.old) (R.text bytes.new) result (unsigned_at (context_of encoding R.Offset.BITS (R.text bytes.old).is_big) (unsigned_form shape) (R.text bytes.old).bytes) }
 {
     match shape {
         Unsigned::U16 => Ok(u64::from(bytes.read_u16()?)),
@@ -143,9 +128,7 @@ pub fn read_unsigned<R: Reader + Copy>(
 /// `BadSignedLeb128` where it leaves 64 bits.
 #[inline(always)]
 pub fn read_signed<R: Reader + Copy>(shape: Signed, bytes: &mut R) -> Result<i64>
-    ensures value { Gives (λ n. n) result (R.bytes bytes.new) (integer_at (R.is_big bytes.old) (signed_form shape) (R.bytes bytes.old)) }
-    ensures rest { IsSuffix (R.bytes bytes.new) (R.bytes bytes.old) }
-    ensures order { R.is_big bytes.new ≡ R.is_big bytes.old }
+    ensures { Reads (λ n. n) (R.text bytes.old) (R.text bytes.new) result (integer_at (R.text bytes.old).is_big (signed_form shape) (R.text bytes.old).bytes) }
 {
     match shape {
         Signed::I8 => Ok(i64::from(bytes.read_i8()?)),
@@ -164,9 +147,7 @@ pub fn read_offset<R: Reader + Copy>(
     bytes: &mut R,
     encoding: Encoding,
 ) -> Result<R::Offset>
-    ensures value { Gives R.Offset.number result (R.bytes bytes.new) (unsigned_at (context_of encoding R.Offset.BITS (R.is_big bytes.old)) (offset_form shape) (R.bytes bytes.old)) }
-    ensures rest { IsSuffix (R.bytes bytes.new) (R.bytes bytes.old) }
-    ensures order { R.is_big bytes.new ≡ R.is_big bytes.old }
+    ensures { Reads R.Offset.number (R.text bytes.old) (R.text bytes.new) result (unsigned_at (context_of encoding R.Offset.BITS (R.text bytes.old).is_big) (offset_form shape) (R.text bytes.old).bytes) }
 {
     match shape {
         Offset::U16 => Ok(R::Offset::from_u16(bytes.read_u16()?)),
@@ -186,9 +167,7 @@ pub fn read_offset<R: Reader + Copy>(
 /// Reads a register's number, an unsigned LEB128 one. Its errors, and `UnsupportedRegister` of one past 16 bits.
 #[inline(always)]
 pub fn read_register<R: Reader + Copy>(bytes: &mut R) -> Result<Register>
-    ensures value { Gives (λ r. r.0) result (R.bytes bytes.new) (register_at (R.bytes bytes.old)) }
-    ensures rest { IsSuffix (R.bytes bytes.new) (R.bytes bytes.old) }
-    ensures order { R.is_big bytes.new ≡ R.is_big bytes.old }
+    ensures { Reads (λ r. r.0) (R.text bytes.old) (R.text bytes.new) result (register_at (R.text bytes.old).bytes) }
 {
     Register::from_u64(read_uleb128(bytes)?)
 }
@@ -206,9 +185,7 @@ pub fn generic_type<O: ReaderOffset>() -> UnitOffset<O>
 #[tactic(auto, using(dwarf_base::proofs::Suffixes::suffix_trans))]
 #[inline(always)]
 pub fn read_named_base_register<R: Reader + Copy>(bytes: &mut R) -> Result<(Register, i64)>
-    ensures value { (encoding : Encoding) → Gives (λ p. meaning.RegisterOffset p.0.0 p.1 0) result (R.bytes bytes.new) (operands_at (context_of encoding R.Offset.BITS (R.is_big bytes.old)) (rare_row Rare.NamedBaseRegister) (R.bytes bytes.old)) }
-    ensures rest { IsSuffix (R.bytes bytes.new) (R.bytes bytes.old) }
-    ensures order { R.is_big bytes.new ≡ R.is_big bytes.old }
+    ensures { (encoding : Encoding) → Reads (λ p. meaning.RegisterOffset p.0.0 p.1 0) (R.text bytes.old) (R.text bytes.new) result (operands_at (context_of encoding R.Offset.BITS (R.text bytes.old).is_big) (rare_row Rare.NamedBaseRegister) (R.text bytes.old).bytes) }
 {
     let base = read_register(bytes)?;
     let offset = read_sleb128(bytes)?;
@@ -222,9 +199,7 @@ pub fn read_typed_register<R: Reader + Copy>(
     bytes: &mut R,
     encoding: Encoding,
 ) -> Result<(Register, R::Offset)>
-    ensures value { Gives (λ p. meaning.RegisterOffset p.0.0 (pos 0) (R.Offset.number p.1)) result (R.bytes bytes.new) (operands_at (context_of encoding R.Offset.BITS (R.is_big bytes.old)) (rare_row Rare.TypedRegister) (R.bytes bytes.old)) }
-    ensures rest { IsSuffix (R.bytes bytes.new) (R.bytes bytes.old) }
-    ensures order { R.is_big bytes.new ≡ R.is_big bytes.old }
+    ensures { Reads (λ p. meaning.RegisterOffset p.0.0 (pos 0) (R.Offset.number p.1)) (R.text bytes.old) (R.text bytes.new) result (operands_at (context_of encoding R.Offset.BITS (R.text bytes.old).is_big) (rare_row Rare.TypedRegister) (R.text bytes.old).bytes) }
 {
     let register = read_register(bytes)?;
     let base_type = read_offset(Offset::Uleb128, bytes, encoding)?;
@@ -236,9 +211,7 @@ pub fn read_typed_register<R: Reader + Copy>(
 #[tactic(auto, using(dwarf_base::proofs::Suffixes::suffix_trans))]
 #[inline(always)]
 pub fn read_piece<R: Reader + Copy>(bytes: &mut R) -> Result<u64>
-    ensures value { (encoding : Encoding) → Gives (λ size. meaning.Piece size None) result (R.bytes bytes.new) (operands_at (context_of encoding R.Offset.BITS (R.is_big bytes.old)) (entry_row encoding 0 Entry.Piece) (R.bytes bytes.old)) }
-    ensures rest { IsSuffix (R.bytes bytes.new) (R.bytes bytes.old) }
-    ensures order { R.is_big bytes.new ≡ R.is_big bytes.old }
+    ensures { (encoding : Encoding) → Reads (λ size. meaning.Piece size None) (R.text bytes.old) (R.text bytes.new) result (operands_at (context_of encoding R.Offset.BITS (R.text bytes.old).is_big) (entry_row encoding 0 Entry.Piece) (R.text bytes.old).bytes) }
 {
     let size = read_uleb128(bytes)?;
     match size.checked_mul(8) {
@@ -251,9 +224,7 @@ pub fn read_piece<R: Reader + Copy>(bytes: &mut R) -> Result<u64>
 #[tactic(auto, using(dwarf_base::proofs::Suffixes::suffix_trans))]
 #[inline(always)]
 pub fn read_bit_piece<R: Reader + Copy>(bytes: &mut R) -> Result<(u64, u64)>
-    ensures value { (encoding : Encoding) → Gives (λ p. meaning.Piece p.0 (Some p.1)) result (R.bytes bytes.new) (operands_at (context_of encoding R.Offset.BITS (R.is_big bytes.old)) (rare_row Rare.BitPiece) (R.bytes bytes.old)) }
-    ensures rest { IsSuffix (R.bytes bytes.new) (R.bytes bytes.old) }
-    ensures order { R.is_big bytes.new ≡ R.is_big bytes.old }
+    ensures { (encoding : Encoding) → Reads (λ p. meaning.Piece p.0 (Some p.1)) (R.text bytes.old) (R.text bytes.new) result (operands_at (context_of encoding R.Offset.BITS (R.text bytes.old).is_big) (rare_row Rare.BitPiece) (R.text bytes.old).bytes) }
 {
     let size_in_bits = read_uleb128(bytes)?;
     let bit_offset = read_uleb128(bytes)?;
@@ -264,9 +235,7 @@ pub fn read_bit_piece<R: Reader + Copy>(bytes: &mut R) -> Result<(u64, u64)>
 #[tactic(auto, using(dwarf_base::proofs::Suffixes::suffix_trans))]
 #[inline(always)]
 pub fn read_block<R: Reader + Copy>(bytes: &mut R, encoding: Encoding) -> Result<R>
-    ensures value { (make : FromBlock) → Gives (λ block. entries.block_operation make (text_of R.bytes R.is_big block)) result (R.bytes bytes.new) (operands_at (context_of encoding R.Offset.BITS (R.is_big bytes.old)) (rare_row (Rare.Block make)) (R.bytes bytes.old)) }
-    ensures rest { IsSuffix (R.bytes bytes.new) (R.bytes bytes.old) }
-    ensures order { R.is_big bytes.new ≡ R.is_big bytes.old }
+    ensures { (make : FromBlock) → Reads (λ block. entries.block_operation make (R.text block)) (R.text bytes.old) (R.text bytes.new) result (operands_at (context_of encoding R.Offset.BITS (R.text bytes.old).is_big) (rare_row (Rare.Block make)) (R.text bytes.old).bytes) }
 {
     let size = read_offset(Offset::Uleb128, bytes, encoding)?;
     bytes.split(size)
@@ -280,9 +249,7 @@ pub fn read_typed_literal<R: Reader + Copy>(
     bytes: &mut R,
     encoding: Encoding,
 ) -> Result<(R::Offset, R)>
-    ensures value { Gives (λ p. meaning.TypedLiteral (R.Offset.number p.0) (text_of R.bytes R.is_big p.1)) result (R.bytes bytes.new) (operands_at (context_of encoding R.Offset.BITS (R.is_big bytes.old)) (rare_row Rare.TypedLiteral) (R.bytes bytes.old)) }
-    ensures rest { IsSuffix (R.bytes bytes.new) (R.bytes bytes.old) }
-    ensures order { R.is_big bytes.new ≡ R.is_big bytes.old }
+    ensures { Reads (λ p. meaning.TypedLiteral (R.Offset.number p.0) (R.text p.1)) (R.text bytes.old) (R.text bytes.new) result (operands_at (context_of encoding R.Offset.BITS (R.text bytes.old).is_big) (rare_row Rare.TypedLiteral) (R.text bytes.old).bytes) }
 {
     let base_type = read_offset(Offset::Uleb128, bytes, encoding)?;
     let size = bytes.read_u8()?;
@@ -298,9 +265,7 @@ pub fn read_typed_deref<R: Reader + Copy>(
     bytes: &mut R,
     encoding: Encoding,
 ) -> Result<(u8, R::Offset)>
-    ensures value { (space : Bool) → Gives (λ p. meaning.Deref (R.Offset.number p.1) p.0 space) result (R.bytes bytes.new) (operands_at (context_of encoding R.Offset.BITS (R.is_big bytes.old)) (rare_row (Rare.TypedDeref space)) (R.bytes bytes.old)) }
-    ensures rest { IsSuffix (R.bytes bytes.new) (R.bytes bytes.old) }
-    ensures order { R.is_big bytes.new ≡ R.is_big bytes.old }
+    ensures { (space : Bool) → Reads (λ p. meaning.Deref (R.Offset.number p.1) p.0 space) (R.text bytes.old) (R.text bytes.new) result (operands_at (context_of encoding R.Offset.BITS (R.text bytes.old).is_big) (rare_row (Rare.TypedDeref space)) (R.text bytes.old).bytes) }
 {
     let size = bytes.read_u8()?;
     let base_type = read_offset(Offset::Uleb128, bytes, encoding)?;
@@ -315,9 +280,7 @@ pub fn read_implicit_pointer<R: Reader + Copy>(
     bytes: &mut R,
     encoding: Encoding,
 ) -> Result<(R::Offset, i64)>
-    ensures value { Gives (λ p. meaning.ImplicitPointer (R.Offset.number p.0) p.1) result (R.bytes bytes.new) (operands_at (context_of encoding R.Offset.BITS (R.is_big bytes.old)) (rare_row Rare.ImplicitPointer) (R.bytes bytes.old)) }
-    ensures rest { IsSuffix (R.bytes bytes.new) (R.bytes bytes.old) }
-    ensures order { R.is_big bytes.new ≡ R.is_big bytes.old }
+    ensures { Reads (λ p. meaning.ImplicitPointer (R.Offset.number p.0) p.1) (R.text bytes.old) (R.text bytes.new) result (operands_at (context_of encoding R.Offset.BITS (R.text bytes.old).is_big) (rare_row Rare.ImplicitPointer) (R.text bytes.old).bytes) }
 {
     let value = read_offset(Offset::Reference, bytes, encoding)?;
     let byte_offset = read_sleb128(bytes)?;
@@ -341,9 +304,7 @@ pub enum WasmPlace {
 #[tactic(auto, using(dwarf_base::proofs::Suffixes::suffix_trans, crate::proofs::OneByte::one_byte))]
 #[inline(never)]
 pub fn read_wasm_location<R: Reader + Copy>(bytes: &mut R) -> Result<(WasmPlace, u32)>
-    ensures value { (encoding : Encoding) → Gives (λ p. entries.wasm_operation p.0 p.1) result (R.bytes bytes.new) (operands_at (context_of encoding R.Offset.BITS (R.is_big bytes.old)) (rare_row Rare.WasmLocation) (R.bytes bytes.old)) }
-    ensures rest { IsSuffix (R.bytes bytes.new) (R.bytes bytes.old) }
-    ensures order { R.is_big bytes.new ≡ R.is_big bytes.old }
+    ensures { (encoding : Encoding) → Reads (λ p. entries.wasm_operation p.0 p.1) (R.text bytes.old) (R.text bytes.new) result (operands_at (context_of encoding R.Offset.BITS (R.text bytes.old).is_big) (rare_row Rare.WasmLocation) (R.text bytes.old).bytes) }
 {
     match bytes.read_u8()? {
         0 => Ok((WasmPlace::Local, bytes.read_uleb128_u32()?)),

@@ -9,7 +9,7 @@ use Rattle.std.specs.declared.fmt.Debug as debug
 use Rattle.dwarf_base.specs.declared.offsets.ReaderOffset as reader_offset
 use Rattle.dwarf_base.specs.declared.reading.Reader as reader
 use Rattle.dwarf_base.specs.Equality.{IsEqualityOf}
-use Rattle.dwarf_meaning.specs.Operations.{Text}
+use Rattle.dwarf_base.specs.Reads.{Text}
 use Rattle.dwarf_replay.specs.contracts.steps.AnswerPartialEq.TheImpl as answers
 use Rattle.dwarf_replay.specs.contracts.steps.ReplayedPartialEq.TheImpl as ends
 use Rattle.dwarf_replay.specs.declared.steps.Answer.{Answer}

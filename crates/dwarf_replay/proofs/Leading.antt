@@ -1,14 +1,13 @@
 -- Where the steps lead: what the contract of a replay says of them.
 use Rattle.std.proofs.Common.{ℕ, ◌≡◌, List, [], ◌∷◌, ◌++◌, length, Option, Some, None, take, slice_get, ap, ◌∙◌, sym, refl, subst}
 use Rattle.dwarf_base.specs.Faults.{fault_of}
-use Rattle.dwarf_meaning.specs.Stores.{Refusal, Never}
+use Rattle.dwarf_meaning.specs.Refusals.{Refusal, Never, before_inputs, MayPick}
 use Rattle.dwarf_meaning.specs.Run.{Position}
 use Rattle.dwarf_meaning.specs.Meaning.{Outcome, RequestOutcome, FaultOutcome, CompleteOutcome, First, meaning}
 use Rattle.dwarf_meaning.specs.Rest.{State, Status, Start, Running, RequestStatus, CompleteStatus, FaultStatus}
 use Rattle.dwarf_meaning.specs.Steps.{Step, InitialValue, ObjectAddress, MaxIterations, Evaluate, Resume, Told, Reply, Allows, outcome_of, outcome_from}
-use Rattle.dwarf_eval.specs.Evaluation.{MayPick}
 use Rattle.dwarf_replay.specs.Stepping.{MayTake}
-use Rattle.dwarf_replay.specs.Replays.{IsInRequest, IsInFault, AreSet, StandsAt, Tells, before_inputs, IsUnbegun, IsLeft, Leaves, Walks, WalksTo}
+use Rattle.dwarf_replay.specs.Replays.{IsInRequest, IsInFault, AreSet, StandsAt, Tells, IsUnbegun, IsLeft, Leaves, Walks, WalksTo}
 use Rattle.dwarf_eval.specs.Bounds.{SpendsInAll, initial_items}
 use Rattle.dwarf_replay.proofs.Rests.{unwound_open}
 use Rattle.dwarf_replay.proofs.Standings.{Holds, Unstarted, Going, WentBy, Went, may_inputs}

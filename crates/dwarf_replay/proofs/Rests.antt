@@ -1,11 +1,12 @@
 -- What is left of a state, as a call answers it.
 use Rattle.std.proofs.Common.{◌≡◌, List, [], ◌∷◌, ◌++◌, ◌∙◌, sym, refl}
 use Rattle.dwarf_meaning.specs.Requests.{Request, Input}
-use Rattle.dwarf_meaning.specs.Stores.{Setup, Refusal}
+use Rattle.dwarf_meaning.specs.Stores.{Setup}
 use Rattle.dwarf_meaning.specs.Run.{Position, RequestEnd}
 use Rattle.dwarf_meaning.specs.Meaning.{RequestOutcome, unwound}
 use Rattle.dwarf_meaning.specs.Rest.{State, Status, Start, Running, RequestStatus, CompleteStatus, FaultStatus, with_refusal, rest_by, rest}
 use Rattle.dwarf_meaning.specs.Steps.{Reply, RequestReply, reply}
+use Rattle.dwarf_meaning.specs.Refusals.{Refusal}
 use Rattle.dwarf_eval.specs.Evaluation.{IsReplied}
 
 pub unwound_open : (setup : Setup) (callers : List Position) (request : Request) (positions : List Position) (inputs : List Input) → unwound setup callers (RequestEnd request positions inputs) ≡ RequestOutcome request (positions ++ callers)

@@ -2,13 +2,13 @@
 use Rattle.std.proofs.Common.{ℕ, ◌≡◌, List, [], ◌∷◌, ◌++◌, length, Option, Some, None, ap, ◌∙◌, sym, refl, subst}
 use Rattle.std.proofs.lemmas.List.{append-nil}
 use Rattle.dwarf_meaning.specs.Requests.{Request, Waiting, Input}
-use Rattle.dwarf_meaning.specs.Stores.{Refusal}
+use Rattle.dwarf_meaning.specs.Refusals.{Refusal, before_inputs}
 use Rattle.dwarf_meaning.specs.Meaning.{Outcome, meaning}
 use Rattle.dwarf_meaning.specs.Rest.{State, Status, Start, Running, RequestStatus, CompleteStatus, FaultStatus, with_refusal, rest_by, rest}
 use Rattle.dwarf_meaning.specs.Steps.{Step, InitialValue, ObjectAddress, MaxIterations, Evaluate, Resume, Told, Reply, Allows, after, step_replies}
 use Rattle.dwarf_eval.specs.Evaluation.{with_object, with_maximum, IsOpen, with_status}
 use Rattle.dwarf_replay.specs.Stepping.{IsSet}
-use Rattle.dwarf_replay.specs.Replays.{Tells, before_inputs}
+use Rattle.dwarf_replay.specs.Replays.{Tells}
 use Rattle.dwarf_eval.specs.Bounds.{Spends, SpendsInAll, initial_items}
 use Rattle.dwarf_replay.proofs.Spending.{alike_spends, spent_initial, spent_more}
 use Rattle.dwarf_replay.proofs.Telling.{outcome, walked_more}

@@ -3,12 +3,11 @@ use Rattle.std.proofs.Common.{ℕ, zero, suc, ◌≡◌, List, [], ◌++◌, len
 use Rattle.dwarf_base.specs.declared.errors.Error.{Error}
 use Rattle.dwarf_base.specs.Faults.{fault_of}
 use Rattle.dwarf_meaning.specs.Requests.{Input}
-use Rattle.dwarf_meaning.specs.Stores.{Refusal, Never, After, Limits}
+use Rattle.dwarf_meaning.specs.Refusals.{Refusal, Never, After, Limits, IsLater, before_inputs, MayPick, before_input}
 use Rattle.dwarf_meaning.specs.Meaning.{FaultOutcome, First, meaning}
 use Rattle.dwarf_meaning.specs.Rest.{State, Status, Start, Running, RequestStatus, CompleteStatus, FaultStatus, rest}
 use Rattle.dwarf_meaning.specs.Steps.{Step, Told, Reply}
-use Rattle.dwarf_eval.specs.Evaluation.{IsLater, MayPick, before_input}
-use Rattle.dwarf_replay.specs.Replays.{told_at, Tells, before_inputs}
+use Rattle.dwarf_replay.specs.Replays.{told_at, Tells}
 use Rattle.dwarf_eval.specs.Bounds.{SpendsInAll, initial_items}
 use Rattle.dwarf_replay.proofs.Spending.{spent_here}
 

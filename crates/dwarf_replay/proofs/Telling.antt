@@ -1,11 +1,12 @@
 -- One more step: what was told and answered by then.
 use Rattle.std.proofs.Common.{◌≡◌, List, [], ◌∷◌, ◌++◌, Option, ap, ◌∙◌, sym, refl, subst, append_assoc}
 use Rattle.std.proofs.lemmas.List.{append-nil}
-use Rattle.dwarf_meaning.specs.Operations.{Text}
-use Rattle.dwarf_meaning.specs.Stores.{Setup, Refusal}
+use Rattle.dwarf_base.specs.Reads.{Text}
+use Rattle.dwarf_meaning.specs.Stores.{Setup}
 use Rattle.dwarf_meaning.specs.Meaning.{Outcome}
 use Rattle.dwarf_meaning.specs.Rest.{State}
 use Rattle.dwarf_meaning.specs.Steps.{Step, Told, Reply, Allows, AllAllowed, after, after_step, after_steps, replies_of, outcome_of, step_replies}
+use Rattle.dwarf_meaning.specs.Refusals.{Refusal}
 use Rattle.dwarf_replay.specs.Replays.{told_at, Tells}
 
 -- ---- one more step of the definitions

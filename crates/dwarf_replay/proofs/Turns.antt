@@ -5,12 +5,13 @@ use Rattle.std.proofs.lemmas.Option.{slice_get-map, slice_get_within, get_or_fro
 use Rattle.std.proofs.Math.Seq.{take-suc, take-append_seam}
 use Rattle.std.specs.Option.{option_map}
 use Rattle.dwarf_base.specs.declared.errors.Error.{Error}
-use Rattle.dwarf_meaning.specs.Operations.{Text}
+use Rattle.dwarf_base.specs.Reads.{Text}
 use Rattle.dwarf_meaning.specs.Requests.{Answer}
-use Rattle.dwarf_meaning.specs.Stores.{Setup, Refusal}
+use Rattle.dwarf_meaning.specs.Stores.{Setup}
 use Rattle.dwarf_meaning.specs.Meaning.{First, meaning}
 use Rattle.dwarf_meaning.specs.Rest.{State}
 use Rattle.dwarf_meaning.specs.Steps.{Step, InitialValue, ObjectAddress, MaxIterations, Evaluate, Resume, Told, Reply, reply, replies, Awaits, Allows, AllAllowed, begun, after_step, after_steps, replies_of, outcome_of, outcome_from, step_replies}
+use Rattle.dwarf_meaning.specs.Refusals.{Refusal}
 use Rattle.dwarf_store.specs.Lists.{MayRefuse}
 use Rattle.dwarf_replay.specs.Stepping.{step_of, MayTake, IsSet, HasReplied}
 use Rattle.dwarf_replay.specs.inner.Keeping.{IsKept}

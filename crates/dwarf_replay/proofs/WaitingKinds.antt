@@ -1,7 +1,5 @@
 -- Each kind of answer has one name.
 use Rattle.std.proofs.Common.{◌≡◌, ap, ◌∙◌, sym, refl}
-use Rattle.dwarf_meaning.specs.Kinds as meaning
-use Rattle.dwarf_meaning.specs.Kinds.{Kind}
 use Rattle.dwarf_meaning.specs.Rest as rest
 use Rattle.dwarf_meaning.specs.Rest.{Start, Running, RequestStatus, CompleteStatus, FaultStatus}
 use Rattle.dwarf_eval.specs.Permits.{Shows, kind_of}
@@ -10,36 +8,20 @@ use Rattle.dwarf_eval.specs.declared.eval.states.Status.TheVariants as status
 use Rattle.dwarf_eval.specs.declared.eval.states.WaitingKind.{WaitingKind}
 use Rattle.dwarf_eval.specs.declared.eval.states.WaitingKind.TheVariants as kind
 
-abbrev name_of : Kind → WaitingKind
-name_of meaning.Memory = kind.Memory
-name_of meaning.Register = kind.Register
-name_of meaning.WasmValue = kind.WasmValue
-name_of meaning.EntryValue = kind.EntryValue
-name_of meaning.FrameBase = kind.FrameBase
-name_of meaning.Tls = kind.Tls
-name_of meaning.CallFrameCfa = kind.CallFrameCfa
-name_of meaning.ParameterRef = kind.ParameterRef
-name_of meaning.RelocatedAddress = kind.RelocatedAddress
-name_of meaning.IndexedAddress = kind.IndexedAddress
-name_of meaning.AtLocation = kind.AtLocation
-name_of meaning.BaseType = kind.BaseType
-
-named : (k : WaitingKind) → name_of (kind_of k) ≡ k
-named kind.Memory = refl
-named kind.Register = refl
-named kind.WasmValue = refl
-named kind.EntryValue = refl
-named kind.FrameBase = refl
-named kind.Tls = refl
-named kind.CallFrameCfa = refl
-named kind.ParameterRef = refl
-named kind.RelocatedAddress = refl
-named kind.IndexedAddress = refl
-named kind.AtLocation = refl
-named kind.BaseType = refl
-
 same_name : (k j : WaitingKind) → kind_of k ≡ kind_of j → k ≡ j
-same_name k j e = sym (named k) ∙ (ap name_of e ∙ named j)
+same_name kind.Memory kind.Memory e = refl
+same_name kind.Register kind.Register e = refl
+same_name kind.WasmValue kind.WasmValue e = refl
+same_name kind.EntryValue kind.EntryValue e = refl
+same_name kind.FrameBase kind.FrameBase e = refl
+same_name kind.Tls kind.Tls e = refl
+same_name kind.CallFrameCfa kind.CallFrameCfa e = refl
+same_name kind.ParameterRef kind.ParameterRef e = refl
+same_name kind.RelocatedAddress kind.RelocatedAddress e = refl
+same_name kind.IndexedAddress kind.IndexedAddress e = refl
+same_name kind.AtLocation kind.AtLocation e = refl
+same_name kind.BaseType kind.BaseType e = refl
+same_name _ _ e = cc
 
 -- the kind that is shown is that of what is asked
 pub asks : (s : rest.Status) (k j : WaitingKind) → Shows s (status.Waiting k) → k ≡ j → IsInRequestFor (kind_of j) s

@@ -1,7 +1,7 @@
 -- What equality sees of steps and of what they gave: all of an error, and of readers and offsets what `text` and `number` see.
 use Rattle.std.specs.Prelude.{ℕ, Result, Ok, Err}
 use Rattle.dwarf_base.specs.declared.errors.Error.{Error}
-use Rattle.dwarf_meaning.specs.Operations.{Text}
+use Rattle.dwarf_base.specs.Reads.{Text}
 use Rattle.dwarf_meaning.specs.Steps.{Reply}
 use Rattle.dwarf_eval.specs.Evaluation.{ok_reply}
 use Rattle.dwarf_replay.specs.declared.steps.Replayed.{Replayed}

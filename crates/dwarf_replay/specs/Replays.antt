@@ -1,16 +1,16 @@
 -- What a list of steps of an evaluation comes to, one step after another (DWARF 5, section 2.5).
-use Rattle.std.specs.Prelude.{ℕ, zero, suc, ◌≡◌, List, [], ◌∷◌, ◌++◌, Option, Some, None, map, take, length, slice_get}
+use Rattle.std.specs.Prelude.{ℕ, suc, ◌≡◌, List, [], ◌∷◌, ◌++◌, Option, Some, None, map, take, length, slice_get}
 use Rattle.dwarf_base.specs.Faults.{Fault, fault_of}
-use Rattle.dwarf_meaning.specs.Operations.{Text}
+use Rattle.dwarf_base.specs.Reads.{Text}
 use Rattle.dwarf_meaning.specs.Requests.{Request, Input}
-use Rattle.dwarf_meaning.specs.Stores.{Refusal}
+use Rattle.dwarf_meaning.specs.Refusals.{Refusal, IsLater, before_inputs, MayPick}
 use Rattle.dwarf_meaning.specs.Run.{Position}
 use Rattle.dwarf_meaning.specs.Meaning.{Outcome, RequestOutcome, FaultOutcome, CompleteOutcome}
 use Rattle.dwarf_meaning.specs.Rest.{State, Status, Start, Running, RequestStatus, CompleteStatus, FaultStatus, rest}
 use Rattle.dwarf_meaning.specs.Steps as meaning
 use Rattle.dwarf_meaning.specs.Steps.{Told, Reply, Allows, AllAllowed, replies_of, after_steps, outcome_of, outcome_from}
 use Rattle.dwarf_eval.specs.Bounds.{initial_items, SpendsInAll}
-use Rattle.dwarf_eval.specs.Evaluation.{first_of, reply_of, before_input, IsLater, MayPick}
+use Rattle.dwarf_eval.specs.Evaluation.{first_of, reply_of}
 use Rattle.dwarf_store.specs.Lists.{MayRefuse}
 use Rattle.dwarf_replay.specs.Stepping.{step_of}
 use Rattle.dwarf_replay.specs.declared.steps.Step.{Step}
@@ -71,11 +71,6 @@ pub record Tells (old : State) (steps : List meaning.Step) (replies : List Reply
   pub told_is : after_steps old.setup refusal old.text (told_at old) steps ≡ told
 
 -- ---- what is left, for a caller who goes on
-
--- the refusal, so many inputs before
-abbrev pub before_inputs : ℕ → Refusal → Refusal
-before_inputs zero refusal = refusal
-before_inputs (suc n) refusal = before_inputs n (before_input refusal)
 
 -- It wasn't started: the setup and the text stay, and no refusal changed anything.
 pub record IsUnbegun (old : State) (steps : List meaning.Step) (replies : List Reply) (told : Told) (new : State) : Type 0 where

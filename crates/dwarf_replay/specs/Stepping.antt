@@ -1,7 +1,7 @@
 -- What one step does to the state of an evaluation, and what it replies (DWARF 5, section 2.5).
 use Rattle.std.specs.Prelude.{ℕ, ◌≡◌, Some, None, Result}
 use Rattle.dwarf_base.specs.declared.errors.Error.{Error}
-use Rattle.dwarf_meaning.specs.Operations.{Text}
+use Rattle.dwarf_base.specs.Reads.{Text}
 use Rattle.dwarf_meaning.specs.Kinds.{Kind, kind_of_request, kind_of_answer}
 use Rattle.dwarf_meaning.specs.Requests as asked
 use Rattle.dwarf_meaning.specs.Rest.{State, Status, Start, Running, RequestStatus, CompleteStatus, FaultStatus}

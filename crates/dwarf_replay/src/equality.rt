@@ -1,7 +1,7 @@
 //! Laws of equality.
 ghost use Rattle.std.specs.Prelude.{ℕ};
 ghost use Rattle.dwarf_base.specs.Equality.{IsEqualityOf};
-ghost use Rattle.dwarf_meaning.specs.Operations.{Text};
+ghost use Rattle.dwarf_base.specs.Reads.{Text};
 ghost use Rattle.dwarf_replay.specs.Equality.{came_of, ended_of, given_of};
 ghost use Rattle.dwarf_replay.specs.Stepping.{step_of};
 

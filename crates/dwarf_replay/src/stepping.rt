@@ -1,7 +1,6 @@
 ghost use Rattle.std.specs.Prelude.{◌≡◌, ◌↔◌, true};
 ghost use Rattle.dwarf_eval.specs.Permits.{IsOpenFor, kind_of};
 ghost use Rattle.dwarf_meaning.specs.Steps as meaning;
-ghost use Rattle.dwarf_op.specs.Views.{text_of};
 ghost use Rattle.dwarf_replay.specs.Stepping.{IsInRequestFor, IsStepped, step_of};
 ghost use Rattle.dwarf_replay.specs.inner.Keeping.{IsKindOf, IsOpenAt, IsResumed};
 
@@ -16,7 +15,7 @@ fn try_initial_value<R: Reader + Copy, S: EvaluationStorage<R>>(
     eval: &mut Evaluation<R, S>,
     value: u64,
 ) -> Stepped<R>
-    ensures { IsStepped (text_of R.bytes R.is_big) R.Offset.number
+    ensures { IsStepped R.text R.Offset.number
         (meaning.InitialValue value) eval.old eval.new result }
 {
     match eval.status() {
@@ -32,7 +31,7 @@ fn try_initial_value<R: Reader + Copy, S: EvaluationStorage<R>>(
 fn try_evaluate<R: Reader + Copy, S: EvaluationStorage<R>>(
     eval: &mut Evaluation<R, S>,
 ) -> Stepped<R>
-    ensures { IsStepped (text_of R.bytes R.is_big) R.Offset.number meaning.Evaluate eval.old
+    ensures { IsStepped R.text R.Offset.number meaning.Evaluate eval.old
         eval.new result }
 {
     match eval.status() {
@@ -59,7 +58,7 @@ fn awaits<R: Reader + Copy, S: EvaluationStorage<R>>(
 
 /// The kind of a step's answer, where it is one.
 fn kind_of_step<R: Reader + Copy>(step: Step<R>) -> Option<WaitingKind>
-    ensures { IsKindOf (step_of (text_of R.bytes R.is_big) step) result }
+    ensures { IsKindOf (step_of R.text step) result }
 {
     match step {
         Step::InitialValue(_) | Step::ObjectAddress(_) | Step::MaxIterations(_) | Step::Evaluate =>
@@ -84,9 +83,9 @@ fn resume<R: Reader + Copy, S: EvaluationStorage<R>>(
     eval: &mut Evaluation<R, S>,
     step: Step<R>,
 ) -> Result<EvaluationResult<R>>
-    requires { IsOpenAt (step_of (text_of R.bytes R.is_big) step) eval.old.status }
-    ensures { IsResumed (text_of R.bytes R.is_big) R.Offset.number
-        (step_of (text_of R.bytes R.is_big) step) eval.old eval.new result }
+    requires { IsOpenAt (step_of R.text step) eval.old.status }
+    ensures { IsResumed R.text R.Offset.number
+        (step_of R.text step) eval.old eval.new result }
 {
     match step {
         Step::Memory(value) => eval.resume_with_memory(value),
@@ -114,8 +113,8 @@ pub fn take_step<R: Reader + Copy, S: EvaluationStorage<R>>(
     eval: &mut Evaluation<R, S>,
     step: Step<R>,
 ) -> Stepped<R>
-    ensures { IsStepped (text_of R.bytes R.is_big) R.Offset.number
-        (step_of (text_of R.bytes R.is_big) step) eval.old eval.new result }
+    ensures { IsStepped R.text R.Offset.number
+        (step_of R.text step) eval.old eval.new result }
 {
     if let Some(kind) = kind_of_step(step) {
         if awaits(eval, kind) {

@@ -1,6 +1,5 @@
 ghost use Rattle.std.specs.Prelude.{◌≡◌, [], length, slice_get};
 ghost use Rattle.dwarf_meaning.specs.Rest.{Start};
-ghost use Rattle.dwarf_op.specs.Views.{text_of};
 ghost use Rattle.dwarf_replay.specs.Replays.{Replays};
 ghost use Rattle.dwarf_replay.specs.Stepping.{step_of};
 ghost use Rattle.dwarf_replay.specs.inner.Keeping.{TakesStep};
@@ -26,8 +25,8 @@ fn keep_step<R: Reader + Copy, S: EvaluationStorage<R>, L: ArrayLike<Item = Answ
     step: Step<R>,
     answers: &mut L,
 ) -> Result<(), Stop<R>>
-    ensures keeps { TakesStep (text_of R.bytes R.is_big) R.Offset.number
-        (step_of (text_of R.bytes R.is_big) step) (L.limit answers.old) eval.old
+    ensures keeps { TakesStep R.text R.Offset.number
+        (step_of R.text step) (L.limit answers.old) eval.old
         (L.items answers.old) eval.new (L.items answers.new) result }
     ensures limit { L.limit answers.new ≡ L.limit answers.old }
 {
@@ -54,7 +53,7 @@ pub fn replay<R: Reader + Copy, S: EvaluationStorage<R>, L: ArrayLike<Item = Ans
 ) -> Replayed<R>
     requires fresh { eval.old.status ≡ Start None }
     requires empty { L.items answers.old ≡ [] }
-    ensures replays { Replays (text_of R.bytes R.is_big) R.Offset.number
+    ensures replays { Replays R.text R.Offset.number
         (L.limit answers.old) eval.old steps.now (L.items answers.new) eval.new result }
     ensures limit { L.limit answers.new ≡ L.limit answers.old }
 {

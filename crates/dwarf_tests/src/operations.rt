@@ -423,9 +423,7 @@ struct ShortSlice<'a> {
 impl<'a> Reader for ShortSlice<'a> {
     type Offset = u32;
 
-    ghost bytes = { λ r. slice_bytes r.slice };
-
-    ghost is_big = { λ _. false };
+    ghost text = { λ r. record { bytes = slice_bytes r.slice; is_big = false } };
 
     fn len(&self) -> u32 {
         self.slice.len() as u32

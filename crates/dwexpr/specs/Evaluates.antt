@@ -1,10 +1,11 @@
 -- What `eval` prints for the steps of its input (DWARF 5, section 2.5).
 use Rattle.std.specs.Prelude.{ℕ, suc, ◌≡◌, ◌⊎◌, ◌++◌, List, [], take, slice_get, Option, Some, None, Result, Ok, Err}
 use Rattle.dwarf_base.specs.declared.common.Encoding.{Encoding}
-use Rattle.dwarf_meaning.specs.Operations.{Text}
-use Rattle.dwarf_meaning.specs.Stores.{Setup, Refusal}
+use Rattle.dwarf_base.specs.Reads.{Text}
+use Rattle.dwarf_meaning.specs.Stores.{Setup}
 use Rattle.dwarf_meaning.specs.Meaning.{Outcome, RequestOutcome, FaultOutcome, CompleteOutcome}
 use Rattle.dwarf_meaning.specs.Steps.{Step, Told, Reply, Allows, AllAllowed, replies_of, after_steps, outcome_of}
+use Rattle.dwarf_meaning.specs.Refusals.{Refusal}
 use Rattle.dwexpr.specs.Lines.{reply_lines}
 use Rattle.dwexpr.specs.declared.steps.StepsFault.{StepsFault}
 use Rattle.dwexpr.specs.declared.steps.StepsFault.TheVariants as fault

@@ -2,12 +2,12 @@
 use Rattle.std.specs.Prelude.{ℕ, ◌≡◌, IsSome, Vec, map, zero, suc, codes, bytes_eq, Bool, List, [], ◌∷◌, length, Option, Some, None, option_and_then, option_map, Result, Ok, Err, if◌then◌else◌}
 use Rattle.std.specs.Str.{is_utf8}
 use Rattle.std.specs.Str.Lines.{strip_carriage_return}
+use Rattle.dwarf_base.specs.EndianSlice.{slice_text}
 use Rattle.dwarf_meaning.specs.Requests as asked
 use Rattle.dwarf_meaning.specs.Steps.{Step, InitialValue, ObjectAddress, MaxIterations, Evaluate, Resume}
 use Rattle.dwarf_replay.specs.Stepping.{step_of}
 use Rattle.dwexpr.specs.Values.{below, cut_at, number_in, type_in, value_in}
 use Rattle.dwexpr.specs.Words.{bytes_in}
-use Rattle.dwexpr.specs.Writing.{text_in}
 use Rattle.dwexpr.specs.declared.steps.LineFault.{LineFault}
 use Rattle.dwexpr.specs.declared.steps.LineFault.TheVariants as line
 use Rattle.dwexpr.specs.declared.steps.StepsFault.{StepsFault}
@@ -90,7 +90,7 @@ steps_in big (line ∷ lines) = said_then (step_in big line) (steps_in big lines
 
 -- a step that owns its text
 abbrev pub step_owned : {A : Type 0} → (big : Bool) → OwnedStep A → Step
-step_owned big (owned.Plain step) = step_of text_in step
+step_owned big (owned.Plain step) = step_of slice_text step
 step_owned big (owned.Location bytes) = location_step big bytes.items
 
 -- what is read of a line that says this step, or none: the step, unless there was no memory for its text

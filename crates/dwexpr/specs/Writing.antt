@@ -2,14 +2,9 @@
 use Rattle.std.specs.Prelude.{ℕ, ◌≡◌, codes, false, List, [], ◌∷◌, ◌++◌, ◌/◌, ◌%◌, Option, Result, Ok, Err, decimal}
 use Rattle.std.specs.Fmt.{digit_glyph, digits, signed_decimal}
 use Rattle.std.specs.Io.KnownBytes.{Appends}
-use Rattle.dwarf_base.specs.ByteOrder.{is_big_of}
-use Rattle.dwarf_base.specs.EndianSlice.{slice_bytes, slice_order}
-use Rattle.dwarf_base.specs.declared.byte_order.RunTimeEndian.{RunTimeEndian}
-use Rattle.dwarf_base.specs.declared.slices.EndianSlice.{EndianSlice}
+use Rattle.dwarf_base.specs.EndianSlice.{slice_bytes}
 use Rattle.dwarf_value.specs.declared.types.Value.{Value}
 use Rattle.dwarf_value.specs.declared.types.Value.TheVariants as value
-use Rattle.dwarf_meaning.specs.Operations.{Text}
-use Rattle.dwarf_op.specs.Views.{text_of}
 use Rattle.dwexpr.specs.declared.writing.Word.{Word}
 use Rattle.dwexpr.specs.declared.writing.Word.TheVariants as word
 
@@ -24,10 +19,6 @@ pub record AppendsFront (old new : Option (List ℕ)) (text : List ℕ) : Type 0
 abbrev pub Prints : {T E : Type 0} → Option (List ℕ) → Option (List ℕ) → List ℕ → Result T E → Type 0
 Prints old new text (Ok x) = Appends old new text
 Prints old new text (Err e) = AppendsFront old new text
-
--- a slice as a text
-abbrev pub text_in : EndianSlice RunTimeEndian → Text
-text_in slice = text_of slice_bytes (λ reader. is_big_of (slice_order reader)) slice
 
 -- ---- words of a line
 

@@ -1,11 +1,12 @@
 ghost use Rattle.std.specs.Prelude.{◌≡◌, ◌++◌, [], ◌∷◌, decimal, codes, map};
+ghost use Rattle.dwarf_base.specs.EndianSlice.{slice_text};
 ghost use Rattle.dwarf_base.specs.Faults.{fault_of};
 ghost use Rattle.dwarf_eval.specs.Evaluation.{reply_of, ok_reply};
 ghost use Rattle.dwarf_eval.specs.Machine.{piece_of};
 ghost use Rattle.dwarf_meaning.specs.Requests.{RequiresAtLocation};
 ghost use Rattle.dwarf_op.specs.Views.{reference_of};
 ghost use Rattle.dwexpr.specs.Lines.{fault_line, number_or_none, piece_line, relocate_word, reply_line, request_line, space_word, value_line};
-ghost use Rattle.dwexpr.specs.Writing.{Prints, line, text_in, word_text};
+ghost use Rattle.dwexpr.specs.Writing.{Prints, line, word_text};
 
 use crate::writing::{Text, Word, put_line};
 use dwarf_base::{Error, ReaderOffset};
@@ -92,7 +93,7 @@ fn number_word(number: Option<u64>) -> Word<'static>
 /// The line of a piece.
 pub(crate) fn print_piece<W: Write>(output: &mut W, piece: Piece<Text<'_>>) -> io::Result<()>
     ensures { Prints (W.contents output.old) (W.contents output.new)
-        (piece_line (piece_of text_in (λ x. x) piece.entry)) result }
+        (piece_line (piece_of slice_text (λ x. x) piece.entry)) result }
 {
     let size = number_word(piece.size_in_bits);
     let offset = number_word(piece.bit_offset);
@@ -186,7 +187,7 @@ fn print_reference<W: Write>(output: &mut W, reference: DieReference<usize>) -> 
 /// The line of what a call of the evaluation answered.
 fn print_result<W: Write>(output: &mut W, answer: EvaluationResult<Text<'_>>) -> io::Result<()>
     ensures { Prints (W.contents output.old) (W.contents output.new)
-        (reply_line (ok_reply text_in (λ x. x) answer.entry)) result }
+        (reply_line (ok_reply slice_text (λ x. x) answer.entry)) result }
 {
     match answer {
         EvaluationResult::Complete => put_line(output, "complete", &[]),
@@ -246,7 +247,7 @@ fn print_result<W: Write>(output: &mut W, answer: EvaluationResult<Text<'_>>) ->
 /// The line of what one call of the evaluation gave.
 pub(crate) fn print_answer<W: Write>(output: &mut W, answer: Answer<Text<'_>>) -> io::Result<()>
     ensures { Prints (W.contents output.old) (W.contents output.new)
-        (reply_line (reply_of text_in (λ x. x) answer.entry.0)) result }
+        (reply_line (reply_of slice_text (λ x. x) answer.entry.0)) result }
 {
     match answer.0 {
         Ok(result) => print_result(output, result),

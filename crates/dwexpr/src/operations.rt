@@ -1,7 +1,7 @@
 ghost use Rattle.std.specs.Prelude.{◌≡◌, ◌≤◌, length, take};
 ghost use Rattle.dwarf_base.specs.ByteOrder.{is_big_of};
 ghost use Rattle.dwarf_base.specs.EndianSlice.{slice_bytes};
-ghost use Rattle.dwarf_op.specs.Views.{operation_of, text_of};
+ghost use Rattle.dwarf_op.specs.Views.{operation_of};
 ghost use Rattle.dwexpr.specs.Lines.{Lists, listing_of, operation_name};
 
 use crate::lines::print_fault;
@@ -14,7 +14,7 @@ use std::io::Write;
 
 /// The name of an operation's variant.
 fn name_of<R: Reader + Copy>(operation: Operation<R>) -> &'static str
-    ensures { result.now ≡ operation_name (operation_of (text_of R.bytes R.is_big) R.Offset.number operation) }
+    ensures { result.now ≡ operation_name (operation_of R.text R.Offset.number operation) }
 {
     match operation {
         Operation::Deref {

@@ -1,14 +1,16 @@
+ghost use Rattle.std.specs.IoError.{error_kind};
 ghost use Rattle.std.specs.Prelude.{◌<◌, ◌≤◌, ◌-◌, ◌^◌, length, map, string_bytes};
+ghost use Rattle.dwarf_base.specs.EndianSlice.{slice_text};
 ghost use Rattle.dwarf_base.specs.ByteOrder.{is_big_of};
 ghost use Rattle.dwarf_eval.specs.Machine.{piece_of};
 ghost use Rattle.dwarf_replay.specs.Replays.{replies_in, steps_of};
 ghost use Rattle.dwexpr.specs.Evaluates.{EvaluatesSteps, EvaluatesLines, behind_replies, bad_steps, unlimited_setup, untold};
 ghost use Rattle.dwexpr.specs.Lines.{listing_of, piece_lines, reply_lines};
-ghost use Rattle.dwexpr.specs.Program.{EndsFor, EvaluatesInput, Exits};
+ghost use Rattle.dwexpr.specs.Program.{EndsFor, EvaluatesInput, Exits, without_words};
 ghost use Rattle.dwexpr.specs.Endings as runs;
 ghost use Rattle.dwexpr.specs.Endings.{Ending, WritesEnding, complete_ending, listed, standing};
 ghost use Rattle.dwexpr.specs.inner.Replayed.{HasLine, ending_of};
-ghost use Rattle.dwexpr.specs.Writing.{Prints, text_in};
+ghost use Rattle.dwexpr.specs.Writing.{Prints};
 
 use crate::hexadecimal::{HexFault, bytes_of};
 use crate::lines::{print_answer, print_piece, print_value_line};
@@ -69,7 +71,7 @@ fn misplaced<W: Write>(output: &mut W, index: usize) -> io::Result<u8>
 /// Prints what each call of the evaluation gave.
 fn print_answers<W: Write>(output: &mut W, answers: &[Answer<Text<'_>>]) -> io::Result<()>
     ensures { Prints (W.contents output.old) (W.contents output.new)
-        (reply_lines (replies_in text_in (λ x. x) answers.now)) result }
+        (reply_lines (replies_in slice_text (λ x. x) answers.now)) result }
 {
     for answer in answers {
         print_answer(output, *answer)?;
@@ -79,7 +81,7 @@ fn print_answers<W: Write>(output: &mut W, answers: &[Answer<Text<'_>>]) -> io::
 
 fn print_pieces<W: Write>(output: &mut W, pieces: &[Piece<Text<'_>>]) -> io::Result<()>
     ensures { Prints (W.contents output.old) (W.contents output.new)
-        (piece_lines (map (piece_of text_in (λ x. x)) pieces.now)) result }
+        (piece_lines (map (piece_of slice_text (λ x. x)) pieces.now)) result }
 {
     for piece in pieces {
         print_piece(output, *piece)?;
@@ -94,7 +96,7 @@ fn print_complete<W: Write>(
     pieces: &[Piece<Text<'_>>],
 ) -> io::Result<u8>
     ensures { WritesEnding (W.contents output.old) (W.contents output.new)
-        (complete_ending (map (piece_of text_in (λ x. x)) pieces.now) value) result }
+        (complete_ending (map (piece_of slice_text (λ x. x)) pieces.now) value) result }
 {
     print_pieces(output, pieces)?;
     print_value_line(output, value)?;
@@ -149,7 +151,7 @@ fn print_replay<A: Allocator + Copy, W: Write>(
 ) -> io::Result<u8>
     requires { HasLine replayed }
     ensures { WritesEnding (W.contents output.old) (W.contents output.new)
-        (behind_replies (replies_in text_in (λ x. x) answers.now) (ending_of evaluation.now replayed.entry)) result }
+        (behind_replies (replies_in slice_text (λ x. x) answers.now) (ending_of evaluation.now replayed.entry)) result }
 {
     print_answers(output, answers)?;
     print_end(output, evaluation, replayed)
@@ -169,7 +171,7 @@ fn evaluate<'a, A: Allocator + Copy, W: Write>(
     ensures { (ending : Ending)
         × EvaluatesSteps (unlimited_setup reading.encoding)
         (record { bytes = bytes.now; is_big = is_big_of reading.order }) untold
-        (steps_of text_in steps.now) ending
+        (steps_of slice_text steps.now) ending
         × WritesEnding (W.contents output.old) (W.contents output.new) ending result }
 {
     let text = EndianSlice::new(bytes, reading.order);
@@ -291,13 +293,21 @@ fn run_words<A: Allocator + Copy, I: Read + Drop, W: Write>(
     }
 }
 
-/// Answers for words that could not be had: one isn't UTF-8, or there was no memory for them.
-pub(crate) fn run_without_words<W: Write>(error: io::Error, output: &mut W) -> u8 {
-    let refused = match error.kind() {
+/// Says why there are no words.
+fn refuse_words<W: Write>(kind: ErrorKind, output: &mut W) -> io::Result<u8>
+    ensures { WritesEnding (W.contents output.old) (W.contents output.new) (without_words kind) result }
+{
+    match kind {
         ErrorKind::InvalidData => bad_words(output),
         _ => no_memory(output),
-    };
-    refused.unwrap_or(FAILED)
+    }
+}
+
+/// Answers for words that could not be had: one isn't UTF-8, or there was no memory for them.
+pub(crate) fn run_without_words<W: Write>(error: io::Error, output: &mut W) -> u8
+    ensures { Exits (W.contents output.old) (W.contents output.new) (without_words (error_kind error)) result }
+{
+    refuse_words(error.kind(), output).unwrap_or(FAILED)
 }
 
 /// Runs the program on the words behind its name, and answers its exit status.

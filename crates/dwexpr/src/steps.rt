@@ -1,12 +1,12 @@
 ghost use Rattle.std.specs.Prelude.{◌≡◌, ◌==◌, ◌<◌, Bool, ℕ, length, map, None, Some, IfOk, IsSome, Ok, option_map};
 ghost use Rattle.std.specs.List.{position};
 ghost use Rattle.std.specs.Str.Lines.{strip_carriage_return};
+ghost use Rattle.dwarf_base.specs.EndianSlice.{slice_text};
 ghost use Rattle.dwarf_base.specs.ByteOrder.{is_big_of};
 ghost use Rattle.dwarf_replay.specs.Replays.{steps_of};
 ghost use Rattle.dwarf_replay.specs.Stepping.{step_of};
 ghost use Rattle.dwexpr.specs.Steps as spec;
 ghost use Rattle.dwexpr.specs.Steps.{ReadsStep, ReadsSteps, lines_in, step_owned};
-ghost use Rattle.dwexpr.specs.Writing.{text_in};
 
 use crate::hexadecimal::{HexFault, bytes_of};
 use crate::numbers::number_of;
@@ -70,7 +70,7 @@ pub(crate) enum OwnedStep<A: Allocator> {
 impl<A: Allocator> OwnedStep<A> {
     /// The step, with its text read in this order.
     fn borrowed(&self, order: RunTimeEndian) -> Step<Text<'_>>
-        ensures { step_of text_in result ≡ step_owned (is_big_of order) self.now }
+        ensures { step_of slice_text result ≡ step_owned (is_big_of order) self.now }
     {
         match self {
             OwnedStep::Plain(step) => *step,
@@ -92,7 +92,7 @@ enum LineFault {
 
 /// The step of this name, with the word that follows it, unless its text has to be kept.
 fn plain_step(name: &str, word: &str) -> Option<Step<Text<'static>>>
-    ensures { option_map (step_of text_in) result ≡ spec.plain_step_in name.now word.now }
+    ensures { option_map (step_of slice_text) result ≡ spec.plain_step_in name.now word.now }
 {
     Some(match name {
         "initial" => Step::InitialValue(number_of(word)?),
@@ -193,7 +193,7 @@ pub(crate) fn borrow_steps<A: Allocator + Copy>(
     order: RunTimeEndian,
 ) -> Result<Vec<Step<Text<'_>>, A>, AllocError>
     ensures { IfOk result (λ borrowed.
-        steps_of text_in borrowed.items ≡ map (step_owned (is_big_of order)) steps.now) }
+        steps_of slice_text borrowed.items ≡ map (step_owned (is_big_of order)) steps.now) }
 {
     let mut borrowed = Vec::new(alloc);
     for step in steps {

@@ -1,21 +1,23 @@
 -- Each block that an evaluation gives is a block of an operation of one of its texts.
-use Rattle.std.proofs.Common.{ℕ, zero, suc, ◌==◌, true, false, List, [], ◌∷◌, ◌++◌, length, Option, Some, None, Result, Ok, Err}
-use Rattle.dwarf_base.specs.declared.errors.Error.{Error}
+use Rattle.std.proofs.Common.{ℕ, zero, suc, ◌==◌, subst, List, [], ◌∷◌, ◌++◌, length, Option, Some, None, Result, Ok, Err}
 use Rattle.dwarf_base.specs.Faults.{Fault}
+use Rattle.dwarf_base.specs.Reads.{Text}
 use Rattle.dwarf_value.specs.declared.types.Value.{Value}
 use Rattle.dwarf_value.specs.declared.types.Value.TheVariants.{Generic}
-use Rattle.dwarf_meaning.specs.Operations as operation
-use Rattle.dwarf_meaning.specs.Operations.{Operation, Text}
+use Rattle.dwarf_meaning.specs.Operations.{Operation}
 use Rattle.dwarf_meaning.specs.Locations.{Location, HoldsBytes, Piece}
-use Rattle.dwarf_meaning.specs.Requests as asked_for
-use Rattle.dwarf_meaning.specs.Requests.{Request, Waiting, Memory, Register, WasmValue, EntryValue, FrameBase, Tls, CallFrameCfa, ParameterRef, RelocatedAddress, IndexedAddress, AtLocation, TypedLiteral, Convert, Reinterpret, Answer, LocationAnswer, Input, location_in}
-use Rattle.dwarf_meaning.specs.Acts.{on_top, on_some, on_result, result_of, Act, Pushes, Branches, Locates, EndsPiece, RequestAct, FaultAct, short, unary, binary, push, act, Use, PushesAnswer, Calls, FaultUse, WrongKind, use_of}
-use Rattle.dwarf_meaning.specs.Stores.{Setup, address_bits, Refusal, Store, Last, Nothing, Plain, Pieced, Pushed, Called, Located, room, push_value, push_piece, push_caller, push_values, Next, Goes, RequestNext, FaultNext, goes, done}
+use Rattle.dwarf_meaning.specs.Requests.{Request, Waiting, Answer, LocationAnswer, Input}
+use Rattle.dwarf_meaning.specs.Acts.{Act, Pushes, Branches, Locates, EndsPiece, RequestAct, FaultAct, Use, PushesAnswer, Calls, FaultUse, WrongKind, use_of}
+use Rattle.dwarf_meaning.specs.Stores.{Setup, address_bits, Store, Last, Nothing, Plain, Pieced, Pushed, Called, Located, push_value, push_piece, push_caller, push_values, Next, Goes, RequestNext, FaultNext, goes, done}
 use Rattle.dwarf_meaning.specs.Run.{Position, End, CompleteEnd, RequestEnd, FaultEnd, Course, only_end, Continues, return_to_caller, after_push, enter_callee, run_callee, after_answer, with_input, await_answer, after_operation, read, can_count, counted, do_operation, turn_counted, piece_ended_by, end_located, turn_located, turn_by, turn, out_of_turns, run_for, enough}
 use Rattle.dwarf_meaning.specs.Meaning.{Outcome, RequestOutcome, FaultOutcome, CompleteOutcome, completion_of, has_pieces, whole, finish_value, finish_judged, finish_free, finish_by, First, fresh, with_initial, course_from, unwound, meaning}
-use Rattle.dwarf_meaning.proofs.Choices.{choose_both}
+use Rattle.dwarf_meaning.specs.Refusals.{Refusal, room}
+use Rattle.dwarf_meaning.proofs.Choices.{choose_both, top_both}
 use Rattle.dwarf_meaning.proofs.Counts.{OnStore, bound_store, on_bound}
+use Rattle.dwarf_meaning.proofs.Effects.{IsActOf, IsOwnPlace, locates, ends, asks, act_is, IsUseOf, use_is}
 use Rattle.dwexpr_c.specs.Operations.{block_in}
+use Rattle.dwarf_meaning.specs.Operations as operation
+use Rattle.dwarf_meaning.specs.Requests as asked_for
 
 -- ---- what is known of blocks, and where they may be
 
@@ -70,96 +72,18 @@ OnOutcome Q (RequestOutcome request positions) = OnRequest Q request
 OnOutcome Q (CompleteOutcome pieces value) = OnPieces Q pieces
 OnOutcome Q (FaultOutcome fault) = Unit {0}
 
--- ---- the words of the definitions
-
-top_both : {A : Type 0} (R : A → Type 0) (values : List Value) (none : A) (go : Value → List Value → A) → R none → ((x : Value) (rest : List Value) → R (go x rest)) → R (on_top values none go)
-unfolding on_top
-top_both R [] none go h k = h
-top_both R (x ∷ rest) none go h k = k x rest
-
-some_both : {X A : Type 0} (R : A → Type 0) (o : Option X) (none : A) (go : X → A) → R none → ((x : X) → R (go x)) → R (on_some o none go)
-unfolding on_some
-some_both R None none go h k = h
-some_both R (Some x) none go h k = k x
-
-answer_both : {X A : Type 0} (R : A → Type 0) (r : Result X Fault) (refused : Fault → A) (go : X → A) → ((fault : Fault) → R (refused fault)) → ((x : X) → R (go x)) → R (on_result r refused go)
-unfolding on_result
-answer_both R (Ok x) refused go h k = k x
-answer_both R (Err fault) refused go h k = h fault
-
 -- ---- operations
 
 module _ (Q : List ℕ → Type 0) where
-  top_acts : (values : List Value) (go : Value → List Value → Act) → ((x : Value) (rest : List Value) → OnAct Q (go x rest)) → OnAct Q (on_top values short go)
-  top_acts values go k = top_both (OnAct Q) values short go tt k
+  own_holds : (location : Location) → IsOwnPlace location → OnLocation Q location
+  own_holds (HoldsBytes text) o = absurd o
+  own_holds _ o = tt
 
-  unary_acts : (call : Value → Result Value Error) (values : List Value) → OnAct Q (unary call values)
-  unary_acts call values = top_acts values _ (λ x rest. answer_both (OnAct Q) (result_of (call x)) FaultAct (push rest) (λ f. tt) (λ v. tt))
-
-  binary_acts : (call : Value → Value → Result Value Error) (values : List Value) → OnAct Q (binary call values)
-  binary_acts call values =
-      top_acts values _ (λ y below. top_acts below _ (λ x rest. answer_both (OnAct Q) (result_of (call x y)) FaultAct (push rest) (λ f. tt) (λ v. tt)))
-
-  act_holds : (bits : ℕ) (object : Option ℕ) (op : Operation) (values : List Value) → OnBlock Q (block_in op) → OnAct Q (act bits object op values)
-  unfolding act
-  act_holds bits object operation.Drop values h = top_acts values _ (λ x rest. tt)
-  act_holds bits object (operation.Pick index) values h = some_both (OnAct Q) _ _ _ tt (λ x. tt)
-  act_holds bits object operation.Swap values h = top_acts values _ (λ y below. top_acts below _ (λ x rest. tt))
-  act_holds bits object operation.Rot values h = top_acts values _ (λ z below. top_acts below _ (λ y lower. top_acts lower _ (λ x rest. tt)))
-  act_holds bits object operation.Abs values h = unary_acts _ values
-  act_holds bits object operation.Neg values h = unary_acts _ values
-  act_holds bits object operation.Not values h = unary_acts _ values
-  act_holds bits object operation.Plus values h = binary_acts _ values
-  act_holds bits object operation.Minus values h = binary_acts _ values
-  act_holds bits object operation.Mul values h = binary_acts _ values
-  act_holds bits object operation.Div values h = binary_acts _ values
-  act_holds bits object operation.Mod values h = binary_acts _ values
-  act_holds bits object operation.And values h = binary_acts _ values
-  act_holds bits object operation.Or values h = binary_acts _ values
-  act_holds bits object operation.Xor values h = binary_acts _ values
-  act_holds bits object operation.Shl values h = binary_acts _ values
-  act_holds bits object operation.Shr values h = binary_acts _ values
-  act_holds bits object operation.Shra values h = binary_acts _ values
-  act_holds bits object operation.Eq values h = binary_acts _ values
-  act_holds bits object operation.Ge values h = binary_acts _ values
-  act_holds bits object operation.Gt values h = binary_acts _ values
-  act_holds bits object operation.Le values h = binary_acts _ values
-  act_holds bits object operation.Lt values h = binary_acts _ values
-  act_holds bits object operation.Ne values h = binary_acts _ values
-  act_holds bits object (operation.PlusConstant value) values h = unary_acts _ values
-  act_holds bits object (operation.UnsignedConstant value) values h = tt
-  act_holds bits object (operation.SignedConstant value) values h = tt
-  act_holds bits object operation.PushObjectAddress values h = some_both (OnAct Q) object _ _ tt (λ x. tt)
-  act_holds bits object (operation.Bra target) values h = top_acts values _ (λ x rest. choose_both (OnAct Q) _ _ _ (λ e. tt) (λ e. tt))
-  act_holds bits object (operation.Skip target) values h = tt
-  act_holds bits object operation.Nop values h = tt
-  act_holds bits object (operation.VariableValue offset) values h = tt
-  act_holds bits object operation.Uninitialized values h = tt
-  act_holds bits object (operation.Deref base_type size false) values h =
-      choose_both (OnAct Q) _ _ _ (λ e. tt) (λ e. top_acts values _ (λ x rest. tt))
-  act_holds bits object (operation.Deref base_type size true) values h =
-      choose_both (OnAct Q) _ _ _ (λ e. tt) (λ e. top_acts values _ (λ x below. top_acts below _ (λ y rest. tt)))
-  act_holds bits object (operation.RegisterOffset register offset base_type) values h = tt
-  act_holds bits object (operation.FrameOffset offset) values h = tt
-  act_holds bits object operation.TLS values h = top_acts values _ (λ x rest. tt)
-  act_holds bits object operation.CallFrameCFA values h = tt
-  act_holds bits object (operation.Call offset) values h = tt
-  act_holds bits object (operation.EntryValue expression) values h = h
-  act_holds bits object (operation.ParameterRef offset) values h = tt
-  act_holds bits object (operation.Address address) values h = tt
-  act_holds bits object (operation.AddressIndex index) values h = tt
-  act_holds bits object (operation.ConstantIndex index) values h = tt
-  act_holds bits object (operation.TypedLiteral base_type value) values h = tt
-  act_holds bits object (operation.Convert base_type) values h = tt
-  act_holds bits object (operation.Reinterpret base_type) values h = tt
-  act_holds bits object (operation.WasmLocal index) values h = tt
-  act_holds bits object (operation.WasmGlobal index) values h = tt
-  act_holds bits object (operation.WasmStack index) values h = tt
-  act_holds bits object (operation.Register register) values h = tt
-  act_holds bits object (operation.ImplicitValue bytes) values h = h
-  act_holds bits object operation.StackValue values h = top_acts values _ (λ x rest. tt)
-  act_holds bits object (operation.ImplicitPointer value byte_offset) values h = tt
-  act_holds bits object (operation.Piece size_in_bits bit_offset) values h = top_both (OnAct Q) values _ _ tt (λ x rest. tt)
+  act_holds : (op : Operation) {n : ℕ} (a : Act) → IsActOf op n a → OnBlock Q (block_in op) → OnAct Q a
+  act_holds op (Locates rest (HoldsBytes text)) (locates l e) h = subst (λ (o : Operation). OnBlock Q (block_in o)) e h
+  act_holds op (EndsPiece rest piece) (ends l w) h = own_holds piece.location w
+  act_holds op (RequestAct rest (asked_for.RequiresEntryValue text) waiting) (asks l e) h = subst (λ (o : Operation). OnBlock Q (block_in o)) e h
+  act_holds op _ d h = tt
 
   -- ---- what is kept
 
@@ -216,40 +140,11 @@ module _ (Q : List ℕ → Type 0) where
 -- ---- answers
 
 module _ (P : Text → Type 0) where
-  denied : (values : List Value) (r : Result Value Fault) → OnUse P (on_result r FaultUse (PushesAnswer values))
-  denied values r = answer_both (OnUse P) r FaultUse (PushesAnswer values) (λ f. tt) (λ v. tt)
-
-  called_use : (answer : Answer) → OnAnswer P answer → OnUse P (on_some (location_in answer) WrongKind Calls)
-  unfolding on_some
-  called_use (LocationAnswer text) h = h
-  called_use (asked_for.MemoryAnswer value) h = tt
-  called_use (asked_for.RegisterAnswer value) h = tt
-  called_use (asked_for.WasmAnswer value) h = tt
-  called_use (asked_for.EntryAnswer value) h = tt
-  called_use (asked_for.FrameBaseAnswer number) h = tt
-  called_use (asked_for.TlsAnswer number) h = tt
-  called_use (asked_for.CfaAnswer number) h = tt
-  called_use (asked_for.ParameterAnswer number) h = tt
-  called_use (asked_for.RelocatedAnswer number) h = tt
-  called_use (asked_for.IndexedAnswer number) h = tt
-  called_use (asked_for.BaseTypeAnswer value_type) h = tt
-
-  use_holds : (bits : ℕ) (waiting : Waiting) (answer : Answer) (values : List Value) → OnAnswer P answer → OnUse P (use_of bits waiting answer values)
-  unfolding use_of
-  use_holds bits Memory answer values h = some_both (OnUse P) _ _ _ tt (λ v. tt)
-  use_holds bits (Register offset) answer values h = some_both (OnUse P) _ _ _ tt (λ v. denied values _)
-  use_holds bits WasmValue answer values h = some_both (OnUse P) _ _ _ tt (λ v. tt)
-  use_holds bits EntryValue answer values h = some_both (OnUse P) _ _ _ tt (λ v. tt)
-  use_holds bits (FrameBase offset) answer values h = some_both (OnUse P) _ _ _ tt (λ v. tt)
-  use_holds bits Tls answer values h = some_both (OnUse P) _ _ _ tt (λ v. tt)
-  use_holds bits CallFrameCfa answer values h = some_both (OnUse P) _ _ _ tt (λ v. tt)
-  use_holds bits ParameterRef answer values h = some_both (OnUse P) _ _ _ tt (λ v. tt)
-  use_holds bits RelocatedAddress answer values h = some_both (OnUse P) _ _ _ tt (λ v. tt)
-  use_holds bits IndexedAddress answer values h = some_both (OnUse P) _ _ _ tt (λ v. tt)
-  use_holds bits AtLocation answer values h = called_use answer h
-  use_holds bits (TypedLiteral value) answer values h = some_both (OnUse P) _ _ _ tt (λ t. denied values _)
-  use_holds bits Convert answer values h = some_both (OnUse P) _ _ _ tt (λ t. top_both (OnUse P) values _ _ tt (λ x rest. denied rest _))
-  use_holds bits Reinterpret answer values h = some_both (OnUse P) _ _ _ tt (λ t. top_both (OnUse P) values _ _ tt (λ x rest. denied rest _))
+  use_holds : (answer : Answer) (n : ℕ) (u : Use) → IsUseOf answer n u → OnAnswer P answer → OnUse P u
+  use_holds answer n (PushesAnswer rest value) e h = tt
+  use_holds answer n (Calls text) e h = subst (OnAnswer P) e h
+  use_holds answer n (FaultUse fault) e h = tt
+  use_holds answer n WrongKind e h = tt
 
 -- ---- runs
 
@@ -299,7 +194,7 @@ module _ (P : Text → Type 0) (Q : List ℕ → Type 0) where
     asked_carries position depth request waiting s [] p r h i = r
     asked_carries position depth request waiting s (input ∷ inputs) p r h i =
         used_carries position depth (use_of (address_bits setup) waiting input.answer s.values) (with_input input s) inputs (only_end (RequestEnd request (position ∷ []) (input ∷ inputs)))
-        p (use_holds P (address_bits setup) waiting input.answer s.values i.0) (record { pieces = h.pieces; last = h.last }) i.1 r
+        p (use_holds P input.answer (length s.values) _ (use_is (address_bits setup) waiting input.answer s.values) i.0) (record { pieces = h.pieces; last = h.last }) i.1 r
 
     led_carries : (text : Text) (depth place : ℕ) (inputs : List Input) (next : Next) → P text → OnNext Q next → OnInputs P inputs → OnEnd (after_operation go setup text depth place inputs next).end
     led_carries text depth place inputs (Goes to s) p h i = carries text to depth s inputs p h i
@@ -309,7 +204,7 @@ module _ (P : Text → Type 0) (Q : List ℕ → Type 0) where
 
     does_carries : (text : Text) (depth : ℕ) (s : Store) (inputs : List Input) (r : Result (Operation × List ℕ) Fault) → P text → OnRead Q r → Holds Q s → OnInputs P inputs → OnEnd (do_operation go setup text depth s inputs r).end
     does_carries text depth s inputs (Ok x) p b h i =
-        led_carries text depth _ inputs _ p (done_holds Q setup _ _ _ s (act_holds Q (address_bits setup) s.object_address x.0 s.values b) h) i
+        led_carries text depth _ inputs _ p (done_holds Q setup _ _ _ s (act_holds Q x.0 _ (act_is (address_bits setup) s.object_address x.0 s.values) b) h) i
     does_carries text depth s inputs (Err fault) p b h i = tt
 
     counts_carries : (text : Text) (place depth : ℕ) (s : Store) (inputs : List Input) → P text → Holds Q s → OnInputs P inputs → OnEnd (turn_counted go setup text place depth s inputs).end
@@ -350,7 +245,7 @@ module _ (P : Text → Type 0) (Q : List ℕ → Type 0) where
   value_ends : (setup : Setup) (s : Store) → Holds Q s → OnOutcome Q (finish_value setup s)
   value_ends setup s h =
       top_both (OnOutcome Q) s.values _ _ tt
-      (λ x rest. completed_holds (Some x) _ (piece_holds Q setup _ (record s { values = rest }) (record { pieces = h.pieces; last = h.last }) tt))
+      (λ x rest e. completed_holds (Some x) _ (piece_holds Q setup _ (record s { values = rest }) (record { pieces = h.pieces; last = h.last }) tt))
 
   judged_ends : (setup : Setup) (s : Store) → Holds Q s → OnOutcome Q (finish_judged setup s)
   judged_ends setup s h = choose_both (OnOutcome Q) (has_pieces s.pieces) _ _ (λ e. tt) (λ e. value_ends setup s h)

@@ -10,9 +10,9 @@ use Rattle.dwarf_meaning.specs.Requests as asked
 use Rattle.dwarf_meaning.specs.Requests.{Request}
 use Rattle.dwarf_meaning.specs.Rest.{State, Status, Start, Running, RequestStatus, CompleteStatus, FaultStatus}
 use Rattle.dwarf_meaning.specs.Steps.{Step, InitialValue, ObjectAddress, MaxIterations, Evaluate, Resume, Told, Reply, CompleteReply, RequestReply, FaultReply, Allows, AllAllowed, after_steps, outcome_of}
-use Rattle.dwarf_meaning.specs.Stores.{Limits, Refusal, Never, After}
+use Rattle.dwarf_meaning.specs.Refusals.{Limits, Refusal, Never, After, MayPick}
 use Rattle.dwarf_meaning.specs.Kinds.{kind_of_answer}
-use Rattle.dwarf_eval.specs.Evaluation.{Evaluates, IsClosed, IsReplied, MayPick, Resumes, input_of, reply_of, ok_reply}
+use Rattle.dwarf_eval.specs.Evaluation.{Evaluates, IsClosed, IsReplied, Resumes, input_of, reply_of, ok_reply}
 use Rattle.dwarf_eval.specs.declared.op.results.EvaluationResult.{EvaluationResult}
 use Rattle.dwarf_replay.specs.Replays.{StandsAt, IsInRequest, IsInFault, Tells, told_at}
 use Rattle.dwarf_replay.specs.Stepping.{IsInRequestFor, HasReplied, IsSet, MayTake}
@@ -21,7 +21,7 @@ use Rattle.dwarf_replay.proofs.Settings.{set_went_on}
 use Rattle.dwarf_replay.proofs.Calling.{called_went_on}
 use Rattle.dwarf_replay.proofs.Leading.{walks_all, walks_to}
 use Rattle.dwexpr_c.specs.Evaluated.{AreTaken, EndsByStep, Given, IsCutShort, IsNoFault, capacities, comes_of, told_by}
-use Rattle.dwexpr_c.specs.Outcomes.{ShowsReply, request_outcome, ended_outcome, blank_outcome}
+use Rattle.dwexpr_c.specs.Outcomes.{ShowsReply, ended_outcome, blank_outcome}
 use Rattle.dwexpr_c.specs.Steps.{step_in}
 use Rattle.dwexpr_c.specs.Texts.{text_of_placed}
 use Rattle.dwexpr_c.specs.inner.Runs.{RanAll, given_at}

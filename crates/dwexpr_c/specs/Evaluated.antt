@@ -2,10 +2,11 @@
 use Rattle.std.specs.Prelude.{ℕ, ◌≡◌, ◌⊎◌, ◌++◌, Bool, List, [], ◌∷◌, map, take, slice_get, Option, Some, None, Result, Ok, Err, length}
 use Rattle.dwarf_base.specs.declared.common.Encoding.{Encoding}
 use Rattle.dwarf_base.specs.Faults.{Fault}
-use Rattle.dwarf_meaning.specs.Operations.{Text}
-use Rattle.dwarf_meaning.specs.Stores.{Setup, Limits, Never}
+use Rattle.dwarf_base.specs.Reads.{Text}
+use Rattle.dwarf_meaning.specs.Stores.{Setup}
 use Rattle.dwarf_meaning.specs.Meaning.{Outcome, RequestOutcome, FaultOutcome, CompleteOutcome}
 use Rattle.dwarf_meaning.specs.Steps.{Step, Told, Allows, AllAllowed, after_steps, outcome_of}
+use Rattle.dwarf_meaning.specs.Refusals.{Limits, Never}
 use Rattle.dwexpr_c.specs.Codes.{misplaced_code}
 use Rattle.dwexpr_c.specs.Outcomes.{ShowsRequest, complete_outcome, ended_outcome, fault_outcome, blank_outcome}
 use Rattle.dwexpr_c.specs.Pieces.{AreWritten}

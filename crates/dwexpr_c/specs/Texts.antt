@@ -1,7 +1,7 @@
 -- The texts that a caller gives, and where in them bytes are.
 use Rattle.std.specs.Prelude.{ℕ, ◌+◌, ◌≡◌, ◌≤◌, Bool, true, List, Option, Some, None, IfSome, is_some, length, slice_get, slice_range}
 use Rattle.dwarf_base.specs.ByteOrder.{is_big_of}
-use Rattle.dwarf_meaning.specs.Operations.{Text}
+use Rattle.dwarf_base.specs.Reads.{Text}
 use Rattle.dwexpr_c.specs.declared.places.Placed.{Placed}
 use Rattle.dwexpr_c.specs.declared.steps.DwexprText.{DwexprText}
 

@@ -1,7 +1,7 @@
 ghost use Rattle.std.specs.Prelude.{◌≡◌, ◌+◌, ◌-◌, ◌^◌, ◌<◌};
 ghost use Rattle.dwarf_base.specs.ByteOrder.{is_big_of};
-ghost use Rattle.dwarf_base.specs.EndianSlice.{slice_bytes, slice_order};
-ghost use Rattle.dwarf_op.specs.Views.{operation_of, text_of};
+ghost use Rattle.dwarf_base.specs.EndianSlice.{slice_text};
+ghost use Rattle.dwarf_op.specs.Views.{operation_of};
 ghost use Rattle.dwexpr_c.specs.Decoded.{decoded, faulted, disallowed, with_block};
 ghost use Rattle.dwexpr_c.specs.Operations.{block_in, numbered, operands_of, of_kind, signed_operand, typed};
 
@@ -134,7 +134,7 @@ fn blocked(shown: DwexprOperation, length: usize, end: usize) -> DwexprOperation
 
 /// The kind and the operands of an operation that ends here.
 fn show_operands(operation: Operation<Bytes<'_>>, end: usize) -> DwexprOperation
-    ensures { let op = operation_of (text_of slice_bytes (λ reader. is_big_of (slice_order reader))) (λ x. x) operation.entry in result ≡ with_block end (block_in op) (operands_of op) }
+    ensures { let op = operation_of slice_text (λ x. x) operation.entry in result ≡ with_block end (block_in op) (operands_of op) }
 {
     match operation {
         Operation::Deref {
@@ -260,7 +260,7 @@ pub(crate) fn show(
     size: usize,
 ) -> DwexprOperation
     requires { offset + size < 2 ^ 64 }
-    ensures { result ≡ decoded offset opcode size (operation_of (text_of slice_bytes (λ reader. is_big_of (slice_order reader))) (λ x. x) operation.entry) }
+    ensures { result ≡ decoded offset opcode size (operation_of slice_text (λ x. x) operation.entry) }
 {
     placed(
         show_operands(operation, offset + size),

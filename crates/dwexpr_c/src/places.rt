@@ -71,9 +71,7 @@ impl<'a> Placed<'a> {
 impl<'a> Reader for Placed<'a> {
     type Offset = usize;
 
-    ghost bytes = { λ reader. reader.bytes.now };
-
-    ghost is_big = { λ reader. is_big_of reader.order };
+    ghost text = { text_of_placed };
 
     #[inline]
     fn len(&self) -> usize {

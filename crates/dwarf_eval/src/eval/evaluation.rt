@@ -7,7 +7,6 @@ ghost use Rattle.dwarf_eval.specs.Permits.{Admits, IsOpenFor, Permits, Shows, an
 ghost use Rattle.dwarf_eval.specs.Bounds.{IsUnspent, calls_left};
 ghost use Rattle.dwarf_eval.specs.Evaluation.{Evaluates, EvaluatesPath, HasResult, IsClosed, IsComplete, Resumes, ResumesPath, most_iterations, reply_of, with_maximum, with_object, input_of, with_status};
 ghost use Rattle.dwarf_eval.specs.Machine.{piece_of, setup_of};
-ghost use Rattle.dwarf_op.specs.Views.{text_of};
 
 use crate::eval::requests::{kind_of_open, reply};
 use crate::eval::states::Status;
@@ -55,7 +54,7 @@ impl<R: Reader + Copy> Expression<R> {
         requires fits { encoding.address_size ≤ 8 }
         ensures status { result.status ≡ Start None }
         ensures setup { result.setup ≡ setup_of encoding R.Offset.BITS None None None }
-        ensures text { result.text ≡ text_of R.bytes R.is_big self.0 }
+        ensures text { result.text ≡ R.text self.0 }
         ensures object_address { result.store.object_address ≡ None }
         ensures maximum { result.store.maximum ≡ most_iterations }
         ensures unspent { IsUnspent result }
@@ -73,7 +72,7 @@ impl<R: Reader + Copy, A: Allocator + Copy> Evaluation<R, StoreOnHeap<A>> {
         requires fits { encoding.address_size ≤ 8 }
         ensures status { result.status ≡ Start None }
         ensures setup { result.setup ≡ setup_of encoding R.Offset.BITS None None None }
-        ensures text { result.text ≡ text_of R.bytes R.is_big bytecode }
+        ensures text { result.text ≡ R.text bytecode }
         ensures object_address { result.store.object_address ≡ None }
         ensures maximum { result.store.maximum ≡ most_iterations }
         ensures unspent { IsUnspent result }
@@ -90,7 +89,7 @@ impl<R: Reader + Copy, A: Allocator + Copy> Evaluation<R, StoreOnHeap<A>> {
     /// The pieces of a complete evaluation.
     pub fn result(self) -> Vec<Piece<R>, A>
         requires { IsComplete self.status }
-        ensures { map (piece_of (text_of R.bytes R.is_big) R.Offset.number) result.items
+        ensures { map (piece_of R.text R.Offset.number) result.items
             ≡ self.store.pieces }
     {
         self.machine.into_pieces()
@@ -117,7 +116,7 @@ impl<R: Reader + Copy, S: EvaluationStorage<R>> Evaluation<R, S> {
         ensures setup { result.setup
             ≡ setup_of encoding R.Offset.BITS (S.Stack.limit stack)
             (S.ExpressionStack.limit expression_stack) (S.Result.limit pieces) }
-        ensures text { result.text ≡ text_of R.bytes R.is_big bytecode }
+        ensures text { result.text ≡ R.text bytecode }
         ensures object_address { result.store.object_address ≡ None }
         ensures maximum { result.store.maximum ≡ most_iterations }
         ensures unspent { IsUnspent result }
@@ -172,10 +171,10 @@ impl<R: Reader + Copy, S: EvaluationStorage<R>> Evaluation<R, S> {
     /// No request may be open. After the end it answers `Complete` again, and after a fault that fault.
     pub fn evaluate(&mut self) -> Result<EvaluationResult<R>>
         requires { IsClosed self.old.status }
-        ensures follows { Evaluates (text_of R.bytes R.is_big) R.Offset.number self.old self.new
+        ensures follows { Evaluates R.text R.Offset.number self.old self.new
             result self.old.status }
         ensures counts { EvaluatesPath self.old self.new
-            (reply_of (text_of R.bytes R.is_big) R.Offset.number result) self.old.status }
+            (reply_of R.text R.Offset.number result) self.old.status }
         ensures admits { IfOk result (λ told. Admits told self.new.status) }
     {
         match self.machine.state() {
@@ -192,14 +191,14 @@ impl<R: Reader + Copy, S: EvaluationStorage<R>> Evaluation<R, S> {
 
     /// Goes on with an answer.
     fn resume(&mut self, given: Given<R>) -> Result<EvaluationResult<R>>
-        requires { IsOpenFor (kind_of_answer (answer_of (text_of R.bytes R.is_big) given))
+        requires { IsOpenFor (kind_of_answer (answer_of R.text given))
             self.old.status }
-        ensures follows { Resumes (text_of R.bytes R.is_big) R.Offset.number
-            (input_of self.old (answer_of (text_of R.bytes R.is_big) given)) self.old self.new
+        ensures follows { Resumes R.text R.Offset.number
+            (input_of self.old (answer_of R.text given)) self.old self.new
             result self.old.status }
         ensures counts { ResumesPath (input_of self.old
-            (answer_of (text_of R.bytes R.is_big) given)) self.old self.new
-            (reply_of (text_of R.bytes R.is_big) R.Offset.number result) self.old.status }
+            (answer_of R.text given)) self.old self.new
+            (reply_of R.text R.Offset.number result) self.old.status }
         ensures admits { IfOk result (λ told. Admits told self.new.status) }
         ensures fewer { IfOk result (λ told. calls_left self.new < calls_left self.old) }
     {
@@ -218,11 +217,11 @@ impl<R: Reader + Copy, S: EvaluationStorage<R>> Evaluation<R, S> {
     /// Goes on with what memory holds, after `RequiresMemory`.
     pub fn resume_with_memory(&mut self, value: Value) -> Result<EvaluationResult<R>>
         requires { IsOpenFor kind.Memory self.old.status }
-        ensures follows { Resumes (text_of R.bytes R.is_big) R.Offset.number
+        ensures follows { Resumes R.text R.Offset.number
             (input_of self.old (asked.MemoryAnswer value)) self.old self.new result
             self.old.status }
         ensures counts { ResumesPath (input_of self.old (asked.MemoryAnswer value)) self.old
-            self.new (reply_of (text_of R.bytes R.is_big) R.Offset.number result) self.old.status }
+            self.new (reply_of R.text R.Offset.number result) self.old.status }
         ensures admits { IfOk result (λ told. Admits told self.new.status) }
         ensures fewer { IfOk result (λ told. calls_left self.new < calls_left self.old) }
     {
@@ -232,11 +231,11 @@ impl<R: Reader + Copy, S: EvaluationStorage<R>> Evaluation<R, S> {
     /// Goes on with what a register holds, after `RequiresRegister`.
     pub fn resume_with_register(&mut self, value: Value) -> Result<EvaluationResult<R>>
         requires { IsOpenFor kind.Register self.old.status }
-        ensures follows { Resumes (text_of R.bytes R.is_big) R.Offset.number
+        ensures follows { Resumes R.text R.Offset.number
             (input_of self.old (asked.RegisterAnswer value)) self.old self.new result
             self.old.status }
         ensures counts { ResumesPath (input_of self.old (asked.RegisterAnswer value)) self.old
-            self.new (reply_of (text_of R.bytes R.is_big) R.Offset.number result) self.old.status }
+            self.new (reply_of R.text R.Offset.number result) self.old.status }
         ensures admits { IfOk result (λ told. Admits told self.new.status) }
         ensures fewer { IfOk result (λ told. calls_left self.new < calls_left self.old) }
     {
@@ -247,10 +246,10 @@ impl<R: Reader + Copy, S: EvaluationStorage<R>> Evaluation<R, S> {
     /// `RequiresWasmStack`.
     pub fn resume_with_wasm_value(&mut self, value: Value) -> Result<EvaluationResult<R>>
         requires { IsOpenFor kind.WasmValue self.old.status }
-        ensures follows { Resumes (text_of R.bytes R.is_big) R.Offset.number
+        ensures follows { Resumes R.text R.Offset.number
             (input_of self.old (asked.WasmAnswer value)) self.old self.new result self.old.status }
         ensures counts { ResumesPath (input_of self.old (asked.WasmAnswer value)) self.old self.new
-            (reply_of (text_of R.bytes R.is_big) R.Offset.number result) self.old.status }
+            (reply_of R.text R.Offset.number result) self.old.status }
         ensures admits { IfOk result (λ told. Admits told self.new.status) }
         ensures fewer { IfOk result (λ told. calls_left self.new < calls_left self.old) }
     {
@@ -260,10 +259,10 @@ impl<R: Reader + Copy, S: EvaluationStorage<R>> Evaluation<R, S> {
     /// Goes on with what the expression gave at the function's entry, after `RequiresEntryValue`.
     pub fn resume_with_entry_value(&mut self, value: Value) -> Result<EvaluationResult<R>>
         requires { IsOpenFor kind.EntryValue self.old.status }
-        ensures follows { Resumes (text_of R.bytes R.is_big) R.Offset.number
+        ensures follows { Resumes R.text R.Offset.number
             (input_of self.old (asked.EntryAnswer value)) self.old self.new result self.old.status }
         ensures counts { ResumesPath (input_of self.old (asked.EntryAnswer value)) self.old self.new
-            (reply_of (text_of R.bytes R.is_big) R.Offset.number result) self.old.status }
+            (reply_of R.text R.Offset.number result) self.old.status }
         ensures admits { IfOk result (λ told. Admits told self.new.status) }
         ensures fewer { IfOk result (λ told. calls_left self.new < calls_left self.old) }
     {
@@ -273,11 +272,11 @@ impl<R: Reader + Copy, S: EvaluationStorage<R>> Evaluation<R, S> {
     /// Goes on with the frame base, after `RequiresFrameBase`.
     pub fn resume_with_frame_base(&mut self, frame_base: u64) -> Result<EvaluationResult<R>>
         requires { IsOpenFor kind.FrameBase self.old.status }
-        ensures follows { Resumes (text_of R.bytes R.is_big) R.Offset.number
+        ensures follows { Resumes R.text R.Offset.number
             (input_of self.old (asked.FrameBaseAnswer frame_base)) self.old self.new result
             self.old.status }
         ensures counts { ResumesPath (input_of self.old (asked.FrameBaseAnswer frame_base)) self.old
-            self.new (reply_of (text_of R.bytes R.is_big) R.Offset.number result) self.old.status }
+            self.new (reply_of R.text R.Offset.number result) self.old.status }
         ensures admits { IfOk result (λ told. Admits told self.new.status) }
         ensures fewer { IfOk result (λ told. calls_left self.new < calls_left self.old) }
     {
@@ -287,10 +286,10 @@ impl<R: Reader + Copy, S: EvaluationStorage<R>> Evaluation<R, S> {
     /// Goes on with an address in thread-local storage, after `RequiresTls`.
     pub fn resume_with_tls(&mut self, value: u64) -> Result<EvaluationResult<R>>
         requires { IsOpenFor kind.Tls self.old.status }
-        ensures follows { Resumes (text_of R.bytes R.is_big) R.Offset.number
+        ensures follows { Resumes R.text R.Offset.number
             (input_of self.old (asked.TlsAnswer value)) self.old self.new result self.old.status }
         ensures counts { ResumesPath (input_of self.old (asked.TlsAnswer value)) self.old self.new
-            (reply_of (text_of R.bytes R.is_big) R.Offset.number result) self.old.status }
+            (reply_of R.text R.Offset.number result) self.old.status }
         ensures admits { IfOk result (λ told. Admits told self.new.status) }
         ensures fewer { IfOk result (λ told. calls_left self.new < calls_left self.old) }
     {
@@ -300,10 +299,10 @@ impl<R: Reader + Copy, S: EvaluationStorage<R>> Evaluation<R, S> {
     /// Goes on with the canonical frame address, after `RequiresCallFrameCfa`.
     pub fn resume_with_call_frame_cfa(&mut self, cfa: u64) -> Result<EvaluationResult<R>>
         requires { IsOpenFor kind.CallFrameCfa self.old.status }
-        ensures follows { Resumes (text_of R.bytes R.is_big) R.Offset.number
+        ensures follows { Resumes R.text R.Offset.number
             (input_of self.old (asked.CfaAnswer cfa)) self.old self.new result self.old.status }
         ensures counts { ResumesPath (input_of self.old (asked.CfaAnswer cfa)) self.old self.new
-            (reply_of (text_of R.bytes R.is_big) R.Offset.number result) self.old.status }
+            (reply_of R.text R.Offset.number result) self.old.status }
         ensures admits { IfOk result (λ told. Admits told self.new.status) }
         ensures fewer { IfOk result (λ told. calls_left self.new < calls_left self.old) }
     {
@@ -314,12 +313,12 @@ impl<R: Reader + Copy, S: EvaluationStorage<R>> Evaluation<R, S> {
     /// call's place; with no bytes there is nothing to evaluate.
     pub fn resume_with_at_location(&mut self, bytes: R) -> Result<EvaluationResult<R>>
         requires { IsOpenFor kind.AtLocation self.old.status }
-        ensures follows { Resumes (text_of R.bytes R.is_big) R.Offset.number
-            (input_of self.old (asked.LocationAnswer (text_of R.bytes R.is_big bytes))) self.old
+        ensures follows { Resumes R.text R.Offset.number
+            (input_of self.old (asked.LocationAnswer (R.text bytes))) self.old
             self.new result self.old.status }
         ensures counts { ResumesPath (input_of self.old
-            (asked.LocationAnswer (text_of R.bytes R.is_big bytes))) self.old self.new
-            (reply_of (text_of R.bytes R.is_big) R.Offset.number result) self.old.status }
+            (asked.LocationAnswer (R.text bytes))) self.old self.new
+            (reply_of R.text R.Offset.number result) self.old.status }
         ensures admits { IfOk result (λ told. Admits told self.new.status) }
         ensures fewer { IfOk result (λ told. calls_left self.new < calls_left self.old) }
     {
@@ -329,11 +328,11 @@ impl<R: Reader + Copy, S: EvaluationStorage<R>> Evaluation<R, S> {
     /// Goes on with the value of the parameter, after `RequiresParameterRef`.
     pub fn resume_with_parameter_ref(&mut self, parameter_value: u64) -> Result<EvaluationResult<R>>
         requires { IsOpenFor kind.ParameterRef self.old.status }
-        ensures follows { Resumes (text_of R.bytes R.is_big) R.Offset.number
+        ensures follows { Resumes R.text R.Offset.number
             (input_of self.old (asked.ParameterAnswer parameter_value)) self.old self.new result
             self.old.status }
         ensures counts { ResumesPath (input_of self.old (asked.ParameterAnswer parameter_value))
-            self.old self.new (reply_of (text_of R.bytes R.is_big) R.Offset.number result)
+            self.old self.new (reply_of R.text R.Offset.number result)
             self.old.status }
         ensures admits { IfOk result (λ told. Admits told self.new.status) }
         ensures fewer { IfOk result (λ told. calls_left self.new < calls_left self.old) }
@@ -344,11 +343,11 @@ impl<R: Reader + Copy, S: EvaluationStorage<R>> Evaluation<R, S> {
     /// Goes on with the relocated address, after `RequiresRelocatedAddress`.
     pub fn resume_with_relocated_address(&mut self, address: u64) -> Result<EvaluationResult<R>>
         requires { IsOpenFor kind.RelocatedAddress self.old.status }
-        ensures follows { Resumes (text_of R.bytes R.is_big) R.Offset.number
+        ensures follows { Resumes R.text R.Offset.number
             (input_of self.old (asked.RelocatedAnswer address)) self.old self.new result
             self.old.status }
         ensures counts { ResumesPath (input_of self.old (asked.RelocatedAnswer address)) self.old
-            self.new (reply_of (text_of R.bytes R.is_big) R.Offset.number result) self.old.status }
+            self.new (reply_of R.text R.Offset.number result) self.old.status }
         ensures admits { IfOk result (λ told. Admits told self.new.status) }
         ensures fewer { IfOk result (λ told. calls_left self.new < calls_left self.old) }
     {
@@ -358,11 +357,11 @@ impl<R: Reader + Copy, S: EvaluationStorage<R>> Evaluation<R, S> {
     /// Goes on with what stands at the index, after `RequiresIndexedAddress`.
     pub fn resume_with_indexed_address(&mut self, address: u64) -> Result<EvaluationResult<R>>
         requires { IsOpenFor kind.IndexedAddress self.old.status }
-        ensures follows { Resumes (text_of R.bytes R.is_big) R.Offset.number
+        ensures follows { Resumes R.text R.Offset.number
             (input_of self.old (asked.IndexedAnswer address)) self.old self.new result
             self.old.status }
         ensures counts { ResumesPath (input_of self.old (asked.IndexedAnswer address)) self.old
-            self.new (reply_of (text_of R.bytes R.is_big) R.Offset.number result) self.old.status }
+            self.new (reply_of R.text R.Offset.number result) self.old.status }
         ensures admits { IfOk result (λ told. Admits told self.new.status) }
         ensures fewer { IfOk result (λ told. calls_left self.new < calls_left self.old) }
     {
@@ -372,11 +371,11 @@ impl<R: Reader + Copy, S: EvaluationStorage<R>> Evaluation<R, S> {
     /// Goes on with the base type, after `RequiresBaseType`.
     pub fn resume_with_base_type(&mut self, base_type: ValueType) -> Result<EvaluationResult<R>>
         requires { IsOpenFor kind.BaseType self.old.status }
-        ensures follows { Resumes (text_of R.bytes R.is_big) R.Offset.number
+        ensures follows { Resumes R.text R.Offset.number
             (input_of self.old (asked.BaseTypeAnswer base_type)) self.old self.new result
             self.old.status }
         ensures counts { ResumesPath (input_of self.old (asked.BaseTypeAnswer base_type)) self.old
-            self.new (reply_of (text_of R.bytes R.is_big) R.Offset.number result) self.old.status }
+            self.new (reply_of R.text R.Offset.number result) self.old.status }
         ensures admits { IfOk result (λ told. Admits told self.new.status) }
         ensures fewer { IfOk result (λ told. calls_left self.new < calls_left self.old) }
     {
@@ -397,7 +396,7 @@ impl<R: Reader + Copy, S: EvaluationStorage<R>> Evaluation<R, S> {
     /// The pieces of a complete evaluation.
     pub fn as_result(&self) -> &[Piece<R>]
         requires { IsComplete self.now.status }
-        ensures { map (piece_of (text_of R.bytes R.is_big) R.Offset.number) result.now
+        ensures { map (piece_of R.text R.Offset.number) result.now
             ≡ self.now.store.pieces }
     {
         self.machine.pieces()

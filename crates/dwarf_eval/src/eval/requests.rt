@@ -4,7 +4,6 @@ ghost use Rattle.dwarf_meaning.specs.Rest.{RequestStatus};
 ghost use Rattle.dwarf_meaning.specs.Steps.{RequestReply};
 ghost use Rattle.dwarf_machine.specs.Machine.{request_of, waiting_of};
 ghost use Rattle.dwarf_machine.specs.inner.Steps.{HasStopped};
-ghost use Rattle.dwarf_op.specs.Views.{text_of};
 ghost use Rattle.dwarf_eval.specs.Permits.{Admits, kind_of};
 ghost use Rattle.dwarf_eval.specs.Evaluation.{IsReplied, reply_of, ok_reply};
 
@@ -17,11 +16,11 @@ use dwarf_store::EvaluationStorage;
 
 /// What is asked.
 pub(crate) fn result_of<R: Reader + Copy>(request: OpenRequest<R>) -> EvaluationResult<R>
-    ensures told { ok_reply (text_of R.bytes R.is_big) R.Offset.number result
-        ≡ RequestReply (request_of (text_of R.bytes R.is_big) R.Offset.number request) }
+    ensures told { ok_reply R.text R.Offset.number result
+        ≡ RequestReply (request_of R.text R.Offset.number request) }
     ensures admits { Admits result
-        (RequestStatus (request_of (text_of R.bytes R.is_big) R.Offset.number request)
-        (waiting_of (text_of R.bytes R.is_big) request)) }
+        (RequestStatus (request_of R.text R.Offset.number request)
+        (waiting_of R.text request)) }
 {
     match request {
         OpenRequest::Memory {
@@ -72,9 +71,9 @@ pub(crate) fn result_of<R: Reader + Copy>(request: OpenRequest<R>) -> Evaluation
 /// The kind of its answer.
 pub(crate) fn kind_of_open<R: Reader + Copy>(request: OpenRequest<R>) -> WaitingKind
     ensures waits { kind_of result
-        ≡ kind_of_waiting (waiting_of (text_of R.bytes R.is_big) request) }
+        ≡ kind_of_waiting (waiting_of R.text request) }
     ensures asks { kind_of result
-        ≡ kind_of_request (request_of (text_of R.bytes R.is_big) R.Offset.number request) }
+        ≡ kind_of_request (request_of R.text R.Offset.number request) }
 {
     match request {
         OpenRequest::Memory { .. } => WaitingKind::Memory,
@@ -101,7 +100,7 @@ pub(crate) fn reply<R: Reader + Copy, S: EvaluationStorage<R>>(
     machine: &Machine<R, S>,
 ) -> Result<EvaluationResult<R>>
     requires { HasStopped machine.now.status }
-    ensures told { IsReplied (reply_of (text_of R.bytes R.is_big) R.Offset.number result)
+    ensures told { IsReplied (reply_of R.text R.Offset.number result)
         machine.now.status }
     ensures admits { IfOk result (λ told. Admits told machine.now.status) }
 {

@@ -1,10 +1,10 @@
 ghost use Rattle.std.specs.Prelude.{◌≡◌, ◌-◌, length};
 ghost use Rattle.std.specs.Iterator.{item_count};
-ghost use Rattle.dwarf_base.specs.Reads.{IsSuffix};
+ghost use Rattle.dwarf_base.specs.Reads.{IsLeftOf, IsSuffix};
 ghost use Rattle.dwarf_meaning.specs.Decoding.{operation_at};
 ghost use Rattle.dwarf_meaning.specs.Splitting.{items_at};
 ghost use Rattle.dwarf_eval.specs.Iteration.{unread_of, encoding_of, items_left, GivesFirst, GivesNext, GivesItem};
-ghost use Rattle.dwarf_op.specs.Views.{operation_of, text_of};
+ghost use Rattle.dwarf_op.specs.Views.{operation_of};
 
 use dwarf_base::{Encoding, Reader, Result};
 use dwarf_op::Operation;
@@ -40,16 +40,15 @@ impl<R: Reader + Copy> OperationIter<R> {
     /// The errors are those of [`Operation::parse`]. After one nothing is left.
     #[inline]
     pub fn next(&mut self) -> Result<Option<Operation<R>>>
-        ensures value { GivesNext (operation_of (text_of R.bytes R.is_big) R.Offset.number) result
-            (R.bytes (unread_of self.new)) (R.bytes (unread_of self.old))
+        ensures value { GivesNext (operation_of R.text R.Offset.number) result
+            (R.text (unread_of self.new)).bytes (R.text (unread_of self.old)).bytes
             (operation_at (encoding_of self.old) R.Offset.BITS
-            (text_of R.bytes R.is_big (unread_of self.old))) }
-        ensures rest { IsSuffix (R.bytes (unread_of self.new)) (R.bytes (unread_of self.old)) }
-        ensures order { R.is_big (unread_of self.new) ≡ R.is_big (unread_of self.old) }
+            (R.text (unread_of self.old))) }
+        ensures left { IsLeftOf (R.text (unread_of self.new)) (R.text (unread_of self.old)) }
         ensures encoding { encoding_of self.new ≡ encoding_of self.old }
-        ensures items { GivesItem (operation_of (text_of R.bytes R.is_big) R.Offset.number) result
-            (items_left R.bytes R.is_big R.Offset.BITS self.new)
-            (items_left R.bytes R.is_big R.Offset.BITS self.old) }
+        ensures items { GivesItem (operation_of R.text R.Offset.number) result
+            (items_left R.text R.Offset.BITS self.new)
+            (items_left R.text R.Offset.BITS self.old) }
     {
         if self.input.is_empty() {
             return Ok(None);
@@ -68,9 +67,9 @@ impl<R: Reader + Copy> OperationIter<R> {
     /// Before an error these are the bytes of the operations so far; after one, all of them.
     #[inline]
     pub fn offset_from(&self, expression: &Expression<R>) -> R::Offset
-        requires { IsSuffix (R.bytes (unread_of self.now)) (R.bytes expression.now.0) }
+        requires { IsSuffix (R.text (unread_of self.now)).bytes (R.text expression.now.0).bytes }
         ensures { R.Offset.number result
-            ≡ length (R.bytes expression.now.0) - length (R.bytes (unread_of self.now)) }
+            ≡ length (R.text expression.now.0).bytes - length (R.text (unread_of self.now)).bytes }
     {
         self.input.offset_from(&expression.0)
     }
@@ -79,9 +78,9 @@ impl<R: Reader + Copy> OperationIter<R> {
 impl<R: Reader + Copy> Iterator for OperationIter<R> {
     type Item = Result<Operation<R>>;
 
-    ghost next_gives = { GivesFirst R.bytes R.is_big R.Offset.BITS (operation_of (text_of R.bytes R.is_big) R.Offset.number) };
+    ghost next_gives = { GivesFirst R.text R.Offset.BITS (operation_of R.text R.Offset.number) };
 
-    ghost remaining = { item_count (items_left R.bytes R.is_big R.Offset.BITS) };
+    ghost remaining = { item_count (items_left R.text R.Offset.BITS) };
 
     #[inline]
     fn next(&mut self) -> Option<Result<Operation<R>>> {

@@ -1,37 +1,25 @@
 -- What the parts of an evaluation do to its state. Contracts of this crate alone cite this file, and private ones above it.
-use Rattle.std.specs.Prelude.{ℕ, zero, suc, ◌+◌, ◌-◌, ◌*◌, ◌<◌, ◌≤◌, ◌≡◌, ◌==◌, ◌&&◌, not, Bool, true, false, List, [], ◌∷◌, Option, Some, None, Result, Ok, Err, length}
+use Rattle.std.specs.Prelude.{ℕ, ◌+◌, ◌-◌, ◌*◌, ◌<◌, ◌≤◌, ◌≡◌, ◌==◌, ◌&&◌, not, Bool, true, false, List, [], ◌∷◌, Option, Some, None, Result, Ok, Err, length}
 use Rattle.dwarf_base.specs.declared.errors.Error.{Error}
 use Rattle.dwarf_base.specs.declared.errors.Error.TheVariants.{BadBranchTarget, InvalidExpressionTerminator, TooManyIterations}
 use Rattle.dwarf_base.specs.Faults.{Fault, fault_of}
-use Rattle.dwarf_base.specs.Reads.{IsSuffix}
+use Rattle.dwarf_base.specs.Reads.{Text}
 use Rattle.dwarf_value.specs.declared.types.Value.{Value}
 use Rattle.dwarf_value.specs.declared.types.Value.TheVariants.{Generic}
 use Rattle.dwarf_value.specs.Values.{to_u64_of}
-use Rattle.dwarf_meaning.specs.Operations.{Operation, Text}
+use Rattle.dwarf_meaning.specs.Operations.{Operation}
 use Rattle.dwarf_meaning.specs.Locations.{Location}
 use Rattle.dwarf_meaning.specs.Requests.{Request, Waiting, Answer, Input}
 use Rattle.dwarf_meaning.specs.Acts.{Act, act}
 use Rattle.dwarf_meaning.specs.RunLaws.{waits_of}
-use Rattle.dwarf_meaning.specs.Stores.{Limits, address_bits, Store, Last, Pieced, Located, Refusal, Never, After, push_piece, push_caller, Next, Goes, RequestNext, FaultNext, done}
+use Rattle.dwarf_meaning.specs.Stores.{address_bits, Store, Last, Pieced, Located, push_piece, push_caller, Next, Goes, RequestNext, FaultNext, done}
 use Rattle.dwarf_meaning.specs.Run.{Position, can_count, counted, piece_ended_by, read, most}
 use Rattle.dwarf_meaning.specs.Meaning.{Outcome, FaultOutcome, CompleteOutcome}
 use Rattle.dwarf_meaning.specs.Rest.{State, Status, Start, Running, RequestStatus, CompleteStatus, FaultStatus, with_refusal, rest}
+use Rattle.dwarf_meaning.specs.Refusals.{Limits, Refusal, MayPick, before_input, before_pushes}
 use Rattle.dwarf_machine.specs.Bounds.{Spends, calls_left}
-use Rattle.dwarf_machine.specs.Inputs.{MayPick, before_input, input_of, Keeps, with_status}
+use Rattle.dwarf_machine.specs.Inputs.{input_of, Keeps, with_status}
 use Rattle.dwarf_machine.specs.Paths.{path}
-
--- ---- refusals
-
--- the refusal before a push on a list without a limit
-abbrev pub before_push : Refusal → Refusal
-before_push Never = Never
-before_push (After zero pushes) = After zero (suc pushes)
-before_push (After (suc inputs) pushes) = After (suc inputs) pushes
-
--- the refusal before so many of them
-abbrev pub before_pushes : ℕ → Refusal → Refusal
-before_pushes zero refusal = refusal
-before_pushes (suc pushes) refusal = before_push (before_pushes pushes refusal)
 
 -- ---- steps
 
@@ -120,11 +108,6 @@ CountsOne old new false = (can_count old.store ≡ false) × (new ≡ with_statu
 abbrev pub Jumps : ℕ → State → State → Bool → Type 0
 Jumps place old new true = (place ≤ length old.text.bytes) × (new ≡ with_place place old)
 Jumps place old new false = (length old.text.bytes < place) × (new ≡ with_status (FaultStatus (BadBranchTarget place)) old)
-
--- what is left belongs to the running text
-pub record IsRest (left : List ℕ) (is_big : Bool) (x : State) : Type 0 where
-  pub rest : IsSuffix left x.text.bytes
-  pub order : is_big ≡ x.text.is_big
 
 -- the state in front of what is left of its text
 abbrev pub at : (left : List ℕ) → State → State

@@ -10,11 +10,15 @@ overflow_add-number g c =
     let fits = sum_fits c.loop-place.place c.loop-place.number c.from.result c.loop-place.invariant.below (omega arith) (omega arith) in
     search rules
 
-pub returns-then-byte-lt64-clause-value : goal.returns-then-byte-lt64-clause-value
-returns-then-byte-lt64-clause-value g c =
-    let fits = sum_fits c.loop-place.place c.loop-place.number c.from.result c.loop-place.invariant.below (omega arith) (omega arith) in
-    c.loop-place.invariant.so_far
-    ∙ signed_last_low c.loop-place.place c.loop-place.number _ _ c.from.result _ _ c.in_ok-byte.ensures.value (omega arith) (omega arith) (omega arith) (omega (arith, ints))
+pub returns-then-byte-lt64 : goal.returns-then-byte-lt64
+returns-then-byte-lt64 g c = record {
+  value =
+      let fits = sum_fits c.loop-place.place c.loop-place.number c.from.result c.loop-place.invariant.below (omega arith) (omega arith) in
+      c.loop-place.invariant.so_far
+      ∙ signed_last_low c.loop-place.place c.loop-place.number _ _ c.from.result _ _ c.in_ok-byte.ensures.value (omega arith) (omega arith) (omega arith) (omega (arith, ints));
+  rest = suffix_trans _ _ _ c.in_ok-byte.ensures.rest c.loop-place.invariant.rest;
+  order = search rules;
+}
 
 pub overflow_sub-whole : goal.overflow_sub-whole
 overflow_sub-whole g c = below_whole c.loop-place.place c.loop-place.number c.from.result c.loop-place.invariant.below (omega arith) (omega arith)
@@ -25,12 +29,16 @@ overflow_sub-result g c =
     let above = above_half c.loop-place.place c.loop-place.number c.from.result c.loop-place.invariant.below (omega arith) (omega arith) (omega arith) in
     omega (arith, ints)
 
-pub returns-then-byte-lt128-clause-value : goal.returns-then-byte-lt128-clause-value
-returns-then-byte-lt128-clause-value g c =
-    let below = below_whole c.loop-place.place c.loop-place.number c.from.result c.loop-place.invariant.below (omega arith) (omega arith) in
-    let above = above_half c.loop-place.place c.loop-place.number c.from.result c.loop-place.invariant.below (omega arith) (omega arith) (omega arith) in
-    c.loop-place.invariant.so_far
-    ∙ signed_last_high c.loop-place.place c.loop-place.number _ _ c.from.result _ _ c.in_ok-byte.ensures.value (omega arith) (omega arith) (omega arith) (omega arith) (omega (arith, ints))
+pub returns-then-byte-lt128 : goal.returns-then-byte-lt128
+returns-then-byte-lt128 g c = record {
+  value =
+      let below = below_whole c.loop-place.place c.loop-place.number c.from.result c.loop-place.invariant.below (omega arith) (omega arith) in
+      let above = above_half c.loop-place.place c.loop-place.number c.from.result c.loop-place.invariant.below (omega arith) (omega arith) (omega arith) in
+      c.loop-place.invariant.so_far
+      ∙ signed_last_high c.loop-place.place c.loop-place.number _ _ c.from.result _ _ c.in_ok-byte.ensures.value (omega arith) (omega arith) (omega arith) (omega arith) (omega (arith, ints));
+  rest = suffix_trans _ _ _ c.in_ok-byte.ensures.rest c.loop-place.invariant.rest;
+  order = search rules;
+}
 
 pub loop-place-preserved : goal.loop-place-preserved
 loop-place-preserved g c = record {

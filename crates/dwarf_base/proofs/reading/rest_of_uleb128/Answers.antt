@@ -9,9 +9,8 @@ overflow_add-number g c =
     let fits = sum_fits c.loop-place.place c.loop-place.number c.from.result c.loop-place.invariant.below (omega arith) (omega arith) in
     search rules
 
-pub returns-then-byte-lt128-clause-value : goal.returns-then-byte-lt128-clause-value
-returns-then-byte-lt128-clause-value g c =
-    c.loop-place.invariant.so_far ∙ last_from unsigned_leb _ _ _ _ _ _ c.in_ok-byte.ensures.value (omega arith) (omega arith) (omega arith)
+pub returns-then-byte-lt128 : goal.returns-then-byte-lt128
+returns-then-byte-lt128 g c = record { value = c.loop-place.invariant.so_far ∙ last_from unsigned_leb _ _ _ _ _ _ c.in_ok-byte.ensures.value (omega arith) (omega arith) (omega arith); rest = suffix_trans _ _ _ c.in_ok-byte.ensures.rest c.loop-place.invariant.rest; order = search rules }
 
 pub loop-place-preserved : goal.loop-place-preserved
 loop-place-preserved g c = record {

@@ -9,10 +9,11 @@ use Rattle.dwarf_meaning.specs.Requests.{RequiresCallFrameCfa, RequiresAtLocatio
 use Rattle.dwarf_meaning.specs.Acts.{choose, on_top, on_some, on_result, result_of, act, use_of}
 use Rattle.dwarf_meaning.specs.Decoding.{operation_at}
 use Rattle.dwarf_meaning.specs.Opcodes.{row_of}
-use Rattle.dwarf_meaning.specs.Stores.{Never, push_value, push_piece, push_caller}
+use Rattle.dwarf_meaning.specs.Stores.{push_value, push_piece, push_caller}
 use Rattle.dwarf_meaning.specs.Run.{most, run_for}
 use Rattle.dwarf_meaning.specs.Meaning.{RequestOutcome, FaultOutcome}
 use Rattle.dwarf_meaning.specs.Rows.{text, no_limits, with_limits, plain, at_most, unset, given, calls, open_at, word_at, valued, pieced}
+use Rattle.dwarf_meaning.specs.Refusals.{Never}
 use Rattle.dwarf_meaning.proofs.FewTurns.{in_twenty}
 use Rattle.dwarf_laws.proofs.Apart.{end_ended, number_of}
 use Rattle.dwarf_laws.proofs.rows.premises_of_inlining.Goals as goal

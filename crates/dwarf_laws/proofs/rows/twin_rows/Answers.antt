@@ -13,10 +13,11 @@ use Rattle.dwarf_meaning.specs.Meaning.{FaultOutcome, CompleteOutcome, whole}
 use Rattle.dwarf_meaning.specs.Acts.{choose, on_top, on_some, on_result, result_of, act, use_of}
 use Rattle.dwarf_meaning.specs.Decoding.{operation_at}
 use Rattle.dwarf_meaning.specs.Opcodes.{row_of}
-use Rattle.dwarf_meaning.specs.Stores.{Never, push_value, push_piece, push_caller}
+use Rattle.dwarf_meaning.specs.Stores.{push_value, push_piece, push_caller}
 use Rattle.dwarf_meaning.specs.Run.{most, run_for}
 use Rattle.dwarf_meaning.specs.Rows.{text, no_limits, with_limits, plain, unset, calls, open_at, valued, pieced}
 use Rattle.dwarf_meaning.specs.Steps.{InitialValue, ObjectAddress}
+use Rattle.dwarf_meaning.specs.Refusals.{Never}
 use Rattle.dwarf_laws.specs.Agreement as agreeing
 use Rattle.dwarf_laws.specs.Agreement.{none, more, memory, register, wasm_value, entry_value, frame_base, tls, cfa, parameter, relocated, indexed, location, base_type, evaluate, resume}
 use Rattle.dwarf_meaning.proofs.FewTurns.{in_twenty}

@@ -10,10 +10,11 @@ use Rattle.dwarf_meaning.specs.Requests.{RequiresCallFrameCfa, RequiresAtLocatio
 use Rattle.dwarf_meaning.specs.Acts.{choose, on_top, on_some, on_result, result_of, act, use_of}
 use Rattle.dwarf_meaning.specs.Decoding.{operation_at}
 use Rattle.dwarf_meaning.specs.Opcodes.{row_of}
-use Rattle.dwarf_meaning.specs.Stores.{push_value, push_piece, push_caller, Never, After}
+use Rattle.dwarf_meaning.specs.Stores.{push_value, push_piece, push_caller}
 use Rattle.dwarf_meaning.specs.Run.{most, run_for}
 use Rattle.dwarf_meaning.specs.Meaning.{RequestOutcome, FaultOutcome}
 use Rattle.dwarf_meaning.specs.Rows.{text, no_limits, with_limits, plain, at_most, unset, given, calls, open_at, word_at, valued, pieced}
+use Rattle.dwarf_meaning.specs.Refusals.{Never, After}
 use Rattle.dwarf_meaning.proofs.FewTurns.{in_twenty}
 use Rattle.dwarf_meaning.proofs.rows.worked_rows.Goals as goal
 

@@ -4,21 +4,20 @@ use Rattle.dwarf_replay.specs.Replays.{replies_in, steps_of}
 use Rattle.dwarf_replay.specs.Stepping.{step_of}
 use Rattle.dwarf_replay.specs.inner.Keeping.{TakesStep}
 use Rattle.dwarf_replay.specs.declared.walk.Stop.{Stop}
-use Rattle.dwarf_op.specs.Views.{text_of}
 use Rattle.dwarf_replay.proofs.Standings.{Went, went_at_first}
 use Rattle.dwarf_replay.proofs.Turns.{kept_on, stopped, overflowed, taken_all}
 use Rattle.dwarf_replay.proofs.walk.replay.Goals as goal
 
 pub loop-index-init : goal.loop-index-init
 loop-index-init g c =
-    let view = text_of g.R.Reader.bytes g.R.Reader.is_big in
+    let view = g.R.Reader.text in
     let number = g.R.Offset.ReaderOffset.number in
     let x = c.args.eval.now in
     (subst (λ (l : List _). Went x [] (replies_in view number l) x) (sym c.requires.empty) (went_at_first x c.requires.fresh), omega arith, refl)
 
 pub loop-index-preserved : goal.loop-index-preserved
 loop-index-preserved g c =
-    let view = text_of g.R.Reader.bytes g.R.Reader.is_big in
+    let view = g.R.Reader.text in
     let number = g.R.Offset.ReaderOffset.number in
     let steps = c.args.steps.now in
     let index = c.loop-index.index in
@@ -30,7 +29,7 @@ loop-index-preserved g c =
 
 pub returns-in-Err-Misplaced-clause-replays : goal.returns-in-Err-Misplaced-clause-replays
 returns-in-Err-Misplaced-clause-replays g c =
-    let view = text_of g.R.Reader.bytes g.R.Reader.is_big in
+    let view = g.R.Reader.text in
     let number = g.R.Offset.ReaderOffset.number in
     let steps = c.args.steps.now in
     let next = slice_get_read steps (length steps) c.loop-index.index c.index-steps-index.result refl c.loop-index-test.true c.index-steps-index.is in
@@ -39,7 +38,7 @@ returns-in-Err-Misplaced-clause-replays g c =
 
 pub returns-in-Err-NoRoom-clause-replays : goal.returns-in-Err-NoRoom-clause-replays
 returns-in-Err-NoRoom-clause-replays g c =
-    let view = text_of g.R.Reader.bytes g.R.Reader.is_big in
+    let view = g.R.Reader.text in
     let number = g.R.Offset.ReaderOffset.number in
     let steps = c.args.steps.now in
     let next = slice_get_read steps (length steps) c.loop-index.index c.index-steps-index.result refl c.loop-index-test.true c.index-steps-index.is in
@@ -49,7 +48,7 @@ returns-in-Err-NoRoom-clause-replays g c =
 
 pub returns-clause-replays : goal.returns-clause-replays
 returns-clause-replays g c =
-    let view = text_of g.R.Reader.bytes g.R.Reader.is_big in
+    let view = g.R.Reader.text in
     let number = g.R.Offset.ReaderOffset.number in
     let steps = c.args.steps.now in
     taken_all view number c.args.eval.now steps c.loop-index.index (g.L.ArrayLike.items c.loop-index.answers) c.loop-index.eval (omega (arith, c.loop-index-test.false)) c.loop-index.invariant.0

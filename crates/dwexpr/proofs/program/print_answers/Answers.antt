@@ -1,7 +1,7 @@
 use Rattle.std.proofs.Common.{◌+◌, ap, drop, drop_of_length-le}
+use Rattle.dwarf_base.specs.EndianSlice.{slice_text}
 use Rattle.dwarf_replay.specs.Replays.{replies_in, reply_in}
 use Rattle.dwexpr.specs.Lines.{reply_line, reply_lines}
-use Rattle.dwexpr.specs.Writing.{text_in}
 use Rattle.dwexpr.proofs.Fronts.{all_of, as_rest, begun, more_of, refused_in}
 use Rattle.dwexpr.proofs.ListingLemmas.{lines_at}
 use Rattle.dwexpr.proofs.program.print_answers.Goals as goal
@@ -11,17 +11,17 @@ loop-answer-init g c = begun _ _
 
 pub returns-in_err-print_answer : goal.returns-in_err-print_answer
 returns-in_err-print_answer g c =
-    refused_in _ _ _ _ _ (reply_lines (replies_in text_in (λ x. x) (drop (c.loop-answer.answer-index + 1) c.args.answers.now))) _
-    (as_rest _ _ _ _ _ (lines_at reply_line (reply_in text_in (λ x. x)) c.args.answers.now c.loop-answer.answer-index _ c.loop-answer-test.true) c.loop-answer.invariant)
+    refused_in _ _ _ _ _ (reply_lines (replies_in slice_text (λ x. x) (drop (c.loop-answer.answer-index + 1) c.args.answers.now))) _
+    (as_rest _ _ _ _ _ (lines_at reply_line (reply_in slice_text (λ x. x)) c.args.answers.now c.loop-answer.answer-index _ c.loop-answer-test.true) c.loop-answer.invariant)
     c.in_err-print_answer.ensures c.from_residual.ensures
 
 pub loop-answer-preserved : goal.loop-answer-preserved
 loop-answer-preserved g c =
-    more_of _ _ _ _ _ (reply_lines (replies_in text_in (λ x. x) (drop (c.loop-answer.answer-index + 1) c.args.answers.now)))
-    (as_rest _ _ _ _ _ (lines_at reply_line (reply_in text_in (λ x. x)) c.args.answers.now c.loop-answer.answer-index _ c.loop-answer-test.true) c.loop-answer.invariant)
+    more_of _ _ _ _ _ (reply_lines (replies_in slice_text (λ x. x) (drop (c.loop-answer.answer-index + 1) c.args.answers.now)))
+    (as_rest _ _ _ _ _ (lines_at reply_line (reply_in slice_text (λ x. x)) c.args.answers.now c.loop-answer.answer-index _ c.loop-answer-test.true) c.loop-answer.invariant)
     c.in_ok-print_answer.ensures
 
 pub returns : goal.returns
 returns g c =
     all_of _ _ _
-    (as_rest _ _ _ _ _ (ap (λ xs. reply_lines (replies_in text_in (λ x. x) xs)) (drop_of_length-le c.args.answers.now c.loop-answer-test.false)) c.loop-answer.invariant)
+    (as_rest _ _ _ _ _ (ap (λ xs. reply_lines (replies_in slice_text (λ x. x) xs)) (drop_of_length-le c.args.answers.now c.loop-answer-test.false)) c.loop-answer.invariant)

@@ -1,11 +1,11 @@
 use Rattle.std.proofs.Common.{drop}
+use Rattle.dwarf_base.specs.EndianSlice.{slice_text}
 use Rattle.dwarf_replay.specs.Replays.{replies_in}
 use Rattle.dwexpr.specs.Lines.{reply_lines}
-use Rattle.dwexpr.specs.Writing.{text_in}
 use Rattle.dwexpr.proofs.Fronts.{Written}
 use Rattle.dwexpr.proofs.program.print_answers.Given as goal
 
 abbrev pub invariant-loop-answer : goal.invariant-loop-answer
 invariant-loop-answer g l =
-    Written (g.W.Write.contents l.fn.output) (g.W.Write.contents l.output) (reply_lines (replies_in text_in (λ x. x) l.fn.answers))
-    (reply_lines (replies_in text_in (λ x. x) (drop l.answer-index l.fn.answers)))
+    Written (g.W.Write.contents l.fn.output) (g.W.Write.contents l.output) (reply_lines (replies_in slice_text (λ x. x) l.fn.answers))
+    (reply_lines (replies_in slice_text (λ x. x) (drop l.answer-index l.fn.answers)))

@@ -1,7 +1,7 @@
 use Rattle.std.proofs.Common.{◌+◌, ap, map, drop, drop_of_length-le}
+use Rattle.dwarf_base.specs.EndianSlice.{slice_text}
 use Rattle.dwarf_eval.specs.Machine.{piece_of}
 use Rattle.dwexpr.specs.Lines.{piece_line, piece_lines}
-use Rattle.dwexpr.specs.Writing.{text_in}
 use Rattle.dwexpr.proofs.Fronts.{all_of, as_rest, begun, more_of, refused_in}
 use Rattle.dwexpr.proofs.ListingLemmas.{lines_at}
 use Rattle.dwexpr.proofs.program.print_pieces.Goals as goal
@@ -11,17 +11,17 @@ loop-piece-init g c = begun _ _
 
 pub returns-in_err-print_piece : goal.returns-in_err-print_piece
 returns-in_err-print_piece g c =
-    refused_in _ _ _ _ _ (piece_lines (map (piece_of text_in (λ x. x)) (drop (c.loop-piece.piece-index + 1) c.args.pieces.now))) _
-    (as_rest _ _ _ _ _ (lines_at piece_line (piece_of text_in (λ x. x)) c.args.pieces.now c.loop-piece.piece-index _ c.loop-piece-test.true) c.loop-piece.invariant)
+    refused_in _ _ _ _ _ (piece_lines (map (piece_of slice_text (λ x. x)) (drop (c.loop-piece.piece-index + 1) c.args.pieces.now))) _
+    (as_rest _ _ _ _ _ (lines_at piece_line (piece_of slice_text (λ x. x)) c.args.pieces.now c.loop-piece.piece-index _ c.loop-piece-test.true) c.loop-piece.invariant)
     c.in_err-print_piece.ensures c.from_residual.ensures
 
 pub loop-piece-preserved : goal.loop-piece-preserved
 loop-piece-preserved g c =
-    more_of _ _ _ _ _ (piece_lines (map (piece_of text_in (λ x. x)) (drop (c.loop-piece.piece-index + 1) c.args.pieces.now)))
-    (as_rest _ _ _ _ _ (lines_at piece_line (piece_of text_in (λ x. x)) c.args.pieces.now c.loop-piece.piece-index _ c.loop-piece-test.true) c.loop-piece.invariant)
+    more_of _ _ _ _ _ (piece_lines (map (piece_of slice_text (λ x. x)) (drop (c.loop-piece.piece-index + 1) c.args.pieces.now)))
+    (as_rest _ _ _ _ _ (lines_at piece_line (piece_of slice_text (λ x. x)) c.args.pieces.now c.loop-piece.piece-index _ c.loop-piece-test.true) c.loop-piece.invariant)
     c.in_ok-print_piece.ensures
 
 pub returns : goal.returns
 returns g c =
     all_of _ _ _
-    (as_rest _ _ _ _ _ (ap (λ xs. piece_lines (map (piece_of text_in (λ x. x)) xs)) (drop_of_length-le c.args.pieces.now c.loop-piece-test.false)) c.loop-piece.invariant)
+    (as_rest _ _ _ _ _ (ap (λ xs. piece_lines (map (piece_of slice_text (λ x. x)) xs)) (drop_of_length-le c.args.pieces.now c.loop-piece-test.false)) c.loop-piece.invariant)

@@ -1,11 +1,11 @@
 use Rattle.std.proofs.Common.{drop, map}
+use Rattle.dwarf_base.specs.EndianSlice.{slice_text}
 use Rattle.dwarf_eval.specs.Machine.{piece_of}
 use Rattle.dwexpr.specs.Lines.{piece_lines}
-use Rattle.dwexpr.specs.Writing.{text_in}
 use Rattle.dwexpr.proofs.Fronts.{Written}
 use Rattle.dwexpr.proofs.program.print_pieces.Given as goal
 
 abbrev pub invariant-loop-piece : goal.invariant-loop-piece
 invariant-loop-piece g l =
-    Written (g.W.Write.contents l.fn.output) (g.W.Write.contents l.output) (piece_lines (map (piece_of text_in (λ x. x)) l.fn.pieces))
-    (piece_lines (map (piece_of text_in (λ x. x)) (drop l.piece-index l.fn.pieces)))
+    Written (g.W.Write.contents l.fn.output) (g.W.Write.contents l.output) (piece_lines (map (piece_of slice_text (λ x. x)) l.fn.pieces))
+    (piece_lines (map (piece_of slice_text (λ x. x)) (drop l.piece-index l.fn.pieces)))

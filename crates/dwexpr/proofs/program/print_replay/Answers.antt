@@ -1,6 +1,6 @@
+use Rattle.dwarf_base.specs.EndianSlice.{slice_text}
 use Rattle.dwarf_replay.specs.Replays.{replies_in}
 use Rattle.dwexpr.specs.Lines.{reply_lines}
-use Rattle.dwexpr.specs.Writing.{text_in}
 use Rattle.dwexpr.specs.inner.Replayed.{ending_of}
 use Rattle.dwexpr.proofs.Fronts.{begun}
 use Rattle.dwexpr.proofs.ListingLemmas.{ends_behind, ends_refused}
@@ -8,10 +8,10 @@ use Rattle.dwexpr.proofs.program.print_replay.Goals as goal
 
 pub returns-in_err-print_answers : goal.returns-in_err-print_answers
 returns-in_err-print_answers g c =
-    ends_refused _ _ _ _ (reply_lines (replies_in text_in (λ x. x) c.args.answers.now)) (ending_of c.args.evaluation.now c.args.replayed).text _
+    ends_refused _ _ _ _ (reply_lines (replies_in slice_text (λ x. x) c.args.answers.now)) (ending_of c.args.evaluation.now c.args.replayed).text _
     (begun _ _) c.in_err-print_answers.ensures c.from_residual.ensures
 
 pub returns : goal.returns
 returns g c =
-    ends_behind _ _ _ (reply_lines (replies_in text_in (λ x. x) c.args.answers.now)) (ending_of c.args.evaluation.now c.args.replayed) _
+    ends_behind _ _ _ (reply_lines (replies_in slice_text (λ x. x) c.args.answers.now)) (ending_of c.args.evaluation.now c.args.replayed) _
     c.in_ok-print_answers.ensures c.print_end.ensures

@@ -1,10 +1,10 @@
 use Rattle.std.proofs.Common.{refl, inl, inr, ◌∙◌, ap, map}
+use Rattle.dwarf_base.specs.EndianSlice.{slice_text}
 use Rattle.dwarf_base.specs.ByteOrder.{is_big_of}
 use Rattle.dwarf_replay.specs.Replays.{steps_of}
 use Rattle.dwexpr.specs.Evaluates.{bad_steps}
 use Rattle.dwexpr.specs.Endings.{no_memory}
 use Rattle.dwexpr.specs.Steps.{step_owned}
-use Rattle.dwexpr.specs.Writing.{text_in}
 use Rattle.dwexpr.proofs.RunLemmas.{follows_refused, follows_steps}
 use Rattle.dwexpr.proofs.program.run_lines.Goals as goal
 
@@ -24,7 +24,7 @@ returns-in-Ok-borrow_steps g c =
     let read = c.evaluate.ensures in (
       read.0,
       inl (follows_steps _ _ _ (map (step_owned big) c.in-Ok.steps.items) _ read.0 (c.in-Ok.ensures big)
-          (ap (steps_of text_in) c.as_slice-in-Ok-borrow_steps.ensures.value ∙ c.in-Ok-borrow_steps.ensures
+          (ap (steps_of slice_text) c.as_slice-in-Ok-borrow_steps.ensures.value ∙ c.in-Ok-borrow_steps.ensures
           ∙ ap (map (step_owned big)) c.as_slice.ensures.value) read.1),
       read.2,
     )

@@ -1,10 +1,10 @@
 use Rattle.std.proofs.Common.{subst, sym}
-use Rattle.dwarf_meaning.specs.Operations.{Text}
 use Rattle.dwexpr_c.specs.Evaluated.{EvaluatesGiven, Given}
 use Rattle.dwexpr_c.specs.Texts.{text_of_placed}
 use Rattle.dwexpr_c.specs.inner.Places.{IsGiven}
 use Rattle.dwexpr_c.proofs.Finished.{all_ends, given_is}
 use Rattle.dwexpr_c.proofs.evaluating.evaluate_text.Goals as goal
+use Rattle.dwarf_base.specs.Reads.{Text}
 
 pub returns : goal.returns
 returns c =

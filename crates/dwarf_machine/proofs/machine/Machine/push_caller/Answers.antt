@@ -3,7 +3,7 @@ use Rattle.std.specs.List.{AllByRecursion}
 use Rattle.dwarf_meaning.specs.Rest.{State}
 use Rattle.dwarf_base.proofs.Suffixes.{suffix_whole}
 use Rattle.dwarf_store.specs.Lists.{MayRefuse}
-use Rattle.dwarf_machine.specs.Machine.{IsLeftOf}
+use Rattle.dwarf_base.specs.Reads.{IsLeftOf}
 use Rattle.dwarf_machine.proofs.Callers.{callers-push, length-callers, all_and_last}
 use Rattle.dwarf_machine.proofs.Pushes.{frame_pushed, frame_stops}
 use Rattle.dwarf_machine.proofs.machine.Machine.push_caller.Goals as goal
@@ -18,7 +18,7 @@ returns-in_default g c =
 pub invariant_of-self-2 : goal.invariant_of-self-2
 invariant_of-self-2 g c =
     let R = g.row.R.Denot in
-    let P = λ (f : R × R). IsLeftOf g.R.Reader.bytes g.R.Reader.is_big f.1 f.0 in
+    let P = λ (f : R × R). IsLeftOf (g.R.Reader.text f.0) (g.R.Reader.text f.1) in
     record {
       mask = c.self.invariant.mask;
       width = c.self.invariant.width;
@@ -28,8 +28,8 @@ invariant_of-self-2 g c =
 
 pub returns : goal.returns
 returns g c =
-    let none : length (g.R.Reader.bytes c.args.callee) - length (g.R.Reader.bytes c.args.callee) ≡ 0 = omega arith in
+    let none : length (g.R.Reader.text c.args.callee).bytes - length (g.R.Reader.text c.args.callee).bytes ≡ 0 = omega arith in
     rw (← c.self.view_is) (record {
       steps = frame_pushed _ _ _ _ (rw length-callers c.in-Ok.ensures.room) refl;
-      alone = rw (none, c.push.ensures.limit, callers-push g.R.Reader.bytes g.R.Reader.is_big (c.self.inside.pc, c.self.inside.bytecode) _ _ c.in-Ok.ensures.ok) refl;
+      alone = rw (none, c.push.ensures.limit, callers-push g.R.Reader.text (c.self.inside.pc, c.self.inside.bytecode) _ _ c.in-Ok.ensures.ok) refl;
     })

@@ -2,7 +2,6 @@ use Rattle.std.proofs.Common.{sym, ◌∙◌}
 use Rattle.dwarf_machine.specs.Answers.{answer_of}
 use Rattle.dwarf_machine.specs.Inputs.{input_of}
 use Rattle.dwarf_machine.specs.inner.Steps.{total_after}
-use Rattle.dwarf_op.specs.Views.{text_of}
 use Rattle.dwarf_machine.proofs.Reaching.{begins_more, begins_end, runs_on}
 use Rattle.dwarf_machine.proofs.machine.Machine.resume.Goals as goal
 
@@ -11,10 +10,10 @@ run_on-requires g c = runs_on c.take.new.self.status (sym c.is_running.ensures �
 
 pub returns-then-is_running : goal.returns-then-is_running
 returns-then-is_running g c =
-    let answer = answer_of (text_of g.R.Reader.bytes g.R.Reader.is_big) c.args.given in
+    let answer = answer_of g.R.Reader.text c.args.given in
     begins_more c.args.self.now (total_after c.args.self.now (input_of c.args.self.now answer)) c.take.new.self c.run_on.new.self (sym c.is_running.ensures ∙ c.if-is_running.true) c.take.ensures c.run_on.ensures
 
 pub returns-else-is_running : goal.returns-else-is_running
 returns-else-is_running g c =
-    let answer = answer_of (text_of g.R.Reader.bytes g.R.Reader.is_big) c.args.given in
+    let answer = answer_of g.R.Reader.text c.args.given in
     begins_end c.args.self.now (total_after c.args.self.now (input_of c.args.self.now answer)) c.take.new.self (sym c.is_running.ensures ∙ c.if-is_running.false) c.take.ensures

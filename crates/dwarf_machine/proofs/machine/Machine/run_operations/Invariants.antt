@@ -1,11 +1,12 @@
-use Rattle.dwarf_machine.specs.inner.Steps.{IsRest, at, effort}
+use Rattle.dwarf_base.specs.Reads.{IsLeftOf}
+use Rattle.dwarf_machine.specs.inner.Steps.{at, effort}
 use Rattle.dwarf_machine.proofs.Performing.{StillRuns}
 use Rattle.dwarf_machine.proofs.machine.Machine.run_operations.Given as goal
 
 -- what comes of the state at the call is what comes of the state in front of what is left
 abbrev pub invariant-loop-goes_on : goal.invariant-loop-goes_on
 invariant-loop-goes_on g l =
-    StillRuns l.fn.self (at (g.R.Reader.bytes l.left) l.self) l.goes_on × IsRest (g.R.Reader.bytes l.left) (g.R.Reader.is_big l.left) l.self
+    StillRuns l.fn.self (at (g.R.Reader.text l.left).bytes l.self) l.goes_on × IsLeftOf (g.R.Reader.text l.left) l.self.text
 
 abbrev pub decreases-loop-goes_on : goal.decreases-loop-goes_on
 decreases-loop-goes_on g l = effort l.self

@@ -8,10 +8,10 @@ use Rattle.dwarf_machine.proofs.machine.Machine.take_branch.Goals as goal
 
 pub returns-clause-performs : goal.returns-clause-performs
 returns-clause-performs g c =
-    let left = g.R.Reader.bytes c.args.left.now in
+    let left = (g.R.Reader.text c.args.left.now).bytes in
     let marked = at left c.mark_plain.new.self in
     let bits = marked.setup.offset_bits in
-    performs_branch c.args.target (at left c.args.self.now) marked (at (g.R.Reader.bytes c.jump.new.left) c.jump.new.self) (g.R.Offset.ReaderOffset.number c.wrapping_add.result) c.jump.result c.requires.runs (ap (at left) c.mark_plain.ensures)
+    performs_branch c.args.target (at left c.args.self.now) marked (at (g.R.Reader.text c.jump.new.left).bytes c.jump.new.self) (g.R.Offset.ReaderOffset.number c.wrapping_add.result) c.jump.result c.requires.runs (ap (at left) c.mark_plain.ensures)
     (rw (c.wrapping_add.ensures, c.place_of-place.ensures.value, c.from_i16.ensures, ← c.place_of-place.ensures.bits)
     (ap (λ (z : ℤ). (marked.place + residue bits z) % 2 ^ bits) (to_z-of_z w16 c.args.target c.ranges.target)
     ∙ residue-add bits marked.place c.args.target)) c.jump.ensures.jumps

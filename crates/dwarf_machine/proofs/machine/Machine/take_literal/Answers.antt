@@ -1,6 +1,5 @@
 use Rattle.std.proofs.Common.{refl}
 use Rattle.dwarf_meaning.specs.Requests.{TypedLiteral, BaseTypeAnswer}
-use Rattle.dwarf_op.specs.Views.{text_of}
 use Rattle.dwarf_machine.proofs.AnswerUses.{open_to, literal_gives, literal_denies}
 use Rattle.dwarf_machine.proofs.Staying.{stays_here}
 use Rattle.dwarf_machine.proofs.Resuming.{denies, value_takes}
@@ -8,7 +7,7 @@ use Rattle.dwarf_machine.proofs.machine.Machine.take_literal.Goals as goal
 
 pub returns-in-Ok : goal.returns-in-Ok
 returns-in-Ok g c =
-    let text = text_of g.R.Reader.bytes g.R.Reader.is_big c.args.literal in
+    let text = g.R.Reader.text c.args.literal in
     let now = open_to (TypedLiteral text) c.args.self.now.status c.requires in
     value_takes c.args.self.now now.request (TypedLiteral text) now.is (BaseTypeAnswer c.args.base_type) c.args.self.now.store.values c.in-Ok.value
     (literal_gives _ c.args.self.now.store.values text c.args.base_type c.in-Ok.value c.in-Ok.ensures)
@@ -16,6 +15,6 @@ returns-in-Ok g c =
 
 pub returns-in-Err : goal.returns-in-Err
 returns-in-Err g c =
-    let text = text_of g.R.Reader.bytes g.R.Reader.is_big c.args.literal in
+    let text = g.R.Reader.text c.args.literal in
     let now = open_to (TypedLiteral text) c.args.self.now.status c.requires in
     denies c.args.self.now now.request (TypedLiteral text) now.is (BaseTypeAnswer c.args.base_type) c.in-Err.error c.args.self.now c.fail.new.self (literal_denies _ c.args.self.now.store.values text c.args.base_type _ c.in-Err.ensures) (stays_here c.args.self.now) c.fail.ensures

@@ -3,7 +3,6 @@ use Rattle.dwarf_meaning.specs.Kinds as kind
 use Rattle.dwarf_meaning.specs.Requests.{LocationAnswer}
 use Rattle.dwarf_meaning.specs.Stores.{Called}
 use Rattle.dwarf_machine.specs.inner.Steps.{with_last}
-use Rattle.dwarf_op.specs.Views.{text_of}
 use Rattle.dwarf_machine.proofs.AnswerUses.{open_for, location_calls}
 use Rattle.dwarf_machine.proofs.Resuming.{empty_takes, text_takes}
 use Rattle.dwarf_machine.proofs.Texts.{no_bytes, some_bytes}
@@ -12,14 +11,14 @@ use Rattle.dwarf_machine.proofs.machine.Machine.take_location.Goals as goal
 pub returns-then-is_empty : goal.returns-then-is_empty
 returns-then-is_empty g c =
     let now = open_for kind.AtLocation c.args.self.now.status c.requires in
-    let text = text_of g.R.Reader.bytes g.R.Reader.is_big c.args.callee in
+    let text = g.R.Reader.text c.args.callee in
     empty_takes c.args.self.now now.request now.waiting now.is (LocationAnswer text) text c.mark.new.self (location_calls _ c.args.self.now.store.values now.waiting text now.fits)
     (no_bytes text.bytes (sym c.is_empty.ensures ∙ c.if-is_empty.true)) (c.mark.ensures ∙ ap (with_last Called) c.enter.ensures)
 
 pub returns : goal.returns
 returns g c =
     let now = open_for kind.AtLocation c.args.self.now.status c.requires in
-    let text = text_of g.R.Reader.bytes g.R.Reader.is_big c.args.callee in
+    let text = g.R.Reader.text c.args.callee in
     let some = some_bytes text.bytes (sym c.is_empty.ensures ∙ c.if-is_empty.false) in
     text_takes c.args.self.now now.request now.waiting now.is (LocationAnswer text) text some.0 some.1 (location_calls _ c.args.self.now.store.values now.waiting text now.fits) some.2
     c.enter.new.self c.push_caller.new.self c.push_caller.result c.enter.ensures c.push_caller.ensures

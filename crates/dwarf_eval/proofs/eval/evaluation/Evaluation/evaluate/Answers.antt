@@ -2,7 +2,6 @@ use Rattle.std.proofs.Common.{sym, subst}
 use Rattle.dwarf_meaning.specs.Rest.{State}
 use Rattle.dwarf_eval.specs.Evaluation.{Evaluates, EvaluatesPath, IsAtRestBy, reply_of}
 use Rattle.dwarf_machine.specs.inner.Steps.{total}
-use Rattle.dwarf_op.specs.Views.{text_of}
 use Rattle.dwarf_eval.proofs.Following.{start_follows, start_counts}
 use Rattle.dwarf_machine.proofs.Reaching.{ends_over}
 use Rattle.dwarf_eval.proofs.eval.evaluation.Evaluation.evaluate.Goals as goal
@@ -12,7 +11,7 @@ reply-requires g c = ends_over c.self.inside.machine (total c.self.inside.machin
 
 pub returns-in-Start-clause-follows : goal.returns-in-Start-clause-follows
 returns-in-Start-clause-follows g c =
-    let text = text_of g.R.Reader.bytes g.R.Reader.is_big in
+    let text = g.R.Reader.text in
     let number = g.R.Offset.ReaderOffset.number in
     let x : State = c.self.inside.machine in
     let new : State = c.start.new.self in
@@ -23,7 +22,7 @@ returns-in-Start-clause-follows g c =
 
 pub returns-in-Start-clause-counts : goal.returns-in-Start-clause-counts
 returns-in-Start-clause-counts g c =
-    let text = text_of g.R.Reader.bytes g.R.Reader.is_big in
+    let text = g.R.Reader.text in
     let number = g.R.Offset.ReaderOffset.number in
     let x : State = c.self.inside.machine in
     let new : State = c.start.new.self in

@@ -4,7 +4,6 @@ use Rattle.dwarf_eval.specs.Permits.{answer_of}
 use Rattle.dwarf_eval.specs.Bounds.{calls_left}
 use Rattle.dwarf_eval.specs.Evaluation.{Resumes, ResumesPath, reply_of, input_of}
 use Rattle.dwarf_machine.specs.inner.Steps.{total_after}
-use Rattle.dwarf_op.specs.Views.{text_of}
 use Rattle.dwarf_eval.proofs.Following.{resume_follows, resume_counts}
 use Rattle.dwarf_machine.proofs.Nearing.{ends_fewer, if_ok}
 use Rattle.dwarf_machine.proofs.Reaching.{ends_over}
@@ -12,13 +11,13 @@ use Rattle.dwarf_eval.proofs.eval.evaluation.Evaluation.resume.Goals as goal
 
 pub reply-requires : goal.reply-requires
 reply-requires g c =
-    let answer = answer_of (text_of g.R.Reader.bytes g.R.Reader.is_big) c.args.given in
+    let answer = answer_of g.R.Reader.text c.args.given in
     let x : State = c.self.inside.machine in
     ends_over x (total_after x (input_of x answer)) c.resume.new.self c.resume.ensures
 
 pub returns-in-Waiting-clause-follows : goal.returns-in-Waiting-clause-follows
 returns-in-Waiting-clause-follows g c =
-    let text = text_of g.R.Reader.bytes g.R.Reader.is_big in
+    let text = g.R.Reader.text in
     let number = g.R.Offset.ReaderOffset.number in
     let x : State = c.self.inside.machine in
     let new : State = c.resume.new.self in
@@ -28,7 +27,7 @@ returns-in-Waiting-clause-follows g c =
 
 pub returns-in-Waiting-clause-counts : goal.returns-in-Waiting-clause-counts
 returns-in-Waiting-clause-counts g c =
-    let text = text_of g.R.Reader.bytes g.R.Reader.is_big in
+    let text = g.R.Reader.text in
     let x : State = c.self.inside.machine in
     let new : State = c.resume.new.self in
     let answer = answer_of text c.args.given in
@@ -40,6 +39,6 @@ pub returns-in-Waiting-clause-fewer : goal.returns-in-Waiting-clause-fewer
 returns-in-Waiting-clause-fewer g c =
     let x : State = c.self.inside.machine in
     let new : State = c.resume.new.self in
-    let answer = answer_of (text_of g.R.Reader.bytes g.R.Reader.is_big) c.args.given in
+    let answer = answer_of g.R.Reader.text c.args.given in
     let fewer = ends_fewer x (total_after x (input_of x answer)) new _ _ (sym c.in-Waiting.ensures) c.resume.ensures in
     subst (λ (z : State). IfOk c.reply.result (λ t. calls_left new < calls_left z)) c.self.view_is (if_ok (calls_left new < calls_left x) c.reply.result fewer)

@@ -1,0 +1,74 @@
+-- The limits of the lists, and which push is refused without one.
+use Rattle.std.specs.Prelude.{ℕ, zero, suc, ◌≡◌, ◌⊎◌, nat_lt, Option, None, Some, Result, Ok, Err}
+use Rattle.dwarf_base.specs.Faults.{Fault, StackFull}
+use Rattle.dwarf_meaning.specs.Acts.{choose}
+
+-- how many items each list holds at most, where there is such a number
+pub record Limits : Type 0 where
+  pub values : Option ℕ
+  pub callers : Option ℕ
+  pub pieces : Option ℕ
+
+-- Which push on a list without a limit is refused: none, or the one that comes after so many more inputs
+-- were taken, and then after so many more of such pushes.
+pub data Refusal : Type 0 where
+  Never : Refusal
+  After : (inputs pushes : ℕ) → Refusal
+
+-- ---- pushes
+
+-- what is left of the refusal after a push on a list without a limit
+abbrev pub spent : Refusal → Result Refusal Fault
+spent Never = Ok Never
+spent (After zero zero) = Err StackFull
+spent (After zero (suc pushes)) = Ok (After zero pushes)
+spent (After (suc inputs) pushes) = Ok (After (suc inputs) pushes)
+
+-- what is left of the refusal after a push on a list with this limit, of n items
+abbrev pub room : Option ℕ → (n : ℕ) → Refusal → Result Refusal Fault
+room None n refusal = spent refusal
+room (Some limit) n refusal = choose (nat_lt n limit) (Ok refusal) (Err StackFull)
+
+-- the refusal before a push on a list without a limit
+abbrev pub before_push : Refusal → Refusal
+before_push Never = Never
+before_push (After zero pushes) = After zero (suc pushes)
+before_push (After (suc inputs) pushes) = After (suc inputs) pushes
+
+-- the refusal before so many of them
+abbrev pub before_pushes : ℕ → Refusal → Refusal
+before_pushes zero refusal = refusal
+before_pushes (suc pushes) refusal = before_push (before_pushes pushes refusal)
+
+-- ---- inputs
+
+-- what is left of it once an input is taken
+abbrev pub taken : Refusal → Refusal
+taken Never = Never
+taken (After zero pushes) = Never
+taken (After (suc inputs) pushes) = After inputs pushes
+
+-- one of the lists has no limit
+abbrev pub HasFreeList : Limits → Type 0
+HasFreeList limits = (limits.values ≡ None) ⊎ (limits.callers ≡ None) ⊎ (limits.pieces ≡ None)
+
+-- only a push on a list without a limit may be refused before a limit is met
+abbrev pub MayPick : Limits → Refusal → Type 0
+MayPick limits Never = Unit {0}
+MayPick limits (After inputs pushes) = HasFreeList limits
+
+-- the refusal before an input is taken
+abbrev pub before_input : Refusal → Refusal
+before_input Never = Never
+before_input (After inputs pushes) = After (suc inputs) pushes
+
+-- the refusal, so many inputs before
+abbrev pub before_inputs : ℕ → Refusal → Refusal
+before_inputs zero refusal = refusal
+before_inputs (suc n) refusal = before_inputs n (before_input refusal)
+
+-- no push is refused before the next input is taken
+abbrev pub IsLater : Refusal → Type 0
+IsLater Never = Unit {0}
+IsLater (After zero pushes) = ⊥
+IsLater (After (suc inputs) pushes) = Unit {0}

@@ -1,0 +1,8 @@
+use Rattle.std.proofs.Common.{rules}
+use Rattle.dwarf_op.proofs.decoding.read_operands.Goals as goal
+
+pub returns-in_err-read_piece-in-Piece : goal.returns-in_err-read_piece-in-Piece
+returns-in_err-read_piece-in-Piece g c = let read = c.in_err-read_piece-in-Piece.ensures c.args.encoding in search (rules, read)
+
+pub returns-in_ok-read_piece-in-Piece : goal.returns-in_ok-read_piece-in-Piece
+returns-in_ok-read_piece-in-Piece g c = let read = c.in_ok-read_piece-in-Piece.ensures c.args.encoding in search (rules, read)

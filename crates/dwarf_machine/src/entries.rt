@@ -247,6 +247,20 @@ impl<R: Reader + Copy, S: EvaluationStorage<R>> Machine<R, S> {
         Ok(())
     }
 
+    /// The same on a copy of what is left, so that this needn't stand in memory; the room for it is made here alone.
+    #[inline(always)]
+    fn perform_rare_apart(&mut self, entry: Rare, left: &mut R, encoding: Encoding) -> Result<()>
+        requires runs { self.old.status ≡ Running }
+        requires rest { IsLeftOf (R.text left.old) self.old.text }
+        ensures performs { TriesToPerform (operands_at (context_of encoding R.Offset.BITS (R.text left.old).is_big) (rare_row entry) (R.text left.old).bytes) (R.text left.new).bytes self.old self.new result }
+        ensures rest { IsLeftOf (R.text left.new) self.new.text }
+    {
+        let mut apart = *left;
+        let done = self.perform_rare(entry, &mut apart, encoding);
+        *left = apart;
+        done
+    }
+
     /// Reads the operands of an entry, and does its operation.
     fn perform_entry(
         &mut self,
@@ -303,12 +317,7 @@ impl<R: Reader + Copy, S: EvaluationStorage<R>> Machine<R, S> {
                 let size_in_bits = read_piece(left)?;
                 self.end_piece(size_in_bits, None);
             }
-            Entry::Rare(entry) => {
-                let mut apart = *left;
-                let done = self.perform_rare(entry, &mut apart, encoding);
-                *left = apart;
-                return done;
-            }
+            Entry::Rare(entry) => return self.perform_rare_apart(entry, left, encoding),
         }
         Ok(())
     }

@@ -232,6 +232,21 @@ fn read_rare_operands<R: Reader + Copy>(
     }
 }
 
+// On a copy of the reader, so that the reader itself needn't stand in memory; the room for the copy is made here alone.
+#[inline(always)]
+fn read_rare<R: Reader + Copy>(
+    entry: Rare,
+    bytes: &mut R,
+    encoding: Encoding,
+) -> Result<Operation<R>>
+    ensures { Reads (operation_of R.text R.Offset.number) (R.text bytes.old) (R.text bytes.new) result (operands_at (context_of encoding R.Offset.BITS (R.text bytes.old).is_big) (rare_row entry) (R.text bytes.old).bytes) }
+{
+    let mut apart = *bytes;
+    let operation = read_rare_operands(entry, &mut apart, encoding);
+    *bytes = apart;
+    operation
+}
+
 #[tactic(auto, using(dwarf_base::proofs::Suffixes::suffix_trans, crate::proofs::OneByte::one_byte))]
 #[inline(always)]
 fn read_operands<R: Reader + Copy>(
@@ -276,12 +291,7 @@ fn read_operands<R: Reader + Copy>(
             size_in_bits: read_piece(bytes)?,
             bit_offset: None,
         }),
-        Entry::Rare(entry) => {
-            let mut apart = *bytes;
-            let operation = read_rare_operands(entry, &mut apart, encoding);
-            *bytes = apart;
-            operation
-        }
+        Entry::Rare(entry) => read_rare(entry, bytes, encoding),
     }
 }
 

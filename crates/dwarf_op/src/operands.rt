@@ -33,10 +33,7 @@ pub fn read_uleb128<R: Reader + Copy>(bytes: &mut R) -> Result<u64>
         *bytes = rest;
         return Ok(u64::from(first % 128) + 128 * u64::from(second));
     }
-    let mut apart = *bytes;
-    let number = read_long_uleb128(&mut apart)?;
-    *bytes = apart;
-    Ok(number)
+    read_uleb128_apart(bytes)
 }
 
 /// Reads a signed LEB128 number (DWARF 5, section 7.6). `BadSignedLeb128` where its tenth byte leaves 64 bits.
@@ -56,10 +53,7 @@ pub fn read_sleb128<R: Reader + Copy>(bytes: &mut R) -> Result<i64>
         *bytes = rest;
         return Ok(i64::from(first % 128) + 128 * last_byte(second));
     }
-    let mut apart = *bytes;
-    let number = read_long_sleb128(&mut apart)?;
-    *bytes = apart;
-    Ok(number)
+    read_sleb128_apart(bytes)
 }
 
 // What the last byte of a signed number adds at its place: its seven bits, whose highest is the sign.
@@ -73,11 +67,34 @@ fn last_byte(byte: u8) -> i64
     i64::from((byte + 64) % 128) - 64
 }
 
+// A number of three bytes or more. The copy is made in a function of its own: where a function begins, room for all of
+// its locals is set to zero, and most numbers are short.
+#[inline(always)]
+fn read_uleb128_apart<R: Reader + Copy>(bytes: &mut R) -> Result<u64>
+    ensures { Reads (λ n. n) (R.text bytes.old) (R.text bytes.new) result (uleb_at (R.text bytes.old).bytes) }
+{
+    let mut apart = *bytes;
+    let number = read_long_uleb128(&mut apart)?;
+    *bytes = apart;
+    Ok(number)
+}
+
 #[inline(never)]
 fn read_long_uleb128<R: Reader>(bytes: &mut R) -> Result<u64>
     ensures { Reads (λ n. n) (R.text bytes.old) (R.text bytes.new) result (uleb_at (R.text bytes.old).bytes) }
 {
     bytes.read_uleb128()
+}
+
+// The same of a signed number.
+#[inline(always)]
+fn read_sleb128_apart<R: Reader + Copy>(bytes: &mut R) -> Result<i64>
+    ensures { Reads (λ n. n) (R.text bytes.old) (R.text bytes.new) result (sleb_at (R.text bytes.old).bytes) }
+{
+    let mut apart = *bytes;
+    let number = read_long_sleb128(&mut apart)?;
+    *bytes = apart;
+    Ok(number)
 }
 
 #[inline(never)]

@@ -4,5 +4,6 @@ mod evaluation;
 mod requests;
 mod states;
 
+pub use dwarf_meaning::WaitingKind;
 pub use evaluation::Evaluation;
-pub use states::{Status, WaitingKind};
+pub use states::Status;

@@ -8,8 +8,9 @@ use Rattle.dwarf_value.specs.declared.types.Value.{Value}
 use Rattle.dwarf_value.specs.declared.types.Value.TheVariants.{Generic}
 use Rattle.dwarf_value.specs.declared.types.ValueType.{ValueType}
 use Rattle.dwarf_value.specs.Values.{add_of, from_u64_of, type_of, convert_of, reinterpret_of, parse_of}
-use Rattle.dwarf_meaning.specs.Kinds as kind
-use Rattle.dwarf_meaning.specs.Kinds.{Kind, kind_of_waiting, kind_of_answer}
+use Rattle.dwarf_meaning.specs.declared.kinds.WaitingKind.TheVariants as kind
+use Rattle.dwarf_meaning.specs.Kinds.{kind_of_waiting, kind_of_answer}
+use Rattle.dwarf_meaning.specs.declared.kinds.WaitingKind.{WaitingKind}
 use Rattle.dwarf_meaning.specs.Requests.{Request, Waiting, Memory, Register, WasmValue, EntryValue, FrameBase, Tls, CallFrameCfa, ParameterRef, RelocatedAddress, IndexedAddress, AtLocation, TypedLiteral, Convert, Reinterpret, MemoryAnswer, RegisterAnswer, WasmAnswer, EntryAnswer, FrameBaseAnswer, TlsAnswer, CfaAnswer, ParameterAnswer, RelocatedAnswer, IndexedAnswer, LocationAnswer, BaseTypeAnswer}
 use Rattle.dwarf_meaning.specs.Acts.{Use, PushesAnswer, Calls, FaultUse, on_top, on_result, result_of, use_of}
 use Rattle.dwarf_meaning.specs.Rest.{Status, Start, Running, RequestStatus, CompleteStatus, FaultStatus}
@@ -22,7 +23,7 @@ pub record IsOpenTo (wanted : Waiting) (status : Status) : Type 0 where
   pub request : Request
   pub is : status ≡ RequestStatus request wanted
 
-pub record IsOpen (kind : Kind) (status : Status) : Type 0 where
+pub record IsOpen (kind : WaitingKind) (status : Status) : Type 0 where
   pub request : Request
   pub waiting : Waiting
   pub is : status ≡ RequestStatus request waiting
@@ -35,7 +36,7 @@ open_to wanted (CompleteStatus value) h = absurd h
 open_to wanted (FaultStatus error) h = absurd h
 open_to wanted Running h = absurd h
 
-pub open_for : (kind : Kind) (status : Status) → IsWaitingFor kind status → IsOpen kind status
+pub open_for : (kind : WaitingKind) (status : Status) → IsWaitingFor kind status → IsOpen kind status
 open_for kind (RequestStatus request waiting) h = record { request = request; waiting = waiting; is = refl; fits = h }
 open_for kind (Start initial_value) h = absurd h
 open_for kind (CompleteStatus value) h = absurd h

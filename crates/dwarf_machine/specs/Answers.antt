@@ -1,7 +1,8 @@
 -- What a machine is given, and what it waits for.
 use Rattle.std.specs.Prelude.{◌≡◌}
 use Rattle.dwarf_base.specs.Reads.{Text}
-use Rattle.dwarf_meaning.specs.Kinds.{Kind, kind_of_waiting}
+use Rattle.dwarf_meaning.specs.Kinds.{kind_of_waiting}
+use Rattle.dwarf_meaning.specs.declared.kinds.WaitingKind.{WaitingKind}
 use Rattle.dwarf_meaning.specs.Requests as asked
 use Rattle.dwarf_meaning.specs.Rest as rest
 use Rattle.dwarf_meaning.specs.Rest.{Start, Running, RequestStatus, CompleteStatus, FaultStatus}
@@ -24,7 +25,7 @@ answer_of text (given.AtLocation expression) = asked.LocationAnswer (text expres
 answer_of text (given.BaseType value_type) = asked.BaseTypeAnswer value_type
 
 -- a request of this kind is open
-abbrev pub IsWaitingFor : Kind → rest.Status → Type 0
+abbrev pub IsWaitingFor : WaitingKind → rest.Status → Type 0
 IsWaitingFor kind (RequestStatus request waiting) = kind_of_waiting waiting ≡ kind
 IsWaitingFor kind (Start initial_value) = ⊥
 IsWaitingFor kind (CompleteStatus value) = ⊥

@@ -1,24 +1,11 @@
 -- The kinds of answers that requests wait for (DWARF 5, sections 2.5.1 and 2.6.1).
 use Rattle.dwarf_meaning.specs.Requests as asked
 use Rattle.dwarf_meaning.specs.Requests.{Request, Waiting, Answer}
-
--- the twelve kinds
-pub data Kind : Type 0 where
-  Memory : Kind
-  Register : Kind
-  WasmValue : Kind
-  EntryValue : Kind
-  FrameBase : Kind
-  Tls : Kind
-  CallFrameCfa : Kind
-  ParameterRef : Kind
-  RelocatedAddress : Kind
-  IndexedAddress : Kind
-  AtLocation : Kind
-  BaseType : Kind
+use Rattle.dwarf_meaning.specs.declared.kinds.WaitingKind.{WaitingKind}
+use Rattle.dwarf_meaning.specs.declared.kinds.WaitingKind.TheVariants.{Memory, Register, WasmValue, EntryValue, FrameBase, Tls, CallFrameCfa, ParameterRef, RelocatedAddress, IndexedAddress, AtLocation, BaseType}
 
 -- the kind of answer that a request wants
-abbrev pub kind_of_request : Request → Kind
+abbrev pub kind_of_request : Request → WaitingKind
 kind_of_request (asked.RequiresMemory address size space base_type) = Memory
 kind_of_request (asked.RequiresRegister register base_type) = Register
 kind_of_request (asked.RequiresWasmLocal index) = WasmValue
@@ -35,7 +22,7 @@ kind_of_request (asked.RequiresIndexedAddress index relocate) = IndexedAddress
 kind_of_request (asked.RequiresBaseType base_type) = BaseType
 
 -- the kind of answer that is waited for
-abbrev pub kind_of_waiting : Waiting → Kind
+abbrev pub kind_of_waiting : Waiting → WaitingKind
 kind_of_waiting asked.Memory = Memory
 kind_of_waiting (asked.Register offset) = Register
 kind_of_waiting asked.WasmValue = WasmValue
@@ -52,7 +39,7 @@ kind_of_waiting asked.Convert = BaseType
 kind_of_waiting asked.Reinterpret = BaseType
 
 -- the kind of an answer
-abbrev pub kind_of_answer : Answer → Kind
+abbrev pub kind_of_answer : Answer → WaitingKind
 kind_of_answer (asked.MemoryAnswer value) = Memory
 kind_of_answer (asked.RegisterAnswer value) = Register
 kind_of_answer (asked.WasmAnswer value) = WasmValue

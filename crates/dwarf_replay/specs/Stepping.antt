@@ -2,7 +2,8 @@
 use Rattle.std.specs.Prelude.{ℕ, ◌≡◌, Some, None, Result}
 use Rattle.dwarf_base.specs.declared.errors.Error.{Error}
 use Rattle.dwarf_base.specs.Reads.{Text}
-use Rattle.dwarf_meaning.specs.Kinds.{Kind, kind_of_request, kind_of_answer}
+use Rattle.dwarf_meaning.specs.Kinds.{kind_of_request, kind_of_answer}
+use Rattle.dwarf_meaning.specs.declared.kinds.WaitingKind.{WaitingKind}
 use Rattle.dwarf_meaning.specs.Requests as asked
 use Rattle.dwarf_meaning.specs.Rest.{State, Status, Start, Running, RequestStatus, CompleteStatus, FaultStatus}
 use Rattle.dwarf_meaning.specs.Steps as meaning
@@ -34,7 +35,7 @@ step_of text (step.AtLocation expression) = meaning.Resume (asked.LocationAnswer
 step_of text (step.BaseType value_type) = meaning.Resume (asked.BaseTypeAnswer value_type)
 
 -- a request of this kind is open, or the evaluation met a fault
-abbrev pub IsInRequestFor : Kind → Status → Type 0
+abbrev pub IsInRequestFor : WaitingKind → Status → Type 0
 IsInRequestFor kind (RequestStatus request waiting) = kind_of_request request ≡ kind
 IsInRequestFor kind (FaultStatus error) = Unit {0}
 IsInRequestFor kind (Start initial_value) = ⊥

@@ -1,7 +1,7 @@
 ghost use Rattle.std.specs.Borrow.{ffalse};
 ghost use Rattle.std.specs.Prelude.{◌≡◌, None};
 ghost use Rattle.dwarf_meaning.specs.Rest.{Start};
-ghost use Rattle.dwarf_eval.specs.Permits.{IsOpenFor, kind_of};
+ghost use Rattle.dwarf_eval.specs.Permits.{IsOpenFor};
 ghost use Rattle.dwarf_eval.specs.Evaluation.{IsComplete};
 
 use arrayvec::ArrayVec;
@@ -106,7 +106,7 @@ fn expect_waiting<R: Reader + Copy, S: EvaluationStorage<R>>(
     eval: &Evaluation<R, S>,
     kind: WaitingKind,
 )
-    ensures { IsOpenFor (kind_of kind) eval.now.status }
+    ensures { IsOpenFor kind eval.now.status }
 {
     assert!(rt; eval.status() == Status::Waiting(kind));
 }

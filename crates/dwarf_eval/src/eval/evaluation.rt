@@ -1,5 +1,5 @@
 ghost use Rattle.std.specs.Prelude.{◌≡◌, ◌<◌, ◌≤◌, [], None, Some, IfOk, map};
-ghost use Rattle.dwarf_meaning.specs.Kinds as kind;
+ghost use Rattle.dwarf_meaning.specs.declared.kinds.WaitingKind.TheVariants as kind;
 ghost use Rattle.dwarf_meaning.specs.Kinds.{kind_of_answer};
 ghost use Rattle.dwarf_meaning.specs.Requests as asked;
 ghost use Rattle.dwarf_meaning.specs.Rest.{Start, CompleteStatus};

@@ -4,14 +4,14 @@ ghost use Rattle.dwarf_meaning.specs.Rest.{RequestStatus};
 ghost use Rattle.dwarf_meaning.specs.Steps.{RequestReply};
 ghost use Rattle.dwarf_machine.specs.Machine.{request_of, waiting_of};
 ghost use Rattle.dwarf_machine.specs.inner.Steps.{HasStopped};
-ghost use Rattle.dwarf_eval.specs.Permits.{Admits, kind_of};
+ghost use Rattle.dwarf_eval.specs.Permits.{Admits};
 ghost use Rattle.dwarf_eval.specs.Evaluation.{IsReplied, reply_of, ok_reply};
 
-use crate::eval::states::WaitingKind;
 use crate::op::{EvaluationResult, Expression};
 use dwarf_base::{Reader, Result};
 use dwarf_machine::machine::Machine;
 use dwarf_machine::states::{EvaluationState, OpenRequest};
+use dwarf_meaning::WaitingKind;
 use dwarf_store::EvaluationStorage;
 
 /// What is asked.
@@ -70,9 +70,9 @@ pub(crate) fn result_of<R: Reader + Copy>(request: OpenRequest<R>) -> Evaluation
 
 /// The kind of its answer.
 pub(crate) fn kind_of_open<R: Reader + Copy>(request: OpenRequest<R>) -> WaitingKind
-    ensures waits { kind_of result
+    ensures waits { result
         ≡ kind_of_waiting (waiting_of R.text request) }
-    ensures asks { kind_of result
+    ensures asks { result
         ≡ kind_of_request (request_of R.text R.Offset.number request) }
 {
     match request {

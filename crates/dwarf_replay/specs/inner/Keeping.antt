@@ -5,9 +5,9 @@ use Rattle.dwarf_base.specs.Reads.{Text}
 use Rattle.dwarf_meaning.specs.Kinds.{kind_of_answer}
 use Rattle.dwarf_meaning.specs.Rest.{State, Status}
 use Rattle.dwarf_meaning.specs.Steps.{Step, InitialValue, ObjectAddress, MaxIterations, Evaluate, Resume}
-use Rattle.dwarf_eval.specs.Permits.{IsOpenFor, kind_of}
+use Rattle.dwarf_eval.specs.Permits.{IsOpenFor}
 use Rattle.dwarf_eval.specs.Evaluation.{Resumes, input_of}
-use Rattle.dwarf_eval.specs.declared.eval.states.WaitingKind.{WaitingKind}
+use Rattle.dwarf_meaning.specs.declared.kinds.WaitingKind.{WaitingKind}
 use Rattle.dwarf_eval.specs.declared.op.results.EvaluationResult.{EvaluationResult}
 use Rattle.dwarf_store.specs.Lists.{MayRefuse}
 use Rattle.dwarf_replay.specs.Stepping.{MayTake, IsSet, HasReplied}
@@ -29,7 +29,7 @@ TakesStep text number step limit old given new all (Err (stop.NoRoom answer)) = 
 
 -- the kind of the step's answer, or none where it is a setting or the start
 abbrev pub IsKindOf : Step → Option WaitingKind → Type 0
-IsKindOf (Resume answer) (Some kind) = kind_of kind ≡ kind_of_answer answer
+IsKindOf (Resume answer) (Some kind) = kind ≡ kind_of_answer answer
 IsKindOf (Resume answer) None = ⊥
 IsKindOf (InitialValue number) kind = kind ≡ None
 IsKindOf (ObjectAddress address) kind = kind ≡ None

@@ -1,6 +1,6 @@
 use Rattle.std.proofs.Common.{◌∙◌, sym}
 use denote.Enum.Bare.{same_true, true_same}
-use Rattle.dwarf_eval.specs.contracts.eval.states.WaitingKind.{the_type}
+use Rattle.dwarf_meaning.specs.contracts.kinds.WaitingKind.{the_type}
 use Rattle.dwarf_replay.proofs.WaitingKinds.{asks, is_asked}
 use Rattle.dwarf_replay.proofs.stepping.awaits.Goals as goal
 

@@ -1,7 +1,7 @@
 -- Answers that are pushed as they are.
 use Rattle.std.proofs.Common.{refl, subst, sym}
 use Rattle.dwarf_value.specs.declared.types.Value.TheVariants.{Generic}
-use Rattle.dwarf_meaning.specs.Kinds as kind
+use Rattle.dwarf_meaning.specs.declared.kinds.WaitingKind.TheVariants as kind
 use Rattle.dwarf_meaning.specs.Kinds.{kind_of_answer}
 use Rattle.dwarf_meaning.specs.Requests.{MemoryAnswer, WasmAnswer, EntryAnswer, TlsAnswer, CfaAnswer, ParameterAnswer, RelocatedAnswer, IndexedAnswer}
 use Rattle.dwarf_machine.specs.Answers.{IsWaitingFor, answer_of}

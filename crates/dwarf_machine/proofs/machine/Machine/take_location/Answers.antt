@@ -1,5 +1,5 @@
 use Rattle.std.proofs.Common.{sym, ap, ◌∙◌}
-use Rattle.dwarf_meaning.specs.Kinds as kind
+use Rattle.dwarf_meaning.specs.declared.kinds.WaitingKind.TheVariants as kind
 use Rattle.dwarf_meaning.specs.Requests.{LocationAnswer}
 use Rattle.dwarf_meaning.specs.Stores.{Called}
 use Rattle.dwarf_machine.specs.inner.Steps.{with_last}

@@ -25,9 +25,12 @@ pub fn equality_laws()
 
 /// Offsets and indices are equal exactly where their numbers are.
 pub fn offset_equality_laws<T: Eq>()
-    ensures unit_offset { IsEqualityBy ⟦<UnitOffset<T> as PartialEq>⟧.eq (λ offset. offset.0) T.PartialEq.eq }
-    ensures debug_info_offset { IsEqualityBy ⟦<DebugInfoOffset<T> as PartialEq>⟧.eq (λ offset. offset.0) T.PartialEq.eq }
-    ensures debug_addr_index { IsEqualityBy ⟦<DebugAddrIndex<T> as PartialEq>⟧.eq (λ index. index.0) T.PartialEq.eq }
+    ensures unit_offset { IsEqualityBy ⟦<UnitOffset<T> as PartialEq>⟧.eq (λ offset. offset.0)
+        T.PartialEq.eq }
+    ensures debug_info_offset { IsEqualityBy ⟦<DebugInfoOffset<T> as PartialEq>⟧.eq
+        (λ offset. offset.0) T.PartialEq.eq }
+    ensures debug_addr_index { IsEqualityBy ⟦<DebugAddrIndex<T> as PartialEq>⟧.eq (λ index. index.0)
+        T.PartialEq.eq }
 {}
 
 /// Slices are equal exactly where their bytes are the same and their byte orders are equal.

@@ -9,7 +9,8 @@ ghost use Rattle.dwarf_base.specs.Reads.{u8_at, split_at, fixed_at, signed_at, a
 pub fn reader_laws()
     // A value is read exactly where a front spells it, and a fault is met exactly where one is due.
     ensures block { (n : ℕ) → ReadsExactly (SpellsBlock n) (MalformedBlock n) (split_at n) }
-    ensures fixed { (big : Bool) (n : ℕ) → ReadsExactly (SpellsFixed big n) (MalformedBlock n) (fixed_at big n) }
+    ensures fixed { (big : Bool) (n : ℕ)
+        → ReadsExactly (SpellsFixed big n) (MalformedBlock n) (fixed_at big n) }
     ensures unsigned { ReadsExactly (SpellsLeb unsigned_leb) (MalformedLeb unsigned_leb) uleb_at }
     ensures signed { ReadsExactly (SpellsLeb signed_leb) (MalformedLeb signed_leb) sleb_at }
 
@@ -19,7 +20,8 @@ pub fn reader_laws()
     ensures fixed_fronts { (big : Bool) (n : ℕ) → ReadsFronts (fixed_at big n) }
     ensures signed_fixed_fronts { (big : Bool) (n : ℕ) → ReadsFronts (signed_at big n) }
     ensures address_fronts { (big : Bool) (size : ℕ) → ReadsFronts (address_at big size) }
-    ensures offset_fronts { (big : Bool) (format : Format) (bits : ℕ) → ReadsFronts (format_at big format bits) }
+    ensures offset_fronts { (big : Bool) (format : Format) (bits : ℕ)
+        → ReadsFronts (format_at big format bits) }
     ensures unsigned_fronts { ReadsFronts uleb_at }
     ensures small_unsigned_fronts { ReadsFronts uleb_u32_at }
     ensures signed_fronts { ReadsFronts sleb_at }

@@ -36,31 +36,37 @@ pub trait Reader: Debug {
     /// How many bytes of `base` come before these, which are a suffix of its bytes.
     fn offset_from(&self, base: &Self) -> Self::Offset
         requires { IsSuffix (text self.now).bytes (text base.now).bytes }
-        ensures { Self.Offset.number result ≡ length (text base.now).bytes - length (text self.now).bytes };
+        ensures { Self.Offset.number result
+            ≡ length (text base.now).bytes - length (text self.now).bytes };
 
     /// Drops the first `len` bytes. `UnexpectedEof` where there are fewer.
     fn skip(&mut self, len: Self::Offset) -> Result<()>
-        ensures { ReadsAtOnce (λ x. x) (text self.old) (text self.new) result (skip_at (Self.Offset.number len) (text self.old).bytes) };
+        ensures { ReadsAtOnce (λ x. x) (text self.old) (text self.new) result
+            (skip_at (Self.Offset.number len) (text self.old).bytes) };
 
     /// Takes the first `len` bytes, in the same byte order. `UnexpectedEof` where there are fewer.
     fn split(&mut self, len: Self::Offset) -> Result<Self>
-        ensures reads { ReadsAtOnce (λ front. (text front).bytes) (text self.old) (text self.new) result (split_at (Self.Offset.number len) (text self.old).bytes) }
+        ensures reads { ReadsAtOnce (λ front. (text front).bytes) (text self.old) (text self.new)
+            result (split_at (Self.Offset.number len) (text self.old).bytes) }
         ensures front_order { IfOk result (λ front. (text front).is_big ≡ (text self.old).is_big) };
 
     /// Reads one byte. `UnexpectedEof` where there is none.
     fn read_u8(&mut self) -> Result<u8>
-        ensures { ReadsAtOnce (λ n. n) (text self.old) (text self.new) result (u8_at (text self.old).bytes) };
+        ensures { ReadsAtOnce (λ n. n) (text self.old) (text self.new) result
+            (u8_at (text self.old).bytes) };
 
     /// Reads an unsigned number of `n` bytes, which are 1, 2, 4 or 8. `UnexpectedEof` where there are fewer.
     fn read_fixed(&mut self, n: u8) -> Result<u64>
         requires { IsTrue (is_fixed_size n) }
-        ensures reads { ReadsAtOnce (λ x. x) (text self.old) (text self.new) result (fixed_at (text self.old).is_big n (text self.old).bytes) }
+        ensures reads { ReadsAtOnce (λ x. x) (text self.old) (text self.new) result
+            (fixed_at (text self.old).is_big n (text self.old).bytes) }
         ensures fits { IfOk result (λ number. number < 256 ^ n) };
 
     /// Reads an unsigned number of 2 bytes. `UnexpectedEof` where there are fewer.
     #[inline]
     fn read_u16(&mut self) -> Result<u16>
-        ensures { ReadsAtOnce (λ x. x) (text self.old) (text self.new) result (fixed_at (text self.old).is_big 2 (text self.old).bytes) }
+        ensures { ReadsAtOnce (λ x. x) (text self.old) (text self.new) result
+            (fixed_at (text self.old).is_big 2 (text self.old).bytes) }
     {
         let number = self.read_fixed(2)?;
         Ok(number as u16)
@@ -69,7 +75,8 @@ pub trait Reader: Debug {
     /// Reads an unsigned number of 4 bytes. `UnexpectedEof` where there are fewer.
     #[inline]
     fn read_u32(&mut self) -> Result<u32>
-        ensures { ReadsAtOnce (λ x. x) (text self.old) (text self.new) result (fixed_at (text self.old).is_big 4 (text self.old).bytes) }
+        ensures { ReadsAtOnce (λ x. x) (text self.old) (text self.new) result
+            (fixed_at (text self.old).is_big 4 (text self.old).bytes) }
     {
         let number = self.read_fixed(4)?;
         Ok(number as u32)
@@ -78,7 +85,8 @@ pub trait Reader: Debug {
     /// Reads an unsigned number of 8 bytes. `UnexpectedEof` where there are fewer.
     #[inline]
     fn read_u64(&mut self) -> Result<u64>
-        ensures { ReadsAtOnce (λ x. x) (text self.old) (text self.new) result (fixed_at (text self.old).is_big 8 (text self.old).bytes) }
+        ensures { ReadsAtOnce (λ x. x) (text self.old) (text self.new) result
+            (fixed_at (text self.old).is_big 8 (text self.old).bytes) }
     {
         self.read_fixed(8)
     }
@@ -86,7 +94,8 @@ pub trait Reader: Debug {
     /// Reads a signed number of 1 byte, in two's complement. `UnexpectedEof` where there is none.
     #[inline]
     fn read_i8(&mut self) -> Result<i8>
-        ensures { ReadsAtOnce (λ x. x) (text self.old) (text self.new) result (signed_at (text self.old).is_big 1 (text self.old).bytes) }
+        ensures { ReadsAtOnce (λ x. x) (text self.old) (text self.new) result
+            (signed_at (text self.old).is_big 1 (text self.old).bytes) }
     {
         let number = self.read_fixed(1)?;
         Ok((number as u8).cast_signed())
@@ -95,7 +104,8 @@ pub trait Reader: Debug {
     /// Reads a signed number of 2 bytes, in two's complement. `UnexpectedEof` where there are fewer.
     #[inline]
     fn read_i16(&mut self) -> Result<i16>
-        ensures { ReadsAtOnce (λ x. x) (text self.old) (text self.new) result (signed_at (text self.old).is_big 2 (text self.old).bytes) }
+        ensures { ReadsAtOnce (λ x. x) (text self.old) (text self.new) result
+            (signed_at (text self.old).is_big 2 (text self.old).bytes) }
     {
         let number = self.read_u16()?;
         Ok(number.cast_signed())
@@ -104,7 +114,8 @@ pub trait Reader: Debug {
     /// Reads a signed number of 4 bytes, in two's complement. `UnexpectedEof` where there are fewer.
     #[inline]
     fn read_i32(&mut self) -> Result<i32>
-        ensures { ReadsAtOnce (λ x. x) (text self.old) (text self.new) result (signed_at (text self.old).is_big 4 (text self.old).bytes) }
+        ensures { ReadsAtOnce (λ x. x) (text self.old) (text self.new) result
+            (signed_at (text self.old).is_big 4 (text self.old).bytes) }
     {
         let number = self.read_u32()?;
         Ok(number.cast_signed())
@@ -113,7 +124,8 @@ pub trait Reader: Debug {
     /// Reads a signed number of 8 bytes, in two's complement. `UnexpectedEof` where there are fewer.
     #[inline]
     fn read_i64(&mut self) -> Result<i64>
-        ensures { ReadsAtOnce (λ x. x) (text self.old) (text self.new) result (signed_at (text self.old).is_big 8 (text self.old).bytes) }
+        ensures { ReadsAtOnce (λ x. x) (text self.old) (text self.new) result
+            (signed_at (text self.old).is_big 8 (text self.old).bytes) }
     {
         let number = self.read_u64()?;
         Ok(number.cast_signed())
@@ -123,7 +135,8 @@ pub trait Reader: Debug {
     /// read, where that is none of 1, 2, 4 and 8. `UnexpectedEof` where there are fewer bytes.
     #[inline]
     fn read_address(&mut self, size: u8) -> Result<u64>
-        ensures { ReadsAtOnce (λ x. x) (text self.old) (text self.new) result (address_at (text self.old).is_big size (text self.old).bytes) }
+        ensures { ReadsAtOnce (λ x. x) (text self.old) (text self.new) result
+            (address_at (text self.old).is_big size (text self.old).bytes) }
     {
         if !matches!(size, 1 | 2 | 4 | 8) {
             return Err(Error::UnsupportedAddressSize(size));
@@ -135,7 +148,8 @@ pub trait Reader: Debug {
     /// `UnexpectedEof` where there are fewer bytes, then `UnsupportedOffset` where it doesn't fit.
     #[inline]
     fn read_offset(&mut self, format: Format) -> Result<Self::Offset>
-        ensures { Reads Self.Offset.number (text self.old) (text self.new) result (format_at (text self.old).is_big format Self.Offset.BITS (text self.old).bytes) }
+        ensures { Reads Self.Offset.number (text self.old) (text self.new) result
+            (format_at (text self.old).is_big format Self.Offset.BITS (text self.old).bytes) }
     {
         let number = match format {
             Format::Dwarf32 => self.read_fixed(4)?,
@@ -148,7 +162,8 @@ pub trait Reader: Debug {
     /// 64 bits. `UnexpectedEof` where the bytes end before.
     #[inline(always)]
     final fn read_uleb128(&mut self) -> Result<u64>
-        ensures { Reads (λ x. x) (text self.old) (text self.new) result (uleb_at (text self.old).bytes) }
+        ensures { Reads (λ x. x) (text self.old) (text self.new) result
+            (uleb_at (text self.old).bytes) }
     {
         let first = self.read_u8()?;
         if first < 128 {
@@ -161,7 +176,8 @@ pub trait Reader: Debug {
     /// the number is above 4294967295.
     #[inline(always)]
     final fn read_uleb128_u32(&mut self) -> Result<u32>
-        ensures { Reads (λ x. x) (text self.old) (text self.new) result (uleb_u32_at (text self.old).bytes) }
+        ensures { Reads (λ x. x) (text self.old) (text self.new) result
+            (uleb_u32_at (text self.old).bytes) }
     {
         let number = self.read_uleb128()?;
         match u32::try_from(number) {
@@ -174,7 +190,8 @@ pub trait Reader: Debug {
     /// 64 bits. `UnexpectedEof` where the bytes end before.
     #[inline(always)]
     final fn read_sleb128(&mut self) -> Result<i64>
-        ensures { Reads (λ x. x) (text self.old) (text self.new) result (sleb_at (text self.old).bytes) }
+        ensures { Reads (λ x. x) (text self.old) (text self.new) result
+            (sleb_at (text self.old).bytes) }
     {
         let first = self.read_u8()?;
         if first < 64 {
@@ -190,7 +207,8 @@ pub trait Reader: Debug {
 // The number of a first byte that goes on, and the bytes behind it. Apart, so that one byte is read in line.
 #[inline(never)]
 fn rest_of_uleb128<R: Reader>(reader: &mut R, first: u8) -> Result<u64>
-    ensures { Reads (λ x. x) (R.text reader.old) (R.text reader.new) result (leb_from unsigned_leb 1 (first % 128) (R.text reader.old).bytes) }
+    ensures { Reads (λ x. x) (R.text reader.old) (R.text reader.new) result
+        (leb_from unsigned_leb 1 (first % 128) (R.text reader.old).bytes) }
 {
     let mut number = u64::from(first % 128);
     for place in 1..9u32 {
@@ -212,7 +230,8 @@ fn rest_of_uleb128<R: Reader>(reader: &mut R, first: u8) -> Result<u64>
 // The number of a first byte that goes on, and the bytes behind it. Apart, so that one byte is read in line.
 #[inline(never)]
 fn rest_of_sleb128<R: Reader>(reader: &mut R, first: u8) -> Result<i64>
-    ensures { Reads (λ x. x) (R.text reader.old) (R.text reader.new) result (leb_from signed_leb 1 (first % 128) (R.text reader.old).bytes) }
+    ensures { Reads (λ x. x) (R.text reader.old) (R.text reader.new) result
+        (leb_from signed_leb 1 (first % 128) (R.text reader.old).bytes) }
 {
     let mut number = u64::from(first % 128);
     for place in 1..9u32 {

@@ -32,7 +32,8 @@ impl<'input, E: Endianity> EndianSlice<'input, E> {
     // Takes the first `N` bytes.
     #[inline]
     fn take_front<const N: usize>(&mut self) -> Result<[u8; N]>
-        ensures value { Gives (λ front. front) result self.new.slice.now (split_at N self.old.slice.now) }
+        ensures value { Gives (λ front. front) result self.new.slice.now
+            (split_at N self.old.slice.now) }
         ensures kept { OnErr result (self.new.slice.now ≡ self.old.slice.now) }
         ensures rest { IsSuffix self.new.slice.now self.old.slice.now }
         ensures order { self.new.endian ≡ self.old.endian }
@@ -46,7 +47,8 @@ impl<'input, E: Endianity> EndianSlice<'input, E> {
 
     #[inline]
     fn read_two(&mut self) -> Result<u16>
-        ensures value { Gives (λ x. x) result self.new.slice.now (fixed_at (E.is_big self.old.endian) 2 self.old.slice.now) }
+        ensures value { Gives (λ x. x) result self.new.slice.now
+            (fixed_at (E.is_big self.old.endian) 2 self.old.slice.now) }
         ensures kept { OnErr result (self.new.slice.now ≡ self.old.slice.now) }
         ensures rest { IsSuffix self.new.slice.now self.old.slice.now }
         ensures order { self.new.endian ≡ self.old.endian }
@@ -61,7 +63,8 @@ impl<'input, E: Endianity> EndianSlice<'input, E> {
 
     #[inline]
     fn read_four(&mut self) -> Result<u32>
-        ensures value { Gives (λ x. x) result self.new.slice.now (fixed_at (E.is_big self.old.endian) 4 self.old.slice.now) }
+        ensures value { Gives (λ x. x) result self.new.slice.now
+            (fixed_at (E.is_big self.old.endian) 4 self.old.slice.now) }
         ensures kept { OnErr result (self.new.slice.now ≡ self.old.slice.now) }
         ensures rest { IsSuffix self.new.slice.now self.old.slice.now }
         ensures order { self.new.endian ≡ self.old.endian }
@@ -76,7 +79,8 @@ impl<'input, E: Endianity> EndianSlice<'input, E> {
 
     #[inline]
     fn read_eight(&mut self) -> Result<u64>
-        ensures value { Gives (λ x. x) result self.new.slice.now (fixed_at (E.is_big self.old.endian) 8 self.old.slice.now) }
+        ensures value { Gives (λ x. x) result self.new.slice.now
+            (fixed_at (E.is_big self.old.endian) 8 self.old.slice.now) }
         ensures kept { OnErr result (self.new.slice.now ≡ self.old.slice.now) }
         ensures rest { IsSuffix self.new.slice.now self.old.slice.now }
         ensures order { self.new.endian ≡ self.old.endian }

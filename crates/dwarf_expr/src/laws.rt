@@ -27,7 +27,8 @@ pub fn two_replays()
     ensures misplaced { BothMisplaced }
     ensures not_alone { NoneMisplacedAlone }
     ensures no_room { NoRoomThere }
-    ensures met { (text : Text) (steps others : List Step) → Pairwise (AgreeingSteps 32) steps others
+    ensures met { (text : Text) (steps others : List Step)
+        → Pairwise (AgreeingSteps 32) steps others
         → MayReplay (fresh_at text) (fresh_at text) steps others }
 {}
 

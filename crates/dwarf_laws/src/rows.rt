@@ -83,7 +83,8 @@ pub fn twin_rows()
         (RequestReply RequiresCallFrameCfa ∷ RequestReply (RequiresBaseType 9) ∷ CompleteReply ∷ [])
         (CompleteOutcome (whole (AtAddress 0x10) ∷ []) (Some (U64 0x10)))
         (CompleteOutcome (whole (AtAddress 0x10) ∷ []) (Some (U64 0x10))) }
-    ensures full_stack { ComeAlike (with_limits (record no_limits { values = Some 1 })) (0x9c ∷ 0x31 ∷ [])
+    ensures full_stack { ComeAlike (with_limits (record no_limits { values = Some 1 }))
+        (0x9c ∷ 0x31 ∷ [])
         (started_steps (CfaAnswer 0x10 ∷ [])) (started_steps (CfaAnswer 0x100000010 ∷ []))
         (RequestReply RequiresCallFrameCfa ∷ FaultReply StackFull ∷ []) (FaultOutcome StackFull) (FaultOutcome StackFull) }
     ensures object_address { ComeAlike plain (0x97 ∷ [])
@@ -109,7 +110,8 @@ pub fn called_rows()
     ensures asks { IsWorked (call_site [] (0x9c ∷ 0x22 ∷ []) (0x9c ∷ []))
         [] (given unset (CfaAnswer 1 ∷ CfaAnswer 2 ∷ []))
         [] (RequiresCallFrameCfa ∷ RequiresCallFrameCfa ∷ []) (valued 3 3) }
-    ensures branches { IsWorked (call_site (0x31 ∷ []) (0x22 ∷ []) (0x32 ∷ 0x2f ∷ 0x01 ∷ 0x00 ∷ 0xff ∷ []))
+    ensures branches { IsWorked
+        (call_site (0x31 ∷ []) (0x22 ∷ []) (0x32 ∷ 0x2f ∷ 0x01 ∷ 0x00 ∷ 0xff ∷ []))
         [] []
         [] [] (valued 3 3) }
     ensures asked_before { IsWorked (call_site (0x9c ∷ []) (0x9c ∷ 0x22 ∷ []) (0x32 ∷ 0x22 ∷ []))
@@ -122,23 +124,27 @@ pub fn called_rows()
 /// It does nothing. Each clause of its contract gives the limits and the refusal of both runs, the text's bytes, the
 /// settings and the answers of both, and what comes of each.
 pub fn premises_of_high_bits()
-    ensures limits_differ { ComeApart plain (with_limits (record no_limits { values = Some 0 })) Never Never (0x31 ∷ []) unset unset
+    ensures limits_differ { ComeApart plain (with_limits (record no_limits { values = Some 0 }))
+        Never Never (0x31 ∷ []) unset unset
         [] [] (valued 1 1) (FaultOutcome StackFull) }
     ensures refusals_differ { ComeApart plain plain Never (After 0 0) (0x31 ∷ []) unset unset
         [] [] (valued 1 1) (FaultOutcome StackFull) }
     ensures maxima_differ { ComeApart plain plain Never Never (0x31 ∷ []) (at_most 1) (at_most 0)
         [] [] (valued 1 1) (FaultOutcome TooManyIterations) }
-    ensures one_initial_value { ComeApart plain plain Never Never [] (record unset { initial_value = Some 0 }) unset
+    ensures one_initial_value { ComeApart plain plain Never Never []
+        (record unset { initial_value = Some 0 }) unset
         [] [] (valued 0 0) (FaultOutcome NotEnoughStackItems) }
     ensures one_object_address { ComeApart plain plain Never Never (0x97 ∷ [])
         (record unset { object_address = Some 0 }) unset
         [] [] (valued 0 0) (FaultOutcome InvalidPushObjectAddress) }
     ensures numbers_differ { ComeApart plain plain Never Never (0x9c ∷ []) unset unset
         (given unset (CfaAnswer 0 ∷ [])) (given unset (CfaAnswer 1 ∷ [])) (valued 0 0) (valued 1 1) }
-    ensures types_of_values_differ { ComeApart plain plain Never Never (0x70 ∷ 0x00 ∷ []) unset unset
+    ensures types_of_values_differ { ComeApart plain plain Never Never (0x70 ∷ 0x00 ∷ []) unset
+        unset
         (given unset (RegisterAnswer (U8 0) ∷ [])) (given unset (RegisterAnswer (U16 0) ∷ []))
         (CompleteOutcome (whole (AtAddress 0) ∷ []) (Some (U8 0))) (CompleteOutcome (whole (AtAddress 0) ∷ []) (Some (U16 0))) }
-    ensures typed_values_differ_above { ComeApart plain plain Never Never (0x70 ∷ 0x00 ∷ []) unset unset
+    ensures typed_values_differ_above { ComeApart plain plain Never Never (0x70 ∷ 0x00 ∷ []) unset
+        unset
         (given unset (RegisterAnswer (U64 0) ∷ [])) (given unset (RegisterAnswer (U64 0x100000000) ∷ []))
         (CompleteOutcome (whole (AtAddress 0) ∷ []) (Some (U64 0)))
         (CompleteOutcome (whole (AtAddress 0x100000000) ∷ []) (Some (U64 0x100000000))) }
@@ -165,17 +171,20 @@ pub fn premises_of_inlining()
     ensures callee_is_empty { EndApart plain (0x31 ∷ 0x93 ∷ 0x04 ∷ 0x31 ∷ 0x98 ∷ 0x05 ∷ 0x00 ∷ [])
         (0x31 ∷ 0x93 ∷ 0x04 ∷ 0x31 ∷ [])
         unset (given unset (calls [] ∷ [])) [] (pieced (word_at (AtAddress 1) ∷ [])) (FaultOutcome InvalidPiece) }
-    ensures callee_in_the_other_order { EndApart plain (0x98 ∷ 0x05 ∷ 0x00 ∷ []) (0x0a ∷ 0x01 ∷ 0x02 ∷ [])
+    ensures callee_in_the_other_order { EndApart plain (0x98 ∷ 0x05 ∷ 0x00 ∷ [])
+        (0x0a ∷ 0x01 ∷ 0x02 ∷ [])
         unset (given unset (LocationAnswer (record { bytes = 0x0a ∷ 0x01 ∷ 0x02 ∷ []; is_big = true }) ∷ [])) []
         (valued 258 258) (valued 513 513) }
-    ensures offsets_are_narrow { EndApart (record plain { offset_bits = 2 }) (0x31 ∷ 0x98 ∷ 0x01 ∷ 0x00 ∷ [])
+    ensures offsets_are_narrow { EndApart (record plain { offset_bits = 2 })
+        (0x31 ∷ 0x98 ∷ 0x01 ∷ 0x00 ∷ [])
         (0x31 ∷ 0x2f ∷ 0x00 ∷ 0x00 ∷ [])
         (at_most 3) (given (at_most 3) (calls (0x2f ∷ 0x00 ∷ 0x00 ∷ []) ∷ [])) [] (valued 1 1)
         (FaultOutcome TooManyIterations) }
     ensures call_is_not_reached { EndApart plain (0x9c ∷ 0x98 ∷ 0x05 ∷ 0x00 ∷ []) (0x9c ∷ 0x31 ∷ [])
         unset (given unset (calls (0x31 ∷ []) ∷ CfaAnswer 0 ∷ [])) (given unset (CfaAnswer 0 ∷ []))
         (RequestOutcome RequiresCallFrameCfa (open_at (0x9c ∷ 0x98 ∷ 0x05 ∷ 0x00 ∷ []) 1 ∷ [])) (valued 1 1) }
-    ensures maximum_is_set_at_the_answer { EndApart plain (0x98 ∷ 0x05 ∷ 0x00 ∷ []) (0x31 ∷ 0x96 ∷ [])
+    ensures maximum_is_set_at_the_answer { EndApart plain (0x98 ∷ 0x05 ∷ 0x00 ∷ [])
+        (0x31 ∷ 0x96 ∷ [])
         (at_most 1) (given (at_most 3) (calls (0x31 ∷ 0x96 ∷ []) ∷ [])) [] (valued 1 1) (FaultOutcome TooManyIterations) }
     ensures object_is_set_at_the_answer { EndApart plain (0x98 ∷ 0x05 ∷ 0x00 ∷ []) (0x97 ∷ [])
         unset (given (record unset { object_address = Some 7 }) (calls (0x97 ∷ []) ∷ [])) [] (valued 7 7)

@@ -17,7 +17,8 @@ impl<R: Reader + Copy, S: EvaluationStorage<R>> Machine<R, S> {
     /// Pushes an answer.
     #[inline]
     fn push_answer(&mut self, value: Value)
-        ensures { Tried 0 (push_value self.old.setup value) (with_status Running (with_last Pushed self.old)) self.new }
+        ensures { Tried 0 (push_value self.old.setup value)
+            (with_status Running (with_last Pushed self.old)) self.new }
     {
         self.mark(LastOperation::Pushed);
         self.enter(EvaluationState::Running);
@@ -174,7 +175,8 @@ impl<R: Reader + Copy, S: EvaluationStorage<R>> Machine<R, S> {
     /// Takes an answer, and runs on to a request, to the end, or to a fault, which it keeps.
     pub fn resume(&mut self, given: Given<R>)
         requires { IsWaitingFor (kind_of_answer (answer_of R.text given)) self.old.status }
-        ensures { Ends self.old (total_after self.old (input_of self.old (answer_of R.text given))) self.new }
+        ensures { Ends self.old (total_after self.old (input_of self.old (answer_of R.text given)))
+            self.new }
     {
         self.take(given);
         if self.is_running() {

@@ -88,7 +88,8 @@ impl<R: Reader + Copy, S: EvaluationStorage<R>> Machine<R, S> {
     #[tactic(auto, unfolding(dwarf_meaning::specs::Acts::act))]
     fn perform_unsigned(&mut self, make: FromUnsigned, number: u64)
         requires { self.old.status ≡ Running }
-        ensures { Performs (act_of self.old (entries.unsigned_operation make number)) self.old self.new }
+        ensures { Performs (act_of self.old (entries.unsigned_operation make number)) self.old
+            self.new }
     {
         match make {
             FromUnsigned::Constant => self.push_constant(Value::Generic(number)),
@@ -102,7 +103,8 @@ impl<R: Reader + Copy, S: EvaluationStorage<R>> Machine<R, S> {
     #[tactic(auto, unfolding(dwarf_meaning::specs::Acts::act))]
     fn perform_signed(&mut self, make: FromSigned, number: i64)
         requires { self.old.status ≡ Running }
-        ensures { Performs (act_of self.old (entries.signed_operation make number)) self.old self.new }
+        ensures { Performs (act_of self.old (entries.signed_operation make number)) self.old
+            self.new }
     {
         match make {
             FromSigned::Constant => self.push_signed(number),
@@ -116,7 +118,8 @@ impl<R: Reader + Copy, S: EvaluationStorage<R>> Machine<R, S> {
     fn perform_branch(&mut self, make: FromBranch, target: i16, left: &mut R)
         requires runs { self.old.status ≡ Running }
         requires rest { IsLeftOf (R.text left.old) self.old.text }
-        ensures performs { Performs (act_of self.old (entries.branch_operation make target)) (at (R.text left.old).bytes self.old) (at (R.text left.new).bytes self.new) }
+        ensures performs { Performs (act_of self.old (entries.branch_operation make target))
+            (at (R.text left.old).bytes self.old) (at (R.text left.new).bytes self.new) }
         ensures rest { IsLeftOf (R.text left.new) self.new.text }
     {
         match make {
@@ -130,7 +133,9 @@ impl<R: Reader + Copy, S: EvaluationStorage<R>> Machine<R, S> {
     #[tactic(auto, unfolding(dwarf_meaning::specs::Acts::act))]
     fn perform_offset(&mut self, make: FromOffset, offset: R::Offset)
         requires { self.old.status ≡ Running }
-        ensures { Performs (act_of self.old (entries.offset_operation make (R.Offset.number offset))) self.old self.new }
+        ensures { Performs
+            (act_of self.old (entries.offset_operation make (R.Offset.number offset))) self.old
+            self.new }
     {
         match make {
             FromOffset::UnitCall => self.ask(OpenRequest::AtLocation(DieReference::UnitRef(
@@ -163,7 +168,8 @@ impl<R: Reader + Copy, S: EvaluationStorage<R>> Machine<R, S> {
     #[tactic(auto, unfolding(dwarf_meaning::specs::Acts::act))]
     fn perform_block(&mut self, make: FromBlock, block: R)
         requires { self.old.status ≡ Running }
-        ensures { Performs (act_of self.old (entries.block_operation make (R.text block))) self.old self.new }
+        ensures { Performs (act_of self.old (entries.block_operation make (R.text block))) self.old
+            self.new }
     {
         match make {
             FromBlock::ImplicitValue => self.locate(Location::Bytes { value: block }),
@@ -189,7 +195,10 @@ impl<R: Reader + Copy, S: EvaluationStorage<R>> Machine<R, S> {
     fn perform_rare(&mut self, entry: Rare, left: &mut R, encoding: Encoding) -> Result<()>
         requires runs { self.old.status ≡ Running }
         requires rest { IsLeftOf (R.text left.old) self.old.text }
-        ensures performs { TriesToPerform (operands_at (context_of encoding R.Offset.BITS (R.text left.old).is_big) (rare_row entry) (R.text left.old).bytes) (R.text left.new).bytes self.old self.new result }
+        ensures performs { TriesToPerform
+            (operands_at (context_of encoding R.Offset.BITS (R.text left.old).is_big)
+            (rare_row entry) (R.text left.old).bytes) (R.text left.new).bytes self.old self.new
+            result }
         ensures rest { IsLeftOf (R.text left.new) self.new.text }
     {
         match entry {
@@ -252,7 +261,10 @@ impl<R: Reader + Copy, S: EvaluationStorage<R>> Machine<R, S> {
     fn perform_rare_apart(&mut self, entry: Rare, left: &mut R, encoding: Encoding) -> Result<()>
         requires runs { self.old.status ≡ Running }
         requires rest { IsLeftOf (R.text left.old) self.old.text }
-        ensures performs { TriesToPerform (operands_at (context_of encoding R.Offset.BITS (R.text left.old).is_big) (rare_row entry) (R.text left.old).bytes) (R.text left.new).bytes self.old self.new result }
+        ensures performs { TriesToPerform
+            (operands_at (context_of encoding R.Offset.BITS (R.text left.old).is_big)
+            (rare_row entry) (R.text left.old).bytes) (R.text left.new).bytes self.old self.new
+            result }
         ensures rest { IsLeftOf (R.text left.new) self.new.text }
     {
         let mut apart = *left;
@@ -271,7 +283,10 @@ impl<R: Reader + Copy, S: EvaluationStorage<R>> Machine<R, S> {
     ) -> Result<()>
         requires runs { self.old.status ≡ Running }
         requires rest { IsLeftOf (R.text left.old) self.old.text }
-        ensures performs { TriesToPerform (operands_at (context_of encoding R.Offset.BITS (R.text left.old).is_big) (entry_row encoding opcode entry) (R.text left.old).bytes) (R.text left.new).bytes self.old self.new result }
+        ensures performs { TriesToPerform
+            (operands_at (context_of encoding R.Offset.BITS (R.text left.old).is_big)
+            (entry_row encoding opcode entry) (R.text left.old).bytes) (R.text left.new).bytes
+            self.old self.new result }
         ensures rest { IsLeftOf (R.text left.new) self.new.text }
     {
         match entry {
@@ -328,7 +343,8 @@ impl<R: Reader + Copy, S: EvaluationStorage<R>> Machine<R, S> {
     pub(crate) fn perform_opcode(&mut self, left: &mut R, encoding: Encoding) -> Result<()>
         requires runs { self.old.status ≡ Running }
         requires rest { IsLeftOf (R.text left.old) self.old.text }
-        ensures performs { TriesToPerform (operation_at encoding R.Offset.BITS (R.text left.old)) (R.text left.new).bytes (read_to self.old.place self.old) self.new result }
+        ensures performs { TriesToPerform (operation_at encoding R.Offset.BITS (R.text left.old))
+            (R.text left.new).bytes (read_to self.old.place self.old) self.new result }
         ensures rest { IsLeftOf (R.text left.new) self.new.text }
     {
         self.tick();

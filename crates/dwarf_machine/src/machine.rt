@@ -112,7 +112,8 @@ impl<R: Reader + Copy, S: EvaluationStorage<R>> Machine<R, S> {
     /// Adds a piece, or keeps the fault of a list that doesn't take it.
     #[inline(always)]
     pub(crate) fn push_piece(&mut self, piece: Piece<R>) -> bool
-        ensures { Tries 0 (push_piece self.old.setup (piece_of R.text R.Offset.number piece)) self.old self.new result }
+        ensures { Tries 0 (push_piece self.old.setup (piece_of R.text R.Offset.number piece))
+            self.old self.new result }
     {
         let Ok(()) = self.pieces.push(piece) else {
             self.fail(Error::StackFull);
@@ -163,7 +164,9 @@ impl<R: Reader + Copy, S: EvaluationStorage<R>> Machine<R, S> {
     /// The location that waits for its piece.
     #[inline(always)]
     pub(crate) fn located(&self) -> Option<Location<R>>
-        ensures some { IfSome result (λ location. self.now.store.last ≡ Located (location_of R.text R.Offset.number location)) }
+        ensures some { IfSome result
+            (λ location. self.now.store.last
+            ≡ Located (location_of R.text R.Offset.number location)) }
         ensures none { IfNone result (IsFree self.now.store.last) }
     {
         match self.last {
@@ -308,7 +311,8 @@ impl<R: Reader + Copy, S: EvaluationStorage<R>> Machine<R, S> {
     pub(crate) fn read_piece(&mut self) -> Result<Option<(u64, Option<u64>)>>
         ensures ok { IfOk result (λ piece. ReadsPiece piece self.old self.new) }
         ensures behind { OnOk result (0 < self.new.place) }
-        ensures err { IfErr result (λ e. read self.old.setup self.old.text self.old.place ≡ Err (fault_of e)) }
+        ensures err { IfErr result
+            (λ e. read self.old.setup self.old.text self.old.place ≡ Err (fault_of e)) }
         ensures alone { self.new ≡ read_to self.new.place self.old }
     {
         self.decodings.tick();
@@ -319,7 +323,8 @@ impl<R: Reader + Copy, S: EvaluationStorage<R>> Machine<R, S> {
     #[inline(always)]
     pub(crate) fn jump(&mut self, place: R::Offset, left: &mut R) -> bool
         requires { IsLeftOf (R.text left.old) self.old.text }
-        ensures jumps { Jumps (R.Offset.number place) (at (R.text left.old).bytes self.old) (at (R.text left.new).bytes self.new) result }
+        ensures jumps { Jumps (R.Offset.number place) (at (R.text left.old).bytes self.old)
+            (at (R.text left.new).bytes self.new) result }
         ensures rest { IsLeftOf (R.text left.new) self.new.text }
     {
         let mut target = self.bytecode;
@@ -381,7 +386,8 @@ impl<R: Reader + Copy, S: EvaluationStorage<R>> Machine<R, S> {
 
     /// The list of the pieces.
     pub fn into_pieces(self) -> S::Result
-        ensures { map (piece_of R.text R.Offset.number) (S.Result.items result) ≡ self.store.pieces }
+        ensures { map (piece_of R.text R.Offset.number) (S.Result.items result)
+            ≡ self.store.pieces }
     {
         self.pieces
     }
@@ -400,7 +406,9 @@ impl<R: Reader + Copy, S: EvaluationStorage<R>> Machine<R, S> {
         requires expression_stack { S.ExpressionStack.items expression_stack ≡ [] }
         requires pieces { S.Result.items pieces ≡ [] }
         ensures status { result.status ≡ Start None }
-        ensures setup { result.setup ≡ setup_of encoding R.Offset.BITS (S.Stack.limit stack) (S.ExpressionStack.limit expression_stack) (S.Result.limit pieces) }
+        ensures setup { result.setup
+            ≡ setup_of encoding R.Offset.BITS (S.Stack.limit stack)
+            (S.ExpressionStack.limit expression_stack) (S.Result.limit pieces) }
         ensures text { result.text ≡ R.text bytecode }
         ensures object_address { result.store.object_address ≡ None }
         ensures maximum { result.store.maximum ≡ most_iterations }

@@ -25,7 +25,8 @@ impl<R: Reader + Copy, S: EvaluationStorage<R>> Machine<R, S> {
     /// Pushes the value of a plain operation.
     #[inline(always)]
     fn push_plain(&mut self, value: Value)
-        ensures { Tried 0 (λ s. push_value self.old.setup value (record s { last = Plain })) self.old self.new }
+        ensures { Tried 0 (λ s. push_value self.old.setup value (record s { last = Plain }))
+            self.old self.new }
     {
         self.mark_plain();
         self.push(value);
@@ -34,7 +35,8 @@ impl<R: Reader + Copy, S: EvaluationStorage<R>> Machine<R, S> {
     /// Pushes two values, the second on top.
     #[inline(always)]
     fn push_two(&mut self, first: Value, second: Value) -> bool
-        ensures { Tries 1 (push_values self.old.setup (first ∷ second ∷ [])) self.old self.new result }
+        ensures { Tries 1 (push_values self.old.setup (first ∷ second ∷ [])) self.old self.new
+            result }
     {
         if !self.push(first) {
             return false;
@@ -45,7 +47,9 @@ impl<R: Reader + Copy, S: EvaluationStorage<R>> Machine<R, S> {
     /// Pushes two values of a plain operation, the second on top.
     #[inline(always)]
     fn push_both(&mut self, first: Value, second: Value)
-        ensures { Tried 1 (λ s. push_values self.old.setup (first ∷ second ∷ []) (record s { last = Plain })) self.old self.new }
+        ensures { Tried 1
+            (λ s. push_values self.old.setup (first ∷ second ∷ []) (record s { last = Plain }))
+            self.old self.new }
     {
         self.mark_plain();
         self.push_two(first, second);
@@ -54,7 +58,9 @@ impl<R: Reader + Copy, S: EvaluationStorage<R>> Machine<R, S> {
     /// Pushes three values of a plain operation, the third on top.
     #[inline(always)]
     fn push_three(&mut self, first: Value, second: Value, third: Value)
-        ensures { Tried 2 (λ s. push_values self.old.setup (first ∷ second ∷ third ∷ []) (record s { last = Plain })) self.old self.new }
+        ensures { Tried 2
+            (λ s. push_values self.old.setup (first ∷ second ∷ third ∷ [])
+            (record s { last = Plain })) self.old self.new }
     {
         self.mark_plain();
         if self.push(first) {
@@ -75,7 +81,9 @@ impl<R: Reader + Copy, S: EvaluationStorage<R>> Machine<R, S> {
     #[inline(never)]
     pub(crate) fn compute_unary(&mut self, operator: UnaryOperator)
         requires { self.old.status ≡ Running }
-        ensures { Performs (unary (unary_of operator (address_bits self.old.setup)) self.old.store.values) self.old self.new }
+        ensures { Performs
+            (unary (unary_of operator (address_bits self.old.setup)) self.old.store.values) self.old
+            self.new }
     {
         let Some(value) = self.pop() else {
             self.fall_short();
@@ -91,7 +99,8 @@ impl<R: Reader + Copy, S: EvaluationStorage<R>> Machine<R, S> {
     #[inline(never)]
     pub(crate) fn compute_binary<O: BinaryOperator>(&mut self)
         requires { self.old.status ≡ Running }
-        ensures { Performs (binary (O.meaning (address_bits self.old.setup)) self.old.store.values) self.old self.new }
+        ensures { Performs (binary (O.meaning (address_bits self.old.setup)) self.old.store.values)
+            self.old self.new }
     {
         let Some((left, right)) = self.pop_generics() else {
             self.compute_typed::<O>();
@@ -111,7 +120,8 @@ impl<R: Reader + Copy, S: EvaluationStorage<R>> Machine<R, S> {
     #[inline(never)]
     fn compute_typed<O: BinaryOperator>(&mut self)
         requires { self.old.status ≡ Running }
-        ensures { Performs (binary (O.meaning (address_bits self.old.setup)) self.old.store.values) self.old self.new }
+        ensures { Performs (binary (O.meaning (address_bits self.old.setup)) self.old.store.values)
+            self.old self.new }
     {
         let Some(right) = self.pop() else {
             self.fall_short();
@@ -130,7 +140,8 @@ impl<R: Reader + Copy, S: EvaluationStorage<R>> Machine<R, S> {
     /// A value plus a constant of its type.
     #[inline(always)]
     pub(crate) fn sum(&self, value: Value, constant: u64) -> Result<Value>
-        ensures { result ≡ add_of (address_bits self.now.setup) value (from_u64_of (type_of value) constant) }
+        ensures { result
+            ≡ add_of (address_bits self.now.setup) value (from_u64_of (type_of value) constant) }
     {
         let addend = Value::from_u64(value.value_type(), constant)?;
         value.add(addend, self.addr_mask())
@@ -287,7 +298,8 @@ impl<R: Reader + Copy, S: EvaluationStorage<R>> Machine<R, S> {
     pub(crate) fn take_branch(&mut self, target: i16, left: &mut R)
         requires runs { self.old.status ≡ Running }
         requires rest { IsLeftOf (R.text left.old) self.old.text }
-        ensures performs { Performs (Branches self.old.store.values target) (at (R.text left.old).bytes self.old) (at (R.text left.new).bytes self.new) }
+        ensures performs { Performs (Branches self.old.store.values target)
+            (at (R.text left.old).bytes self.old) (at (R.text left.new).bytes self.new) }
         ensures rest { IsLeftOf (R.text left.new) self.new.text }
     {
         self.mark_plain();
@@ -300,7 +312,8 @@ impl<R: Reader + Copy, S: EvaluationStorage<R>> Machine<R, S> {
     pub(crate) fn branch_if(&mut self, target: i16, left: &mut R)
         requires runs { self.old.status ≡ Running }
         requires rest { IsLeftOf (R.text left.old) self.old.text }
-        ensures performs { Performs (act_of self.old (meaning.Bra target)) (at (R.text left.old).bytes self.old) (at (R.text left.new).bytes self.new) }
+        ensures performs { Performs (act_of self.old (meaning.Bra target))
+            (at (R.text left.old).bytes self.old) (at (R.text left.new).bytes self.new) }
         ensures rest { IsLeftOf (R.text left.new) self.new.text }
     {
         let Some(number) = self.pop_number() else {
@@ -318,7 +331,9 @@ impl<R: Reader + Copy, S: EvaluationStorage<R>> Machine<R, S> {
     #[inline(always)]
     pub(crate) fn locate(&mut self, location: Location<R>)
         requires { self.old.status ≡ Running }
-        ensures { Performs (Locates self.old.store.values (location_of R.text R.Offset.number location)) self.old self.new }
+        ensures { Performs
+            (Locates self.old.store.values (location_of R.text R.Offset.number location)) self.old
+            self.new }
     {
         self.mark(LastOperation::Located(location));
     }
@@ -340,7 +355,8 @@ impl<R: Reader + Copy, S: EvaluationStorage<R>> Machine<R, S> {
     #[inline(never)]
     pub(crate) fn end_piece(&mut self, size_in_bits: u64, bit_offset: Option<u64>)
         requires { self.old.status ≡ Running }
-        ensures { Performs (act_of self.old (meaning.Piece size_in_bits bit_offset)) self.old self.new }
+        ensures { Performs (act_of self.old (meaning.Piece size_in_bits bit_offset)) self.old
+            self.new }
     {
         self.mark(LastOperation::Pieced);
         let Some(address) = self.pop_number() else {
@@ -361,7 +377,9 @@ impl<R: Reader + Copy, S: EvaluationStorage<R>> Machine<R, S> {
     /// Opens a request.
     #[inline(always)]
     pub(crate) fn ask(&mut self, request: OpenRequest<R>)
-        ensures { Performs (RequestAct self.old.store.values (request_of R.text R.Offset.number request) (waiting_of R.text request)) self.old self.new }
+        ensures { Performs
+            (RequestAct self.old.store.values (request_of R.text R.Offset.number request)
+            (waiting_of R.text request)) self.old self.new }
     {
         self.enter(EvaluationState::Waiting(request));
     }
@@ -369,7 +387,9 @@ impl<R: Reader + Copy, S: EvaluationStorage<R>> Machine<R, S> {
     /// Asks for what memory holds at the address on top, in the space below it where one is named.
     #[inline(never)]
     pub(crate) fn dereference(&mut self, base_type: UnitOffset<R::Offset>, size: u8, space: bool)
-        ensures { Performs (act_of self.old (meaning.Deref (R.Offset.number base_type.0) size space)) self.old self.new }
+        ensures { Performs
+            (act_of self.old (meaning.Deref (R.Offset.number base_type.0) size space)) self.old
+            self.new }
     {
         if size > self.address_size() {
             self.fail(Error::InvalidDerefSize(size));

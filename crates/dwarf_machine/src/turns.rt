@@ -17,7 +17,8 @@ use dwarf_value::Value;
 /// A piece that is the whole variable.
 #[inline(always)]
 fn whole<R: Reader + Copy>(location: Location<R>) -> Piece<R>
-    ensures { piece_of R.text R.Offset.number result ≡ meant_whole (location_of R.text R.Offset.number location) }
+    ensures { piece_of R.text R.Offset.number result
+        ≡ meant_whole (location_of R.text R.Offset.number location) }
 {
     Piece {
         size_in_bits: None,
@@ -31,7 +32,8 @@ impl<R: Reader + Copy, S: EvaluationStorage<R>> Machine<R, S> {
     fn perform(&mut self, left: &mut R)
         requires ready { IsReady (at (R.text left.old).bytes self.old) }
         requires rest { IsLeftOf (R.text left.old) self.old.text }
-        ensures turns { Turns (at (R.text left.old).bytes self.old) (at (R.text left.new).bytes self.new) }
+        ensures turns { Turns (at (R.text left.old).bytes self.old)
+            (at (R.text left.new).bytes self.new) }
         ensures rest { IsLeftOf (R.text left.new) self.new.text }
     {
         if !self.count() {
@@ -89,7 +91,8 @@ impl<R: Reader + Copy, S: EvaluationStorage<R>> Machine<R, S> {
     fn hold(&mut self, location: Location<R>)
         requires runs { self.old.status ≡ Running }
         requires inside { (self.old.place == length self.old.text.bytes) ≡ false }
-        requires waits { self.old.store.last ≡ Located (location_of R.text R.Offset.number location) }
+        requires waits { self.old.store.last
+            ≡ Located (location_of R.text R.Offset.number location) }
         ensures { Turns self.old self.new }
     {
         match self.read_piece() {
@@ -101,7 +104,9 @@ impl<R: Reader + Copy, S: EvaluationStorage<R>> Machine<R, S> {
     /// Ends the run with one more piece.
     fn complete(&mut self, piece: Piece<R>, value: Option<Value>)
         requires { self.old.status ≡ Running }
-        ensures { Closes 1 (λ s. completion_of value (push_piece self.old.setup (piece_of R.text R.Offset.number piece) s)) self.old self.new }
+        ensures { Closes 1
+            (λ s. completion_of value
+            (push_piece self.old.setup (piece_of R.text R.Offset.number piece) s)) self.old self.new }
     {
         if self.push_piece(piece) {
             self.enter(EvaluationState::Complete(value));
@@ -124,7 +129,9 @@ impl<R: Reader + Copy, S: EvaluationStorage<R>> Machine<R, S> {
     /// Ends the run with a location that waits for a piece.
     fn finish_located(&mut self, location: Location<R>)
         requires { self.old.status ≡ Running }
-        ensures { Closes 1 (finish_located self.old.setup (location_of R.text R.Offset.number location)) self.old self.new }
+        ensures { Closes 1
+            (finish_located self.old.setup (location_of R.text R.Offset.number location)) self.old
+            self.new }
     {
         if self.has_pieces() {
             self.fail(Error::InvalidPiece);

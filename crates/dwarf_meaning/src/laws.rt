@@ -21,13 +21,24 @@ ghost use Rattle.dwarf_meaning.specs.Refusals.{Refusal};
 /// begins with exactly one operation or is refused by exactly one fault, how it splits into operations, and
 /// that branches have operands of 16 bits.
 pub fn decode_laws()
-    ensures reading { (encoding : Encoding) (offset_bits : ℕ) (text : Text) → ReadsExactlyTheSpelled encoding offset_bits text }
-    ensures faults { (encoding : Encoding) (offset_bits : ℕ) (text : Text) (fault : Fault) → operation_at encoding offset_bits text ≡ Err fault → IsDecodingFault fault }
-    ensures decided { (encoding : Encoding) (offset_bits : ℕ) (is_big : Bool) (bytes : List ℕ) → IsDecided encoding offset_bits is_big bytes }
-    ensures whole { (encoding : Encoding) (offset_bits : ℕ) (is_big : Bool) (bytes : List ℕ) (op : Operation) → Spells encoding offset_bits is_big bytes op → IsWhole encoding offset_bits is_big bytes op }
-    ensures once { (encoding : Encoding) (offset_bits : ℕ) (is_big : Bool) (bytes : List ℕ) → SplitsOnce encoding offset_bits is_big bytes }
-    ensures splitting { (encoding : Encoding) (offset_bits : ℕ) (is_big : Bool) (bytes : List ℕ) (ops : List Operation) (fault : Option Fault) → Splitting encoding offset_bits is_big bytes ops fault → IsSplitting encoding offset_bits is_big bytes ops fault }
-    ensures branches { (encoding : Encoding) (offset_bits : ℕ) (text : Text) (op : Operation) (rest : List ℕ) → AreBytes text.bytes → operation_at encoding offset_bits text ≡ Ok (op, rest) → BranchesNear op }
+    ensures reading { (encoding : Encoding) (offset_bits : ℕ) (text : Text)
+        → ReadsExactlyTheSpelled encoding offset_bits text }
+    ensures faults { (encoding : Encoding) (offset_bits : ℕ) (text : Text) (fault : Fault)
+        → operation_at encoding offset_bits text ≡ Err fault → IsDecodingFault fault }
+    ensures decided { (encoding : Encoding) (offset_bits : ℕ) (is_big : Bool) (bytes : List ℕ)
+        → IsDecided encoding offset_bits is_big bytes }
+    ensures whole { (encoding : Encoding) (offset_bits : ℕ) (is_big : Bool) (bytes : List ℕ)
+        (op : Operation) → Spells encoding offset_bits is_big bytes op
+        → IsWhole encoding offset_bits is_big bytes op }
+    ensures once { (encoding : Encoding) (offset_bits : ℕ) (is_big : Bool) (bytes : List ℕ)
+        → SplitsOnce encoding offset_bits is_big bytes }
+    ensures splitting { (encoding : Encoding) (offset_bits : ℕ) (is_big : Bool) (bytes : List ℕ)
+        (ops : List Operation) (fault : Option Fault)
+        → Splitting encoding offset_bits is_big bytes ops fault
+        → IsSplitting encoding offset_bits is_big bytes ops fault }
+    ensures branches { (encoding : Encoding) (offset_bits : ℕ) (text : Text) (op : Operation)
+        (rest : List ℕ) → AreBytes text.bytes
+        → operation_at encoding offset_bits text ≡ Ok (op, rest) → BranchesNear op }
 {}
 
 /// Laws of runs, for every text.
@@ -38,19 +49,50 @@ pub fn decode_laws()
 /// 4294967295; that each list stays within its limit, as do the texts that are open in a request; and that these
 /// are the text and its open callees.
 pub fn run_laws()
-    ensures one_turn { (setup : Setup) (text : Text) (place depth : ℕ) (s : Store) (inputs : List Input) → run setup text place depth s inputs ≡ turn (run setup) setup text place depth s inputs }
-    ensures enough_turns { (n m : ℕ) (setup : Setup) (text : Text) (place depth : ℕ) (s : Store) (inputs : List Input) → turns_left s ≤ n → turns_left s ≤ m → run_for n setup text place depth s inputs ≡ run_for m setup text place depth s inputs }
+    ensures one_turn { (setup : Setup) (text : Text) (place depth : ℕ) (s : Store)
+        (inputs : List Input)
+        → run setup text place depth s inputs ≡ turn (run setup) setup text place depth s inputs }
+    ensures enough_turns { (n m : ℕ) (setup : Setup) (text : Text) (place depth : ℕ) (s : Store)
+        (inputs : List Input) → turns_left s ≤ n → turns_left s ≤ m
+        → run_for n setup text place depth s inputs ≡ run_for m setup text place depth s inputs }
     ensures always_enough { (s : Store) → turns_left s ≤ enough }
-    ensures inputs { (setup : Setup) (text : Text) (place depth : ℕ) (s : Store) (inputs more : List Input) → IsSettled (run setup text place depth s inputs).end → run setup text place depth s (inputs ++ more) ≡ course_before more (run setup text place depth s inputs) }
-    ensures inputs_of_meaning { (setup : Setup) (refusal : Refusal) (text : Text) (first : First) (inputs more : List Input) → IsOver (meaning setup refusal text first inputs) → meaning setup refusal text first (inputs ++ more) ≡ meaning setup refusal text first inputs }
-    ensures taken { (setup : Setup) (text : Text) (place depth : ℕ) (s : Store) (inputs : List Input) → let course = run setup text place depth s inputs in EndTook inputs course.requests course.end }
-    ensures counts { (setup : Setup) (text : Text) (place depth : ℕ) (s : Store) (inputs : List Input) → let course = run setup text place depth s inputs in EndCounts (s.count + length course.path) course.end }
-    ensures maximum { (bound : ℕ) (setup : Setup) (text : Text) (place depth : ℕ) (s : Store) (inputs : List Input) → s.count ≤ bound → s.maximum ≤ bound → MaximaWithin bound inputs → CountsWithin bound s.count (run setup text place depth s inputs) }
-    ensures maximum_kept { (bound : ℕ) (setup : Setup) (text : Text) (place depth : ℕ) (s : Store) (inputs : List Input) → s.count ≤ bound → s.maximum ≤ bound → MaximaWithin bound inputs → EndMaximumWithin bound (run setup text place depth s inputs).end }
-    ensures most_of_all { (setup : Setup) (text : Text) (place depth : ℕ) (s : Store) (inputs : List Input) → s.count ≤ most → CountsWithin most s.count (run setup text place depth s inputs) }
-    ensures within { (setup : Setup) (text : Text) (place depth : ℕ) (s : Store) (inputs : List Input) → IsWithin setup.limits.callers depth → ListsWithin setup.limits s → EndWithin setup.limits text depth (run setup text place depth s inputs).end }
-    ensures within_callers { (setup : Setup) (text : Text) (callers : List Position) (end : End) → IsWithin setup.limits.callers (length callers) → EndWithin setup.limits text (length callers) end → OutcomeWithin setup.limits (outermost text callers) (unwound setup callers end) }
-    ensures within_meaning { (setup : Setup) (refusal : Refusal) (text : Text) (first : First) (inputs : List Input) → OutcomeWithin setup.limits text (meaning setup refusal text first inputs) }
-    ensures callees { (setup : Setup) (text : Text) (place depth : ℕ) (s : Store) (inputs : List Input) → EndOpen inputs text (run setup text place depth s inputs).end }
-    ensures callees_of_meaning { (setup : Setup) (refusal : Refusal) (text : Text) (first : First) (inputs : List Input) → OutcomeOpen inputs text (meaning setup refusal text first inputs) }
+    ensures inputs { (setup : Setup) (text : Text) (place depth : ℕ) (s : Store)
+        (inputs more : List Input) → IsSettled (run setup text place depth s inputs).end
+        → run setup text place depth s (inputs ++ more)
+        ≡ course_before more (run setup text place depth s inputs) }
+    ensures inputs_of_meaning { (setup : Setup) (refusal : Refusal) (text : Text) (first : First)
+        (inputs more : List Input) → IsOver (meaning setup refusal text first inputs)
+        → meaning setup refusal text first (inputs ++ more)
+        ≡ meaning setup refusal text first inputs }
+    ensures taken { (setup : Setup) (text : Text) (place depth : ℕ) (s : Store)
+        (inputs : List Input)
+        → let course = run setup text place depth s inputs in
+        EndTook inputs course.requests course.end }
+    ensures counts { (setup : Setup) (text : Text) (place depth : ℕ) (s : Store)
+        (inputs : List Input)
+        → let course = run setup text place depth s inputs in
+        EndCounts (s.count + length course.path) course.end }
+    ensures maximum { (bound : ℕ) (setup : Setup) (text : Text) (place depth : ℕ) (s : Store)
+        (inputs : List Input) → s.count ≤ bound → s.maximum ≤ bound → MaximaWithin bound inputs
+        → CountsWithin bound s.count (run setup text place depth s inputs) }
+    ensures maximum_kept { (bound : ℕ) (setup : Setup) (text : Text) (place depth : ℕ) (s : Store)
+        (inputs : List Input) → s.count ≤ bound → s.maximum ≤ bound → MaximaWithin bound inputs
+        → EndMaximumWithin bound (run setup text place depth s inputs).end }
+    ensures most_of_all { (setup : Setup) (text : Text) (place depth : ℕ) (s : Store)
+        (inputs : List Input) → s.count ≤ most
+        → CountsWithin most s.count (run setup text place depth s inputs) }
+    ensures within { (setup : Setup) (text : Text) (place depth : ℕ) (s : Store)
+        (inputs : List Input) → IsWithin setup.limits.callers depth → ListsWithin setup.limits s
+        → EndWithin setup.limits text depth (run setup text place depth s inputs).end }
+    ensures within_callers { (setup : Setup) (text : Text) (callers : List Position) (end : End)
+        → IsWithin setup.limits.callers (length callers)
+        → EndWithin setup.limits text (length callers) end
+        → OutcomeWithin setup.limits (outermost text callers) (unwound setup callers end) }
+    ensures within_meaning { (setup : Setup) (refusal : Refusal) (text : Text) (first : First)
+        (inputs : List Input)
+        → OutcomeWithin setup.limits text (meaning setup refusal text first inputs) }
+    ensures callees { (setup : Setup) (text : Text) (place depth : ℕ) (s : Store)
+        (inputs : List Input) → EndOpen inputs text (run setup text place depth s inputs).end }
+    ensures callees_of_meaning { (setup : Setup) (refusal : Refusal) (text : Text) (first : First)
+        (inputs : List Input) → OutcomeOpen inputs text (meaning setup refusal text first inputs) }
 {}

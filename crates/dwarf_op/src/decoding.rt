@@ -114,7 +114,8 @@ fn branch_operation<R: Reader>(make: FromBranch, target: i16) -> Operation<R>
 
 #[inline(always)]
 fn offset_operation<R: Reader>(make: FromOffset, offset: R::Offset) -> Operation<R>
-    ensures { operation_of R.text R.Offset.number result ≡ entries.offset_operation make (R.Offset.number offset) }
+    ensures { operation_of R.text R.Offset.number result
+        ≡ entries.offset_operation make (R.Offset.number offset) }
 {
     match make {
         FromOffset::UnitCall => Operation::Call {
@@ -146,7 +147,8 @@ fn offset_operation<R: Reader>(make: FromOffset, offset: R::Offset) -> Operation
 
 #[inline(always)]
 fn block_operation<R: Reader + Copy>(make: FromBlock, block: R) -> Operation<R>
-    ensures { operation_of R.text R.Offset.number result ≡ entries.block_operation make (R.text block) }
+    ensures { operation_of R.text R.Offset.number result
+        ≡ entries.block_operation make (R.text block) }
 {
     match make {
         FromBlock::ImplicitValue => Operation::ImplicitValue { bytes: block },
@@ -173,7 +175,9 @@ fn read_rare_operands<R: Reader + Copy>(
     bytes: &mut R,
     encoding: Encoding,
 ) -> Result<Operation<R>>
-    ensures { Reads (operation_of R.text R.Offset.number) (R.text bytes.old) (R.text bytes.new) result (operands_at (context_of encoding R.Offset.BITS (R.text bytes.old).is_big) (rare_row entry) (R.text bytes.old).bytes) }
+    ensures { Reads (operation_of R.text R.Offset.number) (R.text bytes.old) (R.text bytes.new)
+        result (operands_at (context_of encoding R.Offset.BITS (R.text bytes.old).is_big)
+        (rare_row entry) (R.text bytes.old).bytes) }
 {
     match entry {
         Rare::NamedRegister => Ok(Operation::Register {
@@ -239,7 +243,9 @@ fn read_rare<R: Reader + Copy>(
     bytes: &mut R,
     encoding: Encoding,
 ) -> Result<Operation<R>>
-    ensures { Reads (operation_of R.text R.Offset.number) (R.text bytes.old) (R.text bytes.new) result (operands_at (context_of encoding R.Offset.BITS (R.text bytes.old).is_big) (rare_row entry) (R.text bytes.old).bytes) }
+    ensures { Reads (operation_of R.text R.Offset.number) (R.text bytes.old) (R.text bytes.new)
+        result (operands_at (context_of encoding R.Offset.BITS (R.text bytes.old).is_big)
+        (rare_row entry) (R.text bytes.old).bytes) }
 {
     let mut apart = *bytes;
     let operation = read_rare_operands(entry, &mut apart, encoding);
@@ -255,7 +261,9 @@ fn read_operands<R: Reader + Copy>(
     bytes: &mut R,
     encoding: Encoding,
 ) -> Result<Operation<R>>
-    ensures { Reads (operation_of R.text R.Offset.number) (R.text bytes.old) (R.text bytes.new) result (operands_at (context_of encoding R.Offset.BITS (R.text bytes.old).is_big) (entry_row encoding opcode entry) (R.text bytes.old).bytes) }
+    ensures { Reads (operation_of R.text R.Offset.number) (R.text bytes.old) (R.text bytes.new)
+        result (operands_at (context_of encoding R.Offset.BITS (R.text bytes.old).is_big)
+        (entry_row encoding opcode entry) (R.text bytes.old).bytes) }
 {
     match entry {
         Entry::Unknown => Err(Error::InvalidExpression(DwOp(opcode))),
@@ -305,8 +313,10 @@ impl<R: Reader + Copy> Operation<R> {
     #[tactic(auto, using(dwarf_base::proofs::Suffixes::suffix_trans), unfolding(dwarf_meaning::specs::Decoding::operation_at))]
     #[inline(always)]
     pub fn parse(bytes: &mut R, encoding: Encoding) -> Result<Operation<R>>
-        ensures reads { Reads (operation_of R.text R.Offset.number) (R.text bytes.old) (R.text bytes.new) result (operation_at encoding R.Offset.BITS (R.text bytes.old)) }
-        ensures less { OnOk result (length (R.text bytes.new).bytes < length (R.text bytes.old).bytes) }
+        ensures reads { Reads (operation_of R.text R.Offset.number) (R.text bytes.old)
+            (R.text bytes.new) result (operation_at encoding R.Offset.BITS (R.text bytes.old)) }
+        ensures less { OnOk result
+            (length (R.text bytes.new).bytes < length (R.text bytes.old).bytes) }
     {
         let opcode = bytes.read_u8()?;
         read_operands(entry_at(opcode), opcode, bytes, encoding)
@@ -323,7 +333,8 @@ pub fn parse_piece<R: Reader + Copy>(
     bytes: &mut R,
     encoding: Encoding,
 ) -> Result<Option<(u64, Option<u64>)>>
-    ensures reads { Reads (λ piece. piece) (R.text bytes.old) (R.text bytes.new) result (piece_read (operation_at encoding R.Offset.BITS (R.text bytes.old))) }
+    ensures reads { Reads (λ piece. piece) (R.text bytes.old) (R.text bytes.new) result
+        (piece_read (operation_at encoding R.Offset.BITS (R.text bytes.old))) }
     ensures less { OnOk result (length (R.text bytes.new).bytes < length (R.text bytes.old).bytes) }
 {
     let opcode = bytes.read_u8()?;
@@ -350,7 +361,10 @@ fn read_other_piece<R: Reader + Copy>(
     bytes: &mut R,
     encoding: Encoding,
 ) -> Result<Option<(u64, Option<u64>)>>
-    ensures { Reads (λ piece. piece) (R.text bytes.old) (R.text bytes.new) result (piece_read (operands_at (context_of encoding R.Offset.BITS (R.text bytes.old).is_big) (entry_row encoding opcode entry) (R.text bytes.old).bytes)) }
+    ensures { Reads (λ piece. piece) (R.text bytes.old) (R.text bytes.new) result
+        (piece_read
+        (operands_at (context_of encoding R.Offset.BITS (R.text bytes.old).is_big)
+        (entry_row encoding opcode entry) (R.text bytes.old).bytes)) }
 {
     match read_operands(entry, opcode, bytes, encoding)? {
         Operation::Piece {

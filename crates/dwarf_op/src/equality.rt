@@ -17,6 +17,7 @@ pub fn reference_equality_laws<O: Eq>()
 /// Operations are equal exactly where they are seen as the same, as far as readers and offsets are. It does
 /// nothing; its contract is the law.
 pub fn operation_equality_laws<R: Reader + Eq, O: Eq>()
-    ensures { (text : R → Text) (number : O → ℕ) → IsEqualityOf text R.PartialEq.eq → IsEqualityOf number O.PartialEq.eq
+    ensures { (text : R → Text) (number : O → ℕ) → IsEqualityOf text R.PartialEq.eq
+        → IsEqualityOf number O.PartialEq.eq
         → IsEqualityOf (operation_of text number) ⟦<Operation<R, O> as PartialEq>⟧.eq }
 {}

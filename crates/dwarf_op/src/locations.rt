@@ -60,7 +60,8 @@ impl<R: Reader, O> Default for Location<R, O> {
 
 impl<R: Reader, O> Default for Piece<R, O> {
     fn default() -> Self
-        ensures { result ≡ record { size_in_bits = None; bit_offset = None; location = Location.Empty } }
+        ensures { result
+            ≡ record { size_in_bits = None; bit_offset = None; location = Location.Empty } }
     {
         Piece {
             size_in_bits: None,

@@ -20,7 +20,8 @@ use dwarf_base::{Encoding, Error, Reader, ReaderOffset, Register, Result, UnitOf
 /// `UnexpectedEof` where the bytes end before.
 #[inline(always)]
 pub fn read_uleb128<R: Reader + Copy>(bytes: &mut R) -> Result<u64>
-    ensures { Reads (λ n. n) (R.text bytes.old) (R.text bytes.new) result (uleb_at (R.text bytes.old).bytes) }
+    ensures { Reads (λ n. n) (R.text bytes.old) (R.text bytes.new) result
+        (uleb_at (R.text bytes.old).bytes) }
 {
     let mut rest = *bytes;
     let first = rest.read_u8()?;
@@ -40,7 +41,8 @@ pub fn read_uleb128<R: Reader + Copy>(bytes: &mut R) -> Result<u64>
 /// `UnexpectedEof` where the bytes end before.
 #[inline(always)]
 pub fn read_sleb128<R: Reader + Copy>(bytes: &mut R) -> Result<i64>
-    ensures { Reads (λ n. n) (R.text bytes.old) (R.text bytes.new) result (sleb_at (R.text bytes.old).bytes) }
+    ensures { Reads (λ n. n) (R.text bytes.old) (R.text bytes.new) result
+        (sleb_at (R.text bytes.old).bytes) }
 {
     let mut rest = *bytes;
     let first = rest.read_u8()?;
@@ -71,7 +73,8 @@ fn last_byte(byte: u8) -> i64
 // its locals is set to zero, and most numbers are short.
 #[inline(always)]
 fn read_uleb128_apart<R: Reader + Copy>(bytes: &mut R) -> Result<u64>
-    ensures { Reads (λ n. n) (R.text bytes.old) (R.text bytes.new) result (uleb_at (R.text bytes.old).bytes) }
+    ensures { Reads (λ n. n) (R.text bytes.old) (R.text bytes.new) result
+        (uleb_at (R.text bytes.old).bytes) }
 {
     let mut apart = *bytes;
     let number = read_long_uleb128(&mut apart)?;
@@ -81,7 +84,8 @@ fn read_uleb128_apart<R: Reader + Copy>(bytes: &mut R) -> Result<u64>
 
 #[inline(never)]
 fn read_long_uleb128<R: Reader>(bytes: &mut R) -> Result<u64>
-    ensures { Reads (λ n. n) (R.text bytes.old) (R.text bytes.new) result (uleb_at (R.text bytes.old).bytes) }
+    ensures { Reads (λ n. n) (R.text bytes.old) (R.text bytes.new) result
+        (uleb_at (R.text bytes.old).bytes) }
 {
     bytes.read_uleb128()
 }
@@ -89,7 +93,8 @@ fn read_long_uleb128<R: Reader>(bytes: &mut R) -> Result<u64>
 // The same of a signed number.
 #[inline(always)]
 fn read_sleb128_apart<R: Reader + Copy>(bytes: &mut R) -> Result<i64>
-    ensures { Reads (λ n. n) (R.text bytes.old) (R.text bytes.new) result (sleb_at (R.text bytes.old).bytes) }
+    ensures { Reads (λ n. n) (R.text bytes.old) (R.text bytes.new) result
+        (sleb_at (R.text bytes.old).bytes) }
 {
     let mut apart = *bytes;
     let number = read_long_sleb128(&mut apart)?;
@@ -99,7 +104,8 @@ fn read_sleb128_apart<R: Reader + Copy>(bytes: &mut R) -> Result<i64>
 
 #[inline(never)]
 fn read_long_sleb128<R: Reader>(bytes: &mut R) -> Result<i64>
-    ensures { Reads (λ n. n) (R.text bytes.old) (R.text bytes.new) result (sleb_at (R.text bytes.old).bytes) }
+    ensures { Reads (λ n. n) (R.text bytes.old) (R.text bytes.new) result
+        (sleb_at (R.text bytes.old).bytes) }
 {
     bytes.read_sleb128()
 }
@@ -107,7 +113,8 @@ fn read_long_sleb128<R: Reader>(bytes: &mut R) -> Result<i64>
 // An address of so many bytes.
 #[inline(always)]
 fn read_address<R: Reader + Copy>(bytes: &mut R, size: u8) -> Result<u64>
-    ensures { Reads (λ n. n) (R.text bytes.old) (R.text bytes.new) result (address_at (R.text bytes.old).is_big size (R.text bytes.old).bytes) }
+    ensures { Reads (λ n. n) (R.text bytes.old) (R.text bytes.new) result
+        (address_at (R.text bytes.old).is_big size (R.text bytes.old).bytes) }
 {
     let mut apart = *bytes;
     let address = read_address_apart(&mut apart, size)?;
@@ -117,7 +124,8 @@ fn read_address<R: Reader + Copy>(bytes: &mut R, size: u8) -> Result<u64>
 
 #[inline(never)]
 fn read_address_apart<R: Reader>(bytes: &mut R, size: u8) -> Result<u64>
-    ensures { Reads (λ n. n) (R.text bytes.old) (R.text bytes.new) result (address_at (R.text bytes.old).is_big size (R.text bytes.old).bytes) }
+    ensures { Reads (λ n. n) (R.text bytes.old) (R.text bytes.new) result
+        (address_at (R.text bytes.old).is_big size (R.text bytes.old).bytes) }
 {
     bytes.read_address(size)
 }
@@ -130,7 +138,9 @@ pub fn read_unsigned<R: Reader + Copy>(
     bytes: &mut R,
     encoding: Encoding,
 ) -> Result<u64>
-    ensures { Reads (λ n. n) (R.text bytes.old) (R.text bytes.new) result (unsigned_at (context_of encoding R.Offset.BITS (R.text bytes.old).is_big) (unsigned_form shape) (R.text bytes.old).bytes) }
+    ensures { Reads (λ n. n) (R.text bytes.old) (R.text bytes.new) result
+        (unsigned_at (context_of encoding R.Offset.BITS (R.text bytes.old).is_big)
+        (unsigned_form shape) (R.text bytes.old).bytes) }
 {
     match shape {
         Unsigned::U16 => Ok(u64::from(bytes.read_u16()?)),
@@ -145,7 +155,8 @@ pub fn read_unsigned<R: Reader + Copy>(
 /// `BadSignedLeb128` where it leaves 64 bits.
 #[inline(always)]
 pub fn read_signed<R: Reader + Copy>(shape: Signed, bytes: &mut R) -> Result<i64>
-    ensures { Reads (λ n. n) (R.text bytes.old) (R.text bytes.new) result (integer_at (R.text bytes.old).is_big (signed_form shape) (R.text bytes.old).bytes) }
+    ensures { Reads (λ n. n) (R.text bytes.old) (R.text bytes.new) result
+        (integer_at (R.text bytes.old).is_big (signed_form shape) (R.text bytes.old).bytes) }
 {
     match shape {
         Signed::I8 => Ok(i64::from(bytes.read_i8()?)),
@@ -164,7 +175,9 @@ pub fn read_offset<R: Reader + Copy>(
     bytes: &mut R,
     encoding: Encoding,
 ) -> Result<R::Offset>
-    ensures { Reads R.Offset.number (R.text bytes.old) (R.text bytes.new) result (unsigned_at (context_of encoding R.Offset.BITS (R.text bytes.old).is_big) (offset_form shape) (R.text bytes.old).bytes) }
+    ensures { Reads R.Offset.number (R.text bytes.old) (R.text bytes.new) result
+        (unsigned_at (context_of encoding R.Offset.BITS (R.text bytes.old).is_big)
+        (offset_form shape) (R.text bytes.old).bytes) }
 {
     match shape {
         Offset::U16 => Ok(R::Offset::from_u16(bytes.read_u16()?)),
@@ -184,7 +197,8 @@ pub fn read_offset<R: Reader + Copy>(
 /// Reads a register's number, an unsigned LEB128 one. Its errors, and `UnsupportedRegister` of one past 16 bits.
 #[inline(always)]
 pub fn read_register<R: Reader + Copy>(bytes: &mut R) -> Result<Register>
-    ensures { Reads (λ r. r.0) (R.text bytes.old) (R.text bytes.new) result (register_at (R.text bytes.old).bytes) }
+    ensures { Reads (λ r. r.0) (R.text bytes.old) (R.text bytes.new) result
+        (register_at (R.text bytes.old).bytes) }
 {
     Register::from_u64(read_uleb128(bytes)?)
 }
@@ -202,7 +216,10 @@ pub fn generic_type<O: ReaderOffset>() -> UnitOffset<O>
 #[tactic(auto, using(dwarf_base::proofs::Suffixes::suffix_trans))]
 #[inline(always)]
 pub fn read_named_base_register<R: Reader + Copy>(bytes: &mut R) -> Result<(Register, i64)>
-    ensures { (encoding : Encoding) → Reads (λ p. meaning.RegisterOffset p.0.0 p.1 0) (R.text bytes.old) (R.text bytes.new) result (operands_at (context_of encoding R.Offset.BITS (R.text bytes.old).is_big) (rare_row Rare.NamedBaseRegister) (R.text bytes.old).bytes) }
+    ensures { (encoding : Encoding)
+        → Reads (λ p. meaning.RegisterOffset p.0.0 p.1 0) (R.text bytes.old) (R.text bytes.new)
+        result (operands_at (context_of encoding R.Offset.BITS (R.text bytes.old).is_big)
+        (rare_row Rare.NamedBaseRegister) (R.text bytes.old).bytes) }
 {
     let base = read_register(bytes)?;
     let offset = read_sleb128(bytes)?;
@@ -216,7 +233,10 @@ pub fn read_typed_register<R: Reader + Copy>(
     bytes: &mut R,
     encoding: Encoding,
 ) -> Result<(Register, R::Offset)>
-    ensures { Reads (λ p. meaning.RegisterOffset p.0.0 (pos 0) (R.Offset.number p.1)) (R.text bytes.old) (R.text bytes.new) result (operands_at (context_of encoding R.Offset.BITS (R.text bytes.old).is_big) (rare_row Rare.TypedRegister) (R.text bytes.old).bytes) }
+    ensures { Reads (λ p. meaning.RegisterOffset p.0.0 (pos 0) (R.Offset.number p.1))
+        (R.text bytes.old) (R.text bytes.new) result
+        (operands_at (context_of encoding R.Offset.BITS (R.text bytes.old).is_big)
+        (rare_row Rare.TypedRegister) (R.text bytes.old).bytes) }
 {
     let register = read_register(bytes)?;
     let base_type = read_offset(Offset::Uleb128, bytes, encoding)?;
@@ -228,7 +248,10 @@ pub fn read_typed_register<R: Reader + Copy>(
 #[tactic(auto, using(dwarf_base::proofs::Suffixes::suffix_trans))]
 #[inline(always)]
 pub fn read_piece<R: Reader + Copy>(bytes: &mut R) -> Result<u64>
-    ensures { (encoding : Encoding) → Reads (λ size. meaning.Piece size None) (R.text bytes.old) (R.text bytes.new) result (operands_at (context_of encoding R.Offset.BITS (R.text bytes.old).is_big) (entry_row encoding 0 Entry.Piece) (R.text bytes.old).bytes) }
+    ensures { (encoding : Encoding)
+        → Reads (λ size. meaning.Piece size None) (R.text bytes.old) (R.text bytes.new) result
+        (operands_at (context_of encoding R.Offset.BITS (R.text bytes.old).is_big)
+        (entry_row encoding 0 Entry.Piece) (R.text bytes.old).bytes) }
 {
     let size = read_uleb128(bytes)?;
     match size.checked_mul(8) {
@@ -241,7 +264,10 @@ pub fn read_piece<R: Reader + Copy>(bytes: &mut R) -> Result<u64>
 #[tactic(auto, using(dwarf_base::proofs::Suffixes::suffix_trans))]
 #[inline(always)]
 pub fn read_bit_piece<R: Reader + Copy>(bytes: &mut R) -> Result<(u64, u64)>
-    ensures { (encoding : Encoding) → Reads (λ p. meaning.Piece p.0 (Some p.1)) (R.text bytes.old) (R.text bytes.new) result (operands_at (context_of encoding R.Offset.BITS (R.text bytes.old).is_big) (rare_row Rare.BitPiece) (R.text bytes.old).bytes) }
+    ensures { (encoding : Encoding)
+        → Reads (λ p. meaning.Piece p.0 (Some p.1)) (R.text bytes.old) (R.text bytes.new) result
+        (operands_at (context_of encoding R.Offset.BITS (R.text bytes.old).is_big)
+        (rare_row Rare.BitPiece) (R.text bytes.old).bytes) }
 {
     let size_in_bits = read_uleb128(bytes)?;
     let bit_offset = read_uleb128(bytes)?;
@@ -252,7 +278,11 @@ pub fn read_bit_piece<R: Reader + Copy>(bytes: &mut R) -> Result<(u64, u64)>
 #[tactic(auto, using(dwarf_base::proofs::Suffixes::suffix_trans))]
 #[inline(always)]
 pub fn read_block<R: Reader + Copy>(bytes: &mut R, encoding: Encoding) -> Result<R>
-    ensures { (make : FromBlock) → Reads (λ block. entries.block_operation make (R.text block)) (R.text bytes.old) (R.text bytes.new) result (operands_at (context_of encoding R.Offset.BITS (R.text bytes.old).is_big) (rare_row (Rare.Block make)) (R.text bytes.old).bytes) }
+    ensures { (make : FromBlock)
+        → Reads (λ block. entries.block_operation make (R.text block)) (R.text bytes.old)
+        (R.text bytes.new) result
+        (operands_at (context_of encoding R.Offset.BITS (R.text bytes.old).is_big)
+        (rare_row (Rare.Block make)) (R.text bytes.old).bytes) }
 {
     let size = read_offset(Offset::Uleb128, bytes, encoding)?;
     bytes.split(size)
@@ -266,7 +296,10 @@ pub fn read_typed_literal<R: Reader + Copy>(
     bytes: &mut R,
     encoding: Encoding,
 ) -> Result<(R::Offset, R)>
-    ensures { Reads (λ p. meaning.TypedLiteral (R.Offset.number p.0) (R.text p.1)) (R.text bytes.old) (R.text bytes.new) result (operands_at (context_of encoding R.Offset.BITS (R.text bytes.old).is_big) (rare_row Rare.TypedLiteral) (R.text bytes.old).bytes) }
+    ensures { Reads (λ p. meaning.TypedLiteral (R.Offset.number p.0) (R.text p.1))
+        (R.text bytes.old) (R.text bytes.new) result
+        (operands_at (context_of encoding R.Offset.BITS (R.text bytes.old).is_big)
+        (rare_row Rare.TypedLiteral) (R.text bytes.old).bytes) }
 {
     let base_type = read_offset(Offset::Uleb128, bytes, encoding)?;
     let size = bytes.read_u8()?;
@@ -282,7 +315,11 @@ pub fn read_typed_deref<R: Reader + Copy>(
     bytes: &mut R,
     encoding: Encoding,
 ) -> Result<(u8, R::Offset)>
-    ensures { (space : Bool) → Reads (λ p. meaning.Deref (R.Offset.number p.1) p.0 space) (R.text bytes.old) (R.text bytes.new) result (operands_at (context_of encoding R.Offset.BITS (R.text bytes.old).is_big) (rare_row (Rare.TypedDeref space)) (R.text bytes.old).bytes) }
+    ensures { (space : Bool)
+        → Reads (λ p. meaning.Deref (R.Offset.number p.1) p.0 space) (R.text bytes.old)
+        (R.text bytes.new) result
+        (operands_at (context_of encoding R.Offset.BITS (R.text bytes.old).is_big)
+        (rare_row (Rare.TypedDeref space)) (R.text bytes.old).bytes) }
 {
     let size = bytes.read_u8()?;
     let base_type = read_offset(Offset::Uleb128, bytes, encoding)?;
@@ -297,7 +334,10 @@ pub fn read_implicit_pointer<R: Reader + Copy>(
     bytes: &mut R,
     encoding: Encoding,
 ) -> Result<(R::Offset, i64)>
-    ensures { Reads (λ p. meaning.ImplicitPointer (R.Offset.number p.0) p.1) (R.text bytes.old) (R.text bytes.new) result (operands_at (context_of encoding R.Offset.BITS (R.text bytes.old).is_big) (rare_row Rare.ImplicitPointer) (R.text bytes.old).bytes) }
+    ensures { Reads (λ p. meaning.ImplicitPointer (R.Offset.number p.0) p.1) (R.text bytes.old)
+        (R.text bytes.new) result
+        (operands_at (context_of encoding R.Offset.BITS (R.text bytes.old).is_big)
+        (rare_row Rare.ImplicitPointer) (R.text bytes.old).bytes) }
 {
     let value = read_offset(Offset::Reference, bytes, encoding)?;
     let byte_offset = read_sleb128(bytes)?;
@@ -321,7 +361,10 @@ pub enum WasmPlace {
 #[tactic(auto, using(dwarf_base::proofs::Suffixes::suffix_trans, crate::proofs::OneByte::one_byte))]
 #[inline(never)]
 pub fn read_wasm_location<R: Reader + Copy>(bytes: &mut R) -> Result<(WasmPlace, u32)>
-    ensures { (encoding : Encoding) → Reads (λ p. entries.wasm_operation p.0 p.1) (R.text bytes.old) (R.text bytes.new) result (operands_at (context_of encoding R.Offset.BITS (R.text bytes.old).is_big) (rare_row Rare.WasmLocation) (R.text bytes.old).bytes) }
+    ensures { (encoding : Encoding)
+        → Reads (λ p. entries.wasm_operation p.0 p.1) (R.text bytes.old) (R.text bytes.new) result
+        (operands_at (context_of encoding R.Offset.BITS (R.text bytes.old).is_big)
+        (rare_row Rare.WasmLocation) (R.text bytes.old).bytes) }
 {
     match bytes.read_u8()? {
         0 => Ok((WasmPlace::Local, bytes.read_uleb128_u32()?)),

@@ -92,7 +92,9 @@ impl Value {
     #[inline(always)]
     fn divided_by(self, rhs: Value, addr_mask: u64, signed: bool) -> Result<(ValueType, i128, i128)>
         requires { IsAddressMask addr_mask }
-        ensures { MatchResult result (λ r. AreDivided signed (width_of addr_mask) self rhs r.0 r.1 r.2) (UnfitDivision (width_of addr_mask) self rhs) }
+        ensures { MatchResult result
+            (λ r. AreDivided signed (width_of addr_mask) self rhs r.0 r.1 r.2)
+            (UnfitDivision (width_of addr_mask) self rhs) }
     {
         let (value_type, first) = self.apart(addr_mask, signed);
         let (other, second) = rhs.apart(addr_mask, signed);

@@ -12,7 +12,8 @@ impl Value {
     /// `UnsupportedTypeOperation` at the generic type; else `UnexpectedEof` where there are too few bytes.
     #[inline(always)]
     pub fn parse<R: Reader + Copy>(value_type: ValueType, bytes: R) -> Result<Value>
-        ensures { Returns (λ value. value) result (parse_of value_type (R.text bytes).is_big (R.text bytes).bytes) }
+        ensures { Returns (λ value. value) result
+            (parse_of value_type (R.text bytes).is_big (R.text bytes).bytes) }
     {
         if same_type(value_type, ValueType::Generic) {
             return Err(Error::UnsupportedTypeOperation);

@@ -61,7 +61,8 @@ impl Value {
     #[inline(always)]
     fn shift_length(self, addr_mask: u64) -> Result<u64>
         requires { IsAddressMask addr_mask }
-        ensures { MatchResult result (IsLength (width_of addr_mask) self) (UnfitLength (width_of addr_mask) self) }
+        ensures { MatchResult result (IsLength (width_of addr_mask) self)
+            (UnfitLength (width_of addr_mask) self) }
     {
         let (_, word) = self.apart(addr_mask, false);
         let length = word.integer();

@@ -88,7 +88,8 @@ impl Value {
         ensures value_type { result.0 ≡ type_of self }
         ensures width { result.1.width ≡ bit_size_of (width_of addr_mask) (type_of self) }
         ensures signed { result.1.signed ≡ is_signed signed (type_of self) }
-        ensures integer { word_integer result.1.signed result.1.width result.1.bits ≡ integer_of signed (width_of addr_mask) self }
+        ensures integer { word_integer result.1.signed result.1.width result.1.bits
+            ≡ integer_of signed (width_of addr_mask) self }
     {
         match self {
             Value::Generic(content) => {
@@ -125,7 +126,9 @@ impl Value {
         signed: bool,
     ) -> Result<(ValueType, i128, i128)>
         requires { IsAddressMask addr_mask }
-        ensures { MatchResult result (λ r. AreOperands signed (width_of addr_mask) self rhs r.0 r.1 r.2) (UnfitOperands self rhs) }
+        ensures { MatchResult result
+            (λ r. AreOperands signed (width_of addr_mask) self rhs r.0 r.1 r.2)
+            (UnfitOperands self rhs) }
     {
         let (value_type, first) = self.apart(addr_mask, signed);
         let (other, second) = rhs.apart(addr_mask, signed);

@@ -18,7 +18,8 @@ use std::io::Write;
 
 /// A fault that carries nothing.
 fn print_plain_fault<W: Write>(output: &mut W, name: &'static str) -> io::Result<()>
-    ensures { Prints (W.contents output.old) (W.contents output.new) (line (codes "fault") (name.now ∷ [])) result }
+    ensures { Prints (W.contents output.old) (W.contents output.new)
+        (line (codes "fault") (name.now ∷ [])) result }
 {
     put_line(output, "fault", &[Word::Name(name)])
 }
@@ -33,7 +34,8 @@ fn print_numbered_fault<W: Write>(output: &mut W, name: &'static str, number: u6
 
 /// A fault: its name, and the number that it carries.
 pub(crate) fn print_fault<W: Write>(output: &mut W, error: Error) -> io::Result<()>
-    ensures { Prints (W.contents output.old) (W.contents output.new) (fault_line (fault_of error)) result }
+    ensures { Prints (W.contents output.old) (W.contents output.new) (fault_line (fault_of error))
+        result }
 {
     match error {
         Error::UnexpectedEof(_) => print_plain_fault(output, "UnexpectedEof"),
@@ -162,7 +164,8 @@ fn relocate_name(relocate: bool) -> Word<'static>
 
 /// A request with one number.
 fn print_numbered<W: Write>(output: &mut W, name: &str, number: u64) -> io::Result<()>
-    ensures { Prints (W.contents output.old) (W.contents output.new) (line name.now (decimal number ∷ [])) result }
+    ensures { Prints (W.contents output.old) (W.contents output.new)
+        (line name.now (decimal number ∷ [])) result }
 {
     put_line(output, name, &[Word::Number(number)])
 }

@@ -53,7 +53,8 @@ fn no_memory<W: Write>(output: &mut W) -> io::Result<u8>
 
 /// Prints that the line of this number is no step.
 fn bad_step<W: Write>(output: &mut W, number: usize) -> io::Result<u8>
-    ensures { WritesEnding (W.contents output.old) (W.contents output.new) (runs.bad_step number) result }
+    ensures { WritesEnding (W.contents output.old) (W.contents output.new) (runs.bad_step number)
+        result }
 {
     put_line(output, "bad step", &[Word::Number(number as u64)])?;
     Ok(MISUSED)
@@ -62,7 +63,8 @@ fn bad_step<W: Write>(output: &mut W, number: usize) -> io::Result<u8>
 /// Prints that the step at this index, from 0, isn't allowed.
 fn misplaced<W: Write>(output: &mut W, index: usize) -> io::Result<u8>
     requires { index < 2 ^ 64 - 1 }
-    ensures { WritesEnding (W.contents output.old) (W.contents output.new) (runs.misplaced index) result }
+    ensures { WritesEnding (W.contents output.old) (W.contents output.new) (runs.misplaced index)
+        result }
 {
     put_line(output, "misplaced", &[Word::Number(index as u64 + 1)])?;
     Ok(MISUSED)
@@ -130,7 +132,8 @@ fn print_end<A: Allocator + Copy, W: Write>(
     replayed: Replayed<Text<'_>>,
 ) -> io::Result<u8>
     requires { HasLine replayed }
-    ensures { WritesEnding (W.contents output.old) (W.contents output.new) (ending_of evaluation.now replayed.entry) result }
+    ensures { WritesEnding (W.contents output.old) (W.contents output.new)
+        (ending_of evaluation.now replayed.entry) result }
 {
     match replayed {
         Replayed::Done => print_outcome(output, evaluation),
@@ -295,7 +298,8 @@ fn run_words<A: Allocator + Copy, I: Read + Drop, W: Write>(
 
 /// Says why there are no words.
 fn refuse_words<W: Write>(kind: ErrorKind, output: &mut W) -> io::Result<u8>
-    ensures { WritesEnding (W.contents output.old) (W.contents output.new) (without_words kind) result }
+    ensures { WritesEnding (W.contents output.old) (W.contents output.new) (without_words kind)
+        result }
 {
     match kind {
         ErrorKind::InvalidData => bad_words(output),
@@ -305,7 +309,8 @@ fn refuse_words<W: Write>(kind: ErrorKind, output: &mut W) -> io::Result<u8>
 
 /// Answers for words that could not be had: one isn't UTF-8, or there was no memory for them.
 pub(crate) fn run_without_words<W: Write>(error: io::Error, output: &mut W) -> u8
-    ensures { Exits (W.contents output.old) (W.contents output.new) (without_words (error_kind error)) result }
+    ensures { Exits (W.contents output.old) (W.contents output.new)
+        (without_words (error_kind error)) result }
 {
     refuse_words(error.kind(), output).unwrap_or(FAILED)
 }

@@ -75,7 +75,8 @@ fn place_digits(buffer: &mut [u8; 64], base: u64, number: u64) -> usize
 fn put_digits<W: Write>(output: &mut W, base: u64, number: u64) -> io::Result<()>
     requires least { 2 ≤ base }
     requires most { base ≤ 16 }
-    ensures { Prints (W.contents output.old) (W.contents output.new) (digits base false number) result }
+    ensures { Prints (W.contents output.old) (W.contents output.new) (digits base false number)
+        result }
 {
     let mut buffer = [0; 64];
     let start = place_digits(&mut buffer, base, number);
@@ -86,7 +87,8 @@ fn put_digits<W: Write>(output: &mut W, base: u64, number: u64) -> io::Result<()
 fn put_number<W: Write>(output: &mut W, prefix: &str, base: u64, number: u64) -> io::Result<()>
     requires least { 2 ≤ base }
     requires most { base ≤ 16 }
-    ensures { Prints (W.contents output.old) (W.contents output.new) (prefix.now ++ digits base false number) result }
+    ensures { Prints (W.contents output.old) (W.contents output.new)
+        (prefix.now ++ digits base false number) result }
 {
     put_text(output, prefix)?;
     put_digits(output, base, number)
@@ -94,7 +96,8 @@ fn put_number<W: Write>(output: &mut W, prefix: &str, base: u64, number: u64) ->
 
 /// A minus sign where there is one, and decimal digits, behind the prefix.
 fn put_integer<W: Write>(output: &mut W, prefix: &str, number: i64) -> io::Result<()>
-    ensures { Prints (W.contents output.old) (W.contents output.new) (prefix.now ++ signed_decimal number) result }
+    ensures { Prints (W.contents output.old) (W.contents output.new)
+        (prefix.now ++ signed_decimal number) result }
 {
     put_text(output, prefix)?;
     if number < 0 {
@@ -122,7 +125,8 @@ fn put_value<W: Write>(output: &mut W, value: Value) -> io::Result<()>
 
 /// Two lower case digits a byte, or `-` for none.
 fn put_bytes<W: Write>(output: &mut W, bytes: Text<'_>) -> io::Result<()>
-    ensures { Prints (W.contents output.old) (W.contents output.new) (bytes_word (slice_bytes bytes.entry)) result }
+    ensures { Prints (W.contents output.old) (W.contents output.new)
+        (bytes_word (slice_bytes bytes.entry)) result }
 {
     if bytes.is_empty() {
         return put_text(output, "-");
@@ -172,7 +176,8 @@ fn put_word<W: Write>(output: &mut W, word: Word<'_>) -> io::Result<()>
 
 /// A number and the blank behind it.
 pub(crate) fn put_number_word<W: Write>(output: &mut W, number: u64) -> io::Result<()>
-    ensures { Prints (W.contents output.old) (W.contents output.new) (decimal number ++ codes " ") result }
+    ensures { Prints (W.contents output.old) (W.contents output.new) (decimal number ++ codes " ")
+        result }
 {
     put_digits(output, 10, number)?;
     put_text(output, " ")
@@ -180,7 +185,8 @@ pub(crate) fn put_number_word<W: Write>(output: &mut W, number: u64) -> io::Resu
 
 /// The end of a line: each word behind a blank, and a line feed.
 fn put_ending<W: Write>(output: &mut W, words: &[Word<'_>]) -> io::Result<()>
-    ensures { Prints (W.contents output.old) (W.contents output.new) (ending (map word_text words.now)) result }
+    ensures { Prints (W.contents output.old) (W.contents output.new)
+        (ending (map word_text words.now)) result }
 {
     for word in words {
         put_text(output, " ")?;
@@ -191,7 +197,8 @@ fn put_ending<W: Write>(output: &mut W, words: &[Word<'_>]) -> io::Result<()>
 
 /// A line: the first word, each further one behind a blank, and a line feed.
 pub(crate) fn put_line<W: Write>(output: &mut W, first: &str, words: &[Word<'_>]) -> io::Result<()>
-    ensures { Prints (W.contents output.old) (W.contents output.new) (line first.now (map word_text words.now)) result }
+    ensures { Prints (W.contents output.old) (W.contents output.new)
+        (line first.now (map word_text words.now)) result }
 {
     put_text(output, first)?;
     put_ending(output, words)

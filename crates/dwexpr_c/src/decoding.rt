@@ -14,7 +14,9 @@ use dwarf_op::Operation;
 /// What stands at an offset, where there is a byte.
 fn decode_at(bytes: &[u8], reading: Reading, offset: usize) -> DwexprOperation
     requires { offset < length bytes.now }
-    ensures { Decodes offset (slice_index bytes.now offset) (length (drop offset bytes.now)) (operation_at reading.encoding 64 (record { bytes = drop offset bytes.now; is_big = is_big_of reading.order })) result }
+    ensures { Decodes offset (slice_index bytes.now offset) (length (drop offset bytes.now))
+        (operation_at reading.encoding 64
+        (record { bytes = drop offset bytes.now; is_big = is_big_of reading.order })) result }
 {
     let opcode = bytes[offset];
     let front = EndianSlice::new(&bytes[offset..], reading.order);
@@ -28,8 +30,12 @@ fn decode_at(bytes: &[u8], reading: Reading, offset: usize) -> DwexprOperation
 /// What is shown of the operation at an offset.
 fn decode(bytes: &[u8], numbers: DwexprEncoding, offset: usize) -> DwexprOperation
     ensures encoding { is_encoding numbers ≡ false → result ≡ disallowed offset bad_encoding_code }
-    ensures offset { is_encoding numbers ≡ true → length bytes.now ≤ offset → result ≡ disallowed offset bad_offset_code }
-    ensures decodes { is_encoding numbers ≡ true → offset < length bytes.now → Decodes offset (slice_index bytes.now offset) (length (drop offset bytes.now)) (operation_at (encoding_in numbers) 64 (record { bytes = drop offset bytes.now; is_big = is_big_in numbers })) result }
+    ensures offset { is_encoding numbers ≡ true → length bytes.now ≤ offset
+        → result ≡ disallowed offset bad_offset_code }
+    ensures decodes { is_encoding numbers ≡ true → offset < length bytes.now
+        → Decodes offset (slice_index bytes.now offset) (length (drop offset bytes.now))
+        (operation_at (encoding_in numbers) 64
+        (record { bytes = drop offset bytes.now; is_big = is_big_in numbers })) result }
 {
     match reading_of(numbers) {
         None => refuse(offset, BAD_ENCODING),
@@ -50,10 +56,18 @@ pub extern "C" fn dwexpr_decode(
     operation: &mut DwexprOperation,
 ) -> u32
     ensures code { result ≡ operation.new.fault }
-    ensures encoding { is_encoding encoding ≡ false → operation.new ≡ disallowed offset bad_encoding_code }
-    ensures offset { is_encoding encoding ≡ true → length bytes.now ≤ offset → operation.new ≡ disallowed offset bad_offset_code }
-    ensures decodes { is_encoding encoding ≡ true → offset < length bytes.now → Decodes offset (slice_index bytes.now offset) (length (drop offset bytes.now)) (operation_at (encoding_in encoding) 64 (record { bytes = drop offset bytes.now; is_big = is_big_in encoding })) operation.new }
-    ensures block { is_encoding encoding ≡ true → offset < length bytes.now → IsBlockAt bytes.now operation.new (operation_at (encoding_in encoding) 64 (record { bytes = drop offset bytes.now; is_big = is_big_in encoding })) }
+    ensures encoding { is_encoding encoding ≡ false
+        → operation.new ≡ disallowed offset bad_encoding_code }
+    ensures offset { is_encoding encoding ≡ true → length bytes.now ≤ offset
+        → operation.new ≡ disallowed offset bad_offset_code }
+    ensures decodes { is_encoding encoding ≡ true → offset < length bytes.now
+        → Decodes offset (slice_index bytes.now offset) (length (drop offset bytes.now))
+        (operation_at (encoding_in encoding) 64
+        (record { bytes = drop offset bytes.now; is_big = is_big_in encoding })) operation.new }
+    ensures block { is_encoding encoding ≡ true → offset < length bytes.now
+        → IsBlockAt bytes.now operation.new
+        (operation_at (encoding_in encoding) 64
+        (record { bytes = drop offset bytes.now; is_big = is_big_in encoding })) }
 {
     *operation = decode(bytes, encoding, offset);
     operation.fault

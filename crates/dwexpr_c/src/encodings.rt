@@ -26,7 +26,9 @@ pub(crate) struct Reading {
 }
 
 fn format_of(offset_size: u8) -> Option<Format>
-    ensures some { IfSome result (λ format. ((offset_size == 4 || offset_size == 8) ≡ true) × (format ≡ (if offset_size == 8 then Format.Dwarf64 else Format.Dwarf32))) }
+    ensures some { IfSome result
+        (λ format. ((offset_size == 4 || offset_size == 8) ≡ true)
+        × (format ≡ (if offset_size == 8 then Format.Dwarf64 else Format.Dwarf32))) }
     ensures none { IfNone result ((offset_size == 4 || offset_size == 8) ≡ false) }
 {
     match offset_size {
@@ -37,7 +39,9 @@ fn format_of(offset_size: u8) -> Option<Format>
 }
 
 fn order_of(big_endian: u8) -> Option<RunTimeEndian>
-    ensures some { IfSome result (λ order. ((big_endian == 0 || big_endian == 1) ≡ true) × (is_big_of order ≡ (big_endian == 1))) }
+    ensures some { IfSome result
+        (λ order. ((big_endian == 0 || big_endian == 1) ≡ true)
+        × (is_big_of order ≡ (big_endian == 1))) }
     ensures none { IfNone result ((big_endian == 0 || big_endian == 1) ≡ false) }
 {
     match big_endian {
@@ -49,9 +53,12 @@ fn order_of(big_endian: u8) -> Option<RunTimeEndian>
 
 /// How bytes are to be read, where the numbers say that.
 pub(crate) fn reading_of(numbers: DwexprEncoding) -> Option<Reading>
-    ensures some { IfSome result (λ reading. (is_encoding numbers ≡ true) × (reading.encoding ≡ encoding_in numbers) × (is_big_of reading.order ≡ is_big_in numbers)) }
+    ensures some { IfSome result
+        (λ reading. (is_encoding numbers ≡ true) × (reading.encoding ≡ encoding_in numbers)
+        × (is_big_of reading.order ≡ is_big_in numbers)) }
     ensures none { IfNone result (is_encoding numbers ≡ false) }
-    ensures size { IfSome result (λ reading. (0 < reading.encoding.address_size) × (reading.encoding.address_size ≤ 8)) }
+    ensures size { IfSome result
+        (λ reading. (0 < reading.encoding.address_size) × (reading.encoding.address_size ≤ 8)) }
 {
     if numbers.address_size == 0 || numbers.address_size > 8 {
         return None;

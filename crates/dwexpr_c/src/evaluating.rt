@@ -47,7 +47,8 @@ fn do_step<'a, S: EvaluationStorage<Placed<'a>>>(
     numbers: DwexprStep,
     outcome: &mut DwexprOutcome,
 ) -> Result<(), FaultNumbers>
-    ensures { DoesStep texts.now (step_in (is_big_of order) texts.now numbers) evaluation.old evaluation.new outcome.old outcome.new result }
+    ensures { DoesStep texts.now (step_in (is_big_of order) texts.now numbers) evaluation.old
+        evaluation.new outcome.old outcome.new result }
 {
     let step = match step_of(texts, order, numbers) {
         Ok(step) => step,
@@ -112,7 +113,8 @@ fn show_result(
     pieces: &[Piece<Placed<'_>>],
     places: &mut [DwexprPiece],
 ) -> DwexprOutcome
-    ensures { FinishesOutcome texts.now count (map (piece_of text_of_placed (λ x. x)) pieces.now) result result places.old places.new (CompleteStatus value) }
+    ensures { FinishesOutcome texts.now count (map (piece_of text_of_placed (λ x. x)) pieces.now)
+        result result places.old places.new (CompleteStatus value) }
 {
     if write_pieces(texts, pieces, places) {
         show_complete(pieces.len(), value)
@@ -129,7 +131,8 @@ fn show_status<'a, S: EvaluationStorage<Placed<'a>>>(
     outcome: DwexprOutcome,
     places: &mut [DwexprPiece],
 ) -> DwexprOutcome
-    ensures { FinishesOutcome texts.now count evaluation.now.store.pieces outcome result places.old places.new evaluation.now.status }
+    ensures { FinishesOutcome texts.now count evaluation.now.store.pieces outcome result places.old
+        places.new evaluation.now.status }
 {
     match evaluation.status() {
         Status::Complete => show_result(
@@ -151,7 +154,8 @@ fn finish<'a, S: EvaluationStorage<Placed<'a>>>(
     done: Result<DwexprOutcome, DwexprOutcome>,
     places: &mut [DwexprPiece],
 ) -> DwexprOutcome
-    ensures { EndsOutcome texts.now count evaluation.now.store.pieces done result places.old places.new evaluation.now.status }
+    ensures { EndsOutcome texts.now count evaluation.now.store.pieces done result places.old
+        places.new evaluation.now.status }
 {
     match done {
         Ok(outcome) => show_status(evaluation, texts, count, outcome, places),
@@ -171,7 +175,14 @@ fn evaluate_text<'a>(
     requires fits { reading.encoding.address_size ≤ 8 }
     requires order { (text_of_placed text).is_big ≡ is_big_of reading.order }
     requires given { IsGiven texts.now (text_of_placed text).bytes }
-    ensures { EvaluatesGiven (record { setup = limited_setup reading.encoding; text = text_of_placed text.entry; told = untold; texts = texts.now }) steps.now result places.old places.new }
+    ensures { EvaluatesGiven
+        (record {
+          setup = limited_setup reading.encoding;
+          text = text_of_placed text.entry;
+          told =
+              untold;
+          texts = texts.now;
+        }) steps.now result places.old places.new }
 {
     let mut evaluation: Evaluation<Placed<'a>, Fixed> = Evaluation::new_in(
         text,
@@ -196,7 +207,8 @@ fn evaluate_found<'a>(
     requires fits { reading.encoding.address_size ≤ 8 }
     requires order { IfSome found (λ text. (text_of_placed text).is_big ≡ is_big_of reading.order) }
     requires given { IfSome found (λ text. IsGiven texts.now (text_of_placed text).bytes) }
-    ensures { EvaluatesFound reading.encoding texts.now steps.now result places.old places.new found.entry }
+    ensures { EvaluatesFound reading.encoding texts.now steps.now result places.old places.new
+        found.entry }
 {
     match found {
         None => show_end(plain(BAD_TEXT), 0),
@@ -213,7 +225,8 @@ fn evaluate_first(
 ) -> DwexprOutcome
     requires some { 0 < reading.encoding.address_size }
     requires fits { reading.encoding.address_size ≤ 8 }
-    ensures { EvaluatesFirst reading.encoding (is_big_of reading.order) texts.now steps.now result places.old places.new }
+    ensures { EvaluatesFirst reading.encoding (is_big_of reading.order) texts.now steps.now result
+        places.old places.new }
 {
     let found = text_at(texts, reading.order, 0);
     evaluate_found(texts, found, reading, steps, places)
@@ -226,8 +239,11 @@ fn evaluate(
     steps: &[DwexprStep],
     places: &mut [DwexprPiece],
 ) -> DwexprOutcome
-    ensures encoding { is_encoding numbers ≡ false → (result ≡ ended_outcome bad_encoding_code 0 0) × (places.new ≡ places.old) }
-    ensures evaluates { is_encoding numbers ≡ true → EvaluatesFirst (encoding_in numbers) (is_big_in numbers) texts.now steps.now result places.old places.new }
+    ensures encoding { is_encoding numbers ≡ false
+        → (result ≡ ended_outcome bad_encoding_code 0 0) × (places.new ≡ places.old) }
+    ensures evaluates { is_encoding numbers ≡ true
+        → EvaluatesFirst (encoding_in numbers) (is_big_in numbers) texts.now steps.now result
+        places.old places.new }
 {
     match reading_of(numbers) {
         None => show_end(plain(BAD_ENCODING), 0),
@@ -250,8 +266,11 @@ pub extern "C" fn dwexpr_evaluate(
     pieces: &mut [DwexprPiece],
 ) -> u32
     ensures code { result ≡ outcome.new.code }
-    ensures encoding { is_encoding encoding ≡ false → (outcome.new ≡ ended_outcome bad_encoding_code 0 0) × (pieces.new ≡ pieces.old) }
-    ensures evaluates { is_encoding encoding ≡ true → EvaluatesFirst (encoding_in encoding) (is_big_in encoding) texts.now steps.now outcome.new pieces.old pieces.new }
+    ensures encoding { is_encoding encoding ≡ false
+        → (outcome.new ≡ ended_outcome bad_encoding_code 0 0) × (pieces.new ≡ pieces.old) }
+    ensures evaluates { is_encoding encoding ≡ true
+        → EvaluatesFirst (encoding_in encoding) (is_big_in encoding) texts.now steps.now outcome.new
+        pieces.old pieces.new }
 {
     *outcome = evaluate(texts, encoding, steps, pieces);
     outcome.code

@@ -48,7 +48,11 @@ fn carrying(code: u32, number: u64) -> FaultNumbers
 
 /// The code of a fault, and the number that it carries.
 pub(crate) fn numbers_of(error: Error) -> FaultNumbers
-    ensures { result ≡ record { code = code_of_fault (fault_of error); number = number_of_fault (fault_of error) } }
+    ensures { result
+        ≡ record {
+          code = code_of_fault (fault_of error);
+          number = number_of_fault (fault_of error);
+        } }
 {
     match error {
         Error::UnexpectedEof(_) => plain(1),

@@ -76,7 +76,8 @@ pub(crate) fn refuse(offset: usize, code: u32) -> DwexprOperation
 
 /// What is shown of a fault.
 pub(crate) fn show_fault(offset: usize, opcode: u8, fault: FaultNumbers) -> DwexprOperation
-    ensures { result ≡ record (disallowed offset fault.code) { opcode = opcode; detail = fault.number } }
+    ensures { result
+        ≡ record (disallowed offset fault.code) { opcode = opcode; detail = fault.number } }
 {
     DwexprOperation {
         opcode: u32::from(opcode),
@@ -134,7 +135,8 @@ fn blocked(shown: DwexprOperation, length: usize, end: usize) -> DwexprOperation
 
 /// The kind and the operands of an operation that ends here.
 fn show_operands(operation: Operation<Bytes<'_>>, end: usize) -> DwexprOperation
-    ensures { let op = operation_of slice_text (λ x. x) operation.entry in result ≡ with_block end (block_in op) (operands_of op) }
+    ensures { let op = operation_of slice_text (λ x. x) operation.entry in result
+        ≡ with_block end (block_in op) (operands_of op) }
 {
     match operation {
         Operation::Deref {
@@ -260,7 +262,8 @@ pub(crate) fn show(
     size: usize,
 ) -> DwexprOperation
     requires { offset + size < 2 ^ 64 }
-    ensures { result ≡ decoded offset opcode size (operation_of slice_text (λ x. x) operation.entry) }
+    ensures { result
+        ≡ decoded offset opcode size (operation_of slice_text (λ x. x) operation.entry) }
 {
     placed(
         show_operands(operation, offset + size),

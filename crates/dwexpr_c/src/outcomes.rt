@@ -105,7 +105,8 @@ fn asking_memory(address: u64, size: u8, base_type: usize) -> DwexprOutcome
 
 /// The outcome with the place of a block.
 fn with_block(shown: DwexprOutcome, place: Place, size: usize) -> DwexprOutcome
-    ensures { result ≡ record shown { block_text = place.text; block_offset = place.offset; block_length = size } }
+    ensures { result
+        ≡ record shown { block_text = place.text; block_offset = place.offset; block_length = size } }
 {
     DwexprOutcome {
         block_text: place.text,
@@ -120,8 +121,10 @@ pub(crate) fn show_told(
     texts: &[DwexprText<'_>],
     told: EvaluationResult<Placed<'_>>,
 ) -> Option<DwexprOutcome>
-    ensures some { IfSome result (λ out. ShowsReply texts.now (ok_reply text_of_placed (λ x. x) told.entry) out) }
-    ensures none { IfNone result (AsksNowhere texts.now (ok_reply text_of_placed (λ x. x) told.entry)) }
+    ensures some { IfSome result
+        (λ out. ShowsReply texts.now (ok_reply text_of_placed (λ x. x) told.entry) out) }
+    ensures none { IfNone result
+        (AsksNowhere texts.now (ok_reply text_of_placed (λ x. x) told.entry)) }
 {
     Some(match told {
         EvaluationResult::Complete => asking(1, 0),

@@ -76,7 +76,8 @@ fn sized(kind: u32, size_in_bits: Option<u64>, bit_offset: Option<u64>) -> Dwexp
 
 /// The piece with the place of its bytes.
 fn with_bytes(shown: DwexprPiece, place: Place, size: usize) -> DwexprPiece
-    ensures { result ≡ record shown { block_text = place.text; block_offset = place.offset; block_length = size } }
+    ensures { result
+        ≡ record shown { block_text = place.text; block_offset = place.offset; block_length = size } }
 {
     DwexprPiece {
         block_text: place.text,
@@ -93,8 +94,11 @@ fn show_location(
     offset: Option<u64>,
     location: Location<Placed<'_>>,
 ) -> Option<DwexprPiece>
-    ensures some { IfSome result (λ out. ShowsLocation texts.now size offset (location_of text_of_placed (λ x. x) location.entry) out) }
-    ensures none { IfNone result (HoldsNowhere texts.now (location_of text_of_placed (λ x. x) location.entry)) }
+    ensures some { IfSome result
+        (λ out. ShowsLocation texts.now size offset
+        (location_of text_of_placed (λ x. x) location.entry) out) }
+    ensures none { IfNone result
+        (HoldsNowhere texts.now (location_of text_of_placed (λ x. x) location.entry)) }
 {
     Some(match location {
         Location::Empty => sized(1, size, offset),
@@ -128,8 +132,10 @@ fn show_location(
 
 /// A piece; `None` where its bytes are nowhere.
 fn show_piece(texts: &[DwexprText<'_>], piece: Piece<Placed<'_>>) -> Option<DwexprPiece>
-    ensures some { IfSome result (λ out. ShowsPiece texts.now (piece_of text_of_placed (λ x. x) piece.entry) out) }
-    ensures none { IfNone result (HoldsNowhere texts.now (piece_of text_of_placed (λ x. x) piece.entry).location) }
+    ensures some { IfSome result
+        (λ out. ShowsPiece texts.now (piece_of text_of_placed (λ x. x) piece.entry) out) }
+    ensures none { IfNone result
+        (HoldsNowhere texts.now (piece_of text_of_placed (λ x. x) piece.entry).location) }
 {
     show_location(texts, piece.size_in_bits, piece.bit_offset, piece.location)
 }
@@ -147,8 +153,11 @@ pub(crate) fn write_pieces(
     pieces: &[Piece<Placed<'_>>],
     places: &mut [DwexprPiece],
 ) -> bool
-    ensures written { result ≡ true → AreWritten texts.now (map (piece_of text_of_placed (λ x. x)) pieces.now) places.old places.new }
-    ensures unplaced { result ≡ false → SomeNowhere texts.now (map (piece_of text_of_placed (λ x. x)) pieces.now) }
+    ensures written { result ≡ true
+        → AreWritten texts.now (map (piece_of text_of_placed (λ x. x)) pieces.now) places.old
+        places.new }
+    ensures unplaced { result ≡ false
+        → SomeNowhere texts.now (map (piece_of text_of_placed (λ x. x)) pieces.now) }
 {
     for index in 0..places.len() {
         let Some(piece) = piece_at(pieces, index) else {

@@ -77,7 +77,9 @@ fn is_there(text: &[u8], place: usize, block: &[u8]) -> bool
 
 /// Whether the bytes stand where they should.
 fn is_placed(texts: &[DwexprText<'_>], block: Placed<'_>) -> bool
-    ensures { result ≡ true → IsPlaced texts.now block.entry.text block.entry.place (length (text_of_placed block.entry).bytes) (text_of_placed block.entry).bytes }
+    ensures { result ≡ true
+        → IsPlaced texts.now block.entry.text block.entry.place
+        (length (text_of_placed block.entry).bytes) (text_of_placed block.entry).bytes }
 {
     match texts.get(block.text()) {
         Some(text) => is_there(bytes_of(text), block.place(), block.bytes()),
@@ -103,7 +105,8 @@ fn find_in(text: &[u8], block: &[u8]) -> Option<usize>
 
 /// The first place of the text at an index at which the bytes are.
 fn find_at(texts: &[DwexprText<'_>], text: usize, block: &[u8]) -> Option<Place>
-    ensures some { IfSome result (λ place. IsPlaced texts.now place.text place.offset (length block.now) block.now) }
+    ensures some { IfSome result
+        (λ place. IsPlaced texts.now place.text place.offset (length block.now) block.now) }
     ensures none { IfNone result (IsNotAt texts.now text block.now) }
 {
     let offset = find_in(bytes_of(texts.get(text)?), block)?;
@@ -112,7 +115,8 @@ fn find_at(texts: &[DwexprText<'_>], text: usize, block: &[u8]) -> Option<Place>
 
 /// The first place of the texts at which the bytes are.
 fn find(texts: &[DwexprText<'_>], block: &[u8]) -> Option<Place>
-    ensures some { IfSome result (λ place. IsPlaced texts.now place.text place.offset (length block.now) block.now) }
+    ensures some { IfSome result
+        (λ place. IsPlaced texts.now place.text place.offset (length block.now) block.now) }
     ensures none { IfNone result (IsNowhere texts.now block.now) }
 {
     for text in 0..texts.len() {
@@ -126,7 +130,9 @@ fn find(texts: &[DwexprText<'_>], block: &[u8]) -> Option<Place>
 /// Where the bytes are: at the place that was counted, which no contract of a reader tells; else at the first that has
 /// the same.
 pub(crate) fn place_of(texts: &[DwexprText<'_>], block: Placed<'_>) -> Option<Place>
-    ensures some { IfSome result (λ place. IsPlaced texts.now place.text place.offset (length (text_of_placed block.entry).bytes) (text_of_placed block.entry).bytes) }
+    ensures some { IfSome result
+        (λ place. IsPlaced texts.now place.text place.offset
+        (length (text_of_placed block.entry).bytes) (text_of_placed block.entry).bytes) }
     ensures none { IfNone result (IsNowhere texts.now (text_of_placed block.entry).bytes) }
 {
     if is_placed(texts, block) {
@@ -144,7 +150,9 @@ pub(crate) fn step_of<'a>(
     order: RunTimeEndian,
     step: DwexprStep,
 ) -> Result<Step<Placed<'a>>, u32>
-    ensures ok { IfOk result (λ said. step_in (is_big_of order) texts.now step ≡ Ok (stepping.step_of text_of_placed said)) }
+    ensures ok { IfOk result
+        (λ said. step_in (is_big_of order) texts.now step
+        ≡ Ok (stepping.step_of text_of_placed said)) }
     ensures err { IfErr result (λ code. step_in (is_big_of order) texts.now step ≡ Err code) }
 {
     let number = step.number;

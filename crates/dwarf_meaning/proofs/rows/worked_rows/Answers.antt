@@ -60,4 +60,5 @@ returns c = record {
   later_push_refused = in_twenty plain (After 0 2) (text (0x31 ∷ [])) unset [] (valued 1 1) (λ more. refl);
   asks_before_refusal = in_twenty plain (After 1 0) (text (0x31 ∷ 0x9c ∷ [])) unset [] (RequestOutcome RequiresCallFrameCfa (open_at (0x31 ∷ 0x9c ∷ []) 2 ∷ [])) (λ more. refl);
   answer_refused = in_twenty plain (After 1 0) (text (0x31 ∷ 0x9c ∷ [])) unset (given unset (CfaAnswer 1 ∷ [])) (FaultOutcome StackFull) (λ more. refl);
+  answer_of_another_kind = in_twenty plain Never (text (0x9c ∷ [])) unset (given unset (RelocatedAnswer 1 ∷ [])) (RequestOutcome RequiresCallFrameCfa (open_at (0x9c ∷ []) 1 ∷ [])) (λ more. refl);
 }

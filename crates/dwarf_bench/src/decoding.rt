@@ -9,24 +9,29 @@ use dwarf_eval::op::Operation;
 pub fn decode(bytes: &[u8], job: Job) -> u64 {
     let encoding = job.encoding();
     let mut text = job.text(bytes);
-    let mut count = 0u64;
+    // How many more operations are only counted.
+    let mut unsummed = job.counted;
+    let mut summed = 0u64;
     let mut sum = 0u64;
     'operations: while !text.is_empty() {
         match Operation::parse(&mut text, encoding) {
             Ok(operation) => {
                 // That this may be so at any operation makes the compiler build each of them.
-                if count >= u64::from(job.counted) {
+                if unsummed == 0 {
                     sum = mix_operation(sum, &operation);
+                    summed = summed.wrapping_add(1);
+                } else {
+                    unsummed -= 1;
                 }
-                count = count.wrapping_add(1);
             }
             Err(_) => {
-                if count >= u64::from(job.counted) {
+                if unsummed == 0 {
                     sum = mix(sum, 99);
                 }
                 break;
             }
         }
     }
-    sum.wrapping_add(count)
+    let counted = u64::from(job.counted.wrapping_sub(unsummed));
+    sum.wrapping_add(summed).wrapping_add(counted)
 }

@@ -16,7 +16,6 @@ use Rattle.dwarf_meaning.proofs.Choices.{choose_both, top_both}
 use Rattle.dwarf_meaning.proofs.Counts.{OnStore, bound_store, on_bound}
 use Rattle.dwarf_meaning.proofs.Effects.{IsActOf, IsOwnPlace, locates, ends, asks, act_is, IsUseOf, use_is}
 use Rattle.dwexpr_c.specs.Operations.{block_in}
-use Rattle.dwarf_meaning.specs.Operations as operation
 use Rattle.dwarf_meaning.specs.Requests as asked_for
 
 -- ---- what is known of blocks, and where they may be

@@ -1,96 +1,215 @@
 #!/usr/bin/env python3
 """What the documents name is there, and what they have to name is named.
 
-Each definition under `specs/` that a public contract can cite stands in docs/DEFINITIONS.md, each name in that file
-stands in a crate, and each path in README.md and docs/ leads to a file or folder of the repository. What is missing is
-printed, a line each; the status is 1 where something is.
+- Each definition under `specs/` that a public contract can cite stands in docs/DEFINITIONS.md, under the heading of its
+  own crate, and of its own file where that crate has headings of files.
+- Each name in that file is one of `specs/` (a file, a definition, a field, a constructor), a public one of `src/` (an
+  item, a field, a variant, a method, a module), a crate, or one of those that this script lists, with the reason.
+- Each path in README.md, bench/README.md and docs/ leads to a file or folder of the repository; what is built, gimli's
+  files and the web aside.
+- Each block of README.md whose fence names a file is what stands in that file, byte for byte; the loop over requests
+  and its proof are among them.
+
+What fails is printed, a line each. The last line is `N passed, M failed`, of the names, paths and blocks; the status
+is 1 where one failed.
 """
 
 import fnmatch
+import functools
 import os
+import pathlib
 import re
-import subprocess
 import sys
 
-TOP = os.path.dirname(os.path.dirname(os.path.abspath(__file__)))
+TOP = pathlib.Path(__file__).resolve().parent.parent
 DEFINITIONS = "docs/DEFINITIONS.md"
-# A definition that other files see: `abbrev pub NAME`, `unfoldable pub NAME`, `pub data NAME`, `pub NAME : ..`.
-DEFINED = re.compile(r"^(?:abbrev pub|unfoldable pub|pub data|pub record|pub)\s+([^\s:({]+)", re.MULTILINE)
+# Folders of what is built or kept beside the repository, and no part of it.
+BESIDE = {"out", "build", "target", "__pycache__", ".git"}
+# What README.md has to show.
+SHOWN = {
+    "crates/dwarf_example/src/requests.rt",
+    "crates/dwarf_example/proofs/requests/complete/Invariants.antt",
+}
+
+# Names in DEFINITIONS.md that no crate of the repository defines, each with the reason.
+ELSEWHERE = {
+    "hex": "a crate of the kit",
+    "Iterator": "a trait of the kit's standard library",
+}
+# Paths in the documents that lead nowhere here, each with the reason.
+PATHS_ELSEWHERE = {
+    "src/read/op.rs": "a file of gimli's",
+    "src/read/value.rs": "a file of gimli's",
+}
+
 QUOTED = re.compile(r"`([^`\n]+)`")
 LINK = re.compile(r"\]\(([^)#]+)")
 WORD = re.compile(r"[A-Za-z_][A-Za-z0-9_]*")
-# A path has a slash or the ending of a file of the repository; those of other repositories end in `.rs`.
-PATH = re.compile(r"[\w.*/-]*(?:/[\w.*-]*|\.(?:rt|antt|edit|md|py|json|txt))")
+# A path has a slash, or the ending of a file of the repository.
+PATH = re.compile(r"[\w.*/-]*(?:/[\w.*-]*|\.(?:rt|antt|edit|md|py|json|txt|rs|c|h))")
+# A block whose fence names a file behind its language.
+BLOCK = re.compile(r"^```\w+ (\S+)\n(.*?)^```$", re.MULTILINE | re.DOTALL)
+
+# A definition that other files see: `abbrev pub NAME`, `unfoldable pub NAME`, `pub data NAME`, `pub NAME : ..`; those
+# of a module within a file stand further in.
+DEFINED = re.compile(r"^(?: *(?:abbrev pub|unfoldable pub|pub data|pub record)|pub)\s+([^\s:({]+)", re.MULTILINE)
+# Within a record or a data type: a field `pub NAME : ..` or a constructor `NAME : ..`.
+MEMBER = re.compile(r"^  (?:pub )?(\w+) :", re.MULTILINE)
+# In the code: a module; a public item or method; a public field.
+ITEMS = [
+    re.compile(r"^(?:pub )?mod (\w+)", re.MULTILINE),
+    re.compile(r"^ *pub (?:const |extern \"C\" )?(?:fn|struct|enum|trait|type|const) (\w+)", re.MULTILINE),
+    re.compile(r"^ *pub (\w+):", re.MULTILINE),
+]
+# A public enum or trait, up to the brace at a line's beginning that ends it; the variants of an enum and their fields;
+# the members of a trait.
+OPENED = re.compile(r"^pub (enum|trait) .*?\{\n(.*?)^\}", re.MULTILINE | re.DOTALL)
+INSIDE = {
+    "enum": [re.compile(r"^    ([A-Z]\w*)", re.MULTILINE), re.compile(r"^        (\w+):", re.MULTILINE)],
+    "trait": [re.compile(r"^    (?:fn|ghost|type|const) (\w+)", re.MULTILINE)],
+}
 
 
+@functools.cache
 def read(path):
-    with open(os.path.join(TOP, path), encoding="utf-8") as file:
-        return file.read()
+    return (TOP / path).read_text(encoding="utf-8")
 
 
-def listed():
+@functools.cache
+def files():
     """The files of the repository, those that aren't committed yet too."""
-    command = ["git", "ls-files", "--cached", "--others", "--exclude-standard"]
-    names = subprocess.run(command, cwd=TOP, check=True, capture_output=True, text=True).stdout.split("\n")
-    return [name for name in names if name and os.path.exists(os.path.join(TOP, name))]
+    names = []
+    for folder, inner, found in os.walk(TOP):
+        inner[:] = [name for name in inner if name not in BESIDE]
+        names += [os.path.relpath(os.path.join(folder, name), TOP) for name in found]
+    return sorted(names)
+
+
+@functools.cache
+def folders():
+    return {str(parent) for name in files() for parent in pathlib.PurePath(name).parents if parent.name}
+
+
+def documents():
+    return [name for name in files() if name in ("README.md", "bench/README.md") or name.startswith("docs/")]
+
+
+def is_definitions(path):
+    return path.startswith("crates/") and "/specs/" in path and path.endswith(".antt")
 
 
 def is_cited(path):
     """Whether public contracts can cite what this file defines."""
-    return "/specs/" in path and path.endswith(".antt") and "/specs/inner" not in path
+    return is_definitions(path) and "/specs/inner" not in path
 
 
-def undocumented(files):
-    """Each definition that a contract can cite and DEFINITIONS.md doesn't name, with its file."""
-    named = {name for quoted in QUOTED.findall(read(DEFINITIONS)) for name in quoted.split()}
-    for path in filter(is_cited, files):
+def parts(text, level):
+    """The parts of a text under the headings of a level, each with its heading; what stands before them is dropped."""
+    found = re.split(rf"^{'#' * level} (.*)$", text, flags=re.MULTILINE)[1:]
+    return list(zip(found[::2], found[1::2]))
+
+
+def named(text):
+    """The words that stand between backquotes."""
+    return {name for quoted in QUOTED.findall(text) for name in quoted.split()}
+
+
+def places(path):
+    """The parts of DEFINITIONS.md where what a file defines may stand: those of its crate, and there of the file."""
+    _, crate, _, file = path.split("/")
+    own = [text for heading, text in parts(read(DEFINITIONS), 2) if crate in QUOTED.findall(heading)]
+    by_file = [part for text in own for part in parts(text, 3)]
+    return [text for heading, text in by_file if file in QUOTED.findall(heading)] if by_file else own
+
+
+def undocumented():
+    """Each definition that a contract can cite: it stands in its place in DEFINITIONS.md."""
+    for path in filter(is_cited, files()):
+        names = set().union(*map(named, places(path)))
         for name in DEFINED.findall(read(path)):
-            if name not in ("use", "mod") and name.replace("◌", "") not in named:
-                yield f"{DEFINITIONS} lacks `{name}` of {path}"
+            if name not in ("use", "mod"):
+                missing = name.replace("◌", "") not in names
+                yield f"{DEFINITIONS} lacks `{name}` under the heading of {path}" if missing else None
 
 
-def unknown(files):
-    """Each name in DEFINITIONS.md that no crate has."""
-    known = set()
-    for path in files:
-        if path.startswith("crates/") and path.endswith((".rt", ".antt")):
-            known.update(WORD.findall(read(path)))
-    known.update(path.split("/")[1] for path in files if path.startswith("crates/"))
+def public_names(code):
+    """The modules, public items, fields, variants and promised methods of a file of code."""
+    names = {name for pattern in ITEMS for name in pattern.findall(code)}
+    for kind, body in OPENED.findall(code):
+        names.update(name for pattern in INSIDE[kind] for name in pattern.findall(body))
+    return names
+
+
+@functools.cache
+def known():
+    """What a reader may be pointed to: all that is defined, and what is public in the code."""
+    names = set(ELSEWHERE)
+    for path in filter(lambda name: name.startswith("crates/"), files()):
+        names.add(path.split("/")[1])
+        if is_definitions(path):
+            names.update([pathlib.PurePath(path).stem, *DEFINED.findall(read(path)), *MEMBER.findall(read(path))])
+        elif "/src/" in path:
+            names.update(public_names(read(path)))
+    return names
+
+
+def unknown():
+    """Each name in DEFINITIONS.md: it is one of those."""
     for quoted in sorted(set(QUOTED.findall(read(DEFINITIONS)))):
-        if WORD.fullmatch(quoted) and quoted not in known:
-            yield f"{DEFINITIONS} names `{quoted}`, which no crate has"
+        words = quoted.split("::")
+        if all(map(WORD.fullmatch, words)):
+            missing = not known().issuperset(words)
+            yield f"{DEFINITIONS} names `{quoted}`, which is neither defined nor public" if missing else None
 
 
-def is_there(path, files, near):
+def is_there(path, near):
     """Whether the path leads to a file or folder: from the top, from the document, or as the end of a longer path."""
     path = path.rstrip("/")
     beside = os.path.normpath(os.path.join(near, path))
-    folders = {"/".join(parts[:count]) for parts in (name.split("/") for name in files) for count in range(1, len(parts))}
-    for name in folders.union(files):
-        if name == beside or fnmatch.fnmatch(name, path) or fnmatch.fnmatch(name, "*/" + path):
-            return True
-    return False
+    return any(
+        name == beside or fnmatch.fnmatch(name, path) or fnmatch.fnmatch(name, "*/" + path)
+        for name in folders().union(files())
+    )
 
 
-def astray(files):
-    """Each path in a document that leads nowhere."""
-    for document in files:
-        if document == "README.md" or document.startswith("docs/"):
-            text = read(document)
-            quoted = [name for name in QUOTED.findall(text) if PATH.fullmatch(name) and not name.endswith(".rs")]
-            links = [name for name in LINK.findall(text) if "://" not in name]
-            for path in sorted(set(quoted + links)):
-                if not is_there(path, files, os.path.dirname(document)):
-                    yield f"{document} names {path}, which isn't there"
+def is_ours(path):
+    """Whether it is a path of the repository: not of what is built, nor of the web, nor one of those listed."""
+    return not BESIDE.intersection(path.split("/")) and "://" not in path and path not in PATHS_ELSEWHERE
+
+
+def astray():
+    """Each path in a document: it leads somewhere."""
+    for document in documents():
+        text = read(document)
+        quoted = [name for name in QUOTED.findall(text) if PATH.fullmatch(name)]
+        for path in sorted(filter(is_ours, set(quoted + LINK.findall(text)))):
+            missing = not is_there(path, os.path.dirname(document))
+            yield f"{document} names {path}, which isn't there" if missing else None
+
+
+def shows(path, block):
+    """Whether a block is what stands in the file: whole lines of it, and all of them where it is a proof."""
+    if path not in files():
+        return False
+    return block == read(path) if "/proofs/" in path else "\n" + block in "\n" + read(path)
+
+
+def changed():
+    """Each block of README.md that is taken from a file: it is there as it is, and none that has to be shown lacks."""
+    blocks = BLOCK.findall(read("README.md"))
+    for path, block in blocks:
+        yield None if shows(path, block) else f"a block of README.md isn't what stands in {path}"
+    for path in sorted(SHOWN.difference(path for path, _ in blocks)):
+        yield f"README.md has no block of {path}"
 
 
 def main():
-    files = listed()
-    missing = [*undocumented(files), *unknown(files), *astray(files)]
-    for line in missing:
+    found = [*undocumented(), *unknown(), *astray(), *changed()]
+    failed = [line for line in found if line]
+    for line in failed:
         print(line)
-    print(f"documents: {len(missing)} missing")
-    return 1 if missing else 0
+    print(f"{len(found) - len(failed)} passed, {len(failed)} failed")
+    return 1 if failed else 0
 
 
 if __name__ == "__main__":

@@ -27,7 +27,7 @@ pub record Reads {X Y : Type 0} (view : X → Y) (old new : Text) (result : Resu
   pub rest : IsSuffix new.bytes old.bytes
   pub order : new.is_big ≡ old.is_big
 
--- the same of a single read: where it is refused all bytes are left
+-- the same of a single read: where it meets a fault all bytes are left
 pub record ReadsAtOnce {X Y : Type 0} (view : X → Y) (old new : Text) (result : Result X Error) (read : Result (Y × List ℕ) Fault) : Type 0 where
   pub value : Gives view result new.bytes read
   pub kept : OnErr result (new.bytes ≡ old.bytes)

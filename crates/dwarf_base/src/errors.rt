@@ -1,7 +1,7 @@
 use crate::common::ReaderOffsetId;
 use crate::constants::DwOp;
 
-/// Why a read, an operation on values or an evaluation was refused.
+/// Why a read, an operation on values or an evaluation met a fault.
 #[derive(Clone, Copy, Debug, PartialEq, Eq)]
 pub enum Error {
     /// A read goes past the end. What the identifier says is left open.
@@ -48,5 +48,5 @@ pub enum Error {
     StackFull,
 }
 
-/// What a call that may be refused answers.
+/// What a call gives that may meet a fault.
 pub type Result<T> = std::result::Result<T, Error>;

@@ -108,7 +108,10 @@ impl<'input, E: Endianity + Default> Default for EndianSlice<'input, E> {
 impl<'input, E: Endianity> Reader for EndianSlice<'input, E> {
     type Offset = usize;
 
-    ghost text = { λ reader. record { bytes = slice_bytes reader; is_big = E.is_big (slice_order reader) } };
+    ghost text = { λ reader. record {
+      bytes = slice_bytes reader;
+      is_big = E.is_big (slice_order reader);
+    } };
 
     #[inline]
     fn len(&self) -> usize {

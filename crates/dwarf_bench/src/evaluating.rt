@@ -104,7 +104,7 @@ fn respond<'a, S: EvaluationStorage<Text<'a>>>(
     called: Text<'a>,
 ) -> Result<EvaluationResult<Text<'a>>>
     requires { Admits request evaluation.old.status }
-    ensures { IfOk result (λ told. Admits told evaluation.new.status) }
+    ensures { IfOk result (λ replied. Admits replied evaluation.new.status) }
 {
     match request {
         EvaluationResult::Complete => Ok(EvaluationResult::Complete),

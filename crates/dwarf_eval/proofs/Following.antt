@@ -10,7 +10,7 @@ use Rattle.dwarf_meaning.specs.Meaning.{Outcome, unwound, with_initial, course_f
 use Rattle.dwarf_meaning.specs.Rest.{State, Status, Start, Running, RequestStatus, CompleteStatus, FaultStatus, with_refusal, rest_from_start, rest_by, rest}
 use Rattle.dwarf_meaning.specs.Steps.{Reply, RequestReply, reply}
 use Rattle.dwarf_meaning.specs.Refusals.{Refusal, Never, After, before_pushes, IsLater}
-use Rattle.dwarf_eval.specs.Evaluation.{Counts, Follows, IsFresh, IsOpen, IsReplied, after_input, means, means_path, path_after}
+use Rattle.dwarf_eval.specs.Evaluation.{Counts, Follows, IsFresh, WaitsOrIsComplete, IsReplied, after_input, means, means_path, path_after}
 use Rattle.dwarf_eval.specs.Paths.{path, path_behind, path_by, path_started, path_through}
 use Rattle.dwarf_machine.specs.inner.Steps.{Total, total, total_after, Reaches, Falls, EndsBy, Ends}
 use Rattle.dwarf_machine.proofs.Refusals.{before_never, before_later}
@@ -62,12 +62,12 @@ module _ (old : State) (totals : Refusal → List Input → Total) (new : State)
   }
 
   fell_follows : (error : Error) → new.status ≡ FaultStatus error → Falls old totals (fault_of error) new → IsReplied told new.status → Follows old outcomes told new
-  fell_follows error stopped h t = record {
+  fell_follows error failed h t = record {
     refusal = h.refusal;
     may = h.may;
-    reply = subst (IsReplied told) stopped t ∙ sym (ap (λ (z : Total). reply z.outcome) (h.same []));
+    reply = subst (IsReplied told) failed t ∙ sym (ap (λ (z : Total). reply z.outcome) (h.same []));
     status = t;
-    more = λ open_now r inputs l. absurd (subst IsOpen stopped open_now);
+    more = λ open_now r inputs l. absurd (subst WaitsOrIsComplete failed open_now);
     kept = λ open_now. h.kept;
     spends = h.spends;
   }
@@ -84,21 +84,21 @@ module _ (old : State) (totals : Refusal → List Input → Total) (new : State)
   ends_follow h t = follows_by new.status refl h t
 
   -- nothing is left of the path of a request that waits for an input, or of the end
-  ended_path : (r : Refusal) (status : Status) → IsOpen status → path_by new (with_refusal r new.store) [] status ≡ []
+  ended_path : (r : Refusal) (status : Status) → WaitsOrIsComplete status → path_by new (with_refusal r new.store) [] status ≡ []
   ended_path r (RequestStatus request waiting) o = open_path new.setup new.callers request (record { text = new.text; place = new.place } ∷ []) []
   ended_path r (CompleteStatus value) o = refl
   ended_path r Running o = absurd o
   ended_path r (Start initial_value) o = absurd o
   ended_path r (FaultStatus error) o = absurd o
 
-  open_count : IsOpen new.status → (total new Never []).count ≡ new.store.count
+  open_count : WaitsOrIsComplete new.status → (total new Never []).count ≡ new.store.count
   unfolding path
   open_count o =
       let none : length (path_by new (with_refusal Never new.store) [] new.status) ≡ 0 = ap length (ended_path Never new.status o) in
       omega (arith, none)
 
   module _ (paths : Refusal → List Input → List Position) (counts : (r : Refusal) (inputs : List Input) → (totals r inputs).count ≡ old.store.count + length (paths r inputs)) where
-    came_counts : IsOpen new.status → Reaches old totals new → IsReplied told new.status → Counts old outcomes paths told new
+    came_counts : WaitsOrIsComplete new.status → Reaches old totals new → IsReplied told new.status → Counts old outcomes paths told new
     came_counts o h t = record {
       refusal = Never;
       may = tt;
@@ -108,17 +108,17 @@ module _ (old : State) (totals : Refusal → List Input → Total) (new : State)
     }
 
     fell_counts : (error : Error) → new.status ≡ FaultStatus error → Falls old totals (fault_of error) new → IsReplied told new.status → Counts old outcomes paths told new
-    fell_counts error stopped h t = record {
+    fell_counts error failed h t = record {
       refusal = h.refusal;
       may = h.may;
-      reply = subst (IsReplied told) stopped t ∙ sym (ap (λ (z : Total). reply z.outcome) (h.same []));
+      reply = subst (IsReplied told) failed t ∙ sym (ap (λ (z : Total). reply z.outcome) (h.same []));
       count = sym (ap (λ (z : Total). z.count) (h.same [])) ∙ counts h.refusal [];
-      more = λ open_now r inputs l. absurd (subst IsOpen stopped open_now);
+      more = λ open_now r inputs l. absurd (subst WaitsOrIsComplete failed open_now);
     }
 
     counts_by : (status : Status) → new.status ≡ status → EndsBy old totals new status → IsReplied told new.status → Counts old outcomes paths told new
-    counts_by (RequestStatus request waiting) e h t = came_counts (subst IsOpen (sym e) tt) h t
-    counts_by (CompleteStatus value) e h t = came_counts (subst IsOpen (sym e) tt) h t
+    counts_by (RequestStatus request waiting) e h t = came_counts (subst WaitsOrIsComplete (sym e) tt) h t
+    counts_by (CompleteStatus value) e h t = came_counts (subst WaitsOrIsComplete (sym e) tt) h t
     counts_by (FaultStatus error) e h t = fell_counts error e h t
     counts_by Running e h t = absurd h
     counts_by (Start initial_value) e h t = absurd h

@@ -5,7 +5,7 @@ use Rattle.dwarf_base.specs.declared.errors.Error.{Error}
 use Rattle.dwarf_base.specs.Faults.{fault_of}
 use Rattle.dwarf_base.specs.Reads.{Text}
 use Rattle.dwarf_value.specs.declared.types.Value.{Value}
-use Rattle.dwarf_meaning.specs.Requests as asked
+use Rattle.dwarf_meaning.specs.Requests as requests
 use Rattle.dwarf_meaning.specs.Requests.{Input}
 use Rattle.dwarf_meaning.specs.Refusals.{IsLater, MayPick, Refusal, before_input}
 use Rattle.dwarf_meaning.specs.Run.{Position}
@@ -23,32 +23,32 @@ abbrev pub after_input : State → Input → Refusal → List Input → Outcome
 after_input x input r inputs = rest (before_input r) x (input ∷ inputs)
 
 -- it waits or is complete
-abbrev pub IsOpen : Status → Type 0
-IsOpen (RequestStatus request waiting) = Unit {0}
-IsOpen (CompleteStatus value) = Unit {0}
-IsOpen Running = ⊥
-IsOpen (Start initial_value) = ⊥
-IsOpen (FaultStatus error) = ⊥
+abbrev pub WaitsOrIsComplete : Status → Type 0
+WaitsOrIsComplete (RequestStatus request waiting) = Unit {0}
+WaitsOrIsComplete (CompleteStatus value) = Unit {0}
+WaitsOrIsComplete Running = ⊥
+WaitsOrIsComplete (Start initial_value) = ⊥
+WaitsOrIsComplete (FaultStatus error) = ⊥
 
 -- ---- replies
 
 -- the reply of a result: the request that it names, or completion
 abbrev pub ok_reply : {R O P : Type 0} → (R → Text) → (O → ℕ) → EvaluationResult R O P → Reply
 ok_reply text number result.Complete = CompleteReply
-ok_reply text number (result.RequiresMemory address size space base_type) = RequestReply (asked.RequiresMemory address size space (number base_type.0))
-ok_reply text number (result.RequiresRegister register base_type) = RequestReply (asked.RequiresRegister register.0 (number base_type.0))
-ok_reply text number (result.RequiresWasmLocal index) = RequestReply (asked.RequiresWasmLocal index)
-ok_reply text number (result.RequiresWasmGlobal index) = RequestReply (asked.RequiresWasmGlobal index)
-ok_reply text number (result.RequiresWasmStack index) = RequestReply (asked.RequiresWasmStack index)
-ok_reply text number result.RequiresFrameBase = RequestReply asked.RequiresFrameBase
-ok_reply text number (result.RequiresTls index) = RequestReply (asked.RequiresTls index)
-ok_reply text number result.RequiresCallFrameCfa = RequestReply asked.RequiresCallFrameCfa
-ok_reply text number (result.RequiresAtLocation offset) = RequestReply (asked.RequiresAtLocation (reference_of number offset))
-ok_reply text number (result.RequiresEntryValue expression) = RequestReply (asked.RequiresEntryValue (text expression.0))
-ok_reply text number (result.RequiresParameterRef offset) = RequestReply (asked.RequiresParameterRef (number offset.0))
-ok_reply text number (result.RequiresRelocatedAddress address) = RequestReply (asked.RequiresRelocatedAddress address)
-ok_reply text number (result.RequiresIndexedAddress index relocate) = RequestReply (asked.RequiresIndexedAddress (number index.0) relocate)
-ok_reply text number (result.RequiresBaseType base_type) = RequestReply (asked.RequiresBaseType (number base_type.0))
+ok_reply text number (result.RequiresMemory address size space base_type) = RequestReply (requests.RequiresMemory address size space (number base_type.0))
+ok_reply text number (result.RequiresRegister register base_type) = RequestReply (requests.RequiresRegister register.0 (number base_type.0))
+ok_reply text number (result.RequiresWasmLocal index) = RequestReply (requests.RequiresWasmLocal index)
+ok_reply text number (result.RequiresWasmGlobal index) = RequestReply (requests.RequiresWasmGlobal index)
+ok_reply text number (result.RequiresWasmStack index) = RequestReply (requests.RequiresWasmStack index)
+ok_reply text number result.RequiresFrameBase = RequestReply requests.RequiresFrameBase
+ok_reply text number (result.RequiresTls index) = RequestReply (requests.RequiresTls index)
+ok_reply text number result.RequiresCallFrameCfa = RequestReply requests.RequiresCallFrameCfa
+ok_reply text number (result.RequiresAtLocation offset) = RequestReply (requests.RequiresAtLocation (reference_of number offset))
+ok_reply text number (result.RequiresEntryValue expression) = RequestReply (requests.RequiresEntryValue (text expression.0))
+ok_reply text number (result.RequiresParameterRef offset) = RequestReply (requests.RequiresParameterRef (number offset.0))
+ok_reply text number (result.RequiresRelocatedAddress address) = RequestReply (requests.RequiresRelocatedAddress address)
+ok_reply text number (result.RequiresIndexedAddress index relocate) = RequestReply (requests.RequiresIndexedAddress (number index.0) relocate)
+ok_reply text number (result.RequiresBaseType base_type) = RequestReply (requests.RequiresBaseType (number base_type.0))
 
 -- the reply of a call: a result's, or a fault
 abbrev pub reply_of : {R O P : Type 0} → (R → Text) → (O → ℕ) → Result (EvaluationResult R O P) Error → Reply
@@ -70,8 +70,8 @@ pub record Follows (old : State) (outcomes : Refusal → List Input → Outcome)
   pub may : MayPick old.setup.limits refusal
   pub reply : replied ≡ reply (outcomes refusal [])
   pub status : IsReplied replied new.status
-  pub more : IsOpen new.status → (r : Refusal) (inputs : List Input) → IsLater r → outcomes r inputs ≡ rest r new inputs
-  pub kept : IsOpen new.status → Keeps old new
+  pub more : WaitsOrIsComplete new.status → (r : Refusal) (inputs : List Input) → IsLater r → outcomes r inputs ≡ rest r new inputs
+  pub kept : WaitsOrIsComplete new.status → Keeps old new
   pub spends : Spends old new
 
 -- The same call counts what `paths` gives: for some refusal, or for none, it replies what `outcomes` gives and
@@ -81,7 +81,7 @@ pub record Counts (old : State) (outcomes : Refusal → List Input → Outcome) 
   pub may : MayPick old.setup.limits refusal
   pub reply : replied ≡ reply (outcomes refusal [])
   pub count : new.store.count ≡ old.store.count + length (paths refusal [])
-  pub more : IsOpen new.status → (r : Refusal) (inputs : List Input) → IsLater r → old.store.count + length (paths r inputs) ≡ new.store.count + length (path r new inputs)
+  pub more : WaitsOrIsComplete new.status → (r : Refusal) (inputs : List Input) → IsLater r → old.store.count + length (paths r inputs) ≡ new.store.count + length (path r new inputs)
 
 -- the meaning of a fresh evaluation, with this initial value
 abbrev pub means : State → Option ℕ → Refusal → List Input → Outcome

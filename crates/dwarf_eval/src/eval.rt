@@ -1,4 +1,4 @@
-//! Evaluation of expressions, with stops where the caller has to answer.
+//! Evaluation of expressions, which asks where the caller has to answer.
 
 mod evaluation;
 mod requests;

@@ -1,4 +1,4 @@
-//! The operations of an expression, and its evaluation, with stops where the caller has to answer.
+//! The operations of an expression, and its evaluation, which asks where the caller has to answer.
 #![tactic(auto)]
 
 mod equality;

@@ -40,5 +40,6 @@ pub fn inlined_replay()
     ensures ends { InlinedReplay }
     ensures met { (site : CallSite) (later : List Input) (behind : List Request) (outcome : Outcome)
         → IsWorked site [] later [] behind outcome
-        → MayInline (fresh_at (outer site)) (fresh_at (inlined site)) site (UnitRef 5) (Evaluate ∷ []) }
+        → MayInline (fresh_at (outer site)) (fresh_at (inlined site)) site (UnitRef 5)
+        (Evaluate ∷ []) }
 {}

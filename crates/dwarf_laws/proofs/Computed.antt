@@ -7,11 +7,10 @@ use Rattle.dwarf_meaning.specs.Requests.{Request, RequiresAtLocation, Answer, In
 use Rattle.dwarf_meaning.specs.Stores.{Setup}
 use Rattle.dwarf_meaning.specs.Run.{Position, End, RequestEnd, Course, most, enough, run_for}
 use Rattle.dwarf_meaning.specs.Meaning.{Outcome, RequestOutcome, FaultOutcome, fresh, course_of, meaning}
-use Rattle.dwarf_meaning.specs.Steps.{Step, Evaluate, Resume, Told, outcome_of, Awaits, IsEvaluable, Allows, after, Reply, RequestReply, reply, replies, step_replies, after_step, after_steps, AllAllowed, replies_of}
+use Rattle.dwarf_meaning.specs.Steps.{Step, Evaluate, Resume, Told, outcome_of, Awaits, IsEvaluable, Allows, after, Reply, RequestReply, reply, replies, step_replies, after_step, after_steps, AllAllowed, replies_of, untold}
 use Rattle.dwarf_meaning.specs.Rows.{text, plain, unset, given}
 use Rattle.dwarf_meaning.specs.Refusals.{Never}
 use Rattle.dwarf_meaning.proofs.FewTurns.{outcome_for, twenty, in_twenty}
-use Rattle.dwarf_laws.specs.TwoRuns.{untold}
 use Rattle.dwarf_laws.specs.Inlining.{CallSite, outer, inlined, behind_call, with_answer, StandsIn, IsInlinable}
 use Rattle.dwarf_laws.specs.Rows.{resumes, started_steps, ComeTo, IsWorked}
 

@@ -8,11 +8,11 @@ use Rattle.dwarf_meaning.specs.Requests.{Answer, Input}
 use Rattle.dwarf_meaning.specs.Kinds.{kind_of_answer}
 use Rattle.dwarf_meaning.specs.Stores.{Setup, address_bits}
 use Rattle.dwarf_meaning.specs.Meaning.{Outcome, FaultOutcome, First}
-use Rattle.dwarf_meaning.specs.Steps.{Step, InitialValue, ObjectAddress, MaxIterations, Evaluate, Resume, Told, outcome_from, outcome_of, IsEvaluable, Awaits, IsUntold, Allows, begun, heard, after, Reply, reply, replies, step_replies, after_step, replies_of}
+use Rattle.dwarf_meaning.specs.Steps.{Step, InitialValue, ObjectAddress, MaxIterations, Evaluate, Resume, Told, outcome_from, outcome_of, IsEvaluable, Awaits, IsUntold, Allows, begun, heard, after, Reply, reply, replies, step_replies, after_step, replies_of, untold}
 use Rattle.dwarf_meaning.specs.Refusals.{Limits, Refusal}
 use Rattle.dwarf_laws.specs.Agreement as agreeing
 use Rattle.dwarf_laws.specs.Agreement.{Pairwise, none, more, Both, nothing, something, AgreeingAnswers, AgreeingSteps, initial_value, object_address, max_iterations, evaluate, resume, AgreeingFirsts, AgreeingInputs, AgreeingTold, AgreeingOutcomes, requests, faults, completions}
-use Rattle.dwarf_laws.specs.TwoRuns.{untold, NoneIsFull, path_from, StandAlike, AreAlike, TwoRuns}
+use Rattle.dwarf_laws.specs.TwoRuns.{NoneIsFull, path_from, StandAlike, AreAlike, TwoRuns}
 use Rattle.dwarf_laws.proofs.Pairs.{snoc_both}
 use Rattle.dwarf_laws.proofs.Meanings.{meaning_both, path_both}
 

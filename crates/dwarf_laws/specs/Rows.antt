@@ -5,11 +5,10 @@ use Rattle.dwarf_meaning.specs.Operations.{UnitRef}
 use Rattle.dwarf_meaning.specs.Requests.{Request, RequiresAtLocation, Answer, Input}
 use Rattle.dwarf_meaning.specs.Stores.{Setup}
 use Rattle.dwarf_meaning.specs.Meaning.{Outcome, FaultOutcome, First, course_of, meaning}
-use Rattle.dwarf_meaning.specs.Steps.{Step, Evaluate, Resume, outcome_of, AllAllowed, after_steps, Reply, replies_of}
+use Rattle.dwarf_meaning.specs.Steps.{Step, Evaluate, Resume, outcome_of, AllAllowed, after_steps, Reply, replies_of, untold}
 use Rattle.dwarf_meaning.specs.Rows.{text, plain, unset}
 use Rattle.dwarf_meaning.specs.Refusals.{Refusal, Never}
 use Rattle.dwarf_laws.specs.Agreement.{Pairwise, AgreeingSteps, AgreeingOutcomes}
-use Rattle.dwarf_laws.specs.TwoRuns.{untold}
 use Rattle.dwarf_laws.specs.Inlining.{CallSite, outer, inlined, with_answer, HasNoLimits, StandsIn, IsInlinable, LeadsToCall, EndAlike}
 
 -- these answers are given, one after another

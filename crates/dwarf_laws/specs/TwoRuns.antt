@@ -11,15 +11,6 @@ use Rattle.dwarf_meaning.specs.Steps.{Step, Told, outcome_of, Allows, AllAllowed
 use Rattle.dwarf_meaning.specs.Refusals.{Limits, Refusal}
 use Rattle.dwarf_laws.specs.Agreement.{Pairwise, Both, AgreeingSteps, AgreeingTold, AgreeingOutcomes}
 
--- nothing is set, and nothing was started
-abbrev pub untold : Told
-untold =
-    record {
-      settings = record { initial_value = None; object_address = None; maximum = 4294967295 };
-      first = None;
-      inputs = [];
-    }
-
 -- no push was refused
 abbrev pub NoneIsFull : List Reply → Type 0
 NoneIsFull [] = Unit {0}

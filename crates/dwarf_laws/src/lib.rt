@@ -4,9 +4,10 @@
 mod rows;
 
 ghost use Rattle.std.specs.Prelude.{ℕ};
+ghost use Rattle.dwarf_meaning.specs.Steps.{untold};
 ghost use Rattle.dwarf_laws.specs.Agreement.{AgreeingTold};
 ghost use Rattle.dwarf_laws.specs.Inlining.{Inlining};
-ghost use Rattle.dwarf_laws.specs.TwoRuns.{untold, TwoRuns};
+ghost use Rattle.dwarf_laws.specs.TwoRuns.{TwoRuns};
 
 pub use rows::{called_rows, premises_of_high_bits, premises_of_inlining, twin_rows};
 

@@ -14,56 +14,79 @@ ghost use Rattle.dwarf_laws.specs.Rows.{started_steps, ComeAlike, call_site, IsW
 /// Worked rows of `high_bits`: two runs of one text whose answers differ above the 32 bits of an address.
 ///
 /// It does nothing. Each clause of its contract gives the limits, the text's bytes, and the steps of both runs, which
-/// agree; then what both answer, and what comes of each.
+/// agree; then what both reply, and what comes of each.
 pub fn twin_rows()
     ensures frame_address { ComeAlike plain (0x9c ∷ [])
         (started_steps (CfaAnswer 0x10 ∷ [])) (started_steps (CfaAnswer 0x100000010 ∷ []))
-        (RequestReply RequiresCallFrameCfa ∷ CompleteReply ∷ []) (valued 0x10 0x10) (valued 0x100000010 0x10) }
+        (RequestReply RequiresCallFrameCfa ∷ CompleteReply ∷ [])
+        (valued 0x10 0x10) (valued 0x100000010 0x10) }
     ensures register { ComeAlike plain (0x70 ∷ 0x00 ∷ [])
-        (started_steps (RegisterAnswer (Generic 5) ∷ [])) (started_steps (RegisterAnswer (Generic 0x700000005) ∷ []))
+        (started_steps (RegisterAnswer (Generic 5) ∷ []))
+        (started_steps (RegisterAnswer (Generic 0x700000005) ∷ []))
         (RequestReply (RequiresRegister 0 0) ∷ CompleteReply ∷ []) (valued 5 5) (valued 5 5) }
     ensures frame_base { ComeAlike plain (0x91 ∷ 0x00 ∷ [])
-        (started_steps (FrameBaseAnswer 0x10 ∷ [])) (started_steps (FrameBaseAnswer 0x100000010 ∷ []))
-        (RequestReply RequiresFrameBase ∷ CompleteReply ∷ []) (valued 0x10 0x10) (valued 0x100000010 0x10) }
+        (started_steps (FrameBaseAnswer 0x10 ∷ []))
+        (started_steps (FrameBaseAnswer 0x100000010 ∷ []))
+        (RequestReply RequiresFrameBase ∷ CompleteReply ∷ [])
+        (valued 0x10 0x10) (valued 0x100000010 0x10) }
     ensures tls { ComeAlike plain (0x35 ∷ 0x9b ∷ [])
         (started_steps (TlsAnswer 0x10 ∷ [])) (started_steps (TlsAnswer 0x100000010 ∷ []))
-        (RequestReply (RequiresTls 5) ∷ CompleteReply ∷ []) (valued 0x10 0x10) (valued 0x100000010 0x10) }
+        (RequestReply (RequiresTls 5) ∷ CompleteReply ∷ [])
+        (valued 0x10 0x10) (valued 0x100000010 0x10) }
     ensures parameter { ComeAlike plain (0xfa ∷ 0x05 ∷ 0x00 ∷ 0x00 ∷ 0x00 ∷ [])
-        (started_steps (ParameterAnswer 0x10 ∷ [])) (started_steps (ParameterAnswer 0x100000010 ∷ []))
-        (RequestReply (RequiresParameterRef 5) ∷ CompleteReply ∷ []) (valued 0x10 0x10) (valued 0x100000010 0x10) }
+        (started_steps (ParameterAnswer 0x10 ∷ []))
+        (started_steps (ParameterAnswer 0x100000010 ∷ []))
+        (RequestReply (RequiresParameterRef 5) ∷ CompleteReply ∷ [])
+        (valued 0x10 0x10) (valued 0x100000010 0x10) }
     ensures relocated_address { ComeAlike plain (0x03 ∷ 0x05 ∷ 0x00 ∷ 0x00 ∷ 0x00 ∷ [])
-        (started_steps (RelocatedAnswer 0x10 ∷ [])) (started_steps (RelocatedAnswer 0x100000010 ∷ []))
-        (RequestReply (RequiresRelocatedAddress 5) ∷ CompleteReply ∷ []) (valued 0x10 0x10) (valued 0x100000010 0x10) }
+        (started_steps (RelocatedAnswer 0x10 ∷ []))
+        (started_steps (RelocatedAnswer 0x100000010 ∷ []))
+        (RequestReply (RequiresRelocatedAddress 5) ∷ CompleteReply ∷ [])
+        (valued 0x10 0x10) (valued 0x100000010 0x10) }
     ensures indexed_address { ComeAlike plain (0xa1 ∷ 0x05 ∷ [])
         (started_steps (IndexedAnswer 0x10 ∷ [])) (started_steps (IndexedAnswer 0x100000010 ∷ []))
-        (RequestReply (RequiresIndexedAddress 5 true) ∷ CompleteReply ∷ []) (valued 0x10 0x10) (valued 0x100000010 0x10) }
+        (RequestReply (RequiresIndexedAddress 5 true) ∷ CompleteReply ∷ [])
+        (valued 0x10 0x10) (valued 0x100000010 0x10) }
     ensures indexed_constant { ComeAlike plain (0xa2 ∷ 0x05 ∷ [])
         (started_steps (IndexedAnswer 0x10 ∷ [])) (started_steps (IndexedAnswer 0x100000010 ∷ []))
-        (RequestReply (RequiresIndexedAddress 5 false) ∷ CompleteReply ∷ []) (valued 0x10 0x10) (valued 0x100000010 0x10) }
+        (RequestReply (RequiresIndexedAddress 5 false) ∷ CompleteReply ∷ [])
+        (valued 0x10 0x10) (valued 0x100000010 0x10) }
     ensures wasm_local { ComeAlike plain (0xed ∷ 0x00 ∷ 0x05 ∷ [])
-        (started_steps (WasmAnswer (Generic 0x10) ∷ [])) (started_steps (WasmAnswer (Generic 0x100000010) ∷ []))
-        (RequestReply (RequiresWasmLocal 5) ∷ CompleteReply ∷ []) (valued 0x10 0x10) (valued 0x100000010 0x10) }
+        (started_steps (WasmAnswer (Generic 0x10) ∷ []))
+        (started_steps (WasmAnswer (Generic 0x100000010) ∷ []))
+        (RequestReply (RequiresWasmLocal 5) ∷ CompleteReply ∷ [])
+        (valued 0x10 0x10) (valued 0x100000010 0x10) }
     ensures wasm_global { ComeAlike plain (0xed ∷ 0x01 ∷ 0x05 ∷ [])
-        (started_steps (WasmAnswer (Generic 0x10) ∷ [])) (started_steps (WasmAnswer (Generic 0x100000010) ∷ []))
-        (RequestReply (RequiresWasmGlobal 5) ∷ CompleteReply ∷ []) (valued 0x10 0x10) (valued 0x100000010 0x10) }
+        (started_steps (WasmAnswer (Generic 0x10) ∷ []))
+        (started_steps (WasmAnswer (Generic 0x100000010) ∷ []))
+        (RequestReply (RequiresWasmGlobal 5) ∷ CompleteReply ∷ [])
+        (valued 0x10 0x10) (valued 0x100000010 0x10) }
     ensures wasm_stack { ComeAlike plain (0xed ∷ 0x02 ∷ 0x05 ∷ [])
-        (started_steps (WasmAnswer (Generic 0x10) ∷ [])) (started_steps (WasmAnswer (Generic 0x100000010) ∷ []))
-        (RequestReply (RequiresWasmStack 5) ∷ CompleteReply ∷ []) (valued 0x10 0x10) (valued 0x100000010 0x10) }
+        (started_steps (WasmAnswer (Generic 0x10) ∷ []))
+        (started_steps (WasmAnswer (Generic 0x100000010) ∷ []))
+        (RequestReply (RequiresWasmStack 5) ∷ CompleteReply ∷ [])
+        (valued 0x10 0x10) (valued 0x100000010 0x10) }
     ensures entry_value { ComeAlike plain (0xa3 ∷ 0x01 ∷ 0x9c ∷ [])
-        (started_steps (EntryAnswer (Generic 0x10) ∷ [])) (started_steps (EntryAnswer (Generic 0x100000010) ∷ []))
-        (RequestReply (RequiresEntryValue (text (0x9c ∷ []))) ∷ CompleteReply ∷ []) (valued 0x10 0x10) (valued 0x100000010 0x10) }
+        (started_steps (EntryAnswer (Generic 0x10) ∷ []))
+        (started_steps (EntryAnswer (Generic 0x100000010) ∷ []))
+        (RequestReply (RequiresEntryValue (text (0x9c ∷ []))) ∷ CompleteReply ∷ [])
+        (valued 0x10 0x10) (valued 0x100000010 0x10) }
     ensures memory { ComeAlike plain (0x9c ∷ 0x06 ∷ [])
         (started_steps (CfaAnswer 0x10 ∷ MemoryAnswer (Generic 0x10) ∷ []))
         (started_steps (CfaAnswer 0x100000010 ∷ MemoryAnswer (Generic 0x100000010) ∷ []))
-        (RequestReply RequiresCallFrameCfa ∷ RequestReply (RequiresMemory 0x10 4 None 0) ∷ CompleteReply ∷ []) (valued 0x10 0x10)
-        (valued 0x100000010 0x10) }
+        (RequestReply RequiresCallFrameCfa ∷ RequestReply
+        (RequiresMemory 0x10 4 None 0) ∷ CompleteReply ∷ [])
+        (valued 0x10 0x10) (valued 0x100000010 0x10) }
     ensures called_text { ComeAlike plain (0x98 ∷ 0x05 ∷ 0x00 ∷ [])
-        (started_steps (calls (0x9c ∷ []) ∷ CfaAnswer 0x10 ∷ [])) (started_steps (calls (0x9c ∷ []) ∷ CfaAnswer 0x100000010 ∷ []))
-        (RequestReply (RequiresAtLocation (UnitRef 5)) ∷ RequestReply RequiresCallFrameCfa ∷ CompleteReply ∷ []) (valued 0x10 0x10)
-        (valued 0x100000010 0x10) }
+        (started_steps (calls (0x9c ∷ []) ∷ CfaAnswer 0x10 ∷ []))
+        (started_steps (calls (0x9c ∷ []) ∷ CfaAnswer 0x100000010 ∷ []))
+        (RequestReply (RequiresAtLocation (UnitRef 5)) ∷ RequestReply
+        RequiresCallFrameCfa ∷ CompleteReply ∷ [])
+        (valued 0x10 0x10) (valued 0x100000010 0x10) }
     ensures value_of_a_piece { ComeAlike plain (0x9c ∷ 0x9f ∷ [])
         (started_steps (CfaAnswer 0x10 ∷ [])) (started_steps (CfaAnswer 0x100000010 ∷ []))
-        (RequestReply RequiresCallFrameCfa ∷ CompleteReply ∷ []) (pieced (whole (HoldsValue (Generic 0x10)) ∷ []))
+        (RequestReply RequiresCallFrameCfa ∷ CompleteReply ∷ [])
+        (pieced (whole (HoldsValue (Generic 0x10)) ∷ []))
         (pieced (whole (HoldsValue (Generic 0x100000010)) ∷ [])) }
     ensures shift { ComeAlike plain (0x9c ∷ 0x12 ∷ 0x24 ∷ [])
         (started_steps (CfaAnswer 1 ∷ [])) (started_steps (CfaAnswer 0x100000001 ∷ []))
@@ -86,7 +109,8 @@ pub fn twin_rows()
     ensures full_stack { ComeAlike (with_limits (record no_limits { values = Some 1 }))
         (0x9c ∷ 0x31 ∷ [])
         (started_steps (CfaAnswer 0x10 ∷ [])) (started_steps (CfaAnswer 0x100000010 ∷ []))
-        (RequestReply RequiresCallFrameCfa ∷ FaultReply StackFull ∷ []) (FaultOutcome StackFull) (FaultOutcome StackFull) }
+        (RequestReply RequiresCallFrameCfa ∷ FaultReply StackFull ∷ []) (FaultOutcome StackFull)
+        (FaultOutcome StackFull) }
     ensures object_address { ComeAlike plain (0x97 ∷ [])
         (ObjectAddress 0x10 ∷ started_steps []) (ObjectAddress 0x100000010 ∷ started_steps [])
         (CompleteReply ∷ []) (valued 0x10 0x10) (valued 0x100000010 0x10) }
@@ -138,21 +162,26 @@ pub fn premises_of_high_bits()
         (record unset { object_address = Some 0 }) unset
         [] [] (valued 0 0) (FaultOutcome InvalidPushObjectAddress) }
     ensures numbers_differ { ComeApart plain plain Never Never (0x9c ∷ []) unset unset
-        (given unset (CfaAnswer 0 ∷ [])) (given unset (CfaAnswer 1 ∷ [])) (valued 0 0) (valued 1 1) }
+        (given unset (CfaAnswer 0 ∷ [])) (given unset (CfaAnswer 1 ∷ []))
+        (valued 0 0) (valued 1 1) }
     ensures types_of_values_differ { ComeApart plain plain Never Never (0x70 ∷ 0x00 ∷ []) unset
         unset
         (given unset (RegisterAnswer (U8 0) ∷ [])) (given unset (RegisterAnswer (U16 0) ∷ []))
-        (CompleteOutcome (whole (AtAddress 0) ∷ []) (Some (U8 0))) (CompleteOutcome (whole (AtAddress 0) ∷ []) (Some (U16 0))) }
+        (CompleteOutcome (whole (AtAddress 0) ∷ []) (Some (U8 0)))
+        (CompleteOutcome (whole (AtAddress 0) ∷ []) (Some (U16 0))) }
     ensures typed_values_differ_above { ComeApart plain plain Never Never (0x70 ∷ 0x00 ∷ []) unset
         unset
-        (given unset (RegisterAnswer (U64 0) ∷ [])) (given unset (RegisterAnswer (U64 0x100000000) ∷ []))
+        (given unset (RegisterAnswer (U64 0) ∷ []))
+        (given unset (RegisterAnswer (U64 0x100000000) ∷ []))
         (CompleteOutcome (whole (AtAddress 0) ∷ []) (Some (U64 0)))
         (CompleteOutcome (whole (AtAddress 0x100000000) ∷ []) (Some (U64 0x100000000))) }
     ensures texts_differ { ComeApart plain plain Never Never (0x98 ∷ 0x05 ∷ 0x00 ∷ []) unset unset
-        (given unset (calls (0x30 ∷ []) ∷ [])) (given unset (calls (0x31 ∷ []) ∷ [])) (valued 0 0) (valued 1 1) }
+        (given unset (calls (0x30 ∷ []) ∷ [])) (given unset (calls (0x31 ∷ []) ∷ []))
+        (valued 0 0) (valued 1 1) }
     ensures types_differ { ComeApart plain plain Never Never (0x30 ∷ 0xa8 ∷ 0x05 ∷ []) unset unset
         (given unset (BaseTypeAnswer kind.U8 ∷ [])) (given unset (BaseTypeAnswer kind.U16 ∷ []))
-        (CompleteOutcome (whole (AtAddress 0) ∷ []) (Some (U8 0))) (CompleteOutcome (whole (AtAddress 0) ∷ []) (Some (U16 0))) }
+        (CompleteOutcome (whole (AtAddress 0) ∷ []) (Some (U8 0)))
+        (CompleteOutcome (whole (AtAddress 0) ∷ []) (Some (U16 0))) }
 {}
 
 /// Why each premise of `inlining` stands: the smallest call whose inlined text ends otherwise where it doesn't hold.
@@ -166,14 +195,18 @@ pub fn premises_of_inlining()
     ensures outer_text_branches { EndApart plain (0x98 ∷ 0x05 ∷ 0x00 ∷ 0x2f ∷ 0xfa ∷ 0xff ∷ [])
         (0x31 ∷ 0x2f ∷ 0xfa ∷ 0xff ∷ [])
         unset (given unset (calls (0x31 ∷ []) ∷ [])) []
-        (RequestOutcome (RequiresAtLocation (UnitRef 5)) (open_at (0x98 ∷ 0x05 ∷ 0x00 ∷ 0x2f ∷ 0xfa ∷ 0xff ∷ []) 3 ∷ []))
+        (RequestOutcome (RequiresAtLocation (UnitRef 5))
+        (open_at (0x98 ∷ 0x05 ∷ 0x00 ∷ 0x2f ∷ 0xfa ∷ 0xff ∷ []) 3 ∷ []))
         (FaultOutcome (BadBranchTarget 0xfffffffffffffffe)) }
     ensures callee_is_empty { EndApart plain (0x31 ∷ 0x93 ∷ 0x04 ∷ 0x31 ∷ 0x98 ∷ 0x05 ∷ 0x00 ∷ [])
         (0x31 ∷ 0x93 ∷ 0x04 ∷ 0x31 ∷ [])
-        unset (given unset (calls [] ∷ [])) [] (pieced (word_at (AtAddress 1) ∷ [])) (FaultOutcome InvalidPiece) }
+        unset (given unset (calls [] ∷ [])) [] (pieced (word_at (AtAddress 1) ∷ []))
+        (FaultOutcome InvalidPiece) }
     ensures callee_in_the_other_order { EndApart plain (0x98 ∷ 0x05 ∷ 0x00 ∷ [])
         (0x0a ∷ 0x01 ∷ 0x02 ∷ [])
-        unset (given unset (LocationAnswer (record { bytes = 0x0a ∷ 0x01 ∷ 0x02 ∷ []; is_big = true }) ∷ [])) []
+        unset
+        (given unset
+        (LocationAnswer (record { bytes = 0x0a ∷ 0x01 ∷ 0x02 ∷ []; is_big = true }) ∷ [])) []
         (valued 258 258) (valued 513 513) }
     ensures offsets_are_narrow { EndApart (record plain { offset_bits = 2 })
         (0x31 ∷ 0x98 ∷ 0x01 ∷ 0x00 ∷ [])
@@ -182,13 +215,17 @@ pub fn premises_of_inlining()
         (FaultOutcome TooManyIterations) }
     ensures call_is_not_reached { EndApart plain (0x9c ∷ 0x98 ∷ 0x05 ∷ 0x00 ∷ []) (0x9c ∷ 0x31 ∷ [])
         unset (given unset (calls (0x31 ∷ []) ∷ CfaAnswer 0 ∷ [])) (given unset (CfaAnswer 0 ∷ []))
-        (RequestOutcome RequiresCallFrameCfa (open_at (0x9c ∷ 0x98 ∷ 0x05 ∷ 0x00 ∷ []) 1 ∷ [])) (valued 1 1) }
+        (RequestOutcome RequiresCallFrameCfa (open_at (0x9c ∷ 0x98 ∷ 0x05 ∷ 0x00 ∷ []) 1 ∷ []))
+        (valued 1 1) }
     ensures maximum_is_set_at_the_answer { EndApart plain (0x98 ∷ 0x05 ∷ 0x00 ∷ [])
         (0x31 ∷ 0x96 ∷ [])
-        (at_most 1) (given (at_most 3) (calls (0x31 ∷ 0x96 ∷ []) ∷ [])) [] (valued 1 1) (FaultOutcome TooManyIterations) }
+        (at_most 1) (given (at_most 3) (calls (0x31 ∷ 0x96 ∷ []) ∷ [])) []
+        (valued 1 1) (FaultOutcome TooManyIterations) }
     ensures object_is_set_at_the_answer { EndApart plain (0x98 ∷ 0x05 ∷ 0x00 ∷ []) (0x97 ∷ [])
-        unset (given (record unset { object_address = Some 7 }) (calls (0x97 ∷ []) ∷ [])) [] (valued 7 7)
+        unset (given (record unset { object_address = Some 7 }) (calls (0x97 ∷ []) ∷ [])) []
+        (valued 7 7)
         (FaultOutcome InvalidPushObjectAddress) }
     ensures outer_run_meets_a_fault { EndApart plain (0x98 ∷ 0x05 ∷ 0x00 ∷ []) (0x31 ∷ [])
-        (at_most 1) (given (at_most 1) (calls (0x31 ∷ []) ∷ [])) [] (FaultOutcome TooManyIterations) (valued 1 1) }
+        (at_most 1) (given (at_most 1) (calls (0x31 ∷ []) ∷ [])) []
+        (FaultOutcome TooManyIterations) (valued 1 1) }
 {}

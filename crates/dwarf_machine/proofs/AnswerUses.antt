@@ -23,7 +23,7 @@ pub record IsOpenTo (wanted : Waiting) (status : Status) : Type 0 where
   pub request : Request
   pub is : status ≡ RequestStatus request wanted
 
-pub record IsOpen (kind : WaitingKind) (status : Status) : Type 0 where
+pub record WaitsOrIsComplete (kind : WaitingKind) (status : Status) : Type 0 where
   pub request : Request
   pub waiting : Waiting
   pub is : status ≡ RequestStatus request waiting
@@ -36,7 +36,7 @@ open_to wanted (CompleteStatus value) h = absurd h
 open_to wanted (FaultStatus error) h = absurd h
 open_to wanted Running h = absurd h
 
-pub open_for : (kind : WaitingKind) (status : Status) → IsWaitingFor kind status → IsOpen kind status
+pub open_for : (kind : WaitingKind) (status : Status) → IsWaitingFor kind status → WaitsOrIsComplete kind status
 open_for kind (RequestStatus request waiting) h = record { request = request; waiting = waiting; is = refl; fits = h }
 open_for kind (Start initial_value) h = absurd h
 open_for kind (CompleteStatus value) h = absurd h

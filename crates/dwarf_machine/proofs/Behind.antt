@@ -1,5 +1,5 @@
 -- An operation that takes no branch does the same in front of any place, and none changes the text.
-use Rattle.std.proofs.Common.{ℕ, ℤ, ◌≡◌, ◌-◌, inl, inr, List, length, Result, Ok, Err, ap, ◌∙◌, sym, refl, subst}
+use Rattle.std.proofs.Common.{ℕ, ◌≡◌, ◌-◌, inl, inr, List, length, Result, Ok, Err, ap, ◌∙◌, sym, refl, subst}
 use Rattle.dwarf_base.specs.declared.errors.Error.{Error}
 use Rattle.dwarf_base.specs.Faults.{Fault}
 use Rattle.dwarf_base.specs.Reads.{IsLeftOf, Reads, Text}
@@ -10,20 +10,14 @@ use Rattle.dwarf_meaning.specs.Stores.{Setup, Store, Next, Goes, RequestNext, Fa
 use Rattle.dwarf_meaning.specs.Rest.{State, Status, Start, Running, RequestStatus, CompleteStatus, FaultStatus, with_refusal}
 use Rattle.dwarf_meaning.specs.Refusals.{before_pushes}
 use Rattle.dwarf_meaning.proofs.Effects.{IsActOf, branches, act_is}
-use Rattle.dwarf_op.specs.Entries.{plain_operation, byte_operation, unsigned_operation, signed_operation, offset_operation, block_operation, wasm_operation}
+use Rattle.dwarf_op.specs.Entries.{plain_operation, offset_operation, block_operation, wasm_operation}
 use Rattle.dwarf_op.specs.declared.opcodes.Plain.{Plain}
-use Rattle.dwarf_op.specs.declared.opcodes.FromByte.{FromByte}
-use Rattle.dwarf_op.specs.declared.opcodes.FromUnsigned.{FromUnsigned}
-use Rattle.dwarf_op.specs.declared.opcodes.FromSigned.{FromSigned}
 use Rattle.dwarf_op.specs.declared.opcodes.FromOffset.{FromOffset}
 use Rattle.dwarf_op.specs.declared.opcodes.FromBlock.{FromBlock}
 use Rattle.dwarf_op.specs.declared.operands.WasmPlace.{WasmPlace}
 use Rattle.dwarf_machine.specs.inner.Steps.{LeadsBy, Performs, PerformsRead, Stays, act_of, at, done_at, with_place}
 use Rattle.dwarf_meaning.specs.Operations as operation
 use Rattle.dwarf_op.specs.declared.opcodes.Plain.TheVariants as plain
-use Rattle.dwarf_op.specs.declared.opcodes.FromByte.TheVariants as from_byte
-use Rattle.dwarf_op.specs.declared.opcodes.FromUnsigned.TheVariants as from_unsigned
-use Rattle.dwarf_op.specs.declared.opcodes.FromSigned.TheVariants as from_signed
 use Rattle.dwarf_op.specs.declared.opcodes.FromOffset.TheVariants as from_offset
 use Rattle.dwarf_op.specs.declared.opcodes.FromBlock.TheVariants as from_block
 use Rattle.dwarf_op.specs.declared.operands.WasmPlace.TheVariants as wasm_place
@@ -152,21 +146,6 @@ plain_still plain.TLS = tt
 plain_still plain.CallFrameCFA = tt
 plain_still plain.StackValue = tt
 plain_still plain.Uninitialized = tt
-
-pub byte_still : (make : FromByte) (byte : ℕ) → IsNoBranch (byte_operation make byte)
-byte_still from_byte.Constant byte = tt
-byte_still from_byte.Pick byte = tt
-byte_still from_byte.Deref byte = tt
-byte_still from_byte.SpaceDeref byte = tt
-
-pub unsigned_still : (make : FromUnsigned) (number : ℕ) → IsNoBranch (unsigned_operation make number)
-unsigned_still from_unsigned.Constant number = tt
-unsigned_still from_unsigned.PlusConstant number = tt
-unsigned_still from_unsigned.Address number = tt
-
-pub signed_still : (make : FromSigned) (number : ℤ) → IsNoBranch (signed_operation make number)
-signed_still from_signed.Constant number = tt
-signed_still from_signed.FrameOffset number = tt
 
 pub offset_still : (make : FromOffset) (offset : ℕ) → IsNoBranch (offset_operation make offset)
 offset_still from_offset.UnitCall offset = tt

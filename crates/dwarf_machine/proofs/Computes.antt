@@ -75,8 +75,8 @@ module _ (F : ℕ → Value → Value → Result Value Error) (old mid : State) 
       (performs_push pops.rest v old mid new runs (let n = fewer_two y x pops.rest old.store.values pops.values in omega (arith, n)) pops.alone h)
 
   pub binary_refuses : (error : Error) (new : State) → Err error ≡ F width x y → new ≡ with_status (FaultStatus error) mid → Performs (binary (F (address_bits old.setup)) old.store.values) old new
-  binary_refuses error new e stopped =
-      performs_refuses _ error old mid new (binary_err (F (address_bits old.setup)) old.store.values y x pops.rest error pops.values (call_two (Err error) e)) (stays_two y x old mid pops) stopped
+  binary_refuses error new e failed =
+      performs_refuses _ error old mid new (binary_err (F (address_bits old.setup)) old.store.values y x pops.rest error pops.values (call_two (Err error) e)) (stays_two y x old mid pops) failed
 
 -- the same from a state that is the old one
 pub same_binary : (F : ℕ → Value → Value → Result Value Error) (old mid new : State) → mid ≡ old → Performs (binary (F (address_bits mid.setup)) mid.store.values) mid new → Performs (binary (F (address_bits old.setup)) old.store.values) old new

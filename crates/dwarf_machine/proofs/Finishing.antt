@@ -86,7 +86,7 @@ completes_ok value piece old mid new d e =
 -- a last piece that is refused
 pub completes_err : (value : Option Value) (piece : Piece) (old new : State) → Refused 0 (push_piece old.setup piece) old new → Closes 1 (λ s. completion_of value (push_piece old.setup piece s)) old new
 completes_err value piece old new h =
-    subst (ClosesBy 1 (λ s. completion_of value (push_piece old.setup piece s)) old new) (sym h.stopped) (record {
+    subst (ClosesBy 1 (λ s. completion_of value (push_piece old.setup piece s)) old new) (sym h.failed) (record {
       gets = record { refusal = h.gets.refusal; may = h.gets.may; same = ap (completion_of value) h.gets.same };
       stays = h.stays;
     })

@@ -38,18 +38,18 @@ module _ (x : State) (location : Location) (runs : x.status ≡ Running) (inside
   module _ (place : ℕ) (new : State) (error : Error) (is : new ≡ with_status (FaultStatus error) (read_to place x)) where
     read_falls : ((inputs : List Input) → total x Never inputs ≡ closed (FaultOutcome (fault_of error)) x.store.count) → Turns x new
     read_falls same =
-        let stopped : new.status ≡ FaultStatus error = ap (λ (z : State). z.status) is in
+        let failed : new.status ≡ FaultStatus error = ap (λ (z : State). z.status) is in
         let count : new.store.count ≡ x.store.count = ap (λ (z : State). z.store.count) is in
         let callers = ap (λ (z : State). length z.callers) is in
         let lists = ap (λ (z : State). length z.store.values + length z.store.pieces) is in
         let decodings = ap (λ (z : State). z.decodings) is in
         let due = ap (piece_due x.store.last) runs in
-        falls_turns x new error runs stopped (record {
+        falls_turns x new error runs failed (record {
           refusal = Never;
           may = tt;
           same = λ inputs. same inputs ∙ ap (closed (FaultOutcome (fault_of error))) (sym count);
           kept = record { setup = ap (λ (z : State). z.setup) is; object_address = ap (λ (z : State). z.store.object_address) is; maximum = ap (λ (z : State). z.store.maximum) is };
-          spends = fallen_spends x new error (ap faults_in runs) stopped (omega (arith, callers)) (omega (arith, count)) (omega (arith, lists)) (omega (arith, decodings, count, due, waited)) (ap (λ (z : State). z.store.pieces) is) (omega (arith, decodings, count)) (omega (arith, decodings, count));
+          spends = fallen_spends x new error (ap faults_in runs) failed (omega (arith, callers)) (omega (arith, count)) (omega (arith, lists)) (omega (arith, decodings, count, due, waited)) (ap (λ (z : State). z.store.pieces) is) (omega (arith, decodings, count)) (omega (arith, decodings, count));
         })
 
     pub held_unread : read x.setup x.text x.place ≡ Err (fault_of error) → Turns x new
@@ -117,14 +117,14 @@ module _ (x : State) (location : Location) (runs : x.status ≡ Running) (inside
           let items = h.stays.items in
           let decodings = h.stays.decodings in
           let due = ap (piece_due x.store.last) runs in
-          falls_turns x new h.error runs h.stopped (record {
+          falls_turns x new h.error runs h.failed (record {
             refusal = h.gets.refusal;
             may = h.gets.may;
             same = λ inputs.
                 held_led h.gets.refusal inputs (Some size) (FaultNext (fault_of h.error)) some (ap (goes place_then) h.gets.same)
                 ∙ (through_failed x.store.count x.setup x.callers (fault_of h.error) ∙ ap (closed (FaultOutcome (fault_of h.error))) (sym count));
             kept = record { setup = h.stays.kept.setup; object_address = h.stays.kept.object_address; maximum = h.stays.kept.maximum };
-            spends = fallen_spends x new h.error (ap faults_in runs) h.stopped (omega (arith, callers)) (omega (arith, count)) (omega (arith, items)) (omega (arith, decodings, count, due, waited)) h.stays.pieces (omega (arith, decodings, count)) (omega (arith, decodings, count));
+            spends = fallen_spends x new h.error (ap faults_in runs) h.failed (omega (arith, callers)) (omega (arith, count)) (omega (arith, items)) (omega (arith, decodings, count, due, waited)) h.stays.pieces (omega (arith, decodings, count)) (omega (arith, decodings, count));
           })
 
       piece_turns : (new : State) (done : Bool) → Tries 0 (push_piece x.setup piece) mid new done → Turns x new

@@ -5,22 +5,22 @@ use Rattle.dwarf_meaning.specs.Requests.{Input, Request, Waiting}
 use Rattle.dwarf_meaning.specs.Refusals.{Refusal}
 use Rattle.dwarf_meaning.specs.Rest.{State, Status, Start, Running, RequestStatus, CompleteStatus, FaultStatus}
 use Rattle.dwarf_machine.specs.Bounds.{calls_left, calls_left_by}
-use Rattle.dwarf_machine.specs.inner.Steps.{EndsBy, Ends, Nears, Total, stop_of}
+use Rattle.dwarf_machine.specs.inner.Steps.{EndsBy, Ends, Nears, Total, replies_by}
 
-pub nears_by : (old new : State) (was is : Status) → old.status ≡ was → new.status ≡ is → calls_left_by new is + stop_of is ≤ calls_left_by old was → Nears old new
+pub nears_by : (old new : State) (was is : Status) → old.status ≡ was → new.status ≡ is → calls_left_by new is + replies_by is ≤ calls_left_by old was → Nears old new
 nears_by old new was is e f h =
     let before = ap (calls_left_by old) e in
     let after = ap (calls_left_by new) f in
-    let stop = ap stop_of f in
+    let stop = ap replies_by f in
     omega (arith, before, after, stop, h)
 
 pub nears_more : (a b c : State) → Nears a b → Nears b c → Nears a c
 nears_more a b c h i = omega (arith, h, i)
 
 -- a call that stops
-pub fewer_stopped : (old new : State) (status : Status) → new.status ≡ status → stop_of status ≡ 1 → Nears old new → calls_left new < calls_left old
+pub fewer_stopped : (old new : State) (status : Status) → new.status ≡ status → replies_by status ≡ 1 → Nears old new → calls_left new < calls_left old
 fewer_stopped old new status is stops h =
-    let stop = ap stop_of is in
+    let stop = ap replies_by is in
     omega (arith, h, stop, stops)
 
 -- a call that met a fault

@@ -44,7 +44,7 @@ module _ (a : Act) (f : Store → Result Store Fault) (old : State) (is : (s : S
         alone = d.alone ∙ ap (λ (p : ℕ). with_store new.store (with_place p old)) (sym place);
       })
   performs_goes new false runs h =
-      subst (LeadsBy (done_at a old) old new) (sym h.stopped) (record {
+      subst (LeadsBy (done_at a old) old new) (sym h.failed) (record {
         gets = record {
           refusal = h.gets.refusal;
           may = h.gets.may;

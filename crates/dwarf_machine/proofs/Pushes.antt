@@ -116,7 +116,7 @@ frame_refused setup depth old full =
 pub value_stops : (value : Value) (old new : State) → MayRefuse old.setup.limits.values (length old.store.values) → new ≡ with_status (FaultStatus error.StackFull) old → Refused 0 (push_value old.setup value) old new
 value_stops value old new full e = record {
   error = error.StackFull;
-  stopped = ap (λ (z : State). z.status) e;
+  failed = ap (λ (z : State). z.status) e;
   gets = value_refused old.setup value old.store full;
   stays = stays_status (FaultStatus error.StackFull) old new e;
 }
@@ -125,7 +125,7 @@ value_stops value old new full e = record {
 pub piece_stops : (piece : Piece) (old new : State) → MayRefuse old.setup.limits.pieces (length old.store.pieces) → new ≡ with_status (FaultStatus error.StackFull) old → Refused 0 (push_piece old.setup piece) old new
 piece_stops piece old new full e = record {
   error = error.StackFull;
-  stopped = ap (λ (z : State). z.status) e;
+  failed = ap (λ (z : State). z.status) e;
   gets = piece_refused old.setup piece old.store full;
   stays = stays_status (FaultStatus error.StackFull) old new e;
 }
@@ -134,7 +134,7 @@ piece_stops piece old new full e = record {
 pub frame_stops : (old new : State) → MayRefuse old.setup.limits.callers (length old.callers) → new ≡ with_status (FaultStatus error.StackFull) old → Refused 0 (push_caller old.setup (length old.callers)) old new
 frame_stops old new full e = record {
   error = error.StackFull;
-  stopped = ap (λ (z : State). z.status) e;
+  failed = ap (λ (z : State). z.status) e;
   gets = frame_refused old.setup (length old.callers) old.store full;
   stays = stays_status (FaultStatus error.StackFull) old new e;
 }

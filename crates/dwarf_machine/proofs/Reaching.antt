@@ -11,7 +11,7 @@ use Rattle.dwarf_meaning.specs.Refusals.{Refusal, Never, MayPick, before_pushes}
 use Rattle.dwarf_meaning.proofs.Counts.{HasTally, OnStore, Tally, tally_of, tally-push_value}
 use Rattle.dwarf_machine.specs.Bounds.{faults_in}
 use Rattle.dwarf_machine.specs.Inputs.{Keeps, with_status}
-use Rattle.dwarf_machine.specs.inner.Steps.{Total, total, Tries, Reaches, Falls, ComesBy, Comes, RunsOnBy, RunsOn, EndsBy, Ends, HasStopped, is_running}
+use Rattle.dwarf_machine.specs.inner.Steps.{Total, total, Tries, Reaches, Falls, ComesBy, Comes, RunsOnBy, RunsOn, EndsBy, Ends, HasReply, is_running}
 use Rattle.dwarf_machine.proofs.Refusals.{before_more, may_before}
 use Rattle.dwarf_machine.proofs.Loads.{HasLast, HasPieces, Keeping, kept_in, value_adds, value_last, value_pieces}
 use Rattle.dwarf_machine.proofs.Nearing.{nears_by, nears_more}
@@ -103,14 +103,14 @@ module _ (old : State) (totals : Refusal → List Input → Total) where
   pub begins_end : (a : State) → is_running a.status ≡ false → RunsOn old totals a → Ends old totals a
   begins_end a is h = begun_over a a.status is h
 
-  over_by : (a : State) (status : Status) → EndsBy old totals a status → HasStopped status
+  over_by : (a : State) (status : Status) → EndsBy old totals a status → HasReply status
   over_by a (RequestStatus request waiting) h = tt
   over_by a (CompleteStatus value) h = tt
   over_by a (FaultStatus error) h = tt
   over_by a Running h = absurd h
   over_by a (Start initial_value) h = absurd h
 
-  pub ends_over : (a : State) → Ends old totals a → HasStopped a.status
+  pub ends_over : (a : State) → Ends old totals a → HasReply a.status
   ends_over a h = over_by a a.status h
 
 pub comes_here : (x : State) → x.status ≡ Running → Comes x (total x) x
@@ -175,7 +175,7 @@ begins_pushed v x new false starts d =
     let callers = d.stays.callers in
     let items = d.stays.items in
     let decodings = d.stays.decodings in
-    subst (RunsOnBy x (total x) new) (sym d.stopped) (record {
+    subst (RunsOnBy x (total x) new) (sym d.failed) (record {
       refusal = d.gets.refusal;
       may = d.gets.may;
       same = λ inputs.
@@ -183,7 +183,7 @@ begins_pushed v x new false starts d =
           ∙ (ap (started_total x inputs) d.gets.same
           ∙ (started_fails x inputs (fault_of d.error) ∙ ap (closed (FaultOutcome (fault_of d.error))) (sym d.stays.count)));
       kept = record { setup = d.stays.kept.setup; object_address = d.stays.kept.object_address; maximum = d.stays.kept.maximum };
-      spends = fallen_spends x new d.error (ap faults_in starts) d.stopped (omega (arith, callers)) (omega (arith, count)) (omega (arith, items)) (omega (arith, decodings, count)) d.stays.pieces (omega (arith, decodings, count)) (omega (arith, decodings, count));
+      spends = fallen_spends x new d.error (ap faults_in starts) d.failed (omega (arith, callers)) (omega (arith, count)) (omega (arith, items)) (omega (arith, decodings, count)) d.stays.pieces (omega (arith, decodings, count)) (omega (arith, decodings, count));
     })
 
 pub begins_some : (v : ℕ) (x mid new : State) (done : Bool) → x.status ≡ Start (Some v) → mid ≡ with_status Running x → Tries 0 (push_value mid.setup (Generic v)) mid new done → RunsOn x (total x) new

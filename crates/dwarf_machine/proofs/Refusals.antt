@@ -40,7 +40,7 @@ tries_as n m f g old mid new true is alone setup stays d = record {
 }
 tries_as n m f g old mid new false is alone setup stays d = record {
   error = d.error;
-  stopped = d.stopped;
+  failed = d.failed;
   gets = record {
     refusal = d.gets.refusal;
     may = subst (λ (z : Setup). MayPick z.limits d.gets.refusal) setup d.gets.may;
@@ -71,7 +71,7 @@ does_then n m f g old mid new false h stays i =
     let gets = i.gets in
     record {
       error = i.error;
-      stopped = i.stopped;
+      failed = i.failed;
       gets = record {
         refusal = before_pushes p gets.refusal;
         may = may_before old.setup.limits p gets.refusal (subst (λ (z : Setup). MayPick z.limits gets.refusal) setup gets.may);

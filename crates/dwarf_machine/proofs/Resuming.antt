@@ -47,17 +47,17 @@ module _ (x : State) (request : Request) (waiting : Waiting) (open_now : x.statu
 
   -- an answer that ends in a fault
   takes_fault : (new : State) (error : Error) (refusal : Refusal) → new.status ≡ FaultStatus error → Stays 0 x new → MayPick x.setup.limits refusal → ((inputs : List Input) → totals refusal inputs ≡ closed (FaultOutcome (fault_of error)) x.store.count) → Takes answer x new
-  takes_fault new error refusal stopped stays may same =
+  takes_fault new error refusal failed stays may same =
       let count = stays.count in
       let callers = stays.callers in
       let items = stays.items in
       let decodings = stays.decodings in
-      subst (RunsOnBy x totals new) (sym stopped) (record {
+      subst (RunsOnBy x totals new) (sym failed) (record {
         refusal = refusal;
         may = may;
         same = λ inputs. same inputs ∙ ap (closed (FaultOutcome (fault_of error))) (sym stays.count);
         kept = stays.kept;
-        spends = fallen_spends x new error (ap faults_in open_now) stopped (omega (arith, callers)) (omega (arith, count)) (omega (arith, items)) (omega (arith, decodings, count)) stays.pieces (omega (arith, decodings, count)) (omega (arith, decodings, count));
+        spends = fallen_spends x new error (ap faults_in open_now) failed (omega (arith, callers)) (omega (arith, count)) (omega (arith, items)) (omega (arith, decodings, count)) stays.pieces (omega (arith, decodings, count)) (omega (arith, decodings, count));
       })
 
   pub denies : (error : Error) (mid new : State) → use_of (address_bits x.setup) waiting answer x.store.values ≡ FaultUse (fault_of error) → Stays 0 x mid → new ≡ with_status (FaultStatus error) mid → Takes answer x new
@@ -103,7 +103,7 @@ module _ (x : State) (request : Request) (waiting : Waiting) (open_now : x.statu
     value_refused : (new : State) → Refused 0 (push_value x.setup value) answered new → Takes answer x new
     value_refused new h =
         let low = fewer in
-        takes_fault new h.error h.gets.refusal h.stopped (stays_from 0 0 values Pushed Running x new (omega (arith, low)) h.stays) h.gets.may
+        takes_fault new h.error h.gets.refusal h.failed (stays_from 0 0 values Pushed Running x new (omega (arith, low)) h.stays) h.gets.may
         (λ inputs.
         answer_rest h.gets.refusal inputs (PushesAnswer values value) gives
         ∙ (ap (λ (z : Result Store Fault). through x.store.count x.setup x.callers (after_push (run x.setup) position (length x.callers) inputs z)) h.gets.same
@@ -177,7 +177,7 @@ module _ (x : State) (request : Request) (waiting : Waiting) (open_now : x.statu
 
     text_refused : (new : State) → Refused 0 (push_caller x.setup (length x.callers)) (with_status Running x) new → Takes answer x new
     text_refused new h =
-        takes_fault new h.error h.gets.refusal h.stopped (stays_from 0 0 x.store.values x.store.last Running x new (omega arith) h.stays) h.gets.may
+        takes_fault new h.error h.gets.refusal h.failed (stays_from 0 0 x.store.values x.store.last Running x new (omega arith) h.stays) h.gets.may
         (λ inputs. call_rest h.gets.refusal inputs (Err (fault_of h.error)) h.gets.same ∙ through_failed x.store.count x.setup x.callers (fault_of h.error))
 
     text_takes_by : (new : State) (done : Bool) → TriesToEnter callee (with_status Running x) new done → Takes answer x new

@@ -16,7 +16,7 @@ stays_wide n old new h =
 pub refused_values : (n : ℕ) (first : Value) (others : List Value) (old new : State) → Refused 0 (push_value old.setup first) old new → Refused n (push_values old.setup (first ∷ others)) old new
 refused_values n first others old new h = record {
   error = h.error;
-  stopped = h.stopped;
+  failed = h.failed;
   gets = record { refusal = h.gets.refusal; may = h.gets.may; same = ap (λ (z : Result Store Fault). z >>= push_values old.setup others) h.gets.same };
   stays = stays_wide n old new h.stays;
 }

@@ -18,7 +18,7 @@ use Rattle.dwarf_meaning.proofs.Effects.{act_is}
 use Rattle.dwarf_meaning.proofs.Turns.{run_turn, below_most}
 use Rattle.dwarf_machine.specs.Bounds.{endings, faults_in}
 use Rattle.dwarf_machine.specs.Inputs.{Keeps, with_status}
-use Rattle.dwarf_machine.specs.inner.Steps.{total, CountsOne, Reads, act_of, done_at, LeadsToPlace, LeadsToRequest, LeadsToFault, LeadsBy, Performs, read_to, with_store, Falls, ComesBy, IsFree, IsReady, Turns, effort, effort_by}
+use Rattle.dwarf_machine.specs.inner.Steps.{total, CountsOne, ReadsOperation, act_of, done_at, LeadsToPlace, LeadsToRequest, LeadsToFault, LeadsBy, Performs, read_to, with_store, Falls, ComesBy, IsFree, IsReady, Turns, effort, effort_by}
 use Rattle.dwarf_machine.proofs.Endings.{EndsNoMore, done_ends, free_waits}
 use Rattle.dwarf_machine.proofs.Loads.{IsLighter, kept_in, done_lighter}
 use Rattle.dwarf_machine.proofs.Nearing.{nears_by}
@@ -65,9 +65,9 @@ total_inside x r inputs runs inside =
 
 -- a turn that ends in a fault
 pub falls_turns : (x new : State) (error : Error) → x.status ≡ Running → new.status ≡ FaultStatus error → Falls x (total x) (fault_of error) new → Turns x new
-falls_turns x new error runs stopped falls = record {
-  comes = subst (ComesBy x (total x) new) (sym stopped) falls;
-  less = less_stopped x new (FaultStatus error) runs stopped refl;
+falls_turns x new error runs failed falls = record {
+  comes = subst (ComesBy x (total x) new) (sym failed) falls;
+  less = less_stopped x new (FaultStatus error) runs failed refl;
 }
 
 -- where the operation was read
@@ -82,12 +82,12 @@ module _ (x : State) (ready : IsReady x) where
 
   pub ready_none : (new : State) → CountsOne x new false → Turns x new
   ready_none new h =
-      let stopped : new.status ≡ FaultStatus error.TooManyIterations = ap (λ (z : State). z.status) h.1 in
+      let failed : new.status ≡ FaultStatus error.TooManyIterations = ap (λ (z : State). z.status) h.1 in
       let count : new.store.count ≡ x.store.count = ap (λ (z : State). z.store.count) h.1 in
       let callers = ap (λ (z : State). length z.callers) h.1 in
       let lists = ap (λ (z : State). length z.store.values + length z.store.pieces) h.1 in
       let decodings = ap (λ (z : State). z.decodings) h.1 in
-      falls_turns x new error.TooManyIterations ready.runs stopped (record {
+      falls_turns x new error.TooManyIterations ready.runs failed (record {
         refusal = Never;
         may = tt;
         same = λ inputs.
@@ -95,7 +95,7 @@ module _ (x : State) (ready : IsReady x) where
             ∙ (ap (through x.store.count x.setup x.callers) (choose_false (can_count x.store) _ (only_end (FaultEnd TooManyIterations)) h.0)
             ∙ (through_failed x.store.count x.setup x.callers TooManyIterations ∙ ap (closed (FaultOutcome TooManyIterations)) (sym count)));
         kept = record { setup = ap (λ (z : State). z.setup) h.1; object_address = ap (λ (z : State). z.store.object_address) h.1; maximum = ap (λ (z : State). z.store.maximum) h.1 };
-        spends = fallen_spends x new error.TooManyIterations (ap faults_in ready.runs) stopped (omega (arith, callers)) (omega (arith, count)) (omega (arith, lists)) (omega (arith, decodings, count)) (ap (λ (z : State). z.store.pieces) h.1) (omega (arith, decodings, count)) (omega (arith, decodings, count));
+        spends = fallen_spends x new error.TooManyIterations (ap faults_in ready.runs) failed (omega (arith, callers)) (omega (arith, count)) (omega (arith, lists)) (omega (arith, decodings, count)) (ap (λ (z : State). z.store.pieces) h.1) (omega (arith, decodings, count)) (omega (arith, decodings, count));
       })
 
   module _ (can : can_count x.store ≡ true) where
@@ -110,19 +110,19 @@ module _ (x : State) (ready : IsReady x) where
 
     pub ready_unread : (new : State) (error : Error) (place : ℕ) → read x.setup x.text x.place ≡ Err (fault_of error) → new ≡ with_status (FaultStatus error) (behind_op x place) → Turns x new
     ready_unread new error place e is =
-        let stopped : new.status ≡ FaultStatus error = ap (λ (z : State). z.status) is in
+        let failed : new.status ≡ FaultStatus error = ap (λ (z : State). z.status) is in
         let count : new.store.count ≡ x.store.count + 1 = ap (λ (z : State). z.store.count) is in
         let callers = ap (λ (z : State). length z.callers) is in
         let lists = ap (λ (z : State). length z.store.values + length z.store.pieces) is in
         let decodings = ap (λ (z : State). z.decodings) is in
-        falls_turns x new error ready.runs stopped (record {
+        falls_turns x new error ready.runs failed (record {
           refusal = Never;
           may = tt;
           same = λ inputs.
               ready_read Never inputs (Err (fault_of error)) e
               ∙ (through_failed (x.store.count + 1) x.setup x.callers (fault_of error) ∙ ap (closed (FaultOutcome (fault_of error))) (sym count));
           kept = record { setup = ap (λ (z : State). z.setup) is; object_address = ap (λ (z : State). z.store.object_address) is; maximum = ap (λ (z : State). z.store.maximum) is };
-          spends = fallen_spends x new error (ap faults_in ready.runs) stopped (omega (arith, callers)) (omega (arith, count)) (omega (arith, lists)) (omega (arith, decodings, count)) (ap (λ (z : State). z.store.pieces) is) (omega (arith, decodings, count)) (omega (arith, decodings, count));
+          spends = fallen_spends x new error (ap faults_in ready.runs) failed (omega (arith, callers)) (omega (arith, count)) (omega (arith, lists)) (omega (arith, decodings, count)) (ap (λ (z : State). z.store.pieces) is) (omega (arith, decodings, count)) (omega (arith, decodings, count));
         })
 
     module _ (op : Operation) (behind : List ℕ) (was : read x.setup x.text x.place ≡ Ok (op, behind)) where
@@ -138,19 +138,19 @@ module _ (x : State) (ready : IsReady x) where
           ∙ ap (λ (n : Next). through (x.store.count + 1) x.setup x.callers (after_operation (run x.setup) x.setup x.text (length x.callers) place_then inputs n)) e
 
       ready_fails : (new : State) (error : Error) → new.status ≡ FaultStatus error → LeadsToFault (done_at (act_of there op) there) error there new → Turns x new
-      ready_fails new error stopped h =
+      ready_fails new error failed h =
           let count : new.store.count ≡ x.store.count + 1 = h.stays.count in
           let callers = h.stays.callers in
           let items = h.stays.items in
           let decodings = h.stays.decodings in
-          falls_turns x new error ready.runs stopped (record {
+          falls_turns x new error ready.runs failed (record {
             refusal = h.gets.refusal;
             may = h.gets.may;
             same = λ inputs.
                 ready_led h.gets.refusal inputs (FaultNext (fault_of error)) h.gets.same
                 ∙ (through_failed (x.store.count + 1) x.setup x.callers (fault_of error) ∙ ap (closed (FaultOutcome (fault_of error))) (sym count));
             kept = record { setup = h.stays.kept.setup; object_address = h.stays.kept.object_address; maximum = h.stays.kept.maximum };
-            spends = fallen_spends x new error (ap faults_in ready.runs) stopped (omega (arith, callers)) (omega (arith, count)) (omega (arith, items)) (omega (arith, decodings, count)) h.stays.pieces (omega (arith, decodings, count)) (omega (arith, decodings, count));
+            spends = fallen_spends x new error (ap faults_in ready.runs) failed (omega (arith, callers)) (omega (arith, count)) (omega (arith, items)) (omega (arith, decodings, count)) h.stays.pieces (omega (arith, decodings, count)) (omega (arith, decodings, count));
           })
 
       -- an operation leaves the count and the settings
@@ -233,9 +233,9 @@ module _ (x : State) (ready : IsReady x) where
       ready_performs new h = ready_by new new.status refl h
 
 -- the operation at the place, counted, read and done
-pub counted_turns : (x mid behind new : State) (op : Operation) → IsReady x → CountsOne x mid true → Reads op mid behind → Performs (act_of behind op) behind new → Turns x new
+pub counted_turns : (x mid behind new : State) (op : Operation) → IsReady x → CountsOne x mid true → ReadsOperation op mid behind → Performs (act_of behind op) behind new → Turns x new
 counted_turns x mid behind new op ready can reads h =
-    let read_there : Reads op (with_store (counted x.store) x) behind = subst (λ (z : State). Reads op z behind) can.1 reads in
+    let read_there : ReadsOperation op (with_store (counted x.store) x) behind = subst (λ (z : State). ReadsOperation op z behind) can.1 reads in
     ready_performs x ready can.0 op read_there.behind read_there.was new (subst (λ (z : State). Performs (act_of z op) z new) read_there.moved h)
 
 -- the operation at the place, counted, which can't be read

@@ -3,26 +3,26 @@ use Rattle.std.specs.Prelude.{◌≡◌}
 use Rattle.dwarf_base.specs.Reads.{Text}
 use Rattle.dwarf_meaning.specs.Kinds.{kind_of_waiting}
 use Rattle.dwarf_meaning.specs.declared.kinds.WaitingKind.{WaitingKind}
-use Rattle.dwarf_meaning.specs.Requests as asked
+use Rattle.dwarf_meaning.specs.Requests as requests
 use Rattle.dwarf_meaning.specs.Rest as rest
 use Rattle.dwarf_meaning.specs.Rest.{Start, Running, RequestStatus, CompleteStatus, FaultStatus}
 use Rattle.dwarf_machine.specs.declared.states.Given.{Given}
 use Rattle.dwarf_machine.specs.declared.states.Given.TheVariants as given
 
 -- what a machine is given, as an answer
-abbrev pub answer_of : {R : Type 0} → (R → Text) → Given R → asked.Answer
-answer_of text (given.Memory value) = asked.MemoryAnswer value
-answer_of text (given.Register value) = asked.RegisterAnswer value
-answer_of text (given.WasmValue value) = asked.WasmAnswer value
-answer_of text (given.EntryValue value) = asked.EntryAnswer value
-answer_of text (given.FrameBase number) = asked.FrameBaseAnswer number
-answer_of text (given.Tls number) = asked.TlsAnswer number
-answer_of text (given.CallFrameCfa number) = asked.CfaAnswer number
-answer_of text (given.ParameterRef number) = asked.ParameterAnswer number
-answer_of text (given.RelocatedAddress number) = asked.RelocatedAnswer number
-answer_of text (given.IndexedAddress number) = asked.IndexedAnswer number
-answer_of text (given.AtLocation expression) = asked.LocationAnswer (text expression)
-answer_of text (given.BaseType value_type) = asked.BaseTypeAnswer value_type
+abbrev pub answer_of : {R : Type 0} → (R → Text) → Given R → requests.Answer
+answer_of text (given.Memory value) = requests.MemoryAnswer value
+answer_of text (given.Register value) = requests.RegisterAnswer value
+answer_of text (given.WasmValue value) = requests.WasmAnswer value
+answer_of text (given.EntryValue value) = requests.EntryAnswer value
+answer_of text (given.FrameBase number) = requests.FrameBaseAnswer number
+answer_of text (given.Tls number) = requests.TlsAnswer number
+answer_of text (given.CallFrameCfa number) = requests.CfaAnswer number
+answer_of text (given.ParameterRef number) = requests.ParameterAnswer number
+answer_of text (given.RelocatedAddress number) = requests.RelocatedAnswer number
+answer_of text (given.IndexedAddress number) = requests.IndexedAnswer number
+answer_of text (given.AtLocation expression) = requests.LocationAnswer (text expression)
+answer_of text (given.BaseType value_type) = requests.BaseTypeAnswer value_type
 
 -- a request of this kind is open
 abbrev pub IsWaitingFor : WaitingKind → rest.Status → Type 0
@@ -33,7 +33,7 @@ IsWaitingFor kind (FaultStatus error) = ⊥
 IsWaitingFor kind Running = ⊥
 
 -- the open request waits to do this with its answer
-abbrev pub IsWaitingTo : asked.Waiting → rest.Status → Type 0
+abbrev pub IsWaitingTo : requests.Waiting → rest.Status → Type 0
 IsWaitingTo wanted (RequestStatus request waiting) = waiting ≡ wanted
 IsWaitingTo wanted (Start initial_value) = ⊥
 IsWaitingTo wanted (CompleteStatus value) = ⊥

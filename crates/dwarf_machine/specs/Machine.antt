@@ -6,7 +6,7 @@ use Rattle.dwarf_base.specs.Reads.{IsLeftOf, Text}
 use Rattle.dwarf_value.specs.declared.types.Value.{Value}
 use Rattle.dwarf_value.specs.Values.{IsAddressMask, width_of}
 use Rattle.dwarf_meaning.specs.Locations as meaning
-use Rattle.dwarf_meaning.specs.Requests as asked
+use Rattle.dwarf_meaning.specs.Requests as requests
 use Rattle.dwarf_meaning.specs.Stores.{Setup, Store, Last, Nothing, Plain, Pieced, Pushed, Called, Located}
 use Rattle.dwarf_meaning.specs.Run.{Position}
 use Rattle.dwarf_meaning.specs.Rest.{Status, Start, Running, RequestStatus, CompleteStatus, FaultStatus}
@@ -46,42 +46,42 @@ last_of text number last.Called = Called
 last_of text number (last.Located location) = Located (location_of text number location)
 
 -- what an open request asks
-abbrev pub request_of : {R O P : Type 0} → (R → Text) → (O → ℕ) → OpenRequest R O P → asked.Request
-request_of text number (request.Memory address size space base_type) = asked.RequiresMemory address size space (number base_type.0)
-request_of text number (request.Register register offset base_type) = asked.RequiresRegister register.0 (number base_type.0)
-request_of text number (request.WasmLocal index) = asked.RequiresWasmLocal index
-request_of text number (request.WasmGlobal index) = asked.RequiresWasmGlobal index
-request_of text number (request.WasmStack index) = asked.RequiresWasmStack index
-request_of text number (request.FrameBase offset) = asked.RequiresFrameBase
-request_of text number (request.Tls index) = asked.RequiresTls index
-request_of text number request.CallFrameCfa = asked.RequiresCallFrameCfa
-request_of text number (request.AtLocation offset) = asked.RequiresAtLocation (reference_of number offset)
-request_of text number (request.EntryValue expression) = asked.RequiresEntryValue (text expression)
-request_of text number (request.ParameterRef offset) = asked.RequiresParameterRef (number offset.0)
-request_of text number (request.RelocatedAddress address) = asked.RequiresRelocatedAddress address
-request_of text number (request.IndexedAddress index relocate) = asked.RequiresIndexedAddress (number index.0) relocate
-request_of text number (request.TypedLiteral base_type value) = asked.RequiresBaseType (number base_type.0)
-request_of text number (request.Convert base_type) = asked.RequiresBaseType (number base_type.0)
-request_of text number (request.Reinterpret base_type) = asked.RequiresBaseType (number base_type.0)
+abbrev pub request_of : {R O P : Type 0} → (R → Text) → (O → ℕ) → OpenRequest R O P → requests.Request
+request_of text number (request.Memory address size space base_type) = requests.RequiresMemory address size space (number base_type.0)
+request_of text number (request.Register register offset base_type) = requests.RequiresRegister register.0 (number base_type.0)
+request_of text number (request.WasmLocal index) = requests.RequiresWasmLocal index
+request_of text number (request.WasmGlobal index) = requests.RequiresWasmGlobal index
+request_of text number (request.WasmStack index) = requests.RequiresWasmStack index
+request_of text number (request.FrameBase offset) = requests.RequiresFrameBase
+request_of text number (request.Tls index) = requests.RequiresTls index
+request_of text number request.CallFrameCfa = requests.RequiresCallFrameCfa
+request_of text number (request.AtLocation offset) = requests.RequiresAtLocation (reference_of number offset)
+request_of text number (request.EntryValue expression) = requests.RequiresEntryValue (text expression)
+request_of text number (request.ParameterRef offset) = requests.RequiresParameterRef (number offset.0)
+request_of text number (request.RelocatedAddress address) = requests.RequiresRelocatedAddress address
+request_of text number (request.IndexedAddress index relocate) = requests.RequiresIndexedAddress (number index.0) relocate
+request_of text number (request.TypedLiteral base_type value) = requests.RequiresBaseType (number base_type.0)
+request_of text number (request.Convert base_type) = requests.RequiresBaseType (number base_type.0)
+request_of text number (request.Reinterpret base_type) = requests.RequiresBaseType (number base_type.0)
 
 -- what is to be done with its answer
-abbrev pub waiting_of : {R O P : Type 0} → (R → Text) → OpenRequest R O P → asked.Waiting
-waiting_of text (request.Memory address size space base_type) = asked.Memory
-waiting_of text (request.Register register offset base_type) = asked.Register offset
-waiting_of text (request.WasmLocal index) = asked.WasmValue
-waiting_of text (request.WasmGlobal index) = asked.WasmValue
-waiting_of text (request.WasmStack index) = asked.WasmValue
-waiting_of text (request.FrameBase offset) = asked.FrameBase offset
-waiting_of text (request.Tls index) = asked.Tls
-waiting_of text request.CallFrameCfa = asked.CallFrameCfa
-waiting_of text (request.AtLocation offset) = asked.AtLocation
-waiting_of text (request.EntryValue expression) = asked.EntryValue
-waiting_of text (request.ParameterRef offset) = asked.ParameterRef
-waiting_of text (request.RelocatedAddress address) = asked.RelocatedAddress
-waiting_of text (request.IndexedAddress index relocate) = asked.IndexedAddress
-waiting_of text (request.TypedLiteral base_type value) = asked.TypedLiteral (text value)
-waiting_of text (request.Convert base_type) = asked.Convert
-waiting_of text (request.Reinterpret base_type) = asked.Reinterpret
+abbrev pub waiting_of : {R O P : Type 0} → (R → Text) → OpenRequest R O P → requests.Waiting
+waiting_of text (request.Memory address size space base_type) = requests.Memory
+waiting_of text (request.Register register offset base_type) = requests.Register offset
+waiting_of text (request.WasmLocal index) = requests.WasmValue
+waiting_of text (request.WasmGlobal index) = requests.WasmValue
+waiting_of text (request.WasmStack index) = requests.WasmValue
+waiting_of text (request.FrameBase offset) = requests.FrameBase offset
+waiting_of text (request.Tls index) = requests.Tls
+waiting_of text request.CallFrameCfa = requests.CallFrameCfa
+waiting_of text (request.AtLocation offset) = requests.AtLocation
+waiting_of text (request.EntryValue expression) = requests.EntryValue
+waiting_of text (request.ParameterRef offset) = requests.ParameterRef
+waiting_of text (request.RelocatedAddress address) = requests.RelocatedAddress
+waiting_of text (request.IndexedAddress index relocate) = requests.IndexedAddress
+waiting_of text (request.TypedLiteral base_type value) = requests.TypedLiteral (text value)
+waiting_of text (request.Convert base_type) = requests.Convert
+waiting_of text (request.Reinterpret base_type) = requests.Reinterpret
 
 -- where the code stands, as the definitions have it
 abbrev pub status_of : {R O P : Type 0} → (R → Text) → (O → ℕ) → EvaluationState R O P → Status

@@ -1,6 +1,6 @@
 ghost use Rattle.dwarf_meaning.specs.declared.kinds.WaitingKind.TheVariants as kind;
 ghost use Rattle.dwarf_meaning.specs.Kinds.{kind_of_answer};
-ghost use Rattle.dwarf_meaning.specs.Requests as asked;
+ghost use Rattle.dwarf_meaning.specs.Requests as requests;
 ghost use Rattle.dwarf_meaning.specs.Rest.{Running};
 ghost use Rattle.dwarf_meaning.specs.Stores.{Pushed, push_value};
 ghost use Rattle.dwarf_machine.specs.Answers.{IsWaitingFor, IsWaitingTo, answer_of};
@@ -28,7 +28,7 @@ impl<R: Reader + Copy, S: EvaluationStorage<R>> Machine<R, S> {
     /// Pushes what a register holds, plus the offset.
     fn take_register(&mut self, value: Value)
         requires { IsWaitingFor kind.Register self.old.status }
-        ensures { Takes (asked.RegisterAnswer value) self.old self.new }
+        ensures { Takes (requests.RegisterAnswer value) self.old self.new }
     {
         match self.state() {
             EvaluationState::Waiting(
@@ -44,8 +44,8 @@ impl<R: Reader + Copy, S: EvaluationStorage<R>> Machine<R, S> {
 
     /// Pushes the value of a register, plus the offset in its type.
     fn take_offset(&mut self, value: Value, offset: i64)
-        requires { IsWaitingTo (asked.Register offset) self.old.status }
-        ensures { Takes (asked.RegisterAnswer value) self.old self.new }
+        requires { IsWaitingTo (requests.Register offset) self.old.status }
+        ensures { Takes (requests.RegisterAnswer value) self.old self.new }
     {
         match self.sum(value, offset.cast_unsigned()) {
             Ok(sum) => self.push_answer(sum),
@@ -56,7 +56,7 @@ impl<R: Reader + Copy, S: EvaluationStorage<R>> Machine<R, S> {
     /// Pushes the frame base plus the offset.
     fn take_frame_base(&mut self, frame_base: u64)
         requires { IsWaitingFor kind.FrameBase self.old.status }
-        ensures { Takes (asked.FrameBaseAnswer frame_base) self.old self.new }
+        ensures { Takes (requests.FrameBaseAnswer frame_base) self.old self.new }
     {
         match self.state() {
             EvaluationState::Waiting(OpenRequest::FrameBase { offset }) => {
@@ -69,8 +69,8 @@ impl<R: Reader + Copy, S: EvaluationStorage<R>> Machine<R, S> {
     /// Pushes the sum of the frame base and the offset.
     #[inline]
     fn take_frame_offset(&mut self, frame_base: u64, offset: i64)
-        requires { IsWaitingTo (asked.FrameBase offset) self.old.status }
-        ensures { Takes (asked.FrameBaseAnswer frame_base) self.old self.new }
+        requires { IsWaitingTo (requests.FrameBase offset) self.old.status }
+        ensures { Takes (requests.FrameBaseAnswer frame_base) self.old self.new }
     {
         self.push_answer(Value::Generic(frame_base.wrapping_add(offset.cast_unsigned())));
     }
@@ -78,7 +78,7 @@ impl<R: Reader + Copy, S: EvaluationStorage<R>> Machine<R, S> {
     /// Makes a value of the type: of the literal, or of the top.
     fn take_base_type(&mut self, base_type: ValueType)
         requires { IsWaitingFor kind.BaseType self.old.status }
-        ensures { Takes (asked.BaseTypeAnswer base_type) self.old self.new }
+        ensures { Takes (requests.BaseTypeAnswer base_type) self.old self.new }
     {
         match self.state() {
             EvaluationState::Waiting(
@@ -99,8 +99,8 @@ impl<R: Reader + Copy, S: EvaluationStorage<R>> Machine<R, S> {
 
     /// Pushes the literal's bytes as a value of the type.
     fn take_literal(&mut self, base_type: ValueType, literal: R)
-        requires { IsWaitingTo (asked.TypedLiteral (R.text literal)) self.old.status }
-        ensures { Takes (asked.BaseTypeAnswer base_type) self.old self.new }
+        requires { IsWaitingTo (requests.TypedLiteral (R.text literal)) self.old.status }
+        ensures { Takes (requests.BaseTypeAnswer base_type) self.old self.new }
     {
         match Value::parse(base_type, literal) {
             Ok(value) => self.push_answer(value),
@@ -110,8 +110,8 @@ impl<R: Reader + Copy, S: EvaluationStorage<R>> Machine<R, S> {
 
     /// Converts the top to the type.
     fn take_conversion(&mut self, base_type: ValueType)
-        requires { IsWaitingTo asked.Convert self.old.status }
-        ensures { Takes (asked.BaseTypeAnswer base_type) self.old self.new }
+        requires { IsWaitingTo requests.Convert self.old.status }
+        ensures { Takes (requests.BaseTypeAnswer base_type) self.old self.new }
     {
         let Some(value) = self.pop() else {
             self.fall_short();
@@ -125,8 +125,8 @@ impl<R: Reader + Copy, S: EvaluationStorage<R>> Machine<R, S> {
 
     /// Takes the bits on top as a value of the type.
     fn take_reinterpretation(&mut self, base_type: ValueType)
-        requires { IsWaitingTo asked.Reinterpret self.old.status }
-        ensures { Takes (asked.BaseTypeAnswer base_type) self.old self.new }
+        requires { IsWaitingTo requests.Reinterpret self.old.status }
+        ensures { Takes (requests.BaseTypeAnswer base_type) self.old self.new }
     {
         let Some(value) = self.pop() else {
             self.fall_short();
@@ -141,7 +141,7 @@ impl<R: Reader + Copy, S: EvaluationStorage<R>> Machine<R, S> {
     /// Runs the called text in the call's place; goes on at once where it is empty.
     fn take_location(&mut self, callee: R)
         requires { IsWaitingFor kind.AtLocation self.old.status }
-        ensures { Takes (asked.LocationAnswer (R.text callee)) self.old self.new }
+        ensures { Takes (requests.LocationAnswer (R.text callee)) self.old self.new }
     {
         self.enter(EvaluationState::Running);
         if callee.is_empty() {

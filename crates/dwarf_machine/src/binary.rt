@@ -14,7 +14,7 @@ pub(crate) trait BinaryOperator {
     // What it gives where addresses have so many bits.
     ghost meaning: { (bits : ℕ) → Value → Value → Result Value Error };
 
-    /// What the call answers.
+    /// What the call gives.
     fn apply(left: Value, right: Value, addr_mask: u64) -> Result<Value>
         requires { IsAddressMask addr_mask }
         ensures { result ≡ meaning (width_of addr_mask) left right };

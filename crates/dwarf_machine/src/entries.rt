@@ -3,12 +3,11 @@
 
 ghost use Rattle.std.specs.Prelude.{◌≡◌};
 ghost use Rattle.dwarf_base.specs.Reads.{IsLeftOf};
-ghost use Rattle.dwarf_meaning.specs.Decoding.{operands_at, operation_at};
-ghost use Rattle.dwarf_meaning.specs.Operands.{context_of};
+ghost use Rattle.dwarf_meaning.specs.Decoding.{operation_at};
 ghost use Rattle.dwarf_meaning.specs.Rest.{Running};
 ghost use Rattle.dwarf_machine.specs.inner.Steps.{Performs, TriesToPerform, act_of, at, read_to};
 ghost use Rattle.dwarf_op.specs.Entries as entries;
-ghost use Rattle.dwarf_op.specs.Entries.{entry_row, rare_row};
+ghost use Rattle.dwarf_op.specs.Entries.{entry_row, operands_in, rare_row};
 
 use crate::binary;
 use crate::machine::Machine;
@@ -18,11 +17,11 @@ use dwarf_base::{
     DebugAddrIndex, DebugInfoOffset, DwOp, Encoding, Error, Reader, Register, Result, UnitOffset,
 };
 use dwarf_op::{
-    DieReference, Entry, FromBlock, FromBranch, FromByte, FromOffset, FromSigned, FromUnsigned,
-    Location, Plain, Rare, WasmPlace, entry_at, generic_type, read_bit_piece, read_block,
-    read_implicit_pointer, read_named_base_register, read_offset, read_piece, read_register,
-    read_signed, read_sleb128, read_typed_deref, read_typed_literal, read_typed_register,
-    read_unsigned, read_wasm_location,
+    DieReference, Entry, FromBlock, FromOffset, Location, Plain, Rare, WasmPlace, entry_at,
+    generic_type, read_address, read_bit_piece, read_block, read_implicit_pointer,
+    read_named_base_register, read_offset, read_piece, read_register, read_signed, read_sleb128,
+    read_typed_deref, read_typed_literal, read_typed_register, read_uleb128, read_unsigned,
+    read_wasm_location,
 };
 use dwarf_store::EvaluationStorage;
 use dwarf_value::Value;
@@ -64,67 +63,7 @@ impl<R: Reader + Copy, S: EvaluationStorage<R>> Machine<R, S> {
             Plain::TLS => self.ask_tls(),
             Plain::CallFrameCFA => self.ask(OpenRequest::CallFrameCfa),
             Plain::StackValue => self.locate_value(),
-            Plain::Uninitialized => self.refuse(),
-        }
-    }
-
-    /// Does an operation made of one byte.
-    #[inline(always)]
-    #[tactic(auto, unfolding(dwarf_meaning::specs::Acts::act))]
-    fn perform_byte(&mut self, make: FromByte, byte: u8)
-        requires { self.old.status ≡ Running }
-        ensures { Performs (act_of self.old (entries.byte_operation make byte)) self.old self.new }
-    {
-        match make {
-            FromByte::Constant => self.push_constant(Value::Generic(u64::from(byte))),
-            FromByte::Pick => self.pick(byte),
-            FromByte::Deref => self.dereference(generic_type(), byte, false),
-            FromByte::SpaceDeref => self.dereference(generic_type(), byte, true),
-        }
-    }
-
-    /// Does an operation made of an unsigned number.
-    #[inline(always)]
-    #[tactic(auto, unfolding(dwarf_meaning::specs::Acts::act))]
-    fn perform_unsigned(&mut self, make: FromUnsigned, number: u64)
-        requires { self.old.status ≡ Running }
-        ensures { Performs (act_of self.old (entries.unsigned_operation make number)) self.old
-            self.new }
-    {
-        match make {
-            FromUnsigned::Constant => self.push_constant(Value::Generic(number)),
-            FromUnsigned::PlusConstant => self.add_constant(number),
-            FromUnsigned::Address => self.ask(OpenRequest::RelocatedAddress(number)),
-        }
-    }
-
-    /// Does an operation made of a signed number.
-    #[inline(always)]
-    #[tactic(auto, unfolding(dwarf_meaning::specs::Acts::act))]
-    fn perform_signed(&mut self, make: FromSigned, number: i64)
-        requires { self.old.status ≡ Running }
-        ensures { Performs (act_of self.old (entries.signed_operation make number)) self.old
-            self.new }
-    {
-        match make {
-            FromSigned::Constant => self.push_signed(number),
-            FromSigned::FrameOffset => self.ask(OpenRequest::FrameBase { offset: number }),
-        }
-    }
-
-    /// Does a branch.
-    #[inline(always)]
-    #[tactic(auto, unfolding(dwarf_meaning::specs::Acts::act))]
-    fn perform_branch(&mut self, make: FromBranch, target: i16, left: &mut R)
-        requires runs { self.old.status ≡ Running }
-        requires rest { IsLeftOf (R.text left.old) self.old.text }
-        ensures performs { Performs (act_of self.old (entries.branch_operation make target))
-            (at (R.text left.old).bytes self.old) (at (R.text left.new).bytes self.new) }
-        ensures rest { IsLeftOf (R.text left.new) self.new.text }
-    {
-        match make {
-            FromBranch::Bra => self.branch_if(target, left),
-            FromBranch::Skip => self.take_branch(target, left),
+            Plain::Uninitialized => self.fail_unsupported(),
         }
     }
 
@@ -134,8 +73,8 @@ impl<R: Reader + Copy, S: EvaluationStorage<R>> Machine<R, S> {
     fn perform_offset(&mut self, make: FromOffset, offset: R::Offset)
         requires { self.old.status ≡ Running }
         ensures { Performs
-            (act_of self.old (entries.offset_operation make (R.Offset.number offset))) self.old
-            self.new }
+            (act_of self.old (entries.offset_operation make (R.Offset.number offset)))
+            self.old self.new }
     {
         match make {
             FromOffset::UnitCall => self.ask(OpenRequest::AtLocation(DieReference::UnitRef(
@@ -159,7 +98,7 @@ impl<R: Reader + Copy, S: EvaluationStorage<R>> Machine<R, S> {
             FromOffset::Reinterpret => self.ask(OpenRequest::Reinterpret {
                 base_type: UnitOffset(offset),
             }),
-            FromOffset::VariableValue => self.refuse(),
+            FromOffset::VariableValue => self.fail_unsupported(),
         }
     }
 
@@ -168,8 +107,8 @@ impl<R: Reader + Copy, S: EvaluationStorage<R>> Machine<R, S> {
     #[tactic(auto, unfolding(dwarf_meaning::specs::Acts::act))]
     fn perform_block(&mut self, make: FromBlock, block: R)
         requires { self.old.status ≡ Running }
-        ensures { Performs (act_of self.old (entries.block_operation make (R.text block))) self.old
-            self.new }
+        ensures { Performs (act_of self.old (entries.block_operation make (R.text block)))
+            self.old self.new }
     {
         match make {
             FromBlock::ImplicitValue => self.locate(Location::Bytes { value: block }),
@@ -181,7 +120,8 @@ impl<R: Reader + Copy, S: EvaluationStorage<R>> Machine<R, S> {
     #[inline(always)]
     #[tactic(auto, unfolding(dwarf_meaning::specs::Acts::act))]
     fn perform_wasm(&mut self, place: WasmPlace, index: u32)
-        ensures { Performs (act_of self.old (entries.wasm_operation place index)) self.old self.new }
+        ensures { Performs (act_of self.old (entries.wasm_operation place index))
+            self.old self.new }
     {
         match place {
             WasmPlace::Local => self.ask(OpenRequest::WasmLocal(index)),
@@ -196,9 +136,8 @@ impl<R: Reader + Copy, S: EvaluationStorage<R>> Machine<R, S> {
         requires runs { self.old.status ≡ Running }
         requires rest { IsLeftOf (R.text left.old) self.old.text }
         ensures performs { TriesToPerform
-            (operands_at (context_of encoding R.Offset.BITS (R.text left.old).is_big)
-            (rare_row entry) (R.text left.old).bytes) (R.text left.new).bytes self.old self.new
-            result }
+            (operands_in encoding R.Offset.BITS (R.text left.old) (rare_row entry))
+            (R.text left.new).bytes self.old self.new result }
         ensures rest { IsLeftOf (R.text left.new) self.new.text }
     {
         match entry {
@@ -262,9 +201,8 @@ impl<R: Reader + Copy, S: EvaluationStorage<R>> Machine<R, S> {
         requires runs { self.old.status ≡ Running }
         requires rest { IsLeftOf (R.text left.old) self.old.text }
         ensures performs { TriesToPerform
-            (operands_at (context_of encoding R.Offset.BITS (R.text left.old).is_big)
-            (rare_row entry) (R.text left.old).bytes) (R.text left.new).bytes self.old self.new
-            result }
+            (operands_in encoding R.Offset.BITS (R.text left.old) (rare_row entry))
+            (R.text left.new).bytes self.old self.new result }
         ensures rest { IsLeftOf (R.text left.new) self.new.text }
     {
         let mut apart = *left;
@@ -284,9 +222,8 @@ impl<R: Reader + Copy, S: EvaluationStorage<R>> Machine<R, S> {
         requires runs { self.old.status ≡ Running }
         requires rest { IsLeftOf (R.text left.old) self.old.text }
         ensures performs { TriesToPerform
-            (operands_at (context_of encoding R.Offset.BITS (R.text left.old).is_big)
-            (entry_row encoding opcode entry) (R.text left.old).bytes) (R.text left.new).bytes
-            self.old self.new result }
+            (operands_in encoding R.Offset.BITS (R.text left.old) (entry_row encoding opcode entry))
+            (R.text left.new).bytes self.old self.new result }
         ensures rest { IsLeftOf (R.text left.new) self.new.text }
     {
         match entry {
@@ -300,21 +237,41 @@ impl<R: Reader + Copy, S: EvaluationStorage<R>> Machine<R, S> {
             Entry::Deref(space) => {
                 self.dereference(generic_type(), encoding.address_size, space);
             }
-            Entry::Byte(make) => {
-                let byte = left.read_u8()?;
-                self.perform_byte(make, byte);
+            Entry::PickByte => {
+                let index = left.read_u8()?;
+                self.pick(index);
             }
-            Entry::Unsigned(shape, make) => {
-                let number = read_unsigned(shape, left, encoding)?;
-                self.perform_unsigned(make, number);
+            Entry::DerefSize(space) => {
+                let size = left.read_u8()?;
+                self.dereference(generic_type(), size, space);
             }
-            Entry::Signed(shape, make) => {
-                let number = read_signed(shape, left)?;
-                self.perform_signed(make, number);
+            Entry::Address => {
+                let address = read_address(left, encoding.address_size)?;
+                self.ask(OpenRequest::RelocatedAddress(address));
             }
-            Entry::Branch(make) => {
+            Entry::Constant(shape) => {
+                let value = read_unsigned(shape, left)?;
+                self.push_constant(Value::Generic(value));
+            }
+            Entry::PlusConstant => {
+                let value = read_uleb128(left)?;
+                self.add_constant(value);
+            }
+            Entry::SignedConstant(shape) => {
+                let value = read_signed(shape, left)?;
+                self.push_signed(value);
+            }
+            Entry::FrameOffset => {
+                let offset = read_sleb128(left)?;
+                self.ask(OpenRequest::FrameBase { offset });
+            }
+            Entry::Bra => {
                 let target = left.read_i16()?;
-                self.perform_branch(make, target, left);
+                self.branch_if(target, left);
+            }
+            Entry::Skip => {
+                let target = left.read_i16()?;
+                self.take_branch(target, left);
             }
             Entry::Offset(shape, make) => {
                 let offset = read_offset(shape, left, encoding)?;

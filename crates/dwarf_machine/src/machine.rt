@@ -46,9 +46,20 @@ impl<R: Reader + Copy, S: EvaluationStorage<R>> Model for Machine<R, S> {
 
     ghost use Rattle.dwarf_machine.specs.Machine.{setup_of, status_of, store_of, place_of, callers_of, IsSound};
 
-    ghost view = { λ e. record { status = status_of R.text R.Offset.number e.state; setup = setup_of e.encoding R.Offset.BITS (S.Stack.limit e.stack) (S.ExpressionStack.limit e.expression_stack) (S.Result.limit e.pieces); text = R.text e.bytecode; place = place_of (R.text e.bytecode) (R.text e.pc); callers = callers_of R.text (S.ExpressionStack.items e.expression_stack); store = store_of R.text R.Offset.number (S.Stack.items e.stack) (S.Result.items e.pieces) e.iteration e.object_address e.max_iterations e.last; decodings = e.decodings.count } };
+    ghost view = { λ e. record {
+      status = status_of R.text R.Offset.number e.state;
+      setup = setup_of e.encoding R.Offset.BITS (S.Stack.limit e.stack)
+          (S.ExpressionStack.limit e.expression_stack) (S.Result.limit e.pieces);
+      text = R.text e.bytecode;
+      place = place_of (R.text e.bytecode) (R.text e.pc);
+      callers = callers_of R.text (S.ExpressionStack.items e.expression_stack);
+      store = store_of R.text R.Offset.number (S.Stack.items e.stack) (S.Result.items e.pieces)
+          e.iteration e.object_address e.max_iterations e.last;
+      decodings = e.decodings.count;
+    } };
 
-    ghost invariant = { λ e. IsSound R.text e.encoding e.addr_mask e.bytecode e.pc (S.ExpressionStack.items e.expression_stack) };
+    ghost invariant = { λ e. IsSound R.text e.encoding e.addr_mask e.bytecode e.pc
+        (S.ExpressionStack.items e.expression_stack) };
 }
 
 impl<R: Reader + Copy, S: EvaluationStorage<R>> Machine<R, S> {

@@ -82,8 +82,8 @@ impl<R: Reader + Copy, S: EvaluationStorage<R>> Machine<R, S> {
     pub(crate) fn compute_unary(&mut self, operator: UnaryOperator)
         requires { self.old.status ≡ Running }
         ensures { Performs
-            (unary (unary_of operator (address_bits self.old.setup)) self.old.store.values) self.old
-            self.new }
+            (unary (unary_of operator (address_bits self.old.setup)) self.old.store.values)
+            self.old self.new }
     {
         let Some(value) = self.pop() else {
             self.fall_short();
@@ -176,7 +176,7 @@ impl<R: Reader + Copy, S: EvaluationStorage<R>> Machine<R, S> {
     /// Keeps the fault of an operation that isn't supported.
     #[cold]
     #[inline(never)]
-    pub(crate) fn refuse(&mut self)
+    pub(crate) fn fail_unsupported(&mut self)
         ensures { Performs (FaultAct UnsupportedEvaluation) self.old self.new }
     {
         self.fail(Error::UnsupportedEvaluation);
@@ -332,8 +332,8 @@ impl<R: Reader + Copy, S: EvaluationStorage<R>> Machine<R, S> {
     pub(crate) fn locate(&mut self, location: Location<R>)
         requires { self.old.status ≡ Running }
         ensures { Performs
-            (Locates self.old.store.values (location_of R.text R.Offset.number location)) self.old
-            self.new }
+            (Locates self.old.store.values (location_of R.text R.Offset.number location))
+            self.old self.new }
     {
         self.mark(LastOperation::Located(location));
     }
@@ -355,8 +355,8 @@ impl<R: Reader + Copy, S: EvaluationStorage<R>> Machine<R, S> {
     #[inline(never)]
     pub(crate) fn end_piece(&mut self, size_in_bits: u64, bit_offset: Option<u64>)
         requires { self.old.status ≡ Running }
-        ensures { Performs (act_of self.old (meaning.Piece size_in_bits bit_offset)) self.old
-            self.new }
+        ensures { Performs (act_of self.old (meaning.Piece size_in_bits bit_offset))
+            self.old self.new }
     {
         self.mark(LastOperation::Pieced);
         let Some(address) = self.pop_number() else {
@@ -388,8 +388,8 @@ impl<R: Reader + Copy, S: EvaluationStorage<R>> Machine<R, S> {
     #[inline(never)]
     pub(crate) fn dereference(&mut self, base_type: UnitOffset<R::Offset>, size: u8, space: bool)
         ensures { Performs
-            (act_of self.old (meaning.Deref (R.Offset.number base_type.0) size space)) self.old
-            self.new }
+            (act_of self.old (meaning.Deref (R.Offset.number base_type.0) size space))
+            self.old self.new }
     {
         if size > self.address_size() {
             self.fail(Error::InvalidDerefSize(size));

@@ -14,7 +14,7 @@ pub(crate) enum UnaryOperator {
 }
 
 impl UnaryOperator {
-    /// What the call answers.
+    /// What the call gives.
     #[inline(always)]
     pub(crate) fn apply(self, value: Value, addr_mask: u64) -> Result<Value>
         requires { IsAddressMask addr_mask }

@@ -72,7 +72,8 @@ impl<R: Reader + Copy, S: EvaluationStorage<R>> Machine<R, S> {
     #[inline(always)]
     fn end_located(&mut self, location: Location<R>, piece: Option<(u64, Option<u64>)>)
         requires { 0 < self.old.place }
-        ensures { EndsLocated (location_of R.text R.Offset.number location) piece self.old self.new }
+        ensures { EndsLocated (location_of R.text R.Offset.number location) piece
+            self.old self.new }
     {
         let Some(size) = piece else {
             let place = self.place().into_u64();
@@ -106,7 +107,8 @@ impl<R: Reader + Copy, S: EvaluationStorage<R>> Machine<R, S> {
         requires { self.old.status ≡ Running }
         ensures { Closes 1
             (λ s. completion_of value
-            (push_piece self.old.setup (piece_of R.text R.Offset.number piece) s)) self.old self.new }
+            (push_piece self.old.setup (piece_of R.text R.Offset.number piece) s))
+            self.old self.new }
     {
         if self.push_piece(piece) {
             self.enter(EvaluationState::Complete(value));
@@ -130,8 +132,8 @@ impl<R: Reader + Copy, S: EvaluationStorage<R>> Machine<R, S> {
     fn finish_located(&mut self, location: Location<R>)
         requires { self.old.status ≡ Running }
         ensures { Closes 1
-            (finish_located self.old.setup (location_of R.text R.Offset.number location)) self.old
-            self.new }
+            (finish_located self.old.setup (location_of R.text R.Offset.number location))
+            self.old self.new }
     {
         if self.has_pieces() {
             self.fail(Error::InvalidPiece);

@@ -10,7 +10,7 @@ use Rattle.dwarf_meaning.specs.Opcodes.{Row, Makes, Unsigned, Signed, Block, Inv
 use Rattle.dwarf_meaning.specs.Decoding.{unsigned_at, integer_at, operands_at, operation_at}
 use Rattle.dwarf_meaning.specs.Spelling.{SpellsOperands, MalformedOperands, Spells, Malformed}
 use Rattle.dwarf_meaning.specs.Spelling as spelling
-use Rattle.dwarf_meaning.proofs.ReadsExactly.{Reading, ReadsExactly, went, stopped, pair_same, SpellsBlock, block, RefusesBlock, few, reads_block}
+use Rattle.dwarf_meaning.proofs.ReadsExactly.{Reading, ReadsExactly, went, failed, pair_same, SpellsBlock, block, RefusesBlock, few, reads_block}
 use Rattle.dwarf_meaning.proofs.NumberReads.{reads_unsigned, reads_integer}
 
 -- ---- where a byte of two joined lists stands
@@ -122,21 +122,21 @@ block_refused_after context size next first found others fault (block bytes) r =
 operands_refused : (context : Context) (row : Row) (bytes : List ℕ) (fault : Fault) → operands_at context row bytes ≡ Err fault → MalformedOperands context row bytes fault
 operands_refused context (Makes made) bytes fault h = absurd cc
 operands_refused context (Unsigned form next) bytes fault h =
-    elim (stopped (unsigned_at context form bytes) (λ x. operands_at context (next x.0) x.1) fault h) [
+    elim (failed (unsigned_at context form bytes) (λ x. operands_at context (next x.0) x.1) fault h) [
       | inl here ↦ spelling.unsigned_here form next bytes fault ((reads_unsigned context form).refused bytes fault here)
       | inr w ↦
           let s = (reads_unsigned context form).found bytes w.value w.left w.here in
           subst (λ (bs : List ℕ). MalformedOperands context (Unsigned form next) bs fault) s.whole (spelling.unsigned_after form next s.front w.left w.value fault s.spells (operands_refused context (next w.value) w.left fault w.more))
     ]
 operands_refused context (Signed form next) bytes fault h =
-    elim (stopped (integer_at context.is_big form bytes) (λ x. operands_at context (next x.0) x.1) fault h) [
+    elim (failed (integer_at context.is_big form bytes) (λ x. operands_at context (next x.0) x.1) fault h) [
       | inl here ↦ spelling.signed_here form next bytes fault ((reads_integer context.is_big form).refused bytes fault here)
       | inr w ↦
           let s = (reads_integer context.is_big form).found bytes w.value w.left w.here in
           subst (λ (bs : List ℕ). MalformedOperands context (Signed form next) bs fault) s.whole (spelling.signed_after form next s.front w.left w.value fault s.spells (operands_refused context (next w.value) w.left fault w.more))
     ]
 operands_refused context (Block size next) bytes fault h =
-    elim (stopped (split_at size bytes) (λ x. operands_at context (next (block_of context x.0)) x.1) fault h) [
+    elim (failed (split_at size bytes) (λ x. operands_at context (next (block_of context x.0)) x.1) fault h) [
       | inl here ↦ block_refusal context size next bytes fault ((reads_block size).refused bytes fault here)
       | inr w ↦
           let s = (reads_block size).found bytes w.value w.left w.here in

@@ -36,9 +36,9 @@ pub went : {A B : Type 0} (step : Reading A) (next : A × List ℕ → Reading B
 went (Ok x) next b h = record { value = x.0; left = x.1; here = refl; more = h }
 went (Err fault) next b h = absurd cc
 
-pub stopped : {A B : Type 0} (step : Reading A) (next : A × List ℕ → Reading B) (fault : Fault) → (step >>= next) ≡ Err fault → (step ≡ Err fault) ⊎ Went step next (Err fault)
-stopped (Ok x) next fault h = inr (record { value = x.0; left = x.1; here = refl; more = h })
-stopped {A} (Err other) next fault h = inl (let e : other ≡ fault = cc in ap (λ (f : Fault). Err f) e)
+pub failed : {A B : Type 0} (step : Reading A) (next : A × List ℕ → Reading B) (fault : Fault) → (step >>= next) ≡ Err fault → (step ≡ Err fault) ⊎ Went step next (Err fault)
+failed (Ok x) next fault h = inr (record { value = x.0; left = x.1; here = refl; more = h })
+failed {A} (Err other) next fault h = inl (let e : other ≡ fault = cc in ap (λ (f : Fault). Err f) e)
 
 -- ---- the same under other relations
 
@@ -94,7 +94,7 @@ module _ {A B : Type 0} (read : List ℕ → Reading A) (S : List ℕ → A → 
 
   checked_refused : (bytes : List ℕ) (fault : Fault) → checked_read read check bytes ≡ Err fault → Fails S Q check bytes fault
   checked_refused bytes fault e =
-      elim (stopped (read bytes) (λ x. check x.0 >>= λ b. Ok (b, x.1)) fault e) [
+      elim (failed (read bytes) (λ x. check x.0 >>= λ b. Ok (b, x.1)) fault e) [
         | inl here ↦ unread bytes fault (h.refused bytes fault here)
         | inr w ↦
             let f = h.found bytes w.value w.left w.here in

@@ -22,6 +22,14 @@ pub record Told : Type 0 where
   pub first : Option First
   pub inputs : List Input
 
+-- no step was done: nothing is set, and nothing was started
+abbrev pub untold : Told
+untold = record {
+  settings = record { initial_value = None; object_address = None; maximum = 4294967295 };
+  first = None;
+  inputs = [];
+}
+
 -- what comes of it so far, once it was started
 abbrev pub outcome_from : Setup → Refusal → Text → List Input → Option First → Option Outcome
 outcome_from setup refusal text inputs None = None

@@ -1,12 +1,13 @@
 -- What the entries of the code's table of opcodes stand for: rows of the standard's table.
-use Rattle.std.specs.Prelude.{ℕ, ◌*◌, ℤ, pos, true, false, List, Some, None, Result, Ok}
+use Rattle.std.specs.Prelude.{ℕ, ◌*◌, pos, List, Some, None, Result, Ok}
 use Rattle.dwarf_base.specs.Faults.{Fault, ◌>>=◌}
 use Rattle.dwarf_base.specs.Leb.{uleb_at}
 use Rattle.dwarf_base.specs.Numbers.{register_of}
 use Rattle.dwarf_base.specs.declared.common.Encoding.{Encoding}
 use Rattle.dwarf_base.specs.Reads.{Text}
 use Rattle.dwarf_meaning.specs.Operations as meaning
-use Rattle.dwarf_meaning.specs.Operands.{Form, Fixed, Address, Leb128, RegisterNumber, PieceSize, SectionOffset, InfoReference, SignedForm, SignedFixed, SignedLeb128}
+use Rattle.dwarf_meaning.specs.Decoding.{operands_at}
+use Rattle.dwarf_meaning.specs.Operands.{context_of, Form, Fixed, Address, Leb128, RegisterNumber, PieceSize, SectionOffset, InfoReference, SignedForm, SignedFixed, SignedLeb128}
 use Rattle.dwarf_meaning.specs.Operands as form
 use Rattle.dwarf_meaning.specs.Opcodes.{Row, Makes, Unsigned, Invalid, unsigned, signed, unsigned_two, unsigned_signed, sized_block, wasm_row}
 use Rattle.dwarf_op.specs.declared.opcodes.Plain.{Plain}
@@ -17,14 +18,6 @@ use Rattle.dwarf_op.specs.declared.opcodes.Signed as signed_shapes
 use Rattle.dwarf_op.specs.declared.opcodes.Signed.TheVariants as signed_shape
 use Rattle.dwarf_op.specs.declared.opcodes.Offset as offset_shapes
 use Rattle.dwarf_op.specs.declared.opcodes.Offset.TheVariants as offset_shape
-use Rattle.dwarf_op.specs.declared.opcodes.FromByte.{FromByte}
-use Rattle.dwarf_op.specs.declared.opcodes.FromByte.TheVariants as from_byte
-use Rattle.dwarf_op.specs.declared.opcodes.FromUnsigned.{FromUnsigned}
-use Rattle.dwarf_op.specs.declared.opcodes.FromUnsigned.TheVariants as from_unsigned
-use Rattle.dwarf_op.specs.declared.opcodes.FromSigned.{FromSigned}
-use Rattle.dwarf_op.specs.declared.opcodes.FromSigned.TheVariants as from_signed
-use Rattle.dwarf_op.specs.declared.opcodes.FromBranch.{FromBranch}
-use Rattle.dwarf_op.specs.declared.opcodes.FromBranch.TheVariants as from_branch
 use Rattle.dwarf_op.specs.declared.opcodes.FromOffset.{FromOffset}
 use Rattle.dwarf_op.specs.declared.opcodes.FromOffset.TheVariants as from_offset
 use Rattle.dwarf_op.specs.declared.opcodes.FromBlock.{FromBlock}
@@ -70,11 +63,11 @@ plain_operation plain.Uninitialized = meaning.Uninitialized
 
 -- the form of an unsigned operand
 abbrev pub unsigned_form : shapes.Unsigned → Form
+unsigned_form unsigned_shape.U8 = Fixed 1
 unsigned_form unsigned_shape.U16 = Fixed 2
 unsigned_form unsigned_shape.U32 = Fixed 4
 unsigned_form unsigned_shape.U64 = Fixed 8
 unsigned_form unsigned_shape.Uleb128 = Leb128
-unsigned_form unsigned_shape.Address = Address
 
 -- the form of a signed operand
 abbrev pub signed_form : signed_shapes.Signed → SignedForm
@@ -91,29 +84,6 @@ offset_form offset_shape.U32 = Fixed 4
 offset_form offset_shape.Uleb128 = form.Offset
 offset_form offset_shape.Section = SectionOffset
 offset_form offset_shape.Reference = InfoReference
-
--- what a byte makes
-abbrev pub byte_operation : FromByte → ℕ → meaning.Operation
-byte_operation from_byte.Constant byte = meaning.UnsignedConstant byte
-byte_operation from_byte.Pick byte = meaning.Pick byte
-byte_operation from_byte.Deref byte = meaning.Deref 0 byte false
-byte_operation from_byte.SpaceDeref byte = meaning.Deref 0 byte true
-
--- what an unsigned number makes
-abbrev pub unsigned_operation : FromUnsigned → ℕ → meaning.Operation
-unsigned_operation from_unsigned.Constant number = meaning.UnsignedConstant number
-unsigned_operation from_unsigned.PlusConstant number = meaning.PlusConstant number
-unsigned_operation from_unsigned.Address number = meaning.Address number
-
--- what a signed number makes
-abbrev pub signed_operation : FromSigned → ℤ → meaning.Operation
-signed_operation from_signed.Constant number = meaning.SignedConstant number
-signed_operation from_signed.FrameOffset number = meaning.FrameOffset number
-
--- what a branch's operand makes
-abbrev pub branch_operation : FromBranch → ℤ → meaning.Operation
-branch_operation from_branch.Bra target = meaning.Bra target
-branch_operation from_branch.Skip target = meaning.Skip target
 
 -- what an offset makes
 abbrev pub offset_operation : FromOffset → ℕ → meaning.Operation
@@ -156,15 +126,24 @@ entry_row encoding opcode (entry.Plain operation) = Makes (plain_operation opera
 entry_row encoding opcode (entry.Literal number) = Makes (meaning.UnsignedConstant number)
 entry_row encoding opcode (entry.Register register) = Makes (meaning.Register register)
 entry_row encoding opcode (entry.Pick index) = Makes (meaning.Pick index)
+entry_row encoding opcode entry.PickByte = unsigned (Fixed 1) meaning.Pick
 entry_row encoding opcode (entry.Deref space) = Makes (meaning.Deref 0 encoding.address_size space)
-entry_row encoding opcode (entry.Byte make) = unsigned (Fixed 1) (byte_operation make)
-entry_row encoding opcode (entry.Unsigned shape make) = unsigned (unsigned_form shape) (unsigned_operation make)
-entry_row encoding opcode (entry.Signed shape make) = signed (signed_form shape) (signed_operation make)
-entry_row encoding opcode (entry.Branch make) = signed (SignedFixed 2) (branch_operation make)
+entry_row encoding opcode (entry.DerefSize space) = unsigned (Fixed 1) (λ size. meaning.Deref 0 size space)
+entry_row encoding opcode entry.Address = unsigned Address meaning.Address
+entry_row encoding opcode (entry.Constant shape) = unsigned (unsigned_form shape) meaning.UnsignedConstant
+entry_row encoding opcode entry.PlusConstant = unsigned Leb128 meaning.PlusConstant
+entry_row encoding opcode (entry.SignedConstant shape) = signed (signed_form shape) meaning.SignedConstant
+entry_row encoding opcode entry.FrameOffset = signed SignedLeb128 meaning.FrameOffset
+entry_row encoding opcode entry.Bra = signed (SignedFixed 2) meaning.Bra
+entry_row encoding opcode entry.Skip = signed (SignedFixed 2) meaning.Skip
 entry_row encoding opcode (entry.Offset shape make) = unsigned (offset_form shape) (offset_operation make)
 entry_row encoding opcode (entry.BaseRegister register) = signed SignedLeb128 (λ offset. meaning.RegisterOffset register offset 0)
 entry_row encoding opcode entry.Piece = unsigned PieceSize (λ size. meaning.Piece (8 * size) None)
 entry_row encoding opcode (entry.Rare rare) = rare_row rare
+
+-- a row's operands at the front of a text
+abbrev pub operands_in : Encoding → (offset_bits : ℕ) → Text → Row → Result (meaning.Operation × List ℕ) Fault
+operands_in encoding offset_bits text row = operands_at (context_of encoding offset_bits text.is_big) row text.bytes
 
 -- a register's number at the front
 abbrev pub register_at : List ℕ → Result (ℕ × List ℕ) Fault

@@ -2,20 +2,18 @@
 
 ghost use Rattle.std.specs.Prelude.{◌≡◌, ◌<◌, length, OnOk};
 ghost use Rattle.dwarf_base.specs.Reads.{Reads};
-ghost use Rattle.dwarf_meaning.specs.Operands.{context_of};
-ghost use Rattle.dwarf_meaning.specs.Decoding.{operands_at, operation_at};
-ghost use Rattle.dwarf_op.specs.Entries.{entry_row, rare_row};
+ghost use Rattle.dwarf_meaning.specs.Decoding.{operation_at};
+ghost use Rattle.dwarf_op.specs.Entries.{entry_row, operands_in, rare_row};
 ghost use Rattle.dwarf_op.specs.Entries as entries;
+ghost use Rattle.dwarf_op.specs.declared.opcodes.Entry.{Entry};
 ghost use Rattle.dwarf_op.specs.Views.{operation_of, piece_read};
 
-use crate::opcodes::{
-    Entry, FromBlock, FromBranch, FromByte, FromOffset, FromSigned, FromUnsigned, Plain, Rare,
-    entry_at,
-};
+use crate::opcodes::{Entry, FromBlock, FromOffset, Offset, Plain, Rare, entry_at};
 use crate::operands::{
-    WasmPlace, generic_type, read_bit_piece, read_block, read_implicit_pointer,
+    WasmPlace, generic_type, read_address, read_bit_piece, read_block, read_implicit_pointer,
     read_named_base_register, read_offset, read_piece, read_register, read_signed, read_sleb128,
-    read_typed_deref, read_typed_literal, read_typed_register, read_unsigned, read_wasm_location,
+    read_typed_deref, read_typed_literal, read_typed_register, read_uleb128, read_unsigned,
+    read_wasm_location,
 };
 use crate::operations::{DieReference, Operation};
 use dwarf_base::{
@@ -56,59 +54,6 @@ fn plain_operation<R: Reader>(operation: Plain) -> Operation<R>
         Plain::CallFrameCFA => Operation::CallFrameCFA,
         Plain::StackValue => Operation::StackValue,
         Plain::Uninitialized => Operation::Uninitialized,
-    }
-}
-
-#[inline(always)]
-fn byte_operation<R: Reader>(make: FromByte, byte: u8) -> Operation<R>
-    ensures { operation_of R.text R.Offset.number result ≡ entries.byte_operation make byte }
-{
-    match make {
-        FromByte::Constant => Operation::UnsignedConstant {
-            value: u64::from(byte),
-        },
-        FromByte::Pick => Operation::Pick { index: byte },
-        FromByte::Deref => Operation::Deref {
-            base_type: generic_type(),
-            size: byte,
-            space: false,
-        },
-        FromByte::SpaceDeref => Operation::Deref {
-            base_type: generic_type(),
-            size: byte,
-            space: true,
-        },
-    }
-}
-
-#[inline(always)]
-fn unsigned_operation<R: Reader>(make: FromUnsigned, number: u64) -> Operation<R>
-    ensures { operation_of R.text R.Offset.number result ≡ entries.unsigned_operation make number }
-{
-    match make {
-        FromUnsigned::Constant => Operation::UnsignedConstant { value: number },
-        FromUnsigned::PlusConstant => Operation::PlusConstant { value: number },
-        FromUnsigned::Address => Operation::Address { address: number },
-    }
-}
-
-#[inline(always)]
-fn signed_operation<R: Reader>(make: FromSigned, number: i64) -> Operation<R>
-    ensures { operation_of R.text R.Offset.number result ≡ entries.signed_operation make number }
-{
-    match make {
-        FromSigned::Constant => Operation::SignedConstant { value: number },
-        FromSigned::FrameOffset => Operation::FrameOffset { offset: number },
-    }
-}
-
-#[inline(always)]
-fn branch_operation<R: Reader>(make: FromBranch, target: i16) -> Operation<R>
-    ensures { operation_of R.text R.Offset.number result ≡ entries.branch_operation make target }
-{
-    match make {
-        FromBranch::Bra => Operation::Bra { target },
-        FromBranch::Skip => Operation::Skip { target },
     }
 }
 
@@ -167,6 +112,42 @@ fn wasm_operation<R: Reader>(place: WasmPlace, index: u32) -> Operation<R>
     }
 }
 
+// In a function of its own: what an offset makes is found by a second jump, and with it in line each other operation has
+// more to keep in registers.
+#[inline(never)]
+fn read_offset_operation<R: Reader + Copy>(
+    shape: Offset,
+    make: FromOffset,
+    bytes: &mut R,
+    encoding: Encoding,
+) -> Result<Operation<R>>
+    ensures { Reads (operation_of R.text R.Offset.number)
+        (R.text bytes.old) (R.text bytes.new) result
+        (operands_in encoding R.Offset.BITS (R.text bytes.old)
+        (entry_row encoding 0 (Entry.Offset shape make))) }
+{
+    Ok(offset_operation(make, read_offset(shape, bytes, encoding)?))
+}
+
+// On a copy of the reader, as what is rare.
+#[inline(always)]
+fn read_offset_apart<R: Reader + Copy>(
+    shape: Offset,
+    make: FromOffset,
+    bytes: &mut R,
+    encoding: Encoding,
+) -> Result<Operation<R>>
+    ensures { Reads (operation_of R.text R.Offset.number)
+        (R.text bytes.old) (R.text bytes.new) result
+        (operands_in encoding R.Offset.BITS (R.text bytes.old)
+        (entry_row encoding 0 (Entry.Offset shape make))) }
+{
+    let mut apart = *bytes;
+    let operation = read_offset_operation(shape, make, &mut apart, encoding);
+    *bytes = apart;
+    operation
+}
+
 // In one function of its own, so that what is read often stays small enough to be read in line.
 #[tactic(auto, using(dwarf_base::proofs::Suffixes::suffix_trans, crate::proofs::OneByte::one_byte))]
 #[inline(never)]
@@ -175,9 +156,9 @@ fn read_rare_operands<R: Reader + Copy>(
     bytes: &mut R,
     encoding: Encoding,
 ) -> Result<Operation<R>>
-    ensures { Reads (operation_of R.text R.Offset.number) (R.text bytes.old) (R.text bytes.new)
-        result (operands_at (context_of encoding R.Offset.BITS (R.text bytes.old).is_big)
-        (rare_row entry) (R.text bytes.old).bytes) }
+    ensures { Reads (operation_of R.text R.Offset.number)
+        (R.text bytes.old) (R.text bytes.new) result
+        (operands_in encoding R.Offset.BITS (R.text bytes.old) (rare_row entry)) }
 {
     match entry {
         Rare::NamedRegister => Ok(Operation::Register {
@@ -243,9 +224,9 @@ fn read_rare<R: Reader + Copy>(
     bytes: &mut R,
     encoding: Encoding,
 ) -> Result<Operation<R>>
-    ensures { Reads (operation_of R.text R.Offset.number) (R.text bytes.old) (R.text bytes.new)
-        result (operands_at (context_of encoding R.Offset.BITS (R.text bytes.old).is_big)
-        (rare_row entry) (R.text bytes.old).bytes) }
+    ensures { Reads (operation_of R.text R.Offset.number)
+        (R.text bytes.old) (R.text bytes.new) result
+        (operands_in encoding R.Offset.BITS (R.text bytes.old) (rare_row entry)) }
 {
     let mut apart = *bytes;
     let operation = read_rare_operands(entry, &mut apart, encoding);
@@ -261,9 +242,9 @@ fn read_operands<R: Reader + Copy>(
     bytes: &mut R,
     encoding: Encoding,
 ) -> Result<Operation<R>>
-    ensures { Reads (operation_of R.text R.Offset.number) (R.text bytes.old) (R.text bytes.new)
-        result (operands_at (context_of encoding R.Offset.BITS (R.text bytes.old).is_big)
-        (entry_row encoding opcode entry) (R.text bytes.old).bytes) }
+    ensures { Reads (operation_of R.text R.Offset.number)
+        (R.text bytes.old) (R.text bytes.new) result
+        (operands_in encoding R.Offset.BITS (R.text bytes.old) (entry_row encoding opcode entry)) }
 {
     match entry {
         Entry::Unknown => Err(Error::InvalidExpression(DwOp(opcode))),
@@ -280,16 +261,36 @@ fn read_operands<R: Reader + Copy>(
             size: encoding.address_size,
             space,
         }),
-        Entry::Byte(make) => Ok(byte_operation(make, bytes.read_u8()?)),
-        Entry::Unsigned(shape, make) => {
-            Ok(unsigned_operation(make, read_unsigned(shape, bytes, encoding)?))
-        }
-        Entry::Signed(shape, make) => Ok(signed_operation(make, read_signed(shape, bytes)?)),
-        Entry::Branch(make) => Ok(branch_operation(make, bytes.read_i16()?)),
-        Entry::Offset(shape, make) => Ok(offset_operation(
-            make,
-            read_offset(shape, bytes, encoding)?,
-        )),
+        Entry::PickByte => Ok(Operation::Pick {
+            index: bytes.read_u8()?,
+        }),
+        Entry::DerefSize(space) => Ok(Operation::Deref {
+            base_type: generic_type(),
+            size: bytes.read_u8()?,
+            space,
+        }),
+        Entry::Address => Ok(Operation::Address {
+            address: read_address(bytes, encoding.address_size)?,
+        }),
+        Entry::Constant(shape) => Ok(Operation::UnsignedConstant {
+            value: read_unsigned(shape, bytes)?,
+        }),
+        Entry::PlusConstant => Ok(Operation::PlusConstant {
+            value: read_uleb128(bytes)?,
+        }),
+        Entry::SignedConstant(shape) => Ok(Operation::SignedConstant {
+            value: read_signed(shape, bytes)?,
+        }),
+        Entry::FrameOffset => Ok(Operation::FrameOffset {
+            offset: read_sleb128(bytes)?,
+        }),
+        Entry::Bra => Ok(Operation::Bra {
+            target: bytes.read_i16()?,
+        }),
+        Entry::Skip => Ok(Operation::Skip {
+            target: bytes.read_i16()?,
+        }),
+        Entry::Offset(shape, make) => read_offset_apart(shape, make, bytes, encoding),
         Entry::BaseRegister(register) => Ok(Operation::RegisterOffset {
             register: Register(u16::from(register)),
             offset: read_sleb128(bytes)?,
@@ -353,7 +354,7 @@ pub fn parse_piece<R: Reader + Copy>(
     }
 }
 
-// The piece that the operation of an entry ends, which is none but at those two; its operands may be refused.
+// The piece that the operation of an entry ends, which is none but at those two; its operands may be malformed.
 #[inline(never)]
 fn read_other_piece<R: Reader + Copy>(
     entry: Entry,
@@ -363,8 +364,8 @@ fn read_other_piece<R: Reader + Copy>(
 ) -> Result<Option<(u64, Option<u64>)>>
     ensures { Reads (λ piece. piece) (R.text bytes.old) (R.text bytes.new) result
         (piece_read
-        (operands_at (context_of encoding R.Offset.BITS (R.text bytes.old).is_big)
-        (entry_row encoding opcode entry) (R.text bytes.old).bytes)) }
+        (operands_in encoding R.Offset.BITS (R.text bytes.old)
+        (entry_row encoding opcode entry))) }
 {
     match read_operands(entry, opcode, bytes, encoding)? {
         Operation::Piece {

@@ -71,6 +71,8 @@ pub enum Plain {
 /// How an operand stands that is an unsigned number of up to 64 bits.
 #[derive(Clone, Copy)]
 pub enum Unsigned {
+    /// One byte.
+    U8,
     /// Two bytes.
     U16,
     /// Four bytes.
@@ -79,8 +81,6 @@ pub enum Unsigned {
     U64,
     /// An unsigned LEB128 number.
     Uleb128,
-    /// As many bytes as an address has.
-    Address,
 }
 
 /// How an operand stands that is a signed number.
@@ -111,48 +111,6 @@ pub enum Offset {
     Section,
     /// The same, but in version 2 as wide as an address.
     Reference,
-}
-
-/// What is made of one byte.
-#[derive(Clone, Copy)]
-pub enum FromByte {
-    /// The constant of `DW_OP_const1u`.
-    Constant,
-    /// The index of `DW_OP_pick`.
-    Pick,
-    /// The size of `DW_OP_deref_size`.
-    Deref,
-    /// The size of `DW_OP_xderef_size`.
-    SpaceDeref,
-}
-
-/// What is made of an unsigned number.
-#[derive(Clone, Copy)]
-pub enum FromUnsigned {
-    /// The constant of `DW_OP_const2u`, `DW_OP_const4u`, `DW_OP_const8u` or `DW_OP_constu`.
-    Constant,
-    /// The constant of `DW_OP_plus_uconst`.
-    PlusConstant,
-    /// The address of `DW_OP_addr`.
-    Address,
-}
-
-/// What is made of a signed number.
-#[derive(Clone, Copy)]
-pub enum FromSigned {
-    /// The constant of `DW_OP_const1s` to `DW_OP_const8s` or `DW_OP_consts`.
-    Constant,
-    /// The offset of `DW_OP_fbreg`.
-    FrameOffset,
-}
-
-/// What is made of the two bytes of a branch.
-#[derive(Clone, Copy)]
-pub enum FromBranch {
-    /// `DW_OP_bra`.
-    Bra,
-    /// `DW_OP_skip`.
-    Skip,
 }
 
 /// What is made of an offset.
@@ -224,16 +182,26 @@ pub enum Entry {
     Register(u8),
     /// No operands; the opcode says the index.
     Pick(u8),
+    /// One byte, the index: `DW_OP_pick`.
+    PickByte,
     /// No operands; the size is an address's. Whether there is an address space.
     Deref(bool),
-    /// One byte.
-    Byte(FromByte),
-    /// An unsigned number.
-    Unsigned(Unsigned, FromUnsigned),
-    /// A signed number.
-    Signed(Signed, FromSigned),
-    /// A signed number of two bytes.
-    Branch(FromBranch),
+    /// One byte, the size: `DW_OP_deref_size`, `DW_OP_xderef_size`. Whether there is an address space.
+    DerefSize(bool),
+    /// An address: `DW_OP_addr`.
+    Address,
+    /// An unsigned number: the constant of `DW_OP_const1u` to `DW_OP_const8u` or `DW_OP_constu`.
+    Constant(Unsigned),
+    /// An unsigned LEB128 number: `DW_OP_plus_uconst`.
+    PlusConstant,
+    /// A signed number: the constant of `DW_OP_const1s` to `DW_OP_const8s` or `DW_OP_consts`.
+    SignedConstant(Signed),
+    /// A signed LEB128 number: `DW_OP_fbreg`.
+    FrameOffset,
+    /// A signed number of two bytes: `DW_OP_bra`.
+    Bra,
+    /// The same: `DW_OP_skip`.
+    Skip,
     /// An offset.
     Offset(Offset, FromOffset),
     /// A signed LEB128 number; the opcode says the register.
@@ -251,22 +219,22 @@ pub fn entry_at(opcode: u8) -> Entry
     ensures { (encoding : Encoding) → entry_row encoding opcode result ≡ row_of encoding opcode }
 {
     match opcode {
-        0x03 => Entry::Unsigned(Unsigned::Address, FromUnsigned::Address), // addr
+        0x03 => Entry::Address, // addr
         0x06 => Entry::Deref(false), // deref
-        0x08 => Entry::Byte(FromByte::Constant), // const1u
-        0x09 => Entry::Signed(Signed::I8, FromSigned::Constant), // const1s
-        0x0a => Entry::Unsigned(Unsigned::U16, FromUnsigned::Constant), // const2u
-        0x0b => Entry::Signed(Signed::I16, FromSigned::Constant), // const2s
-        0x0c => Entry::Unsigned(Unsigned::U32, FromUnsigned::Constant), // const4u
-        0x0d => Entry::Signed(Signed::I32, FromSigned::Constant), // const4s
-        0x0e => Entry::Unsigned(Unsigned::U64, FromUnsigned::Constant), // const8u
-        0x0f => Entry::Signed(Signed::I64, FromSigned::Constant), // const8s
-        0x10 => Entry::Unsigned(Unsigned::Uleb128, FromUnsigned::Constant), // constu
-        0x11 => Entry::Signed(Signed::Sleb128, FromSigned::Constant), // consts
+        0x08 => Entry::Constant(Unsigned::U8), // const1u
+        0x09 => Entry::SignedConstant(Signed::I8), // const1s
+        0x0a => Entry::Constant(Unsigned::U16), // const2u
+        0x0b => Entry::SignedConstant(Signed::I16), // const2s
+        0x0c => Entry::Constant(Unsigned::U32), // const4u
+        0x0d => Entry::SignedConstant(Signed::I32), // const4s
+        0x0e => Entry::Constant(Unsigned::U64), // const8u
+        0x0f => Entry::SignedConstant(Signed::I64), // const8s
+        0x10 => Entry::Constant(Unsigned::Uleb128), // constu
+        0x11 => Entry::SignedConstant(Signed::Sleb128), // consts
         0x12 => Entry::Pick(0), // dup
         0x13 => Entry::Plain(Plain::Drop), // drop
         0x14 => Entry::Pick(1), // over
-        0x15 => Entry::Byte(FromByte::Pick), // pick
+        0x15 => Entry::PickByte, // pick
         0x16 => Entry::Plain(Plain::Swap), // swap
         0x17 => Entry::Plain(Plain::Rot), // rot
         0x18 => Entry::Deref(true), // xderef
@@ -280,28 +248,28 @@ pub fn entry_at(opcode: u8) -> Entry
         0x20 => Entry::Plain(Plain::Not), // not
         0x21 => Entry::Plain(Plain::Or), // or
         0x22 => Entry::Plain(Plain::Plus), // plus
-        0x23 => Entry::Unsigned(Unsigned::Uleb128, FromUnsigned::PlusConstant), // plus_uconst
+        0x23 => Entry::PlusConstant, // plus_uconst
         0x24 => Entry::Plain(Plain::Shl), // shl
         0x25 => Entry::Plain(Plain::Shr), // shr
         0x26 => Entry::Plain(Plain::Shra), // shra
         0x27 => Entry::Plain(Plain::Xor), // xor
-        0x28 => Entry::Branch(FromBranch::Bra), // bra
+        0x28 => Entry::Bra, // bra
         0x29 => Entry::Plain(Plain::Eq), // eq
         0x2a => Entry::Plain(Plain::Ge), // ge
         0x2b => Entry::Plain(Plain::Gt), // gt
         0x2c => Entry::Plain(Plain::Le), // le
         0x2d => Entry::Plain(Plain::Lt), // lt
         0x2e => Entry::Plain(Plain::Ne), // ne
-        0x2f => Entry::Branch(FromBranch::Skip), // skip
+        0x2f => Entry::Skip, // skip
         0x30..=0x4f => Entry::Literal(opcode - 0x30), // lit0 to lit31
         0x50..=0x6f => Entry::Register(opcode - 0x50), // reg0 to reg31
         0x70..=0x8f => Entry::BaseRegister(opcode - 0x70), // breg0 to breg31
         0x90 => Entry::Rare(Rare::NamedRegister), // regx
-        0x91 => Entry::Signed(Signed::Sleb128, FromSigned::FrameOffset), // fbreg
+        0x91 => Entry::FrameOffset, // fbreg
         0x92 => Entry::Rare(Rare::NamedBaseRegister), // bregx
         0x93 => Entry::Piece, // piece
-        0x94 => Entry::Byte(FromByte::Deref), // deref_size
-        0x95 => Entry::Byte(FromByte::SpaceDeref), // xderef_size
+        0x94 => Entry::DerefSize(false), // deref_size
+        0x95 => Entry::DerefSize(true), // xderef_size
         0x96 => Entry::Plain(Plain::Nop), // nop
         0x97 => Entry::Plain(Plain::PushObjectAddress), // push_object_address
         0x98 => Entry::Offset(Offset::U16, FromOffset::UnitCall), // call2

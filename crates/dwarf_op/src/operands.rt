@@ -8,9 +8,17 @@ ghost use Rattle.dwarf_base.specs.Leb.{uleb_at, sleb_at, sign_extended};
 ghost use Rattle.dwarf_base.specs.Reads.{Reads, address_at};
 ghost use Rattle.dwarf_meaning.specs.Operands.{context_of};
 ghost use Rattle.dwarf_meaning.specs.Operations as meaning;
-ghost use Rattle.dwarf_meaning.specs.Decoding.{unsigned_at, integer_at, operands_at};
+ghost use Rattle.dwarf_meaning.specs.Decoding.{unsigned_at, integer_at};
 ghost use Rattle.dwarf_op.specs.declared.opcodes.FromBlock.{FromBlock};
-ghost use Rattle.dwarf_op.specs.Entries.{unsigned_form, signed_form, offset_form, register_at, entry_row, rare_row};
+ghost use Rattle.dwarf_op.specs.Entries.{
+  entry_row,
+  offset_form,
+  operands_in,
+  rare_row,
+  register_at,
+  signed_form,
+  unsigned_form,
+};
 ghost use Rattle.dwarf_op.specs.Entries as entries;
 
 use crate::opcodes::{Entry, Offset, Rare, Signed, Unsigned};
@@ -112,7 +120,7 @@ fn read_long_sleb128<R: Reader>(bytes: &mut R) -> Result<i64>
 
 // An address of so many bytes.
 #[inline(always)]
-fn read_address<R: Reader + Copy>(bytes: &mut R, size: u8) -> Result<u64>
+pub fn read_address<R: Reader + Copy>(bytes: &mut R, size: u8) -> Result<u64>
     ensures { Reads (λ n. n) (R.text bytes.old) (R.text bytes.new) result
         (address_at (R.text bytes.old).is_big size (R.text bytes.old).bytes) }
 {
@@ -131,23 +139,20 @@ fn read_address_apart<R: Reader>(bytes: &mut R, size: u8) -> Result<u64>
 }
 
 /// Reads an unsigned number of up to 64 bits that stands as `shape` says. `UnexpectedEof` where its bytes are cut off,
-/// `BadUnsignedLeb128` where it leaves 64 bits, `UnsupportedAddressSize` of an address of no size that is read.
+/// `BadUnsignedLeb128` where it leaves 64 bits.
+#[tactic(auto, using(crate::proofs::OneByte::one_byte))]
 #[inline(always)]
-pub fn read_unsigned<R: Reader + Copy>(
-    shape: Unsigned,
-    bytes: &mut R,
-    encoding: Encoding,
-) -> Result<u64>
-    ensures { Reads (λ n. n) (R.text bytes.old) (R.text bytes.new) result
+pub fn read_unsigned<R: Reader + Copy>(shape: Unsigned, bytes: &mut R) -> Result<u64>
+    ensures { (encoding : Encoding) → Reads (λ n. n) (R.text bytes.old) (R.text bytes.new) result
         (unsigned_at (context_of encoding R.Offset.BITS (R.text bytes.old).is_big)
         (unsigned_form shape) (R.text bytes.old).bytes) }
 {
     match shape {
+        Unsigned::U8 => Ok(u64::from(bytes.read_u8()?)),
         Unsigned::U16 => Ok(u64::from(bytes.read_u16()?)),
         Unsigned::U32 => Ok(u64::from(bytes.read_u32()?)),
         Unsigned::U64 => bytes.read_u64(),
         Unsigned::Uleb128 => read_uleb128(bytes),
-        Unsigned::Address => read_address(bytes, encoding.address_size),
     }
 }
 
@@ -216,10 +221,9 @@ pub fn generic_type<O: ReaderOffset>() -> UnitOffset<O>
 #[tactic(auto, using(dwarf_base::proofs::Suffixes::suffix_trans))]
 #[inline(always)]
 pub fn read_named_base_register<R: Reader + Copy>(bytes: &mut R) -> Result<(Register, i64)>
-    ensures { (encoding : Encoding)
-        → Reads (λ p. meaning.RegisterOffset p.0.0 p.1 0) (R.text bytes.old) (R.text bytes.new)
-        result (operands_at (context_of encoding R.Offset.BITS (R.text bytes.old).is_big)
-        (rare_row Rare.NamedBaseRegister) (R.text bytes.old).bytes) }
+    ensures { (encoding : Encoding) → Reads (λ p. meaning.RegisterOffset p.0.0 p.1 0)
+        (R.text bytes.old) (R.text bytes.new) result
+        (operands_in encoding R.Offset.BITS (R.text bytes.old) (rare_row Rare.NamedBaseRegister)) }
 {
     let base = read_register(bytes)?;
     let offset = read_sleb128(bytes)?;
@@ -235,8 +239,7 @@ pub fn read_typed_register<R: Reader + Copy>(
 ) -> Result<(Register, R::Offset)>
     ensures { Reads (λ p. meaning.RegisterOffset p.0.0 (pos 0) (R.Offset.number p.1))
         (R.text bytes.old) (R.text bytes.new) result
-        (operands_at (context_of encoding R.Offset.BITS (R.text bytes.old).is_big)
-        (rare_row Rare.TypedRegister) (R.text bytes.old).bytes) }
+        (operands_in encoding R.Offset.BITS (R.text bytes.old) (rare_row Rare.TypedRegister)) }
 {
     let register = read_register(bytes)?;
     let base_type = read_offset(Offset::Uleb128, bytes, encoding)?;
@@ -248,10 +251,9 @@ pub fn read_typed_register<R: Reader + Copy>(
 #[tactic(auto, using(dwarf_base::proofs::Suffixes::suffix_trans))]
 #[inline(always)]
 pub fn read_piece<R: Reader + Copy>(bytes: &mut R) -> Result<u64>
-    ensures { (encoding : Encoding)
-        → Reads (λ size. meaning.Piece size None) (R.text bytes.old) (R.text bytes.new) result
-        (operands_at (context_of encoding R.Offset.BITS (R.text bytes.old).is_big)
-        (entry_row encoding 0 Entry.Piece) (R.text bytes.old).bytes) }
+    ensures { (encoding : Encoding) → Reads (λ size. meaning.Piece size None)
+        (R.text bytes.old) (R.text bytes.new) result
+        (operands_in encoding R.Offset.BITS (R.text bytes.old) (entry_row encoding 0 Entry.Piece)) }
 {
     let size = read_uleb128(bytes)?;
     match size.checked_mul(8) {
@@ -264,10 +266,9 @@ pub fn read_piece<R: Reader + Copy>(bytes: &mut R) -> Result<u64>
 #[tactic(auto, using(dwarf_base::proofs::Suffixes::suffix_trans))]
 #[inline(always)]
 pub fn read_bit_piece<R: Reader + Copy>(bytes: &mut R) -> Result<(u64, u64)>
-    ensures { (encoding : Encoding)
-        → Reads (λ p. meaning.Piece p.0 (Some p.1)) (R.text bytes.old) (R.text bytes.new) result
-        (operands_at (context_of encoding R.Offset.BITS (R.text bytes.old).is_big)
-        (rare_row Rare.BitPiece) (R.text bytes.old).bytes) }
+    ensures { (encoding : Encoding) → Reads (λ p. meaning.Piece p.0 (Some p.1))
+        (R.text bytes.old) (R.text bytes.new) result
+        (operands_in encoding R.Offset.BITS (R.text bytes.old) (rare_row Rare.BitPiece)) }
 {
     let size_in_bits = read_uleb128(bytes)?;
     let bit_offset = read_uleb128(bytes)?;
@@ -278,11 +279,9 @@ pub fn read_bit_piece<R: Reader + Copy>(bytes: &mut R) -> Result<(u64, u64)>
 #[tactic(auto, using(dwarf_base::proofs::Suffixes::suffix_trans))]
 #[inline(always)]
 pub fn read_block<R: Reader + Copy>(bytes: &mut R, encoding: Encoding) -> Result<R>
-    ensures { (make : FromBlock)
-        → Reads (λ block. entries.block_operation make (R.text block)) (R.text bytes.old)
-        (R.text bytes.new) result
-        (operands_at (context_of encoding R.Offset.BITS (R.text bytes.old).is_big)
-        (rare_row (Rare.Block make)) (R.text bytes.old).bytes) }
+    ensures { (make : FromBlock) → Reads (λ block. entries.block_operation make (R.text block))
+        (R.text bytes.old) (R.text bytes.new) result
+        (operands_in encoding R.Offset.BITS (R.text bytes.old) (rare_row (Rare.Block make))) }
 {
     let size = read_offset(Offset::Uleb128, bytes, encoding)?;
     bytes.split(size)
@@ -298,8 +297,7 @@ pub fn read_typed_literal<R: Reader + Copy>(
 ) -> Result<(R::Offset, R)>
     ensures { Reads (λ p. meaning.TypedLiteral (R.Offset.number p.0) (R.text p.1))
         (R.text bytes.old) (R.text bytes.new) result
-        (operands_at (context_of encoding R.Offset.BITS (R.text bytes.old).is_big)
-        (rare_row Rare.TypedLiteral) (R.text bytes.old).bytes) }
+        (operands_in encoding R.Offset.BITS (R.text bytes.old) (rare_row Rare.TypedLiteral)) }
 {
     let base_type = read_offset(Offset::Uleb128, bytes, encoding)?;
     let size = bytes.read_u8()?;
@@ -315,11 +313,9 @@ pub fn read_typed_deref<R: Reader + Copy>(
     bytes: &mut R,
     encoding: Encoding,
 ) -> Result<(u8, R::Offset)>
-    ensures { (space : Bool)
-        → Reads (λ p. meaning.Deref (R.Offset.number p.1) p.0 space) (R.text bytes.old)
-        (R.text bytes.new) result
-        (operands_at (context_of encoding R.Offset.BITS (R.text bytes.old).is_big)
-        (rare_row (Rare.TypedDeref space)) (R.text bytes.old).bytes) }
+    ensures { (space : Bool) → Reads (λ p. meaning.Deref (R.Offset.number p.1) p.0 space)
+        (R.text bytes.old) (R.text bytes.new) result
+        (operands_in encoding R.Offset.BITS (R.text bytes.old) (rare_row (Rare.TypedDeref space))) }
 {
     let size = bytes.read_u8()?;
     let base_type = read_offset(Offset::Uleb128, bytes, encoding)?;
@@ -334,10 +330,9 @@ pub fn read_implicit_pointer<R: Reader + Copy>(
     bytes: &mut R,
     encoding: Encoding,
 ) -> Result<(R::Offset, i64)>
-    ensures { Reads (λ p. meaning.ImplicitPointer (R.Offset.number p.0) p.1) (R.text bytes.old)
-        (R.text bytes.new) result
-        (operands_at (context_of encoding R.Offset.BITS (R.text bytes.old).is_big)
-        (rare_row Rare.ImplicitPointer) (R.text bytes.old).bytes) }
+    ensures { Reads (λ p. meaning.ImplicitPointer (R.Offset.number p.0) p.1)
+        (R.text bytes.old) (R.text bytes.new) result
+        (operands_in encoding R.Offset.BITS (R.text bytes.old) (rare_row Rare.ImplicitPointer)) }
 {
     let value = read_offset(Offset::Reference, bytes, encoding)?;
     let byte_offset = read_sleb128(bytes)?;
@@ -361,10 +356,9 @@ pub enum WasmPlace {
 #[tactic(auto, using(dwarf_base::proofs::Suffixes::suffix_trans, crate::proofs::OneByte::one_byte))]
 #[inline(never)]
 pub fn read_wasm_location<R: Reader + Copy>(bytes: &mut R) -> Result<(WasmPlace, u32)>
-    ensures { (encoding : Encoding)
-        → Reads (λ p. entries.wasm_operation p.0 p.1) (R.text bytes.old) (R.text bytes.new) result
-        (operands_at (context_of encoding R.Offset.BITS (R.text bytes.old).is_big)
-        (rare_row Rare.WasmLocation) (R.text bytes.old).bytes) }
+    ensures { (encoding : Encoding) → Reads (λ p. entries.wasm_operation p.0 p.1)
+        (R.text bytes.old) (R.text bytes.new) result
+        (operands_in encoding R.Offset.BITS (R.text bytes.old) (rare_row Rare.WasmLocation)) }
 {
     match bytes.read_u8()? {
         0 => Ok((WasmPlace::Local, bytes.read_uleb128_u32()?)),

@@ -2,7 +2,7 @@ use dwarf_base::{DebugAddrIndex, DebugInfoOffset, Reader, Register, UnitOffset};
 
 /// Where a called expression stands (DWARF 5, section 2.5.1.5).
 #[derive(Clone, Copy, Debug, PartialEq, Eq)]
-pub enum DieReference<T> {
+pub enum DieReference<T = usize> {
     /// An entry of the unit.
     UnitRef(UnitOffset<T>),
     /// An entry of `.debug_info`, maybe in another unit.
@@ -142,8 +142,8 @@ pub enum Operation<R: Reader, O = <R as Reader>::Offset> {
     Piece {
         /// Its size, in bits.
         size_in_bits: u64,
-        /// Where it begins in its location, in bits; `None` for `DW_OP_piece`. In a register or a value it counts from
-        /// the least significant bit end.
+        /// Where it begins in its location, in bits; `None` for `DW_OP_piece`, which begins at the next byte boundary.
+        /// In a register or a value it counts from the least significant bit end.
         bit_offset: Option<u64>,
     },
     /// The variable has no place, and these bytes: `DW_OP_implicit_value`. It completes the piece or the expression.

@@ -13,7 +13,7 @@ use Rattle.dwarf_meaning.specs.Meaning.{Outcome, RequestOutcome, FaultOutcome, C
 use Rattle.dwarf_meaning.specs.Rest.{State, Status, Start, Running, RequestStatus, CompleteStatus, FaultStatus, with_refusal, rest_by, rest}
 use Rattle.dwarf_meaning.specs.Steps.{Step, InitialValue, ObjectAddress, MaxIterations, Evaluate, Resume, Told, Reply, CompleteReply, FaultReply, reply, replies, IsEvaluable, Awaits, Allows, begun, after, outcome_of, outcome_from, step_replies}
 use Rattle.dwarf_meaning.specs.Refusals.{Refusal, IsLater, before_inputs, MayPick, before_input}
-use Rattle.dwarf_eval.specs.Evaluation.{IsReplied, Follows, first_of, means, IsClosed, Evaluates, Resumes, reply_of, IsOpen, after_input, input_of}
+use Rattle.dwarf_eval.specs.Evaluation.{IsReplied, Follows, first_of, means, IsClosed, Evaluates, Resumes, reply_of, WaitsOrIsComplete, after_input, input_of}
 use Rattle.dwarf_replay.specs.Stepping.{IsInRequestFor, HasReplied}
 use Rattle.dwarf_replay.specs.Replays.{Tells}
 use Rattle.dwarf_eval.specs.declared.op.results.EvaluationResult.{EvaluationResult}
@@ -57,7 +57,7 @@ module _ (first : State) where
         ap (λ (t : Reply). given ++ t ∷ []) e
         ∙ ap (λ (l : List Reply). given ++ l) (sym (answers_one (outcomes r [])) ∙ ap (step_replies step) (sym (called_outcome r)))
 
-    called_going : IsOpen new.status → Holds first now new → SpendsInAll (initial_items now.settings.initial_value) first new → ((r : Refusal) → IsLater r → told ≡ reply (outcomes r []) → Tells first (steps ++ step ∷ []) (given ++ told ∷ []) now (before_inputs n r)) → Going first (steps ++ step ∷ []) (given ++ told ∷ []) new
+    called_going : WaitsOrIsComplete new.status → Holds first now new → SpendsInAll (initial_items now.settings.initial_value) first new → ((r : Refusal) → IsLater r → told ≡ reply (outcomes r []) → Tells first (steps ++ step ∷ []) (given ++ told ∷ []) now (before_inputs n r)) → Going first (steps ++ step ∷ []) (given ++ told ∷ []) new
     called_going o holds spent walked = record {
       told = now;
       taken = n;
@@ -85,12 +85,12 @@ module _ (first : State) where
       spent = spent;
     }
 
-    called_by : (status : Status) → new.status ≡ status → MayPick first.setup.limits (before_inputs n h.refusal) → (IsOpen new.status → Holds first now new) → SpendsInAll (initial_items now.settings.initial_value) first new → ((r : Refusal) → (IsLater r ⊎ (r ≡ h.refusal)) → told ≡ reply (outcomes r []) → Tells first (steps ++ step ∷ []) (given ++ told ∷ []) now (before_inputs n r)) → WentBy first (steps ++ step ∷ []) (given ++ told ∷ []) new status
+    called_by : (status : Status) → new.status ≡ status → MayPick first.setup.limits (before_inputs n h.refusal) → (WaitsOrIsComplete new.status → Holds first now new) → SpendsInAll (initial_items now.settings.initial_value) first new → ((r : Refusal) → (IsLater r ⊎ (r ≡ h.refusal)) → told ≡ reply (outcomes r []) → Tells first (steps ++ step ∷ []) (given ++ told ∷ []) now (before_inputs n r)) → WentBy first (steps ++ step ∷ []) (given ++ told ∷ []) new status
     called_by (RequestStatus request waiting) e may holds spent walked =
-        let o : IsOpen new.status = subst IsOpen (sym e) tt in
+        let o : WaitsOrIsComplete new.status = subst WaitsOrIsComplete (sym e) tt in
         called_going o (holds o) spent (λ r l. walked r (inl l))
     called_by (CompleteStatus value) e may holds spent walked =
-        let o : IsOpen new.status = subst IsOpen (sym e) tt in
+        let o : WaitsOrIsComplete new.status = subst WaitsOrIsComplete (sym e) tt in
         called_going o (holds o) spent (λ r l. walked r (inl l))
     called_by (FaultStatus error) e may holds spent walked = called_over error e may spent (walked h.refusal (inr refl) h.reply)
     called_by (Start initial_value) e may holds spent walked = absurd (subst (IsReplied told) e h.status)

@@ -6,7 +6,7 @@ use Rattle.dwarf_meaning.specs.Refusals.{Refusal, before_inputs}
 use Rattle.dwarf_meaning.specs.Meaning.{Outcome, meaning}
 use Rattle.dwarf_meaning.specs.Rest.{State, Status, Start, Running, RequestStatus, CompleteStatus, FaultStatus, with_refusal, rest_by, rest}
 use Rattle.dwarf_meaning.specs.Steps.{Step, InitialValue, ObjectAddress, MaxIterations, Evaluate, Resume, Told, Reply, Allows, after, step_replies}
-use Rattle.dwarf_eval.specs.Evaluation.{with_object, with_maximum, IsOpen, with_status}
+use Rattle.dwarf_eval.specs.Evaluation.{with_object, with_maximum, WaitsOrIsComplete, with_status}
 use Rattle.dwarf_replay.specs.Stepping.{IsSet}
 use Rattle.dwarf_replay.specs.Replays.{Tells}
 use Rattle.dwarf_eval.specs.Bounds.{Spends, SpendsInAll, initial_items}
@@ -25,14 +25,14 @@ module _ (first : State) where
   waits_set object maximum r x [] request waiting = refl
   waits_set object maximum r x (input ∷ inputs) request waiting = refl
 
-  rest_set_by : (object : Option ℕ) (maximum : ℕ) (r : Refusal) (x : State) (inputs : List Input) (status : Status) → IsOpen status → rest_by (set_to object maximum x) (with_refusal r (set_to object maximum x).store) inputs status ≡ rest_by x (with_refusal r x.store) inputs status
+  rest_set_by : (object : Option ℕ) (maximum : ℕ) (r : Refusal) (x : State) (inputs : List Input) (status : Status) → WaitsOrIsComplete status → rest_by (set_to object maximum x) (with_refusal r (set_to object maximum x).store) inputs status ≡ rest_by x (with_refusal r x.store) inputs status
   rest_set_by object maximum r x inputs (RequestStatus request waiting) h = waits_set object maximum r x inputs request waiting
   rest_set_by object maximum r x inputs (CompleteStatus value) h = refl
   rest_set_by object maximum r x inputs (Start initial_value) h = absurd h
   rest_set_by object maximum r x inputs (FaultStatus error) h = absurd h
   rest_set_by object maximum r x inputs Running h = absurd h
 
-  rest_set : (object : Option ℕ) (maximum : ℕ) (r : Refusal) (x : State) (inputs : List Input) → IsOpen x.status → rest r (set_to object maximum x) inputs ≡ rest r x inputs
+  rest_set : (object : Option ℕ) (maximum : ℕ) (r : Refusal) (x : State) (inputs : List Input) → WaitsOrIsComplete x.status → rest r (set_to object maximum x) inputs ≡ rest r x inputs
   unfolding rest
   rest_set object maximum r x inputs h = rest_set_by object maximum r x inputs x.status h
 
@@ -62,7 +62,7 @@ module _ (first : State) where
         walked_more first steps given given step r told (s.tells told) w (s.allowed told _) (s.after_is told _)
         (sym (append-nil given) ∙ ap (λ (l : List Reply). given ++ l) (sym (s.quiet (outcome first r (s.tells told)))))
 
-    set_going : IsOpen x.status → Going first steps given x → Going first (steps ++ step ∷ []) given new
+    set_going : WaitsOrIsComplete x.status → Going first steps given x → Going first (steps ++ step ∷ []) given new
     set_going o w = record {
       told = s.tells w.told;
       taken = w.taken;
@@ -89,8 +89,8 @@ module _ (first : State) where
       holds = s.holds w.told w.holds;
       spent = set_spent w.told w.spent;
     }
-    set_by (RequestStatus request waiting) e w = set_going (subst IsOpen (sym e) tt) w
-    set_by (CompleteStatus value) e w = set_going (subst IsOpen (sym e) tt) w
+    set_by (RequestStatus request waiting) e w = set_going (subst WaitsOrIsComplete (sym e) tt) w
+    set_by (CompleteStatus value) e w = set_going (subst WaitsOrIsComplete (sym e) tt) w
     set_by (FaultStatus error) e w = record {
       told = s.tells w.told;
       refusal = w.refusal;

@@ -4,7 +4,7 @@ use Rattle.dwarf_base.specs.declared.errors.Error.{Error}
 use Rattle.dwarf_base.specs.Reads.{Text}
 use Rattle.dwarf_meaning.specs.Kinds.{kind_of_request, kind_of_answer}
 use Rattle.dwarf_meaning.specs.declared.kinds.WaitingKind.{WaitingKind}
-use Rattle.dwarf_meaning.specs.Requests as asked
+use Rattle.dwarf_meaning.specs.Requests as requests
 use Rattle.dwarf_meaning.specs.Rest.{State, Status, Start, Running, RequestStatus, CompleteStatus, FaultStatus}
 use Rattle.dwarf_meaning.specs.Steps as meaning
 use Rattle.dwarf_meaning.specs.Steps.{InitialValue, ObjectAddress, MaxIterations, Evaluate, Resume}
@@ -21,18 +21,18 @@ step_of text (step.InitialValue number) = meaning.InitialValue number
 step_of text (step.ObjectAddress address) = meaning.ObjectAddress address
 step_of text (step.MaxIterations maximum) = meaning.MaxIterations maximum
 step_of text step.Evaluate = meaning.Evaluate
-step_of text (step.Memory value) = meaning.Resume (asked.MemoryAnswer value)
-step_of text (step.Register value) = meaning.Resume (asked.RegisterAnswer value)
-step_of text (step.WasmValue value) = meaning.Resume (asked.WasmAnswer value)
-step_of text (step.EntryValue value) = meaning.Resume (asked.EntryAnswer value)
-step_of text (step.FrameBase number) = meaning.Resume (asked.FrameBaseAnswer number)
-step_of text (step.Tls number) = meaning.Resume (asked.TlsAnswer number)
-step_of text (step.CallFrameCfa number) = meaning.Resume (asked.CfaAnswer number)
-step_of text (step.ParameterRef number) = meaning.Resume (asked.ParameterAnswer number)
-step_of text (step.RelocatedAddress number) = meaning.Resume (asked.RelocatedAnswer number)
-step_of text (step.IndexedAddress number) = meaning.Resume (asked.IndexedAnswer number)
-step_of text (step.AtLocation expression) = meaning.Resume (asked.LocationAnswer (text expression))
-step_of text (step.BaseType value_type) = meaning.Resume (asked.BaseTypeAnswer value_type)
+step_of text (step.Memory value) = meaning.Resume (requests.MemoryAnswer value)
+step_of text (step.Register value) = meaning.Resume (requests.RegisterAnswer value)
+step_of text (step.WasmValue value) = meaning.Resume (requests.WasmAnswer value)
+step_of text (step.EntryValue value) = meaning.Resume (requests.EntryAnswer value)
+step_of text (step.FrameBase number) = meaning.Resume (requests.FrameBaseAnswer number)
+step_of text (step.Tls number) = meaning.Resume (requests.TlsAnswer number)
+step_of text (step.CallFrameCfa number) = meaning.Resume (requests.CfaAnswer number)
+step_of text (step.ParameterRef number) = meaning.Resume (requests.ParameterAnswer number)
+step_of text (step.RelocatedAddress number) = meaning.Resume (requests.RelocatedAnswer number)
+step_of text (step.IndexedAddress number) = meaning.Resume (requests.IndexedAnswer number)
+step_of text (step.AtLocation expression) = meaning.Resume (requests.LocationAnswer (text expression))
+step_of text (step.BaseType value_type) = meaning.Resume (requests.BaseTypeAnswer value_type)
 
 -- a request of this kind is open, or the evaluation met a fault
 abbrev pub IsInRequestFor : WaitingKind → Status → Type 0

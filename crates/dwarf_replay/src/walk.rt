@@ -12,7 +12,7 @@ use dwarf_store::{ArrayLike, EvaluationStorage};
 
 /// Why a replay ends before its last step.
 #[derive(Clone, Copy)]
-enum Stop<R: Reader, O = <R as Reader>::Offset> {
+enum NotKept<R: Reader, O = <R as Reader>::Offset> {
     // The step isn't allowed.
     Misplaced,
     // The step's answer found no room.
@@ -24,18 +24,18 @@ fn keep_step<R: Reader + Copy, S: EvaluationStorage<R>, L: ArrayLike<Item = Answ
     eval: &mut Evaluation<R, S>,
     step: Step<R>,
     answers: &mut L,
-) -> Result<(), Stop<R>>
+) -> Result<(), NotKept<R>>
     ensures keeps { TakesStep R.text R.Offset.number
         (step_of R.text step) (L.limit answers.old) eval.old
         (L.items answers.old) eval.new (L.items answers.new) result }
     ensures limit { L.limit answers.new ≡ L.limit answers.old }
 {
     match take_step(eval, step) {
-        Stepped::Misplaced => Err(Stop::Misplaced),
+        Stepped::Misplaced => Err(NotKept::Misplaced),
         Stepped::Set => Ok(()),
         Stepped::Answered(answer) => match answers.push(answer) {
             Ok(()) => Ok(()),
-            Err(answer) => Err(Stop::NoRoom(answer)),
+            Err(answer) => Err(NotKept::NoRoom(answer)),
         },
     }
 }
@@ -61,8 +61,8 @@ pub fn replay<R: Reader + Copy, S: EvaluationStorage<R>, L: ArrayLike<Item = Ans
     while index < steps.len() {
         match keep_step(eval, steps[index], answers) {
             Ok(()) => {}
-            Err(Stop::Misplaced) => return Replayed::Misplaced(index),
-            Err(Stop::NoRoom(answer)) => return Replayed::NoRoom { index, answer },
+            Err(NotKept::Misplaced) => return Replayed::Misplaced(index),
+            Err(NotKept::NoRoom(answer)) => return Replayed::NoRoom { index, answer },
         }
         index += 1;
     }

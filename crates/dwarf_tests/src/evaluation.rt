@@ -13,7 +13,7 @@ use dwarf_expr::eval::{Evaluation, Status, WaitingKind};
 use dwarf_expr::op::{DieReference, EvaluationResult, Expression, Location, Piece};
 use dwarf_expr::replay::Step;
 use dwarf_expr::store::{EvaluationStorage, StoreOnHeap};
-use dwarf_value::{Value, ValueType};
+use dwarf_expr::value::{Value, ValueType};
 use std::alloc::{AllocError, Allocator, Global};
 use std::process::Abort;
 
@@ -31,17 +31,17 @@ pub(crate) const SMALL: Encoding = Encoding {
 };
 
 /// Lists of fixed capacities.
-pub(crate) struct Fixed<const STACK: usize, const FRAMES: usize, const PIECES: usize>;
+pub(crate) struct Fixed<const STACK: usize, const CALLERS: usize, const PIECES: usize>;
 
 impl<
     R: Reader + Copy + Default,
     const STACK: usize,
-    const FRAMES: usize,
+    const CALLERS: usize,
     const PIECES: usize,
-> EvaluationStorage<R> for Fixed<STACK, FRAMES, PIECES> {
+> EvaluationStorage<R> for Fixed<STACK, CALLERS, PIECES> {
     type Stack = ArrayVec<Value, STACK>;
 
-    type ExpressionStack = ArrayVec<(R, R), FRAMES>;
+    type ExpressionStack = ArrayVec<(R, R), CALLERS>;
 
     type Result = ArrayVec<Piece<R>, PIECES>;
 }
@@ -73,9 +73,9 @@ pub(crate) fn on_heap(alloc: Global, text: &[u8]) -> Evaluation<Slice<'_>, Store
 }
 
 /// A fresh evaluation over lists of these capacities.
-pub(crate) fn over_lists<const STACK: usize, const FRAMES: usize, const PIECES: usize>(
+pub(crate) fn over_lists<const STACK: usize, const CALLERS: usize, const PIECES: usize>(
     text: &[u8],
-) -> Evaluation<Slice<'_>, Fixed<STACK, FRAMES, PIECES>>
+) -> Evaluation<Slice<'_>, Fixed<STACK, CALLERS, PIECES>>
     ensures { result.status ≡ Start None }
 {
     Evaluation::new_in(

@@ -1,6 +1,7 @@
 ghost use Rattle.std.specs.Prelude.{length, ◌<◌, ◌^◌, false};
 ghost use Rattle.dwarf_base.specs.EndianSlice.{slice_bytes};
 
+use crate::evaluation::{SMALL, Slice, little};
 use dwarf_base::{
     DebugAddrIndex, DebugInfoOffset, DwOp, Encoding, EndianSlice, Error, Format, LittleEndian,
     Reader, Register, Result, RunTimeEndian, UnitOffset,
@@ -8,15 +9,6 @@ use dwarf_base::{
 use dwarf_expr::op::{DieReference, Expression, Operation};
 use std::alloc::{AllocError, Global};
 use std::process::Abort;
-
-type Slice<'a> = EndianSlice<'a, RunTimeEndian>;
-
-// Addresses of 4 bytes and the 32-bit format.
-const SMALL: Encoding = Encoding {
-    address_size: 4,
-    format: Format::Dwarf32,
-    version: 4,
-};
 
 // Addresses of 8 bytes and the 64-bit format.
 const WIDE: Encoding = Encoding {
@@ -343,10 +335,6 @@ static REFUSED: [(&'static [u8], Error); 7] = [
     (&[0xff], Error::InvalidExpression(DwOp(0xff))),
 ];
 
-fn little(text: &[u8]) -> Slice<'_> {
-    EndianSlice::new(text, RunTimeEndian::Little)
-}
-
 // The operation at the front of a text, lowest byte first.
 fn parsed(text: &[u8], encoding: Encoding) -> Result<Operation<Slice<'_>>> {
     let mut bytes = little(text);
@@ -358,7 +346,12 @@ fn is_cut_off(outcome: Result<Operation<Slice<'_>>>) -> bool {
 }
 
 // The text is this operation, and each front that lacks a byte of it is cut off.
-fn expect(rt: &impl Abort, encoding: Encoding, text: &[u8], operation: Operation<Slice<'_>>) {
+fn expect_operation(
+    rt: &impl Abort,
+    encoding: Encoding,
+    text: &[u8],
+    operation: Operation<Slice<'_>>,
+) {
     let mut bytes = little(text);
     assert!(rt;
         Operation::parse(&mut bytes, encoding) == Ok(operation),
@@ -392,7 +385,7 @@ fn deref<'a>(base_type: usize, size: u8, space: bool) -> Operation<Slice<'a>> {
     }
 }
 
-fn register<'a>(number: u16) -> Operation<Slice<'a>> {
+fn register_operation<'a>(number: u16) -> Operation<Slice<'a>> {
     Operation::Register {
         register: Register(number),
     }
@@ -485,17 +478,22 @@ static LARGE_OFFSETS: [(&'static [u8], Encoding); 5] = [
 #[test]
 fn operations_without_operands(rt: HostRuntime) {
     for (opcode, operation) in PLAIN {
-        expect(&rt, SMALL, &[opcode], operation);
+        expect_operation(&rt, SMALL, &[opcode], operation);
     }
     for number in 0..32u8 {
         let value = u64::from(number);
-        expect(
+        expect_operation(
             &rt,
             SMALL,
             &[0x30 + number],
             Operation::UnsignedConstant { value },
         );
-        expect(&rt, SMALL, &[0x50 + number], register(u16::from(number)));
+        expect_operation(
+            &rt,
+            SMALL,
+            &[0x50 + number],
+            register_operation(u16::from(number)),
+        );
     }
 }
 
@@ -559,55 +557,55 @@ fn opcodes_alone(rt: HostRuntime) {
 #[test]
 fn operands_of_fixed_size(rt: HostRuntime) {
     for (text, operation) in FIXED {
-        expect(&rt, SMALL, text, operation);
+        expect_operation(&rt, SMALL, text, operation);
     }
 }
 
 #[test]
 fn operands_of_eight_bytes(rt: HostRuntime) {
     for (text, operation) in EIGHT_BYTES {
-        expect(&rt, WIDE, text, operation);
+        expect_operation(&rt, WIDE, text, operation);
     }
 }
 
 #[test]
 fn unsigned_leb128_operands(rt: HostRuntime) -> std::result::Result<(), AllocError> {
     for (value, leb) in UNSIGNED {
-        expect(
+        expect_operation(
             &rt,
             SMALL,
             &joined(rt.alloc(), 0x10, leb, &[])?,
             Operation::UnsignedConstant { value },
         );
-        expect(
+        expect_operation(
             &rt,
             SMALL,
             &joined(rt.alloc(), 0x23, leb, &[])?,
             Operation::PlusConstant { value },
         );
         let index = DebugAddrIndex(value as usize);
-        expect(
+        expect_operation(
             &rt,
             SMALL,
             &joined(rt.alloc(), 0xa1, leb, &[])?,
             Operation::AddressIndex { index },
         );
-        expect(
+        expect_operation(
             &rt,
             SMALL,
             &joined(rt.alloc(), 0xa2, leb, &[])?,
             Operation::ConstantIndex { index },
         );
         if let Ok(number) = u16::try_from(value) {
-            expect(
+            expect_operation(
                 &rt,
                 SMALL,
                 &joined(rt.alloc(), 0x90, leb, &[])?,
-                register(number),
+                register_operation(number),
             );
         }
         if let Some(size_in_bits) = value.checked_mul(8) {
-            expect(
+            expect_operation(
                 &rt,
                 SMALL,
                 &joined(rt.alloc(), 0x93, leb, &[])?,
@@ -615,7 +613,7 @@ fn unsigned_leb128_operands(rt: HostRuntime) -> std::result::Result<(), AllocErr
             );
         }
         for (offset, second) in UNSIGNED {
-            expect(
+            expect_operation(
                 &rt,
                 SMALL,
                 &joined(rt.alloc(), 0x9d, leb, second)?,
@@ -629,20 +627,20 @@ fn unsigned_leb128_operands(rt: HostRuntime) -> std::result::Result<(), AllocErr
 #[test]
 fn signed_leb128_operands(rt: HostRuntime) -> std::result::Result<(), AllocError> {
     for (value, leb) in SIGNED {
-        expect(
+        expect_operation(
             &rt,
             SMALL,
             &joined(rt.alloc(), 0x11, leb, &[])?,
             Operation::SignedConstant { value },
         );
-        expect(
+        expect_operation(
             &rt,
             SMALL,
             &joined(rt.alloc(), 0x91, leb, &[])?,
             Operation::FrameOffset { offset: value },
         );
         for number in 0..32u8 {
-            expect(
+            expect_operation(
                 &rt,
                 SMALL,
                 &joined(rt.alloc(), 0x70 + number, leb, &[])?,
@@ -651,7 +649,7 @@ fn signed_leb128_operands(rt: HostRuntime) -> std::result::Result<(), AllocError
         }
         for (number, first) in UNSIGNED {
             if let Ok(number) = u16::try_from(number) {
-                expect(
+                expect_operation(
                     &rt,
                     SMALL,
                     &joined(rt.alloc(), 0x92, first, leb)?,
@@ -693,10 +691,10 @@ fn blocks_and_types(rt: HostRuntime) {
         ),
     ];
     for (text, operation) in operations {
-        expect(&rt, SMALL, text, operation);
+        expect_operation(&rt, SMALL, text, operation);
     }
     for (text, operation) in TYPED {
-        expect(&rt, SMALL, text, operation);
+        expect_operation(&rt, SMALL, text, operation);
     }
 }
 
@@ -712,15 +710,15 @@ fn implicit_pointers(rt: HostRuntime) {
         version: 2,
     };
     for opcode in [0xa0, 0xf2] {
-        expect(
+        expect_operation(
             &rt,
             SMALL,
             &[opcode, 0x78, 0x56, 0x34, 0x12, 0xa3, 0x02],
             pointer,
         );
         let wide = [opcode, 0x78, 0x56, 0x34, 0x12, 0, 0, 0, 0, 0xa3, 0x02];
-        expect(&rt, WIDE, &wide, pointer);
-        expect(&rt, second, &wide, pointer);
+        expect_operation(&rt, WIDE, &wide, pointer);
+        expect_operation(&rt, second, &wide, pointer);
     }
     let small = Encoding {
         version: 2,
@@ -730,7 +728,7 @@ fn implicit_pointers(rt: HostRuntime) {
         value: DebugInfoOffset(0x1234_5678),
         byte_offset: -1,
     };
-    expect(&rt, small, &[0xa0, 0x78, 0x56, 0x34, 0x12, 0x7f], back);
+    expect_operation(&rt, small, &[0xa0, 0x78, 0x56, 0x34, 0x12, 0x7f], back);
 }
 
 #[test]
@@ -739,7 +737,7 @@ fn byte_orders(rt: HostRuntime) {
     assert!(rt;
         Operation::parse(&mut big, SMALL) == Ok(Operation::UnsignedConstant { value: 258 })
     );
-    expect(
+    expect_operation(
         &rt,
         SMALL,
         &[0x0a, 0x01, 0x02],
@@ -768,7 +766,7 @@ fn refused_operands(rt: HostRuntime) {
     let lowest = [
         0x11, 0x80, 0x80, 0x80, 0x80, 0x80, 0x80, 0x80, 0x80, 0x80, 0x7f,
     ];
-    expect(
+    expect_operation(
         &rt,
         SMALL,
         &lowest,
@@ -794,7 +792,7 @@ fn other_address_sizes(rt: HostRuntime) {
     assert!(rt; parsed(&[0x03, 0, 0, 0], three) == Err(Error::UnsupportedAddressSize(3)));
     assert!(rt; parsed(&[0xa0], old) == Err(Error::UnsupportedAddressSize(3)));
     assert!(rt; parsed(&[0x03], none) == Err(Error::UnsupportedAddressSize(0)));
-    expect(&rt, three, &[0x06], deref(0, 3, false));
+    expect_operation(&rt, three, &[0x06], deref(0, 3, false));
 }
 
 #[test]

@@ -13,10 +13,10 @@ use dwarf_expr::eval::{Evaluation, Status, WaitingKind};
 use dwarf_expr::op::{DieReference, EvaluationResult, Expression, Location, Piece};
 use dwarf_expr::replay::{Answer, Replayed, Step, replay};
 use dwarf_expr::store::EvaluationStorage;
-use dwarf_value::Value;
+use dwarf_expr::value::Value;
 use rows::{
-    BRANCHES, CALLS, CUT, End, FIXED, HIGH_BITS, LOCATIONS, MISPLACED, OTHERS, REQUESTS, Row,
-    STACK, Told,
+    BRANCHES, CALLS, CUT, Ending, FIXED, HIGH_BITS, LOCATIONS, MISPLACED, OTHERS, REQUESTS, Reply,
+    Row, STACK,
 };
 use std::alloc::{AllocError, Global};
 use std::process::Abort;
@@ -68,7 +68,7 @@ fn read_all<'a>(
 }
 
 // A register's value of this type is wanted.
-fn register<'a>(number: u16, base_type: usize) -> EvaluationResult<Slice<'a>> {
+fn register_request<'a>(number: u16, base_type: usize) -> EvaluationResult<Slice<'a>> {
     EvaluationResult::RequiresRegister {
         register: Register(number),
         base_type: UnitOffset(base_type),
@@ -97,28 +97,28 @@ fn at_unit<'a>(offset: usize) -> EvaluationResult<Slice<'a>> {
     EvaluationResult::RequiresAtLocation(DieReference::UnitRef(UnitOffset(offset)))
 }
 
-fn is_told(told: Told, answer: Result<EvaluationResult<Slice<'_>>>) -> bool {
+fn is_told(told: Reply, answer: Result<EvaluationResult<Slice<'_>>>) -> bool {
     match told {
-        Told::Complete => answer == Ok(EvaluationResult::Complete),
-        Told::Memory(address, size, space) => answer == Ok(memory(address, size, space)),
-        Told::Register(number, base_type) => answer == Ok(register(number, base_type)),
-        Told::WasmGlobal(index) => answer == Ok(EvaluationResult::RequiresWasmGlobal { index }),
-        Told::FrameBase => answer == Ok(EvaluationResult::RequiresFrameBase),
-        Told::Tls(slot) => answer == Ok(EvaluationResult::RequiresTls(slot)),
-        Told::CallFrameCfa => answer == Ok(EvaluationResult::RequiresCallFrameCfa),
-        Told::AtUnit(offset) => answer == Ok(at_unit(offset)),
-        Told::EntryValue(text) => {
+        Reply::Complete => answer == Ok(EvaluationResult::Complete),
+        Reply::Memory(address, size, space) => answer == Ok(memory(address, size, space)),
+        Reply::Register(number, base_type) => answer == Ok(register_request(number, base_type)),
+        Reply::WasmGlobal(index) => answer == Ok(EvaluationResult::RequiresWasmGlobal { index }),
+        Reply::FrameBase => answer == Ok(EvaluationResult::RequiresFrameBase),
+        Reply::Tls(slot) => answer == Ok(EvaluationResult::RequiresTls(slot)),
+        Reply::CallFrameCfa => answer == Ok(EvaluationResult::RequiresCallFrameCfa),
+        Reply::AtUnit(offset) => answer == Ok(at_unit(offset)),
+        Reply::EntryValue(text) => {
             answer == Ok(EvaluationResult::RequiresEntryValue(Expression(little(text))))
         }
-        Told::RelocatedAddress(address) => {
+        Reply::RelocatedAddress(address) => {
             answer == Ok(EvaluationResult::RequiresRelocatedAddress(address))
         }
-        Told::IndexedAddress(index, relocate) => answer == Ok(indexed(index, relocate)),
-        Told::BaseType(offset) => {
+        Reply::IndexedAddress(index, relocate) => answer == Ok(indexed(index, relocate)),
+        Reply::BaseType(offset) => {
             answer == Ok(EvaluationResult::RequiresBaseType(UnitOffset(offset)))
         }
-        Told::Fails(error) => answer == Err(error),
-        Told::CutOff => matches!(answer, Err(Error::UnexpectedEof(_))),
+        Reply::Fails(error) => answer == Err(error),
+        Reply::CutOff => matches!(answer, Err(Error::UnexpectedEof(_))),
     }
 }
 
@@ -155,7 +155,7 @@ fn play<R: Reader + Copy, S: EvaluationStorage<R>>(
 }
 
 // The answers are those.
-fn expect_told(rt: &impl Abort, answers: &[Answer<Slice<'_>>], told: &[Told], text: &[u8]) {
+fn expect_told(rt: &impl Abort, answers: &[Answer<Slice<'_>>], told: &[Reply], text: &[u8]) {
     assert!(rt; answers.len() == told.len(), "{text:?}");
     for (answer, told) in answers.iter().zip(told) {
         assert!(rt; is_told(*told, answer.0), "{text:?}");
@@ -191,22 +191,22 @@ fn expect_failed(rt: &impl Abort, played: &Played<Slice<'_>>, text: &[u8]) {
 }
 
 // The replay came to what the row says.
-fn expect(rt: &impl Abort, played: &Played<Slice<'_>>, row: &Row) {
+fn expect_row(rt: &impl Abort, played: &Played<Slice<'_>>, row: &Row) {
     let (text, _, told, end) = *row;
     assert!(rt; played.replayed == Replayed::Done, "{text:?}");
     expect_told(rt, &played.answers, told, text);
     match end {
-        End::Failed => expect_failed(rt, played, text),
-        End::Waits(kind) => {
+        Ending::Failed => expect_failed(rt, played, text),
+        Ending::Waits(kind) => {
             assert!(rt; played.status == Status::Waiting(kind), "{text:?}");
         }
-        End::Value(value, address) => {
+        Ending::Value(value, address) => {
             assert!(rt; played.status == Status::Complete, "{text:?}");
             assert!(rt; played.value == Some(value), "{text:?}");
             let location = Location::Address { address };
             expect_pieces(rt, &played.pieces, &[(None, None, location)], text);
         }
-        End::Pieces(pieces) => {
+        Ending::Pieces(pieces) => {
             assert!(rt; played.status == Status::Complete, "{text:?}");
             assert!(rt; played.value == None, "{text:?}");
             expect_pieces(rt, &played.pieces, pieces, text);
@@ -222,7 +222,7 @@ fn expect_on_heap(
 ) -> std::result::Result<(), AllocError> {
     for row in rows {
         let steps = read_all(alloc, row.1)?;
-        expect(rt, &play(alloc, on_heap(alloc, row.0), &steps)?, row);
+        expect_row(rt, &play(alloc, on_heap(alloc, row.0), &steps)?, row);
     }
     Ok(())
 }
@@ -268,7 +268,7 @@ fn other_encodings(rt: HostRuntime) -> std::result::Result<(), AllocError> {
         assert!(rt; 0 < encoding.address_size && encoding.address_size <= 8);
         let eval = Evaluation::new(rt.alloc(), little(row.0), encoding);
         let steps = read_all(rt.alloc(), row.1)?;
-        expect(&rt, &play(rt.alloc(), eval, &steps)?, row);
+        expect_row(&rt, &play(rt.alloc(), eval, &steps)?, row);
     }
     Ok(())
 }
@@ -301,7 +301,7 @@ fn fixed_capacities(rt: HostRuntime) -> std::result::Result<(), AllocError> {
     for (capacities, row) in &FIXED {
         let steps = read_all(rt.alloc(), row.1)?;
         let played = play_over_lists(&rt, rt.alloc(), *capacities, row.0, &steps)?;
-        expect(&rt, &played, row);
+        expect_row(&rt, &played, row);
     }
     Ok(())
 }
@@ -392,7 +392,7 @@ fn settings_before_a_replay(rt: HostRuntime) {
 }
 
 #[test]
-fn refused_growth(rt: HostRuntime) {
+fn refused_growth_in_a_replay(rt: HostRuntime) {
     let steps = [
         Step::Evaluate,
         Step::Evaluate,

@@ -2,6 +2,6 @@ pub mod Agreements
 pub mod Congruences
 pub mod RoundTrips
 pub mod Integers
-pub mod Masks
+pub mod MaskBits
 pub mod ValueLaws
 pub mod Wraps

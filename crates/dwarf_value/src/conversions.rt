@@ -35,7 +35,7 @@ impl Value {
     }
 
     /// The value of the type that a number wraps to. It is never refused.
-    #[tactic(auto, using(crate::proofs::Masks::all_bits))]
+    #[tactic(auto, using(crate::proofs::MaskBits::all_bits))]
     #[inline(always)]
     pub fn from_u64(value_type: ValueType, value: u64) -> Result<Value>
         ensures { result ≡ Ok (from_u64_of value_type value) }
@@ -56,7 +56,7 @@ impl Value {
     /// The value's bits in another type of the same size (`DW_OP_reinterpret`). `TypeMismatch` where the sizes differ.
     ///
     /// Of a generic value all 64 bits go into a generic one.
-    #[tactic(auto, using(crate::proofs::Masks::all_bits))]
+    #[tactic(auto, using(crate::proofs::MaskBits::all_bits))]
     #[inline(always)]
     pub fn reinterpret(self, value_type: ValueType, addr_mask: u64) -> Result<Value>
         requires { IsAddressMask addr_mask }

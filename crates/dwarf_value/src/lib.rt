@@ -7,6 +7,7 @@ mod comparisons;
 mod conversions;
 mod equality;
 mod laws;
+mod masks;
 mod shifts;
 #[cfg(test)]
 mod tests;
@@ -15,4 +16,5 @@ mod word;
 
 pub use equality::equality_laws;
 pub use laws::value_laws;
-pub use types::{Value, ValueType, is_addr_mask};
+pub use masks::is_addr_mask;
+pub use types::{Value, ValueType};

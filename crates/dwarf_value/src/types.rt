@@ -1,7 +1,8 @@
-ghost use Rattle.std.specs.Prelude.{◌≡◌, ◌/◌, ◌<◌, ◌≤◌, ◌↔◌, IsTrue};
+ghost use Rattle.std.specs.Prelude.{◌≡◌, ◌/◌, IsTrue};
 ghost use Rattle.dwarf_base.specs.Reads.{is_fixed_size};
 ghost use Rattle.dwarf_value.specs.Values.{IsAddressMask, width_of, type_of, bit_size_of, from_encoding_of};
 
+use crate::masks::mask_width;
 use dwarf_base::DwAte;
 use dwarf_base::constants::{DW_ATE_signed, DW_ATE_unsigned};
 
@@ -62,26 +63,6 @@ impl Default for Value {
     fn default() -> Self {
         Value::Generic(0)
     }
-}
-
-/// Whether the mask is that of an address of 1 to 64 bits: ones in its lowest bits, and nothing else.
-#[inline(always)]
-pub fn is_addr_mask(addr_mask: u64) -> bool
-    ensures { IsTrue result ↔ IsAddressMask addr_mask }
-{
-    addr_mask != 0 && addr_mask == u64::MAX >> (64 - addr_mask.count_ones())
-}
-
-/// How many bits an address has.
-#[tactic(auto, unfolding(crate::specs::Values::width_of))]
-#[inline(always)]
-pub(crate) fn mask_width(addr_mask: u64) -> u32
-    requires { IsAddressMask addr_mask }
-    ensures value { result ≡ width_of addr_mask }
-    ensures low { 0 < result }
-    ensures high { result ≤ 64 }
-{
-    addr_mask.count_ones()
 }
 
 impl ValueType {

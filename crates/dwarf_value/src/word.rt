@@ -3,7 +3,8 @@ ghost use Rattle.dwarf_base.specs.Numbers.{residue};
 ghost use Rattle.dwarf_value.specs.Operands.{AreOperands, UnfitOperands};
 ghost use Rattle.dwarf_value.specs.Values.{IsAddressMask, width_of, word_integer, type_of, bit_size_of, is_signed, is_same, integer_of, value_of};
 
-use crate::types::{Value, ValueType, mask_width};
+use crate::masks::mask_width;
+use crate::types::{Value, ValueType};
 use dwarf_base::{Error, Result};
 
 /// Bits with a width from 1 to 64, and whether the highest of them is a sign.
@@ -61,7 +62,7 @@ pub(crate) fn low_bits(integer: i128) -> u64
 }
 
 /// The lowest bits, as many as an address has.
-#[tactic(auto, using(crate::proofs::Masks::low_bits_by_mask))]
+#[tactic(auto, using(crate::proofs::MaskBits::low_bits_by_mask))]
 #[inline(always)]
 fn low_part(bits: u64, addr_mask: u64) -> u64
     requires { IsAddressMask addr_mask }
@@ -160,7 +161,7 @@ impl Value {
     }
 
     /// The value of the type that an integer wraps to. A generic one keeps the bits of an address.
-    #[tactic(auto, using(crate::proofs::Wraps::low_bits_only, crate::proofs::Masks::width_within_64))]
+    #[tactic(auto, using(crate::proofs::Wraps::low_bits_only, crate::proofs::MaskBits::width_within_64))]
     #[inline(always)]
     pub(crate) fn wrapped(value_type: ValueType, integer: i128, addr_mask: u64) -> Value
         requires { IsAddressMask addr_mask }
@@ -174,7 +175,7 @@ impl Value {
     }
 
     /// The value of the type that an integer wraps to. A generic one keeps 64 bits.
-    #[tactic(auto, using(crate::proofs::Masks::all_bits))]
+    #[tactic(auto, using(crate::proofs::MaskBits::all_bits))]
     #[inline(always)]
     pub(crate) fn wrapped_to_64(value_type: ValueType, integer: i128) -> Value
         ensures { result ≡ value_of 64 value_type integer }

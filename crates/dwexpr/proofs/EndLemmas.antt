@@ -2,9 +2,9 @@
 use Rattle.std.proofs.Common.{◌≡◌, inl, inr, ℕ, ◌<◌, ◌≤◌, List, [], ◌∷◌, ◌++◌, length, map, get_or, Option, Some, None, Result, Ok, Err, refl, sym, ◌∙◌, ap, ap₂, subst, arith}
 use Rattle.std.specs.Prelude.{IfSome, IsSome}
 use Rattle.std.specs.Result.{result_unwrap_or}
-use Rattle.dwexpr.specs.Program.{EndsAsked, EndsCommand, EndsFor, Exits}
+use Rattle.dwexpr.specs.Program.{EndsInvocation, EndsCommand, EndsFor, Exits}
 use Rattle.dwexpr.specs.Endings.{Ending, WritesEnding, bad_words, no_memory}
-use Rattle.dwexpr.specs.Words.{Asked, asked_by, asked_in, bytes_in, command_in, reading_in}
+use Rattle.dwexpr.specs.Words.{Invocation, invocation_by, invocation_in, bytes_in, command_in, reading_in}
 use Rattle.dwexpr.specs.declared.words.Command.{Command}
 use Rattle.dwexpr.specs.declared.words.Reading.{Reading}
 
@@ -36,7 +36,7 @@ six_words view (u ∷ v ∷ w ∷ x ∷ y ∷ []) a b c d e f least most i j k l
 six_words view (u ∷ v ∷ w ∷ x ∷ y ∷ z ∷ []) a b c d e f least most i j k l m n = rw (i, j, k, l, m, n) refl
 six_words view (u ∷ v ∷ w ∷ x ∷ y ∷ z ∷ t ∷ more) a b c d e f least most i j k l m n = absurd (omega (arith, most))
 
-pub not_six : {X : Type 0} (view : X → List ℕ) (words : List X) → (length words ≡ 6 → ⊥) → asked_in (map view words) ≡ None
+pub not_six : {X : Type 0} (view : X → List ℕ) (words : List X) → (length words ≡ 6 → ⊥) → invocation_in (map view words) ≡ None
 not_six view [] other = refl
 not_six view (u ∷ []) other = refl
 not_six view (u ∷ v ∷ []) other = refl
@@ -47,13 +47,13 @@ not_six view (u ∷ v ∷ w ∷ x ∷ y ∷ z ∷ []) other = absurd (other refl
 not_six view (u ∷ v ∷ w ∷ x ∷ y ∷ z ∷ t ∷ more) other = refl
 
 -- what six words ask for, by what each says
-pub asked_of : (words : List (List ℕ)) (command size offsets version order hexadecimal : List ℕ)
+pub invocation_of : (words : List (List ℕ)) (command size offsets version order hexadecimal : List ℕ)
     (x : Option Command) (y : Option Reading) (z : Option (List ℕ))
     → words ≡ command ∷ size ∷ offsets ∷ version ∷ order ∷ hexadecimal ∷ []
     → x ≡ command_in command → y ≡ reading_in size offsets version order → z ≡ bytes_in hexadecimal
-    → asked_in words ≡ asked_by x y z
-asked_of words command size offsets version order hexadecimal x y z w e f h =
-    ap asked_in w ∙ sym (ap₂ (λ p q. asked_by p q z) e f ∙ ap (asked_by (command_in command) (reading_in size offsets version order)) h)
+    → invocation_in words ≡ invocation_by x y z
+invocation_of words command size offsets version order hexadecimal x y z w e f h =
+    ap invocation_in w ∙ sym (ap₂ (λ p q. invocation_by p q z) e f ∙ ap (invocation_by (command_in command) (reading_in size offsets version order)) h)
 
 pub reading_as : (y : Option Reading) (a b c d size offsets version order : List ℕ) → y ≡ reading_in a b c d
     → a ≡ size → b ≡ offsets → c ≡ version → d ≡ order
@@ -61,27 +61,27 @@ pub reading_as : (y : Option Reading) (a b c d size offsets version order : List
 reading_as y a b c d size offsets version order e f g h i =
     e ∙ ap₂ (λ p q. reading_in p q c d) f g ∙ ap₂ (λ p q. reading_in size offsets p q) h i
 
-pub lacks_reading : (x : Option Command) (z : Option (List ℕ)) → asked_by x None z ≡ None
+pub lacks_reading : (x : Option Command) (z : Option (List ℕ)) → invocation_by x None z ≡ None
 lacks_reading None z = refl
 lacks_reading (Some command) z = refl
 
-pub lacks_bytes : (x : Option Command) (y : Option Reading) → asked_by x y None ≡ None
+pub lacks_bytes : (x : Option Command) (y : Option Reading) → invocation_by x y None ≡ None
 lacks_bytes None y = refl
 lacks_bytes (Some command) None = refl
 lacks_bytes (Some command) (Some reading) = refl
 
 -- ---- what is answered for them
 
-pub ends_bad_words : (words : List (List ℕ)) (left : Option (List ℕ)) → asked_in words ≡ None → EndsFor words left bad_words
-ends_bad_words words left e = subst (λ asked. EndsAsked asked left bad_words) (sym e) refl
+pub ends_bad_words : (words : List (List ℕ)) (left : Option (List ℕ)) → invocation_in words ≡ None → EndsFor words left bad_words
+ends_bad_words words left e = subst (λ asked. EndsInvocation asked left bad_words) (sym e) refl
 
-pub ends_asked : (words : List (List ℕ)) (left : Option (List ℕ)) (asked : Asked) (ending : Ending) → asked_in words ≡ Some asked
+pub ends_invocation : (words : List (List ℕ)) (left : Option (List ℕ)) (asked : Invocation) (ending : Ending) → invocation_in words ≡ Some asked
     → EndsCommand asked.command asked left ending
     → EndsFor words left ending
-ends_asked words left asked ending e h = subst (λ said. EndsAsked said left ending) (sym e) (inl h)
+ends_invocation words left asked ending e h = subst (λ said. EndsInvocation said left ending) (sym e) (inl h)
 
 pub ends_without_memory : (words : List (List ℕ)) (left : Option (List ℕ)) (command : Command) (reading : Reading) (z : Option (List ℕ))
-    → asked_in words ≡ asked_by (Some command) (Some reading) z → IsSome z
+    → invocation_in words ≡ invocation_by (Some command) (Some reading) z → IsSome z
     → EndsFor words left no_memory
-ends_without_memory words left command reading (Some bytes) e some = subst (λ said. EndsAsked said left no_memory) (sym e) (inr refl)
+ends_without_memory words left command reading (Some bytes) e some = subst (λ said. EndsInvocation said left no_memory) (sym e) (inr refl)
 ends_without_memory words left command reading None e some = cc some

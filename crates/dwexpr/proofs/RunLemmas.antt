@@ -13,13 +13,13 @@ use Rattle.dwarf_meaning.specs.Meaning.{Outcome, RequestOutcome, FaultOutcome, C
 use Rattle.dwarf_meaning.specs.Rest.{State, Status, Start, Running, RequestStatus, CompleteStatus, FaultStatus}
 use Rattle.dwarf_meaning.specs.Stores.{Setup}
 use Rattle.dwarf_meaning.specs.Steps as meaning
-use Rattle.dwarf_meaning.specs.Steps.{Allows, Told, outcome_of}
+use Rattle.dwarf_meaning.specs.Steps.{Allows, Told, outcome_of, untold}
 use Rattle.dwarf_replay.specs.Replays.{IsInRequest, IsInFault, Replays, StandsAt, replies_in, steps_of, told_at}
 use Rattle.dwarf_replay.specs.declared.steps.Answer.{Answer}
 use Rattle.dwarf_replay.specs.declared.steps.Replayed.{Replayed}
 use Rattle.dwarf_replay.specs.declared.steps.Replayed.TheVariants as replayed
 use Rattle.dwarf_replay.specs.declared.steps.Step.{Step}
-use Rattle.dwexpr.specs.Evaluates.{EvaluatesSteps, EvaluatesSaid, behind_replies, outcome_ending, bad_steps, untold}
+use Rattle.dwexpr.specs.Evaluates.{EvaluatesSteps, EvaluatesSaid, behind_replies, outcome_ending, bad_steps}
 use Rattle.dwexpr.specs.Steps.{ReadsSteps}
 use Rattle.dwexpr.specs.declared.steps.StepsFault.{StepsFault}
 use Rattle.dwexpr.specs.declared.steps.StepsFault.TheVariants as fault

@@ -4,7 +4,7 @@ use Rattle.dwarf_base.specs.declared.common.Encoding.{Encoding}
 use Rattle.dwarf_base.specs.Reads.{Text}
 use Rattle.dwarf_meaning.specs.Stores.{Setup}
 use Rattle.dwarf_meaning.specs.Meaning.{Outcome, RequestOutcome, FaultOutcome, CompleteOutcome}
-use Rattle.dwarf_meaning.specs.Steps.{Step, Told, Reply, Allows, AllAllowed, replies_of, after_steps, outcome_of}
+use Rattle.dwarf_meaning.specs.Steps.{Step, Told, Reply, Allows, AllAllowed, replies_of, after_steps, outcome_of, untold}
 use Rattle.dwarf_meaning.specs.Refusals.{Refusal}
 use Rattle.dwexpr.specs.Lines.{reply_lines}
 use Rattle.dwexpr.specs.declared.steps.StepsFault.{StepsFault}
@@ -16,14 +16,6 @@ use Rattle.dwexpr.specs.Endings.{Ending, bad_step, complete_ending, misplaced, n
 abbrev pub unlimited_setup : Encoding → Setup
 unlimited_setup encoding =
     record { encoding = encoding; offset_bits = 64; limits = record { values = None; callers = None; pieces = None } }
-
--- no step was done
-abbrev pub untold : Told
-untold = record {
-  settings = record { initial_value = None; object_address = None; maximum = 4294967295 };
-  first = None;
-  inputs = [];
-}
 
 -- what comes out, behind the replies: pieces and a value, the status of a fault, or nothing
 abbrev pub outcome_ending : Option Outcome → Ending

@@ -9,7 +9,7 @@ use Rattle.dwarf_base.specs.Reads.{Text}
 use Rattle.dwexpr.specs.Evaluates.{EvaluatesLines}
 use Rattle.dwexpr.specs.Lines.{listing_of}
 use Rattle.dwexpr.specs.Endings.{Ending, bad_words, listed, no_memory, unread}
-use Rattle.dwexpr.specs.Words.{Asked, asked_in}
+use Rattle.dwexpr.specs.Words.{Invocation, invocation_in}
 use Rattle.dwexpr.specs.Writing.{AppendsFront}
 use Rattle.dwexpr.specs.declared.words.Command.{Command}
 use Rattle.dwexpr.specs.declared.words.Command.TheVariants.{Ops, Eval}
@@ -21,7 +21,7 @@ EvaluatesInput encoding text left ending =
     ⊎ ((ending ≡ unread) ⊎ (ending ≡ no_memory))
 
 -- what a command ends with
-abbrev pub EndsCommand : Command → Asked → (left : Option (List ℕ)) → Ending → Type 0
+abbrev pub EndsCommand : Command → Invocation → (left : Option (List ℕ)) → Ending → Type 0
 EndsCommand Ops asked left ending =
     ending ≡ listed (listing_of asked.reading.encoding (is_big_of asked.reading.order) asked.bytes)
 EndsCommand Eval asked left ending =
@@ -29,13 +29,13 @@ EndsCommand Eval asked left ending =
     (record { bytes = asked.bytes; is_big = is_big_of asked.reading.order }) left ending
 
 -- what words end with that ask for this, or are bad: there may be no memory for their bytes
-abbrev pub EndsAsked : Option Asked → (left : Option (List ℕ)) → Ending → Type 0
-EndsAsked None left ending = ending ≡ bad_words
-EndsAsked (Some asked) left ending = EndsCommand asked.command asked left ending ⊎ (ending ≡ no_memory)
+abbrev pub EndsInvocation : Option Invocation → (left : Option (List ℕ)) → Ending → Type 0
+EndsInvocation None left ending = ending ≡ bad_words
+EndsInvocation (Some asked) left ending = EndsCommand asked.command asked left ending ⊎ (ending ≡ no_memory)
 
 -- what the program ends with, for these words
 abbrev pub EndsFor : (words : List (List ℕ)) → (left : Option (List ℕ)) → Ending → Type 0
-EndsFor words left ending = EndsAsked (asked_in words) left ending
+EndsFor words left ending = EndsInvocation (invocation_in words) left ending
 
 -- what the program ends with where its words couldn't be had: one isn't UTF-8, or there was no memory for them
 abbrev pub without_words : ErrorKind → Ending

@@ -3,7 +3,7 @@ use Rattle.std.specs.Prelude.{ℕ, ◌≡◌, IsSome, Vec, map, zero, suc, codes
 use Rattle.std.specs.Str.{is_utf8}
 use Rattle.std.specs.Str.Lines.{strip_carriage_return}
 use Rattle.dwarf_base.specs.EndianSlice.{slice_text}
-use Rattle.dwarf_meaning.specs.Requests as asked
+use Rattle.dwarf_meaning.specs.Requests as requests
 use Rattle.dwarf_meaning.specs.Steps.{Step, InitialValue, ObjectAddress, MaxIterations, Evaluate, Resume}
 use Rattle.dwarf_replay.specs.Stepping.{step_of}
 use Rattle.dwexpr.specs.Values.{below, cut_at, number_in, type_in, value_in}
@@ -45,22 +45,22 @@ plain_step_in name word =
     if bytes_eq name (codes "initial") then option_map InitialValue (number_in word)
     else if bytes_eq name (codes "object") then option_map ObjectAddress (number_in word)
     else if bytes_eq name (codes "max") then option_map MaxIterations (option_and_then (below 32) (number_in word))
-    else if bytes_eq name (codes "memory") then option_map (λ v. Resume (asked.MemoryAnswer v)) (value_in word)
-    else if bytes_eq name (codes "register") then option_map (λ v. Resume (asked.RegisterAnswer v)) (value_in word)
-    else if bytes_eq name (codes "wasm") then option_map (λ v. Resume (asked.WasmAnswer v)) (value_in word)
-    else if bytes_eq name (codes "entry") then option_map (λ v. Resume (asked.EntryAnswer v)) (value_in word)
-    else if bytes_eq name (codes "frame") then option_map (λ n. Resume (asked.FrameBaseAnswer n)) (number_in word)
-    else if bytes_eq name (codes "tls") then option_map (λ n. Resume (asked.TlsAnswer n)) (number_in word)
-    else if bytes_eq name (codes "cfa") then option_map (λ n. Resume (asked.CfaAnswer n)) (number_in word)
-    else if bytes_eq name (codes "parameter") then option_map (λ n. Resume (asked.ParameterAnswer n)) (number_in word)
-    else if bytes_eq name (codes "relocated") then option_map (λ n. Resume (asked.RelocatedAnswer n)) (number_in word)
-    else if bytes_eq name (codes "indexed") then option_map (λ n. Resume (asked.IndexedAnswer n)) (number_in word)
-    else if bytes_eq name (codes "type") then option_map (λ t. Resume (asked.BaseTypeAnswer t)) (type_in word)
+    else if bytes_eq name (codes "memory") then option_map (λ v. Resume (requests.MemoryAnswer v)) (value_in word)
+    else if bytes_eq name (codes "register") then option_map (λ v. Resume (requests.RegisterAnswer v)) (value_in word)
+    else if bytes_eq name (codes "wasm") then option_map (λ v. Resume (requests.WasmAnswer v)) (value_in word)
+    else if bytes_eq name (codes "entry") then option_map (λ v. Resume (requests.EntryAnswer v)) (value_in word)
+    else if bytes_eq name (codes "frame") then option_map (λ n. Resume (requests.FrameBaseAnswer n)) (number_in word)
+    else if bytes_eq name (codes "tls") then option_map (λ n. Resume (requests.TlsAnswer n)) (number_in word)
+    else if bytes_eq name (codes "cfa") then option_map (λ n. Resume (requests.CfaAnswer n)) (number_in word)
+    else if bytes_eq name (codes "parameter") then option_map (λ n. Resume (requests.ParameterAnswer n)) (number_in word)
+    else if bytes_eq name (codes "relocated") then option_map (λ n. Resume (requests.RelocatedAnswer n)) (number_in word)
+    else if bytes_eq name (codes "indexed") then option_map (λ n. Resume (requests.IndexedAnswer n)) (number_in word)
+    else if bytes_eq name (codes "type") then option_map (λ t. Resume (requests.BaseTypeAnswer t)) (type_in word)
     else None
 
 -- the answer that is a text, in the byte order of the words
 abbrev pub location_step : (big : Bool) → List ℕ → Step
-location_step big bytes = Resume (asked.LocationAnswer (record { bytes = bytes; is_big = big }))
+location_step big bytes = Resume (requests.LocationAnswer (record { bytes = bytes; is_big = big }))
 
 -- the step of this name and word
 abbrev pub named_step_in : (big : Bool) → (name word : List ℕ) → Option Step

@@ -82,23 +82,23 @@ reading_in size offsets version order =
 -- ---- all words
 
 -- what is asked for: what is to be done, with which bytes, and how they are to be read
-pub record Asked : Type 0 where
+pub record Invocation : Type 0 where
   pub command : Command
   pub reading : Reading
   pub bytes : List ℕ
 
 -- all three
-abbrev pub asked_by : Option Command → Option Reading → Option (List ℕ) → Option Asked
-asked_by (Some command) (Some reading) (Some bytes) = Some (record {
+abbrev pub invocation_by : Option Command → Option Reading → Option (List ℕ) → Option Invocation
+invocation_by (Some command) (Some reading) (Some bytes) = Some (record {
   command = command;
   reading = reading;
   bytes =
       bytes;
 })
-asked_by _ _ _ = None
+invocation_by _ _ _ = None
 
 -- six words, each of its form
-abbrev pub asked_in : List (List ℕ) → Option Asked
-asked_in (command ∷ size ∷ offsets ∷ version ∷ order ∷ hexadecimal ∷ []) =
-    asked_by (command_in command) (reading_in size offsets version order) (bytes_in hexadecimal)
-asked_in _ = None
+abbrev pub invocation_in : List (List ℕ) → Option Invocation
+invocation_in (command ∷ size ∷ offsets ∷ version ∷ order ∷ hexadecimal ∷ []) =
+    invocation_by (command_in command) (reading_in size offsets version order) (bytes_in hexadecimal)
+invocation_in _ = None

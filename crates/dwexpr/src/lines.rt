@@ -12,7 +12,7 @@ use crate::writing::{Text, Word, put_line};
 use dwarf_base::{Error, ReaderOffset};
 use dwarf_expr::op::{DieReference, EvaluationResult, Location, Piece};
 use dwarf_expr::replay::Answer;
-use dwarf_value::Value;
+use dwarf_expr::value::Value;
 use std::io;
 use std::io::Write;
 

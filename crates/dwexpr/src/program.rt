@@ -4,7 +4,8 @@ ghost use Rattle.dwarf_base.specs.EndianSlice.{slice_text};
 ghost use Rattle.dwarf_base.specs.ByteOrder.{is_big_of};
 ghost use Rattle.dwarf_eval.specs.Machine.{piece_of};
 ghost use Rattle.dwarf_replay.specs.Replays.{replies_in, steps_of};
-ghost use Rattle.dwexpr.specs.Evaluates.{EvaluatesSteps, EvaluatesLines, behind_replies, bad_steps, unlimited_setup, untold};
+ghost use Rattle.dwarf_meaning.specs.Steps.{untold};
+ghost use Rattle.dwexpr.specs.Evaluates.{EvaluatesSteps, EvaluatesLines, behind_replies, bad_steps, unlimited_setup};
 ghost use Rattle.dwexpr.specs.Lines.{listing_of, piece_lines, reply_lines};
 ghost use Rattle.dwexpr.specs.Program.{EndsFor, EvaluatesInput, Exits, without_words};
 ghost use Rattle.dwexpr.specs.Endings as runs;
@@ -23,7 +24,7 @@ use dwarf_expr::eval::{Evaluation, Status};
 use dwarf_expr::op::Piece;
 use dwarf_expr::replay::{Answer, Replayed, Step, replay};
 use dwarf_expr::store::StoreOnHeap;
-use dwarf_value::Value;
+use dwarf_expr::value::Value;
 use std::alloc::Allocator;
 use std::io;
 use std::io::{ErrorKind, Read, Write};
@@ -154,7 +155,8 @@ fn print_replay<A: Allocator + Copy, W: Write>(
 ) -> io::Result<u8>
     requires { HasLine replayed }
     ensures { WritesEnding (W.contents output.old) (W.contents output.new)
-        (behind_replies (replies_in slice_text (λ x. x) answers.now) (ending_of evaluation.now replayed.entry)) result }
+        (behind_replies (replies_in slice_text (λ x. x) answers.now)
+        (ending_of evaluation.now replayed.entry)) result }
 {
     print_answers(output, answers)?;
     print_end(output, evaluation, replayed)
@@ -189,8 +191,9 @@ fn evaluate<'a, A: Allocator + Copy, W: Write>(
 }
 
 /// Prints why the lines give no steps.
-fn refuse_steps<W: Write>(output: &mut W, fault: StepsFault) -> io::Result<u8>
-    ensures { WritesEnding (W.contents output.old) (W.contents output.new) (bad_steps fault) result }
+fn print_bad_steps<W: Write>(output: &mut W, fault: StepsFault) -> io::Result<u8>
+    ensures { WritesEnding (W.contents output.old) (W.contents output.new) (bad_steps fault)
+        result }
 {
     match fault {
         StepsFault::Bad(number) => bad_step(output, number),
@@ -215,7 +218,7 @@ fn run_lines<A: Allocator + Copy, W: Write>(
 {
     let owned = match steps_in(alloc, lines) {
         Ok(steps) => steps,
-        Err(fault) => return refuse_steps(output, fault),
+        Err(fault) => return print_bad_steps(output, fault),
     };
     match borrow_steps(alloc, owned.as_slice(), reading.order) {
         Ok(steps) => evaluate(alloc, bytes, reading, steps.as_slice(), output),

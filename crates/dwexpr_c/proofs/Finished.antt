@@ -2,13 +2,14 @@
 use Rattle.std.proofs.Common.{ℕ, ◌≡◌, ◌∙◌, inl, inr, Bool, List, [], ◌∷◌, Option, Some, None, Result, Ok, Err, length, slice_get, refl, sym, ap, subst}
 use Rattle.dwarf_base.specs.declared.common.Encoding.{Encoding}
 use Rattle.dwarf_base.specs.Reads.{Text}
+use Rattle.dwarf_meaning.specs.Steps.{untold}
 use Rattle.dwarf_meaning.specs.Locations.{Piece}
 use Rattle.dwarf_meaning.specs.Meaning.{Outcome, RequestOutcome, FaultOutcome, CompleteOutcome}
 use Rattle.dwarf_meaning.specs.Requests.{Request}
 use Rattle.dwarf_meaning.specs.Rest.{State, Status, Start, Running, RequestStatus, CompleteStatus, FaultStatus}
 use Rattle.dwarf_meaning.specs.Stores.{Setup}
 use Rattle.dwarf_replay.specs.Replays.{StandsAt, IsInRequest, told_at}
-use Rattle.dwexpr_c.specs.Evaluated.{EvaluatesGiven, EvaluatesFirst, Given, IsCutShort, ShowsOutcome, comes_of, limited_setup, told_by, untold}
+use Rattle.dwexpr_c.specs.Evaluated.{EvaluatesGiven, EvaluatesFirst, Beginning, IsCutShort, ShowsOutcome, comes_of, limited_setup, told_by}
 use Rattle.dwexpr_c.specs.Outcomes.{ShowsRequest}
 use Rattle.dwexpr_c.specs.Texts.{TextAt}
 use Rattle.dwexpr_c.specs.inner.Places.{IsGiven}
@@ -23,7 +24,7 @@ use Rattle.dwexpr_c.proofs.Given.{pieces_somewhere}
 use Rattle.dwexpr_c.proofs.Runs.{no_fault}
 
 module _ (texts : List DwexprText) (numbers : List DwexprStep) (first new : State) (out after : DwexprOutcome) (old places : List DwexprPiece) (ran : RanAll texts numbers first new out) (is_given : IsGiven texts first.text.bytes) where
-  abbrev given : Given
+  abbrev given : Beginning
   given = given_at first texts
 
   done : (o : Option Outcome) → comes_of given ran.steps ≡ o → ShowsOutcome texts o after old places → EvaluatesGiven given numbers after old places

@@ -8,7 +8,7 @@ use Rattle.dwarf_value.specs.declared.types.Value.{Value}
 use Rattle.dwarf_value.specs.declared.types.ValueType.{ValueType}
 use Rattle.dwarf_meaning.specs.Operations.{Operation}
 use Rattle.dwarf_meaning.specs.Locations.{Location, Empty, InRegister, AtAddress, HoldsValue, HoldsBytes, PointsInto, Piece}
-use Rattle.dwarf_meaning.specs.Requests as asked
+use Rattle.dwarf_meaning.specs.Requests as requests
 use Rattle.dwarf_meaning.specs.Requests.{Request, Answer, Input}
 use Rattle.dwarf_meaning.specs.Meaning.{Outcome, RequestOutcome, FaultOutcome, CompleteOutcome, First}
 use Rattle.dwarf_meaning.specs.Rest.{State}
@@ -21,9 +21,9 @@ use Rattle.dwarf_replay.specs.Replays.{told_at}
 use Rattle.dwexpr_c.specs.Codes.{bad_step_code}
 use Rattle.dwexpr_c.specs.Evaluated.{comes_of}
 use Rattle.dwexpr_c.specs.Operations.{block_in}
-use Rattle.dwexpr_c.specs.Steps.{step_in, with_value, with_type, with_text}
+use Rattle.dwexpr_c.specs.Steps.{step_coded, with_value, with_type, with_text}
 use Rattle.dwexpr_c.specs.Texts.{IsPlaced}
-use Rattle.dwexpr_c.specs.Values.{type_in, value_in}
+use Rattle.dwexpr_c.specs.Values.{type_coded, value_coded}
 use Rattle.dwexpr_c.specs.inner.Places.{IsGiven, AsksNowhere, HoldsNowhere, SomeNowhere}
 use Rattle.dwexpr_c.specs.inner.Runs.{given_at}
 use Rattle.dwexpr_c.specs.declared.steps.DwexprStep.{DwexprStep}
@@ -123,32 +123,32 @@ module _ (texts : List DwexprText) where
   on_text big index None e = record { on = tt }
   on_text big index (Some text) e = record { on = record { index = index; at = text; is_there = e; same = refl } }
 
-  on_said : (big : Bool) (step : DwexprStep) → IsSaid (step_in big texts step)
+  on_said : (big : Bool) (step : DwexprStep) → IsSaid (step_coded big texts step)
   on_said big step =
-      let t16 : Result Step ℕ = cond (step.kind == 16) (with_type (type_in step.value_type)) (Err bad_step_code) in
-      let s16 : IsSaid t16 = either (step.kind == 16) (with_type (type_in step.value_type)) (Err bad_step_code) (on_type (type_in step.value_type)) (none_named (Err bad_step_code) tt) in
+      let t16 : Result Step ℕ = cond (step.kind == 16) (with_type (type_coded step.value_type)) (Err bad_step_code) in
+      let s16 : IsSaid t16 = either (step.kind == 16) (with_type (type_coded step.value_type)) (Err bad_step_code) (on_type (type_coded step.value_type)) (none_named (Err bad_step_code) tt) in
       let t15 : Result Step ℕ = cond (step.kind == 15) (with_text big (slice_get texts step.text)) t16 in
       let s15 : IsSaid t15 = either (step.kind == 15) (with_text big (slice_get texts step.text)) t16 (on_text big step.text (slice_get texts step.text) refl) s16 in
-      let t14 : Result Step ℕ = cond (step.kind == 14) (Ok (Resume (asked.IndexedAnswer step.number))) t15 in
-      let s14 : IsSaid t14 = either (step.kind == 14) (Ok (Resume (asked.IndexedAnswer step.number))) t15 (none_named (Ok (Resume (asked.IndexedAnswer step.number))) tt) s15 in
-      let t13 : Result Step ℕ = cond (step.kind == 13) (Ok (Resume (asked.RelocatedAnswer step.number))) t14 in
-      let s13 : IsSaid t13 = either (step.kind == 13) (Ok (Resume (asked.RelocatedAnswer step.number))) t14 (none_named (Ok (Resume (asked.RelocatedAnswer step.number))) tt) s14 in
-      let t12 : Result Step ℕ = cond (step.kind == 12) (Ok (Resume (asked.ParameterAnswer step.number))) t13 in
-      let s12 : IsSaid t12 = either (step.kind == 12) (Ok (Resume (asked.ParameterAnswer step.number))) t13 (none_named (Ok (Resume (asked.ParameterAnswer step.number))) tt) s13 in
-      let t11 : Result Step ℕ = cond (step.kind == 11) (Ok (Resume (asked.CfaAnswer step.number))) t12 in
-      let s11 : IsSaid t11 = either (step.kind == 11) (Ok (Resume (asked.CfaAnswer step.number))) t12 (none_named (Ok (Resume (asked.CfaAnswer step.number))) tt) s12 in
-      let t10 : Result Step ℕ = cond (step.kind == 10) (Ok (Resume (asked.TlsAnswer step.number))) t11 in
-      let s10 : IsSaid t10 = either (step.kind == 10) (Ok (Resume (asked.TlsAnswer step.number))) t11 (none_named (Ok (Resume (asked.TlsAnswer step.number))) tt) s11 in
-      let t9 : Result Step ℕ = cond (step.kind == 9) (Ok (Resume (asked.FrameBaseAnswer step.number))) t10 in
-      let s9 : IsSaid t9 = either (step.kind == 9) (Ok (Resume (asked.FrameBaseAnswer step.number))) t10 (none_named (Ok (Resume (asked.FrameBaseAnswer step.number))) tt) s10 in
-      let t8 : Result Step ℕ = cond (step.kind == 8) (with_value asked.EntryAnswer (value_in step.value_type step.number)) t9 in
-      let s8 : IsSaid t8 = either (step.kind == 8) (with_value asked.EntryAnswer (value_in step.value_type step.number)) t9 (on_value asked.EntryAnswer (value_in step.value_type step.number) (λ v. tt)) s9 in
-      let t7 : Result Step ℕ = cond (step.kind == 7) (with_value asked.WasmAnswer (value_in step.value_type step.number)) t8 in
-      let s7 : IsSaid t7 = either (step.kind == 7) (with_value asked.WasmAnswer (value_in step.value_type step.number)) t8 (on_value asked.WasmAnswer (value_in step.value_type step.number) (λ v. tt)) s8 in
-      let t6 : Result Step ℕ = cond (step.kind == 6) (with_value asked.RegisterAnswer (value_in step.value_type step.number)) t7 in
-      let s6 : IsSaid t6 = either (step.kind == 6) (with_value asked.RegisterAnswer (value_in step.value_type step.number)) t7 (on_value asked.RegisterAnswer (value_in step.value_type step.number) (λ v. tt)) s7 in
-      let t5 : Result Step ℕ = cond (step.kind == 5) (with_value asked.MemoryAnswer (value_in step.value_type step.number)) t6 in
-      let s5 : IsSaid t5 = either (step.kind == 5) (with_value asked.MemoryAnswer (value_in step.value_type step.number)) t6 (on_value asked.MemoryAnswer (value_in step.value_type step.number) (λ v. tt)) s6 in
+      let t14 : Result Step ℕ = cond (step.kind == 14) (Ok (Resume (requests.IndexedAnswer step.number))) t15 in
+      let s14 : IsSaid t14 = either (step.kind == 14) (Ok (Resume (requests.IndexedAnswer step.number))) t15 (none_named (Ok (Resume (requests.IndexedAnswer step.number))) tt) s15 in
+      let t13 : Result Step ℕ = cond (step.kind == 13) (Ok (Resume (requests.RelocatedAnswer step.number))) t14 in
+      let s13 : IsSaid t13 = either (step.kind == 13) (Ok (Resume (requests.RelocatedAnswer step.number))) t14 (none_named (Ok (Resume (requests.RelocatedAnswer step.number))) tt) s14 in
+      let t12 : Result Step ℕ = cond (step.kind == 12) (Ok (Resume (requests.ParameterAnswer step.number))) t13 in
+      let s12 : IsSaid t12 = either (step.kind == 12) (Ok (Resume (requests.ParameterAnswer step.number))) t13 (none_named (Ok (Resume (requests.ParameterAnswer step.number))) tt) s13 in
+      let t11 : Result Step ℕ = cond (step.kind == 11) (Ok (Resume (requests.CfaAnswer step.number))) t12 in
+      let s11 : IsSaid t11 = either (step.kind == 11) (Ok (Resume (requests.CfaAnswer step.number))) t12 (none_named (Ok (Resume (requests.CfaAnswer step.number))) tt) s12 in
+      let t10 : Result Step ℕ = cond (step.kind == 10) (Ok (Resume (requests.TlsAnswer step.number))) t11 in
+      let s10 : IsSaid t10 = either (step.kind == 10) (Ok (Resume (requests.TlsAnswer step.number))) t11 (none_named (Ok (Resume (requests.TlsAnswer step.number))) tt) s11 in
+      let t9 : Result Step ℕ = cond (step.kind == 9) (Ok (Resume (requests.FrameBaseAnswer step.number))) t10 in
+      let s9 : IsSaid t9 = either (step.kind == 9) (Ok (Resume (requests.FrameBaseAnswer step.number))) t10 (none_named (Ok (Resume (requests.FrameBaseAnswer step.number))) tt) s10 in
+      let t8 : Result Step ℕ = cond (step.kind == 8) (with_value requests.EntryAnswer (value_coded step.value_type step.number)) t9 in
+      let s8 : IsSaid t8 = either (step.kind == 8) (with_value requests.EntryAnswer (value_coded step.value_type step.number)) t9 (on_value requests.EntryAnswer (value_coded step.value_type step.number) (λ v. tt)) s9 in
+      let t7 : Result Step ℕ = cond (step.kind == 7) (with_value requests.WasmAnswer (value_coded step.value_type step.number)) t8 in
+      let s7 : IsSaid t7 = either (step.kind == 7) (with_value requests.WasmAnswer (value_coded step.value_type step.number)) t8 (on_value requests.WasmAnswer (value_coded step.value_type step.number) (λ v. tt)) s8 in
+      let t6 : Result Step ℕ = cond (step.kind == 6) (with_value requests.RegisterAnswer (value_coded step.value_type step.number)) t7 in
+      let s6 : IsSaid t6 = either (step.kind == 6) (with_value requests.RegisterAnswer (value_coded step.value_type step.number)) t7 (on_value requests.RegisterAnswer (value_coded step.value_type step.number) (λ v. tt)) s7 in
+      let t5 : Result Step ℕ = cond (step.kind == 5) (with_value requests.MemoryAnswer (value_coded step.value_type step.number)) t6 in
+      let s5 : IsSaid t5 = either (step.kind == 5) (with_value requests.MemoryAnswer (value_coded step.value_type step.number)) t6 (on_value requests.MemoryAnswer (value_coded step.value_type step.number) (λ v. tt)) s6 in
       let t4 : Result Step ℕ = cond (step.kind == 4) (Ok Evaluate) t5 in
       let s4 : IsSaid t4 = either (step.kind == 4) (Ok Evaluate) t5 (none_named (Ok Evaluate) tt) s5 in
       let t3 : Result Step ℕ = cond (step.kind == 3) (cond (nat_lt step.number (2 ^ 32)) (Ok (MaxIterations step.number)) (Err bad_step_code)) t4 in
@@ -159,13 +159,13 @@ module _ (texts : List DwexprText) where
       let s1 : IsSaid t1 = either (step.kind == 1) (Ok (InitialValue step.number)) t2 (none_named (Ok (InitialValue step.number)) tt) s2 in
       s1
 
-  on_steps : (big : Bool) (numbers : List DwexprStep) (steps : List Step) → map (step_in big texts) numbers ≡ map Ok steps → OnSteps steps
+  on_steps : (big : Bool) (numbers : List DwexprStep) (steps : List Step) → map (step_coded big texts) numbers ≡ map Ok steps → OnSteps steps
   on_steps big [] [] e = tt
   on_steps big [] (step ∷ steps) e = absurd cc
   on_steps big (number ∷ numbers) [] e = absurd cc
   on_steps big (number ∷ numbers) (step ∷ steps) e =
-      let one : step_in big texts number ≡ Ok step = cc in
-      let more : map (step_in big texts) numbers ≡ map Ok steps = cc in
+      let one : step_coded big texts number ≡ Ok step = cc in
+      let more : map (step_coded big texts) numbers ≡ map Ok steps = cc in
       (subst OnSaid one (on_said big number).on, on_steps big numbers steps more)
 
   snoc_inputs : (inputs : List Input) (input : Input) → OnInputs P inputs → OnAnswer P input.answer → OnInputs P (inputs ++ input ∷ [])
@@ -200,7 +200,7 @@ module _ (texts : List DwexprText) where
   on_outcome setup refusal text inputs None given h = tt
   on_outcome setup refusal text inputs (Some first) given h = meaning_holds P Q setup refusal text first inputs (reads setup) given h
 
-  module _ (first : State) (given : IsGiven texts first.text.bytes) (numbers : List DwexprStep) (steps : List Step) (said : map (step_in first.text.is_big texts) numbers ≡ map Ok steps) where
+  module _ (first : State) (given : IsGiven texts first.text.bytes) (numbers : List DwexprStep) (steps : List Step) (said : map (step_coded first.text.is_big texts) numbers ≡ map Ok steps) where
     comes : OnComes (comes_of (given_at first texts) steps)
     comes =
         let told = after_steps first.setup Never first.text (told_at first) steps in
@@ -208,20 +208,20 @@ module _ (texts : List DwexprText) where
         (on_told first.setup Never first.text (told_at first) steps tt (on_steps first.text.is_big numbers steps said))
 
     request_somewhere : (request : Request) → OnRequest Q request → AsksNowhere texts (RequestReply request) → ⊥
-    request_somewhere (asked.RequiresEntryValue text) h n = n h.text h.offset h.placed
-    request_somewhere (asked.RequiresMemory address size space base_type) h n = n
-    request_somewhere (asked.RequiresRegister register base_type) h n = n
-    request_somewhere asked.RequiresFrameBase h n = n
-    request_somewhere (asked.RequiresTls index) h n = n
-    request_somewhere asked.RequiresCallFrameCfa h n = n
-    request_somewhere (asked.RequiresAtLocation offset) h n = n
-    request_somewhere (asked.RequiresParameterRef offset) h n = n
-    request_somewhere (asked.RequiresRelocatedAddress address) h n = n
-    request_somewhere (asked.RequiresIndexedAddress index relocate) h n = n
-    request_somewhere (asked.RequiresBaseType offset) h n = n
-    request_somewhere (asked.RequiresWasmLocal index) h n = n
-    request_somewhere (asked.RequiresWasmGlobal index) h n = n
-    request_somewhere (asked.RequiresWasmStack index) h n = n
+    request_somewhere (requests.RequiresEntryValue text) h n = n h.text h.offset h.placed
+    request_somewhere (requests.RequiresMemory address size space base_type) h n = n
+    request_somewhere (requests.RequiresRegister register base_type) h n = n
+    request_somewhere requests.RequiresFrameBase h n = n
+    request_somewhere (requests.RequiresTls index) h n = n
+    request_somewhere requests.RequiresCallFrameCfa h n = n
+    request_somewhere (requests.RequiresAtLocation offset) h n = n
+    request_somewhere (requests.RequiresParameterRef offset) h n = n
+    request_somewhere (requests.RequiresRelocatedAddress address) h n = n
+    request_somewhere (requests.RequiresIndexedAddress index relocate) h n = n
+    request_somewhere (requests.RequiresBaseType offset) h n = n
+    request_somewhere (requests.RequiresWasmLocal index) h n = n
+    request_somewhere (requests.RequiresWasmGlobal index) h n = n
+    request_somewhere (requests.RequiresWasmStack index) h n = n
 
     -- a block that is asked about is somewhere
     pub asks_somewhere : (request : Request) (positions : List _) → comes_of (given_at first texts) steps ≡ Some (RequestOutcome request positions) → AsksNowhere texts (RequestReply request) → ⊥

@@ -6,7 +6,7 @@ use Rattle.std.proofs.Math.Seq.{take-suc, take-append_seam}
 use Rattle.dwarf_base.specs.declared.errors.Error.{Error}
 use Rattle.dwarf_base.specs.Faults.{Fault, fault_of}
 use Rattle.dwarf_meaning.specs.Meaning.{Outcome, RequestOutcome, FaultOutcome, CompleteOutcome}
-use Rattle.dwarf_meaning.specs.Requests as asked
+use Rattle.dwarf_meaning.specs.Requests as requests
 use Rattle.dwarf_meaning.specs.Requests.{Request}
 use Rattle.dwarf_meaning.specs.Rest.{State, Status, Start, Running, RequestStatus, CompleteStatus, FaultStatus}
 use Rattle.dwarf_meaning.specs.Steps.{Step, InitialValue, ObjectAddress, MaxIterations, Evaluate, Resume, Told, Reply, CompleteReply, RequestReply, FaultReply, Allows, AllAllowed, after_steps, outcome_of}
@@ -20,9 +20,9 @@ use Rattle.dwarf_replay.proofs.Standings.{Went, went_at_first}
 use Rattle.dwarf_replay.proofs.Settings.{set_went_on}
 use Rattle.dwarf_replay.proofs.Calling.{called_went_on}
 use Rattle.dwarf_replay.proofs.Leading.{walks_all, walks_to}
-use Rattle.dwexpr_c.specs.Evaluated.{AreTaken, EndsByStep, Given, IsCutShort, IsNoFault, capacities, comes_of, told_by}
+use Rattle.dwexpr_c.specs.Evaluated.{AreTaken, EndsByStep, Beginning, IsCutShort, IsNoFault, capacities, comes_of, told_by}
 use Rattle.dwexpr_c.specs.Outcomes.{ShowsReply, ended_outcome, blank_outcome}
-use Rattle.dwexpr_c.specs.Steps.{step_in}
+use Rattle.dwexpr_c.specs.Steps.{step_coded}
 use Rattle.dwexpr_c.specs.Texts.{text_of_placed}
 use Rattle.dwexpr_c.specs.inner.Runs.{RanAll, given_at}
 use Rattle.dwexpr_c.specs.inner.Places.{AsksNowhere, IsGiven}
@@ -47,7 +47,7 @@ module _ (x new : State) (told : Result (EvaluationResult Placed ℕ ℕ) Error)
   told_evaluated (FaultStatus error) e s closed h = absurd s
   told_evaluated Running e s closed h = absurd s
 
-  told_resumed : (answer : asked.Answer) (status : Status) → ShowsStatus texts status out → IsInRequestFor (kind_of_answer answer) status → Resumes text_of_placed (λ x. x) (input_of x answer) x new told status → IsReplied (reply_of text_of_placed (λ x. x) told) new.status
+  told_resumed : (answer : requests.Answer) (status : Status) → ShowsStatus texts status out → IsInRequestFor (kind_of_answer answer) status → Resumes text_of_placed (λ x. x) (input_of x answer) x new told status → IsReplied (reply_of text_of_placed (λ x. x) told) new.status
   told_resumed answer (RequestStatus request waiting) s asking h = h.status
   told_resumed answer (Start initial_value) s asking h = absurd asking
   told_resumed answer (CompleteStatus value) s asking h = absurd asking
@@ -110,7 +110,7 @@ abbrev BlockNowhere : List DwexprText → Option Outcome → Type 0
 BlockNowhere texts (Some (RequestOutcome request positions)) = AsksNowhere texts (RequestReply request)
 BlockNowhere texts _ = ⊥
 
-waiting_asks : (texts : List DwexprText) (told : Told) (x : State) (o : Option Outcome) (request : Request) (waiting : asked.Waiting) → x.status ≡ RequestStatus request waiting → AsksNowhere texts (RequestReply request) → StandsAt told x o → BlockNowhere texts o
+waiting_asks : (texts : List DwexprText) (told : Told) (x : State) (o : Option Outcome) (request : Request) (waiting : requests.Waiting) → x.status ≡ RequestStatus request waiting → AsksNowhere texts (RequestReply request) → StandsAt told x o → BlockNowhere texts o
 waiting_asks texts told x None request waiting e a h = absurd (let s : RequestStatus request waiting ≡ Start told.settings.initial_value = sym e ∙ h.0 in cc)
 waiting_asks texts told x (Some (RequestOutcome other positions)) request waiting e a h =
     let is : IsInRequest other positions x (RequestStatus request waiting) = subst (IsInRequest other positions x) e h.0 in
@@ -180,7 +180,7 @@ refused_as first refusal a b steps others r s l h =
 -- these steps were done, and the outcome shows where the evaluation stands
 pub record Reached (texts : List DwexprText) (numbers : List DwexprStep) (first x : State) (out : DwexprOutcome) : Type 0 where
   pub steps : List Step
-  pub said : map (step_in first.text.is_big texts) numbers ≡ map Ok steps
+  pub said : map (step_coded first.text.is_big texts) numbers ≡ map Ok steps
   pub replies : List Reply
   pub went : Went first steps replies x
   pub shown : ShowsStatus texts x.status out
@@ -200,16 +200,16 @@ module _ (texts : List DwexprText) (all : List DwexprStep) (index : ℕ) (at : D
       take-suc all index at (slice_get_within all index at is_there)
       ∙ ap (λ (s : DwexprStep). take index all ++ s ∷ []) (get_or_from_slice_get all index at at is_there)
 
-  said_next : (steps : List Step) (step : Step) → map (step_in first.text.is_big texts) (take index all) ≡ map Ok steps → step_in first.text.is_big texts at ≡ Ok step → map (step_in first.text.is_big texts) (take (suc index) all) ≡ map Ok (steps ++ step ∷ [])
+  said_next : (steps : List Step) (step : Step) → map (step_coded first.text.is_big texts) (take index all) ≡ map Ok steps → step_coded first.text.is_big texts at ≡ Ok step → map (step_coded first.text.is_big texts) (take (suc index) all) ≡ map Ok (steps ++ step ∷ [])
   said_next steps step said one =
-      ap (map (step_in first.text.is_big texts)) take_next
-      ∙ (map-append (step_in first.text.is_big texts) (take index all) (at ∷ [])
-      ∙ (ap (λ (l : List (Result Step ℕ)). l ++ step_in first.text.is_big texts at ∷ []) said
+      ap (map (step_coded first.text.is_big texts)) take_next
+      ∙ (map-append (step_coded first.text.is_big texts) (take index all) (at ∷ [])
+      ∙ (ap (λ (l : List (Result Step ℕ)). l ++ step_coded first.text.is_big texts at ∷ []) said
       ∙ (ap (λ (o : Result Step ℕ). map Ok steps ++ o ∷ []) one
       ∙ sym (map-append Ok steps (step ∷ [])))))
 
   module _ (x new : State) (out : DwexprOutcome) (r : Reached texts (take index all) first x out) where
-    next_by : (now : DwexprOutcome) (o : Result Step ℕ) → step_in first.text.is_big texts at ≡ o → DoesStep texts o x new out now (Ok tt) → Reached texts (take (suc index) all) first new now
+    next_by : (now : DwexprOutcome) (o : Result Step ℕ) → step_coded first.text.is_big texts at ≡ o → DoesStep texts o x new out now (Ok tt) → Reached texts (take (suc index) all) first new now
     next_by now (Ok step) one (inl h) =
         subst (Reached texts (take (suc index) all) first new) (sym h.1)
         (record {
@@ -229,10 +229,10 @@ module _ (texts : List DwexprText) (all : List DwexprStep) (index : ℕ) (at : D
     next_by now (Err code) one h = absurd h
 
     -- the step was done
-    pub next : (now : DwexprOutcome) → DoesStep texts (step_in first.text.is_big texts at) x new out now (Ok tt) → Reached texts (take (suc index) all) first new now
-    next now h = next_by now (step_in first.text.is_big texts at) refl h
+    pub next : (now : DwexprOutcome) → DoesStep texts (step_coded first.text.is_big texts at) x new out now (Ok tt) → Reached texts (take (suc index) all) first new now
+    next now h = next_by now (step_coded first.text.is_big texts at) refl h
 
-    abbrev given : Given
+    abbrev given : Beginning
     given = given_at first texts
 
     walks : Done first r.steps r.replies x
@@ -241,7 +241,7 @@ module _ (texts : List DwexprText) (all : List DwexprStep) (index : ℕ) (at : D
     taken : AreTaken given (take index all) r.steps
     taken = record { said = r.said; allowed = walks.allowed }
 
-    ends_by : (end : FaultNumbers) → EndsByStep given r.steps (step_in first.text.is_big texts at) (ended_outcome end.code end.number index) → IsCutShort given all (ended_outcome end.code end.number index)
+    ends_by : (end : FaultNumbers) → EndsByStep given r.steps (step_coded first.text.is_big texts at) (ended_outcome end.code end.number index) → IsCutShort given all (ended_outcome end.code end.number index)
     ends_by end h = record {
       before = r.steps;
       taken = taken;
@@ -267,14 +267,14 @@ module _ (texts : List DwexprText) (all : List DwexprStep) (index : ℕ) (at : D
         in
         refused_as first w.walks.refusal w.step step (take (length r.steps) behind) r.steps (none_free first.setup.limits w.walks.refusal limits w.walks.may) same front refused
 
-    nowhere_never : (step : Step) → step_in first.text.is_big texts at ≡ Ok step → (o : Option Outcome) → comes_of given (r.steps ++ step ∷ []) ≡ o → BlockNowhere texts o → ⊥
+    nowhere_never : (step : Step) → step_coded first.text.is_big texts at ≡ Ok step → (o : Option Outcome) → comes_of given (r.steps ++ step ∷ []) ≡ o → BlockNowhere texts o → ⊥
     nowhere_never step one (Some (RequestOutcome request positions)) e a =
         asks_somewhere texts first is_given (take (suc index) all) (r.steps ++ step ∷ []) (said_next r.steps step r.said one) request positions e a
     nowhere_never step one (Some (FaultOutcome fault)) e a = a
     nowhere_never step one (Some (CompleteOutcome pieces value)) e a = a
     nowhere_never step one None e a = a
 
-    ends_at : (end : FaultNumbers) (step : Step) → step_in first.text.is_big texts at ≡ Ok step → DoesStep texts (Ok step) x new out out (Err end) → EndsByStep given r.steps (Ok step) (ended_outcome end.code end.number index)
+    ends_at : (end : FaultNumbers) (step : Step) → step_coded first.text.is_big texts at ≡ Ok step → DoesStep texts (Ok step) x new out out (Err end) → EndsByStep given r.steps (Ok step) (ended_outcome end.code end.number index)
     ends_at end step one (inl h) =
         inl (record { not_allowed = misplaced_at step h.not_taken; shown = ap (λ (e : FaultNumbers). ended_outcome e.code e.number index) h.shown })
     ends_at end step one (inr (inl h)) =
@@ -291,13 +291,13 @@ module _ (texts : List DwexprText) (all : List DwexprStep) (index : ℕ) (at : D
         let told = told_by_call x new (Ok h.told) texts out step r.shown h.called in
         absurd (nowhere_never step one _ refl (stands_at_block texts _ new _ (ok_reply text_of_placed (λ x. x) h.told) new.status refl told h.asks w.stands))
 
-    stops_by : (end : FaultNumbers) (now : DwexprOutcome) (o : Result Step ℕ) → step_in first.text.is_big texts at ≡ o → DoesStep texts o x new out now (Err end) → EndsByStep given r.steps o (ended_outcome end.code end.number index)
+    stops_by : (end : FaultNumbers) (now : DwexprOutcome) (o : Result Step ℕ) → step_coded first.text.is_big texts at ≡ o → DoesStep texts o x new out now (Err end) → EndsByStep given r.steps o (ended_outcome end.code end.number index)
     stops_by end now (Ok step) one h = ends_at end step one h
     stops_by end now (Err code) one h = ap (λ (e : FaultNumbers). ended_outcome e.code e.number index) h
 
     -- it was not
-    pub stops : (end : FaultNumbers) (now : DwexprOutcome) → DoesStep texts (step_in first.text.is_big texts at) x new out now (Err end) → IsCutShort given all (ended_outcome end.code end.number index)
-    stops end now h = ends_by end (stops_by end now (step_in first.text.is_big texts at) refl h)
+    pub stops : (end : FaultNumbers) (now : DwexprOutcome) → DoesStep texts (step_coded first.text.is_big texts at) x new out now (Err end) → IsCutShort given all (ended_outcome end.code end.number index)
+    stops end now h = ends_by end (stops_by end now (step_coded first.text.is_big texts at) refl h)
 
 -- all were
 pub ran_all : (texts : List DwexprText) (all : List DwexprStep) (index : ℕ) (first x : State) (out : DwexprOutcome) → first.setup.limits ≡ capacities → length all ≤ index → Reached texts (take index all) first x out → RanAll texts all first x out
@@ -305,7 +305,7 @@ ran_all texts all index first x out limits past r =
     let w = done_never first r.steps r.replies x limits r.went in
     record {
       steps = r.steps;
-      taken = record { said = ap (map (step_in first.text.is_big texts)) (sym (take_all index all past)) ∙ r.said; allowed = w.allowed };
+      taken = record { said = ap (map (step_coded first.text.is_big texts)) (sym (take_all index all past)) ∙ r.said; allowed = w.allowed };
       stands = w.stands;
       shown = r.shown;
     }

@@ -5,12 +5,12 @@ use Rattle.dwarf_base.specs.Faults.{Fault}
 use Rattle.dwarf_base.specs.Reads.{Text}
 use Rattle.dwarf_meaning.specs.Stores.{Setup}
 use Rattle.dwarf_meaning.specs.Meaning.{Outcome, RequestOutcome, FaultOutcome, CompleteOutcome}
-use Rattle.dwarf_meaning.specs.Steps.{Step, Told, Allows, AllAllowed, after_steps, outcome_of}
+use Rattle.dwarf_meaning.specs.Steps.{Step, Told, Allows, AllAllowed, after_steps, outcome_of, untold}
 use Rattle.dwarf_meaning.specs.Refusals.{Limits, Never}
 use Rattle.dwexpr_c.specs.Codes.{misplaced_code}
 use Rattle.dwexpr_c.specs.Outcomes.{ShowsRequest, complete_outcome, ended_outcome, fault_outcome, blank_outcome}
 use Rattle.dwexpr_c.specs.Pieces.{AreWritten}
-use Rattle.dwexpr_c.specs.Steps.{step_in}
+use Rattle.dwexpr_c.specs.Steps.{step_coded}
 use Rattle.dwexpr_c.specs.Texts.{text_in}
 use Rattle.dwexpr_c.specs.declared.outcomes.DwexprOutcome.{DwexprOutcome}
 use Rattle.dwexpr_c.specs.declared.pieces.DwexprPiece.{DwexprPiece}
@@ -25,33 +25,28 @@ capacities = record { values = Some 64; callers = Some 16; pieces = Some 32 }
 abbrev pub limited_setup : Encoding → Setup
 limited_setup encoding = record { encoding = encoding; offset_bits = 64; limits = capacities }
 
--- no step was done
-abbrev pub untold : Told
-untold =
-    record { settings = record { initial_value = None; object_address = None; maximum = 4294967295 }; first = None; inputs = [] }
-
 -- an expression, what was told before its steps, and the texts that these may name
-pub record Given : Type 0 where
+pub record Beginning : Type 0 where
   pub setup : Setup
   pub text : Text
   pub told : Told
   pub texts : List DwexprText
 
 -- what was told once the steps are done
-abbrev pub told_by : Given → List Step → Told
+abbrev pub told_by : Beginning → List Step → Told
 told_by given steps = after_steps given.setup Never given.text given.told steps
 
 -- what comes of the steps
-abbrev pub comes_of : Given → List Step → Option Outcome
+abbrev pub comes_of : Beginning → List Step → Option Outcome
 comes_of given steps = outcome_of given.setup Never given.text (told_by given steps)
 
 -- each step is allowed when it comes
-abbrev pub MayAll : Given → List Step → Type 0
+abbrev pub MayAll : Beginning → List Step → Type 0
 MayAll given steps = AllAllowed given.setup Never given.text given.told steps
 
 -- the numbers say these steps, and each is allowed when it comes
-pub record AreTaken (given : Given) (numbers : List DwexprStep) (steps : List Step) : Type 0 where
-  pub said : map (step_in given.text.is_big given.texts) numbers ≡ map Ok steps
+pub record AreTaken (given : Beginning) (numbers : List DwexprStep) (steps : List Step) : Type 0 where
+  pub said : map (step_coded given.text.is_big given.texts) numbers ≡ map Ok steps
   pub allowed : MayAll given steps
 
 -- no fault came
@@ -68,7 +63,7 @@ ShowsOutcome texts (Some (CompleteOutcome pieces value)) out old new =
 ShowsOutcome texts (Some (FaultOutcome fault)) out old new = ⊥
 
 -- all steps were done, and what came of them is shown
-pub record IsDone (given : Given) (numbers : List DwexprStep) (out : DwexprOutcome) (old new : List DwexprPiece) : Type 0 where
+pub record IsDone (given : Beginning) (numbers : List DwexprStep) (out : DwexprOutcome) (old new : List DwexprPiece) : Type 0 where
   pub steps : List Step
   pub taken : AreTaken given numbers steps
   pub shown : ShowsOutcome given.texts (comes_of given steps) out old new
@@ -76,33 +71,33 @@ pub record IsDone (given : Given) (numbers : List DwexprStep) (out : DwexprOutco
 -- ---- a step that ends the evaluation
 
 -- it isn't allowed
-pub record IsMisplaced (given : Given) (before : List Step) (step : Step) (out : DwexprOutcome) : Type 0 where
+pub record IsMisplaced (given : Beginning) (before : List Step) (step : Step) (out : DwexprOutcome) : Type 0 where
   pub not_allowed : Allows (told_by given before) (comes_of given before) step → ⊥
   pub shown : out ≡ ended_outcome misplaced_code 0 out.step
 
 -- it is allowed, and meets a fault
-pub record MeetsFault (given : Given) (before : List Step) (step : Step) (out : DwexprOutcome) : Type 0 where
+pub record MeetsFault (given : Beginning) (before : List Step) (step : Step) (out : DwexprOutcome) : Type 0 where
   pub allowed : MayAll given (before ++ step ∷ [])
   pub fault : Fault
   pub comes : comes_of given (before ++ step ∷ []) ≡ Some (FaultOutcome fault)
   pub shown : out ≡ fault_outcome fault out.step
 
 -- the numbers say no step, or one that ends the evaluation
-abbrev pub EndsByStep : Given → (before : List Step) → Result Step ℕ → DwexprOutcome → Type 0
+abbrev pub EndsByStep : Beginning → (before : List Step) → Result Step ℕ → DwexprOutcome → Type 0
 EndsByStep given before (Err code) out = out ≡ ended_outcome code 0 out.step
 EndsByStep given before (Ok step) out = IsMisplaced given before step out ⊎ MeetsFault given before step out
 
 -- the steps before the one that is shown were done without a fault, and that one ended the evaluation
-pub record IsCutShort (given : Given) (numbers : List DwexprStep) (out : DwexprOutcome) : Type 0 where
+pub record IsCutShort (given : Beginning) (numbers : List DwexprStep) (out : DwexprOutcome) : Type 0 where
   pub before : List Step
   pub taken : AreTaken given (take out.step numbers) before
   pub no_fault : IsNoFault (comes_of given before)
   pub at : DwexprStep
   pub is_there : slice_get numbers out.step ≡ Some at
-  pub ends : EndsByStep given before (step_in given.text.is_big given.texts at) out
+  pub ends : EndsByStep given before (step_coded given.text.is_big given.texts at) out
 
 -- what the steps come to, from the first on
-abbrev pub EvaluatesGiven : Given → List DwexprStep → DwexprOutcome → (old new : List DwexprPiece) → Type 0
+abbrev pub EvaluatesGiven : Beginning → List DwexprStep → DwexprOutcome → (old new : List DwexprPiece) → Type 0
 EvaluatesGiven given numbers out old new =
     IsDone given numbers out old new ⊎ (IsCutShort given numbers out × (new ≡ old))
 

@@ -3,7 +3,7 @@ use Rattle.std.specs.Prelude.{ℕ, ◌≡◌, List, Option, Some, None, length}
 use Rattle.dwarf_base.specs.Faults.{Fault}
 use Rattle.dwarf_value.specs.declared.types.Value.{Value}
 use Rattle.dwarf_meaning.specs.Operations as operations
-use Rattle.dwarf_meaning.specs.Requests as asked
+use Rattle.dwarf_meaning.specs.Requests as requests
 use Rattle.dwarf_meaning.specs.Requests.{Request}
 use Rattle.dwarf_meaning.specs.Steps.{Reply, CompleteReply, RequestReply, FaultReply}
 use Rattle.dwexpr_c.specs.Codes.{code_of_fault, number_of_fault}
@@ -32,25 +32,25 @@ fault_outcome fault step = ended_outcome (code_of_fault fault) (number_of_fault 
 
 -- a request and what it names, but for a block
 abbrev pub request_shown : Request → DwexprOutcome
-request_shown (asked.RequiresMemory address size None base_type) =
+request_shown (requests.RequiresMemory address size None base_type) =
     record (request_outcome 2 address) { size = size; base_type = base_type }
-request_shown (asked.RequiresMemory address size (Some space) base_type) =
+request_shown (requests.RequiresMemory address size (Some space) base_type) =
     record (request_outcome 2 address) { size = size; base_type = base_type; flag = 1; space = space }
-request_shown (asked.RequiresRegister register base_type) =
+request_shown (requests.RequiresRegister register base_type) =
     record (request_outcome 3 0) { register_number = register; base_type = base_type }
-request_shown asked.RequiresFrameBase = request_outcome 4 0
-request_shown (asked.RequiresTls index) = request_outcome 5 index
-request_shown asked.RequiresCallFrameCfa = request_outcome 6 0
-request_shown (asked.RequiresAtLocation (operations.UnitRef offset)) = request_outcome 7 offset
-request_shown (asked.RequiresAtLocation (operations.DebugInfoRef offset)) = record (request_outcome 7 offset) { flag = 1 }
-request_shown (asked.RequiresEntryValue expression) = request_outcome 8 0
-request_shown (asked.RequiresParameterRef offset) = request_outcome 9 offset
-request_shown (asked.RequiresRelocatedAddress address) = request_outcome 10 address
-request_shown (asked.RequiresIndexedAddress index relocate) = record (request_outcome 11 index) { flag = flag_of relocate }
-request_shown (asked.RequiresBaseType offset) = record (request_outcome 12 0) { base_type = offset }
-request_shown (asked.RequiresWasmLocal index) = request_outcome 13 index
-request_shown (asked.RequiresWasmGlobal index) = request_outcome 14 index
-request_shown (asked.RequiresWasmStack index) = request_outcome 15 index
+request_shown requests.RequiresFrameBase = request_outcome 4 0
+request_shown (requests.RequiresTls index) = request_outcome 5 index
+request_shown requests.RequiresCallFrameCfa = request_outcome 6 0
+request_shown (requests.RequiresAtLocation (operations.UnitRef offset)) = request_outcome 7 offset
+request_shown (requests.RequiresAtLocation (operations.DebugInfoRef offset)) = record (request_outcome 7 offset) { flag = 1 }
+request_shown (requests.RequiresEntryValue expression) = request_outcome 8 0
+request_shown (requests.RequiresParameterRef offset) = request_outcome 9 offset
+request_shown (requests.RequiresRelocatedAddress address) = request_outcome 10 address
+request_shown (requests.RequiresIndexedAddress index relocate) = record (request_outcome 11 index) { flag = flag_of relocate }
+request_shown (requests.RequiresBaseType offset) = record (request_outcome 12 0) { base_type = offset }
+request_shown (requests.RequiresWasmLocal index) = request_outcome 13 index
+request_shown (requests.RequiresWasmGlobal index) = request_outcome 14 index
+request_shown (requests.RequiresWasmStack index) = request_outcome 15 index
 
 -- the outcome names the place of these bytes, and nothing else differs
 abbrev pub ShowsBlock : List DwexprText → List ℕ → (shown out : DwexprOutcome) → Type 0
@@ -60,7 +60,7 @@ ShowsBlock texts block shown out =
 
 -- the outcome shows a request, with the place of its block
 abbrev pub ShowsRequest : List DwexprText → Request → DwexprOutcome → Type 0
-ShowsRequest texts (asked.RequiresEntryValue expression) out = ShowsBlock texts expression.bytes (request_outcome 8 0) out
+ShowsRequest texts (requests.RequiresEntryValue expression) out = ShowsBlock texts expression.bytes (request_outcome 8 0) out
 ShowsRequest texts request out = out ≡ request_shown request
 
 -- a call replied

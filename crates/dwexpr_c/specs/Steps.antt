@@ -1,47 +1,47 @@
 -- The steps that a caller may name by numbers (DWARF 5, section 2.5).
 use Rattle.std.specs.Prelude.{ℕ, ◌==◌, ◌^◌, Bool, List, Option, Some, None, Result, Ok, Err, slice_get, nat_lt, if◌then◌else◌}
-use Rattle.dwarf_meaning.specs.Requests as asked
+use Rattle.dwarf_meaning.specs.Requests as requests
 use Rattle.dwarf_meaning.specs.Steps as meaning
 use Rattle.dwarf_value.specs.declared.types.Value.{Value}
 use Rattle.dwarf_value.specs.declared.types.ValueType.{ValueType}
 use Rattle.dwexpr_c.specs.Codes.{bad_step_code, bad_text_code}
 use Rattle.dwexpr_c.specs.Texts.{text_in}
-use Rattle.dwexpr_c.specs.Values.{type_in, value_in}
+use Rattle.dwexpr_c.specs.Values.{type_coded, value_coded}
 use Rattle.dwexpr_c.specs.declared.steps.DwexprText.{DwexprText}
 use Rattle.dwexpr_c.specs.declared.steps.DwexprStep.{DwexprStep}
 
 -- an answer with a value, where the numbers say one
-abbrev pub with_value : (Value → asked.Answer) → Option Value → Result meaning.Step ℕ
+abbrev pub with_value : (Value → requests.Answer) → Option Value → Result meaning.Step ℕ
 with_value answer None = Err bad_step_code
 with_value answer (Some value) = Ok (meaning.Resume (answer value))
 
 -- an answer with a type, where the code is one
 abbrev pub with_type : Option ValueType → Result meaning.Step ℕ
 with_type None = Err bad_step_code
-with_type (Some t) = Ok (meaning.Resume (asked.BaseTypeAnswer t))
+with_type (Some t) = Ok (meaning.Resume (requests.BaseTypeAnswer t))
 
 -- an answer with a text, where the index has one
 abbrev pub with_text : (big : Bool) → Option DwexprText → Result meaning.Step ℕ
 with_text big None = Err bad_text_code
-with_text big (Some text) = Ok (meaning.Resume (asked.LocationAnswer (text_in big text)))
+with_text big (Some text) = Ok (meaning.Resume (requests.LocationAnswer (text_in big text)))
 
 -- the step that the numbers say, or the code where they say none
-abbrev pub step_in : (big : Bool) → List DwexprText → DwexprStep → Result meaning.Step ℕ
-step_in big texts step =
+abbrev pub step_coded : (big : Bool) → List DwexprText → DwexprStep → Result meaning.Step ℕ
+step_coded big texts step =
     if step.kind == 1 then Ok (meaning.InitialValue step.number)
     else if step.kind == 2 then Ok (meaning.ObjectAddress step.number)
     else if step.kind == 3 then (if nat_lt step.number (2 ^ 32) then Ok (meaning.MaxIterations step.number) else Err bad_step_code)
     else if step.kind == 4 then Ok meaning.Evaluate
-    else if step.kind == 5 then with_value asked.MemoryAnswer (value_in step.value_type step.number)
-    else if step.kind == 6 then with_value asked.RegisterAnswer (value_in step.value_type step.number)
-    else if step.kind == 7 then with_value asked.WasmAnswer (value_in step.value_type step.number)
-    else if step.kind == 8 then with_value asked.EntryAnswer (value_in step.value_type step.number)
-    else if step.kind == 9 then Ok (meaning.Resume (asked.FrameBaseAnswer step.number))
-    else if step.kind == 10 then Ok (meaning.Resume (asked.TlsAnswer step.number))
-    else if step.kind == 11 then Ok (meaning.Resume (asked.CfaAnswer step.number))
-    else if step.kind == 12 then Ok (meaning.Resume (asked.ParameterAnswer step.number))
-    else if step.kind == 13 then Ok (meaning.Resume (asked.RelocatedAnswer step.number))
-    else if step.kind == 14 then Ok (meaning.Resume (asked.IndexedAnswer step.number))
+    else if step.kind == 5 then with_value requests.MemoryAnswer (value_coded step.value_type step.number)
+    else if step.kind == 6 then with_value requests.RegisterAnswer (value_coded step.value_type step.number)
+    else if step.kind == 7 then with_value requests.WasmAnswer (value_coded step.value_type step.number)
+    else if step.kind == 8 then with_value requests.EntryAnswer (value_coded step.value_type step.number)
+    else if step.kind == 9 then Ok (meaning.Resume (requests.FrameBaseAnswer step.number))
+    else if step.kind == 10 then Ok (meaning.Resume (requests.TlsAnswer step.number))
+    else if step.kind == 11 then Ok (meaning.Resume (requests.CfaAnswer step.number))
+    else if step.kind == 12 then Ok (meaning.Resume (requests.ParameterAnswer step.number))
+    else if step.kind == 13 then Ok (meaning.Resume (requests.RelocatedAnswer step.number))
+    else if step.kind == 14 then Ok (meaning.Resume (requests.IndexedAnswer step.number))
     else if step.kind == 15 then with_text big (slice_get texts step.text)
-    else if step.kind == 16 then with_type (type_in step.value_type)
+    else if step.kind == 16 then with_type (type_coded step.value_type)
     else Err bad_step_code

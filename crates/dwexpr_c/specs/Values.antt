@@ -8,8 +8,8 @@ use Rattle.dwarf_value.specs.declared.types.ValueType.TheVariants as value_type
 use Rattle.dwexpr_c.specs.declared.values.ValueNumbers.{ValueNumbers}
 
 -- the type of a code
-abbrev pub type_in : (code : ℕ) → Option ValueType
-type_in code =
+abbrev pub type_coded : (code : ℕ) → Option ValueType
+type_coded code =
     if code == 1 then Some value_type.Generic
     else if code == 2 then Some value_type.I8
     else if code == 3 then Some value_type.U8
@@ -39,8 +39,8 @@ value_typed None content = None
 value_typed (Some t) content = Some (value_at t content)
 
 -- the value that a type's code and a content say
-abbrev pub value_in : (code content : ℕ) → Option Value
-value_in code content = value_typed (type_in code) content
+abbrev pub value_coded : (code content : ℕ) → Option Value
+value_coded code content = value_typed (type_coded code) content
 
 -- a value as a caller sees it; a signed content is extended to 64 bits
 abbrev pub shown_value : Value → ValueNumbers

@@ -2,13 +2,14 @@ ghost use Rattle.std.specs.Prelude.{◌≡◌, ◌<◌, ◌≤◌, Some, None, t
 ghost use Rattle.dwarf_base.specs.ByteOrder.{is_big_of};
 ghost use Rattle.dwarf_eval.specs.Evaluation.{HasResult, IsComplete};
 ghost use Rattle.dwarf_eval.specs.Machine.{piece_of};
+ghost use Rattle.dwarf_meaning.specs.Steps.{untold};
 ghost use Rattle.dwarf_meaning.specs.Rest.{CompleteStatus, Start};
 ghost use Rattle.dwarf_replay.specs.Replays.{told_at};
 ghost use Rattle.dwexpr_c.specs.Codes.{bad_encoding_code};
 ghost use Rattle.dwexpr_c.specs.Encodings.{is_encoding, encoding_in, is_big_in};
-ghost use Rattle.dwexpr_c.specs.Evaluated.{EvaluatesGiven, EvaluatesFirst, capacities, limited_setup, untold};
+ghost use Rattle.dwexpr_c.specs.Evaluated.{EvaluatesGiven, EvaluatesFirst, capacities, limited_setup};
 ghost use Rattle.dwexpr_c.specs.Outcomes.{ended_outcome};
-ghost use Rattle.dwexpr_c.specs.Steps.{step_in};
+ghost use Rattle.dwexpr_c.specs.Steps.{step_coded};
 ghost use Rattle.dwexpr_c.specs.Texts.{text_of_placed};
 ghost use Rattle.dwexpr_c.specs.inner.Places.{IsGiven};
 ghost use Rattle.dwexpr_c.specs.inner.Stepping.{DoesStep, EndsOutcome, FinishesOutcome};
@@ -47,7 +48,7 @@ fn do_step<'a, S: EvaluationStorage<Placed<'a>>>(
     numbers: DwexprStep,
     outcome: &mut DwexprOutcome,
 ) -> Result<(), FaultNumbers>
-    ensures { DoesStep texts.now (step_in (is_big_of order) texts.now numbers) evaluation.old
+    ensures { DoesStep texts.now (step_coded (is_big_of order) texts.now numbers) evaluation.old
         evaluation.new outcome.old outcome.new result }
 {
     let step = match step_of(texts, order, numbers) {

@@ -106,7 +106,11 @@ fn asking_memory(address: u64, size: u8, base_type: usize) -> DwexprOutcome
 /// The outcome with the place of a block.
 fn with_block(shown: DwexprOutcome, place: Place, size: usize) -> DwexprOutcome
     ensures { result
-        ≡ record shown { block_text = place.text; block_offset = place.offset; block_length = size } }
+        ≡ record shown {
+          block_text = place.text;
+          block_offset = place.offset;
+          block_length = size;
+        } }
 {
     DwexprOutcome {
         block_text: place.text,

@@ -77,7 +77,11 @@ fn sized(kind: u32, size_in_bits: Option<u64>, bit_offset: Option<u64>) -> Dwexp
 /// The piece with the place of its bytes.
 fn with_bytes(shown: DwexprPiece, place: Place, size: usize) -> DwexprPiece
     ensures { result
-        ≡ record shown { block_text = place.text; block_offset = place.offset; block_length = size } }
+        ≡ record shown {
+          block_text = place.text;
+          block_offset = place.offset;
+          block_length = size;
+        } }
 {
     DwexprPiece {
         block_text: place.text,

@@ -1,7 +1,7 @@
 ghost use Rattle.std.specs.Prelude.{◌≡◌, Some, None, IfSome, IfNone, IfOk, IfErr, Ok, Err, slice_get, length, true, false};
 ghost use Rattle.dwarf_base.specs.ByteOrder.{is_big_of};
 ghost use Rattle.dwarf_replay.specs.Stepping as stepping;
-ghost use Rattle.dwexpr_c.specs.Steps.{step_in};
+ghost use Rattle.dwexpr_c.specs.Steps.{step_coded};
 ghost use Rattle.dwexpr_c.specs.Texts.{IsPlaced, TextAt, text_of_placed};
 ghost use Rattle.dwexpr_c.specs.inner.Places.{IsAt, IsGiven, IsNotAt, IsNotIn, IsNowhere};
 
@@ -151,9 +151,9 @@ pub(crate) fn step_of<'a>(
     step: DwexprStep,
 ) -> Result<Step<Placed<'a>>, u32>
     ensures ok { IfOk result
-        (λ said. step_in (is_big_of order) texts.now step
+        (λ said. step_coded (is_big_of order) texts.now step
         ≡ Ok (stepping.step_of text_of_placed said)) }
-    ensures err { IfErr result (λ code. step_in (is_big_of order) texts.now step ≡ Err code) }
+    ensures err { IfErr result (λ code. step_coded (is_big_of order) texts.now step ≡ Err code) }
 {
     let number = step.number;
     let value = value_of(step.value_type, number).ok_or(BAD_STEP);

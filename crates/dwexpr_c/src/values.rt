@@ -1,11 +1,11 @@
 ghost use Rattle.std.specs.Prelude.{◌≡◌};
-ghost use Rattle.dwexpr_c.specs.Values.{shown_value, type_in, value_in};
+ghost use Rattle.dwexpr_c.specs.Values.{shown_value, type_coded, value_coded};
 
 use dwarf_value::{Value, ValueType};
 
 /// The type of a code.
 pub(crate) fn type_of_code(code: u32) -> Option<ValueType>
-    ensures { result ≡ type_in code }
+    ensures { result ≡ type_coded code }
 {
     match code {
         1 => Some(ValueType::Generic),
@@ -53,7 +53,7 @@ pub(crate) fn numbers_of_value(value: Value) -> ValueNumbers
 
 /// The value of this type whose lowest bits are these.
 pub(crate) fn value_of(code: u32, content: u64) -> Option<Value>
-    ensures { result ≡ value_in code content }
+    ensures { result ≡ value_coded code content }
 {
     let byte = (content % 0x100) as u8;
     let half = (content % 0x1_0000) as u16;

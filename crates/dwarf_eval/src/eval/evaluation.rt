@@ -1,7 +1,7 @@
 ghost use Rattle.std.specs.Prelude.{◌≡◌, ◌<◌, ◌≤◌, [], None, Some, IfOk, map};
 ghost use Rattle.dwarf_meaning.specs.declared.kinds.WaitingKind.TheVariants as kind;
 ghost use Rattle.dwarf_meaning.specs.Kinds.{kind_of_answer};
-ghost use Rattle.dwarf_meaning.specs.Requests as asked;
+ghost use Rattle.dwarf_meaning.specs.Requests as requests;
 ghost use Rattle.dwarf_meaning.specs.Rest.{Start, CompleteStatus};
 ghost use Rattle.dwarf_eval.specs.Permits.{Admits, IsOpenFor, Permits, Shows, answer_of};
 ghost use Rattle.dwarf_eval.specs.Bounds.{IsUnspent, calls_left};
@@ -21,9 +21,9 @@ use std::marker::Model;
 
 /// An evaluation of an expression (DWARF 5, section 2.5).
 ///
-/// `evaluate` starts it, and answers either that it is complete or what it has to be told before it goes on;
-/// the caller then calls the resume of that kind, as `status` says, until it is complete. A fault is kept:
-/// every later call answers it.
+/// `evaluate` starts it, and replies either that it is complete or what it has to be told before it goes on;
+/// the caller then calls the resume that the reply names, and `status` too, until it is complete. A fault is kept:
+/// every later call gives it.
 #[derive(Drop)]
 pub struct Evaluation<R: Reader + Copy, S: EvaluationStorage<R>> {
     machine: Machine<R, S>,
@@ -143,7 +143,8 @@ impl<R: Reader + Copy, S: EvaluationStorage<R>> Evaluation<R, S> {
     }
 
     /// Lets the evaluation start with this value on the stack, as `DW_AT_vtable_elem_location` and
-    /// `DW_AT_data_member_location` want it: the object's address. It may be set once, before the start.
+    /// `DW_AT_data_member_location` want it: the object's address. It may be set once, before the start. Without one the
+    /// stack is empty then, and an expression that takes a value from it is `NotEnoughStackItems`.
     pub fn set_initial_value(&mut self, value: u64)
         requires { self.old.status ≡ Start None }
         ensures { self.new ≡ with_status (Start (Some value)) self.old }
@@ -151,7 +152,8 @@ impl<R: Reader + Copy, S: EvaluationStorage<R>> Evaluation<R, S> {
         self.machine.enter(EvaluationState::Start(Some(value)));
     }
 
-    /// Sets the address of the object that is described, for `DW_OP_push_object_address`. It holds from now on.
+    /// Sets the address of the object that is described, for `DW_OP_push_object_address`. It holds from now on. Without
+    /// one that operation is `InvalidPushObjectAddress`.
     pub fn set_object_address(&mut self, value: u64)
         ensures { self.new ≡ with_object (Some value) self.old }
     {
@@ -159,7 +161,8 @@ impl<R: Reader + Copy, S: EvaluationStorage<R>> Evaluation<R, S> {
     }
 
     /// Sets how many operations may be evaluated in all. It holds from now on, and can't be unset. While it isn't
-    /// set, there may be 4294967295. A location and the piece behind it count as one.
+    /// set, there may be 4294967295. A location and the piece behind it count as one. It bounds what broken or hostile
+    /// bytes can cost; one operation more is `TooManyIterations`.
     pub fn set_max_iterations(&mut self, value: u32)
         ensures { self.new ≡ with_maximum value self.old }
     {
@@ -168,14 +171,14 @@ impl<R: Reader + Copy, S: EvaluationStorage<R>> Evaluation<R, S> {
 
     /// Evaluates from the start to a request or to the end.
     ///
-    /// No request may be open. After the end it answers `Complete` again, and after a fault that fault.
+    /// No request may be open. After the end it replies `Complete` again, and after a fault that fault.
     pub fn evaluate(&mut self) -> Result<EvaluationResult<R>>
         requires { IsClosed self.old.status }
         ensures follows { Evaluates R.text R.Offset.number self.old self.new
             result self.old.status }
         ensures counts { EvaluatesPath self.old self.new
             (reply_of R.text R.Offset.number result) self.old.status }
-        ensures admits { IfOk result (λ told. Admits told self.new.status) }
+        ensures admits { IfOk result (λ replied. Admits replied self.new.status) }
     {
         match self.machine.state() {
             EvaluationState::Start(initial_value) => {
@@ -191,15 +194,13 @@ impl<R: Reader + Copy, S: EvaluationStorage<R>> Evaluation<R, S> {
 
     /// Goes on with an answer.
     fn resume(&mut self, given: Given<R>) -> Result<EvaluationResult<R>>
-        requires { IsOpenFor (kind_of_answer (answer_of R.text given))
-            self.old.status }
+        requires { IsOpenFor (kind_of_answer (answer_of R.text given)) self.old.status }
         ensures follows { Resumes R.text R.Offset.number
-            (input_of self.old (answer_of R.text given)) self.old self.new
-            result self.old.status }
-        ensures counts { ResumesPath (input_of self.old
-            (answer_of R.text given)) self.old self.new
-            (reply_of R.text R.Offset.number result) self.old.status }
-        ensures admits { IfOk result (λ told. Admits told self.new.status) }
+            (input_of self.old (answer_of R.text given))
+            self.old self.new result self.old.status }
+        ensures counts { ResumesPath (input_of self.old (answer_of R.text given))
+            self.old self.new (reply_of R.text R.Offset.number result) self.old.status }
+        ensures admits { IfOk result (λ replied. Admits replied self.new.status) }
         ensures fewer { IfOk result (λ told. calls_left self.new < calls_left self.old) }
     {
         match self.machine.state() {
@@ -218,11 +219,11 @@ impl<R: Reader + Copy, S: EvaluationStorage<R>> Evaluation<R, S> {
     pub fn resume_with_memory(&mut self, value: Value) -> Result<EvaluationResult<R>>
         requires { IsOpenFor kind.Memory self.old.status }
         ensures follows { Resumes R.text R.Offset.number
-            (input_of self.old (asked.MemoryAnswer value)) self.old self.new result
-            self.old.status }
-        ensures counts { ResumesPath (input_of self.old (asked.MemoryAnswer value)) self.old
-            self.new (reply_of R.text R.Offset.number result) self.old.status }
-        ensures admits { IfOk result (λ told. Admits told self.new.status) }
+            (input_of self.old (requests.MemoryAnswer value))
+            self.old self.new result self.old.status }
+        ensures counts { ResumesPath (input_of self.old (requests.MemoryAnswer value))
+            self.old self.new (reply_of R.text R.Offset.number result) self.old.status }
+        ensures admits { IfOk result (λ replied. Admits replied self.new.status) }
         ensures fewer { IfOk result (λ told. calls_left self.new < calls_left self.old) }
     {
         self.resume(Given::Memory(value))
@@ -232,11 +233,11 @@ impl<R: Reader + Copy, S: EvaluationStorage<R>> Evaluation<R, S> {
     pub fn resume_with_register(&mut self, value: Value) -> Result<EvaluationResult<R>>
         requires { IsOpenFor kind.Register self.old.status }
         ensures follows { Resumes R.text R.Offset.number
-            (input_of self.old (asked.RegisterAnswer value)) self.old self.new result
-            self.old.status }
-        ensures counts { ResumesPath (input_of self.old (asked.RegisterAnswer value)) self.old
-            self.new (reply_of R.text R.Offset.number result) self.old.status }
-        ensures admits { IfOk result (λ told. Admits told self.new.status) }
+            (input_of self.old (requests.RegisterAnswer value))
+            self.old self.new result self.old.status }
+        ensures counts { ResumesPath (input_of self.old (requests.RegisterAnswer value))
+            self.old self.new (reply_of R.text R.Offset.number result) self.old.status }
+        ensures admits { IfOk result (λ replied. Admits replied self.new.status) }
         ensures fewer { IfOk result (λ told. calls_left self.new < calls_left self.old) }
     {
         self.resume(Given::Register(value))
@@ -247,10 +248,11 @@ impl<R: Reader + Copy, S: EvaluationStorage<R>> Evaluation<R, S> {
     pub fn resume_with_wasm_value(&mut self, value: Value) -> Result<EvaluationResult<R>>
         requires { IsOpenFor kind.WasmValue self.old.status }
         ensures follows { Resumes R.text R.Offset.number
-            (input_of self.old (asked.WasmAnswer value)) self.old self.new result self.old.status }
-        ensures counts { ResumesPath (input_of self.old (asked.WasmAnswer value)) self.old self.new
-            (reply_of R.text R.Offset.number result) self.old.status }
-        ensures admits { IfOk result (λ told. Admits told self.new.status) }
+            (input_of self.old (requests.WasmAnswer value))
+            self.old self.new result self.old.status }
+        ensures counts { ResumesPath (input_of self.old (requests.WasmAnswer value))
+            self.old self.new (reply_of R.text R.Offset.number result) self.old.status }
+        ensures admits { IfOk result (λ replied. Admits replied self.new.status) }
         ensures fewer { IfOk result (λ told. calls_left self.new < calls_left self.old) }
     {
         self.resume(Given::WasmValue(value))
@@ -260,10 +262,11 @@ impl<R: Reader + Copy, S: EvaluationStorage<R>> Evaluation<R, S> {
     pub fn resume_with_entry_value(&mut self, value: Value) -> Result<EvaluationResult<R>>
         requires { IsOpenFor kind.EntryValue self.old.status }
         ensures follows { Resumes R.text R.Offset.number
-            (input_of self.old (asked.EntryAnswer value)) self.old self.new result self.old.status }
-        ensures counts { ResumesPath (input_of self.old (asked.EntryAnswer value)) self.old self.new
-            (reply_of R.text R.Offset.number result) self.old.status }
-        ensures admits { IfOk result (λ told. Admits told self.new.status) }
+            (input_of self.old (requests.EntryAnswer value))
+            self.old self.new result self.old.status }
+        ensures counts { ResumesPath (input_of self.old (requests.EntryAnswer value))
+            self.old self.new (reply_of R.text R.Offset.number result) self.old.status }
+        ensures admits { IfOk result (λ replied. Admits replied self.new.status) }
         ensures fewer { IfOk result (λ told. calls_left self.new < calls_left self.old) }
     {
         self.resume(Given::EntryValue(value))
@@ -273,11 +276,11 @@ impl<R: Reader + Copy, S: EvaluationStorage<R>> Evaluation<R, S> {
     pub fn resume_with_frame_base(&mut self, frame_base: u64) -> Result<EvaluationResult<R>>
         requires { IsOpenFor kind.FrameBase self.old.status }
         ensures follows { Resumes R.text R.Offset.number
-            (input_of self.old (asked.FrameBaseAnswer frame_base)) self.old self.new result
-            self.old.status }
-        ensures counts { ResumesPath (input_of self.old (asked.FrameBaseAnswer frame_base)) self.old
-            self.new (reply_of R.text R.Offset.number result) self.old.status }
-        ensures admits { IfOk result (λ told. Admits told self.new.status) }
+            (input_of self.old (requests.FrameBaseAnswer frame_base))
+            self.old self.new result self.old.status }
+        ensures counts { ResumesPath (input_of self.old (requests.FrameBaseAnswer frame_base))
+            self.old self.new (reply_of R.text R.Offset.number result) self.old.status }
+        ensures admits { IfOk result (λ replied. Admits replied self.new.status) }
         ensures fewer { IfOk result (λ told. calls_left self.new < calls_left self.old) }
     {
         self.resume(Given::FrameBase(frame_base))
@@ -287,10 +290,11 @@ impl<R: Reader + Copy, S: EvaluationStorage<R>> Evaluation<R, S> {
     pub fn resume_with_tls(&mut self, value: u64) -> Result<EvaluationResult<R>>
         requires { IsOpenFor kind.Tls self.old.status }
         ensures follows { Resumes R.text R.Offset.number
-            (input_of self.old (asked.TlsAnswer value)) self.old self.new result self.old.status }
-        ensures counts { ResumesPath (input_of self.old (asked.TlsAnswer value)) self.old self.new
-            (reply_of R.text R.Offset.number result) self.old.status }
-        ensures admits { IfOk result (λ told. Admits told self.new.status) }
+            (input_of self.old (requests.TlsAnswer value))
+            self.old self.new result self.old.status }
+        ensures counts { ResumesPath (input_of self.old (requests.TlsAnswer value))
+            self.old self.new (reply_of R.text R.Offset.number result) self.old.status }
+        ensures admits { IfOk result (λ replied. Admits replied self.new.status) }
         ensures fewer { IfOk result (λ told. calls_left self.new < calls_left self.old) }
     {
         self.resume(Given::Tls(value))
@@ -300,10 +304,11 @@ impl<R: Reader + Copy, S: EvaluationStorage<R>> Evaluation<R, S> {
     pub fn resume_with_call_frame_cfa(&mut self, cfa: u64) -> Result<EvaluationResult<R>>
         requires { IsOpenFor kind.CallFrameCfa self.old.status }
         ensures follows { Resumes R.text R.Offset.number
-            (input_of self.old (asked.CfaAnswer cfa)) self.old self.new result self.old.status }
-        ensures counts { ResumesPath (input_of self.old (asked.CfaAnswer cfa)) self.old self.new
-            (reply_of R.text R.Offset.number result) self.old.status }
-        ensures admits { IfOk result (λ told. Admits told self.new.status) }
+            (input_of self.old (requests.CfaAnswer cfa))
+            self.old self.new result self.old.status }
+        ensures counts { ResumesPath (input_of self.old (requests.CfaAnswer cfa))
+            self.old self.new (reply_of R.text R.Offset.number result) self.old.status }
+        ensures admits { IfOk result (λ replied. Admits replied self.new.status) }
         ensures fewer { IfOk result (λ told. calls_left self.new < calls_left self.old) }
     {
         self.resume(Given::CallFrameCfa(cfa))
@@ -314,12 +319,11 @@ impl<R: Reader + Copy, S: EvaluationStorage<R>> Evaluation<R, S> {
     pub fn resume_with_at_location(&mut self, bytes: R) -> Result<EvaluationResult<R>>
         requires { IsOpenFor kind.AtLocation self.old.status }
         ensures follows { Resumes R.text R.Offset.number
-            (input_of self.old (asked.LocationAnswer (R.text bytes))) self.old
-            self.new result self.old.status }
-        ensures counts { ResumesPath (input_of self.old
-            (asked.LocationAnswer (R.text bytes))) self.old self.new
-            (reply_of R.text R.Offset.number result) self.old.status }
-        ensures admits { IfOk result (λ told. Admits told self.new.status) }
+            (input_of self.old (requests.LocationAnswer (R.text bytes)))
+            self.old self.new result self.old.status }
+        ensures counts { ResumesPath (input_of self.old (requests.LocationAnswer (R.text bytes)))
+            self.old self.new (reply_of R.text R.Offset.number result) self.old.status }
+        ensures admits { IfOk result (λ replied. Admits replied self.new.status) }
         ensures fewer { IfOk result (λ told. calls_left self.new < calls_left self.old) }
     {
         self.resume(Given::AtLocation(bytes))
@@ -329,12 +333,11 @@ impl<R: Reader + Copy, S: EvaluationStorage<R>> Evaluation<R, S> {
     pub fn resume_with_parameter_ref(&mut self, parameter_value: u64) -> Result<EvaluationResult<R>>
         requires { IsOpenFor kind.ParameterRef self.old.status }
         ensures follows { Resumes R.text R.Offset.number
-            (input_of self.old (asked.ParameterAnswer parameter_value)) self.old self.new result
-            self.old.status }
-        ensures counts { ResumesPath (input_of self.old (asked.ParameterAnswer parameter_value))
-            self.old self.new (reply_of R.text R.Offset.number result)
-            self.old.status }
-        ensures admits { IfOk result (λ told. Admits told self.new.status) }
+            (input_of self.old (requests.ParameterAnswer parameter_value))
+            self.old self.new result self.old.status }
+        ensures counts { ResumesPath (input_of self.old (requests.ParameterAnswer parameter_value))
+            self.old self.new (reply_of R.text R.Offset.number result) self.old.status }
+        ensures admits { IfOk result (λ replied. Admits replied self.new.status) }
         ensures fewer { IfOk result (λ told. calls_left self.new < calls_left self.old) }
     {
         self.resume(Given::ParameterRef(parameter_value))
@@ -344,11 +347,11 @@ impl<R: Reader + Copy, S: EvaluationStorage<R>> Evaluation<R, S> {
     pub fn resume_with_relocated_address(&mut self, address: u64) -> Result<EvaluationResult<R>>
         requires { IsOpenFor kind.RelocatedAddress self.old.status }
         ensures follows { Resumes R.text R.Offset.number
-            (input_of self.old (asked.RelocatedAnswer address)) self.old self.new result
-            self.old.status }
-        ensures counts { ResumesPath (input_of self.old (asked.RelocatedAnswer address)) self.old
-            self.new (reply_of R.text R.Offset.number result) self.old.status }
-        ensures admits { IfOk result (λ told. Admits told self.new.status) }
+            (input_of self.old (requests.RelocatedAnswer address))
+            self.old self.new result self.old.status }
+        ensures counts { ResumesPath (input_of self.old (requests.RelocatedAnswer address))
+            self.old self.new (reply_of R.text R.Offset.number result) self.old.status }
+        ensures admits { IfOk result (λ replied. Admits replied self.new.status) }
         ensures fewer { IfOk result (λ told. calls_left self.new < calls_left self.old) }
     {
         self.resume(Given::RelocatedAddress(address))
@@ -358,11 +361,11 @@ impl<R: Reader + Copy, S: EvaluationStorage<R>> Evaluation<R, S> {
     pub fn resume_with_indexed_address(&mut self, address: u64) -> Result<EvaluationResult<R>>
         requires { IsOpenFor kind.IndexedAddress self.old.status }
         ensures follows { Resumes R.text R.Offset.number
-            (input_of self.old (asked.IndexedAnswer address)) self.old self.new result
-            self.old.status }
-        ensures counts { ResumesPath (input_of self.old (asked.IndexedAnswer address)) self.old
-            self.new (reply_of R.text R.Offset.number result) self.old.status }
-        ensures admits { IfOk result (λ told. Admits told self.new.status) }
+            (input_of self.old (requests.IndexedAnswer address))
+            self.old self.new result self.old.status }
+        ensures counts { ResumesPath (input_of self.old (requests.IndexedAnswer address))
+            self.old self.new (reply_of R.text R.Offset.number result) self.old.status }
+        ensures admits { IfOk result (λ replied. Admits replied self.new.status) }
         ensures fewer { IfOk result (λ told. calls_left self.new < calls_left self.old) }
     {
         self.resume(Given::IndexedAddress(address))
@@ -372,11 +375,11 @@ impl<R: Reader + Copy, S: EvaluationStorage<R>> Evaluation<R, S> {
     pub fn resume_with_base_type(&mut self, base_type: ValueType) -> Result<EvaluationResult<R>>
         requires { IsOpenFor kind.BaseType self.old.status }
         ensures follows { Resumes R.text R.Offset.number
-            (input_of self.old (asked.BaseTypeAnswer base_type)) self.old self.new result
-            self.old.status }
-        ensures counts { ResumesPath (input_of self.old (asked.BaseTypeAnswer base_type)) self.old
-            self.new (reply_of R.text R.Offset.number result) self.old.status }
-        ensures admits { IfOk result (λ told. Admits told self.new.status) }
+            (input_of self.old (requests.BaseTypeAnswer base_type))
+            self.old self.new result self.old.status }
+        ensures counts { ResumesPath (input_of self.old (requests.BaseTypeAnswer base_type))
+            self.old self.new (reply_of R.text R.Offset.number result) self.old.status }
+        ensures admits { IfOk result (λ replied. Admits replied self.new.status) }
         ensures fewer { IfOk result (λ told. calls_left self.new < calls_left self.old) }
     {
         self.resume(Given::BaseType(base_type))

@@ -3,7 +3,7 @@ ghost use Rattle.dwarf_meaning.specs.Kinds.{kind_of_request, kind_of_waiting};
 ghost use Rattle.dwarf_meaning.specs.Rest.{RequestStatus};
 ghost use Rattle.dwarf_meaning.specs.Steps.{RequestReply};
 ghost use Rattle.dwarf_machine.specs.Machine.{request_of, waiting_of};
-ghost use Rattle.dwarf_machine.specs.inner.Steps.{HasStopped};
+ghost use Rattle.dwarf_machine.specs.inner.Steps.{HasReply};
 ghost use Rattle.dwarf_eval.specs.Permits.{Admits};
 ghost use Rattle.dwarf_eval.specs.Evaluation.{IsReplied, reply_of, ok_reply};
 
@@ -19,8 +19,7 @@ pub(crate) fn result_of<R: Reader + Copy>(request: OpenRequest<R>) -> Evaluation
     ensures told { ok_reply R.text R.Offset.number result
         ≡ RequestReply (request_of R.text R.Offset.number request) }
     ensures admits { Admits result
-        (RequestStatus (request_of R.text R.Offset.number request)
-        (waiting_of R.text request)) }
+        (RequestStatus (request_of R.text R.Offset.number request) (waiting_of R.text request)) }
 {
     match request {
         OpenRequest::Memory {
@@ -99,10 +98,10 @@ pub(crate) fn kind_of_open<R: Reader + Copy>(request: OpenRequest<R>) -> Waiting
 pub(crate) fn reply<R: Reader + Copy, S: EvaluationStorage<R>>(
     machine: &Machine<R, S>,
 ) -> Result<EvaluationResult<R>>
-    requires { HasStopped machine.now.status }
+    requires { HasReply machine.now.status }
     ensures told { IsReplied (reply_of R.text R.Offset.number result)
         machine.now.status }
-    ensures admits { IfOk result (λ told. Admits told machine.now.status) }
+    ensures admits { IfOk result (λ replied. Admits replied machine.now.status) }
 {
     match machine.state() {
         EvaluationState::Complete(_) => Ok(EvaluationResult::Complete),

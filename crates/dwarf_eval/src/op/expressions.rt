@@ -27,7 +27,7 @@ impl<R: Reader + Copy> Expression<R> {
     }
 }
 
-/// The operations of an expression, one after another; the first that is refused is the last.
+/// The operations of an expression, one after another; the first that is malformed is the last.
 #[derive(Clone, Copy, Debug)]
 pub struct OperationIter<R: Reader> {
     input: R,

@@ -2,7 +2,7 @@ use crate::op::expressions::Expression;
 use dwarf_base::{DebugAddrIndex, Reader, Register, UnitOffset};
 use dwarf_op::DieReference;
 
-/// What a call of an evaluation answers: that it is complete, or what it has to be told before it goes on.
+/// What a call of an evaluation replies: that it is complete, or what it has to be told before it goes on.
 #[derive(Clone, Copy, Debug, PartialEq, Eq)]
 pub enum EvaluationResult<R: Reader, O = <R as Reader>::Offset> {
     /// The evaluation is complete: its pieces and its value are there.
@@ -64,6 +64,7 @@ pub enum EvaluationResult<R: Reader, O = <R as Reader>::Offset> {
         /// Whether it is wanted relocated.
         relocate: bool,
     },
-    /// The base type that stands here is wanted; go on by `resume_with_base_type`.
+    /// The base type that stands here is wanted; at offset 0 it is the generic type. Go on by
+    /// `resume_with_base_type`.
     RequiresBaseType(UnitOffset<O>),
 }

@@ -64,7 +64,7 @@ pub record Does (f : Store → Result Store Fault) (old new : State) : Type 0 wh
 -- f gives a fault for some refusal, and the state keeps it
 pub record Refused (more : ℕ) (f : Store → Result Store Fault) (old new : State) : Type 0 where
   pub error : Error
-  pub stopped : new.status ≡ FaultStatus error
+  pub failed : new.status ≡ FaultStatus error
   pub gets : Gets old.setup.limits f old.store (Err (fault_of error))
   pub stays : Stays more old new
 
@@ -118,7 +118,7 @@ abbrev pub read_to : ℕ → State → State
 read_to place x = record x { place = place; decodings = x.decodings + 1 }
 
 -- the operation at the place was read
-pub record Reads (op : Operation) (old new : State) : Type 0 where
+pub record ReadsOperation (op : Operation) (old new : State) : Type 0 where
   pub behind : List ℕ
   pub was : read old.setup old.text old.place ≡ Ok (op, behind)
   pub moved : new ≡ read_to (length old.text.bytes - length behind) old
@@ -127,7 +127,7 @@ pub record Reads (op : Operation) (old new : State) : Type 0 where
 pub record ReadsPiece (piece : Option (ℕ × Option ℕ)) (old new : State) : Type 0 where
   pub op : Operation
   pub is : piece_ended_by op ≡ piece
-  pub reads : Reads op old new
+  pub reads : ReadsOperation op old new
 
 -- ---- operations
 
@@ -202,16 +202,16 @@ abbrev pub total_after : State → Input → Refusal → List Input → Total
 total_after x input r inputs = total x (before_input r) (input ∷ inputs)
 
 -- 1 where a call stops
-abbrev pub stop_of : Status → ℕ
-stop_of (RequestStatus request waiting) = 1
-stop_of (CompleteStatus value) = 1
-stop_of (Start initial_value) = 0
-stop_of Running = 0
-stop_of (FaultStatus error) = 0
+abbrev pub replies_by : Status → ℕ
+replies_by (RequestStatus request waiting) = 1
+replies_by (CompleteStatus value) = 1
+replies_by (Start initial_value) = 0
+replies_by Running = 0
+replies_by (FaultStatus error) = 0
 
 -- where the call stops, fewer calls are left
 abbrev pub Nears : State → State → Type 0
-Nears old new = calls_left new + stop_of new.status ≤ calls_left old
+Nears old new = calls_left new + replies_by new.status ≤ calls_left old
 
 -- what comes of the old state is what comes of the new one, to which it came by so many pushes
 pub record Reaches (old : State) (totals : Refusal → List Input → Total) (new : State) : Type 0 where
@@ -332,12 +332,12 @@ abbrev pub goes_on : State → Bool
 goes_on x = is_running x.status && is_free x.store.last && not (x.place == length x.text.bytes)
 
 -- it waits, is complete, or a fault was met
-abbrev pub HasStopped : Status → Type 0
-HasStopped (RequestStatus request waiting) = Unit {0}
-HasStopped (CompleteStatus value) = Unit {0}
-HasStopped (FaultStatus error) = Unit {0}
-HasStopped Running = ⊥
-HasStopped (Start initial_value) = ⊥
+abbrev pub HasReply : Status → Type 0
+HasReply (RequestStatus request waiting) = Unit {0}
+HasReply (CompleteStatus value) = Unit {0}
+HasReply (FaultStatus error) = Unit {0}
+HasReply Running = ⊥
+HasReply (Start initial_value) = ⊥
 
 -- ---- answers
 

@@ -12,8 +12,8 @@ use Rattle.dwarf_eval.specs.declared.op.results.EvaluationResult.{EvaluationResu
 use Rattle.dwarf_store.specs.Lists.{MayRefuse}
 use Rattle.dwarf_replay.specs.Stepping.{MayTake, IsSet, HasReplied}
 use Rattle.dwarf_replay.specs.declared.steps.Answer.{Answer}
-use Rattle.dwarf_replay.specs.declared.walk.Stop.{Stop}
-use Rattle.dwarf_replay.specs.declared.walk.Stop.TheVariants as stop
+use Rattle.dwarf_replay.specs.declared.walk.NotKept.{NotKept}
+use Rattle.dwarf_replay.specs.declared.walk.NotKept.TheVariants as stop
 
 -- a call's reply was kept
 pub record IsKept {R O P : Type 0} (text : R → Text) (number : O → ℕ) (step : Step) (old : State) (given : List (Answer R O P)) (new : State) (all : List (Answer R O P)) : Type 0 where
@@ -22,7 +22,7 @@ pub record IsKept {R O P : Type 0} (text : R → Text) (number : O → ℕ) (ste
   pub kept : all ≡ given ++ answer ∷ []
 
 -- a setting was set, or a call's reply was kept; or the step isn't allowed, or its reply found no room
-abbrev pub TakesStep : {R O P : Type 0} → (R → Text) → (O → ℕ) → Step → Option ℕ → State → List (Answer R O P) → State → List (Answer R O P) → Result (Unit {0}) (Stop R O P) → Type 0
+abbrev pub TakesStep : {R O P : Type 0} → (R → Text) → (O → ℕ) → Step → Option ℕ → State → List (Answer R O P) → State → List (Answer R O P) → Result (Unit {0}) (NotKept R O P) → Type 0
 TakesStep text number step limit old given new all (Ok u) = (IsSet step old new × (all ≡ given)) ⊎ IsKept text number step old given new all
 TakesStep text number step limit old given new all (Err stop.Misplaced) = (new ≡ old) × (MayTake step old.status → ⊥) × (all ≡ given)
 TakesStep text number step limit old given new all (Err (stop.NoRoom answer)) = HasReplied text number step old new answer.0 × (all ≡ given) × MayRefuse limit (length given)

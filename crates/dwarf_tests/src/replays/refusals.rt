@@ -9,7 +9,7 @@ use dwarf_expr::eval::{Evaluation, Status};
 use dwarf_expr::op::Piece;
 use dwarf_expr::replay::{Answer, Replayed, Step};
 use dwarf_expr::store::{ArrayLike, EvaluationStorage, StoreOnHeap};
-use dwarf_value::{Value, ValueType};
+use dwarf_expr::value::{Value, ValueType};
 use std::alloc::{AllocError, Global};
 use std::process::Abort;
 
@@ -117,7 +117,7 @@ fn is_full(answer: &Answer<Slice<'_>>) -> bool {
 }
 
 // The answers are those of ample memory up to the refused call, which answers the fault, and so does every later one.
-fn expect_full<'a>(rt: &impl Abort, played: &Played<Slice<'a>>, ample: &Played<Slice<'a>>) {
+fn expect_refused<'a>(rt: &impl Abort, played: &Played<Slice<'a>>, ample: &Played<Slice<'a>>) {
     let mut failed = false;
     for (answer, other) in played.answers.iter().zip(ample.answers.iter()) {
         failed = failed || is_full(answer);
@@ -140,7 +140,7 @@ fn expect_full<'a>(rt: &impl Abort, played: &Played<Slice<'a>>, ample: &Played<S
 // Whether the push that is refused is met.
 fn is_met<'a>(rt: &impl Abort, played: &Played<Slice<'a>>, ample: &Played<Slice<'a>>) -> bool {
     if played.status != Status::Complete {
-        expect_full(rt, played, ample);
+        expect_refused(rt, played, ample);
         return true;
     }
     assert!(rt; played.answers.len() == ample.answers.len() + 1);

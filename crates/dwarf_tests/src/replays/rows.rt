@@ -6,12 +6,12 @@ use dwarf_expr::replay::Step::{
     self, AtLocation, BaseType, CallFrameCfa, EntryValue, Evaluate, FrameBase, InitialValue,
     MaxIterations, Memory, ObjectAddress, Register as RegisterValue, RelocatedAddress, Tls,
 };
-use dwarf_value::Value::{self, Generic, I8, I16, I32, U8, U16, U32, U64};
-use dwarf_value::ValueType;
+use dwarf_expr::value::Value::{self, Generic, I8, I16, I32, U8, U16, U32, U64};
+use dwarf_expr::value::ValueType;
 
 /// What a call is to answer.
 #[derive(Clone, Copy)]
-pub(super) enum Told {
+pub(super) enum Reply {
     Complete,
     // The address, the size and the space.
     Memory(u64, u8, Option<u64>),
@@ -35,7 +35,7 @@ pub(super) enum Told {
 
 /// How an evaluation is to end.
 #[derive(Clone, Copy)]
-pub(super) enum End {
+pub(super) enum Ending {
     // With the fault of the last answer.
     Failed,
     // With a request whose answer is of this kind.
@@ -50,8 +50,8 @@ pub(super) enum End {
 pub(super) type Row = (
     &'static [u8],
     &'static [Step<&'static [u8]>],
-    &'static [Told],
-    End,
+    &'static [Reply],
+    Ending,
 );
 
 // Literals, the stack and settings: no request.
@@ -59,178 +59,178 @@ pub(super) static STACK: [Row; 28] = [
     (
         &[0x33, 0x35, 0x22],
         &[Evaluate],
-        &[Told::Complete],
-        End::Value(Generic(8), 8),
+        &[Reply::Complete],
+        Ending::Value(Generic(8), 8),
     ),
     (
         &[],
         &[Evaluate],
-        &[Told::Fails(Error::NotEnoughStackItems)],
-        End::Failed,
+        &[Reply::Fails(Error::NotEnoughStackItems)],
+        Ending::Failed,
     ),
     (
         &[],
         &[InitialValue(0x1_0000_0005), Evaluate],
-        &[Told::Complete],
-        End::Value(Generic(0x1_0000_0005), 5),
+        &[Reply::Complete],
+        Ending::Value(Generic(0x1_0000_0005), 5),
     ),
     (
         &[0x08, 0x05, 0x32, 0x1e],
         &[Evaluate],
-        &[Told::Complete],
-        End::Value(Generic(10), 10),
+        &[Reply::Complete],
+        Ending::Value(Generic(10), 10),
     ),
     (
         &[0x31, 0x32, 0x1c],
         &[Evaluate],
-        &[Told::Complete],
-        End::Value(Generic(0xffff_ffff), 0xffff_ffff),
+        &[Reply::Complete],
+        Ending::Value(Generic(0xffff_ffff), 0xffff_ffff),
     ),
     (
         &[0x22],
         &[Evaluate, Evaluate, Memory(Generic(0))],
         &[
-            Told::Fails(Error::NotEnoughStackItems),
-            Told::Fails(Error::NotEnoughStackItems),
-            Told::Fails(Error::NotEnoughStackItems),
+            Reply::Fails(Error::NotEnoughStackItems),
+            Reply::Fails(Error::NotEnoughStackItems),
+            Reply::Fails(Error::NotEnoughStackItems),
         ],
-        End::Failed,
+        Ending::Failed,
     ),
     (
         &[0x08],
         &[Evaluate, Evaluate],
-        &[Told::CutOff, Told::CutOff],
-        End::Failed,
+        &[Reply::CutOff, Reply::CutOff],
+        Ending::Failed,
     ),
     (
         &[0x31, 0x32, 0x33, 0x17],
         &[Evaluate],
-        &[Told::Complete],
-        End::Value(Generic(2), 2),
+        &[Reply::Complete],
+        Ending::Value(Generic(2), 2),
     ),
     (
         &[0x31, 0x32, 0x14],
         &[Evaluate],
-        &[Told::Complete],
-        End::Value(Generic(1), 1),
+        &[Reply::Complete],
+        Ending::Value(Generic(1), 1),
     ),
     (
         &[0x31, 0x32, 0x15, 0x02],
         &[Evaluate],
-        &[Told::Fails(Error::NotEnoughStackItems)],
-        End::Failed,
+        &[Reply::Fails(Error::NotEnoughStackItems)],
+        Ending::Failed,
     ),
     (
         &[0x97],
         &[Evaluate],
-        &[Told::Fails(Error::InvalidPushObjectAddress)],
-        End::Failed,
+        &[Reply::Fails(Error::InvalidPushObjectAddress)],
+        Ending::Failed,
     ),
     (
         &[0x97],
         &[ObjectAddress(0x7000), Evaluate],
-        &[Told::Complete],
-        End::Value(Generic(0x7000), 0x7000),
+        &[Reply::Complete],
+        Ending::Value(Generic(0x7000), 0x7000),
     ),
     (
         &[0x97],
         &[ObjectAddress(1), ObjectAddress(2), Evaluate],
-        &[Told::Complete],
-        End::Value(Generic(2), 2),
+        &[Reply::Complete],
+        Ending::Value(Generic(2), 2),
     ),
     (
         &[0x31, 0x94, 0x05],
         &[Evaluate],
-        &[Told::Fails(Error::InvalidDerefSize(5))],
-        End::Failed,
+        &[Reply::Fails(Error::InvalidDerefSize(5))],
+        Ending::Failed,
     ),
     (
         &[0x0a, 0x01, 0x02],
         &[Evaluate],
-        &[Told::Complete],
-        End::Value(Generic(513), 513),
+        &[Reply::Complete],
+        Ending::Value(Generic(513), 513),
     ),
     (
         &[
             0x10, 0xff, 0xff, 0xff, 0xff, 0xff, 0xff, 0xff, 0xff, 0xff, 0x01,
         ],
         &[Evaluate],
-        &[Told::Complete],
-        End::Value(Generic(0xffff_ffff_ffff_ffff), 0xffff_ffff),
+        &[Reply::Complete],
+        Ending::Value(Generic(0xffff_ffff_ffff_ffff), 0xffff_ffff),
     ),
     (
         &[
             0x11, 0x80, 0x80, 0x80, 0x80, 0x80, 0x80, 0x80, 0x80, 0x80, 0x7f,
         ],
         &[Evaluate],
-        &[Told::Complete],
-        End::Value(Generic(0x8000_0000_0000_0000), 0),
+        &[Reply::Complete],
+        Ending::Value(Generic(0x8000_0000_0000_0000), 0),
     ),
     (
         &[0x93, 0x80, 0x80, 0x80, 0x80, 0x80, 0x80, 0x80, 0x80, 0x20],
         &[Evaluate],
-        &[Told::Fails(Error::InvalidPieceSize(0x2000_0000_0000_0000))],
-        End::Failed,
+        &[Reply::Fails(Error::InvalidPieceSize(0x2000_0000_0000_0000))],
+        Ending::Failed,
     ),
     (
         &[0x93, 0x80, 0x80, 0x80, 0x80, 0x80, 0x80, 0x80, 0x80],
         &[Evaluate],
-        &[Told::CutOff],
-        End::Failed,
+        &[Reply::CutOff],
+        Ending::Failed,
     ),
     (
         &[0x92, 0x80, 0x80, 0x04],
         &[Evaluate],
-        &[Told::Fails(Error::UnsupportedRegister(0x1_0000))],
-        End::Failed,
+        &[Reply::Fails(Error::UnsupportedRegister(0x1_0000))],
+        Ending::Failed,
     ),
     (
         &[0xed, 0x04],
         &[Evaluate],
-        &[Told::Fails(Error::InvalidExpression(DwOp(0xed)))],
-        End::Failed,
+        &[Reply::Fails(Error::InvalidExpression(DwOp(0xed)))],
+        Ending::Failed,
     ),
     (
         &[0xed, 0x00, 0x80, 0x80, 0x80, 0x80, 0x10],
         &[Evaluate],
-        &[Told::Fails(Error::BadUnsignedLeb128)],
-        End::Failed,
+        &[Reply::Fails(Error::BadUnsignedLeb128)],
+        Ending::Failed,
     ),
     (
         &[0x9b],
         &[Evaluate],
-        &[Told::Fails(Error::NotEnoughStackItems)],
-        End::Failed,
+        &[Reply::Fails(Error::NotEnoughStackItems)],
+        Ending::Failed,
     ),
     (
         &[0x94, 0x05],
         &[Evaluate],
-        &[Told::Fails(Error::InvalidDerefSize(5))],
-        End::Failed,
+        &[Reply::Fails(Error::InvalidDerefSize(5))],
+        Ending::Failed,
     ),
     (
         &[0x31, 0x18],
         &[Evaluate],
-        &[Told::Fails(Error::NotEnoughStackItems)],
-        End::Failed,
+        &[Reply::Fails(Error::NotEnoughStackItems)],
+        Ending::Failed,
     ),
     (
         &[0x31, 0x32, 0x22],
         &[Evaluate],
-        &[Told::Complete],
-        End::Value(Generic(3), 3),
+        &[Reply::Complete],
+        Ending::Value(Generic(3), 3),
     ),
     (
         &[0x31, 0x32, 0x2f, 0x01, 0x00, 0xff, 0x22],
         &[Evaluate],
-        &[Told::Complete],
-        End::Value(Generic(3), 3),
+        &[Reply::Complete],
+        Ending::Value(Generic(3), 3),
     ),
     (
         &[0x31],
         &[Evaluate, ObjectAddress(1), MaxIterations(0), Evaluate],
-        &[Told::Complete, Told::Complete],
-        End::Value(Generic(1), 1),
+        &[Reply::Complete, Reply::Complete],
+        Ending::Value(Generic(1), 1),
     ),
 ];
 
@@ -239,129 +239,129 @@ pub(super) static BRANCHES: [Row; 23] = [
     (
         &[0x31, 0x2f, 0x00, 0x00],
         &[Evaluate],
-        &[Told::Complete],
-        End::Value(Generic(1), 1),
+        &[Reply::Complete],
+        Ending::Value(Generic(1), 1),
     ),
     (
         &[0x2f, 0xfd, 0xff],
         &[MaxIterations(5), Evaluate, Evaluate, Evaluate],
         &[
-            Told::Fails(Error::TooManyIterations),
-            Told::Fails(Error::TooManyIterations),
-            Told::Fails(Error::TooManyIterations),
+            Reply::Fails(Error::TooManyIterations),
+            Reply::Fails(Error::TooManyIterations),
+            Reply::Fails(Error::TooManyIterations),
         ],
-        End::Failed,
+        Ending::Failed,
     ),
     (
         &[0x2f, 0xfd, 0xff],
         &[MaxIterations(5), Evaluate, MaxIterations(100), Evaluate],
         &[
-            Told::Fails(Error::TooManyIterations),
-            Told::Fails(Error::TooManyIterations),
+            Reply::Fails(Error::TooManyIterations),
+            Reply::Fails(Error::TooManyIterations),
         ],
-        End::Failed,
+        Ending::Failed,
     ),
     (
         &[0x2f, 0xff, 0xff],
         &[Evaluate],
-        &[Told::Fails(Error::InvalidExpression(DwOp(0xff)))],
-        End::Failed,
+        &[Reply::Fails(Error::InvalidExpression(DwOp(0xff)))],
+        Ending::Failed,
     ),
     (
         &[0x2f, 0xfc, 0xff],
         &[Evaluate],
-        &[Told::Fails(Error::BadBranchTarget(0xffff_ffff_ffff_ffff))],
-        End::Failed,
+        &[Reply::Fails(Error::BadBranchTarget(0xffff_ffff_ffff_ffff))],
+        Ending::Failed,
     ),
     (
         &[0x38, 0x31, 0x1c, 0x12, 0x28, 0xfa, 0xff],
         &[MaxIterations(33), Evaluate],
-        &[Told::Complete],
-        End::Value(Generic(0), 0),
+        &[Reply::Complete],
+        Ending::Value(Generic(0), 0),
     ),
     (
         &[0x38, 0x31, 0x1c, 0x12, 0x28, 0xfa, 0xff],
         &[MaxIterations(32), Evaluate],
-        &[Told::Fails(Error::TooManyIterations)],
-        End::Failed,
+        &[Reply::Fails(Error::TooManyIterations)],
+        Ending::Failed,
     ),
     (
         &[0x28, 0x04, 0x00, 0x31, 0x2f, 0x01, 0x00, 0x32],
         &[InitialValue(0x1_0000_0000), Evaluate],
-        &[Told::Complete],
-        End::Value(Generic(1), 1),
+        &[Reply::Complete],
+        Ending::Value(Generic(1), 1),
     ),
     (
         &[0x28, 0x04, 0x00, 0x31, 0x2f, 0x01, 0x00, 0x32],
         &[InitialValue(1), Evaluate],
-        &[Told::Complete],
-        End::Value(Generic(2), 2),
+        &[Reply::Complete],
+        Ending::Value(Generic(2), 2),
     ),
     (
         &[0x31],
         &[MaxIterations(0), Evaluate],
-        &[Told::Fails(Error::TooManyIterations)],
-        End::Failed,
+        &[Reply::Fails(Error::TooManyIterations)],
+        Ending::Failed,
     ),
     (
         &[],
         &[InitialValue(3), MaxIterations(0), Evaluate],
-        &[Told::Complete],
-        End::Value(Generic(3), 3),
+        &[Reply::Complete],
+        Ending::Value(Generic(3), 3),
     ),
     (
         &[0x2f, 0xfd, 0xff],
         &[MaxIterations(0xf_4240), Evaluate],
-        &[Told::Fails(Error::TooManyIterations)],
-        End::Failed,
+        &[Reply::Fails(Error::TooManyIterations)],
+        Ending::Failed,
     ),
     (
         &[0x2f, 0xfe, 0xff],
         &[Evaluate],
-        &[Told::Fails(Error::InvalidExpression(DwOp(0xfe)))],
-        End::Failed,
+        &[Reply::Fails(Error::InvalidExpression(DwOp(0xfe)))],
+        Ending::Failed,
     ),
     (
         &[0x08, 0x31, 0x28, 0xfc, 0xff],
         &[MaxIterations(10), Evaluate],
-        &[Told::Fails(Error::TooManyIterations)],
-        End::Failed,
+        &[Reply::Fails(Error::TooManyIterations)],
+        Ending::Failed,
     ),
     (
         &[0xff],
         &[MaxIterations(0), Evaluate],
-        &[Told::Fails(Error::TooManyIterations)],
-        End::Failed,
+        &[Reply::Fails(Error::TooManyIterations)],
+        Ending::Failed,
     ),
     (
         &[0x96, 0xff],
         &[MaxIterations(1), Evaluate],
-        &[Told::Fails(Error::TooManyIterations)],
-        End::Failed,
+        &[Reply::Fails(Error::TooManyIterations)],
+        Ending::Failed,
     ),
     (
         &[0x31, 0x30, 0x28, 0xff, 0x7f, 0xff],
         &[Evaluate],
-        &[Told::Fails(Error::InvalidExpression(DwOp(0xff)))],
-        End::Failed,
+        &[Reply::Fails(Error::InvalidExpression(DwOp(0xff)))],
+        Ending::Failed,
     ),
     (
         &[0x31, 0x30, 0x28, 0xff, 0x7f],
         &[Evaluate],
-        &[Told::Complete],
-        End::Value(Generic(1), 1),
+        &[Reply::Complete],
+        Ending::Value(Generic(1), 1),
     ),
     (
         &[0x9c, 0x31, 0x22],
         &[Evaluate, MaxIterations(1), CallFrameCfa(1)],
-        &[Told::CallFrameCfa, Told::Fails(Error::TooManyIterations)],
-        End::Failed,
+        &[Reply::CallFrameCfa, Reply::Fails(Error::TooManyIterations)],
+        Ending::Failed,
     ),
     (
         &[0x9c, 0x31, 0x22],
         &[Evaluate, MaxIterations(3), CallFrameCfa(1)],
-        &[Told::CallFrameCfa, Told::Complete],
-        End::Value(Generic(2), 2),
+        &[Reply::CallFrameCfa, Reply::Complete],
+        Ending::Value(Generic(2), 2),
     ),
     (
         &[0x98, 0x01, 0x00],
@@ -373,12 +373,12 @@ pub(super) static BRANCHES: [Row; 23] = [
             AtLocation(&[0x98, 0x01, 0x00]),
         ],
         &[
-            Told::AtUnit(1),
-            Told::AtUnit(1),
-            Told::AtUnit(1),
-            Told::Fails(Error::TooManyIterations),
+            Reply::AtUnit(1),
+            Reply::AtUnit(1),
+            Reply::AtUnit(1),
+            Reply::Fails(Error::TooManyIterations),
         ],
-        End::Failed,
+        Ending::Failed,
     ),
     (
         &[0x98, 0x01, 0x00],
@@ -389,17 +389,17 @@ pub(super) static BRANCHES: [Row; 23] = [
             AtLocation(&[0x98, 0x01, 0x00]),
         ],
         &[
-            Told::AtUnit(1),
-            Told::AtUnit(1),
-            Told::Fails(Error::TooManyIterations),
+            Reply::AtUnit(1),
+            Reply::AtUnit(1),
+            Reply::Fails(Error::TooManyIterations),
         ],
-        End::Failed,
+        Ending::Failed,
     ),
     (
         &[0x98, 0x05, 0x00, 0x93, 0x04],
         &[MaxIterations(1), Evaluate, AtLocation(&[0x50])],
-        &[Told::AtUnit(5), Told::Fails(Error::TooManyIterations)],
-        End::Failed,
+        &[Reply::AtUnit(5), Reply::Fails(Error::TooManyIterations)],
+        Ending::Failed,
     ),
 ];
 
@@ -408,98 +408,98 @@ pub(super) static REQUESTS: [Row; 29] = [
     (
         &[0x32, 0x31, 0x18],
         &[Evaluate],
-        &[Told::Memory(1, 4, Some(2))],
-        End::Waits(WaitingKind::Memory),
+        &[Reply::Memory(1, 4, Some(2))],
+        Ending::Waits(WaitingKind::Memory),
     ),
     (
         &[0x70, 0x7f],
         &[Evaluate, RegisterValue(Generic(0))],
-        &[Told::Register(0, 0), Told::Complete],
-        End::Value(Generic(0xffff_ffff), 0xffff_ffff),
+        &[Reply::Register(0, 0), Reply::Complete],
+        Ending::Value(Generic(0xffff_ffff), 0xffff_ffff),
     ),
     (
         &[0x70, 0x7f],
         &[Evaluate, RegisterValue(Generic(0x5_0000_0000))],
-        &[Told::Register(0, 0), Told::Complete],
-        End::Value(Generic(0xffff_ffff), 0xffff_ffff),
+        &[Reply::Register(0, 0), Reply::Complete],
+        Ending::Value(Generic(0xffff_ffff), 0xffff_ffff),
     ),
     (
         &[0x91, 0x70],
         &[Evaluate, FrameBase(16)],
-        &[Told::FrameBase, Told::Complete],
-        End::Value(Generic(0), 0),
+        &[Reply::FrameBase, Reply::Complete],
+        Ending::Value(Generic(0), 0),
     ),
     (
         &[0x91, 0x70],
         &[Evaluate, FrameBase(8)],
-        &[Told::FrameBase, Told::Complete],
-        End::Value(Generic(0xffff_ffff_ffff_fff8), 0xffff_fff8),
+        &[Reply::FrameBase, Reply::Complete],
+        Ending::Value(Generic(0xffff_ffff_ffff_fff8), 0xffff_fff8),
     ),
     (
         &[0xa5, 0x03, 0x07],
         &[Evaluate, RegisterValue(I16(-1))],
-        &[Told::Register(3, 7), Told::Complete],
-        End::Value(I16(-1), 0xffff_ffff_ffff_ffff),
+        &[Reply::Register(3, 7), Reply::Complete],
+        Ending::Value(I16(-1), 0xffff_ffff_ffff_ffff),
     ),
     (
         &[0x70, 0x7f],
         &[Evaluate, RegisterValue(U8(0))],
-        &[Told::Register(0, 0), Told::Complete],
-        End::Value(U8(255), 255),
+        &[Reply::Register(0, 0), Reply::Complete],
+        Ending::Value(U8(255), 255),
     ),
     (
         &[0x35, 0x9b],
         &[Evaluate, Tls(64)],
-        &[Told::Tls(5), Told::Complete],
-        End::Value(Generic(64), 64),
+        &[Reply::Tls(5), Reply::Complete],
+        Ending::Value(Generic(64), 64),
     ),
     (
         &[0xa3, 0x01, 0x9c],
         &[Evaluate, EntryValue(I8(-1))],
-        &[Told::EntryValue(&[0x9c]), Told::Complete],
-        End::Value(I8(-1), 0xffff_ffff_ffff_ffff),
+        &[Reply::EntryValue(&[0x9c]), Reply::Complete],
+        Ending::Value(I8(-1), 0xffff_ffff_ffff_ffff),
     ),
     (
         &[0xa1, 0x05],
         &[Evaluate],
-        &[Told::IndexedAddress(5, true)],
-        End::Waits(WaitingKind::IndexedAddress),
+        &[Reply::IndexedAddress(5, true)],
+        Ending::Waits(WaitingKind::IndexedAddress),
     ),
     (
         &[0xa2, 0x05],
         &[Evaluate],
-        &[Told::IndexedAddress(5, false)],
-        End::Waits(WaitingKind::IndexedAddress),
+        &[Reply::IndexedAddress(5, false)],
+        Ending::Waits(WaitingKind::IndexedAddress),
     ),
     (
         &[0xed, 0x01, 0x81, 0x00],
         &[Evaluate],
-        &[Told::WasmGlobal(1)],
-        End::Waits(WaitingKind::WasmValue),
+        &[Reply::WasmGlobal(1)],
+        Ending::Waits(WaitingKind::WasmValue),
     ),
     (
         &[0xed, 0x03, 0x01, 0x00, 0x00, 0x00],
         &[Evaluate],
-        &[Told::WasmGlobal(1)],
-        End::Waits(WaitingKind::WasmValue),
+        &[Reply::WasmGlobal(1)],
+        Ending::Waits(WaitingKind::WasmValue),
     ),
     (
         &[0xa4, 0x07, 0x02, 0xff, 0x7f],
         &[Evaluate],
-        &[Told::BaseType(7)],
-        End::Waits(WaitingKind::BaseType),
+        &[Reply::BaseType(7)],
+        Ending::Waits(WaitingKind::BaseType),
     ),
     (
         &[0xa4, 0x07, 0x02, 0xff, 0x7f, 0x9f],
         &[Evaluate, BaseType(ValueType::I16)],
-        &[Told::BaseType(7), Told::Complete],
-        End::Pieces(&[(None, None, Location::Value { value: I16(0x7fff) })]),
+        &[Reply::BaseType(7), Reply::Complete],
+        Ending::Pieces(&[(None, None, Location::Value { value: I16(0x7fff) })]),
     ),
     (
         &[0xa4, 0x07, 0x02, 0xff, 0x7f, 0x9f],
         &[Evaluate, BaseType(ValueType::I8)],
-        &[Told::BaseType(7), Told::Complete],
-        End::Pieces(&[(None, None, Location::Value { value: I8(-1) })]),
+        &[Reply::BaseType(7), Reply::Complete],
+        Ending::Pieces(&[(None, None, Location::Value { value: I8(-1) })]),
     ),
     (
         &[0xa4, 0x07, 0x02, 0xff, 0x7f, 0x9f],
@@ -509,8 +509,13 @@ pub(super) static REQUESTS: [Row; 29] = [
             Evaluate,
             BaseType(ValueType::I8),
         ],
-        &[Told::BaseType(7), Told::CutOff, Told::CutOff, Told::CutOff],
-        End::Failed,
+        &[
+            Reply::BaseType(7),
+            Reply::CutOff,
+            Reply::CutOff,
+            Reply::CutOff,
+        ],
+        Ending::Failed,
     ),
     (
         &[0xa8, 0x00],
@@ -523,40 +528,40 @@ pub(super) static REQUESTS: [Row; 29] = [
             CallFrameCfa(1),
         ],
         &[
-            Told::BaseType(0),
-            Told::Fails(Error::NotEnoughStackItems),
-            Told::Fails(Error::NotEnoughStackItems),
-            Told::Fails(Error::NotEnoughStackItems),
-            Told::Fails(Error::NotEnoughStackItems),
-            Told::Fails(Error::NotEnoughStackItems),
+            Reply::BaseType(0),
+            Reply::Fails(Error::NotEnoughStackItems),
+            Reply::Fails(Error::NotEnoughStackItems),
+            Reply::Fails(Error::NotEnoughStackItems),
+            Reply::Fails(Error::NotEnoughStackItems),
+            Reply::Fails(Error::NotEnoughStackItems),
         ],
-        End::Failed,
+        Ending::Failed,
     ),
     (
         &[0x31, 0xa9, 0x09],
         &[Evaluate, BaseType(ValueType::U16), Evaluate],
         &[
-            Told::BaseType(9),
-            Told::Fails(Error::TypeMismatch),
-            Told::Fails(Error::TypeMismatch),
+            Reply::BaseType(9),
+            Reply::Fails(Error::TypeMismatch),
+            Reply::Fails(Error::TypeMismatch),
         ],
-        End::Failed,
+        Ending::Failed,
     ),
     (
         &[0xa4, 0x00, 0x01, 0xff],
         &[Evaluate, BaseType(ValueType::Generic), Evaluate],
         &[
-            Told::BaseType(0),
-            Told::Fails(Error::UnsupportedTypeOperation),
-            Told::Fails(Error::UnsupportedTypeOperation),
+            Reply::BaseType(0),
+            Reply::Fails(Error::UnsupportedTypeOperation),
+            Reply::Fails(Error::UnsupportedTypeOperation),
         ],
-        End::Failed,
+        Ending::Failed,
     ),
     (
         &[0x9c, 0x97],
         &[Evaluate, ObjectAddress(0x7000), CallFrameCfa(1)],
-        &[Told::CallFrameCfa, Told::Complete],
-        End::Value(Generic(0x7000), 0x7000),
+        &[Reply::CallFrameCfa, Reply::Complete],
+        Ending::Value(Generic(0x7000), 0x7000),
     ),
     (
         &[0xa3, 0x00, 0xa3, 0x00, 0x24, 0x9f],
@@ -565,24 +570,32 @@ pub(super) static REQUESTS: [Row; 29] = [
             EntryValue(U32(1)),
             EntryValue(Generic(0x1_0000_0001)),
         ],
-        &[Told::EntryValue(&[]), Told::EntryValue(&[]), Told::Complete],
-        End::Pieces(&[(None, None, Location::Value { value: U32(2) })]),
+        &[
+            Reply::EntryValue(&[]),
+            Reply::EntryValue(&[]),
+            Reply::Complete,
+        ],
+        Ending::Pieces(&[(None, None, Location::Value { value: U32(2) })]),
     ),
     (
         &[0xa3, 0x00, 0xa3, 0x00, 0x1b],
         &[Evaluate, EntryValue(Generic(6)), EntryValue(U32(0))],
         &[
-            Told::EntryValue(&[]),
-            Told::EntryValue(&[]),
-            Told::Fails(Error::DivisionByZero),
+            Reply::EntryValue(&[]),
+            Reply::EntryValue(&[]),
+            Reply::Fails(Error::DivisionByZero),
         ],
-        End::Failed,
+        Ending::Failed,
     ),
     (
         &[0xa3, 0x00, 0xa3, 0x00, 0x1b, 0x9f],
         &[Evaluate, EntryValue(I8(-128)), EntryValue(I8(-1))],
-        &[Told::EntryValue(&[]), Told::EntryValue(&[]), Told::Complete],
-        End::Pieces(&[(None, None, Location::Value { value: I8(-128) })]),
+        &[
+            Reply::EntryValue(&[]),
+            Reply::EntryValue(&[]),
+            Reply::Complete,
+        ],
+        Ending::Pieces(&[(None, None, Location::Value { value: I8(-128) })]),
     ),
     (
         &[0xa3, 0x00, 0xa3, 0x00, 0x1b, 0x9f],
@@ -591,8 +604,12 @@ pub(super) static REQUESTS: [Row; 29] = [
             EntryValue(Generic(0x8000_0000)),
             EntryValue(Generic(0xffff_ffff)),
         ],
-        &[Told::EntryValue(&[]), Told::EntryValue(&[]), Told::Complete],
-        End::Pieces(&[(
+        &[
+            Reply::EntryValue(&[]),
+            Reply::EntryValue(&[]),
+            Reply::Complete,
+        ],
+        Ending::Pieces(&[(
             None,
             None,
             Location::Value {
@@ -603,8 +620,8 @@ pub(super) static REQUESTS: [Row; 29] = [
     (
         &[0xa3, 0x00, 0xa8, 0x00, 0x9f],
         &[Evaluate, EntryValue(I8(-1)), BaseType(ValueType::U32)],
-        &[Told::EntryValue(&[]), Told::BaseType(0), Told::Complete],
-        End::Pieces(&[(
+        &[Reply::EntryValue(&[]), Reply::BaseType(0), Reply::Complete],
+        Ending::Pieces(&[(
             None,
             None,
             Location::Value {
@@ -615,8 +632,8 @@ pub(super) static REQUESTS: [Row; 29] = [
     (
         &[0xa3, 0x00, 0xa9, 0x00, 0x9f],
         &[Evaluate, EntryValue(I32(-1)), BaseType(ValueType::Generic)],
-        &[Told::EntryValue(&[]), Told::BaseType(0), Told::Complete],
-        End::Pieces(&[(
+        &[Reply::EntryValue(&[]), Reply::BaseType(0), Reply::Complete],
+        Ending::Pieces(&[(
             None,
             None,
             Location::Value {
@@ -628,21 +645,21 @@ pub(super) static REQUESTS: [Row; 29] = [
         &[0xa3, 0x00, 0xa3, 0x00, 0x25],
         &[Evaluate, EntryValue(I8(-128)), EntryValue(I8(-1))],
         &[
-            Told::EntryValue(&[]),
-            Told::EntryValue(&[]),
-            Told::Fails(Error::InvalidShiftExpression),
+            Reply::EntryValue(&[]),
+            Reply::EntryValue(&[]),
+            Reply::Fails(Error::InvalidShiftExpression),
         ],
-        End::Failed,
+        Ending::Failed,
     ),
     (
         &[0xa3, 0x00, 0xa3, 0x00, 0x25],
         &[Evaluate, EntryValue(I8(-1)), EntryValue(U8(9))],
         &[
-            Told::EntryValue(&[]),
-            Told::EntryValue(&[]),
-            Told::Fails(Error::UnsupportedTypeOperation),
+            Reply::EntryValue(&[]),
+            Reply::EntryValue(&[]),
+            Reply::Fails(Error::UnsupportedTypeOperation),
         ],
-        End::Failed,
+        Ending::Failed,
     ),
 ];
 
@@ -651,38 +668,38 @@ pub(super) static HIGH_BITS: [Row; 14] = [
     (
         &[0x70, 0x00],
         &[Evaluate, RegisterValue(Generic(5))],
-        &[Told::Register(0, 0), Told::Complete],
-        End::Value(Generic(5), 5),
+        &[Reply::Register(0, 0), Reply::Complete],
+        Ending::Value(Generic(5), 5),
     ),
     (
         &[0x70, 0x00],
         &[Evaluate, RegisterValue(Generic(0x7_0000_0005))],
-        &[Told::Register(0, 0), Told::Complete],
-        End::Value(Generic(5), 5),
+        &[Reply::Register(0, 0), Reply::Complete],
+        Ending::Value(Generic(5), 5),
     ),
     (
         &[0x9c],
         &[Evaluate, CallFrameCfa(16)],
-        &[Told::CallFrameCfa, Told::Complete],
-        End::Value(Generic(16), 16),
+        &[Reply::CallFrameCfa, Reply::Complete],
+        Ending::Value(Generic(16), 16),
     ),
     (
         &[0x9c],
         &[Evaluate, CallFrameCfa(0x1_0000_0010)],
-        &[Told::CallFrameCfa, Told::Complete],
-        End::Value(Generic(0x1_0000_0010), 16),
+        &[Reply::CallFrameCfa, Reply::Complete],
+        Ending::Value(Generic(0x1_0000_0010), 16),
     ),
     (
         &[0x9c, 0x9f],
         &[Evaluate, CallFrameCfa(16)],
-        &[Told::CallFrameCfa, Told::Complete],
-        End::Pieces(&[(None, None, Location::Value { value: Generic(16) })]),
+        &[Reply::CallFrameCfa, Reply::Complete],
+        Ending::Pieces(&[(None, None, Location::Value { value: Generic(16) })]),
     ),
     (
         &[0x9c, 0x9f],
         &[Evaluate, CallFrameCfa(0x1_0000_0010)],
-        &[Told::CallFrameCfa, Told::Complete],
-        End::Pieces(&[(
+        &[Reply::CallFrameCfa, Reply::Complete],
+        Ending::Pieces(&[(
             None,
             None,
             Location::Value {
@@ -693,32 +710,32 @@ pub(super) static HIGH_BITS: [Row; 14] = [
     (
         &[0x9c, 0x06],
         &[Evaluate, CallFrameCfa(16)],
-        &[Told::CallFrameCfa, Told::Memory(16, 4, None)],
-        End::Waits(WaitingKind::Memory),
+        &[Reply::CallFrameCfa, Reply::Memory(16, 4, None)],
+        Ending::Waits(WaitingKind::Memory),
     ),
     (
         &[0x9c, 0x06],
         &[Evaluate, CallFrameCfa(0x1_0000_0010)],
-        &[Told::CallFrameCfa, Told::Memory(16, 4, None)],
-        End::Waits(WaitingKind::Memory),
+        &[Reply::CallFrameCfa, Reply::Memory(16, 4, None)],
+        Ending::Waits(WaitingKind::Memory),
     ),
     (
         &[0x9c, 0x12, 0x24],
         &[Evaluate, CallFrameCfa(1)],
-        &[Told::CallFrameCfa, Told::Complete],
-        End::Value(Generic(2), 2),
+        &[Reply::CallFrameCfa, Reply::Complete],
+        Ending::Value(Generic(2), 2),
     ),
     (
         &[0x9c, 0x12, 0x24],
         &[Evaluate, CallFrameCfa(0x1_0000_0001)],
-        &[Told::CallFrameCfa, Told::Complete],
-        End::Value(Generic(2), 2),
+        &[Reply::CallFrameCfa, Reply::Complete],
+        Ending::Value(Generic(2), 2),
     ),
     (
         &[0x9c, 0xa9, 0x09],
         &[Evaluate, CallFrameCfa(16), BaseType(ValueType::U32)],
-        &[Told::CallFrameCfa, Told::BaseType(9), Told::Complete],
-        End::Value(U32(16), 16),
+        &[Reply::CallFrameCfa, Reply::BaseType(9), Reply::Complete],
+        Ending::Value(U32(16), 16),
     ),
     (
         &[0x9c, 0xa9, 0x09],
@@ -727,14 +744,14 @@ pub(super) static HIGH_BITS: [Row; 14] = [
             CallFrameCfa(0x1_0000_0010),
             BaseType(ValueType::U32),
         ],
-        &[Told::CallFrameCfa, Told::BaseType(9), Told::Complete],
-        End::Value(U32(16), 16),
+        &[Reply::CallFrameCfa, Reply::BaseType(9), Reply::Complete],
+        Ending::Value(U32(16), 16),
     ),
     (
         &[0x9c, 0xa8, 0x09],
         &[Evaluate, CallFrameCfa(16), BaseType(ValueType::U64)],
-        &[Told::CallFrameCfa, Told::BaseType(9), Told::Complete],
-        End::Value(U64(16), 16),
+        &[Reply::CallFrameCfa, Reply::BaseType(9), Reply::Complete],
+        Ending::Value(U64(16), 16),
     ),
     (
         &[0x9c, 0xa8, 0x09],
@@ -743,8 +760,8 @@ pub(super) static HIGH_BITS: [Row; 14] = [
             CallFrameCfa(0x1_0000_0010),
             BaseType(ValueType::U64),
         ],
-        &[Told::CallFrameCfa, Told::BaseType(9), Told::Complete],
-        End::Value(U64(16), 16),
+        &[Reply::CallFrameCfa, Reply::BaseType(9), Reply::Complete],
+        Ending::Value(U64(16), 16),
     ),
 ];
 
@@ -753,8 +770,8 @@ pub(super) static CALLS: [Row; 17] = [
     (
         &[0x31, 0x98, 0x05, 0x00],
         &[Evaluate, AtLocation(&[])],
-        &[Told::AtUnit(5), Told::Complete],
-        End::Value(Generic(1), 1),
+        &[Reply::AtUnit(5), Reply::Complete],
+        Ending::Value(Generic(1), 1),
     ),
     (
         &[0x98, 0x01, 0x00],
@@ -763,41 +780,41 @@ pub(super) static CALLS: [Row; 17] = [
             AtLocation(&[0x98, 0x02, 0x00, 0x32]),
             AtLocation(&[0x31]),
         ],
-        &[Told::AtUnit(1), Told::AtUnit(2), Told::Complete],
-        End::Value(Generic(2), 2),
+        &[Reply::AtUnit(1), Reply::AtUnit(2), Reply::Complete],
+        Ending::Value(Generic(2), 2),
     ),
     (
         &[0x98, 0x05, 0x00, 0x33],
         &[Evaluate, AtLocation(&[0x2f, 0x00, 0x00])],
-        &[Told::AtUnit(5), Told::Complete],
-        End::Value(Generic(3), 3),
+        &[Reply::AtUnit(5), Reply::Complete],
+        Ending::Value(Generic(3), 3),
     ),
     (
         &[0x98, 0x05, 0x00, 0x33],
         &[Evaluate, AtLocation(&[0x2f, 0x01, 0x00])],
-        &[Told::AtUnit(5), Told::Fails(Error::BadBranchTarget(4))],
-        End::Failed,
+        &[Reply::AtUnit(5), Reply::Fails(Error::BadBranchTarget(4))],
+        Ending::Failed,
     ),
     (
         &[0x98, 0x05, 0x00, 0x31],
         &[Evaluate, AtLocation(&[0x50])],
         &[
-            Told::AtUnit(5),
-            Told::Fails(Error::InvalidExpressionTerminator(3)),
+            Reply::AtUnit(5),
+            Reply::Fails(Error::InvalidExpressionTerminator(3)),
         ],
-        End::Failed,
+        Ending::Failed,
     ),
     (
         &[0x98, 0x05, 0x00],
         &[Evaluate, AtLocation(&[])],
-        &[Told::AtUnit(5), Told::Fails(Error::NotEnoughStackItems)],
-        End::Failed,
+        &[Reply::AtUnit(5), Reply::Fails(Error::NotEnoughStackItems)],
+        Ending::Failed,
     ),
     (
         &[0x31, 0x98, 0x05, 0x00],
         &[Evaluate, AtLocation(&[0x12, 0x22])],
-        &[Told::AtUnit(5), Told::Complete],
-        End::Value(Generic(2), 2),
+        &[Reply::AtUnit(5), Reply::Complete],
+        Ending::Value(Generic(2), 2),
     ),
     (
         &[0x98, 0x05, 0x00, 0x33],
@@ -805,29 +822,29 @@ pub(super) static CALLS: [Row; 17] = [
             Evaluate,
             AtLocation(&[0x31, 0x28, 0x00, 0x00, 0x2f, 0x00, 0x00]),
         ],
-        &[Told::AtUnit(5), Told::Complete],
-        End::Value(Generic(3), 3),
+        &[Reply::AtUnit(5), Reply::Complete],
+        Ending::Value(Generic(3), 3),
     ),
     (
         &[0x98, 0x05, 0x00, 0x98, 0x06, 0x00],
         &[Evaluate, AtLocation(&[0x50])],
         &[
-            Told::AtUnit(5),
-            Told::Fails(Error::InvalidExpressionTerminator(5)),
+            Reply::AtUnit(5),
+            Reply::Fails(Error::InvalidExpressionTerminator(5)),
         ],
-        End::Failed,
+        Ending::Failed,
     ),
     (
         &[0x31, 0x98, 0x05, 0x00, 0x22],
         &[Evaluate, AtLocation(&[0x32])],
-        &[Told::AtUnit(5), Told::Complete],
-        End::Value(Generic(3), 3),
+        &[Reply::AtUnit(5), Reply::Complete],
+        Ending::Value(Generic(3), 3),
     ),
     (
         &[0x31, 0x98, 0x05, 0x00, 0x22],
         &[Evaluate, AtLocation(&[0x32, 0x2f, 0x01, 0x00, 0xff])],
-        &[Told::AtUnit(5), Told::Complete],
-        End::Value(Generic(3), 3),
+        &[Reply::AtUnit(5), Reply::Complete],
+        Ending::Value(Generic(3), 3),
     ),
     (
         &[0x98, 0x05, 0x00, 0x9c, 0x22],
@@ -838,24 +855,24 @@ pub(super) static CALLS: [Row; 17] = [
             CallFrameCfa(2),
         ],
         &[
-            Told::AtUnit(5),
-            Told::CallFrameCfa,
-            Told::CallFrameCfa,
-            Told::Complete,
+            Reply::AtUnit(5),
+            Reply::CallFrameCfa,
+            Reply::CallFrameCfa,
+            Reply::Complete,
         ],
-        End::Value(Generic(3), 3),
+        Ending::Value(Generic(3), 3),
     ),
     (
         &[0x9c, 0x9c, 0x22],
         &[Evaluate, CallFrameCfa(1), CallFrameCfa(2)],
-        &[Told::CallFrameCfa, Told::CallFrameCfa, Told::Complete],
-        End::Value(Generic(3), 3),
+        &[Reply::CallFrameCfa, Reply::CallFrameCfa, Reply::Complete],
+        Ending::Value(Generic(3), 3),
     ),
     (
         &[0x98, 0x05, 0x00, 0x93, 0x04],
         &[Evaluate, AtLocation(&[0x50])],
-        &[Told::AtUnit(5), Told::Complete],
-        End::Pieces(&[(
+        &[Reply::AtUnit(5), Reply::Complete],
+        Ending::Pieces(&[(
             Some(32),
             None,
             Location::Register {
@@ -866,8 +883,8 @@ pub(super) static CALLS: [Row; 17] = [
     (
         &[0x50, 0x93, 0x04],
         &[Evaluate],
-        &[Told::Complete],
-        End::Pieces(&[(
+        &[Reply::Complete],
+        Ending::Pieces(&[(
             Some(32),
             None,
             Location::Register {
@@ -878,8 +895,8 @@ pub(super) static CALLS: [Row; 17] = [
     (
         &[0x98, 0x05, 0x00, 0x93, 0x04],
         &[MaxIterations(2), Evaluate, AtLocation(&[0x50])],
-        &[Told::AtUnit(5), Told::Complete],
-        End::Pieces(&[(
+        &[Reply::AtUnit(5), Reply::Complete],
+        Ending::Pieces(&[(
             Some(32),
             None,
             Location::Register {
@@ -903,19 +920,19 @@ pub(super) static CALLS: [Row; 17] = [
             AtLocation(&[0x31]),
         ],
         &[
-            Told::AtUnit(1),
-            Told::AtUnit(1),
-            Told::AtUnit(1),
-            Told::AtUnit(1),
-            Told::AtUnit(1),
-            Told::AtUnit(1),
-            Told::AtUnit(1),
-            Told::AtUnit(1),
-            Told::AtUnit(1),
-            Told::AtUnit(1),
-            Told::Complete,
+            Reply::AtUnit(1),
+            Reply::AtUnit(1),
+            Reply::AtUnit(1),
+            Reply::AtUnit(1),
+            Reply::AtUnit(1),
+            Reply::AtUnit(1),
+            Reply::AtUnit(1),
+            Reply::AtUnit(1),
+            Reply::AtUnit(1),
+            Reply::AtUnit(1),
+            Reply::Complete,
         ],
-        End::Value(Generic(1), 1),
+        Ending::Value(Generic(1), 1),
     ),
 ];
 
@@ -924,56 +941,59 @@ pub(super) static LOCATIONS: [Row; 27] = [
     (
         &[0x31, 0x93, 0x04, 0x31],
         &[Evaluate],
-        &[Told::Fails(Error::InvalidPiece)],
-        End::Failed,
+        &[Reply::Fails(Error::InvalidPiece)],
+        Ending::Failed,
     ),
     (
         &[0x31, 0x93, 0x04, 0x03, 0x10, 0x00, 0x00, 0x00],
         &[Evaluate, RelocatedAddress(16)],
-        &[Told::RelocatedAddress(16), Told::Fails(Error::InvalidPiece)],
-        End::Failed,
+        &[
+            Reply::RelocatedAddress(16),
+            Reply::Fails(Error::InvalidPiece),
+        ],
+        Ending::Failed,
     ),
     (
         &[0x50, 0x31],
         &[Evaluate],
-        &[Told::Fails(Error::InvalidExpressionTerminator(1))],
-        End::Failed,
+        &[Reply::Fails(Error::InvalidExpressionTerminator(1))],
+        Ending::Failed,
     ),
     (
         &[0x50, 0x08, 0x07],
         &[Evaluate],
-        &[Told::Fails(Error::InvalidExpressionTerminator(2))],
-        End::Failed,
+        &[Reply::Fails(Error::InvalidExpressionTerminator(2))],
+        Ending::Failed,
     ),
     (
         &[0x9e, 0x05, 0x68, 0x65, 0x6c, 0x6c],
         &[Evaluate],
-        &[Told::CutOff],
-        End::Failed,
+        &[Reply::CutOff],
+        Ending::Failed,
     ),
     (
         &[0x93, 0x04],
         &[Evaluate],
-        &[Told::Complete],
-        End::Pieces(&[(Some(32), None, Location::Empty)]),
+        &[Reply::Complete],
+        Ending::Pieces(&[(Some(32), None, Location::Empty)]),
     ),
     (
         &[0x9d, 0x0c, 0x02],
         &[Evaluate],
-        &[Told::Complete],
-        End::Pieces(&[(Some(12), Some(2), Location::Empty)]),
+        &[Reply::Complete],
+        Ending::Pieces(&[(Some(12), Some(2), Location::Empty)]),
     ),
     (
         &[0x50, 0x98, 0x05, 0x00],
         &[Evaluate],
-        &[Told::Fails(Error::InvalidExpressionTerminator(3))],
-        End::Failed,
+        &[Reply::Fails(Error::InvalidExpressionTerminator(3))],
+        Ending::Failed,
     ),
     (
         &[0x50, 0x93, 0x04, 0x51, 0x93, 0x04],
         &[MaxIterations(2), Evaluate],
-        &[Told::Complete],
-        End::Pieces(&[
+        &[Reply::Complete],
+        Ending::Pieces(&[
             (
                 Some(32),
                 None,
@@ -993,45 +1013,45 @@ pub(super) static LOCATIONS: [Row; 27] = [
     (
         &[0x50, 0x93, 0x04, 0x51, 0x93, 0x04],
         &[MaxIterations(1), Evaluate],
-        &[Told::Fails(Error::TooManyIterations)],
-        End::Failed,
+        &[Reply::Fails(Error::TooManyIterations)],
+        Ending::Failed,
     ),
     (
         &[0x50, 0x93, 0x04, 0x51],
         &[Evaluate],
-        &[Told::Fails(Error::InvalidPiece)],
-        End::Failed,
+        &[Reply::Fails(Error::InvalidPiece)],
+        Ending::Failed,
     ),
-    (&[0x50, 0x08], &[Evaluate], &[Told::CutOff], End::Failed),
+    (&[0x50, 0x08], &[Evaluate], &[Reply::CutOff], Ending::Failed),
     (
         &[0x9f],
         &[Evaluate],
-        &[Told::Fails(Error::NotEnoughStackItems)],
-        End::Failed,
+        &[Reply::Fails(Error::NotEnoughStackItems)],
+        Ending::Failed,
     ),
     (
         &[0x31, 0x9f],
         &[Evaluate],
-        &[Told::Complete],
-        End::Pieces(&[(None, None, Location::Value { value: Generic(1) })]),
+        &[Reply::Complete],
+        Ending::Pieces(&[(None, None, Location::Value { value: Generic(1) })]),
     ),
     (
         &[0x31, 0x93, 0x04, 0x98, 0x05, 0x00],
         &[Evaluate, AtLocation(&[])],
-        &[Told::AtUnit(5), Told::Complete],
-        End::Pieces(&[(Some(32), None, Location::Address { address: 1 })]),
+        &[Reply::AtUnit(5), Reply::Complete],
+        Ending::Pieces(&[(Some(32), None, Location::Address { address: 1 })]),
     ),
     (
         &[0x31, 0x93, 0x04, 0x98, 0x05, 0x00],
         &[Evaluate, AtLocation(&[0x96])],
-        &[Told::AtUnit(5), Told::Fails(Error::InvalidPiece)],
-        End::Failed,
+        &[Reply::AtUnit(5), Reply::Fails(Error::InvalidPiece)],
+        Ending::Failed,
     ),
     (
         &[0xa0, 0x04, 0x00, 0x00, 0x00, 0x01],
         &[Evaluate],
-        &[Told::Complete],
-        End::Pieces(&[(
+        &[Reply::Complete],
+        Ending::Pieces(&[(
             None,
             None,
             Location::ImplicitPointer {
@@ -1043,8 +1063,8 @@ pub(super) static LOCATIONS: [Row; 27] = [
     (
         &[0x31, 0x93, 0x04, 0x98, 0x05, 0x00, 0x93, 0x04],
         &[Evaluate, AtLocation(&[0x32])],
-        &[Told::AtUnit(5), Told::Complete],
-        End::Pieces(&[
+        &[Reply::AtUnit(5), Reply::Complete],
+        Ending::Pieces(&[
             (Some(32), None, Location::Address { address: 1 }),
             (Some(32), None, Location::Address { address: 2 }),
         ]),
@@ -1053,34 +1073,34 @@ pub(super) static LOCATIONS: [Row; 27] = [
         &[0x31, 0x93, 0x04, 0x9c],
         &[Evaluate, CallFrameCfa(1), Evaluate],
         &[
-            Told::CallFrameCfa,
-            Told::Fails(Error::InvalidPiece),
-            Told::Fails(Error::InvalidPiece),
+            Reply::CallFrameCfa,
+            Reply::Fails(Error::InvalidPiece),
+            Reply::Fails(Error::InvalidPiece),
         ],
-        End::Failed,
+        Ending::Failed,
     ),
     (
         &[0x31, 0x93, 0x04, 0x98, 0x05, 0x00],
         &[Evaluate, AtLocation(&[0x9c]), CallFrameCfa(1), Evaluate],
         &[
-            Told::AtUnit(5),
-            Told::CallFrameCfa,
-            Told::Fails(Error::InvalidPiece),
-            Told::Fails(Error::InvalidPiece),
+            Reply::AtUnit(5),
+            Reply::CallFrameCfa,
+            Reply::Fails(Error::InvalidPiece),
+            Reply::Fails(Error::InvalidPiece),
         ],
-        End::Failed,
+        Ending::Failed,
     ),
     (
         &[0x31, 0x93, 0x04, 0x9c, 0x98, 0x05, 0x00],
         &[Evaluate, CallFrameCfa(1), AtLocation(&[])],
-        &[Told::CallFrameCfa, Told::AtUnit(5), Told::Complete],
-        End::Pieces(&[(Some(32), None, Location::Address { address: 1 })]),
+        &[Reply::CallFrameCfa, Reply::AtUnit(5), Reply::Complete],
+        Ending::Pieces(&[(Some(32), None, Location::Address { address: 1 })]),
     ),
     (
         &[0x31, 0x93, 0x04, 0x9c, 0x93, 0x04],
         &[Evaluate, CallFrameCfa(2)],
-        &[Told::CallFrameCfa, Told::Complete],
-        End::Pieces(&[
+        &[Reply::CallFrameCfa, Reply::Complete],
+        Ending::Pieces(&[
             (Some(32), None, Location::Address { address: 1 }),
             (Some(32), None, Location::Address { address: 2 }),
         ]),
@@ -1088,14 +1108,14 @@ pub(super) static LOCATIONS: [Row; 27] = [
     (
         &[0x50, 0xff],
         &[Evaluate],
-        &[Told::Fails(Error::InvalidExpression(DwOp(0xff)))],
-        End::Failed,
+        &[Reply::Fails(Error::InvalidExpression(DwOp(0xff)))],
+        Ending::Failed,
     ),
     (
         &[0x98, 0x05, 0x00],
         &[Evaluate, AtLocation(&[0x50])],
-        &[Told::AtUnit(5), Told::Complete],
-        End::Pieces(&[(
+        &[Reply::AtUnit(5), Reply::Complete],
+        Ending::Pieces(&[(
             None,
             None,
             Location::Register {
@@ -1106,14 +1126,14 @@ pub(super) static LOCATIONS: [Row; 27] = [
     (
         &[0x93, 0x04, 0x98, 0x05, 0x00],
         &[Evaluate, AtLocation(&[0x50])],
-        &[Told::AtUnit(5), Told::Fails(Error::InvalidPiece)],
-        End::Failed,
+        &[Reply::AtUnit(5), Reply::Fails(Error::InvalidPiece)],
+        Ending::Failed,
     ),
     (
         &[0x31, 0x32, 0x50, 0x93, 0x01],
         &[Evaluate],
-        &[Told::Complete],
-        End::Pieces(&[(
+        &[Reply::Complete],
+        Ending::Pieces(&[(
             Some(8),
             None,
             Location::Register {
@@ -1124,8 +1144,8 @@ pub(super) static LOCATIONS: [Row; 27] = [
     (
         &[0x93, 0x04, 0x96],
         &[Evaluate],
-        &[Told::Fails(Error::InvalidPiece)],
-        End::Failed,
+        &[Reply::Fails(Error::InvalidPiece)],
+        Ending::Failed,
     ),
 ];
 
@@ -1136,8 +1156,8 @@ pub(super) static FIXED: [((usize, usize, usize), Row); 17] = [
         (
             &[0x31, 0x32],
             &[Evaluate],
-            &[Told::Complete],
-            End::Value(Generic(2), 2),
+            &[Reply::Complete],
+            Ending::Value(Generic(2), 2),
         ),
     ),
     (
@@ -1146,11 +1166,11 @@ pub(super) static FIXED: [((usize, usize, usize), Row); 17] = [
             &[0x31, 0x32, 0x33],
             &[Evaluate, Evaluate, Evaluate],
             &[
-                Told::Fails(Error::StackFull),
-                Told::Fails(Error::StackFull),
-                Told::Fails(Error::StackFull),
+                Reply::Fails(Error::StackFull),
+                Reply::Fails(Error::StackFull),
+                Reply::Fails(Error::StackFull),
             ],
-            End::Failed,
+            Ending::Failed,
         ),
     ),
     (
@@ -1167,15 +1187,15 @@ pub(super) static FIXED: [((usize, usize, usize), Row); 17] = [
                 Evaluate,
             ],
             &[
-                Told::AtUnit(1),
-                Told::AtUnit(1),
-                Told::AtUnit(1),
-                Told::AtUnit(1),
-                Told::AtUnit(1),
-                Told::Fails(Error::StackFull),
-                Told::Fails(Error::StackFull),
+                Reply::AtUnit(1),
+                Reply::AtUnit(1),
+                Reply::AtUnit(1),
+                Reply::AtUnit(1),
+                Reply::AtUnit(1),
+                Reply::Fails(Error::StackFull),
+                Reply::Fails(Error::StackFull),
             ],
-            End::Failed,
+            Ending::Failed,
         ),
     ),
     (
@@ -1183,8 +1203,11 @@ pub(super) static FIXED: [((usize, usize, usize), Row); 17] = [
         (
             &[0x31],
             &[Evaluate, Evaluate],
-            &[Told::Fails(Error::StackFull), Told::Fails(Error::StackFull)],
-            End::Failed,
+            &[
+                Reply::Fails(Error::StackFull),
+                Reply::Fails(Error::StackFull),
+            ],
+            Ending::Failed,
         ),
     ),
     (
@@ -1192,8 +1215,8 @@ pub(super) static FIXED: [((usize, usize, usize), Row); 17] = [
         (
             &[],
             &[Evaluate],
-            &[Told::Fails(Error::NotEnoughStackItems)],
-            End::Failed,
+            &[Reply::Fails(Error::NotEnoughStackItems)],
+            Ending::Failed,
         ),
     ),
     (
@@ -1201,8 +1224,11 @@ pub(super) static FIXED: [((usize, usize, usize), Row); 17] = [
         (
             &[],
             &[InitialValue(1), Evaluate, Evaluate],
-            &[Told::Fails(Error::StackFull), Told::Fails(Error::StackFull)],
-            End::Failed,
+            &[
+                Reply::Fails(Error::StackFull),
+                Reply::Fails(Error::StackFull),
+            ],
+            Ending::Failed,
         ),
     ),
     (
@@ -1210,8 +1236,8 @@ pub(super) static FIXED: [((usize, usize, usize), Row); 17] = [
         (
             &[0x31],
             &[Evaluate],
-            &[Told::Fails(Error::StackFull)],
-            End::Failed,
+            &[Reply::Fails(Error::StackFull)],
+            Ending::Failed,
         ),
     ),
     (
@@ -1219,8 +1245,8 @@ pub(super) static FIXED: [((usize, usize, usize), Row); 17] = [
         (
             &[0x50, 0x93, 0x04, 0x51, 0x93, 0x04],
             &[Evaluate],
-            &[Told::Fails(Error::StackFull)],
-            End::Failed,
+            &[Reply::Fails(Error::StackFull)],
+            Ending::Failed,
         ),
     ),
     (
@@ -1228,8 +1254,8 @@ pub(super) static FIXED: [((usize, usize, usize), Row); 17] = [
         (
             &[0x30, 0x2f, 0xfc, 0xff],
             &[MaxIterations(7), Evaluate],
-            &[Told::Fails(Error::StackFull)],
-            End::Failed,
+            &[Reply::Fails(Error::StackFull)],
+            Ending::Failed,
         ),
     ),
     (
@@ -1237,8 +1263,8 @@ pub(super) static FIXED: [((usize, usize, usize), Row); 17] = [
         (
             &[0x30, 0x2f, 0xfc, 0xff],
             &[MaxIterations(6), Evaluate],
-            &[Told::Fails(Error::TooManyIterations)],
-            End::Failed,
+            &[Reply::Fails(Error::TooManyIterations)],
+            Ending::Failed,
         ),
     ),
     (
@@ -1247,11 +1273,11 @@ pub(super) static FIXED: [((usize, usize, usize), Row); 17] = [
             &[0x9c, 0x31],
             &[Evaluate, CallFrameCfa(16), Evaluate],
             &[
-                Told::CallFrameCfa,
-                Told::Fails(Error::StackFull),
-                Told::Fails(Error::StackFull),
+                Reply::CallFrameCfa,
+                Reply::Fails(Error::StackFull),
+                Reply::Fails(Error::StackFull),
             ],
-            End::Failed,
+            Ending::Failed,
         ),
     ),
     (
@@ -1260,11 +1286,11 @@ pub(super) static FIXED: [((usize, usize, usize), Row); 17] = [
             &[0x9c, 0x31],
             &[Evaluate, CallFrameCfa(0x1_0000_0010), Evaluate],
             &[
-                Told::CallFrameCfa,
-                Told::Fails(Error::StackFull),
-                Told::Fails(Error::StackFull),
+                Reply::CallFrameCfa,
+                Reply::Fails(Error::StackFull),
+                Reply::Fails(Error::StackFull),
             ],
-            End::Failed,
+            Ending::Failed,
         ),
     ),
     (
@@ -1272,8 +1298,11 @@ pub(super) static FIXED: [((usize, usize, usize), Row); 17] = [
         (
             &[0x31, 0x93, 0x04, 0x98, 0x05, 0x00],
             &[Evaluate, AtLocation(&[0x50, 0x93, 0x04])],
-            &[Told::Fails(Error::StackFull), Told::Fails(Error::StackFull)],
-            End::Failed,
+            &[
+                Reply::Fails(Error::StackFull),
+                Reply::Fails(Error::StackFull),
+            ],
+            Ending::Failed,
         ),
     ),
     (
@@ -1281,8 +1310,11 @@ pub(super) static FIXED: [((usize, usize, usize), Row); 17] = [
         (
             &[0x31, 0x93, 0x04, 0x98, 0x05, 0x00],
             &[Evaluate, AtLocation(&[0x50, 0x93, 0x04])],
-            &[Told::Fails(Error::StackFull), Told::Fails(Error::StackFull)],
-            End::Failed,
+            &[
+                Reply::Fails(Error::StackFull),
+                Reply::Fails(Error::StackFull),
+            ],
+            Ending::Failed,
         ),
     ),
     (
@@ -1290,8 +1322,8 @@ pub(super) static FIXED: [((usize, usize, usize), Row); 17] = [
         (
             &[0x31, 0x93, 0x04, 0x98, 0x05, 0x00],
             &[Evaluate, AtLocation(&[0x50, 0x93, 0x04])],
-            &[Told::AtUnit(5), Told::Fails(Error::StackFull)],
-            End::Failed,
+            &[Reply::AtUnit(5), Reply::Fails(Error::StackFull)],
+            Ending::Failed,
         ),
     ),
     (
@@ -1299,8 +1331,8 @@ pub(super) static FIXED: [((usize, usize, usize), Row); 17] = [
         (
             &[0x31, 0x93, 0x04, 0x98, 0x05, 0x00],
             &[Evaluate, AtLocation(&[0x50, 0x93, 0x04])],
-            &[Told::AtUnit(5), Told::Fails(Error::StackFull)],
-            End::Failed,
+            &[Reply::AtUnit(5), Reply::Fails(Error::StackFull)],
+            Ending::Failed,
         ),
     ),
     (
@@ -1308,8 +1340,8 @@ pub(super) static FIXED: [((usize, usize, usize), Row); 17] = [
         (
             &[0x31, 0x93, 0x04, 0x98, 0x05, 0x00],
             &[Evaluate, AtLocation(&[0x50, 0x93, 0x04])],
-            &[Told::AtUnit(5), Told::Complete],
-            End::Pieces(&[
+            &[Reply::AtUnit(5), Reply::Complete],
+            Ending::Pieces(&[
                 (Some(32), None, Location::Address { address: 1 }),
                 (
                     Some(32),
@@ -1328,7 +1360,7 @@ type Misplacement = (
     &'static [u8],
     &'static [Step<&'static [u8]>],
     usize,
-    &'static [Told],
+    &'static [Reply],
     Status,
 );
 
@@ -1337,21 +1369,21 @@ pub(super) static MISPLACED: [Misplacement; 9] = [
         &[0x9c],
         &[Evaluate, RegisterValue(Generic(0))],
         1,
-        &[Told::CallFrameCfa],
+        &[Reply::CallFrameCfa],
         Status::Waiting(WaitingKind::CallFrameCfa),
     ),
     (
         &[0x9c],
         &[Evaluate, Evaluate],
         1,
-        &[Told::CallFrameCfa],
+        &[Reply::CallFrameCfa],
         Status::Waiting(WaitingKind::CallFrameCfa),
     ),
     (
         &[0x70, 0x7f],
         &[Evaluate, Memory(Generic(0))],
         1,
-        &[Told::Register(0, 0)],
+        &[Reply::Register(0, 0)],
         Status::Waiting(WaitingKind::Register),
     ),
     (
@@ -1372,21 +1404,21 @@ pub(super) static MISPLACED: [Misplacement; 9] = [
         &[0x31],
         &[Evaluate, InitialValue(1)],
         1,
-        &[Told::Complete],
+        &[Reply::Complete],
         Status::Complete,
     ),
     (
         &[0x22],
         &[Evaluate, InitialValue(1)],
         1,
-        &[Told::Fails(Error::NotEnoughStackItems)],
+        &[Reply::Fails(Error::NotEnoughStackItems)],
         Status::Failed(Error::NotEnoughStackItems),
     ),
     (
         &[0x31],
         &[Evaluate, CallFrameCfa(1)],
         1,
-        &[Told::Complete],
+        &[Reply::Complete],
         Status::Complete,
     ),
     (
@@ -1406,8 +1438,8 @@ pub(super) static OTHERS: [(u8, u16, Row); 5] = [
         (
             &[0x03, 0x00, 0x00, 0x00],
             &[Evaluate],
-            &[Told::Fails(Error::UnsupportedAddressSize(3))],
-            End::Failed,
+            &[Reply::Fails(Error::UnsupportedAddressSize(3))],
+            Ending::Failed,
         ),
     ),
     (
@@ -1416,8 +1448,8 @@ pub(super) static OTHERS: [(u8, u16, Row); 5] = [
         (
             &[0x08, 0xff, 0x1f],
             &[Evaluate],
-            &[Told::Complete],
-            End::Value(Generic(0xffff_ffff_ffff_ff01), 0xff_ff01),
+            &[Reply::Complete],
+            Ending::Value(Generic(0xffff_ffff_ffff_ff01), 0xff_ff01),
         ),
     ),
     (
@@ -1426,8 +1458,8 @@ pub(super) static OTHERS: [(u8, u16, Row); 5] = [
         (
             &[0xa3, 0x00, 0x19, 0x9f],
             &[Evaluate, EntryValue(Generic(0x80_0000))],
-            &[Told::EntryValue(&[]), Told::Complete],
-            End::Pieces(&[(
+            &[Reply::EntryValue(&[]), Reply::Complete],
+            Ending::Pieces(&[(
                 None,
                 None,
                 Location::Value {
@@ -1442,8 +1474,8 @@ pub(super) static OTHERS: [(u8, u16, Row); 5] = [
         (
             &[0x08, 0xff, 0x34, 0x24],
             &[Evaluate],
-            &[Told::Complete],
-            End::Value(Generic(0xff0), 0xf0),
+            &[Reply::Complete],
+            Ending::Value(Generic(0xff0), 0xf0),
         ),
     ),
     (
@@ -1452,8 +1484,8 @@ pub(super) static OTHERS: [(u8, u16, Row); 5] = [
         (
             &[0xa0, 0x78, 0x56, 0x34, 0x12, 0x7f],
             &[Evaluate],
-            &[Told::Complete],
-            End::Pieces(&[(
+            &[Reply::Complete],
+            Ending::Pieces(&[(
                 None,
                 None,
                 Location::ImplicitPointer {

@@ -1,7 +1,7 @@
 -- Where in a caller's texts the bytes of a block are, if anywhere.
 use Rattle.std.specs.Prelude.{ℕ, ◌+◌, ◌≡◌, ◌≤◌, List, Some, length, slice_get, slice_range}
 use Rattle.dwarf_meaning.specs.Locations.{Location, HoldsBytes, Piece}
-use Rattle.dwarf_meaning.specs.Requests as asked
+use Rattle.dwarf_meaning.specs.Requests as requests
 use Rattle.dwarf_meaning.specs.Steps.{Reply, RequestReply}
 use Rattle.dwexpr_c.specs.Texts.{IsPlaced}
 use Rattle.dwexpr_c.specs.declared.steps.DwexprText.{DwexprText}
@@ -30,7 +30,7 @@ IsNowhere texts block = (text : ℕ) → IsNotAt texts text block
 
 -- a block is asked about that is nowhere
 abbrev pub AsksNowhere : List DwexprText → Reply → Type 0
-AsksNowhere texts (RequestReply (asked.RequiresEntryValue expression)) = IsNowhere texts expression.bytes
+AsksNowhere texts (RequestReply (requests.RequiresEntryValue expression)) = IsNowhere texts expression.bytes
 AsksNowhere texts _ = ⊥
 
 -- the location has bytes that are nowhere

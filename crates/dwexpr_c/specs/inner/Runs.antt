@@ -2,9 +2,9 @@
 use Rattle.std.specs.Prelude.{◌≡◌, List, Option, Some, None, Result, Ok, Err}
 use Rattle.dwarf_base.specs.declared.common.Encoding.{Encoding}
 use Rattle.dwarf_meaning.specs.Rest.{State}
-use Rattle.dwarf_meaning.specs.Steps.{Step}
+use Rattle.dwarf_meaning.specs.Steps.{Step, untold}
 use Rattle.dwarf_replay.specs.Replays.{StandsAt, told_at}
-use Rattle.dwexpr_c.specs.Evaluated.{AreTaken, EvaluatesGiven, Given, IsCutShort, comes_of, limited_setup, told_by, untold}
+use Rattle.dwexpr_c.specs.Evaluated.{AreTaken, EvaluatesGiven, Beginning, IsCutShort, comes_of, limited_setup, told_by}
 use Rattle.dwexpr_c.specs.Outcomes.{ended_outcome}
 use Rattle.dwexpr_c.specs.Texts.{text_of_placed}
 use Rattle.dwexpr_c.specs.inner.Stepping.{ShowsStatus}
@@ -15,7 +15,7 @@ use Rattle.dwexpr_c.specs.declared.steps.DwexprStep.{DwexprStep}
 use Rattle.dwexpr_c.specs.declared.steps.DwexprText.{DwexprText}
 
 -- an evaluation with the texts that its steps may name
-abbrev pub given_at : State → List DwexprText → Given
+abbrev pub given_at : State → List DwexprText → Beginning
 given_at first texts = record { setup = first.setup; text = first.text; told = told_at first; texts = texts }
 
 -- all steps were done, and the evaluation stands where they lead, as is shown

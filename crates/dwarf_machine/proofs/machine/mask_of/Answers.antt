@@ -1,6 +1,6 @@
 use Rattle.std.proofs.Common.{◌≡◌, ◌*◌, ◌<◌, ◌≤◌, ap, ◌∙◌, sym, subst, arith}
 use Rattle.dwarf_value.specs.Values.{IsAddressMask, width_of}
-use Rattle.dwarf_value.proofs.Masks.{address_mask, width_of-low}
+use Rattle.dwarf_value.proofs.MaskBits.{address_mask, width_of-low}
 use Rattle.dwarf_machine.proofs.AddressMasks.{mask_is}
 use Rattle.dwarf_machine.proofs.machine.mask_of.Goals as goal
 

@@ -3,7 +3,7 @@ use Rattle.std.proofs.lemmas.Option.{slice_get_read}
 use Rattle.dwarf_replay.specs.Replays.{replies_in, steps_of}
 use Rattle.dwarf_replay.specs.Stepping.{step_of}
 use Rattle.dwarf_replay.specs.inner.Keeping.{TakesStep}
-use Rattle.dwarf_replay.specs.declared.walk.Stop.{Stop}
+use Rattle.dwarf_replay.specs.declared.walk.NotKept.{NotKept}
 use Rattle.dwarf_replay.proofs.Standings.{Went, went_at_first}
 use Rattle.dwarf_replay.proofs.Turns.{kept_on, stopped, overflowed, taken_all}
 use Rattle.dwarf_replay.proofs.walk.replay.Goals as goal
@@ -34,7 +34,7 @@ returns-in-Err-Misplaced-clause-replays g c =
     let steps = c.args.steps.now in
     let next = slice_get_read steps (length steps) c.loop-index.index c.index-steps-index.result refl c.loop-index-test.true c.index-steps-index.is in
     stopped view number c.args.eval.now steps c.loop-index.index c.index-steps-index.result next (g.L.ArrayLike.items c.loop-index.answers) (g.L.ArrayLike.items c.keep_step.new.answers) c.loop-index.eval c.keep_step.new.eval c.loop-index.invariant.0
-    (subst (λ (s : Stop _ _ _). TakesStep view number (step_of view c.index-steps-index.result) (g.L.ArrayLike.limit c.loop-index.answers) c.loop-index.eval (g.L.ArrayLike.items c.loop-index.answers) c.keep_step.new.eval (g.L.ArrayLike.items c.keep_step.new.answers) (Err s)) c.in-Err-Misplaced.field-0-is c.in-Err-Misplaced.ensures.keeps)
+    (subst (λ (s : NotKept _ _ _). TakesStep view number (step_of view c.index-steps-index.result) (g.L.ArrayLike.limit c.loop-index.answers) c.loop-index.eval (g.L.ArrayLike.items c.loop-index.answers) c.keep_step.new.eval (g.L.ArrayLike.items c.keep_step.new.answers) (Err s)) c.in-Err-Misplaced.field-0-is c.in-Err-Misplaced.ensures.keeps)
 
 pub returns-in-Err-NoRoom-clause-replays : goal.returns-in-Err-NoRoom-clause-replays
 returns-in-Err-NoRoom-clause-replays g c =
@@ -42,7 +42,7 @@ returns-in-Err-NoRoom-clause-replays g c =
     let number = g.R.Offset.ReaderOffset.number in
     let steps = c.args.steps.now in
     let next = slice_get_read steps (length steps) c.loop-index.index c.index-steps-index.result refl c.loop-index-test.true c.index-steps-index.is in
-    let keeps = subst (λ (s : Stop _ _ _). TakesStep view number (step_of view c.index-steps-index.result) (g.L.ArrayLike.limit c.loop-index.answers) c.loop-index.eval (g.L.ArrayLike.items c.loop-index.answers) c.keep_step.new.eval (g.L.ArrayLike.items c.keep_step.new.answers) (Err s)) c.in-Err-NoRoom.field-0-is c.in-Err-NoRoom.ensures.keeps in
+    let keeps = subst (λ (s : NotKept _ _ _). TakesStep view number (step_of view c.index-steps-index.result) (g.L.ArrayLike.limit c.loop-index.answers) c.loop-index.eval (g.L.ArrayLike.items c.loop-index.answers) c.keep_step.new.eval (g.L.ArrayLike.items c.keep_step.new.answers) (Err s)) c.in-Err-NoRoom.field-0-is c.in-Err-NoRoom.ensures.keeps in
     rw (← c.loop-index.invariant.2)
     (overflowed view number c.args.eval.now steps c.loop-index.index c.index-steps-index.result next (g.L.ArrayLike.items c.loop-index.answers) (g.L.ArrayLike.items c.keep_step.new.answers) c.loop-index.eval c.keep_step.new.eval c.loop-index.invariant.0 (g.L.ArrayLike.limit c.loop-index.answers) c.in-Err-NoRoom.answer keeps)
 

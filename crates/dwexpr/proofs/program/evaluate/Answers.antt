@@ -1,7 +1,8 @@
 use Rattle.std.proofs.Common.{sym, ◌∙◌, subst}
 use Rattle.dwarf_base.specs.EndianSlice.{slice_text}
 use Rattle.dwarf_replay.specs.Replays.{replies_in, steps_of}
-use Rattle.dwexpr.specs.Evaluates.{EvaluatesSteps, behind_replies, unlimited_setup, untold}
+use Rattle.dwarf_meaning.specs.Steps.{untold}
+use Rattle.dwexpr.specs.Evaluates.{EvaluatesSteps, behind_replies, unlimited_setup}
 use Rattle.dwexpr.specs.inner.Replayed.{ending_of}
 use Rattle.dwexpr.proofs.RunLemmas.{evaluates_as, evaluates_to, has_line, text_as, text_by, told_as}
 use Rattle.dwexpr.proofs.program.evaluate.Goals as goal

@@ -1,6 +1,6 @@
 use Rattle.std.proofs.Common.{ℕ, suc, ◌≡◌, ◌+◌, Bool, Ok, Err, take, arith, ◌∙◌, sym, subst}
 use Rattle.dwexpr_c.specs.Evaluated.{IsCutShort}
-use Rattle.dwexpr_c.specs.Steps.{step_in}
+use Rattle.dwexpr_c.specs.Steps.{step_coded}
 use Rattle.dwexpr_c.specs.inner.Runs.{given_at}
 use Rattle.dwexpr_c.specs.inner.Stepping.{DoesStep}
 use Rattle.dwexpr_c.specs.declared.outcomes.DwexprOutcome.{DwexprOutcome}
@@ -19,7 +19,7 @@ loop-index-preserved g c =
     let new = c.do_step.new.evaluation in
     let index = c.loop-index.index in
     let there = sym c.step_at.ensures ∙ c.in-Some.is in
-    let does = subst (λ (b : Bool). DoesStep texts (step_in b texts c.in-Some.step) x new c.loop-index.outcome c.do_step.new.outcome (Ok tt)) (sym c.requires.order) c.in-Ok.ensures in
+    let does = subst (λ (b : Bool). DoesStep texts (step_coded b texts c.in-Some.step) x new c.loop-index.outcome c.do_step.new.outcome (Ok tt)) (sym c.requires.order) c.in-Ok.ensures in
     let one : suc index ≡ index + 1 = omega arith in
     let reached = next texts steps index c.in-Some.step there first c.requires.limits c.requires.given x new c.loop-index.outcome c.loop-index.invariant.0 c.do_step.new.outcome does in
     (subst (λ (n : ℕ). Reached texts (take n steps) first new c.do_step.new.outcome) one reached, omega (arith, c.loop-index-test.true))
@@ -32,7 +32,7 @@ returns-in-Err g c =
     let x = c.loop-index.evaluation in
     let new = c.do_step.new.evaluation in
     let there = sym c.step_at.ensures ∙ c.in-Some.is in
-    let does = subst (λ (b : Bool). DoesStep texts (step_in b texts c.in-Some.step) x new c.loop-index.outcome c.do_step.new.outcome (Err c.in-Err.end)) (sym c.requires.order) c.in-Err.ensures in
+    let does = subst (λ (b : Bool). DoesStep texts (step_coded b texts c.in-Some.step) x new c.loop-index.outcome c.do_step.new.outcome (Err c.in-Err.end)) (sym c.requires.order) c.in-Err.ensures in
     subst (λ (o : DwexprOutcome). IsCutShort (given_at first texts) steps o) (sym c.show_end.ensures)
     (stops texts steps c.loop-index.index c.in-Some.step there first c.requires.limits c.requires.given x new c.loop-index.outcome c.loop-index.invariant.0 c.in-Err.end c.do_step.new.outcome does)
 

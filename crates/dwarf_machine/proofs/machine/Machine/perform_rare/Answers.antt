@@ -5,7 +5,7 @@ use Rattle.dwarf_meaning.specs.Acts.{RequestAct, Locates, act}
 use Rattle.dwarf_meaning.specs.Locations.{PointsInto}
 use Rattle.dwarf_meaning.specs.Operations as operation
 use Rattle.dwarf_meaning.specs.Requests.{RequiresRegister}
-use Rattle.dwarf_meaning.specs.Requests as asked
+use Rattle.dwarf_meaning.specs.Requests as requests
 use Rattle.dwarf_machine.specs.inner.Steps.{Performs}
 use Rattle.dwarf_op.specs.Entries.{block_operation, wasm_operation}
 use Rattle.dwarf_machine.proofs.Behind.{block_still, left_after, left_then, read_done, wasm_still}
@@ -34,8 +34,8 @@ returns-in_ok-register-in-NamedBaseRegister-clause-performs g c =
     let fits : FitsSigned w64 c.in_ok-register-in-NamedBaseRegister.offset = search rules in
     rw (c.in-NamedBaseRegister.is)
     (read_done (operation.RegisterOffset c.in_ok-register-in-NamedBaseRegister.register.0 c.in_ok-register-in-NamedBaseRegister.offset 0) _ (g.R.Reader.text c.read_named_base_register.new.bytes).bytes c.args.self.now c.ask.new.self
-    (c.in_ok-register-in-NamedBaseRegister.ensures c.args.encoding).value tt (subst (λ (base_type : ℕ). Performs (RequestAct c.args.self.now.store.values (RequiresRegister c.in_ok-register-in-NamedBaseRegister.register.0 base_type) (asked.Register c.in_ok-register-in-NamedBaseRegister.offset)) c.args.self.now c.ask.new.self) c.generic_type.ensures
-    (subst (λ (offset : ℤ). Performs (RequestAct c.args.self.now.store.values (RequiresRegister c.in_ok-register-in-NamedBaseRegister.register.0 (g.R.Offset.ReaderOffset.number c.generic_type.result.0)) (asked.Register offset)) c.args.self.now c.ask.new.self) (to_z-of_z w64 c.in_ok-register-in-NamedBaseRegister.offset fits) c.ask.ensures)))
+    (c.in_ok-register-in-NamedBaseRegister.ensures c.args.encoding).value tt (subst (λ (base_type : ℕ). Performs (RequestAct c.args.self.now.store.values (RequiresRegister c.in_ok-register-in-NamedBaseRegister.register.0 base_type) (requests.Register c.in_ok-register-in-NamedBaseRegister.offset)) c.args.self.now c.ask.new.self) c.generic_type.ensures
+    (subst (λ (offset : ℤ). Performs (RequestAct c.args.self.now.store.values (RequiresRegister c.in_ok-register-in-NamedBaseRegister.register.0 (g.R.Offset.ReaderOffset.number c.generic_type.result.0)) (requests.Register offset)) c.args.self.now c.ask.new.self) (to_z-of_z w64 c.in_ok-register-in-NamedBaseRegister.offset fits) c.ask.ensures)))
 
 pub returns-in_ok-register-in-TypedRegister-clause-performs : goal.returns-in_ok-register-in-TypedRegister-clause-performs
 unfolding act

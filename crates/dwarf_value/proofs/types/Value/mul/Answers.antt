@@ -4,7 +4,7 @@ use Rattle.std.specs.Int.{w128}
 use Rattle.std.proofs.lemmas.Int.{to_z-of_z}
 use Rattle.dwarf_base.specs.Numbers.{residue}
 use Rattle.dwarf_value.proofs.Wraps.{value_of-low}
-use Rattle.dwarf_value.proofs.Masks.{width_of-le}
+use Rattle.dwarf_value.proofs.MaskBits.{width_of-le}
 use Rattle.dwarf_value.proofs.types.Value.mul.Goals as goal
 
 pub returns : goal.returns

@@ -1,8 +1,8 @@
 use Rattle.std.proofs.Common.{arith, eq-eqb, subst}
 use Rattle.std.proofs.lemmas.Bool.Decides.{nat_tests}
 use Rattle.dwarf_value.specs.Values.{IsAddressMask}
-use Rattle.dwarf_value.proofs.Masks.{ones_pos, IsAddressMask-ones, ones-IsAddressMask, not-IsAddressMask-zero}
-use Rattle.dwarf_value.proofs.types.is_addr_mask.Goals as goal
+use Rattle.dwarf_value.proofs.MaskBits.{ones_pos, IsAddressMask-ones, ones-IsAddressMask, not-IsAddressMask-zero}
+use Rattle.dwarf_value.proofs.masks.is_addr_mask.Goals as goal
 
 pub returns-then-addr_mask-ne0 : goal.returns-then-addr_mask-ne0
 returns-then-addr_mask-ne0 c = (

@@ -1,0 +1,24 @@
+//! The masks of addresses: which numbers are one, and how many bits it has.
+
+ghost use Rattle.std.specs.Prelude.{◌≡◌, ◌<◌, ◌≤◌, ◌↔◌, IsTrue};
+ghost use Rattle.dwarf_value.specs.Values.{IsAddressMask, width_of};
+
+/// Whether the mask is that of an address of 1 to 64 bits: ones in its lowest bits, and nothing else.
+#[inline(always)]
+pub fn is_addr_mask(addr_mask: u64) -> bool
+    ensures { IsTrue result ↔ IsAddressMask addr_mask }
+{
+    addr_mask != 0 && addr_mask == u64::MAX >> (64 - addr_mask.count_ones())
+}
+
+/// How many bits an address has.
+#[tactic(auto, unfolding(crate::specs::Values::width_of))]
+#[inline(always)]
+pub(crate) fn mask_width(addr_mask: u64) -> u32
+    requires { IsAddressMask addr_mask }
+    ensures value { result ≡ width_of addr_mask }
+    ensures low { 0 < result }
+    ensures high { result ≤ 64 }
+{
+    addr_mask.count_ones()
+}

@@ -339,7 +339,7 @@ impl<R: Reader + Copy, S: EvaluationStorage<R>> Machine<R, S> {
     }
 
     /// Lets the top wait for its piece, as a value that has no place.
-    #[inline(always)]
+    #[inline(never)]
     pub(crate) fn locate_value(&mut self)
         requires { self.old.status ≡ Running }
         ensures { Performs (act_of self.old meaning.StackValue) self.old self.new }

@@ -118,7 +118,8 @@ fn read_long_sleb128<R: Reader>(bytes: &mut R) -> Result<i64>
     bytes.read_sleb128()
 }
 
-// An address of so many bytes.
+/// Reads an address of `size` bytes (DWARF 5, section 7.5.1). `UnsupportedAddressSize` where that is none of 1, 2, 4 and
+/// 8, and `UnexpectedEof` where there are fewer bytes.
 #[inline(always)]
 pub fn read_address<R: Reader + Copy>(bytes: &mut R, size: u8) -> Result<u64>
     ensures { Reads (λ n. n) (R.text bytes.old) (R.text bytes.new) result

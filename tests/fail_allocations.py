@@ -96,7 +96,8 @@ def tried(number, folder):
         file = name.replace(" ", "_")
         found = re.search(rf"^== {file}\n((?:(?!== ).*\n)*?)case={file} run=ended status=(\d+) ", text, re.MULTILINE)
         if found:
-            lines = [line for line in found[1].splitlines() if not line.startswith("allocations:")]
+            # On a busy machine what is said of another case can come between; no line of the program begins so.
+            lines = [line for line in found[1].splitlines() if not line.startswith(("allocations:", "case="))]
             runs[name] = (lines, int(found[2]))
     if not runs:
         print(text)

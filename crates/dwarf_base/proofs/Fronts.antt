@@ -4,7 +4,8 @@ use Rattle.std.proofs.lemmas.Bool.{cases_lt}
 use Rattle.std.proofs.lemmas.List.{length-take-le, take-append-drop}
 use Rattle.std.proofs.Math.Seq.{take-append_seam, drop-append_seam}
 use Rattle.dwarf_base.specs.declared.common.Format.{Format}
-use Rattle.dwarf_base.specs.Faults.{Fault, UnexpectedEof, UnsupportedAddressSize, ◌>>=◌}
+use Rattle.dwarf_base.specs.Faults.{Fault, past_the_end, ◌>>=◌}
+use Rattle.dwarf_base.specs.declared.errors.Error.TheVariants.{UnsupportedAddressSize}
 use Rattle.dwarf_base.specs.Fronts.{Begins, ReadsExactly, TakesFront, ReadsFronts, SpellsBlock, SpellsFixed, MalformedBlock}
 use Rattle.dwarf_base.specs.Numbers.{number_of, signed_of, offset_of}
 use Rattle.dwarf_base.specs.Reads.{u8_at, split_at, fixed_at, signed_at, address_at, format_at, offset_size, is_fixed_size}
@@ -86,7 +87,7 @@ fronts_checked (Err fault) = record { taken = λ bytes value rest h. absurd (cc 
 
 pub fronts_exactly : {A : Type 0} (Spells : List ℕ → A → Type 0) (Refused : List ℕ → Fault → Type 0) (read : List ℕ → Result (A × List ℕ) Fault)
     → ReadsExactly Spells Refused read
-    → ((shorter : List ℕ) (byte : ℕ) (lost : List ℕ) (value : A) → Spells (shorter ++ (byte ∷ lost)) value → Refused shorter UnexpectedEof)
+    → ((shorter : List ℕ) (byte : ℕ) (lost : List ℕ) (value : A) → Spells (shorter ++ (byte ∷ lost)) value → Refused shorter past_the_end)
     → ReadsFronts read
 fronts_exactly {A} Spells Refused read exact refused = record {
   taken = λ bytes value rest h.
@@ -97,7 +98,7 @@ fronts_exactly {A} Spells Refused read exact refused = record {
         spells = record {
           whatever_follows = λ more. (exact.ok (begins.front ++ more) value more).1 (record { front = begins.front; whole = refl; spells = begins.spells });
           cut_off = λ shorter byte lost e.
-              (exact.err shorter UnexpectedEof).1 (refused shorter byte lost value (let P : List ℕ → Type 0 = λ xs. Spells xs value in subst P (sym e) begins.spells));
+              (exact.err shorter past_the_end).1 (refused shorter byte lost value (let P : List ℕ → Type 0 = λ xs. Spells xs value in subst P (sym e) begins.spells));
         };
       };
 }
@@ -190,7 +191,7 @@ format_fronts big format bits =
 
 -- ---- one byte
 
-u8_cut : (shorter : List ℕ) (next : ℕ) (lost : List ℕ) (byte : ℕ) → shorter ++ (next ∷ lost) ≡ byte ∷ [] → u8_at shorter ≡ Err UnexpectedEof
+u8_cut : (shorter : List ℕ) (next : ℕ) (lost : List ℕ) (byte : ℕ) → shorter ++ (next ∷ lost) ≡ byte ∷ [] → u8_at shorter ≡ Err past_the_end
 u8_cut [] next lost byte e = refl
 u8_cut (x ∷ shorter) next lost byte e = absurd (not_empty shorter next lost cc)
 

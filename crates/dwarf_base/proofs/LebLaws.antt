@@ -2,7 +2,7 @@
 use Rattle.std.proofs.Common.{◌≡◌, ℕ, ◌+◌, ◌*◌, ◌%◌, ◌^◌, ◌<◌, ◌≤◌, Bool, true, false, cond, List, [], ◌∷◌, ◌++◌, length, length-append, Result, Ok, Err, arith, refl, ap, sym, ◌∙◌, zero-add, ◌⊎◌, inl, inr}
 use Rattle.std.proofs.lemmas.Bool.{cases_lt, cases_eq}
 use Rattle.std.proofs.lemmas.Bool.Decides.{nat_tests}
-use Rattle.dwarf_base.specs.Faults.{Fault, UnexpectedEof, ◌>>=◌}
+use Rattle.dwarf_base.specs.Faults.{Fault, past_the_end, ◌>>=◌}
 use Rattle.dwarf_base.specs.Fronts.{Begins, ReadsExactly, ReadsFronts}
 use Rattle.dwarf_base.specs.Leb.{LebForm, unsigned_leb, signed_leb, low_sum, IsEnded, last_byte_of, SpellsLeb, GoesOn, MalformedLeb, leb_from, uleb_at, uleb_u32_at, sleb_at, within_u32}
 use Rattle.dwarf_base.proofs.Fronts.{fronts_exactly, fronts_then, fronts_checked}
@@ -122,7 +122,7 @@ record CutOffFrom (place : ℕ) (bytes : List ℕ) : Type 0 where
   at_most_nine : place + length bytes ≤ 9
 
 abbrev RefusedFrom : {A : Type 0} → LebForm A → (place : ℕ) → List ℕ → Fault → Type 0
-RefusedFrom form place bytes fault = (CutOffFrom place bytes × (fault ≡ UnexpectedEof)) ⊎ (TooLongFrom form place bytes × (fault ≡ form.too_long))
+RefusedFrom form place bytes fault = (CutOffFrom place bytes × (fault ≡ past_the_end)) ⊎ (TooLongFrom form place bytes × (fault ≡ form.too_long))
 
 more_refused : {A : Type 0} (form : LebForm A) (place byte : ℕ) (bytes : List ℕ) (fault : Fault) → 128 ≤ byte
     → RefusedFrom form (place + 1) bytes fault → RefusedFrom form place (byte ∷ bytes) fault
@@ -161,7 +161,7 @@ fault_refused form place sum (byte ∷ bytes) fault most h =
       ]
     ]
 
-cut_off_read : {A : Type 0} (form : LebForm A) (place sum : ℕ) (bytes : List ℕ) → GoesOn bytes → place + length bytes ≤ 9 → leb_from form place sum bytes ≡ Err UnexpectedEof
+cut_off_read : {A : Type 0} (form : LebForm A) (place sum : ℕ) (bytes : List ℕ) → GoesOn bytes → place + length bytes ≤ 9 → leb_from form place sum bytes ≡ Err past_the_end
 cut_off_read form place sum [] high most = refl
 cut_off_read form place sum (byte ∷ bytes) high most =
     goes_on form place sum byte bytes (omega arith) high.0 ∙ cut_off_read form (place + 1) (sum + byte % 128 * 128 ^ place) bytes high.1 (omega arith)
@@ -234,7 +234,7 @@ goes_on_before (x ∷ []) byte lost ended = (ended.0, tt)
 goes_on_before (x ∷ y ∷ shorter) byte lost ended = (ended.0, goes_on_before (y ∷ shorter) byte lost ended.1)
 
 spelling_cut : {A : Type 0} (form : LebForm A) (shorter : List ℕ) (byte : ℕ) (lost : List ℕ) (value : A) → SpellsLeb form (shorter ++ (byte ∷ lost)) value
-    → MalformedLeb form shorter UnexpectedEof
+    → MalformedLeb form shorter past_the_end
 spelling_cut form shorter byte lost value spells =
     inl (
       record {

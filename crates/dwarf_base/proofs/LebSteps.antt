@@ -3,7 +3,7 @@ use Rattle.std.proofs.Common.{◌≡◌, ℕ, zero, suc, ◌+◌, ◌*◌, ◌%�
 use Rattle.std.proofs.lemmas.Bool.Decides.{nat_tests}
 use Rattle.std.proofs.lemmas.Nat.{shl_whole, mul-le, pow-add}
 use Rattle.std.proofs.Math.Nat.{pow-le-pow_right, mul-suc}
-use Rattle.dwarf_base.specs.Faults.{Fault, UnexpectedEof}
+use Rattle.dwarf_base.specs.Faults.{Fault, past_the_end}
 use Rattle.dwarf_base.specs.Leb.{LebForm, unsigned_leb, signed_leb, sign_extended, leb_from, uleb_at, sleb_at}
 use Rattle.dwarf_base.specs.Reads.{u8_at}
 use Rattle.dwarf_base.proofs.Splits.{ok_pair}
@@ -66,7 +66,7 @@ byte_read : (bytes : List ℕ) (byte : ℕ) (rest : List ℕ) → u8_at bytes �
 byte_read [] byte rest read = absurd cc
 byte_read (x ∷ xs) byte rest read = let pair = ok_pair _ _ _ _ read in cc (pair.0, pair.1)
 
-none_read : (bytes : List ℕ) (fault : Fault) → u8_at bytes ≡ Err fault → (bytes ≡ []) × (fault ≡ UnexpectedEof)
+none_read : (bytes : List ℕ) (fault : Fault) → u8_at bytes ≡ Err fault → (bytes ≡ []) × (fault ≡ past_the_end)
 none_read [] fault read = (refl, cc)
 none_read (x ∷ xs) fault read = absurd cc
 

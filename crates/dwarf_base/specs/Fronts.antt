@@ -1,6 +1,6 @@
 -- Reads see nothing but the front that they take.
 use Rattle.std.specs.Prelude.{ℕ, ◌≡◌, ◌<◌, ◌↔◌, Bool, List, ◌∷◌, ◌++◌, Result, Ok, Err, length}
-use Rattle.dwarf_base.specs.Faults.{Fault, UnexpectedEof}
+use Rattle.dwarf_base.specs.Faults.{Fault, past_the_end}
 use Rattle.dwarf_base.specs.Numbers.{number_of}
 
 -- some front of the bytes spells the value, and the rest follows it
@@ -17,7 +17,7 @@ pub record ReadsExactly {A : Type 0} (Spells : List ℕ → A → Type 0) (Malfo
 -- the read takes this front for the value, whatever follows it, and is cut off by the end of any shorter one
 pub record TakesFront {A : Type 0} (read : List ℕ → Result (A × List ℕ) Fault) (front : List ℕ) (value : A) : Type 0 where
   pub whatever_follows : (more : List ℕ) → read (front ++ more) ≡ Ok (value, more)
-  pub cut_off : (shorter : List ℕ) (byte : ℕ) (lost : List ℕ) → shorter ++ (byte ∷ lost) ≡ front → read shorter ≡ Err UnexpectedEof
+  pub cut_off : (shorter : List ℕ) (byte : ℕ) (lost : List ℕ) → shorter ++ (byte ∷ lost) ≡ front → read shorter ≡ Err past_the_end
 
 -- whatever the read gives, it takes some front for it
 pub record ReadsFronts {A : Type 0} (read : List ℕ → Result (A × List ℕ) Fault) : Type 0 where
@@ -36,4 +36,4 @@ pub record SpellsFixed (big : Bool) (n : ℕ) (bytes : List ℕ) (value : ℕ) :
 -- fewer than n bytes are cut off
 pub record MalformedBlock (n : ℕ) (bytes : List ℕ) (fault : Fault) : Type 0 where
   pub shorter : length bytes < n
-  pub fault_is : fault ≡ UnexpectedEof
+  pub fault_is : fault ≡ past_the_end

@@ -1,7 +1,8 @@
 -- LEB128 numbers (DWARF 5, section 7.6): seven bits a byte, the lowest first; each byte but the last has the high bit.
 -- A number has at most ten bytes and 64 bits, and may be padded.
 use Rattle.std.specs.Prelude.{ℕ, ◌+◌, ◌*◌, ◌%◌, ◌^◌, ◌≤◌, ◌<◌, Bool, true, false, List, [], ◌∷◌, ◌++◌, Result, Ok, Err, length, nat_lt, ◌==◌, ◌||◌, if◌then◌else◌, ℤ, pos, ◌-ℤ◌, ◌≡◌, ◌⊎◌}
-use Rattle.dwarf_base.specs.Faults.{Fault, UnexpectedEof, BadUnsignedLeb128, BadSignedLeb128, ◌>>=◌}
+use Rattle.dwarf_base.specs.Faults.{Fault, past_the_end, ◌>>=◌}
+use Rattle.dwarf_base.specs.declared.errors.Error.TheVariants.{BadUnsignedLeb128, BadSignedLeb128}
 
 -- what tells unsigned numbers from signed ones: the tenth bytes that keep to 64 bits, the fault of the others, and
 -- the number that is made of the sum of the low bits, the count of the bytes and the last of them
@@ -72,13 +73,13 @@ pub record IsTooLong {A : Type 0} (form : LebForm A) (bytes : List ℕ) : Type 0
 
 -- no front of the bytes spells a number, for this fault
 abbrev pub MalformedLeb : {A : Type 0} → LebForm A → List ℕ → Fault → Type 0
-MalformedLeb form bytes fault = (IsCutOff bytes × (fault ≡ UnexpectedEof)) ⊎ (IsTooLong form bytes × (fault ≡ form.too_long))
+MalformedLeb form bytes fault = (IsCutOff bytes × (fault ≡ past_the_end)) ⊎ (IsTooLong form bytes × (fault ≡ form.too_long))
 
 -- ---- reading one
 
 -- a number at the front, where `place` bytes came before, whose low bits sum up to `sum`
 abbrev pub leb_from : {A : Type 0} → LebForm A → (place sum : ℕ) → List ℕ → Result (A × List ℕ) Fault
-leb_from form place sum [] = Err UnexpectedEof
+leb_from form place sum [] = Err past_the_end
 leb_from form place sum (byte ∷ rest) =
     if place == 9 then (if form.allows_tenth byte then Ok (form.number (sum + byte * 128 ^ 9) 10 byte, rest) else Err form.too_long)
     else (if nat_lt byte 128 then Ok (form.number (sum + byte * 128 ^ place) (place + 1) byte, rest)

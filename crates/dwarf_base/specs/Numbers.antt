@@ -1,6 +1,7 @@
 -- Integers modulo a power of two, the numbers of bytes, and numbers that have to fit.
 use Rattle.std.specs.Prelude.{ℕ, ◌+◌, ◌-◌, ◌*◌, ◌%◌, ◌^◌, ℤ, pos, negsuc, ◌-ℤ◌, Bool, List, [], ◌∷◌, Result, Ok, Err, length, nat_lt, if◌then◌else◌}
-use Rattle.dwarf_base.specs.Faults.{Fault, UnsupportedOffset, UnsupportedRegister}
+use Rattle.dwarf_base.specs.Faults.{Fault}
+use Rattle.dwarf_base.specs.declared.errors.Error.TheVariants.{UnsupportedOffset, UnsupportedRegister}
 
 -- the remainder of an integer, from 0 up, by two to the bits
 abbrev pub residue : (bits : ℕ) → ℤ → ℕ

@@ -3,7 +3,8 @@ use Rattle.std.specs.Prelude.{ℕ, ◌-◌, ◌*◌, ◌≤◌, ◌≡◌, ◌==
 use Rattle.dwarf_base.specs.declared.common.Format.{Format}
 use Rattle.dwarf_base.specs.declared.common.Format.TheVariants.{Dwarf32, Dwarf64}
 use Rattle.dwarf_base.specs.declared.errors.Error.{Error}
-use Rattle.dwarf_base.specs.Faults.{Fault, UnexpectedEof, UnsupportedAddressSize, fault_of, ◌>>=◌}
+use Rattle.dwarf_base.specs.Faults.{Fault, past_the_end, fault_of, ◌>>=◌}
+use Rattle.dwarf_base.specs.declared.errors.Error.TheVariants.{UnsupportedAddressSize}
 use Rattle.dwarf_base.specs.Numbers.{number_of, signed_of, offset_of}
 
 -- bytes in a byte order
@@ -41,15 +42,15 @@ pub record IsLeftOf (left whole : Text) : Type 0 where
 
 -- the first n bytes
 abbrev pub split_at : ℕ → List ℕ → Result (List ℕ × List ℕ) Fault
-split_at n bytes = if nat_lt (length bytes) n then Err UnexpectedEof else Ok (take n bytes, drop n bytes)
+split_at n bytes = if nat_lt (length bytes) n then Err past_the_end else Ok (take n bytes, drop n bytes)
 
 -- what follows the first n bytes
 abbrev pub skip_at : ℕ → List ℕ → Result (Unit {0} × List ℕ) Fault
-skip_at n bytes = if nat_lt (length bytes) n then Err UnexpectedEof else Ok (tt, drop n bytes)
+skip_at n bytes = if nat_lt (length bytes) n then Err past_the_end else Ok (tt, drop n bytes)
 
 -- one byte
 abbrev pub u8_at : List ℕ → Result (ℕ × List ℕ) Fault
-u8_at [] = Err UnexpectedEof
+u8_at [] = Err past_the_end
 u8_at (byte ∷ rest) = Ok (byte, rest)
 
 -- an unsigned number of n bytes

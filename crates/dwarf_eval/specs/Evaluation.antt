@@ -1,5 +1,5 @@
 -- What a call of an evaluation replies: the nested meaning, and what is left of it.
-pub use Rattle.dwarf_machine.specs.Inputs.{input_of, Keeps, with_status, first_of, IsFresh, most_iterations, with_object, with_maximum}
+pub use Rattle.dwarf_machine.specs.Inputs.{input_of, Keeps, with_status, first_of, IsFresh, with_object, with_maximum}
 use Rattle.std.specs.Prelude.{ℕ, ◌≡◌, ◌+◌, List, [], ◌∷◌, Option, Result, Ok, Err, length}
 use Rattle.dwarf_base.specs.declared.errors.Error.{Error}
 use Rattle.dwarf_base.specs.Faults.{fault_of}
@@ -26,9 +26,7 @@ after_input x input r inputs = rest (before_input r) x (input ∷ inputs)
 abbrev pub WaitsOrIsComplete : Status → Type 0
 WaitsOrIsComplete (RequestStatus request waiting) = Unit {0}
 WaitsOrIsComplete (CompleteStatus value) = Unit {0}
-WaitsOrIsComplete Running = ⊥
-WaitsOrIsComplete (Start initial_value) = ⊥
-WaitsOrIsComplete (FaultStatus error) = ⊥
+WaitsOrIsComplete _ = ⊥
 
 -- ---- replies
 
@@ -60,8 +58,7 @@ abbrev pub IsReplied : Reply → Status → Type 0
 IsReplied replied (RequestStatus request waiting) = replied ≡ RequestReply request
 IsReplied replied (CompleteStatus value) = replied ≡ CompleteReply
 IsReplied replied (FaultStatus error) = replied ≡ FaultReply (fault_of error)
-IsReplied replied (Start initial_value) = ⊥
-IsReplied replied Running = ⊥
+IsReplied replied _ = ⊥
 
 -- A call replied what `outcomes` gives for some refusal, or for none; and as long as it isn't over, what is
 -- left of the new state is what `outcomes` gives, for all inputs to come.
@@ -100,40 +97,32 @@ abbrev pub Evaluates : {R O P : Type 0} → (R → Text) → (O → ℕ) → Sta
 Evaluates text number old new replied (Start initial_value) = Follows old (means old initial_value) (reply_of text number replied) new
 Evaluates text number old new replied (CompleteStatus value) = (replied ≡ Ok result.Complete) × (new ≡ old)
 Evaluates text number old new replied (FaultStatus error) = (replied ≡ Err error) × (new ≡ old)
-Evaluates text number old new replied (RequestStatus request waiting) = Unit {0}
-Evaluates text number old new replied Running = Unit {0}
+Evaluates text number old new replied _ = Unit {0}
 
 -- `evaluate` counts the operations on the path of the meaning, and after the start none
 abbrev pub EvaluatesPath : State → State → Reply → Status → Type 0
 EvaluatesPath old new replied (Start initial_value) = Counts old (means old initial_value) (means_path old initial_value) replied new
 EvaluatesPath old new replied (CompleteStatus value) = new ≡ old
 EvaluatesPath old new replied (FaultStatus error) = new ≡ old
-EvaluatesPath old new replied (RequestStatus request waiting) = Unit {0}
-EvaluatesPath old new replied Running = Unit {0}
+EvaluatesPath old new replied _ = Unit {0}
 
 -- a resume: it goes on with the input; after a fault it replies that, and changes nothing
 abbrev pub Resumes : {R O P : Type 0} → (R → Text) → (O → ℕ) → Input → State → State → Result (EvaluationResult R O P) Error → Status → Type 0
 Resumes text number input old new replied (RequestStatus request waiting) = Follows old (after_input old input) (reply_of text number replied) new
 Resumes text number input old new replied (FaultStatus error) = (replied ≡ Err error) × (new ≡ old)
-Resumes text number input old new replied (Start initial_value) = Unit {0}
-Resumes text number input old new replied (CompleteStatus value) = Unit {0}
-Resumes text number input old new replied Running = Unit {0}
+Resumes text number input old new replied _ = Unit {0}
 
 -- a resume counts the operations on the path behind its input, and after a fault none
 abbrev pub ResumesPath : Input → State → State → Reply → Status → Type 0
 ResumesPath input old new replied (RequestStatus request waiting) = Counts old (after_input old input) (path_after old input) replied new
 ResumesPath input old new replied (FaultStatus error) = new ≡ old
-ResumesPath input old new replied (Start initial_value) = Unit {0}
-ResumesPath input old new replied (CompleteStatus value) = Unit {0}
-ResumesPath input old new replied Running = Unit {0}
+ResumesPath input old new replied _ = Unit {0}
 
 -- by the status: an evaluation at the start is fresh, and none runs
 abbrev pub IsAtRestBy : State → Status → Type 0
 IsAtRestBy x (Start initial_value) = IsFresh x initial_value
 IsAtRestBy x Running = ⊥
-IsAtRestBy x (RequestStatus request waiting) = Unit {0}
-IsAtRestBy x (CompleteStatus value) = Unit {0}
-IsAtRestBy x (FaultStatus error) = Unit {0}
+IsAtRestBy x _ = Unit {0}
 
 -- between calls nothing runs
 abbrev pub IsAtRest : State → Type 0
@@ -147,15 +136,9 @@ IsClosed _ = Unit {0}
 -- the evaluation is complete
 abbrev pub IsComplete : Status → Type 0
 IsComplete (CompleteStatus value) = Unit {0}
-IsComplete (Start initial_value) = ⊥
-IsComplete (RequestStatus request waiting) = ⊥
-IsComplete (FaultStatus error) = ⊥
-IsComplete Running = ⊥
+IsComplete _ = ⊥
 
 -- the evaluation is complete with this value
 abbrev pub HasResult : Option Value → Status → Type 0
 HasResult result (CompleteStatus value) = result ≡ value
-HasResult result (Start initial_value) = ⊥
-HasResult result (RequestStatus request waiting) = ⊥
-HasResult result (FaultStatus error) = ⊥
-HasResult result Running = ⊥
+HasResult result _ = ⊥

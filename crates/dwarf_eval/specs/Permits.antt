@@ -21,13 +21,11 @@ Shows (CompleteStatus value) shown = shown ≡ status.Complete
 Shows (FaultStatus error) shown = shown ≡ status.Failed error
 Shows Running shown = ⊥
 
--- a request of this kind is open, or the evaluation met a fault
+-- what is open waits for an answer of this kind, or the evaluation met a fault
 abbrev pub IsOpenFor : WaitingKind → rest.Status → Type 0
 IsOpenFor kind (RequestStatus request waiting) = kind_of_waiting waiting ≡ kind
 IsOpenFor kind (FaultStatus error) = Unit {0}
-IsOpenFor kind (Start initial_value) = ⊥
-IsOpenFor kind (CompleteStatus value) = ⊥
-IsOpenFor kind Running = ⊥
+IsOpenFor kind _ = ⊥
 
 -- no initial value was set, or one was
 abbrev pub IsStart : (initial : Bool) → rest.Status → Type 0

@@ -188,9 +188,9 @@ inlined_replays x y new other site offset start behind replies given h k n sound
 
 -- ---- the premises, of fresh evaluations
 
-pub may_inline : (site : CallSite) (later : List Input) (behind : List Request) (outcome : Outcome) → IsWorked site [] later [] behind outcome
+pub may_inline : (site : CallSite) (inputs : List Input) (behind : List Request) (outcome : Outcome) → IsWorked site [] inputs [] behind outcome
     → MayInline (fresh_at (outer site)) (fresh_at (inlined site)) site (UnitRef 5) (Evaluate ∷ [])
-may_inline site later behind outcome h =
+may_inline site inputs behind outcome h =
     record {
       no_limits = h.no_limits;
       setups = refl;

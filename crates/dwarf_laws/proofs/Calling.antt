@@ -4,7 +4,7 @@ use Rattle.std.proofs.lemmas.Bool.Decides.{nat_tests}
 use Rattle.std.proofs.lemmas.List.{drop-append-le, length-drop}
 use Rattle.std.proofs.Math.Seq.{drop-append_seam}
 use Rattle.dwarf_base.specs.declared.common.Encoding.{Encoding}
-use Rattle.dwarf_base.specs.Faults.{TooManyIterations, InvalidExpressionTerminator}
+use Rattle.dwarf_base.specs.declared.errors.Error.TheVariants.{TooManyIterations, InvalidExpressionTerminator}
 use Rattle.dwarf_base.specs.Reads.{Text}
 use Rattle.dwarf_meaning.specs.Operations as operation
 use Rattle.dwarf_meaning.specs.Operations.{Operation, DieReference}

@@ -2,7 +2,8 @@
 use Rattle.std.proofs.Common.{ℕ, ◌+◌, ◌≡◌, ◌≤◌, ℤ, false, List, [], ◌∷◌, ◌++◌, Option, Some, None, Result, Ok, refl, sym, subst, arith, nat_lt}
 use Rattle.std.proofs.lemmas.Bool.Decides.{nat_tests}
 use Rattle.dwarf_base.specs.declared.common.Encoding.{Encoding}
-use Rattle.dwarf_base.specs.Faults.{Fault, BadBranchTarget}
+use Rattle.dwarf_base.specs.Faults.{Fault}
+use Rattle.dwarf_base.specs.declared.errors.Error.TheVariants.{BadBranchTarget}
 use Rattle.dwarf_value.specs.declared.types.Value.{Value}
 use Rattle.dwarf_meaning.specs.Locations.{Location}
 use Rattle.dwarf_meaning.specs.Requests.{Request, Waiting}
@@ -50,7 +51,7 @@ module _ (encoding : Encoding) (bits : ℕ) where
   pub data NextBoth (n : ℕ) (Al : ℕ → ℕ → Type 0) (object : Option ℕ) (maximum : ℕ) : Next → Next → Type 0 where
     goes_both : {q q' : ℕ} (t : Store) → Al q q' → t.object_address ≡ object → t.maximum ≡ maximum
         → NextBoth n Al object maximum (Goes q (ahead n t)) (Goes q' (calm t))
-    stops_both : {request : Request} {waiting : Waiting} (t : Store) → t.object_address ≡ object → t.maximum ≡ maximum
+    request_both : {request : Request} {waiting : Waiting} (t : Store) → t.object_address ≡ object → t.maximum ≡ maximum
         → NextBoth n Al object maximum (RequestNext request waiting (ahead n t)) (RequestNext request waiting (calm t))
     fails_both : {fault : Fault} {next : Next} → NextBoth n Al object maximum (FaultNext fault) next
 
@@ -91,7 +92,7 @@ module _ (encoding : Encoding) (bits : ℕ) where
     done_both (Locates rest location) t al locates = goes_both (record t { values = rest; last = Located location }) al refl refl
     done_both (EndsPiece rest piece) t al ends =
         goes_both (record t { values = rest; last = Pieced; pieces = t.pieces ++ piece ∷ [] }) al refl refl
-    done_both (RequestAct rest request waiting) t al asks = stops_both (record t { values = rest }) refl refl
+    done_both (RequestAct rest request waiting) t al asks = request_both (record t { values = rest }) refl refl
     done_both (FaultAct fault) t al refuses = fails_both
 
     pub holds_both : (location : Location) (t : Store) (o : Option (ℕ × Option ℕ)) → Al place place'

@@ -132,6 +132,7 @@ module _ (setup : Setup) (bytes : List ℕ) where
       → Awaits answer (Some (RequestOutcome request positions))
       → Computes [] (RequestOutcome request positions) → Computes (given unset (answer ∷ [])) outcome
       → ComeTo setup bytes (started_steps (answer ∷ [])) (RequestReply request ∷ reply outcome ∷ []) outcome
+  unfolding most
   once request positions answer outcome a h k =
       whole _ _ _ (starts setup (text bytes) untold None (RequestOutcome request positions) ((answer, outcome) ∷ []) refl tt
       (some _ _ h) (a, some _ _ k, tt))
@@ -142,6 +143,7 @@ module _ (setup : Setup) (bytes : List ℕ) where
       → Computes [] (RequestOutcome request positions) → Computes (given unset (answer ∷ [])) (RequestOutcome next others)
       → Computes (given unset (answer ∷ second ∷ [])) outcome
       → ComeTo setup bytes (started_steps (answer ∷ second ∷ [])) (RequestReply request ∷ RequestReply next ∷ reply outcome ∷ []) outcome
+  unfolding most
   twice request next positions others answer second outcome a b h k l =
       whole _ _ _
       (starts setup (text bytes) untold None (RequestOutcome request positions)

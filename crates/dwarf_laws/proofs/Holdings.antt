@@ -1,7 +1,8 @@
 -- What two runs keep, and what is pushed on it.
 use Rattle.std.proofs.Common.{ℕ, zero, suc, ◌≡◌, ap, refl, subst, ◌⊎◌, inl, inr, List, [], ◌∷◌, ◌++◌, length, Option, Some, None, Result, Ok, Err}
 use Rattle.std.specs.Prelude.{nat_lt}
-use Rattle.dwarf_base.specs.Faults.{Fault, StackFull, ◌>>=◌}
+use Rattle.dwarf_base.specs.Faults.{Fault, ◌>>=◌}
+use Rattle.dwarf_base.specs.declared.errors.Error.TheVariants.{StackFull}
 use Rattle.dwarf_value.specs.declared.types.Value.{Value}
 use Rattle.dwarf_value.specs.Values.{Agree}
 use Rattle.dwarf_meaning.specs.Locations.{Location, Piece}
@@ -49,7 +50,7 @@ pub data AgreeingResults (Free : Type 0) (w : ℕ) : Result Store Fault → Resu
 
 pub data AgreeingNexts (Free : Type 0) (w : ℕ) : Next → Next → Type 0 where
   goes_on : {place : ℕ} {s t : Store} → AgreeingStores Free w s t → AgreeingNexts Free w (Goes place s) (Goes place t)
-  stops : {request : Request} {waiting : Waiting} {s t : Store} → AgreeingStores Free w s t
+  request_next : {request : Request} {waiting : Waiting} {s t : Store} → AgreeingStores Free w s t
       → AgreeingNexts Free w (RequestNext request waiting s) (RequestNext request waiting t)
   fails : {fault : Fault} → AgreeingNexts Free w (FaultNext fault) (FaultNext fault)
   next_first : {next : Next} → Free → AgreeingNexts Free w (FaultNext StackFull) next
@@ -217,7 +218,7 @@ module _ (Free : Type 0) (setup : Setup) (limits : Limits) (premise : Free ⊎ (
       choose_pair (AgreeingNexts Free w) _ _ _ _ _ _ refl fails (goes_on (changed h r both_plain))
   done_both place len a b s t (locates r l) h = goes_on (changed h r (both_located l))
   done_both place len a b s t (ends r p) h = goes_both place _ _ (push_piece_both _ _ _ _ p (changed h r both_pieced))
-  done_both place len a b s t (asks r) h = stops (changed h r h.last)
+  done_both place len a b s t (asks r) h = request_next (changed h r h.last)
   done_both place len a b s t refuses h = fails
 
   pub holds_both : (location location' : Location) (place : ℕ) (s t : Store) (piece : Option (ℕ × Option ℕ))

@@ -100,10 +100,10 @@ module _ (encoding : Encoding) (bits : ℕ) (T : Text) (q : ℕ) where
         used_later (use_of (address_bits S) waiting input.answer s.values) (with_input input s) inputs _
         (record { inner = []; place = p; is = refl; later = after })
 
-    led_later : (inputs : List Input) (next : Next) → LeadsTo p next → AsksBehind T q (after_operation go S T d p inputs next).end
-    led_later inputs (Goes to s) e = subst (λ (k : ℕ). AsksBehind T q (go T k d s inputs).end) (sym e) (goes_later s inputs)
-    led_later inputs (RequestNext request waiting s) e = asked_later request waiting s inputs
-    led_later inputs (FaultNext fault) e = tt
+    after_operation_later : (inputs : List Input) (next : Next) → LeadsTo p next → AsksBehind T q (after_operation go S T d p inputs next).end
+    after_operation_later inputs (Goes to s) e = subst (λ (k : ℕ). AsksBehind T q (go T k d s inputs).end) (sym e) (goes_later s inputs)
+    after_operation_later inputs (RequestNext request waiting s) e = asked_later request waiting s inputs
+    after_operation_later inputs (FaultNext fault) e = tt
 
   module _ (go : Continues) (H : Later go) (p d : ℕ) (s : Store) (inputs : List Input) (from : q ≤ p)
       (straight : StraightFrom encoding bits T p) where
@@ -113,7 +113,7 @@ module _ (encoding : Encoding) (bits : ℕ) (T : Text) (q : ℕ) where
     does_later u (Ok x) e =
         let st = stands encoding bits T p x.0 x.1 e in
         let step = straight_step encoding bits T p x.0 x.1 e straight in
-        led_later go H (length T.bytes - length x.1) (let a = st.place in let b = st.some in
+        after_operation_later go H (length T.bytes - length x.1) (let a = st.place in let b = st.some in
         omega (arith, a, b, from)) step.1 d inputs _
         (leads_done S _ _ _ u (act_jumps (λ z. ⊥) (address_bits S) u.object_address x.0 u.values
         (straight_jumps (λ z. ⊥) x.0 step.0)))
@@ -124,7 +124,7 @@ module _ (encoding : Encoding) (bits : ℕ) (T : Text) (q : ℕ) where
     held_later location (Ok x) e =
         let st = stands encoding bits T p x.0 x.1 e in
         let step = straight_step encoding bits T p x.0 x.1 e straight in
-        led_later go H (length T.bytes - length x.1) (let a = st.place in let b = st.some in
+        after_operation_later go H (length T.bytes - length x.1) (let a = st.place in let b = st.some in
         omega (arith, a, b, from)) step.1 d inputs _ (leads_holds S location _ s (piece_ended_by x.0))
 
     counts_later : AsksBehind T q (turn_counted go S T p d s inputs).end

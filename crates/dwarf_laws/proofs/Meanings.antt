@@ -1,6 +1,7 @@
 -- What comes of two runs of one text.
 use Rattle.std.proofs.Common.{ℕ, ◌≡◌, ◌≢◌, ap, refl, ◌⊎◌, List, [], Option, Some, None, Result}
-use Rattle.dwarf_base.specs.Faults.{Fault, StackFull}
+use Rattle.dwarf_base.specs.Faults.{Fault}
+use Rattle.dwarf_base.specs.declared.errors.Error.TheVariants.{StackFull}
 use Rattle.dwarf_base.specs.Reads.{Text}
 use Rattle.dwarf_value.specs.declared.types.Value.{Value}
 use Rattle.dwarf_value.specs.Values.{Agree}

@@ -3,7 +3,8 @@ use Rattle.std.proofs.Common.{ℕ, zero, suc, ◌+◌, ◌-◌, ◌≡◌, true,
 use Rattle.std.proofs.lemmas.Bool.Decides.{nat_tests}
 use Rattle.std.proofs.lemmas.List.{append-nil}
 use Rattle.dwarf_base.specs.declared.common.Encoding.{Encoding}
-use Rattle.dwarf_base.specs.Faults.{Fault, TooManyIterations}
+use Rattle.dwarf_base.specs.Faults.{Fault}
+use Rattle.dwarf_base.specs.declared.errors.Error.TheVariants.{TooManyIterations}
 use Rattle.dwarf_base.specs.Reads.{Text}
 use Rattle.dwarf_meaning.specs.Operations.{Operation}
 use Rattle.dwarf_meaning.specs.Locations.{Location}
@@ -16,7 +17,7 @@ use Rattle.dwarf_laws.specs.Inlining.{in_force}
 use Rattle.dwarf_meaning.proofs.Choices.{choose_true, choose_false, choose_both}
 use Rattle.dwarf_meaning.proofs.Turns.{run_turn}
 use Rattle.dwarf_laws.proofs.Jumps.{AllJumps, every_jump, act_jumps}
-use Rattle.dwarf_laws.proofs.Calm.{free, calm, ahead, NextBoth, goes_both, stops_both, fails_both, Lands, done_both, holds_both}
+use Rattle.dwarf_laws.proofs.Calm.{free, calm, ahead, NextBoth, goes_both, request_both, fails_both, Lands, done_both, holds_both}
 
 -- the settings that will be in force once the inputs are taken
 abbrev pub Fits : First → List Input → (object : Option ℕ) (maximum : ℕ) → Type 0
@@ -183,19 +184,19 @@ module _ (encoding : Encoding) (bits : ℕ) (target : First) (n : ℕ) where
         (record t { object_address = input.object_address; maximum = input.maximum }) inputs _ _ a f
         (record { positions = at T' q' ∷ []; same = refl; is = refl })
 
-    led_mirror : (place place' : ℕ) (inputs : List Input) (object : Option ℕ) (maximum : ℕ) (x y : Next)
+    after_operation_mirror : (place place' : ℕ) (inputs : List Input) (object : Option ℕ) (maximum : ℕ) (x y : Next)
         → Al place place' → Fits target inputs object maximum → NextBoth encoding bits n Al object maximum x y
         → Here (after_operation go S T d place inputs x) (after_operation (run S) S T' d' place' inputs y)
-    led_mirror place place' inputs object maximum x y a f (goes_both t b o m) =
+    after_operation_mirror place place' inputs object maximum x y a f (goes_both t b o m) =
         goes_mirror _ _ t inputs b (subst (λ k. Fits target inputs k t.maximum) (sym o)
         (subst (λ k. Fits target inputs object k) (sym m) f))
-    led_mirror place place' inputs object maximum x y a f (stops_both {request = request} {waiting = waiting} t o m) =
+    after_operation_mirror place place' inputs object maximum x y a f (request_both {request = request} {waiting = waiting} t o m) =
         let first = await_answer go S (at T place) d request waiting (ahead n t) inputs in
         let second = await_answer (run S) S (at T' place') d' request waiting (calm t) inputs in
         behind T' stop d' (request ∷ []) first.requests first.end second.requests second.end
         (asked_mirror place place' request waiting t inputs a
         (subst (λ k. Fits target inputs k t.maximum) (sym o) (subst (λ k. Fits target inputs object k) (sym m) f)))
-    led_mirror place place' inputs object maximum x y a f fails_both = tt
+    after_operation_mirror place place' inputs object maximum x y a f fails_both = tt
 
     does_mirror : (p p' : ℕ) (t : Store) (inputs : List Input) (r : Result (Operation × List ℕ) Fault) → Al p p'
         → Fits target inputs t.object_address t.maximum → read S T p ≡ r
@@ -205,7 +206,7 @@ module _ (encoding : Encoding) (bits : ℕ) (target : First) (n : ℕ) where
         let too = al.reads p p' a x.0 x.1 e in
         subst (λ (r : Result (Operation × List ℕ) Fault). Here (do_operation go S T d (ahead n t) inputs (Ok x))
         (do_operation (run S) S T' d' (calm t) inputs r)) (sym too.same)
-        (led_mirror _ _ inputs t.object_address t.maximum _ _ too.next f
+        (after_operation_mirror _ _ inputs t.object_address t.maximum _ _ too.next f
         (done_both encoding bits n Al _ _ _ _ (act (address_bits S) t.object_address x.0 t.values) t too.next
         (act_jumps _ (address_bits S) t.object_address x.0 t.values too.jumps)))
 
@@ -217,7 +218,7 @@ module _ (encoding : Encoding) (bits : ℕ) (target : First) (n : ℕ) where
         let too = al.reads p p' a x.0 x.1 e in
         subst (λ (r : Result (Operation × List ℕ) Fault). Here (turn_located go S T d location (ahead n t) inputs (Ok x))
         (turn_located (run S) S T' d' location (calm t) inputs r)) (sym too.same)
-        (led_mirror _ _ inputs t.object_address t.maximum _ _ too.next f
+        (after_operation_mirror _ _ inputs t.object_address t.maximum _ _ too.next f
         (holds_both encoding bits n Al (length T.bytes) (length T'.bytes) _ _ location t (piece_ended_by x.0) too.next))
 
     counted_ahead : (t : Store) → ahead n (record t { count = t.count + 1 }) ≡ counted (ahead n t)

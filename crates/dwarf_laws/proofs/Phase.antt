@@ -2,7 +2,8 @@
 use Rattle.std.proofs.Common.{ℕ, ◌+◌, ◌-◌, ◌≡◌, ◌<◌, Bool, true, false, List, [], ◌∷◌, ◌++◌, length, Option, Some, None, Result, Ok, refl, sym, ap, subst, ◌∙◌, ◌==◌, arith, append_assoc, length-append}
 use Rattle.std.proofs.lemmas.Bool.Decides.{nat_tests}
 use Rattle.dwarf_base.specs.declared.common.Encoding.{Encoding}
-use Rattle.dwarf_base.specs.Faults.{Fault, TooManyIterations}
+use Rattle.dwarf_base.specs.Faults.{Fault}
+use Rattle.dwarf_base.specs.declared.errors.Error.TheVariants.{TooManyIterations}
 use Rattle.dwarf_base.specs.Reads.{Text}
 use Rattle.dwarf_meaning.specs.Operations as operation
 use Rattle.dwarf_meaning.specs.Operations.{Operation, DieReference}
@@ -46,7 +47,7 @@ open_some inputs text positions (calling position callee inner c o) = omega (ari
 
 pub data NextCalm (object : Option ℕ) (maximum place : ℕ) : Next → Type 0 where
   goes_calm : (t : Store) → t.object_address ≡ object → t.maximum ≡ maximum → NextCalm object maximum place (Goes place (calm t))
-  stops_calm : {request : Request} {waiting : Waiting} (t : Store) → t.object_address ≡ object → t.maximum ≡ maximum
+  request_calm : {request : Request} {waiting : Waiting} (t : Store) → t.object_address ≡ object → t.maximum ≡ maximum
       → NextCalm object maximum place (RequestNext request waiting (calm t))
   fails_calm : {fault : Fault} → NextCalm object maximum place (FaultNext fault)
 
@@ -75,7 +76,7 @@ module _ (encoding : Encoding) (bits : ℕ) where
       goes_calm (record t { values = rest; last = Located location }) refl refl
   done_calm place len (EndsPiece rest piece) t ends =
       goes_calm (record t { values = rest; last = Pieced; pieces = t.pieces ++ piece ∷ [] }) refl refl
-  done_calm place len (RequestAct rest request waiting) t asks = stops_calm (record t { values = rest }) refl refl
+  done_calm place len (RequestAct rest request waiting) t asks = request_calm (record t { values = rest }) refl refl
   done_calm place len (FaultAct fault) t refuses = fails_calm
 
   holds_calm : (location : Location) (place : ℕ) (t : Store) (o : Option (ℕ × Option ℕ))
@@ -247,15 +248,15 @@ module _ (encoding : Encoding) (bits : ℕ) where
           (λ X more. only_end (RequestEnd request (at X ∷ []) (input ∷ (inputs ++ more)))) f
           (λ at_call. absurd (not_here request [] (input ∷ inputs) at_call))
 
-      led_leads : (inputs : List Input) (object : Option ℕ) (maximum : ℕ) (next : Next)
+      after_operation_leads : (inputs : List Input) (object : Option ℕ) (maximum : ℕ) (next : Next)
           → Fits target inputs object maximum → NextCalm object maximum p next
           → Leads (after_operation (run S) S outer 0 p inputs next) (λ X more. after_operation (run S) S (text X) 0 p (inputs ++ more) next)
-      led_leads inputs object maximum next f (goes_calm t o m) =
+      after_operation_leads inputs object maximum next f (goes_calm t o m) =
           H t inputs (subst (λ k. Fits target inputs k t.maximum) (sym o) (subst (λ k. Fits target inputs object k) (sym m) f))
-      led_leads inputs object maximum next f (stops_calm {request = request} {waiting = waiting} t o m) = λ at_call.
+      after_operation_leads inputs object maximum next f (request_calm {request = request} {waiting = waiting} t o m) = λ at_call.
           reached_behind (request ∷ []) _ _ (asked_leads request waiting t inputs
           (subst (λ k. Fits target inputs k t.maximum) (sym o) (subst (λ k. Fits target inputs object k) (sym m) f)) at_call)
-      led_leads inputs object maximum next f (fails_calm {fault = fault}) = leads_failed fault (λ X more. only_end (FaultEnd fault))
+      after_operation_leads inputs object maximum next f (fails_calm {fault = fault}) = leads_failed fault (λ X more. only_end (FaultEnd fault))
 
       -- the operation that stands at q, and leads to p
       module _ (q : ℕ) (op : Operation) (rest : List ℕ)
@@ -291,7 +292,7 @@ module _ (encoding : Encoding) (bits : ℕ) where
             (done S p 0 (act (address_bits S) u.object_address op u.values) (calm u)))
             (λ X more. do_operation (run S) S (text X) 0 (calm u) (inputs ++ more) (read S (text X) q))
             (does_is (K ++ B) (calm u) inputs) (λ X more. does_is X (calm u) (inputs ++ more))
-            (led_leads inputs u.object_address u.maximum _ f (done_calm p 0 _ u (straight _ _ _))))
+            (after_operation_leads inputs u.object_address u.maximum _ f (done_calm p 0 _ u (straight _ _ _))))
             (leads_failed TooManyIterations (λ X more. only_end (FaultEnd TooManyIterations)))
 
         held_leads : (location : Location) (t : Store) (inputs : List Input) → Fits target inputs t.object_address t.maximum
@@ -303,7 +304,7 @@ module _ (encoding : Encoding) (bits : ℕ) where
             (λ X more. after_operation (run S) S (text X) 0 p (inputs ++ more) (end_located S location p (calm t) (piece_ended_by op)))
             (λ X more. turn_located (run S) S (text X) 0 location (calm t) (inputs ++ more) (read S (text X) q))
             (held_is (K ++ B) location (calm t) inputs) (λ X more. held_is X location (calm t) (inputs ++ more))
-            (led_leads inputs t.object_address t.maximum _ f (holds_calm location p t (piece_ended_by op)))
+            (after_operation_leads inputs t.object_address t.maximum _ f (holds_calm location p t (piece_ended_by op)))
 
         by_leads : (last : Last) (t : Store) (inputs : List Input) → Fits target inputs t.object_address t.maximum
             → Leads (turn_by (run S) S outer q 0 (calm t) inputs last)

@@ -1,6 +1,7 @@
 -- Two runs of one text, side by side.
 use Rattle.std.proofs.Common.{ℕ, zero, suc, ◌+◌, ◌≡◌, ap, refl, ◌⊎◌, List, [], ◌∷◌, length, Result, Ok, Err}
-use Rattle.dwarf_base.specs.Faults.{Fault, StackFull}
+use Rattle.dwarf_base.specs.Faults.{Fault}
+use Rattle.dwarf_base.specs.declared.errors.Error.TheVariants.{StackFull}
 use Rattle.dwarf_base.specs.Reads.{Text}
 use Rattle.dwarf_value.specs.Laws.{IsWidth}
 use Rattle.dwarf_meaning.specs.Operations.{Operation}
@@ -13,7 +14,7 @@ use Rattle.dwarf_meaning.specs.Refusals.{Limits, taken}
 use Rattle.dwarf_laws.specs.Agreement.{Pairwise, none, more, AgreeingInputs, AgreeingLocations}
 use Rattle.dwarf_laws.proofs.Pairs.{choose_pair}
 use Rattle.dwarf_laws.proofs.Actions.{AgreeingUses, gives, calls, denies, misfits, act_both, use_both}
-use Rattle.dwarf_laws.proofs.Holdings.{AgreeingLasts, both_nothing, both_plain, both_pieced, both_pushed, both_called, both_located, AgreeingStores, AgreeingResults, stores, refusals, result_first, result_second, AgreeingNexts, goes_on, stops, fails, next_first, next_second, map_free, changed, push_value_both, push_frame_both, done_both, holds_both}
+use Rattle.dwarf_laws.proofs.Holdings.{AgreeingLasts, both_nothing, both_plain, both_pieced, both_pushed, both_called, both_located, AgreeingStores, AgreeingResults, stores, refusals, result_first, result_second, AgreeingNexts, goes_on, request_next, fails, next_first, next_second, map_free, changed, push_value_both, push_frame_both, done_both, holds_both}
 
 pub data AgreeingEnds (Free : Type 0) (w : ℕ) : End → End → Type 0 where
   finish_both : {s t : Store} {inputs inputs' : List Input} → AgreeingStores Free w s t
@@ -144,21 +145,21 @@ module _ (Free : Type 0) (setup : Setup) (limits : Limits) (premise : Free ⊎ (
         (use_both w width waiting x.answer y.answer s.values t.values a.answer h.values)
         (with_input_both x y s t a h) i (ended_both Free w _ _ ask_both)
 
-    led_both : (text : Text) (depth place : ℕ) (inputs inputs' : List Input) (n n' : Next)
+    after_operation_both : (text : Text) (depth place : ℕ) (inputs inputs' : List Input) (n n' : Next)
         → Pairwise (AgreeingInputs w) inputs inputs' → AgreeingNexts Free w n n'
         → AgreeingCourses Free w (after_operation go setup text depth place inputs n) (after_operation go' other text depth place inputs' n')
-    led_both text depth place inputs inputs' n n' i (goes_on h) = H text _ depth _ _ inputs inputs' h i
-    led_both text depth place inputs inputs' n n' i (stops h) =
+    after_operation_both text depth place inputs inputs' n n' i (goes_on h) = H text _ depth _ _ inputs inputs' h i
+    after_operation_both text depth place inputs inputs' n n' i (request_next h) =
         asking_both Free w _ _ _ (asked_both (record { text = text; place = place }) depth _ _ _ _ inputs inputs' h i)
-    led_both text depth place inputs inputs' n n' i fails = ended_both Free w _ _ fail_both
-    led_both text depth place inputs inputs' n n' i (next_first free) = course_first free refl
-    led_both text depth place inputs inputs' n n' i (next_second free) = course_second free refl
+    after_operation_both text depth place inputs inputs' n n' i fails = ended_both Free w _ _ fail_both
+    after_operation_both text depth place inputs inputs' n n' i (next_first free) = course_first free refl
+    after_operation_both text depth place inputs inputs' n n' i (next_second free) = course_second free refl
 
     does_both : (text : Text) (depth : ℕ) (s t : Store) (inputs inputs' : List Input)
         (r : Result (Operation × List ℕ) Fault) → AgreeingStores Free w s t → Pairwise (AgreeingInputs w) inputs inputs'
         → AgreeingCourses Free w (do_operation go setup text depth s inputs r) (do_operation go' other text depth t inputs' r)
     does_both text depth s t inputs inputs' (Ok x) h i =
-        led_both text depth _ inputs inputs' _ _ i
+        after_operation_both text depth _ inputs inputs' _ _ i
         (done_both Free setup limits premise _ (length text.bytes) _ _ s t
         (act_both w s.object_address t.object_address x.0 s.values t.values h.object_address h.values) h)
     does_both text depth s t inputs inputs' (Err fault) h i = ended_both Free w _ _ fail_both
@@ -194,7 +195,7 @@ module _ (Free : Type 0) (setup : Setup) (limits : Limits) (premise : Free ⊎ (
         → AgreeingCourses Free w (turn_located go setup text depth location s inputs r)
         (turn_located go' other text depth location' t inputs' r)
     held_both text depth location location' s t inputs inputs' (Ok x) l h i =
-        led_both text depth _ inputs inputs' _ _ i
+        after_operation_both text depth _ inputs inputs' _ _ i
         (holds_both Free setup limits premise location location' _ s t (piece_ended_by x.0) l h)
     held_both text depth location location' s t inputs inputs' (Err fault) l h i = ended_both Free w _ _ fail_both
 

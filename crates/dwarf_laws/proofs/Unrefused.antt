@@ -1,7 +1,8 @@
 -- Without limits a run in which no push is refused is the run without a refusal.
 use Rattle.std.proofs.Common.{ℕ, zero, suc, ◌≡◌, ap, refl, sym, subst, ◌⊎◌, inl, inr, List, [], ◌∷◌, ◌++◌, length, Option, Some, None, Result, Ok, Err}
 use Rattle.dwarf_base.specs.declared.common.Encoding.{Encoding}
-use Rattle.dwarf_base.specs.Faults.{Fault, StackFull, ◌>>=◌}
+use Rattle.dwarf_base.specs.Faults.{Fault, ◌>>=◌}
+use Rattle.dwarf_base.specs.declared.errors.Error.TheVariants.{StackFull}
 use Rattle.dwarf_base.specs.Reads.{Text}
 use Rattle.dwarf_value.specs.declared.types.Value.{Value}
 use Rattle.dwarf_meaning.specs.Operations.{Operation}
@@ -24,7 +25,7 @@ data CalmResults : Result Store Fault → Result Store Fault → Type 0 where
 
 data CalmNexts : Next → Next → Type 0 where
   goes_on : {place : ℕ} {s : Store} → CalmNexts (Goes place s) (Goes place (calm s))
-  stops : {request : Request} {waiting : Waiting} {s : Store}
+  request_next : {request : Request} {waiting : Waiting} {s : Store}
       → CalmNexts (RequestNext request waiting s) (RequestNext request waiting (calm s))
   fails : {fault : Fault} → CalmNexts (FaultNext fault) (FaultNext fault)
   no_next : {next : Next} → CalmNexts (FaultNext StackFull) next
@@ -108,7 +109,7 @@ module _ (encoding : Encoding) (bits : ℕ) where
   done_calm place len (Branches rest target) s = choose_pair CalmNexts _ _ _ _ _ _ refl fails goes_on
   done_calm place len (Locates rest location) s = goes_on
   done_calm place len (EndsPiece rest piece) s = goes_calm place _ _ (piece_calm piece (record s { values = rest; last = Pieced }))
-  done_calm place len (RequestAct rest request waiting) s = stops
+  done_calm place len (RequestAct rest request waiting) s = request_next
   done_calm place len (FaultAct fault) s = fails
 
   holds_calm : (location : Location) (place : ℕ) (s : Store) (o : Option (ℕ × Option ℕ))
@@ -163,17 +164,17 @@ module _ (encoding : Encoding) (bits : ℕ) where
         used_calm position depth (use_of (address_bits S) waiting input.answer s.values) (with_input input s) inputs _
         (ended_calm _ _ ask_calm)
 
-    led_calm : (text : Text) (depth place : ℕ) (inputs : List Input) (n n' : Next) → CalmNexts n n'
+    after_operation_calm : (text : Text) (depth place : ℕ) (inputs : List Input) (n n' : Next) → CalmNexts n n'
         → Calms (after_operation go S text depth place inputs n) (after_operation go' S text depth place inputs n')
-    led_calm text depth place inputs n n' (goes_on {place = to} {s = s}) = H text to depth s inputs
-    led_calm text depth place inputs n n' (stops {request = request} {waiting = waiting} {s = s}) =
+    after_operation_calm text depth place inputs n n' (goes_on {place = to} {s = s}) = H text to depth s inputs
+    after_operation_calm text depth place inputs n n' (request_next {request = request} {waiting = waiting} {s = s}) =
         asking_calm request _ _ (asked_calm (record { text = text; place = place }) depth request waiting s inputs)
-    led_calm text depth place inputs n n' fails = ended_calm _ _ fail_calm
-    led_calm text depth place inputs n n' no_next = full refl
+    after_operation_calm text depth place inputs n n' fails = ended_calm _ _ fail_calm
+    after_operation_calm text depth place inputs n n' no_next = full refl
 
     does_calm : (text : Text) (depth : ℕ) (s : Store) (inputs : List Input) (r : Result (Operation × List ℕ) Fault)
         → Calms (do_operation go S text depth s inputs r) (do_operation go' S text depth (calm s) inputs r)
-    does_calm text depth s inputs (Ok x) = led_calm text depth _ inputs _ _ (done_calm _ (length text.bytes) _ s)
+    does_calm text depth s inputs (Ok x) = after_operation_calm text depth _ inputs _ _ (done_calm _ (length text.bytes) _ s)
     does_calm text depth s inputs (Err fault) = ended_calm _ _ fail_calm
 
     counts_calm : (text : Text) (place depth : ℕ) (s : Store) (inputs : List Input)
@@ -186,7 +187,7 @@ module _ (encoding : Encoding) (bits : ℕ) where
     held_calm : (text : Text) (depth : ℕ) (location : Location) (s : Store) (inputs : List Input)
         (r : Result (Operation × List ℕ) Fault)
         → Calms (turn_located go S text depth location s inputs r) (turn_located go' S text depth location (calm s) inputs r)
-    held_calm text depth location s inputs (Ok x) = led_calm text depth _ inputs _ _ (holds_calm location _ s (piece_ended_by x.0))
+    held_calm text depth location s inputs (Ok x) = after_operation_calm text depth _ inputs _ _ (holds_calm location _ s (piece_ended_by x.0))
     held_calm text depth location s inputs (Err fault) = ended_calm _ _ fail_calm
 
     by_calm : (text : Text) (place depth : ℕ) (s : Store) (inputs : List Input) (l : Last)

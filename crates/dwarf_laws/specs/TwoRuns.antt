@@ -1,6 +1,6 @@
 -- Bits above an address change nothing that matters (DWARF 5, section 2.5.1).
 use Rattle.std.specs.Prelude.{◌≡◌, ◌≢◌, ◌⊎◌, ◌↔◌, List, [], ◌∷◌, ◌++◌, Option, Some, None}
-use Rattle.dwarf_base.specs.Faults.{StackFull}
+use Rattle.dwarf_base.specs.declared.errors.Error.TheVariants.{StackFull}
 use Rattle.dwarf_base.specs.Reads.{Text}
 use Rattle.dwarf_value.specs.Laws.{IsWidth}
 use Rattle.dwarf_meaning.specs.Requests.{Input}

@@ -1,5 +1,5 @@
 ghost use Rattle.std.specs.Prelude.{[], ◌∷◌, Some, None, true, false};
-ghost use Rattle.dwarf_base.specs.Faults.{StackFull, TooManyIterations, NotEnoughStackItems, InvalidPushObjectAddress, InvalidPiece, BadBranchTarget};
+ghost use Rattle.dwarf_base.specs.declared.errors.Error.TheVariants.{StackFull, TooManyIterations, NotEnoughStackItems, InvalidPushObjectAddress, InvalidPiece, BadBranchTarget};
 ghost use Rattle.dwarf_value.specs.declared.types.Value.TheVariants.{Generic, U8, U16, U32, U64};
 ghost use Rattle.dwarf_value.specs.declared.types.ValueType.TheVariants as kind;
 ghost use Rattle.dwarf_meaning.specs.Operations.{UnitRef};

@@ -1,7 +1,7 @@
 -- What operations do with the stack, case by case.
 use Rattle.std.proofs.Common.{ℕ, ℤ, ◌≡◌, ◌==◌, ◌*◌, Bool, true, false, List, [], ◌∷◌, Option, Some, None, ap, ◌∙◌, sym, refl, nat_lt}
 use Rattle.std.specs.Prelude.{slice_get}
-use Rattle.dwarf_base.specs.Faults.{NotEnoughStackItems, InvalidDerefSize, InvalidPushObjectAddress}
+use Rattle.dwarf_base.specs.declared.errors.Error.TheVariants.{NotEnoughStackItems, InvalidDerefSize, InvalidPushObjectAddress}
 use Rattle.dwarf_base.specs.Numbers.{residue}
 use Rattle.dwarf_value.specs.declared.types.Value.{Value}
 use Rattle.dwarf_value.specs.declared.types.Value.TheVariants.{Generic}

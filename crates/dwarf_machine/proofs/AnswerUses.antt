@@ -1,7 +1,8 @@
 -- What an answer of the kind that is waited for gives.
 use Rattle.std.proofs.Common.{ℕ, ℤ, pos, ◌≡◌, ◌+ℤ◌, List, [], ◌∷◌, Result, Ok, Err, ap, ◌∙◌, sym, refl}
 use Rattle.dwarf_base.specs.declared.errors.Error.{Error}
-use Rattle.dwarf_base.specs.Faults.{Fault, fault_of, NotEnoughStackItems}
+use Rattle.dwarf_base.specs.Faults.{Fault, fault_of}
+use Rattle.dwarf_base.specs.declared.errors.Error.TheVariants.{NotEnoughStackItems}
 use Rattle.dwarf_base.specs.Numbers.{residue}
 use Rattle.dwarf_base.specs.Reads.{Text}
 use Rattle.dwarf_value.specs.declared.types.Value.{Value}

@@ -1,7 +1,8 @@
 -- Operations that compute: what they pop, and what they push.
 use Rattle.std.proofs.Common.{ℕ, ◌≡◌, List, [], ◌∷◌, Result, Ok, Err, Some, arith, ap, ◌∙◌, sym, refl, subst}
 use Rattle.dwarf_base.specs.declared.errors.Error.{Error}
-use Rattle.dwarf_base.specs.Faults.{fault_of, NotEnoughStackItems}
+use Rattle.dwarf_base.specs.Faults.{fault_of}
+use Rattle.dwarf_base.specs.declared.errors.Error.TheVariants.{NotEnoughStackItems}
 use Rattle.dwarf_value.specs.declared.types.Value.{Value}
 use Rattle.dwarf_meaning.specs.Acts.{FaultAct, on_top, on_result, result_of, short, push, unary, binary}
 use Rattle.dwarf_meaning.specs.Stores.{Plain, address_bits, push_value}

@@ -1,6 +1,7 @@
 -- How many pieces ended a location.
 use Rattle.std.proofs.Common.{ℕ, ◌≡◌, ◌+◌, ◌≤◌, List, [], ◌∷◌, ◌++◌, length, Option, Some, None, Result, Ok, Err, arith, ◌∙◌, refl}
-use Rattle.dwarf_base.specs.Faults.{Fault, NotEnoughStackItems}
+use Rattle.dwarf_base.specs.Faults.{Fault}
+use Rattle.dwarf_base.specs.declared.errors.Error.TheVariants.{NotEnoughStackItems}
 use Rattle.dwarf_value.specs.declared.types.Value.{Value}
 use Rattle.dwarf_value.specs.Values.{to_u64_of}
 use Rattle.dwarf_meaning.specs.Operations.{Operation}

@@ -2,7 +2,8 @@
 use Rattle.std.proofs.Common.{ℕ, ◌≡◌, ◌+◌, ◌-◌, ◌==◌, Bool, true, false, List, length, Result, Ok, Err, Option, Some, None, arith, ap, ◌∙◌, sym, refl, subst}
 use Rattle.dwarf_base.specs.declared.errors.Error.{Error}
 use Rattle.dwarf_base.specs.declared.errors.Error.TheVariants as error
-use Rattle.dwarf_base.specs.Faults.{Fault, InvalidExpressionTerminator, fault_of}
+use Rattle.dwarf_base.specs.Faults.{Fault, fault_of}
+use Rattle.dwarf_base.specs.declared.errors.Error.TheVariants.{InvalidExpressionTerminator}
 use Rattle.dwarf_meaning.specs.Operations.{Operation}
 use Rattle.dwarf_meaning.specs.Locations.{Location, Piece}
 use Rattle.dwarf_meaning.specs.Requests.{Input}
@@ -59,8 +60,8 @@ module _ (x : State) (location : Location) (runs : x.status ≡ Running) (inside
     abbrev place_then : ℕ
     place_then = length x.text.bytes - length behind
 
-    held_led : (r : Refusal) (inputs : List Input) (o : Option (ℕ × Option ℕ)) (next : Next) → piece_ended_by op ≡ o → end_located x.setup location place_then (with_refusal r x.store) o ≡ next → total x r inputs ≡ through x.store.count x.setup x.callers (after_operation (run x.setup) x.setup x.text (length x.callers) place_then inputs next)
-    held_led r inputs o next e f =
+    held_after_operation : (r : Refusal) (inputs : List Input) (o : Option (ℕ × Option ℕ)) (next : Next) → piece_ended_by op ≡ o → end_located x.setup location place_then (with_refusal r x.store) o ≡ next → total x r inputs ≡ through x.store.count x.setup x.callers (after_operation (run x.setup) x.setup x.text (length x.callers) place_then inputs next)
+    held_after_operation r inputs o next e f =
         held_total r inputs (Ok (op, behind)) was
         ∙ (ap (λ (p : Option (ℕ × Option ℕ)). through x.store.count x.setup x.callers (after_operation (run x.setup) x.setup x.text (length x.callers) place_then inputs (end_located x.setup location place_then (with_refusal r x.store) p))) e
         ∙ ap (λ (n : Next). through x.store.count x.setup x.callers (after_operation (run x.setup) x.setup x.text (length x.callers) place_then inputs n)) f)
@@ -68,7 +69,7 @@ module _ (x : State) (location : Location) (runs : x.status ≡ Running) (inside
     held_other : (new : State) → piece_ended_by op ≡ None → new ≡ with_status (FaultStatus (error.InvalidExpressionTerminator (place_then - 1))) (read_to place_then x) → Turns x new
     held_other new none is =
         read_falls place_then new (error.InvalidExpressionTerminator (place_then - 1)) is
-        (λ inputs. held_led Never inputs None (FaultNext (InvalidExpressionTerminator (place_then - 1))) none refl ∙ through_failed x.store.count x.setup x.callers (InvalidExpressionTerminator (place_then - 1)))
+        (λ inputs. held_after_operation Never inputs None (FaultNext (InvalidExpressionTerminator (place_then - 1))) none refl ∙ through_failed x.store.count x.setup x.callers (InvalidExpressionTerminator (place_then - 1)))
 
     module _ (size : ℕ × Option ℕ) (some : piece_ended_by op ≡ Some size) where
       abbrev piece : Piece
@@ -96,7 +97,7 @@ module _ (x : State) (location : Location) (runs : x.status ≡ Running) (inside
             comes = subst (ComesBy x (total x) new) (sym still) (record {
               pushes = d.steps.pushes;
               same = λ r inputs.
-                  held_led (before_pushes d.steps.pushes r) inputs (Some size) (Goes place_then (with_refusal r new.store)) some (ap (goes place_then) (d.steps.same r))
+                  held_after_operation (before_pushes d.steps.pushes r) inputs (Some size) (Goes place_then (with_refusal r new.store)) some (ap (goes place_then) (d.steps.same r))
                   ∙ (ap (λ (n : ℕ). going (record mid { store = record mid.store { count = n } }) (with_refusal r new.store) inputs) (sym count)
                   ∙ sym (total_running r new inputs still ∙ ap (λ (z : State). going z (with_refusal r new.store) inputs) d.alone));
               kept = record {
@@ -121,7 +122,7 @@ module _ (x : State) (location : Location) (runs : x.status ≡ Running) (inside
             refusal = h.gets.refusal;
             may = h.gets.may;
             same = λ inputs.
-                held_led h.gets.refusal inputs (Some size) (FaultNext (fault_of h.error)) some (ap (goes place_then) h.gets.same)
+                held_after_operation h.gets.refusal inputs (Some size) (FaultNext (fault_of h.error)) some (ap (goes place_then) h.gets.same)
                 ∙ (through_failed x.store.count x.setup x.callers (fault_of h.error) ∙ ap (closed (FaultOutcome (fault_of h.error))) (sym count));
             kept = record { setup = h.stays.kept.setup; object_address = h.stays.kept.object_address; maximum = h.stays.kept.maximum };
             spends = fallen_spends x new h.error (ap faults_in runs) h.failed (omega (arith, callers)) (omega (arith, count)) (omega (arith, items)) (omega (arith, decodings, count, due, waited)) h.stays.pieces (omega (arith, decodings, count)) (omega (arith, decodings, count));

@@ -17,11 +17,11 @@ nears_by old new was is e f h =
 pub nears_more : (a b c : State) → Nears a b → Nears b c → Nears a c
 nears_more a b c h i = omega (arith, h, i)
 
--- a call that stops
-pub fewer_stopped : (old new : State) (status : Status) → new.status ≡ status → replies_by status ≡ 1 → Nears old new → calls_left new < calls_left old
-fewer_stopped old new status is stops h =
+-- a call that ends
+pub fewer_ended : (old new : State) (status : Status) → new.status ≡ status → replies_by status ≡ 1 → Nears old new → calls_left new < calls_left old
+fewer_ended old new status is ends h =
     let stop = ap replies_by is in
-    omega (arith, h, stop, stops)
+    omega (arith, h, stop, ends)
 
 -- a call that met a fault
 pub fewer_fallen : (old new : State) (request : Request) (waiting : Waiting) (error : Error) → old.status ≡ RequestStatus request waiting → new.status ≡ FaultStatus error → calls_left new < calls_left old
@@ -36,8 +36,8 @@ if_ok P (Err e) h = tt
 
 module _ (old : State) (totals : Refusal → List Input → Total) (new : State) (request : Request) (waiting : Waiting) (was : old.status ≡ RequestStatus request waiting) where
   fewer_by : (status : Status) → new.status ≡ status → EndsBy old totals new status → calls_left new < calls_left old
-  fewer_by (RequestStatus request waiting) e h = fewer_stopped old new (RequestStatus request waiting) e (omega arith) h.nears
-  fewer_by (CompleteStatus value) e h = fewer_stopped old new (CompleteStatus value) e (omega arith) h.nears
+  fewer_by (RequestStatus request waiting) e h = fewer_ended old new (RequestStatus request waiting) e (omega arith) h.nears
+  fewer_by (CompleteStatus value) e h = fewer_ended old new (CompleteStatus value) e (omega arith) h.nears
   fewer_by (FaultStatus error) e h = fewer_fallen old new request waiting error was e
   fewer_by Running e h = absurd h
   fewer_by (Start initial_value) e h = absurd h

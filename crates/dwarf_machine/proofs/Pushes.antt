@@ -2,7 +2,8 @@
 use Rattle.std.proofs.Common.{ℕ, zero, suc, ◌≡◌, inl, inr, [], ◌∷◌, ◌++◌, length, Result, Ok, Err, Option, Some, None, arith, ap, ◌∙◌, sym, refl, nat_lt}
 use Rattle.std.proofs.lemmas.Bool.Decides.{nat_tests}
 use Rattle.dwarf_base.specs.declared.errors.Error.TheVariants as error
-use Rattle.dwarf_base.specs.Faults.{Fault, StackFull, ◌>>=◌}
+use Rattle.dwarf_base.specs.Faults.{Fault, ◌>>=◌}
+use Rattle.dwarf_base.specs.declared.errors.Error.TheVariants.{StackFull}
 use Rattle.dwarf_value.specs.declared.types.Value.{Value}
 use Rattle.dwarf_meaning.specs.Locations.{Piece}
 use Rattle.dwarf_meaning.specs.Stores.{Setup, Store, push_value, push_piece, push_caller}
@@ -91,9 +92,9 @@ piece_refused setup piece old full =
       same = ap (λ (x : Result Refusal Fault). x >>= λ left. Ok (record old { pieces = old.pieces ++ piece ∷ []; refusal = left })) (room_refused limit (length old.pieces) full);
     }
 
-pub frame_pushed : (setup : Setup) (depth : ℕ) (old new : Store) → HasRoom setup.limits.callers depth → new ≡ old → Steps (push_caller setup depth) old Ok new
+pub caller_pushed : (setup : Setup) (depth : ℕ) (old new : Store) → HasRoom setup.limits.callers depth → new ≡ old → Steps (push_caller setup depth) old Ok new
 unfolding push_caller
-frame_pushed setup depth old new fits e =
+caller_pushed setup depth old new fits e =
     let limit = setup.limits.callers in
     record {
       pushes = cost limit;
@@ -113,8 +114,8 @@ frame_refused setup depth old full =
     }
 
 -- the state keeps the fault of a value that is refused
-pub value_stops : (value : Value) (old new : State) → MayRefuse old.setup.limits.values (length old.store.values) → new ≡ with_status (FaultStatus error.StackFull) old → Refused 0 (push_value old.setup value) old new
-value_stops value old new full e = record {
+pub value_faults : (value : Value) (old new : State) → MayRefuse old.setup.limits.values (length old.store.values) → new ≡ with_status (FaultStatus error.StackFull) old → Refused 0 (push_value old.setup value) old new
+value_faults value old new full e = record {
   error = error.StackFull;
   failed = ap (λ (z : State). z.status) e;
   gets = value_refused old.setup value old.store full;
@@ -122,8 +123,8 @@ value_stops value old new full e = record {
 }
 
 -- the state keeps the fault of a piece that is refused
-pub piece_stops : (piece : Piece) (old new : State) → MayRefuse old.setup.limits.pieces (length old.store.pieces) → new ≡ with_status (FaultStatus error.StackFull) old → Refused 0 (push_piece old.setup piece) old new
-piece_stops piece old new full e = record {
+pub piece_faults : (piece : Piece) (old new : State) → MayRefuse old.setup.limits.pieces (length old.store.pieces) → new ≡ with_status (FaultStatus error.StackFull) old → Refused 0 (push_piece old.setup piece) old new
+piece_faults piece old new full e = record {
   error = error.StackFull;
   failed = ap (λ (z : State). z.status) e;
   gets = piece_refused old.setup piece old.store full;
@@ -131,8 +132,8 @@ piece_stops piece old new full e = record {
 }
 
 -- the state keeps the fault of a frame that is refused
-pub frame_stops : (old new : State) → MayRefuse old.setup.limits.callers (length old.callers) → new ≡ with_status (FaultStatus error.StackFull) old → Refused 0 (push_caller old.setup (length old.callers)) old new
-frame_stops old new full e = record {
+pub caller_faults : (old new : State) → MayRefuse old.setup.limits.callers (length old.callers) → new ≡ with_status (FaultStatus error.StackFull) old → Refused 0 (push_caller old.setup (length old.callers)) old new
+caller_faults old new full e = record {
   error = error.StackFull;
   failed = ap (λ (z : State). z.status) e;
   gets = frame_refused old.setup (length old.callers) old.store full;

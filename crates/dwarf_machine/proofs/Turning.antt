@@ -2,7 +2,8 @@
 use Rattle.std.proofs.Common.{ℕ, ◌≡◌, ◌+◌, ◌-◌, ◌*◌, ◌<◌, true, false, List, length, Result, Ok, Err, arith, ap, ◌∙◌, sym, refl, subst, ◌==◌}
 use Rattle.dwarf_base.specs.declared.errors.Error.{Error}
 use Rattle.dwarf_base.specs.declared.errors.Error.TheVariants as error
-use Rattle.dwarf_base.specs.Faults.{Fault, TooManyIterations, fault_of}
+use Rattle.dwarf_base.specs.Faults.{Fault, fault_of}
+use Rattle.dwarf_base.specs.declared.errors.Error.TheVariants.{TooManyIterations}
 use Rattle.dwarf_base.specs.Reads.{Text}
 use Rattle.dwarf_meaning.specs.Operations.{Operation}
 use Rattle.dwarf_meaning.specs.Requests.{Request, Waiting, Input}
@@ -132,8 +133,8 @@ module _ (x : State) (ready : IsReady x) where
       abbrev there : State
       there = behind_op x place_then
 
-      ready_led : (r : Refusal) (inputs : List Input) (next : Next) → done_at (act_of there op) there (with_refusal r there.store) ≡ next → total x r inputs ≡ through (x.store.count + 1) x.setup x.callers (after_operation (run x.setup) x.setup x.text (length x.callers) place_then inputs next)
-      ready_led r inputs next e =
+      ready_after_operation : (r : Refusal) (inputs : List Input) (next : Next) → done_at (act_of there op) there (with_refusal r there.store) ≡ next → total x r inputs ≡ through (x.store.count + 1) x.setup x.callers (after_operation (run x.setup) x.setup x.text (length x.callers) place_then inputs next)
+      ready_after_operation r inputs next e =
           ready_read r inputs (Ok (op, behind)) was
           ∙ ap (λ (n : Next). through (x.store.count + 1) x.setup x.callers (after_operation (run x.setup) x.setup x.text (length x.callers) place_then inputs n)) e
 
@@ -147,7 +148,7 @@ module _ (x : State) (ready : IsReady x) where
             refusal = h.gets.refusal;
             may = h.gets.may;
             same = λ inputs.
-                ready_led h.gets.refusal inputs (FaultNext (fault_of error)) h.gets.same
+                ready_after_operation h.gets.refusal inputs (FaultNext (fault_of error)) h.gets.same
                 ∙ (through_failed (x.store.count + 1) x.setup x.callers (fault_of error) ∙ ap (closed (FaultOutcome (fault_of error))) (sym count));
             kept = record { setup = h.stays.kept.setup; object_address = h.stays.kept.object_address; maximum = h.stays.kept.maximum };
             spends = fallen_spends x new error (ap faults_in ready.runs) failed (omega (arith, callers)) (omega (arith, count)) (omega (arith, items)) (omega (arith, decodings, count)) h.stays.pieces (omega (arith, decodings, count)) (omega (arith, decodings, count));
@@ -189,7 +190,7 @@ module _ (x : State) (ready : IsReady x) where
               pushes = goes.steps.pushes;
               same = λ r inputs.
                   let course = run x.setup x.text new.place (length x.callers) (with_refusal r new.store) inputs in
-                  ready_led (before_pushes goes.steps.pushes r) inputs (Goes new.place (with_refusal r new.store)) (goes.steps.same r)
+                  ready_after_operation (before_pushes goes.steps.pushes r) inputs (Goes new.place (with_refusal r new.store)) (goes.steps.same r)
                   ∙ (ap (λ (n : ℕ). through n x.setup x.callers course) (sym count)
                   ∙ sym (total_running r new inputs runs ∙ ap (λ (y : State). going y (with_refusal r new.store) inputs) goes.alone));
               kept = keeps_by new (ap (λ (z : State). z.setup) goes.alone) tally;
@@ -209,7 +210,7 @@ module _ (x : State) (ready : IsReady x) where
             comes = subst (ComesBy x (total x) new) (sym open_now) (record {
               pushes = asks.steps.pushes;
               same = λ r inputs.
-                  ready_led (before_pushes asks.steps.pushes r) inputs (RequestNext request waiting (with_refusal r new.store)) (asks.steps.same r)
+                  ready_after_operation (before_pushes asks.steps.pushes r) inputs (RequestNext request waiting (with_refusal r new.store)) (asks.steps.same r)
                   ∙ (ap (λ (n : ℕ). waiting_total (record there { store = record there.store { count = n } }) request waiting (with_refusal r new.store) inputs) (sym count)
                   ∙ sym (total_waits r new inputs request waiting open_now ∙ ap (λ (y : State). waiting_total y request waiting (with_refusal r new.store) inputs) asks.alone));
               kept = keeps_by new (ap (λ (z : State). z.setup) asks.alone) tally;

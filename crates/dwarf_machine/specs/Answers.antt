@@ -5,7 +5,7 @@ use Rattle.dwarf_meaning.specs.Kinds.{kind_of_waiting}
 use Rattle.dwarf_meaning.specs.declared.kinds.WaitingKind.{WaitingKind}
 use Rattle.dwarf_meaning.specs.Requests as requests
 use Rattle.dwarf_meaning.specs.Rest as rest
-use Rattle.dwarf_meaning.specs.Rest.{Start, Running, RequestStatus, CompleteStatus, FaultStatus}
+use Rattle.dwarf_meaning.specs.Rest.{RequestStatus}
 use Rattle.dwarf_machine.specs.declared.states.Given.{Given}
 use Rattle.dwarf_machine.specs.declared.states.Given.TheVariants as given
 
@@ -27,15 +27,9 @@ answer_of text (given.BaseType value_type) = requests.BaseTypeAnswer value_type
 -- a request of this kind is open
 abbrev pub IsWaitingFor : WaitingKind → rest.Status → Type 0
 IsWaitingFor kind (RequestStatus request waiting) = kind_of_waiting waiting ≡ kind
-IsWaitingFor kind (Start initial_value) = ⊥
-IsWaitingFor kind (CompleteStatus value) = ⊥
-IsWaitingFor kind (FaultStatus error) = ⊥
-IsWaitingFor kind Running = ⊥
+IsWaitingFor kind _ = ⊥
 
 -- the open request waits to do this with its answer
 abbrev pub IsWaitingTo : requests.Waiting → rest.Status → Type 0
 IsWaitingTo wanted (RequestStatus request waiting) = waiting ≡ wanted
-IsWaitingTo wanted (Start initial_value) = ⊥
-IsWaitingTo wanted (CompleteStatus value) = ⊥
-IsWaitingTo wanted (FaultStatus error) = ⊥
-IsWaitingTo wanted Running = ⊥
+IsWaitingTo wanted _ = ⊥

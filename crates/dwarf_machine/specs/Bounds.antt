@@ -1,35 +1,26 @@
 -- How much an evaluation keeps, and how often it decodes, against the operations that it counted (DWARF 5, section 2.5).
 use Rattle.std.specs.Prelude.{ℕ, ◌+◌, ◌-◌, ◌*◌, ◌≤◌, ◌≡◌, List, [], ◌∷◌, Option, Some, None, length}
-use Rattle.dwarf_meaning.specs.Locations.{Location, Empty, InRegister, AtAddress, HoldsValue, HoldsBytes, PointsInto, Piece}
+use Rattle.dwarf_meaning.specs.Locations.{Location, Empty, AtAddress, Piece}
 use Rattle.dwarf_meaning.specs.Run.{most}
 use Rattle.dwarf_meaning.specs.RunLaws.{waits_of}
 use Rattle.dwarf_meaning.specs.Stores.{Last, Located}
-use Rattle.dwarf_meaning.specs.Rest.{State, Status, Start, Running, RequestStatus, CompleteStatus, FaultStatus}
+use Rattle.dwarf_meaning.specs.Rest.{State, Status, Start, RequestStatus, CompleteStatus, FaultStatus}
 
 -- 1 where a location waits for its piece, until the evaluation is over
 abbrev pub piece_due : Last → Status → ℕ
-piece_due last (Start initial_value) = waits_of last
-piece_due last Running = waits_of last
-piece_due last (RequestStatus request waiting) = waits_of last
 piece_due last (CompleteStatus value) = 0
 piece_due last (FaultStatus error) = 0
+piece_due last _ = waits_of last
 
 -- 1 where an initial value is still to be pushed
 abbrev pub initial_due : Status → ℕ
 initial_due (Start (Some number)) = 1
-initial_due (Start None) = 0
-initial_due Running = 0
-initial_due (RequestStatus request waiting) = 0
-initial_due (CompleteStatus value) = 0
-initial_due (FaultStatus error) = 0
+initial_due _ = 0
 
 -- 1 where an answer is still to come: a value, or a called text and its caller
 abbrev pub answer_due : Status → ℕ
 answer_due (RequestStatus request waiting) = 1
-answer_due (Start initial_value) = 0
-answer_due Running = 0
-answer_due (CompleteStatus value) = 0
-answer_due (FaultStatus error) = 0
+answer_due _ = 0
 
 -- how many items the three lists hold together, with those that are due
 abbrev pub item_count : State → ℕ
@@ -49,10 +40,7 @@ decoding_count x = x.decodings + piece_due x.store.last x.status
 abbrev pub located_by : Location → ℕ
 located_by Empty = 0
 located_by (AtAddress address) = 0
-located_by (InRegister register) = 1
-located_by (HoldsValue value) = 1
-located_by (HoldsBytes value) = 1
-located_by (PointsInto value byte_offset) = 1
+located_by _ = 1
 
 -- 1 for a piece that ended a location; one without a size is the whole variable
 abbrev pub ending_by : Option ℕ → Location → ℕ
@@ -72,10 +60,7 @@ located _ = 0
 -- 1 where a fault was met
 abbrev pub faults_in : Status → ℕ
 faults_in (FaultStatus error) = 1
-faults_in (Start initial_value) = 0
-faults_in Running = 0
-faults_in (RequestStatus request waiting) = 0
-faults_in (CompleteStatus value) = 0
+faults_in _ = 0
 
 -- Each operation that was counted was decoded once, and so was each piece that ended a location; nothing else
 -- was, but for what stands in the piece's place where that is a fault.
@@ -111,11 +96,9 @@ initial_items None = 0
 
 -- Each request is asked by an operation that is counted, so this falls from one request to the next, and at the end.
 abbrev pub calls_left_by : State → Status → ℕ
-calls_left_by x (Start initial_value) = most - x.store.count + 1
-calls_left_by x Running = most - x.store.count + 1
-calls_left_by x (RequestStatus request waiting) = most - x.store.count + 1
 calls_left_by x (CompleteStatus value) = 0
 calls_left_by x (FaultStatus error) = 0
+calls_left_by x _ = most - x.store.count + 1
 
 -- how many more resumes there may be
 abbrev pub calls_left : State → ℕ

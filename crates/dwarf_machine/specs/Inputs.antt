@@ -29,10 +29,6 @@ pub record IsFresh (x : State) (initial_value : Option ℕ) : Type 0 where
   pub callers : x.callers ≡ []
   pub store : x.store ≡ fresh (first_of x initial_value) Never
 
--- the maximum that holds where none is set
-abbrev pub most_iterations : ℕ
-most_iterations = 4294967295
-
 -- the same state, with this object address in force
 abbrev pub with_object : Option ℕ → State → State
 with_object address x = record x { store = record x.store { object_address = address } }

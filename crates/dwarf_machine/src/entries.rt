@@ -130,7 +130,7 @@ impl<R: Reader + Copy, S: EvaluationStorage<R>> Machine<R, S> {
         }
     }
 
-    /// Reads the operands of an entry that compilers seldom write, and does its operation.
+    /// Reads the operands of a rare entry, and does its operation.
     #[inline(never)]
     fn perform_rare(&mut self, entry: Rare, left: &mut R, encoding: Encoding) -> Result<()>
         requires runs { self.old.status ≡ Running }
@@ -141,6 +141,14 @@ impl<R: Reader + Copy, S: EvaluationStorage<R>> Machine<R, S> {
         ensures rest { IsLeftOf (R.text left.new) self.new.text }
     {
         match entry {
+            Rare::Address => {
+                let address = read_address(left, encoding.address_size)?;
+                self.ask(OpenRequest::RelocatedAddress(address));
+            }
+            Rare::PickByte => {
+                let index = left.read_u8()?;
+                self.pick(index);
+            }
             Rare::NamedRegister => {
                 let register = read_register(left)?;
                 self.locate(Location::Register { register });
@@ -237,17 +245,9 @@ impl<R: Reader + Copy, S: EvaluationStorage<R>> Machine<R, S> {
             Entry::Deref(space) => {
                 self.dereference(generic_type(), encoding.address_size, space);
             }
-            Entry::PickByte => {
-                let index = left.read_u8()?;
-                self.pick(index);
-            }
             Entry::DerefSize(space) => {
                 let size = left.read_u8()?;
                 self.dereference(generic_type(), size, space);
-            }
-            Entry::Address => {
-                let address = read_address(left, encoding.address_size)?;
-                self.ask(OpenRequest::RelocatedAddress(address));
             }
             Entry::Constant(shape) => {
                 let value = read_unsigned(shape, left)?;

@@ -4,10 +4,10 @@ ghost use Rattle.dwarf_base.specs.Faults.{fault_of};
 ghost use Rattle.dwarf_value.specs.Values.{IsAddressMask, width_of};
 ghost use Rattle.dwarf_meaning.specs.Meaning.{has_pieces};
 ghost use Rattle.dwarf_meaning.specs.Rest.{Start, FaultStatus};
-ghost use Rattle.dwarf_meaning.specs.Run.{read};
+ghost use Rattle.dwarf_meaning.specs.Run.{most, read};
 ghost use Rattle.dwarf_meaning.specs.Stores.{Located, Plain, address_bits, push_value, push_piece};
 ghost use Rattle.dwarf_machine.specs.Bounds.{IsUnspent};
-ghost use Rattle.dwarf_machine.specs.Inputs.{IsFresh, most_iterations, with_maximum, with_object, with_status};
+ghost use Rattle.dwarf_machine.specs.Inputs.{IsFresh, with_maximum, with_object, with_status};
 ghost use Rattle.dwarf_machine.specs.Machine.{last_of, location_of, piece_of, setup_of, status_of};
 ghost use Rattle.dwarf_machine.specs.inner.Steps.{CountsOne, GoesBack, IsFree, Jumps, Pops, PopsGenerics, ReadsPiece, Tries, TriesToEnter, at, is_free, is_running, read_to, with_last};
 
@@ -404,6 +404,7 @@ impl<R: Reader + Copy, S: EvaluationStorage<R>> Machine<R, S> {
     }
 
     /// A fresh evaluation.
+    #[tactic(auto, unfolding(dwarf_meaning::specs::Run::most))]
     pub fn new_in(
         bytecode: R,
         encoding: Encoding,
@@ -422,7 +423,7 @@ impl<R: Reader + Copy, S: EvaluationStorage<R>> Machine<R, S> {
             (S.ExpressionStack.limit expression_stack) (S.Result.limit pieces) }
         ensures text { result.text ≡ R.text bytecode }
         ensures object_address { result.store.object_address ≡ None }
-        ensures maximum { result.store.maximum ≡ most_iterations }
+        ensures maximum { result.store.maximum ≡ most }
         ensures fresh { IsFresh result None }
         ensures unspent { IsUnspent result }
     {

@@ -4,8 +4,7 @@ ghost use Rattle.dwarf_meaning.specs.Acts.{RequestAct, Branches, Locates, Pushes
 ghost use Rattle.dwarf_meaning.specs.Operations as meaning;
 ghost use Rattle.dwarf_meaning.specs.Rest.{Running, FaultStatus};
 ghost use Rattle.dwarf_meaning.specs.Stores.{Plain, address_bits, push_value, push_values};
-ghost use Rattle.dwarf_base.specs.declared.errors.Error.TheVariants.{NotEnoughStackItems};
-ghost use Rattle.dwarf_base.specs.Faults.{UnsupportedEvaluation};
+ghost use Rattle.dwarf_base.specs.declared.errors.Error.TheVariants.{NotEnoughStackItems, UnsupportedEvaluation};
 ghost use Rattle.dwarf_value.specs.Values.{add_of, from_u64_of, to_u64_of, type_of};
 ghost use Rattle.dwarf_machine.specs.Inputs.{with_status};
 ghost use Rattle.dwarf_machine.specs.Machine.{location_of, request_of, waiting_of};
@@ -77,7 +76,7 @@ impl<R: Reader + Copy, S: EvaluationStorage<R>> Machine<R, S> {
         self.push_plain(value)
     }
 
-    /// Puts the call's answer in the place of the top.
+    /// Puts the call's value in the place of the top.
     #[inline(never)]
     pub(crate) fn compute_unary(&mut self, operator: UnaryOperator)
         requires { self.old.status ≡ Running }
@@ -90,12 +89,12 @@ impl<R: Reader + Copy, S: EvaluationStorage<R>> Machine<R, S> {
             return;
         };
         match operator.apply(value, self.addr_mask()) {
-            Ok(answer) => self.push_plain(answer),
+            Ok(computed) => self.push_plain(computed),
             Err(error) => self.fail(error),
         }
     }
 
-    /// Puts the call's answer in the place of the two on top.
+    /// Puts the call's value in the place of the two on top.
     #[inline(never)]
     pub(crate) fn compute_binary<O: BinaryOperator>(&mut self)
         requires { self.old.status ≡ Running }
@@ -111,7 +110,7 @@ impl<R: Reader + Copy, S: EvaluationStorage<R>> Machine<R, S> {
             Value::Generic(right),
             self.addr_mask(),
         ) {
-            Ok(answer) => self.push_plain(answer),
+            Ok(computed) => self.push_plain(computed),
             Err(error) => self.fail(error),
         }
     }
@@ -132,7 +131,7 @@ impl<R: Reader + Copy, S: EvaluationStorage<R>> Machine<R, S> {
             return;
         };
         match O::apply(left, right, self.addr_mask()) {
-            Ok(answer) => self.push_plain(answer),
+            Ok(computed) => self.push_plain(computed),
             Err(error) => self.fail(error),
         }
     }

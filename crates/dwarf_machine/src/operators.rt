@@ -6,7 +6,7 @@ use dwarf_base::Result;
 use dwarf_value::Value;
 
 /// A call on one value.
-#[derive(Clone, Copy, Debug, PartialEq, Eq)]
+#[derive(Clone, Copy)]
 pub(crate) enum UnaryOperator {
     Abs,
     Neg,

@@ -3,7 +3,7 @@ use dwarf_op::{DieReference, Location};
 use dwarf_value::{Value, ValueType};
 
 /// Of what sort the last operation was.
-#[derive(Clone, Copy, Debug, PartialEq, Eq)]
+#[derive(Clone, Copy)]
 pub(crate) enum LastOperation<R: Reader, O = <R as Reader>::Offset> {
     Nothing,
     // It asked nothing, gave no location and ended no piece.
@@ -18,7 +18,7 @@ pub(crate) enum LastOperation<R: Reader, O = <R as Reader>::Offset> {
 }
 
 /// An open request, with what is to be done with the answer.
-#[derive(Clone, Copy, Debug, PartialEq, Eq)]
+#[derive(Clone, Copy)]
 pub enum OpenRequest<R: Reader, O = <R as Reader>::Offset> {
     /// Push what memory holds.
     Memory {
@@ -90,7 +90,7 @@ pub enum OpenRequest<R: Reader, O = <R as Reader>::Offset> {
 }
 
 /// Where an evaluation stands.
-#[derive(Clone, Copy, Debug, PartialEq, Eq)]
+#[derive(Clone, Copy)]
 pub enum EvaluationState<R: Reader, O = <R as Reader>::Offset> {
     /// Nothing was evaluated yet; the initial value, where one is set.
     Start(Option<u64>),
@@ -105,7 +105,7 @@ pub enum EvaluationState<R: Reader, O = <R as Reader>::Offset> {
 }
 
 /// What a resume is given, by the request that it answers.
-#[derive(Clone, Copy, Debug, PartialEq, Eq)]
+#[derive(Clone, Copy)]
 pub enum Given<R> {
     /// What memory holds.
     Memory(Value),

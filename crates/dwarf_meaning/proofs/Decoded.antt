@@ -1,7 +1,7 @@
 -- What users of decoding need of it: an operation has bytes, all of the text, and bytes behind them don't matter.
 use Rattle.std.proofs.Common.{ℕ, ◌≡◌, ◌<◌, ◌⊎◌, inl, inr, Bool, List, [], ◌∷◌, ◌++◌, length, Ok, Err, arith, length-append, append_assoc, refl, sym, ap, subst, ◌∙◌}
 use Rattle.dwarf_base.specs.declared.common.Encoding.{Encoding}
-use Rattle.dwarf_base.specs.Faults.{Fault, UnexpectedEof}
+use Rattle.dwarf_base.specs.Faults.{Fault, past_the_end}
 use Rattle.dwarf_base.specs.Fronts.{Begins}
 use Rattle.dwarf_base.specs.Reads.{Text}
 use Rattle.dwarf_meaning.specs.Operations.{Operation}
@@ -104,5 +104,5 @@ pub whole_operation : (encoding : Encoding) (bits : ℕ) (big : Bool) (bytes : L
 whole_operation encoding bits big bytes op s = record {
   some_bytes = some_bytes encoding bits big bytes op s;
   whatever_follows = λ rest. spelled_operation encoding bits big bytes op rest s;
-  cut_off = λ before byte after e. (reads_operation encoding bits big).refused before UnexpectedEof ((reads_operation encoding bits big).cut_off before byte after op (subst (λ (xs : List ℕ). Spells encoding bits big xs op) (sym e) s));
+  cut_off = λ before byte after e. (reads_operation encoding bits big).refused before past_the_end ((reads_operation encoding bits big).cut_off before byte after op (subst (λ (xs : List ℕ). Spells encoding bits big xs op) (sym e) s));
 }

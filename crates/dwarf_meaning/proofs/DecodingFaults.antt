@@ -1,7 +1,8 @@
 -- The faults that decoding meets.
-use Rattle.std.proofs.Common.{ℕ, ◌≡◌, inl, inr, Bool, true, false, cond, nat_lt, ◌*◌, ◌^◌, List, Ok, Err, sym, subst}
+use Rattle.std.proofs.Common.{ℕ, ◌≡◌, inl, inr, Bool, true, false, cond, nat_lt, ◌*◌, ◌^◌, List, Ok, Err, refl, sym, subst}
 use Rattle.dwarf_base.specs.declared.common.Encoding.{Encoding}
-use Rattle.dwarf_base.specs.Faults.{Fault, UnsupportedOffset, UnsupportedRegister, InvalidPieceSize, BadUnsignedLeb128}
+use Rattle.dwarf_base.specs.Faults.{Fault}
+use Rattle.dwarf_base.specs.declared.errors.Error.TheVariants.{UnsupportedOffset, UnsupportedRegister, InvalidPieceSize, BadUnsignedLeb128}
 use Rattle.dwarf_base.specs.Leb.{LebForm, MalformedLeb, unsigned_leb, signed_leb}
 use Rattle.dwarf_base.specs.Reads.{Text}
 use Rattle.dwarf_meaning.specs.Operands.{Context, block_of, Form, Fixed, Address, Leb128, Offset, RegisterNumber, PieceSize, WasmIndex, SectionOffset, InfoReference, SignedForm, Layout, operand_value}
@@ -14,13 +15,13 @@ use Rattle.dwarf_meaning.proofs.OperationReads.{reads_operation}
 
 leb_fault : {A : Type 0} (form : LebForm A) (bytes : List ℕ) (fault : Fault) → IsDecodingFault form.too_long → MalformedLeb form bytes fault → IsDecodingFault fault
 leb_fault form bytes fault h r = elim r [
-  | inl cut ↦ subst IsDecodingFault (sym cut.1) tt
+  | inl cut ↦ subst IsDecodingFault (sym cut.1) refl
   | inr long ↦ subst IsDecodingFault (sym long.1) h
 ]
 
 number_fault : (big : Bool) (layout : Layout) (bytes : List ℕ) (fault : Fault) → MalformedNumber big layout bytes fault → IsDecodingFault fault
-number_fault big layout bytes fault (spelling.few_bytes size bytes' less) = tt
-number_fault big layout bytes fault (spelling.few_address_bytes size bytes' good less) = tt
+number_fault big layout bytes fault (spelling.few_bytes size bytes' less) = refl
+number_fault big layout bytes fault (spelling.few_address_bytes size bytes' good less) = refl
 number_fault big layout bytes fault (spelling.address_size size bytes' bad) = tt
 number_fault big layout bytes fault (spelling.no_leb128 bytes' fault' r) = leb_fault unsigned_leb bytes' fault' tt r
 
@@ -44,7 +45,7 @@ unsigned_fault context form bytes fault (spelling.no_number bytes' fault' r) = n
 unsigned_fault context form bytes fault (spelling.out_of_range front rest number fault' s e) = value_fault context.offset_bits form number fault' e
 
 integer_fault : (big : Bool) (form : SignedForm) (bytes : List ℕ) (fault : Fault) → MalformedInteger big form bytes fault → IsDecodingFault fault
-integer_fault big form bytes fault (spelling.few_signed_bytes size bytes' less) = tt
+integer_fault big form bytes fault (spelling.few_signed_bytes size bytes' less) = refl
 integer_fault big form bytes fault (spelling.no_signed_leb128 bytes' fault' r) = leb_fault signed_leb bytes' fault' tt r
 
 operands_fault : (context : Context) (row : Row) (bytes : List ℕ) (fault : Fault) → MalformedOperands context row bytes fault → IsDecodingFault fault
@@ -53,11 +54,11 @@ operands_fault context row bytes fault (spelling.unsigned_here form next bytes' 
 operands_fault context row bytes fault (spelling.unsigned_after form next front rest value fault' s r) = operands_fault context (next value) rest fault' r
 operands_fault context row bytes fault (spelling.signed_here form next bytes' fault' r) = integer_fault _ form bytes' fault' r
 operands_fault context row bytes fault (spelling.signed_after form next front rest value fault' s r) = operands_fault context (next value) rest fault' r
-operands_fault context row bytes fault (spelling.block_here size next bytes' less) = tt
+operands_fault context row bytes fault (spelling.block_here size next bytes' less) = refl
 operands_fault context row bytes fault (spelling.block_after next front rest fault' r) = operands_fault context (next (block_of context front)) rest fault' r
 
 refused_fault : (encoding : Encoding) (bits : ℕ) (big : Bool) (bytes : List ℕ) (fault : Fault) → Malformed encoding bits big bytes fault → IsDecodingFault fault
-refused_fault encoding bits big bytes fault spelling.no_opcode = tt
+refused_fault encoding bits big bytes fault spelling.no_opcode = refl
 refused_fault encoding bits big bytes fault (spelling.bad_operands opcode bytes' fault' r) = operands_fault _ _ bytes' fault' r
 
 -- decoding meets no other faults

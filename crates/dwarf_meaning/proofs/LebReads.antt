@@ -1,6 +1,6 @@
 -- LEB128 numbers are read exactly where they are spelled.
 use Rattle.std.proofs.Common.{ℕ, ◌≡◌, List, [], ◌∷◌, ◌++◌, Ok, Err, refl, append-nil, sym, ◌∙◌}
-use Rattle.dwarf_base.specs.Faults.{Fault, UnexpectedEof}
+use Rattle.dwarf_base.specs.Faults.{Fault, past_the_end}
 use Rattle.dwarf_base.specs.Fronts as fronts
 use Rattle.dwarf_base.specs.Leb.{uleb_at, sleb_at, SpellsLeb, MalformedLeb, unsigned_leb, signed_leb}
 use Rattle.dwarf_base.proofs.LebLaws.{uleb_exactly, sleb_exactly, uleb_fronts, sleb_fronts}
@@ -10,7 +10,7 @@ module _ {A : Type 0} (read : List ℕ → Reading A) (S : List ℕ → A → Ty
   gives : (front : List ℕ) (value : A) (rest : List ℕ) → S front value → read (front ++ rest) ≡ Ok (value, rest)
   gives front value rest s = (exactly.ok (front ++ rest) value rest).1 (record { front = front; whole = refl; spells = s })
 
-  cut_off : (before : List ℕ) (byte : ℕ) (after : List ℕ) (value : A) → S (before ++ (byte ∷ after)) value → read before ≡ Err UnexpectedEof
+  cut_off : (before : List ℕ) (byte : ℕ) (after : List ℕ) (value : A) → S (before ++ (byte ∷ after)) value → read before ≡ Err past_the_end
   cut_off before byte after value s =
       let bytes = before ++ (byte ∷ after) in
       let taken = takes.taken (bytes ++ []) value [] (gives bytes value [] s) in

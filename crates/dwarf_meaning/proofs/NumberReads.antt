@@ -1,6 +1,7 @@
 -- Operands that are numbers are read exactly where they are spelled.
 use Rattle.std.proofs.Common.{ℕ, ◌*◌, ◌≡◌, ◌<◌, ℤ, Bool, true, false, cond, List, ◌∷◌, ◌++◌, length, Result, Ok, Err, refl, sym, ap, subst, ◌∙◌}
-use Rattle.dwarf_base.specs.Faults.{Fault, UnexpectedEof, UnsupportedAddressSize}
+use Rattle.dwarf_base.specs.Faults.{Fault, past_the_end}
+use Rattle.dwarf_base.specs.declared.errors.Error.TheVariants.{UnsupportedAddressSize}
 use Rattle.dwarf_base.specs.Leb.{SpellsLeb, MalformedLeb, unsigned_leb, signed_leb, sleb_at}
 use Rattle.dwarf_base.specs.Numbers.{number_of, signed_of}
 use Rattle.dwarf_base.specs.Reads.{split_at, fixed_at, signed_at, address_at, is_fixed_size}
@@ -39,14 +40,14 @@ fixed_spelling : (big : Bool) (bytes : List ℕ) → FixedSpelling big (length b
 unfolding FixedSpelling
 fixed_spelling big bytes = passes bytes bytes (number_of big bytes) (block bytes) refl
 
-fixed_few : (big : Bool) (size : ℕ) (bytes : List ℕ) (fault : Fault) → FixedRefusal big size bytes fault → (length bytes < size) × (fault ≡ UnexpectedEof)
+fixed_few : (big : Bool) (size : ℕ) (bytes : List ℕ) (fault : Fault) → FixedRefusal big size bytes fault → (length bytes < size) × (fault ≡ past_the_end)
 unfolding FixedRefusal
 fixed_few big size bytes fault (unread bytes' fault' (few size' bytes'' h)) = (h, refl)
 fixed_few big size bytes fault (unfit front rest a fault' s e) = absurd cc
 
-fixed_refusal : (big : Bool) (size : ℕ) (bytes : List ℕ) → length bytes < size → FixedRefusal big size bytes UnexpectedEof
+fixed_refusal : (big : Bool) (size : ℕ) (bytes : List ℕ) → length bytes < size → FixedRefusal big size bytes past_the_end
 unfolding FixedRefusal
-fixed_refusal big size bytes h = unread bytes UnexpectedEof (few size bytes h)
+fixed_refusal big size bytes h = unread bytes past_the_end (few size bytes h)
 
 -- ---- unsigned numbers, by their layout
 

@@ -1,7 +1,7 @@
 -- Operations are read exactly where they are spelled.
 use Rattle.std.proofs.Common.{ℕ, ◌≡◌, inl, inr, ℤ, Bool, List, [], ◌∷◌, ◌++◌, length, Ok, Err, append_assoc, refl, sym, ap, subst, ◌∙◌}
 use Rattle.dwarf_base.specs.declared.common.Encoding.{Encoding}
-use Rattle.dwarf_base.specs.Faults.{Fault, UnexpectedEof, InvalidExpression, ◌>>=◌}
+use Rattle.dwarf_base.specs.Faults.{Fault, past_the_end, invalid_expression, ◌>>=◌}
 use Rattle.dwarf_base.specs.Fronts.{Begins}
 use Rattle.dwarf_base.specs.Reads.{split_at, Text}
 use Rattle.dwarf_meaning.specs.Operations.{Operation}
@@ -108,7 +108,7 @@ operands_refuse context row bytes fault (spelling.signed_after form next first o
     ap (λ (r : Reading ℤ). r >>= λ x. operands_at context (next x.0) x.1) ((reads_integer context.is_big form).gives first value others s)
     ∙ operands_refuse context (next value) others fault r
 operands_refuse context row bytes fault (spelling.block_here size next bytes' less) =
-    ap (λ (r : Reading (List ℕ)). r >>= λ x. operands_at context (next (block_of context x.0)) x.1) ((reads_block size).refuses bytes UnexpectedEof (few size bytes less))
+    ap (λ (r : Reading (List ℕ)). r >>= λ x. operands_at context (next (block_of context x.0)) x.1) ((reads_block size).refuses bytes past_the_end (few size bytes less))
 operands_refuse context row bytes fault (spelling.block_after next first others fault' r) =
     ap (λ (r : Reading (List ℕ)). r >>= λ x. operands_at context (next (block_of context x.0)) x.1) ((reads_block (length first)).gives first first others (block first))
     ∙ operands_refuse context (next (block_of context first)) others fault r
@@ -143,10 +143,10 @@ operands_refused context (Block size next) bytes fault h =
           subst (λ (bs : List ℕ). MalformedOperands context (Block size next) bs fault) s.whole (block_refused_after context size next s.front w.value w.left fault s.spells (operands_refused context (next (block_of context w.value)) w.left fault w.more))
     ]
 operands_refused context (Invalid opcode) bytes fault h =
-    let same : InvalidExpression opcode ≡ fault = cc in
+    let same : invalid_expression opcode ≡ fault = cc in
     subst (MalformedOperands context (Invalid opcode) bytes) same (spelling.invalid opcode bytes)
 
-operands_cut_off : (context : Context) (row : Row) (bytes : List ℕ) (op : Operation) → SpellsOperands context row bytes op → (before : List ℕ) (byte : ℕ) (after : List ℕ) → before ++ (byte ∷ after) ≡ bytes → operands_at context row before ≡ Err UnexpectedEof
+operands_cut_off : (context : Context) (row : Row) (bytes : List ℕ) (op : Operation) → SpellsOperands context row bytes op → (before : List ℕ) (byte : ℕ) (after : List ℕ) → before ++ (byte ∷ after) ≡ bytes → operands_at context row before ≡ Err past_the_end
 operands_cut_off context row bytes op (spelling.makes made) before byte after e = absurd (nothing_has before byte after (sym e))
 operands_cut_off context row bytes op (spelling.unsigned form next first others value made here there) before byte after e =
     let step = λ (r : Reading ℕ). r >>= λ x. operands_at context (next x.0) x.1 in
@@ -200,10 +200,10 @@ module _ (encoding : Encoding) (bits : ℕ) (big : Bool) where
 
   operation_refused : (bytes : List ℕ) (fault : Fault) → operation_at encoding bits (text bytes) ≡ Err fault → Malformed encoding bits big bytes fault
   unfolding operation_at
-  operation_refused [] fault h = let same : UnexpectedEof ≡ fault = cc in subst (Malformed encoding bits big []) same spelling.no_opcode
+  operation_refused [] fault h = let same : past_the_end ≡ fault = cc in subst (Malformed encoding bits big []) same spelling.no_opcode
   operation_refused (opcode ∷ bytes) fault h = spelling.bad_operands opcode bytes fault (operands_refused (context_of encoding bits big) (row_of encoding opcode) bytes fault h)
 
-  operation_cut : (bytes : List ℕ) (op : Operation) → Spells encoding bits big bytes op → (before : List ℕ) (byte : ℕ) (after : List ℕ) → before ++ (byte ∷ after) ≡ bytes → operation_at encoding bits (text before) ≡ Err UnexpectedEof
+  operation_cut : (bytes : List ℕ) (op : Operation) → Spells encoding bits big bytes op → (before : List ℕ) (byte : ℕ) (after : List ℕ) → before ++ (byte ∷ after) ≡ bytes → operation_at encoding bits (text before) ≡ Err past_the_end
   unfolding operation_at
   operation_cut bytes op (spelling.spelled opcode bytes' op' s) [] byte after e = refl
   operation_cut bytes op (spelling.spelled opcode bytes' op' s) (x ∷ before) byte after e =

@@ -4,7 +4,7 @@ use Rattle.std.proofs.lemmas.Bool.{cases_lt}
 use Rattle.std.proofs.lemmas.Bool.Decides.{nat_tests}
 use Rattle.std.proofs.lemmas.List.{take-append-drop}
 use Rattle.std.proofs.Math.Seq.{take-append_seam, drop-append_seam}
-use Rattle.dwarf_base.specs.Faults.{Fault, UnexpectedEof, ◌>>=◌}
+use Rattle.dwarf_base.specs.Faults.{Fault, past_the_end, ◌>>=◌}
 use Rattle.dwarf_base.specs.Fronts.{Begins}
 use Rattle.dwarf_base.specs.Reads.{split_at}
 
@@ -16,7 +16,7 @@ pub record ReadsExactly {A : Type 0} (read : List ℕ → Reading A) (Spelling :
   pub found : (bytes : List ℕ) (value : A) (rest : List ℕ) → read bytes ≡ Ok (value, rest) → Begins Spelling bytes value rest
   pub refuses : (bytes : List ℕ) (fault : Fault) → Refusal bytes fault → read bytes ≡ Err fault
   pub refused : (bytes : List ℕ) (fault : Fault) → read bytes ≡ Err fault → Refusal bytes fault
-  pub cut_off : (before : List ℕ) (byte : ℕ) (after : List ℕ) (value : A) → Spelling (before ++ (byte ∷ after)) value → read before ≡ Err UnexpectedEof
+  pub cut_off : (before : List ℕ) (byte : ℕ) (after : List ℕ) (value : A) → Spelling (before ++ (byte ∷ after)) value → read before ≡ Err past_the_end
 
 pub pair_same : {A : Type 0} (a b : A) (r s : List ℕ) → ◌≡◌ {A = Reading A} (Ok (a, r)) (Ok (b, s)) → (a ≡ b) × (r ≡ s)
 pair_same {A} a b r s h =
@@ -102,7 +102,7 @@ module _ {A B : Type 0} (read : List ℕ → Reading A) (S : List ℕ → A → 
             subst (λ (bs : List ℕ). Fails S Q check bs fault) f.whole (unfit f.front w.left w.value fault f.spells bad)
       ]
 
-  checked_cut_off : (before : List ℕ) (byte : ℕ) (after : List ℕ) (b : B) → Passes S check (before ++ (byte ∷ after)) b → checked_read read check before ≡ Err UnexpectedEof
+  checked_cut_off : (before : List ℕ) (byte : ℕ) (after : List ℕ) (b : B) → Passes S check (before ++ (byte ∷ after)) b → checked_read read check before ≡ Err past_the_end
   checked_cut_off before byte after b (passes bytes a b' s e) =
       ap (λ (r : Reading A). r >>= λ x. check x.0 >>= λ b. Ok (b, x.1)) (h.cut_off before byte after a s)
 
@@ -115,18 +115,18 @@ pub data SpellsBlock : ℕ → List ℕ → List ℕ → Type 0 where
   block : (bytes : List ℕ) → SpellsBlock (length bytes) bytes bytes
 
 pub data RefusesBlock : ℕ → List ℕ → Fault → Type 0 where
-  few : (size : ℕ) (bytes : List ℕ) → length bytes < size → RefusesBlock size bytes UnexpectedEof
+  few : (size : ℕ) (bytes : List ℕ) → length bytes < size → RefusesBlock size bytes past_the_end
 
 split_long : (size : ℕ) (bytes : List ℕ) → size ≤ length bytes → split_at size bytes ≡ Ok (take size bytes, drop size bytes)
 split_long size bytes h =
     let e : nat_lt (length bytes) size ≡ false = grind (arith, nat_tests) in
-    let after : Bool → Reading (List ℕ) = λ short. cond short (Err UnexpectedEof) (Ok (take size bytes, drop size bytes)) in
+    let after : Bool → Reading (List ℕ) = λ short. cond short (Err past_the_end) (Ok (take size bytes, drop size bytes)) in
     ap after e
 
-split_short : (size : ℕ) (bytes : List ℕ) → length bytes < size → split_at size bytes ≡ Err UnexpectedEof
+split_short : (size : ℕ) (bytes : List ℕ) → length bytes < size → split_at size bytes ≡ Err past_the_end
 split_short size bytes h =
     let e : nat_lt (length bytes) size ≡ true = grind (arith, nat_tests) in
-    let after : Bool → Reading (List ℕ) = λ short. cond short (Err UnexpectedEof) (Ok (take size bytes, drop size bytes)) in
+    let after : Bool → Reading (List ℕ) = λ short. cond short (Err past_the_end) (Ok (take size bytes, drop size bytes)) in
     ap after e
 
 block_gives : (size : ℕ) (front found rest : List ℕ) → SpellsBlock size front found → split_at size (front ++ rest) ≡ Ok (found, rest)
@@ -157,12 +157,12 @@ block_refused : (size : ℕ) (bytes : List ℕ) (fault : Fault) → split_at siz
 block_refused size bytes fault h =
     elim (cases_lt (length bytes) size) [
       | inl less ↦
-          let e : UnexpectedEof ≡ fault = cc (split_short size bytes less) in
+          let e : past_the_end ≡ fault = cc (split_short size bytes less) in
           subst (RefusesBlock size bytes) e (few size bytes less)
       | inr enough ↦ absurd (cc (split_long size bytes enough))
     ]
 
-block_cut_off : (size : ℕ) (before : List ℕ) (byte : ℕ) (after found : List ℕ) → SpellsBlock size (before ++ (byte ∷ after)) found → split_at size before ≡ Err UnexpectedEof
+block_cut_off : (size : ℕ) (before : List ℕ) (byte : ℕ) (after found : List ℕ) → SpellsBlock size (before ++ (byte ∷ after)) found → split_at size before ≡ Err past_the_end
 block_cut_off size before byte after found (block bytes) = split_short (length (before ++ (byte ∷ after))) before (omega (arith, length-append before (byte ∷ after)))
 
 pub reads_block : (size : ℕ) → ReadsExactly (split_at size) (SpellsBlock size) (RefusesBlock size)

@@ -61,7 +61,7 @@ module _ (encoding : Encoding) (bits : ℕ) (big : Bool) where
   -- the items of a splitting
   pub splitting_items : (bytes : List ℕ) (ops : List Operation) (fault : Option Fault) → Splitting encoding bits big bytes ops fault → items_at encoding bits (text bytes) ≡ items_of ops fault
   splitting_items bytes ops fault splitting.ends = items_end
-  splitting_items bytes ops fault (splitting.stops byte bytes' fault' r) = items_err byte bytes' fault' ((reads_operation encoding bits big).refuses (byte ∷ bytes') fault' r)
+  splitting_items bytes ops fault (splitting.faults byte bytes' fault' r) = items_err byte bytes' fault' ((reads_operation encoding bits big).refuses (byte ∷ bytes') fault' r)
   splitting_items bytes ops fault (splitting.goes_on front rest op ops' fault' s more) =
       items_ok (front ++ rest) op rest (spelled_operation encoding bits big front op rest s) ∙ ap (λ (items : Items). Ok op ∷ items) (splitting_items rest ops' fault' more)
 
@@ -71,7 +71,7 @@ module _ (encoding : Encoding) (bits : ℕ) (big : Bool) where
     splits : Splitting encoding bits big bytes ops fault
 
   split_after : (byte : ℕ) (bytes : List ℕ) → ((rest : List ℕ) → length rest < length (byte ∷ bytes) → SomeSplitting rest) → (r : Reading Operation) → operation_at encoding bits (text (byte ∷ bytes)) ≡ r → SomeSplitting (byte ∷ bytes)
-  split_after byte bytes behind (Err fault) e = record { ops = []; fault = Some fault; splits = splitting.stops byte bytes fault ((reads_operation encoding bits big).refused (byte ∷ bytes) fault e) }
+  split_after byte bytes behind (Err fault) e = record { ops = []; fault = Some fault; splits = splitting.faults byte bytes fault ((reads_operation encoding bits big).refused (byte ∷ bytes) fault e) }
   split_after byte bytes behind (Ok x) e =
       let b = operation_begins encoding bits (text (byte ∷ bytes)) x.0 x.1 e in
       let more = behind x.1 (operation_shortens encoding bits (text (byte ∷ bytes)) x.0 x.1 e) in
@@ -89,7 +89,7 @@ module _ (encoding : Encoding) (bits : ℕ) (big : Bool) where
 
   few_items : (bytes : List ℕ) (ops : List Operation) (fault : Option Fault) → Splitting encoding bits big bytes ops fault → length (items_of ops fault) ≤ length bytes
   few_items bytes ops fault splitting.ends = omega arith
-  few_items bytes ops fault (splitting.stops byte bytes' fault' r) = omega arith
+  few_items bytes ops fault (splitting.faults byte bytes' fault' r) = omega arith
   few_items bytes ops fault (splitting.goes_on front rest op ops' fault' s more) =
       let some : 0 < length front = (whole_operation encoding bits big front op s).some_bytes in
       let less : length (items_of ops' fault') ≤ length rest = few_items rest ops' fault' more in
@@ -97,7 +97,7 @@ module _ (encoding : Encoding) (bits : ℕ) (big : Bool) where
 
   whole_splitting : (bytes : List ℕ) (ops : List Operation) (fault : Option Fault) → Splitting encoding bits big bytes ops fault → fault ≡ None → Joined encoding bits big bytes ops
   whole_splitting bytes ops fault splitting.ends e = splitting.none
-  whole_splitting bytes ops fault (splitting.stops byte bytes' fault' r) e = absurd cc
+  whole_splitting bytes ops fault (splitting.faults byte bytes' fault' r) e = absurd cc
   whole_splitting bytes ops fault (splitting.goes_on front rest op ops' fault' s more) e = splitting.one_more front rest op ops' s (whole_splitting rest ops' fault' more e)
 
   joined_splits : (bytes : List ℕ) (ops : List Operation) → Joined encoding bits big bytes ops → Splitting encoding bits big bytes ops None

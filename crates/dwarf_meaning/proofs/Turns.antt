@@ -1,7 +1,8 @@
 -- Enough turns are enough: a run is one turn, and then a run again.
 use Rattle.std.proofs.Common.{ℕ, zero, suc, ◌≡◌, ◌+◌, ◌-◌, ◌*◌, ◌≤◌, ◌<◌, Bool, true, false, List, [], ◌∷◌, length, Result, Ok, Err, arith, ap, ◌∙◌, sym, refl, subst, ◌==◌}
 use Rattle.std.proofs.lemmas.Bool.Decides.{nat_tests}
-use Rattle.dwarf_base.specs.Faults.{Fault, TooManyIterations}
+use Rattle.dwarf_base.specs.Faults.{Fault}
+use Rattle.dwarf_base.specs.declared.errors.Error.TheVariants.{TooManyIterations}
 use Rattle.dwarf_base.specs.Reads.{Text}
 use Rattle.dwarf_meaning.specs.Operations.{Operation}
 use Rattle.dwarf_meaning.specs.Locations.{Location}
@@ -212,29 +213,29 @@ module _ (go other : Continues) (m : ℕ) (alike : Alike m go other) (lowers : L
 
 -- where no turn is left the runs are over, however they would go on
 module _ (go other : Continues) where
-  stops_counts : (setup : Setup) (text : Text) (place depth : ℕ) (s : Store) (inputs : List Input) → turns_left s ≤ 0 → turn_counted go setup text place depth s inputs ≡ turn_counted other setup text place depth s inputs
-  stops_counts setup text place depth s inputs h =
+  counted_out_of_turns : (setup : Setup) (text : Text) (place depth : ℕ) (s : Store) (inputs : List Input) → turns_left s ≤ 0 → turn_counted go setup text place depth s inputs ≡ turn_counted other setup text place depth s inputs
+  counted_out_of_turns setup text place depth s inputs h =
       let no : can_count s ≡ false = grind (arith, nat_tests) in
       choose_false (can_count s) _ _ no ∙ sym (choose_false (can_count s) _ _ no)
 
-  stops_by : (setup : Setup) (text : Text) (place depth : ℕ) (s : Store) (inputs : List Input) (last : Last) → waits_of s.last ≡ waits_of last → turns_left s ≤ 0 → turn_by go setup text place depth s inputs last ≡ turn_by other setup text place depth s inputs last
-  stops_by setup text place depth s inputs (Located location) e h = absurd (omega (arith, e, h))
-  stops_by setup text place depth s inputs Nothing e h = stops_counts setup text place depth s inputs h
-  stops_by setup text place depth s inputs Plain e h = stops_counts setup text place depth s inputs h
-  stops_by setup text place depth s inputs Pieced e h = stops_counts setup text place depth s inputs h
-  stops_by setup text place depth s inputs Pushed e h = stops_counts setup text place depth s inputs h
-  stops_by setup text place depth s inputs Called e h = stops_counts setup text place depth s inputs h
+  turn_by_out_of_turns : (setup : Setup) (text : Text) (place depth : ℕ) (s : Store) (inputs : List Input) (last : Last) → waits_of s.last ≡ waits_of last → turns_left s ≤ 0 → turn_by go setup text place depth s inputs last ≡ turn_by other setup text place depth s inputs last
+  turn_by_out_of_turns setup text place depth s inputs (Located location) e h = absurd (omega (arith, e, h))
+  turn_by_out_of_turns setup text place depth s inputs Nothing e h = counted_out_of_turns setup text place depth s inputs h
+  turn_by_out_of_turns setup text place depth s inputs Plain e h = counted_out_of_turns setup text place depth s inputs h
+  turn_by_out_of_turns setup text place depth s inputs Pieced e h = counted_out_of_turns setup text place depth s inputs h
+  turn_by_out_of_turns setup text place depth s inputs Pushed e h = counted_out_of_turns setup text place depth s inputs h
+  turn_by_out_of_turns setup text place depth s inputs Called e h = counted_out_of_turns setup text place depth s inputs h
 
-  stops_turn : (setup : Setup) (text : Text) (place depth : ℕ) (s : Store) (inputs : List Input) → turns_left s ≤ 0 → turn go setup text place depth s inputs ≡ turn other setup text place depth s inputs
-  stops_turn setup text place depth s inputs h =
-      ap (choose (place == length text.bytes) (only_end (CompleteEnd s inputs))) (stops_by setup text place depth s inputs s.last refl h)
+  turn_out_of_turns : (setup : Setup) (text : Text) (place depth : ℕ) (s : Store) (inputs : List Input) → turns_left s ≤ 0 → turn go setup text place depth s inputs ≡ turn other setup text place depth s inputs
+  turn_out_of_turns setup text place depth s inputs h =
+      ap (choose (place == length text.bytes) (only_end (CompleteEnd s inputs))) (turn_by_out_of_turns setup text place depth s inputs s.last refl h)
 
 -- two numbers of turns that are enough give one course
 pub run_for-enough : (n m : ℕ) (setup : Setup) (text : Text) (place depth : ℕ) (s : Store) (inputs : List Input) → turns_left s ≤ n → turns_left s ≤ m → run_for n setup text place depth s inputs ≡ run_for m setup text place depth s inputs
 unfolding run_for
 run_for-enough zero zero setup text place depth s inputs h i = refl
-run_for-enough zero (suc m) setup text place depth s inputs h i = stops_turn out_of_turns (run_for m setup) setup text place depth s inputs h
-run_for-enough (suc n) zero setup text place depth s inputs h i = stops_turn (run_for n setup) out_of_turns setup text place depth s inputs i
+run_for-enough zero (suc m) setup text place depth s inputs h i = turn_out_of_turns out_of_turns (run_for m setup) setup text place depth s inputs h
+run_for-enough (suc n) zero setup text place depth s inputs h i = turn_out_of_turns (run_for n setup) out_of_turns setup text place depth s inputs i
 run_for-enough (suc n) (suc m) setup text place depth s inputs h i =
     alike_turn (run_for n setup) (run_for m setup) (turns_left s - 1)
     (λ text place depth t inputs le. run_for-enough n m setup text place depth t inputs (omega (arith, h, le)) (omega (arith, i, le)))

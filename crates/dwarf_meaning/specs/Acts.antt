@@ -1,7 +1,8 @@
 -- What each operation does with the stack, apart from the lists' limits (DWARF 5, sections 2.5.1 and 2.6.1).
 use Rattle.std.specs.Prelude.{ℕ, ◌*◌, ℤ, ◌==◌, pos, ◌+ℤ◌, Bool, true, false, List, [], ◌∷◌, Option, Some, None, Result, Ok, Err, nat_lt, slice_get}
 use Rattle.dwarf_base.specs.declared.errors.Error.{Error}
-use Rattle.dwarf_base.specs.Faults.{Fault, fault_of, NotEnoughStackItems, InvalidDerefSize, InvalidPushObjectAddress, UnsupportedEvaluation}
+use Rattle.dwarf_base.specs.Faults.{Fault, fault_of}
+use Rattle.dwarf_base.specs.declared.errors.Error.TheVariants.{NotEnoughStackItems, InvalidDerefSize, InvalidPushObjectAddress, UnsupportedEvaluation}
 use Rattle.dwarf_base.specs.Numbers.{residue}
 use Rattle.dwarf_base.specs.Reads.{Text}
 use Rattle.dwarf_value.specs.declared.types.Value.{Value}

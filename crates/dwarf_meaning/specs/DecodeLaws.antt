@@ -1,7 +1,8 @@
 -- Laws of spelling, of malformed bytes and of splitting (DWARF 5, sections 2.5 and 7.7.1).
 use Rattle.std.specs.Prelude.{ℕ, ◌<◌, ◌≤◌, ◌≡◌, ◌⊎◌, ◌↔◌, Bool, List, ◌∷◌, ◌++◌, Ok, Err, Option, None, length}
 use Rattle.dwarf_base.specs.declared.common.Encoding.{Encoding}
-use Rattle.dwarf_base.specs.Faults.{Fault, UnexpectedEof, BadUnsignedLeb128, BadSignedLeb128, UnsupportedAddressSize, UnsupportedOffset, UnsupportedRegister, InvalidExpression, InvalidPieceSize}
+use Rattle.dwarf_base.specs.Faults.{Fault, past_the_end}
+use Rattle.dwarf_base.specs.declared.errors.Error.TheVariants.{UnexpectedEof, BadUnsignedLeb128, BadSignedLeb128, UnsupportedAddressSize, UnsupportedOffset, UnsupportedRegister, InvalidExpression, InvalidPieceSize}
 use Rattle.dwarf_base.specs.Fronts.{Begins}
 use Rattle.dwarf_base.specs.Reads.{Text}
 use Rattle.dwarf_meaning.specs.Operations.{Operation}
@@ -35,7 +36,7 @@ pub record IsWhole (encoding : Encoding) (offset_bits : ℕ) (is_big : Bool) (by
   pub whatever_follows : (rest : List ℕ)
       → operation_at encoding offset_bits (record { bytes = bytes ++ rest; is_big = is_big }) ≡ Ok (op, rest)
   pub cut_off : (before : List ℕ) (byte : ℕ) (after : List ℕ) → before ++ (byte ∷ after) ≡ bytes
-      → Malformed encoding offset_bits is_big before UnexpectedEof
+      → Malformed encoding offset_bits is_big before past_the_end
 
 -- a list of bytes has one splitting
 pub record SplitsOnce (encoding : Encoding) (offset_bits : ℕ) (is_big : Bool) (bytes : List ℕ) : Type 0 where
@@ -58,7 +59,7 @@ pub record IsSplitting (encoding : Encoding) (offset_bits : ℕ) (is_big : Bool)
 
 -- the faults that decoding may meet
 abbrev pub IsDecodingFault : Fault → Type 0
-IsDecodingFault UnexpectedEof = Unit {0}
+IsDecodingFault (UnexpectedEof id) = UnexpectedEof id ≡ past_the_end
 IsDecodingFault BadUnsignedLeb128 = Unit {0}
 IsDecodingFault BadSignedLeb128 = Unit {0}
 IsDecodingFault (UnsupportedAddressSize size) = Unit {0}

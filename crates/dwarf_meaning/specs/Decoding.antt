@@ -1,7 +1,7 @@
 -- The operation at the front of a text and the bytes behind it, or the fault (DWARF 5, sections 7.6 and 7.7.1).
 use Rattle.std.specs.Prelude.{ℕ, ℤ, Bool, List, Result, Ok, Err}
 use Rattle.dwarf_base.specs.declared.common.Encoding.{Encoding}
-use Rattle.dwarf_base.specs.Faults.{Fault, InvalidExpression, ◌>>=◌}
+use Rattle.dwarf_base.specs.Faults.{Fault, invalid_expression, ◌>>=◌}
 use Rattle.dwarf_base.specs.Leb.{uleb_at, sleb_at}
 use Rattle.dwarf_base.specs.Reads.{u8_at, fixed_at, signed_at, address_at, split_at, Text}
 use Rattle.dwarf_meaning.specs.Operations.{Operation}
@@ -33,7 +33,7 @@ operands_at context (Signed form next) bytes =
     integer_at context.is_big form bytes >>= λ x. operands_at context (next x.0) x.1
 operands_at context (Block size next) bytes =
     split_at size bytes >>= λ x. operands_at context (next (block_of context x.0)) x.1
-operands_at context (Invalid opcode) bytes = Err (InvalidExpression opcode)
+operands_at context (Invalid opcode) bytes = Err (invalid_expression opcode)
 
 -- an opcode and the operands of its row
 unfoldable pub operation_at : Encoding → (offset_bits : ℕ) → Text → Result (Operation × List ℕ) Fault

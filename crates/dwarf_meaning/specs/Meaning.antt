@@ -1,6 +1,7 @@
 -- The meaning of an expression, for the settings and the answers of its caller (DWARF 5, sections 2.5, 2.6.1.1 and 2.6.1.2).
 use Rattle.std.specs.Prelude.{Bool, true, false, ℕ, List, [], ◌∷◌, ◌++◌, Option, Some, None, Result, Ok, Err, length}
-use Rattle.dwarf_base.specs.Faults.{Fault, InvalidPiece, NotEnoughStackItems}
+use Rattle.dwarf_base.specs.Faults.{Fault}
+use Rattle.dwarf_base.specs.declared.errors.Error.TheVariants.{InvalidPiece, NotEnoughStackItems}
 use Rattle.dwarf_base.specs.Reads.{Text}
 use Rattle.dwarf_value.specs.declared.types.Value.{Value}
 use Rattle.dwarf_value.specs.declared.types.Value.TheVariants.{Generic}
@@ -8,7 +9,7 @@ use Rattle.dwarf_value.specs.Values.{to_u64_of}
 use Rattle.dwarf_meaning.specs.Locations.{Location, AtAddress, Piece}
 use Rattle.dwarf_meaning.specs.Requests.{Request, Input}
 use Rattle.dwarf_meaning.specs.Acts.{choose, on_top}
-use Rattle.dwarf_meaning.specs.Stores.{Setup, address_bits, Store, Last, Nothing, Plain, Pieced, Pushed, Called, Located, push_value, push_piece}
+use Rattle.dwarf_meaning.specs.Stores.{Setup, address_bits, Store, Last, Nothing, Plain, Pushed, Located, push_value, push_piece}
 use Rattle.dwarf_meaning.specs.Run.{Position, End, CompleteEnd, RequestEnd, FaultEnd, Course, only_end, run}
 use Rattle.dwarf_meaning.specs.Refusals.{Refusal}
 
@@ -58,9 +59,7 @@ abbrev pub finish_by : Setup → Store → Last → Outcome
 finish_by setup s (Located location) = finish_located setup location s
 finish_by setup s Plain = finish_judged setup s
 finish_by setup s Pushed = finish_judged setup s
-finish_by setup s Nothing = finish_free setup s
-finish_by setup s Pieced = finish_free setup s
-finish_by setup s Called = finish_free setup s
+finish_by setup s _ = finish_free setup s
 
 -- the end of the outermost text
 abbrev pub finish : Setup → Store → Outcome

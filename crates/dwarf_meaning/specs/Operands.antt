@@ -1,7 +1,8 @@
 -- Operands of operations: how their bytes are laid out, and which values they may have (DWARF 5, section 7.7.1).
 use Rattle.std.specs.Prelude.{ℕ, ◌*◌, ◌^◌, ◌==◌, nat_lt, Bool, List, Result, Ok, Err, if◌then◌else◌}
 use Rattle.dwarf_base.specs.declared.common.Encoding.{Encoding}
-use Rattle.dwarf_base.specs.Faults.{Fault, BadUnsignedLeb128, InvalidPieceSize}
+use Rattle.dwarf_base.specs.Faults.{Fault}
+use Rattle.dwarf_base.specs.declared.errors.Error.TheVariants.{BadUnsignedLeb128, InvalidPieceSize}
 use Rattle.dwarf_base.specs.Numbers.{offset_of, register_of}
 use Rattle.dwarf_base.specs.Reads.{offset_size, Text}
 

@@ -1,6 +1,7 @@
 -- The limits of the lists, and which push is refused without one.
 use Rattle.std.specs.Prelude.{ℕ, zero, suc, ◌≡◌, ◌⊎◌, nat_lt, Option, None, Some, Result, Ok, Err}
-use Rattle.dwarf_base.specs.Faults.{Fault, StackFull}
+use Rattle.dwarf_base.specs.Faults.{Fault}
+use Rattle.dwarf_base.specs.declared.errors.Error.TheVariants.{StackFull}
 use Rattle.dwarf_meaning.specs.Acts.{choose}
 
 -- how many items each list holds at most, where there is such a number

@@ -1,6 +1,7 @@
 -- A run of an expression, in which a called expression is run in its call's place (DWARF 5, section 2.5).
 use Rattle.std.specs.Prelude.{Bool, ℕ, zero, suc, ◌+◌, ◌-◌, ◌*◌, List, [], ◌∷◌, ◌++◌, Option, Some, None, Result, Ok, Err, length, drop, nat_lt, ◌&&◌, ◌==◌}
-use Rattle.dwarf_base.specs.Faults.{Fault, InvalidExpressionTerminator, TooManyIterations}
+use Rattle.dwarf_base.specs.Faults.{Fault}
+use Rattle.dwarf_base.specs.declared.errors.Error.TheVariants.{InvalidExpressionTerminator, TooManyIterations}
 use Rattle.dwarf_base.specs.Reads.{Text}
 use Rattle.dwarf_meaning.specs.Operations as operation
 use Rattle.dwarf_meaning.specs.Operations.{Operation}
@@ -8,7 +9,7 @@ use Rattle.dwarf_meaning.specs.Locations.{Location}
 use Rattle.dwarf_meaning.specs.Decoding.{operation_at}
 use Rattle.dwarf_meaning.specs.Requests.{Request, Waiting, Input}
 use Rattle.dwarf_meaning.specs.Acts.{choose, act, Use, PushesAnswer, Calls, FaultUse, WrongKind, use_of}
-use Rattle.dwarf_meaning.specs.Stores.{Setup, address_bits, Store, Last, Nothing, Plain, Pieced, Pushed, Called, Located, push_value, push_piece, push_caller, Next, Goes, RequestNext, FaultNext, goes, done}
+use Rattle.dwarf_meaning.specs.Stores.{Setup, address_bits, Store, Last, Pieced, Pushed, Called, Located, push_value, push_piece, push_caller, Next, Goes, RequestNext, FaultNext, goes, done}
 use Rattle.dwarf_meaning.specs.Refusals.{taken}
 
 -- a text and a place in it
@@ -101,7 +102,7 @@ read setup text place = operation_at setup.encoding setup.offset_bits (record { 
 
 -- ---- a turn at an operation that is counted
 
--- no run counts more
+-- the maximum that holds where none is set; no run counts more
 unfoldable pub most : ℕ
 most = 4294967295
 
@@ -152,11 +153,7 @@ turn_located go setup text depth location s inputs (Err fault) = only_end (Fault
 -- a turn by the last operation: behind a location, or one that is counted
 abbrev pub turn_by : Continues → Setup → Text → (place depth : ℕ) → Store → List Input → Last → Course
 turn_by go setup text place depth s inputs (Located location) = turn_located go setup text depth location s inputs (read setup text place)
-turn_by go setup text place depth s inputs Nothing = turn_counted go setup text place depth s inputs
-turn_by go setup text place depth s inputs Plain = turn_counted go setup text place depth s inputs
-turn_by go setup text place depth s inputs Pieced = turn_counted go setup text place depth s inputs
-turn_by go setup text place depth s inputs Pushed = turn_counted go setup text place depth s inputs
-turn_by go setup text place depth s inputs Called = turn_counted go setup text place depth s inputs
+turn_by go setup text place depth s inputs _ = turn_counted go setup text place depth s inputs
 
 -- the next operation, or the end of the text
 abbrev pub turn : Continues → Setup → Continues

@@ -1,7 +1,8 @@
 -- Which bytes spell which operation, and which texts are malformed: relations on whole lists of bytes (DWARF 5, sections 7.6 and 7.7.1).
 use Rattle.std.specs.Prelude.{ℕ, ◌*◌, ◌<◌, ◌≡◌, ℤ, Bool, true, false, List, [], ◌∷◌, ◌++◌, Ok, Err, length}
 use Rattle.dwarf_base.specs.declared.common.Encoding.{Encoding}
-use Rattle.dwarf_base.specs.Faults.{Fault, UnexpectedEof, UnsupportedAddressSize, InvalidExpression}
+use Rattle.dwarf_base.specs.Faults.{Fault, past_the_end, invalid_expression}
+use Rattle.dwarf_base.specs.declared.errors.Error.TheVariants.{UnsupportedAddressSize}
 use Rattle.dwarf_base.specs.Leb.{SpellsLeb, MalformedLeb, unsigned_leb, signed_leb}
 use Rattle.dwarf_base.specs.Numbers.{number_of, signed_of}
 use Rattle.dwarf_base.specs.Reads.{is_fixed_size, Text}
@@ -19,9 +20,9 @@ pub data SpellsNumber (big : Bool) : Layout → List ℕ → ℕ → Type 0 wher
 
 -- no front of the bytes spells a number, for this fault
 pub data MalformedNumber (big : Bool) : Layout → List ℕ → Fault → Type 0 where
-  few_bytes : (size : ℕ) (bytes : List ℕ) → length bytes < size → MalformedNumber big (InBytes size) bytes UnexpectedEof
+  few_bytes : (size : ℕ) (bytes : List ℕ) → length bytes < size → MalformedNumber big (InBytes size) bytes past_the_end
   few_address_bytes : (size : ℕ) (bytes : List ℕ) → is_fixed_size size ≡ true → length bytes < size
-      → MalformedNumber big (InAddress size) bytes UnexpectedEof
+      → MalformedNumber big (InAddress size) bytes past_the_end
   address_size : (size : ℕ) (bytes : List ℕ) → is_fixed_size size ≡ false
       → MalformedNumber big (InAddress size) bytes (UnsupportedAddressSize size)
   no_leb128 : (bytes : List ℕ) (fault : Fault) → MalformedLeb unsigned_leb bytes fault
@@ -37,7 +38,7 @@ pub data SpellsInteger (big : Bool) : SignedForm → List ℕ → ℤ → Type 0
 -- no front of the bytes spells a signed number, for this fault
 pub data MalformedInteger (big : Bool) : SignedForm → List ℕ → Fault → Type 0 where
   few_signed_bytes : (size : ℕ) (bytes : List ℕ) → length bytes < size
-      → MalformedInteger big (SignedFixed size) bytes UnexpectedEof
+      → MalformedInteger big (SignedFixed size) bytes past_the_end
   no_signed_leb128 : (bytes : List ℕ) (fault : Fault) → MalformedLeb signed_leb bytes fault
       → MalformedInteger big SignedLeb128 bytes fault
 
@@ -71,7 +72,7 @@ pub data SpellsOperands (context : Context) : Row → List ℕ → Operation →
 
 -- The first of a row's operands that isn't allowed has this fault: those before it are spelled, and it is malformed.
 pub data MalformedOperands (context : Context) : Row → List ℕ → Fault → Type 0 where
-  invalid : (opcode : ℕ) (bytes : List ℕ) → MalformedOperands context (Invalid opcode) bytes (InvalidExpression opcode)
+  invalid : (opcode : ℕ) (bytes : List ℕ) → MalformedOperands context (Invalid opcode) bytes (invalid_expression opcode)
   unsigned_here : (form : Form) (next : ℕ → Row) (bytes : List ℕ) (fault : Fault)
       → MalformedUnsigned context form bytes fault → MalformedOperands context (Unsigned form next) bytes fault
   unsigned_after : (form : Form) (next : ℕ → Row) (front rest : List ℕ) (value : ℕ) (fault : Fault)
@@ -83,7 +84,7 @@ pub data MalformedOperands (context : Context) : Row → List ℕ → Fault → 
       → SpellsInteger context.is_big form front value → MalformedOperands context (next value) rest fault
       → MalformedOperands context (Signed form next) (front ++ rest) fault
   block_here : (size : ℕ) (next : Text → Row) (bytes : List ℕ) → length bytes < size
-      → MalformedOperands context (Block size next) bytes UnexpectedEof
+      → MalformedOperands context (Block size next) bytes past_the_end
   block_after : (next : Text → Row) (front rest : List ℕ) (fault : Fault)
       → MalformedOperands context (next (block_of context front)) rest fault
       → MalformedOperands context (Block (length front) next) (front ++ rest) fault
@@ -96,7 +97,7 @@ pub data Spells (encoding : Encoding) (offset_bits : ℕ) (is_big : Bool) : List
 
 -- no front of the bytes spells an operation, for this fault
 pub data Malformed (encoding : Encoding) (offset_bits : ℕ) (is_big : Bool) : List ℕ → Fault → Type 0 where
-  no_opcode : Malformed encoding offset_bits is_big [] UnexpectedEof
+  no_opcode : Malformed encoding offset_bits is_big [] past_the_end
   bad_operands : (opcode : ℕ) (bytes : List ℕ) (fault : Fault)
       → MalformedOperands (context_of encoding offset_bits is_big) (row_of encoding opcode) bytes fault
       → Malformed encoding offset_bits is_big (opcode ∷ bytes) fault

@@ -10,7 +10,7 @@ use Rattle.dwarf_meaning.specs.Spelling.{Spells, Malformed}
 -- Operations whose spellings, joined, are the bytes; or, with a fault, a front of them, behind which they are malformed.
 pub data Splitting (encoding : Encoding) (offset_bits : ℕ) (is_big : Bool) : List ℕ → List Operation → Option Fault → Type 0 where
   ends : Splitting encoding offset_bits is_big [] [] None
-  stops : (byte : ℕ) (bytes : List ℕ) (fault : Fault) → Malformed encoding offset_bits is_big (byte ∷ bytes) fault
+  faults : (byte : ℕ) (bytes : List ℕ) (fault : Fault) → Malformed encoding offset_bits is_big (byte ∷ bytes) fault
       → Splitting encoding offset_bits is_big (byte ∷ bytes) [] (Some fault)
   goes_on : (front rest : List ℕ) (op : Operation) (ops : List Operation) (fault : Option Fault)
       → Spells encoding offset_bits is_big front op → Splitting encoding offset_bits is_big rest ops fault

@@ -6,6 +6,7 @@ use Rattle.dwarf_meaning.specs.Requests.{Request, Answer, Input}
 use Rattle.dwarf_meaning.specs.Kinds.{kind_of_request, kind_of_answer}
 use Rattle.dwarf_meaning.specs.Stores.{Setup}
 use Rattle.dwarf_meaning.specs.Meaning.{Outcome, RequestOutcome, FaultOutcome, CompleteOutcome, First, meaning}
+use Rattle.dwarf_meaning.specs.Run.{most}
 use Rattle.dwarf_meaning.specs.Refusals.{Refusal}
 
 -- a setting, the start, or an answer
@@ -25,7 +26,7 @@ pub record Told : Type 0 where
 -- no step was done: nothing is set, and nothing was started
 abbrev pub untold : Told
 untold = record {
-  settings = record { initial_value = None; object_address = None; maximum = 4294967295 };
+  settings = record { initial_value = None; object_address = None; maximum = most };
   first = None;
   inputs = [];
 }
@@ -43,17 +44,14 @@ outcome_of setup refusal text told = outcome_from setup refusal text told.inputs
 
 -- no request is open
 abbrev pub IsEvaluable : Option Outcome → Type 0
-IsEvaluable None = Unit {0}
 IsEvaluable (Some (RequestOutcome request positions)) = ⊥
-IsEvaluable (Some (FaultOutcome fault)) = Unit {0}
-IsEvaluable (Some (CompleteOutcome pieces value)) = Unit {0}
+IsEvaluable _ = Unit {0}
 
 -- a request of the answer's kind is open; after a fault every answer is allowed
 abbrev pub Awaits : Answer → Option Outcome → Type 0
-Awaits answer None = ⊥
 Awaits answer (Some (RequestOutcome request positions)) = kind_of_request request ≡ kind_of_answer answer
 Awaits answer (Some (FaultOutcome fault)) = Unit {0}
-Awaits answer (Some (CompleteOutcome pieces value)) = ⊥
+Awaits answer _ = ⊥
 
 -- it wasn't started, and has no initial value
 pub record IsUntold (told : Told) : Type 0 where

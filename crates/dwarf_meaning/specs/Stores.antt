@@ -1,7 +1,8 @@
 -- What a run keeps beside texts and places, and the rule by which its lists take one more item (DWARF 5, sections 2.5.1, 2.5.1.5 and 2.6.1.2).
 use Rattle.std.specs.Prelude.{ℕ, ◌*◌, ◌≤◌, ℤ, pos, ◌+ℤ◌, List, [], ◌∷◌, ◌++◌, Option, Some, None, Result, Ok, Err, length, nat_lt}
 use Rattle.dwarf_base.specs.declared.common.Encoding.{Encoding}
-use Rattle.dwarf_base.specs.Faults.{Fault, BadBranchTarget, ◌>>=◌}
+use Rattle.dwarf_base.specs.Faults.{Fault, ◌>>=◌}
+use Rattle.dwarf_base.specs.declared.errors.Error.TheVariants.{BadBranchTarget}
 use Rattle.dwarf_base.specs.Numbers.{residue}
 use Rattle.dwarf_value.specs.declared.types.Value.{Value}
 use Rattle.dwarf_meaning.specs.Locations.{Location, Piece}

@@ -1,5 +1,5 @@
 ghost use Rattle.std.specs.Prelude.{◌≡◌, [], ◌∷◌, Some};
-ghost use Rattle.dwarf_base.specs.Faults.{NotEnoughStackItems, BadBranchTarget, TooManyIterations, InvalidPiece, InvalidExpressionTerminator, StackFull};
+ghost use Rattle.dwarf_base.specs.declared.errors.Error.TheVariants.{NotEnoughStackItems, BadBranchTarget, TooManyIterations, InvalidPiece, InvalidExpressionTerminator, StackFull};
 ghost use Rattle.dwarf_value.specs.declared.types.Value.TheVariants.{Generic};
 ghost use Rattle.dwarf_meaning.specs.Operations.{UnitRef};
 ghost use Rattle.dwarf_meaning.specs.Locations.{InRegister, AtAddress};

@@ -109,6 +109,8 @@ wasm_operation wasm_place.Stack index = meaning.WasmStack index
 
 -- the row that a rare entry is
 abbrev pub rare_row : Rare → Row
+rare_row rare_entry.Address = unsigned Address meaning.Address
+rare_row rare_entry.PickByte = unsigned (Fixed 1) meaning.Pick
 rare_row rare_entry.NamedRegister = unsigned RegisterNumber meaning.Register
 rare_row rare_entry.NamedBaseRegister = unsigned_signed RegisterNumber SignedLeb128 (λ register offset. meaning.RegisterOffset register offset 0)
 rare_row rare_entry.TypedRegister = unsigned_two RegisterNumber form.Offset (λ register base_type. meaning.RegisterOffset register (pos 0) base_type)
@@ -126,10 +128,8 @@ entry_row encoding opcode (entry.Plain operation) = Makes (plain_operation opera
 entry_row encoding opcode (entry.Literal number) = Makes (meaning.UnsignedConstant number)
 entry_row encoding opcode (entry.Register register) = Makes (meaning.Register register)
 entry_row encoding opcode (entry.Pick index) = Makes (meaning.Pick index)
-entry_row encoding opcode entry.PickByte = unsigned (Fixed 1) meaning.Pick
 entry_row encoding opcode (entry.Deref space) = Makes (meaning.Deref 0 encoding.address_size space)
 entry_row encoding opcode (entry.DerefSize space) = unsigned (Fixed 1) (λ size. meaning.Deref 0 size space)
-entry_row encoding opcode entry.Address = unsigned Address meaning.Address
 entry_row encoding opcode (entry.Constant shape) = unsigned (unsigned_form shape) meaning.UnsignedConstant
 entry_row encoding opcode entry.PlusConstant = unsigned Leb128 meaning.PlusConstant
 entry_row encoding opcode (entry.SignedConstant shape) = signed (signed_form shape) meaning.SignedConstant

@@ -161,6 +161,12 @@ fn read_rare_operands<R: Reader + Copy>(
         (operands_in encoding R.Offset.BITS (R.text bytes.old) (rare_row entry)) }
 {
     match entry {
+        Rare::Address => Ok(Operation::Address {
+            address: read_address(bytes, encoding.address_size)?,
+        }),
+        Rare::PickByte => Ok(Operation::Pick {
+            index: bytes.read_u8()?,
+        }),
         Rare::NamedRegister => Ok(Operation::Register {
             register: read_register(bytes)?,
         }),
@@ -261,16 +267,10 @@ fn read_operands<R: Reader + Copy>(
             size: encoding.address_size,
             space,
         }),
-        Entry::PickByte => Ok(Operation::Pick {
-            index: bytes.read_u8()?,
-        }),
         Entry::DerefSize(space) => Ok(Operation::Deref {
             base_type: generic_type(),
             size: bytes.read_u8()?,
             space,
-        }),
-        Entry::Address => Ok(Operation::Address {
-            address: read_address(bytes, encoding.address_size)?,
         }),
         Entry::Constant(shape) => Ok(Operation::UnsignedConstant {
             value: read_unsigned(shape, bytes)?,

@@ -143,9 +143,14 @@ pub enum FromBlock {
     EntryValue,
 }
 
-/// What stands behind an opcode that compilers seldom write, and what is made of it.
+/// What stands behind an opcode that few operations have (each of these one in a hundred of real programs, or fewer),
+/// and what is made of it.
 #[derive(Clone, Copy)]
 pub enum Rare {
+    /// An address: `DW_OP_addr`.
+    Address,
+    /// One byte, the index: `DW_OP_pick`.
+    PickByte,
     /// A register: `DW_OP_regx`.
     NamedRegister,
     /// A register and a signed LEB128 number: `DW_OP_bregx`.
@@ -182,14 +187,10 @@ pub enum Entry {
     Register(u8),
     /// No operands; the opcode says the index.
     Pick(u8),
-    /// One byte, the index: `DW_OP_pick`.
-    PickByte,
     /// No operands; the size is an address's. Whether there is an address space.
     Deref(bool),
     /// One byte, the size: `DW_OP_deref_size`, `DW_OP_xderef_size`. Whether there is an address space.
     DerefSize(bool),
-    /// An address: `DW_OP_addr`.
-    Address,
     /// An unsigned number: the constant of `DW_OP_const1u` to `DW_OP_const8u` or `DW_OP_constu`.
     Constant(Unsigned),
     /// An unsigned LEB128 number: `DW_OP_plus_uconst`.
@@ -208,7 +209,7 @@ pub enum Entry {
     BaseRegister(u8),
     /// A size in bytes.
     Piece,
-    /// What compilers seldom write; it is read apart.
+    /// What few operations have; it is read apart.
     Rare(Rare),
 }
 
@@ -219,7 +220,7 @@ pub fn entry_at(opcode: u8) -> Entry
     ensures { (encoding : Encoding) → entry_row encoding opcode result ≡ row_of encoding opcode }
 {
     match opcode {
-        0x03 => Entry::Address, // addr
+        0x03 => Entry::Rare(Rare::Address), // addr
         0x06 => Entry::Deref(false), // deref
         0x08 => Entry::Constant(Unsigned::U8), // const1u
         0x09 => Entry::SignedConstant(Signed::I8), // const1s
@@ -234,7 +235,7 @@ pub fn entry_at(opcode: u8) -> Entry
         0x12 => Entry::Pick(0), // dup
         0x13 => Entry::Plain(Plain::Drop), // drop
         0x14 => Entry::Pick(1), // over
-        0x15 => Entry::PickByte, // pick
+        0x15 => Entry::Rare(Rare::PickByte), // pick
         0x16 => Entry::Plain(Plain::Swap), // swap
         0x17 => Entry::Plain(Plain::Rot), // rot
         0x18 => Entry::Deref(true), // xderef

@@ -5,7 +5,7 @@ use Rattle.dwarf_base.specs.Reads.{Text}
 use Rattle.dwarf_meaning.specs.Kinds.{kind_of_request, kind_of_answer}
 use Rattle.dwarf_meaning.specs.declared.kinds.WaitingKind.{WaitingKind}
 use Rattle.dwarf_meaning.specs.Requests as requests
-use Rattle.dwarf_meaning.specs.Rest.{State, Status, Start, Running, RequestStatus, CompleteStatus, FaultStatus}
+use Rattle.dwarf_meaning.specs.Rest.{State, Status, Start, RequestStatus, FaultStatus}
 use Rattle.dwarf_meaning.specs.Steps as meaning
 use Rattle.dwarf_meaning.specs.Steps.{InitialValue, ObjectAddress, MaxIterations, Evaluate, Resume}
 use Rattle.dwarf_eval.specs.Evaluation.{Evaluates, Resumes, IsClosed, with_object, with_maximum, input_of, with_status}
@@ -34,13 +34,11 @@ step_of text (step.IndexedAddress number) = meaning.Resume (requests.IndexedAnsw
 step_of text (step.AtLocation expression) = meaning.Resume (requests.LocationAnswer (text expression))
 step_of text (step.BaseType value_type) = meaning.Resume (requests.BaseTypeAnswer value_type)
 
--- a request of this kind is open, or the evaluation met a fault
+-- what was asked is answered by this kind, or the evaluation met a fault
 abbrev pub IsInRequestFor : WaitingKind → Status → Type 0
 IsInRequestFor kind (RequestStatus request waiting) = kind_of_request request ≡ kind
 IsInRequestFor kind (FaultStatus error) = Unit {0}
-IsInRequestFor kind (Start initial_value) = ⊥
-IsInRequestFor kind (CompleteStatus value) = ⊥
-IsInRequestFor kind Running = ⊥
+IsInRequestFor kind _ = ⊥
 
 -- the status allows the step
 abbrev pub MayTake : meaning.Step → Status → Type 0
@@ -55,16 +53,13 @@ abbrev pub IsSet : meaning.Step → State → State → Type 0
 IsSet (InitialValue number) old new = (old.status ≡ Start None) × (new ≡ with_status (Start (Some number)) old)
 IsSet (ObjectAddress address) old new = new ≡ with_object (Some address) old
 IsSet (MaxIterations maximum) old new = new ≡ with_maximum maximum old
-IsSet Evaluate old new = ⊥
-IsSet (Resume answer) old new = ⊥
+IsSet _ old new = ⊥
 
 -- the evaluation replied
 abbrev pub HasReplied : {R O P : Type 0} → (R → Text) → (O → ℕ) → meaning.Step → State → State → Result (EvaluationResult R O P) Error → Type 0
 HasReplied text number Evaluate old new replied = IsClosed old.status × Evaluates text number old new replied old.status
 HasReplied text number (Resume answer) old new replied = IsInRequestFor (kind_of_answer answer) old.status × Resumes text number (input_of old answer) old new replied old.status
-HasReplied text number (InitialValue value) old new replied = ⊥
-HasReplied text number (ObjectAddress address) old new replied = ⊥
-HasReplied text number (MaxIterations maximum) old new replied = ⊥
+HasReplied text number _ old new replied = ⊥
 
 -- what came of the step
 abbrev pub IsStepped : {R O P : Type 0} → (R → Text) → (O → ℕ) → meaning.Step → State → State → Stepped R O P → Type 0

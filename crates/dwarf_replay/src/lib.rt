@@ -2,11 +2,11 @@
 #![tactic(auto)]
 
 mod equality;
+mod replaying;
 mod stepping;
 mod steps;
-mod walk;
 
 pub use equality::{answer_equality_laws, step_equality_laws};
+pub use replaying::replay;
 pub use stepping::take_step;
 pub use steps::{Answer, Replayed, Step, Stepped};
-pub use walk::replay;

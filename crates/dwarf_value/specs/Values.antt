@@ -4,7 +4,6 @@ use Rattle.std.specs.Int.{is_negative}
 use Rattle.std.specs.Int.RustNames.{count_ones}
 use Rattle.std.specs.Ordering.{int_eq}
 use Rattle.dwarf_base.specs.Faults.{Fault, ◌>>=◌}
-use Rattle.dwarf_base.specs.Faults as fault
 use Rattle.dwarf_base.specs.Reads.{fixed_at}
 use Rattle.dwarf_base.specs.Numbers.{residue, signed_of}
 use Rattle.dwarf_base.specs.declared.errors.Error.{Error}
@@ -53,29 +52,23 @@ bit_size_of w kind.U64 = 64
 unfoldable pub is_signed : (generic : Bool) → ValueType → Bool
 is_signed generic kind.Generic = generic
 is_signed generic kind.I8 = true
-is_signed generic kind.U8 = false
 is_signed generic kind.I16 = true
-is_signed generic kind.U16 = false
 is_signed generic kind.I32 = true
-is_signed generic kind.U32 = false
 is_signed generic kind.I64 = true
-is_signed generic kind.U64 = false
-
--- the place of a type among the nine
-abbrev pub index_of : ValueType → ℕ
-index_of kind.Generic = 0
-index_of kind.I8 = 1
-index_of kind.U8 = 2
-index_of kind.I16 = 3
-index_of kind.U16 = 4
-index_of kind.I32 = 5
-index_of kind.U32 = 6
-index_of kind.I64 = 7
-index_of kind.U64 = 8
+is_signed generic _ = false
 
 -- whether two types are the same
 unfoldable pub is_same : ValueType → ValueType → Bool
-is_same s t = index_of s == index_of t
+is_same kind.Generic kind.Generic = true
+is_same kind.I8 kind.I8 = true
+is_same kind.U8 kind.U8 = true
+is_same kind.I16 kind.I16 = true
+is_same kind.U16 kind.U16 = true
+is_same kind.I32 kind.I32 = true
+is_same kind.U32 kind.U32 = true
+is_same kind.I64 kind.I64 = true
+is_same kind.U64 kind.U64 = true
+is_same _ _ = false
 
 -- the integer of k bits: in two's complement, or from 0 up
 unfoldable pub word_integer : (signed : Bool) (k : ℕ) → ℕ → ℤ
@@ -149,7 +142,7 @@ from_encoding_of encoding byte_size =
 -- the number at the front of the bytes; the generic type has no size of its own
 abbrev pub parse_of : ValueType → (big : Bool) (bytes : List ℕ) → Result Value Fault
 parse_of t big bytes =
-    if is_same t kind.Generic then Err fault.UnsupportedTypeOperation
+    if is_same t kind.Generic then Err UnsupportedTypeOperation
     else fixed_at big (bit_size_of 64 t / 8) bytes >>= λ number. Ok (from_u64_of t number.0)
 
 -- by the number of 64 bits

@@ -8,7 +8,7 @@ use Rattle.dwarf_base.specs.declared.byte_order.RunTimeEndian.{RunTimeEndian}
 use Rattle.dwarf_base.specs.Faults.{Fault}
 use Rattle.dwarf_base.specs.Reads.{Text}
 use Rattle.dwarf_meaning.specs.Requests.{Request}
-use Rattle.dwarf_meaning.specs.Run.{Position}
+use Rattle.dwarf_meaning.specs.Run.{Position, most}
 use Rattle.dwarf_meaning.specs.Meaning.{Outcome, RequestOutcome, FaultOutcome, CompleteOutcome}
 use Rattle.dwarf_meaning.specs.Rest.{State, Status, Start, Running, RequestStatus, CompleteStatus, FaultStatus}
 use Rattle.dwarf_meaning.specs.Stores.{Setup}
@@ -105,7 +105,7 @@ told_by object_address maximum = record {
   inputs = [];
 }
 
-pub told_as : (x : State) → x.store.object_address ≡ None → x.store.maximum ≡ 4294967295 → told_at x ≡ untold
+pub told_as : (x : State) → x.store.object_address ≡ None → x.store.maximum ≡ most → told_at x ≡ untold
 told_as x e f = ap₂ told_by e f
 
 -- ---- what lines say

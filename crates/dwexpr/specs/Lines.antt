@@ -4,7 +4,7 @@ use Rattle.std.specs.Fmt.{signed_decimal}
 use Rattle.std.specs.Io.KnownBytes.{Appends}
 use Rattle.std.specs.List.{concat}
 use Rattle.dwarf_base.specs.declared.common.Encoding.{Encoding}
-use Rattle.dwarf_base.specs.Faults as fault
+use Rattle.dwarf_base.specs.declared.errors.Error.TheVariants as fault
 use Rattle.dwarf_base.specs.Faults.{Fault}
 use Rattle.dwarf_value.specs.declared.types.Value.{Value}
 use Rattle.dwarf_meaning.specs.Decoding.{operation_at}
@@ -19,13 +19,13 @@ use Rattle.dwexpr.specs.Writing.{AppendsFront, bytes_word, hexadecimal, line, va
 
 -- a fault's name, and the number that it carries
 abbrev pub fault_words : Fault → List (List ℕ)
-fault_words fault.UnexpectedEof = codes "UnexpectedEof" ∷ []
+fault_words (fault.UnexpectedEof id) = codes "UnexpectedEof" ∷ []
 fault_words fault.BadUnsignedLeb128 = codes "BadUnsignedLeb128" ∷ []
 fault_words fault.BadSignedLeb128 = codes "BadSignedLeb128" ∷ []
 fault_words (fault.UnsupportedAddressSize size) = codes "UnsupportedAddressSize" ∷ decimal size ∷ []
 fault_words fault.UnsupportedOffset = codes "UnsupportedOffset" ∷ []
 fault_words (fault.UnsupportedRegister register) = codes "UnsupportedRegister" ∷ decimal register ∷ []
-fault_words (fault.InvalidExpression opcode) = codes "InvalidExpression" ∷ decimal opcode ∷ []
+fault_words (fault.InvalidExpression opcode) = codes "InvalidExpression" ∷ decimal opcode.0 ∷ []
 fault_words (fault.InvalidPieceSize bytes) = codes "InvalidPieceSize" ∷ decimal bytes ∷ []
 fault_words fault.UnsupportedTypeOperation = codes "UnsupportedTypeOperation" ∷ []
 fault_words fault.TypeMismatch = codes "TypeMismatch" ∷ []

@@ -248,7 +248,7 @@ fn print_result<W: Write>(output: &mut W, answer: EvaluationResult<Text<'_>>) ->
 }
 
 /// The line of what one call of the evaluation gave.
-pub(crate) fn print_answer<W: Write>(output: &mut W, answer: Answer<Text<'_>>) -> io::Result<()>
+pub(crate) fn print_reply<W: Write>(output: &mut W, answer: Answer<Text<'_>>) -> io::Result<()>
     ensures { Prints (W.contents output.old) (W.contents output.new)
         (reply_line (reply_of slice_text (λ x. x) answer.entry.0)) result }
 {

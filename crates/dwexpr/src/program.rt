@@ -14,7 +14,7 @@ ghost use Rattle.dwexpr.specs.inner.Replayed.{HasLine, ending_of};
 ghost use Rattle.dwexpr.specs.Writing.{Prints};
 
 use crate::hexadecimal::{HexFault, bytes_of};
-use crate::lines::{print_answer, print_piece, print_value_line};
+use crate::lines::{print_piece, print_reply, print_value_line};
 use crate::operations::print_operations;
 use crate::steps::{StepsFault, borrow_steps, steps_in};
 use crate::words::{Command, Reading, command_of, reading_of};
@@ -72,12 +72,12 @@ fn misplaced<W: Write>(output: &mut W, index: usize) -> io::Result<u8>
 }
 
 /// Prints what each call of the evaluation gave.
-fn print_answers<W: Write>(output: &mut W, answers: &[Answer<Text<'_>>]) -> io::Result<()>
+fn print_replies<W: Write>(output: &mut W, answers: &[Answer<Text<'_>>]) -> io::Result<()>
     ensures { Prints (W.contents output.old) (W.contents output.new)
         (reply_lines (replies_in slice_text (λ x. x) answers.now)) result }
 {
     for answer in answers {
-        print_answer(output, *answer)?;
+        print_reply(output, *answer)?;
     }
     Ok(())
 }
@@ -158,7 +158,7 @@ fn print_replay<A: Allocator + Copy, W: Write>(
         (behind_replies (replies_in slice_text (λ x. x) answers.now)
         (ending_of evaluation.now replayed.entry)) result }
 {
-    print_answers(output, answers)?;
+    print_replies(output, answers)?;
     print_end(output, evaluation, replayed)
 }
 

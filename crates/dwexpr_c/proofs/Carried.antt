@@ -195,15 +195,15 @@ module _ (P : Text → Type 0) (Q : List ℕ → Type 0) where
         used_carries position depth (use_of (address_bits setup) waiting input.answer s.values) (with_input input s) inputs (only_end (RequestEnd request (position ∷ []) (input ∷ inputs)))
         p (use_holds P input.answer (length s.values) _ (use_is (address_bits setup) waiting input.answer s.values) i.0) (record { pieces = h.pieces; last = h.last }) i.1 r
 
-    led_carries : (text : Text) (depth place : ℕ) (inputs : List Input) (next : Next) → P text → OnNext Q next → OnInputs P inputs → OnEnd (after_operation go setup text depth place inputs next).end
-    led_carries text depth place inputs (Goes to s) p h i = carries text to depth s inputs p h i
-    led_carries text depth place inputs (RequestNext request waiting s) p h i =
+    after_operation_carries : (text : Text) (depth place : ℕ) (inputs : List Input) (next : Next) → P text → OnNext Q next → OnInputs P inputs → OnEnd (after_operation go setup text depth place inputs next).end
+    after_operation_carries text depth place inputs (Goes to s) p h i = carries text to depth s inputs p h i
+    after_operation_carries text depth place inputs (RequestNext request waiting s) p h i =
         asked_carries (record { text = text; place = place }) depth request waiting s inputs p h.0 h.1 i
-    led_carries text depth place inputs (FaultNext fault) p h i = tt
+    after_operation_carries text depth place inputs (FaultNext fault) p h i = tt
 
     does_carries : (text : Text) (depth : ℕ) (s : Store) (inputs : List Input) (r : Result (Operation × List ℕ) Fault) → P text → OnRead Q r → Holds Q s → OnInputs P inputs → OnEnd (do_operation go setup text depth s inputs r).end
     does_carries text depth s inputs (Ok x) p b h i =
-        led_carries text depth _ inputs _ p (done_holds Q setup _ _ _ s (act_holds Q x.0 _ (act_is (address_bits setup) s.object_address x.0 s.values) b) h) i
+        after_operation_carries text depth _ inputs _ p (done_holds Q setup _ _ _ s (act_holds Q x.0 _ (act_is (address_bits setup) s.object_address x.0 s.values) b) h) i
     does_carries text depth s inputs (Err fault) p b h i = tt
 
     counts_carries : (text : Text) (place depth : ℕ) (s : Store) (inputs : List Input) → P text → Holds Q s → OnInputs P inputs → OnEnd (turn_counted go setup text place depth s inputs).end
@@ -214,7 +214,7 @@ module _ (P : Text → Type 0) (Q : List ℕ → Type 0) where
 
     held_carries : (text : Text) (depth : ℕ) (location : Location) (s : Store) (inputs : List Input) (r : Result (Operation × List ℕ) Fault) → P text → OnLocation Q location → Holds Q s → OnInputs P inputs → OnEnd (turn_located go setup text depth location s inputs r).end
     held_carries text depth location s inputs (Ok x) p l h i =
-        led_carries text depth _ inputs _ p (piece_next Q setup location _ s (piece_ended_by x.0) l h) i
+        after_operation_carries text depth _ inputs _ p (piece_next Q setup location _ s (piece_ended_by x.0) l h) i
     held_carries text depth location s inputs (Err fault) p l h i = tt
 
     by_carries : (text : Text) (place depth : ℕ) (s : Store) (inputs : List Input) (last : Last) → P text → OnLast Q last → Holds Q s → OnInputs P inputs → OnEnd (turn_by go setup text place depth s inputs last).end

@@ -8,6 +8,7 @@ use Rattle.dwarf_meaning.specs.Meaning.{Outcome, RequestOutcome, FaultOutcome, C
 use Rattle.dwarf_meaning.specs.Requests.{Request}
 use Rattle.dwarf_meaning.specs.Rest.{State, Status, Start, Running, RequestStatus, CompleteStatus, FaultStatus}
 use Rattle.dwarf_meaning.specs.Stores.{Setup}
+use Rattle.dwarf_meaning.specs.Run.{most}
 use Rattle.dwarf_replay.specs.Replays.{StandsAt, IsInRequest, told_at}
 use Rattle.dwexpr_c.specs.Evaluated.{EvaluatesGiven, EvaluatesFirst, Beginning, IsCutShort, ShowsOutcome, comes_of, limited_setup, told_by}
 use Rattle.dwexpr_c.specs.Outcomes.{ShowsRequest}
@@ -71,7 +72,7 @@ all_ends texts numbers first new (Err end) after old places is_given ran f =
     inr (subst (λ (o : DwexprOutcome). IsCutShort (given_at first texts) numbers o) (sym f.0) ran, f.1)
 
 -- a fresh evaluation
-pub given_is : (first : State) (texts : List DwexprText) (encoding : Encoding) (text : Text) → first.setup ≡ limited_setup encoding → first.text ≡ text → first.store.object_address ≡ None → first.store.maximum ≡ 4294967295 → given_at first texts ≡ record { setup = limited_setup encoding; text = text; told = untold; texts = texts }
+pub given_is : (first : State) (texts : List DwexprText) (encoding : Encoding) (text : Text) → first.setup ≡ limited_setup encoding → first.text ≡ text → first.store.object_address ≡ None → first.store.maximum ≡ most → given_at first texts ≡ record { setup = limited_setup encoding; text = text; told = untold; texts = texts }
 given_is first texts encoding text s t o m =
     ap (λ (z : Setup). record { setup = z; text = first.text; told = told_at first; texts = texts }) s
     ∙ (ap (λ (z : Text). record { setup = limited_setup encoding; text = z; told = told_at first; texts = texts }) t

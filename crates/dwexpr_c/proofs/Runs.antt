@@ -291,13 +291,13 @@ module _ (texts : List DwexprText) (all : List DwexprStep) (index : ℕ) (at : D
         let told = told_by_call x new (Ok h.told) texts out step r.shown h.called in
         absurd (nowhere_never step one _ refl (stands_at_block texts _ new _ (ok_reply text_of_placed (λ x. x) h.told) new.status refl told h.asks w.stands))
 
-    stops_by : (end : FaultNumbers) (now : DwexprOutcome) (o : Result Step ℕ) → step_coded first.text.is_big texts at ≡ o → DoesStep texts o x new out now (Err end) → EndsByStep given r.steps o (ended_outcome end.code end.number index)
-    stops_by end now (Ok step) one h = ends_at end step one h
-    stops_by end now (Err code) one h = ap (λ (e : FaultNumbers). ended_outcome e.code e.number index) h
+    cut_short_by : (end : FaultNumbers) (now : DwexprOutcome) (o : Result Step ℕ) → step_coded first.text.is_big texts at ≡ o → DoesStep texts o x new out now (Err end) → EndsByStep given r.steps o (ended_outcome end.code end.number index)
+    cut_short_by end now (Ok step) one h = ends_at end step one h
+    cut_short_by end now (Err code) one h = ap (λ (e : FaultNumbers). ended_outcome e.code e.number index) h
 
     -- it was not
-    pub stops : (end : FaultNumbers) (now : DwexprOutcome) → DoesStep texts (step_coded first.text.is_big texts at) x new out now (Err end) → IsCutShort given all (ended_outcome end.code end.number index)
-    stops end now h = ends_by end (stops_by end now (step_coded first.text.is_big texts at) refl h)
+    pub cut_short : (end : FaultNumbers) (now : DwexprOutcome) → DoesStep texts (step_coded first.text.is_big texts at) x new out now (Err end) → IsCutShort given all (ended_outcome end.code end.number index)
+    cut_short end now h = ends_by end (cut_short_by end now (step_coded first.text.is_big texts at) refl h)
 
 -- all were
 pub ran_all : (texts : List DwexprText) (all : List DwexprStep) (index : ℕ) (first x : State) (out : DwexprOutcome) → first.setup.limits ≡ capacities → length all ≤ index → Reached texts (take index all) first x out → RanAll texts all first x out

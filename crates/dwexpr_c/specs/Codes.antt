@@ -1,10 +1,11 @@
 -- The codes of faults, and the numbers that they carry.
 use Rattle.std.specs.Prelude.{ℕ}
-use Rattle.dwarf_base.specs.Faults.{Fault, UnexpectedEof, BadUnsignedLeb128, BadSignedLeb128, UnsupportedAddressSize, UnsupportedOffset, UnsupportedRegister, InvalidExpression, InvalidPieceSize, UnsupportedTypeOperation, TypeMismatch, DivisionByZero, InvalidShiftExpression, NotEnoughStackItems, InvalidDerefSize, InvalidPushObjectAddress, UnsupportedEvaluation, BadBranchTarget, TooManyIterations, InvalidPiece, InvalidExpressionTerminator, StackFull}
+use Rattle.dwarf_base.specs.Faults.{Fault}
+use Rattle.dwarf_base.specs.declared.errors.Error.TheVariants.{UnexpectedEof, BadUnsignedLeb128, BadSignedLeb128, UnsupportedAddressSize, UnsupportedOffset, UnsupportedRegister, InvalidExpression, InvalidPieceSize, UnsupportedTypeOperation, TypeMismatch, DivisionByZero, InvalidShiftExpression, NotEnoughStackItems, InvalidDerefSize, InvalidPushObjectAddress, UnsupportedEvaluation, BadBranchTarget, TooManyIterations, InvalidPiece, InvalidExpressionTerminator, StackFull}
 
 -- the code of a fault
 abbrev pub code_of_fault : Fault → ℕ
-code_of_fault UnexpectedEof = 1
+code_of_fault (UnexpectedEof id) = 1
 code_of_fault BadUnsignedLeb128 = 2
 code_of_fault BadSignedLeb128 = 3
 code_of_fault (UnsupportedAddressSize size) = 4
@@ -30,7 +31,7 @@ code_of_fault StackFull = 21
 abbrev pub number_of_fault : Fault → ℕ
 number_of_fault (UnsupportedAddressSize size) = size
 number_of_fault (UnsupportedRegister register) = register
-number_of_fault (InvalidExpression opcode) = opcode
+number_of_fault (InvalidExpression opcode) = opcode.0
 number_of_fault (InvalidPieceSize bytes) = bytes
 number_of_fault (InvalidDerefSize size) = size
 number_of_fault (BadBranchTarget target) = target

@@ -7,7 +7,7 @@ ghost use Rattle.dwexpr_c.specs.Encodings.{is_encoding, encoding_in, is_big_in};
 
 use crate::encodings::{DwexprEncoding, Reading, reading_of};
 use crate::faults::{BAD_ENCODING, BAD_OFFSET, numbers_of};
-use crate::operations::{DwexprOperation, refuse, show, show_fault};
+use crate::operations::{DwexprOperation, disallow, show, show_fault};
 use dwarf_base::{EndianSlice, Reader};
 use dwarf_op::Operation;
 
@@ -38,8 +38,8 @@ fn decode(bytes: &[u8], numbers: DwexprEncoding, offset: usize) -> DwexprOperati
         (record { bytes = drop offset bytes.now; is_big = is_big_in numbers })) result }
 {
     match reading_of(numbers) {
-        None => refuse(offset, BAD_ENCODING),
-        Some(_) if offset >= bytes.len() => refuse(offset, BAD_OFFSET),
+        None => disallow(offset, BAD_ENCODING),
+        Some(_) if offset >= bytes.len() => disallow(offset, BAD_OFFSET),
         Some(reading) => decode_at(bytes, reading, offset),
     }
 }

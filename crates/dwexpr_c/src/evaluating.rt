@@ -17,7 +17,7 @@ ghost use Rattle.dwexpr_c.specs.inner.Runs.{EvaluatesFound, Runs};
 
 use crate::encodings::{DwexprEncoding, Reading, reading_of};
 use crate::faults::{BAD_ENCODING, BAD_TEXT, FaultNumbers, MISPLACED, UNPLACED, numbers_of, plain};
-use crate::outcomes::{DwexprOutcome, UNTOLD, show_complete, show_end, show_told};
+use crate::outcomes::{DwexprOutcome, UNTOLD, show_complete, show_end, show_reply};
 use crate::pieces::{DwexprPiece, write_pieces};
 use crate::places::Placed;
 use crate::steps::{DwexprStep, DwexprText, step_of, text_at};
@@ -59,7 +59,7 @@ fn do_step<'a, S: EvaluationStorage<Placed<'a>>>(
         Stepped::Misplaced => Err(plain(MISPLACED)),
         Stepped::Set => Ok(()),
         Stepped::Answered(answer) => match answer.0 {
-            Ok(told) => match show_told(texts, told) {
+            Ok(reply) => match show_reply(texts, reply) {
                 Some(shown) => {
                     *outcome = shown;
                     Ok(())

@@ -64,7 +64,7 @@ const NOTHING: DwexprOperation = DwexprOperation {
 };
 
 /// What is shown where an argument isn't allowed.
-pub(crate) fn refuse(offset: usize, code: u32) -> DwexprOperation
+pub(crate) fn disallow(offset: usize, code: u32) -> DwexprOperation
     ensures { result ≡ disallowed offset code }
 {
     DwexprOperation {
@@ -82,7 +82,7 @@ pub(crate) fn show_fault(offset: usize, opcode: u8, fault: FaultNumbers) -> Dwex
     DwexprOperation {
         opcode: u32::from(opcode),
         detail: fault.number,
-        ..refuse(offset, fault.code)
+        ..disallow(offset, fault.code)
     }
 }
 

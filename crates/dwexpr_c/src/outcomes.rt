@@ -121,16 +121,16 @@ fn with_block(shown: DwexprOutcome, place: Place, size: usize) -> DwexprOutcome
 }
 
 /// What a call answered; `None` where it asks of a block that is nowhere.
-pub(crate) fn show_told(
+pub(crate) fn show_reply(
     texts: &[DwexprText<'_>],
-    told: EvaluationResult<Placed<'_>>,
+    reply: EvaluationResult<Placed<'_>>,
 ) -> Option<DwexprOutcome>
     ensures some { IfSome result
-        (λ out. ShowsReply texts.now (ok_reply text_of_placed (λ x. x) told.entry) out) }
+        (λ out. ShowsReply texts.now (ok_reply text_of_placed (λ x. x) reply.entry) out) }
     ensures none { IfNone result
-        (AsksNowhere texts.now (ok_reply text_of_placed (λ x. x) told.entry)) }
+        (AsksNowhere texts.now (ok_reply text_of_placed (λ x. x) reply.entry)) }
 {
-    Some(match told {
+    Some(match reply {
         EvaluationResult::Complete => asking(1, 0),
         EvaluationResult::RequiresMemory {
             address,

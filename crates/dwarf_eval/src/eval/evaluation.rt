@@ -3,9 +3,10 @@ ghost use Rattle.dwarf_meaning.specs.declared.kinds.WaitingKind.TheVariants as k
 ghost use Rattle.dwarf_meaning.specs.Kinds.{kind_of_answer};
 ghost use Rattle.dwarf_meaning.specs.Requests as requests;
 ghost use Rattle.dwarf_meaning.specs.Rest.{Start, CompleteStatus};
+ghost use Rattle.dwarf_meaning.specs.Run.{most};
 ghost use Rattle.dwarf_eval.specs.Permits.{Admits, IsOpenFor, Permits, Shows, answer_of};
 ghost use Rattle.dwarf_eval.specs.Bounds.{IsUnspent, calls_left};
-ghost use Rattle.dwarf_eval.specs.Evaluation.{Evaluates, EvaluatesPath, HasResult, IsClosed, IsComplete, Resumes, ResumesPath, most_iterations, reply_of, with_maximum, with_object, input_of, with_status};
+ghost use Rattle.dwarf_eval.specs.Evaluation.{Evaluates, EvaluatesPath, HasResult, IsClosed, IsComplete, Resumes, ResumesPath, reply_of, with_maximum, with_object, input_of, with_status};
 ghost use Rattle.dwarf_eval.specs.Machine.{piece_of, setup_of};
 
 use crate::eval::requests::{kind_of_open, reply};
@@ -56,7 +57,7 @@ impl<R: Reader + Copy> Expression<R> {
         ensures setup { result.setup ≡ setup_of encoding R.Offset.BITS None None None }
         ensures text { result.text ≡ R.text self.0 }
         ensures object_address { result.store.object_address ≡ None }
-        ensures maximum { result.store.maximum ≡ most_iterations }
+        ensures maximum { result.store.maximum ≡ most }
         ensures unspent { IsUnspent result }
     {
         Evaluation::new(alloc, self.0, encoding)
@@ -74,7 +75,7 @@ impl<R: Reader + Copy, A: Allocator + Copy> Evaluation<R, StoreOnHeap<A>> {
         ensures setup { result.setup ≡ setup_of encoding R.Offset.BITS None None None }
         ensures text { result.text ≡ R.text bytecode }
         ensures object_address { result.store.object_address ≡ None }
-        ensures maximum { result.store.maximum ≡ most_iterations }
+        ensures maximum { result.store.maximum ≡ most }
         ensures unspent { IsUnspent result }
     {
         Evaluation::new_in(
@@ -118,7 +119,7 @@ impl<R: Reader + Copy, S: EvaluationStorage<R>> Evaluation<R, S> {
             (S.ExpressionStack.limit expression_stack) (S.Result.limit pieces) }
         ensures text { result.text ≡ R.text bytecode }
         ensures object_address { result.store.object_address ≡ None }
-        ensures maximum { result.store.maximum ≡ most_iterations }
+        ensures maximum { result.store.maximum ≡ most }
         ensures unspent { IsUnspent result }
     {
         Evaluation {
@@ -201,7 +202,7 @@ impl<R: Reader + Copy, S: EvaluationStorage<R>> Evaluation<R, S> {
         ensures counts { ResumesPath (input_of self.old (answer_of R.text given))
             self.old self.new (reply_of R.text R.Offset.number result) self.old.status }
         ensures admits { IfOk result (λ replied. Admits replied self.new.status) }
-        ensures fewer { IfOk result (λ told. calls_left self.new < calls_left self.old) }
+        ensures fewer { IfOk result (λ reply. calls_left self.new < calls_left self.old) }
     {
         match self.machine.state() {
             EvaluationState::Waiting(_) => {
@@ -224,7 +225,7 @@ impl<R: Reader + Copy, S: EvaluationStorage<R>> Evaluation<R, S> {
         ensures counts { ResumesPath (input_of self.old (requests.MemoryAnswer value))
             self.old self.new (reply_of R.text R.Offset.number result) self.old.status }
         ensures admits { IfOk result (λ replied. Admits replied self.new.status) }
-        ensures fewer { IfOk result (λ told. calls_left self.new < calls_left self.old) }
+        ensures fewer { IfOk result (λ reply. calls_left self.new < calls_left self.old) }
     {
         self.resume(Given::Memory(value))
     }
@@ -238,7 +239,7 @@ impl<R: Reader + Copy, S: EvaluationStorage<R>> Evaluation<R, S> {
         ensures counts { ResumesPath (input_of self.old (requests.RegisterAnswer value))
             self.old self.new (reply_of R.text R.Offset.number result) self.old.status }
         ensures admits { IfOk result (λ replied. Admits replied self.new.status) }
-        ensures fewer { IfOk result (λ told. calls_left self.new < calls_left self.old) }
+        ensures fewer { IfOk result (λ reply. calls_left self.new < calls_left self.old) }
     {
         self.resume(Given::Register(value))
     }
@@ -253,7 +254,7 @@ impl<R: Reader + Copy, S: EvaluationStorage<R>> Evaluation<R, S> {
         ensures counts { ResumesPath (input_of self.old (requests.WasmAnswer value))
             self.old self.new (reply_of R.text R.Offset.number result) self.old.status }
         ensures admits { IfOk result (λ replied. Admits replied self.new.status) }
-        ensures fewer { IfOk result (λ told. calls_left self.new < calls_left self.old) }
+        ensures fewer { IfOk result (λ reply. calls_left self.new < calls_left self.old) }
     {
         self.resume(Given::WasmValue(value))
     }
@@ -267,7 +268,7 @@ impl<R: Reader + Copy, S: EvaluationStorage<R>> Evaluation<R, S> {
         ensures counts { ResumesPath (input_of self.old (requests.EntryAnswer value))
             self.old self.new (reply_of R.text R.Offset.number result) self.old.status }
         ensures admits { IfOk result (λ replied. Admits replied self.new.status) }
-        ensures fewer { IfOk result (λ told. calls_left self.new < calls_left self.old) }
+        ensures fewer { IfOk result (λ reply. calls_left self.new < calls_left self.old) }
     {
         self.resume(Given::EntryValue(value))
     }
@@ -281,7 +282,7 @@ impl<R: Reader + Copy, S: EvaluationStorage<R>> Evaluation<R, S> {
         ensures counts { ResumesPath (input_of self.old (requests.FrameBaseAnswer frame_base))
             self.old self.new (reply_of R.text R.Offset.number result) self.old.status }
         ensures admits { IfOk result (λ replied. Admits replied self.new.status) }
-        ensures fewer { IfOk result (λ told. calls_left self.new < calls_left self.old) }
+        ensures fewer { IfOk result (λ reply. calls_left self.new < calls_left self.old) }
     {
         self.resume(Given::FrameBase(frame_base))
     }
@@ -295,7 +296,7 @@ impl<R: Reader + Copy, S: EvaluationStorage<R>> Evaluation<R, S> {
         ensures counts { ResumesPath (input_of self.old (requests.TlsAnswer value))
             self.old self.new (reply_of R.text R.Offset.number result) self.old.status }
         ensures admits { IfOk result (λ replied. Admits replied self.new.status) }
-        ensures fewer { IfOk result (λ told. calls_left self.new < calls_left self.old) }
+        ensures fewer { IfOk result (λ reply. calls_left self.new < calls_left self.old) }
     {
         self.resume(Given::Tls(value))
     }
@@ -309,7 +310,7 @@ impl<R: Reader + Copy, S: EvaluationStorage<R>> Evaluation<R, S> {
         ensures counts { ResumesPath (input_of self.old (requests.CfaAnswer cfa))
             self.old self.new (reply_of R.text R.Offset.number result) self.old.status }
         ensures admits { IfOk result (λ replied. Admits replied self.new.status) }
-        ensures fewer { IfOk result (λ told. calls_left self.new < calls_left self.old) }
+        ensures fewer { IfOk result (λ reply. calls_left self.new < calls_left self.old) }
     {
         self.resume(Given::CallFrameCfa(cfa))
     }
@@ -324,7 +325,7 @@ impl<R: Reader + Copy, S: EvaluationStorage<R>> Evaluation<R, S> {
         ensures counts { ResumesPath (input_of self.old (requests.LocationAnswer (R.text bytes)))
             self.old self.new (reply_of R.text R.Offset.number result) self.old.status }
         ensures admits { IfOk result (λ replied. Admits replied self.new.status) }
-        ensures fewer { IfOk result (λ told. calls_left self.new < calls_left self.old) }
+        ensures fewer { IfOk result (λ reply. calls_left self.new < calls_left self.old) }
     {
         self.resume(Given::AtLocation(bytes))
     }
@@ -338,7 +339,7 @@ impl<R: Reader + Copy, S: EvaluationStorage<R>> Evaluation<R, S> {
         ensures counts { ResumesPath (input_of self.old (requests.ParameterAnswer parameter_value))
             self.old self.new (reply_of R.text R.Offset.number result) self.old.status }
         ensures admits { IfOk result (λ replied. Admits replied self.new.status) }
-        ensures fewer { IfOk result (λ told. calls_left self.new < calls_left self.old) }
+        ensures fewer { IfOk result (λ reply. calls_left self.new < calls_left self.old) }
     {
         self.resume(Given::ParameterRef(parameter_value))
     }
@@ -352,7 +353,7 @@ impl<R: Reader + Copy, S: EvaluationStorage<R>> Evaluation<R, S> {
         ensures counts { ResumesPath (input_of self.old (requests.RelocatedAnswer address))
             self.old self.new (reply_of R.text R.Offset.number result) self.old.status }
         ensures admits { IfOk result (λ replied. Admits replied self.new.status) }
-        ensures fewer { IfOk result (λ told. calls_left self.new < calls_left self.old) }
+        ensures fewer { IfOk result (λ reply. calls_left self.new < calls_left self.old) }
     {
         self.resume(Given::RelocatedAddress(address))
     }
@@ -366,7 +367,7 @@ impl<R: Reader + Copy, S: EvaluationStorage<R>> Evaluation<R, S> {
         ensures counts { ResumesPath (input_of self.old (requests.IndexedAnswer address))
             self.old self.new (reply_of R.text R.Offset.number result) self.old.status }
         ensures admits { IfOk result (λ replied. Admits replied self.new.status) }
-        ensures fewer { IfOk result (λ told. calls_left self.new < calls_left self.old) }
+        ensures fewer { IfOk result (λ reply. calls_left self.new < calls_left self.old) }
     {
         self.resume(Given::IndexedAddress(address))
     }
@@ -380,7 +381,7 @@ impl<R: Reader + Copy, S: EvaluationStorage<R>> Evaluation<R, S> {
         ensures counts { ResumesPath (input_of self.old (requests.BaseTypeAnswer base_type))
             self.old self.new (reply_of R.text R.Offset.number result) self.old.status }
         ensures admits { IfOk result (λ replied. Admits replied self.new.status) }
-        ensures fewer { IfOk result (λ told. calls_left self.new < calls_left self.old) }
+        ensures fewer { IfOk result (λ reply. calls_left self.new < calls_left self.old) }
     {
         self.resume(Given::BaseType(base_type))
     }

@@ -16,7 +16,7 @@ use dwarf_store::EvaluationStorage;
 
 /// What is asked.
 pub(crate) fn result_of<R: Reader + Copy>(request: OpenRequest<R>) -> EvaluationResult<R>
-    ensures told { ok_reply R.text R.Offset.number result
+    ensures reply { ok_reply R.text R.Offset.number result
         ≡ RequestReply (request_of R.text R.Offset.number request) }
     ensures admits { Admits result
         (RequestStatus (request_of R.text R.Offset.number request) (waiting_of R.text request)) }
@@ -99,7 +99,7 @@ pub(crate) fn reply<R: Reader + Copy, S: EvaluationStorage<R>>(
     machine: &Machine<R, S>,
 ) -> Result<EvaluationResult<R>>
     requires { HasReply machine.now.status }
-    ensures told { IsReplied (reply_of R.text R.Offset.number result)
+    ensures reply { IsReplied (reply_of R.text R.Offset.number result)
         machine.now.status }
     ensures admits { IfOk result (λ replied. Admits replied machine.now.status) }
 {

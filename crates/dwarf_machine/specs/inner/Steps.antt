@@ -201,15 +201,13 @@ total x r inputs = record { outcome = rest r x inputs; count = x.store.count + l
 abbrev pub total_after : State → Input → Refusal → List Input → Total
 total_after x input r inputs = total x (before_input r) (input ∷ inputs)
 
--- 1 where a call stops
+-- 1 where a call ends in a request or in completion
 abbrev pub replies_by : Status → ℕ
 replies_by (RequestStatus request waiting) = 1
 replies_by (CompleteStatus value) = 1
-replies_by (Start initial_value) = 0
-replies_by Running = 0
-replies_by (FaultStatus error) = 0
+replies_by _ = 0
 
--- where the call stops, fewer calls are left
+-- where the call so ends, fewer calls are left
 abbrev pub Nears : State → State → Type 0
 Nears old new = calls_left new + replies_by new.status ≤ calls_left old
 

@@ -12,8 +12,8 @@ use Rattle.dwarf_eval.specs.declared.op.results.EvaluationResult.{EvaluationResu
 use Rattle.dwarf_store.specs.Lists.{MayRefuse}
 use Rattle.dwarf_replay.specs.Stepping.{MayTake, IsSet, HasReplied}
 use Rattle.dwarf_replay.specs.declared.steps.Answer.{Answer}
-use Rattle.dwarf_replay.specs.declared.walk.NotKept.{NotKept}
-use Rattle.dwarf_replay.specs.declared.walk.NotKept.TheVariants as stop
+use Rattle.dwarf_replay.specs.declared.replaying.NotKept.{NotKept}
+use Rattle.dwarf_replay.specs.declared.replaying.NotKept.TheVariants as stop
 
 -- a call's reply was kept
 pub record IsKept {R O P : Type 0} (text : R → Text) (number : O → ℕ) (step : Step) (old : State) (given : List (Answer R O P)) (new : State) (all : List (Answer R O P)) : Type 0 where

@@ -1,7 +1,7 @@
 use Rattle.std.proofs.Common.{ap, arith, refl, [], ◌∷◌, Some}
 use Rattle.dwarf_base.specs.Leb.{uleb_at, sleb_at}
 use Rattle.dwarf_base.specs.Reads.{fixed_at}
-use Rattle.dwarf_base.specs.Faults.{StackFull, TooManyIterations, NotEnoughStackItems, InvalidPushObjectAddress}
+use Rattle.dwarf_base.specs.declared.errors.Error.TheVariants.{StackFull, TooManyIterations, NotEnoughStackItems, InvalidPushObjectAddress}
 use Rattle.dwarf_value.specs.declared.types.Value.TheVariants.{U8, U16, U64}
 use Rattle.dwarf_value.specs.declared.types.ValueType.TheVariants as kind
 use Rattle.dwarf_value.specs.Values.{type_of, bit_size_of, is_signed, is_same, word_integer, integer_of, value_of}

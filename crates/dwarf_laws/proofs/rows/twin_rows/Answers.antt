@@ -3,7 +3,7 @@ use Rattle.dwarf_base.specs.Leb.{uleb_at, sleb_at}
 use Rattle.dwarf_base.specs.Reads.{fixed_at}
 use Rattle.dwarf_value.specs.Values.{type_of, bit_size_of, is_signed, is_same, word_integer, integer_of, value_of}
 use Rattle.dwarf_value.proofs.Agreements.{Agree-Generic}
-use Rattle.dwarf_base.specs.Faults.{StackFull}
+use Rattle.dwarf_base.specs.declared.errors.Error.TheVariants.{StackFull}
 use Rattle.dwarf_value.specs.declared.types.Value.TheVariants.{Generic, U32, U64}
 use Rattle.dwarf_value.specs.declared.types.ValueType.TheVariants as kind
 use Rattle.dwarf_meaning.specs.Operations.{UnitRef}

@@ -1,7 +1,7 @@
 use Rattle.std.specs.Prelude.{refl, [], ◌∷◌, Some}
 use Rattle.dwarf_base.specs.Leb.{uleb_at, sleb_at}
 use Rattle.dwarf_base.specs.Reads.{fixed_at}
-use Rattle.dwarf_base.specs.Faults.{NotEnoughStackItems, BadBranchTarget, TooManyIterations, InvalidPiece, InvalidExpressionTerminator, StackFull}
+use Rattle.dwarf_base.specs.declared.errors.Error.TheVariants.{NotEnoughStackItems, BadBranchTarget, TooManyIterations, InvalidPiece, InvalidExpressionTerminator, StackFull}
 use Rattle.dwarf_value.specs.declared.types.Value.TheVariants.{Generic}
 use Rattle.dwarf_value.specs.Values.{type_of, bit_size_of, is_signed, is_same, word_integer, integer_of, value_of}
 use Rattle.dwarf_meaning.specs.Operations.{UnitRef}

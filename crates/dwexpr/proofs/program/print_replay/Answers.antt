@@ -6,12 +6,12 @@ use Rattle.dwexpr.proofs.Fronts.{begun}
 use Rattle.dwexpr.proofs.ListingLemmas.{ends_behind, ends_refused}
 use Rattle.dwexpr.proofs.program.print_replay.Goals as goal
 
-pub returns-in_err-print_answers : goal.returns-in_err-print_answers
-returns-in_err-print_answers g c =
+pub returns-in_err-print_replies : goal.returns-in_err-print_replies
+returns-in_err-print_replies g c =
     ends_refused _ _ _ _ (reply_lines (replies_in slice_text (λ x. x) c.args.answers.now)) (ending_of c.args.evaluation.now c.args.replayed).text _
-    (begun _ _) c.in_err-print_answers.ensures c.from_residual.ensures
+    (begun _ _) c.in_err-print_replies.ensures c.from_residual.ensures
 
 pub returns : goal.returns
 returns g c =
     ends_behind _ _ _ (reply_lines (replies_in slice_text (λ x. x) c.args.answers.now)) (ending_of c.args.evaluation.now c.args.replayed) _
-    c.in_ok-print_answers.ensures c.print_end.ensures
+    c.in_ok-print_replies.ensures c.print_end.ensures

@@ -4,7 +4,7 @@ use Rattle.dwexpr_c.specs.Steps.{step_coded}
 use Rattle.dwexpr_c.specs.inner.Runs.{given_at}
 use Rattle.dwexpr_c.specs.inner.Stepping.{DoesStep}
 use Rattle.dwexpr_c.specs.declared.outcomes.DwexprOutcome.{DwexprOutcome}
-use Rattle.dwexpr_c.proofs.Runs.{Reached, at_first, next, stops, ran_all}
+use Rattle.dwexpr_c.proofs.Runs.{Reached, at_first, next, cut_short, ran_all}
 use Rattle.dwexpr_c.proofs.evaluating.do_steps.Goals as goal
 
 pub loop-index-init : goal.loop-index-init
@@ -34,7 +34,7 @@ returns-in-Err g c =
     let there = sym c.step_at.ensures ∙ c.in-Some.is in
     let does = subst (λ (b : Bool). DoesStep texts (step_coded b texts c.in-Some.step) x new c.loop-index.outcome c.do_step.new.outcome (Err c.in-Err.end)) (sym c.requires.order) c.in-Err.ensures in
     subst (λ (o : DwexprOutcome). IsCutShort (given_at first texts) steps o) (sym c.show_end.ensures)
-    (stops texts steps c.loop-index.index c.in-Some.step there first c.requires.limits c.requires.given x new c.loop-index.outcome c.loop-index.invariant.0 c.in-Err.end c.do_step.new.outcome does)
+    (cut_short texts steps c.loop-index.index c.in-Some.step there first c.requires.limits c.requires.given x new c.loop-index.outcome c.loop-index.invariant.0 c.in-Err.end c.do_step.new.outcome does)
 
 pub returns : goal.returns
 returns g c =

@@ -10,7 +10,7 @@ returns-in_default g c = same_binary g.O.BinaryOperator.meaning c.args.self.now 
 pub returns-in-Ok : goal.returns-in-Ok
 returns-in-Ok g c =
     binary_pushes g.O.BinaryOperator.meaning c.args.self.now c.pop_generics.new.self (Generic c.in-Some.right) (Generic c.in-Some.left) _
-    (same_two _ _ c.args.self.now c.pop_generics.new.self c.in-Some.ensures) c.addr_mask.ensures.width c.push_plain.new.self c.in-Ok.answer c.requires (sym c.in-Ok.is ∙ c.apply.ensures) c.push_plain.ensures
+    (same_two _ _ c.args.self.now c.pop_generics.new.self c.in-Some.ensures) c.addr_mask.ensures.width c.push_plain.new.self c.in-Ok.computed c.requires (sym c.in-Ok.is ∙ c.apply.ensures) c.push_plain.ensures
 
 pub returns-in-Err : goal.returns-in-Err
 returns-in-Err g c =

@@ -20,7 +20,7 @@ pub returns-in-Ok : goal.returns-in-Ok
 returns-in-Ok g c =
     binary_pushes g.O.BinaryOperator.meaning c.args.self.now c.pop-2.new.self c.in-Some.right c.in-Some-pop.left _
     (pops_two c.in-Some.right c.in-Some-pop.left c.args.self.now c.pop.new.self c.pop-2.new.self c.in-Some.ensures c.in-Some-pop.ensures) c.addr_mask.ensures.width
-    c.push_plain.new.self c.in-Ok.answer c.requires (sym c.in-Ok.is ∙ c.apply.ensures) c.push_plain.ensures
+    c.push_plain.new.self c.in-Ok.computed c.requires (sym c.in-Ok.is ∙ c.apply.ensures) c.push_plain.ensures
 
 pub returns-in-Err : goal.returns-in-Err
 returns-in-Err g c =

@@ -14,7 +14,7 @@ returns-in_default g c =
 pub returns-in-Ok : goal.returns-in-Ok
 returns-in-Ok g c =
     unary_pushes (unary_of c.args.operator) c.args.self.now c.pop.new.self c.in-Some.value (width_of c.addr_mask.result) c.in-Some.ensures c.addr_mask.ensures.width
-    c.push_plain.new.self c.in-Ok.answer c.requires c.in-Ok.ensures c.push_plain.ensures
+    c.push_plain.new.self c.in-Ok.computed c.requires c.in-Ok.ensures c.push_plain.ensures
 
 pub returns-in-Err : goal.returns-in-Err
 returns-in-Err g c =

@@ -1,5 +1,5 @@
 use Rattle.std.proofs.Common.{sym, ◌∙◌}
-use Rattle.dwarf_base.specs.Faults.{InvalidPiece}
+use Rattle.dwarf_base.specs.declared.errors.Error.TheVariants.{InvalidPiece}
 use Rattle.dwarf_meaning.specs.Meaning.{FaultOutcome, finish_value}
 use Rattle.dwarf_machine.proofs.Finishing.{mixed, closes_else}
 use Rattle.dwarf_machine.proofs.machine.Machine.finish_judged.Goals as goal

@@ -1,5 +1,5 @@
 use Rattle.std.proofs.Common.{sym, ◌∙◌, None}
-use Rattle.dwarf_base.specs.Faults.{InvalidPiece}
+use Rattle.dwarf_base.specs.declared.errors.Error.TheVariants.{InvalidPiece}
 use Rattle.dwarf_meaning.specs.Meaning.{FaultOutcome, completion_of, whole}
 use Rattle.dwarf_meaning.specs.Stores.{push_piece}
 use Rattle.dwarf_machine.specs.Machine.{location_of}

@@ -4,7 +4,7 @@ use Rattle.std.proofs.lemmas.Result.{err_from_is_err_and}
 use Rattle.dwarf_value.specs.declared.types.Value.TheVariants.{Generic}
 use Rattle.dwarf_meaning.specs.Acts.{Branches, RequestAct, Locates, act, push}
 use Rattle.dwarf_meaning.specs.Locations.{InRegister}
-use Rattle.dwarf_meaning.specs.Operands.{context_of, Address, Fixed, Leb128, SignedFixed, SignedLeb128}
+use Rattle.dwarf_meaning.specs.Operands.{context_of, Fixed, Leb128, SignedFixed, SignedLeb128}
 use Rattle.dwarf_meaning.specs.Operations as operation
 use Rattle.dwarf_meaning.specs.Requests.{RequiresFrameBase, RequiresRegister}
 use Rattle.dwarf_meaning.specs.Requests as requests
@@ -14,14 +14,9 @@ use Rattle.dwarf_machine.proofs.Behind.{left_after, left_then, offset_still, pla
 use Rattle.dwarf_machine.proofs.OneOperand.{byte_missing, byte_there, number_there, signed_done, signed_made, unsigned_done, unsigned_made}
 use Rattle.dwarf_machine.proofs.machine.Machine.perform_entry.Goals as goal
 
-pub returns-in_err-index-in-PickByte-clause-performs : goal.returns-in_err-index-in-PickByte-clause-performs
-returns-in_err-index-in-PickByte-clause-performs g c =
-    let p = err_from_is_err_and c.from_residual.result c.from_residual.ensures.1 in
-    rw (p.1, c.in-PickByte.is, p.2) (byte_missing (context_of c.args.encoding g.R.Offset.ReaderOffset.BITS (g.R.Reader.text c.args.left.now).is_big) operation.Pick _ _ c.in_err-index-in-PickByte.ensures.value, refl)
-
 pub returns-in_err-size-in-DerefSize-clause-performs : goal.returns-in_err-size-in-DerefSize-clause-performs
 returns-in_err-size-in-DerefSize-clause-performs g c =
-    let p = err_from_is_err_and c.from_residual-in_err-size-in-DerefSize.result c.from_residual-in_err-size-in-DerefSize.ensures.1 in
+    let p = err_from_is_err_and c.from_residual.result c.from_residual.ensures.1 in
     rw (p.1, c.in-DerefSize.is, p.2) (byte_missing (context_of c.args.encoding g.R.Offset.ReaderOffset.BITS (g.R.Reader.text c.args.left.now).is_big) (λ size. operation.Deref 0 size c.in-DerefSize.space) _ _ c.in_err-size-in-DerefSize.ensures.value, refl)
 
 pub returns-in-Plain-clause-performs : goal.returns-in-Plain-clause-performs
@@ -56,24 +51,12 @@ returns-in-Deref-clause-performs g c =
     (read_done (operation.Deref 0 c.args.encoding.address_size c.in-Deref.space) _ (g.R.Reader.text c.args.left.now).bytes c.args.self.now c.dereference.new.self
     (refl) (tt) (subst (λ (base_type : ℕ). Performs (act_of c.args.self.now (operation.Deref base_type c.args.encoding.address_size c.in-Deref.space)) c.args.self.now c.dereference.new.self) c.generic_type.ensures c.dereference.ensures))
 
-pub returns-in_ok-index-in-PickByte-clause-performs : goal.returns-in_ok-index-in-PickByte-clause-performs
-returns-in_ok-index-in-PickByte-clause-performs g c =
-    rw (c.in-PickByte.is)
-    (unsigned_done (context_of c.args.encoding g.R.Offset.ReaderOffset.BITS (g.R.Reader.text c.args.left.now).is_big) (Fixed 1) operation.Pick _ _ _ _ _
-    (byte_there (context_of c.args.encoding g.R.Offset.ReaderOffset.BITS (g.R.Reader.text c.args.left.now).is_big) _ _ _ c.in_ok-index-in-PickByte.ensures.value) (tt) (c.pick-in-PickByte.ensures))
-
 pub returns-in_ok-size-in-DerefSize-clause-performs : goal.returns-in_ok-size-in-DerefSize-clause-performs
 returns-in_ok-size-in-DerefSize-clause-performs g c =
     rw (c.in-DerefSize.is)
     (unsigned_done (context_of c.args.encoding g.R.Offset.ReaderOffset.BITS (g.R.Reader.text c.args.left.now).is_big) (Fixed 1) (λ size. operation.Deref 0 size c.in-DerefSize.space) _ _ _ _ _
     (byte_there (context_of c.args.encoding g.R.Offset.ReaderOffset.BITS (g.R.Reader.text c.args.left.now).is_big) _ _ _ c.in_ok-size-in-DerefSize.ensures.value) (tt)
     (subst (λ (base_type : ℕ). Performs (act_of c.args.self.now (operation.Deref base_type c.in_ok-size-in-DerefSize.size c.in-DerefSize.space)) c.args.self.now c.dereference-in-DerefSize.new.self) c.generic_type-in-DerefSize.ensures c.dereference-in-DerefSize.ensures))
-
-pub returns-in_ok-address-in-Address-clause-performs : goal.returns-in_ok-address-in-Address-clause-performs
-unfolding act
-returns-in_ok-address-in-Address-clause-performs g c =
-    rw (c.in-Address.is)
-    (unsigned_done (context_of c.args.encoding g.R.Offset.ReaderOffset.BITS (g.R.Reader.text c.args.left.now).is_big) Address operation.Address (g.R.Reader.text c.args.left.now).bytes (g.R.Reader.text c.read_address.new.bytes).bytes c.in_ok-address-in-Address.address _ _ (number_there _ _ _ c.in_ok-address-in-Address.ensures.value) (tt) (c.ask.ensures))
 
 pub returns-in_ok-value-in-Constant-clause-performs : goal.returns-in_ok-value-in-Constant-clause-performs
 unfolding act
@@ -99,7 +82,7 @@ returns-in_ok-offset-in-FrameOffset-clause-performs g c =
     let fits : FitsSigned w64 c.in_ok-offset-in-FrameOffset.offset = search rules in
     rw (c.in-FrameOffset.is)
     (signed_done (context_of c.args.encoding g.R.Offset.ReaderOffset.BITS (g.R.Reader.text c.args.left.now).is_big) SignedLeb128 operation.FrameOffset _ _ _ _ _ c.in_ok-offset-in-FrameOffset.ensures.value (tt)
-    (subst (λ (offset : ℤ). Performs (RequestAct c.args.self.now.store.values RequiresFrameBase (requests.FrameBase offset)) c.args.self.now c.ask-in-FrameOffset.new.self) (to_z-of_z w64 c.in_ok-offset-in-FrameOffset.offset fits) c.ask-in-FrameOffset.ensures))
+    (subst (λ (offset : ℤ). Performs (RequestAct c.args.self.now.store.values RequiresFrameBase (requests.FrameBase offset)) c.args.self.now c.ask.new.self) (to_z-of_z w64 c.in_ok-offset-in-FrameOffset.offset fits) c.ask.ensures))
 
 pub returns-in_ok-target-in-Skip-clause-performs : goal.returns-in_ok-target-in-Skip-clause-performs
 unfolding act

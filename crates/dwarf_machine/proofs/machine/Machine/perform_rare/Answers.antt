@@ -3,13 +3,20 @@ use Rattle.std.proofs.lemmas.Int.{to_z-of_z}
 use Rattle.std.proofs.lemmas.Result.{err_from_is_err_and}
 use Rattle.dwarf_meaning.specs.Acts.{RequestAct, Locates, act}
 use Rattle.dwarf_meaning.specs.Locations.{PointsInto}
+use Rattle.dwarf_meaning.specs.Operands.{context_of, Address, Fixed}
 use Rattle.dwarf_meaning.specs.Operations as operation
 use Rattle.dwarf_meaning.specs.Requests.{RequiresRegister}
 use Rattle.dwarf_meaning.specs.Requests as requests
 use Rattle.dwarf_machine.specs.inner.Steps.{Performs}
 use Rattle.dwarf_op.specs.Entries.{block_operation, wasm_operation}
 use Rattle.dwarf_machine.proofs.Behind.{block_still, left_after, left_then, read_done, wasm_still}
+use Rattle.dwarf_machine.proofs.OneOperand.{byte_missing, byte_there, number_there, unsigned_done}
 use Rattle.dwarf_machine.proofs.machine.Machine.perform_rare.Goals as goal
+
+pub returns-in_err-index-in-PickByte-clause-performs : goal.returns-in_err-index-in-PickByte-clause-performs
+returns-in_err-index-in-PickByte-clause-performs g c =
+    let p = err_from_is_err_and c.from_residual-in_err-index-in-PickByte.result c.from_residual-in_err-index-in-PickByte.ensures.1 in
+    rw (p.1, c.in-PickByte.is, p.2) (byte_missing (context_of c.args.encoding g.R.Offset.ReaderOffset.BITS (g.R.Reader.text c.args.left.now).is_big) operation.Pick _ _ c.in_err-index-in-PickByte.ensures.value, refl)
 
 pub returns-in_err-block-in-Block-clause-performs : goal.returns-in_err-block-in-Block-clause-performs
 returns-in_err-block-in-Block-clause-performs g c =
@@ -20,6 +27,18 @@ pub returns-in_err-size-in-TypedDeref-clause-performs : goal.returns-in_err-size
 returns-in_err-size-in-TypedDeref-clause-performs g c =
     let p = err_from_is_err_and c.from_residual-in_err-size-in-TypedDeref.result c.from_residual-in_err-size-in-TypedDeref.ensures.1 in
     rw (p.1, c.in-TypedDeref.is, p.2) ((c.in_err-size-in-TypedDeref.ensures c.in-TypedDeref.space).value, refl)
+
+pub returns-in_ok-address-in-Address-clause-performs : goal.returns-in_ok-address-in-Address-clause-performs
+unfolding act
+returns-in_ok-address-in-Address-clause-performs g c =
+    rw (c.in-Address.is)
+    (unsigned_done (context_of c.args.encoding g.R.Offset.ReaderOffset.BITS (g.R.Reader.text c.args.left.now).is_big) Address operation.Address (g.R.Reader.text c.args.left.now).bytes (g.R.Reader.text c.read_address.new.bytes).bytes c.in_ok-address-in-Address.address _ _ (number_there _ _ _ c.in_ok-address-in-Address.ensures.value) (tt) (c.ask.ensures))
+
+pub returns-in_ok-index-in-PickByte-clause-performs : goal.returns-in_ok-index-in-PickByte-clause-performs
+returns-in_ok-index-in-PickByte-clause-performs g c =
+    rw (c.in-PickByte.is)
+    (unsigned_done (context_of c.args.encoding g.R.Offset.ReaderOffset.BITS (g.R.Reader.text c.args.left.now).is_big) (Fixed 1) operation.Pick _ _ _ _ _
+    (byte_there (context_of c.args.encoding g.R.Offset.ReaderOffset.BITS (g.R.Reader.text c.args.left.now).is_big) _ _ _ c.in_ok-index-in-PickByte.ensures.value) (tt) (c.pick.ensures))
 
 pub returns-in_ok-register-in-NamedRegister-clause-performs : goal.returns-in_ok-register-in-NamedRegister-clause-performs
 unfolding act
@@ -33,9 +52,9 @@ unfolding act
 returns-in_ok-register-in-NamedBaseRegister-clause-performs g c =
     let fits : FitsSigned w64 c.in_ok-register-in-NamedBaseRegister.offset = search rules in
     rw (c.in-NamedBaseRegister.is)
-    (read_done (operation.RegisterOffset c.in_ok-register-in-NamedBaseRegister.register.0 c.in_ok-register-in-NamedBaseRegister.offset 0) _ (g.R.Reader.text c.read_named_base_register.new.bytes).bytes c.args.self.now c.ask.new.self
-    (c.in_ok-register-in-NamedBaseRegister.ensures c.args.encoding).value tt (subst (λ (base_type : ℕ). Performs (RequestAct c.args.self.now.store.values (RequiresRegister c.in_ok-register-in-NamedBaseRegister.register.0 base_type) (requests.Register c.in_ok-register-in-NamedBaseRegister.offset)) c.args.self.now c.ask.new.self) c.generic_type.ensures
-    (subst (λ (offset : ℤ). Performs (RequestAct c.args.self.now.store.values (RequiresRegister c.in_ok-register-in-NamedBaseRegister.register.0 (g.R.Offset.ReaderOffset.number c.generic_type.result.0)) (requests.Register offset)) c.args.self.now c.ask.new.self) (to_z-of_z w64 c.in_ok-register-in-NamedBaseRegister.offset fits) c.ask.ensures)))
+    (read_done (operation.RegisterOffset c.in_ok-register-in-NamedBaseRegister.register.0 c.in_ok-register-in-NamedBaseRegister.offset 0) _ (g.R.Reader.text c.read_named_base_register.new.bytes).bytes c.args.self.now c.ask-in-NamedBaseRegister.new.self
+    (c.in_ok-register-in-NamedBaseRegister.ensures c.args.encoding).value tt (subst (λ (base_type : ℕ). Performs (RequestAct c.args.self.now.store.values (RequiresRegister c.in_ok-register-in-NamedBaseRegister.register.0 base_type) (requests.Register c.in_ok-register-in-NamedBaseRegister.offset)) c.args.self.now c.ask-in-NamedBaseRegister.new.self) c.generic_type.ensures
+    (subst (λ (offset : ℤ). Performs (RequestAct c.args.self.now.store.values (RequiresRegister c.in_ok-register-in-NamedBaseRegister.register.0 (g.R.Offset.ReaderOffset.number c.generic_type.result.0)) (requests.Register offset)) c.args.self.now c.ask-in-NamedBaseRegister.new.self) (to_z-of_z w64 c.in_ok-register-in-NamedBaseRegister.offset fits) c.ask-in-NamedBaseRegister.ensures)))
 
 pub returns-in_ok-register-in-TypedRegister-clause-performs : goal.returns-in_ok-register-in-TypedRegister-clause-performs
 unfolding act

@@ -2,13 +2,13 @@ use Rattle.std.proofs.Common.{refl, length, subst}
 use Rattle.std.proofs.lemmas.List.{length-reverse, reverse-append}
 use Rattle.dwarf_meaning.specs.Rest.{State}
 use Rattle.dwarf_store.specs.Lists.{MayRefuse}
-use Rattle.dwarf_machine.proofs.Pushes.{value_pushed, value_stops}
+use Rattle.dwarf_machine.proofs.Pushes.{value_pushed, value_faults}
 use Rattle.dwarf_machine.proofs.machine.Machine.push.Goals as goal
 
 pub returns-in_default : goal.returns-in_default
 returns-in_default g c =
     let is = rw (c.in_default.ensures.err, c.push.ensures.limit) at c.fail.ensures in
-    value_stops c.args.value c.args.self.now c.fail.new.self
+    value_faults c.args.value c.args.self.now c.fail.new.self
     (subst (λ (s : State). MayRefuse s.setup.limits.values (length s.store.values)) c.self.view_is (rw length-reverse c.in_default.ensures.full))
     (rw (← c.self.view_is) is)
 

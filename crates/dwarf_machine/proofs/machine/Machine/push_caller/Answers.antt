@@ -5,13 +5,13 @@ use Rattle.dwarf_base.proofs.Suffixes.{suffix_whole}
 use Rattle.dwarf_store.specs.Lists.{MayRefuse}
 use Rattle.dwarf_base.specs.Reads.{IsLeftOf}
 use Rattle.dwarf_machine.proofs.Callers.{callers-push, length-callers, all_and_last}
-use Rattle.dwarf_machine.proofs.Pushes.{frame_pushed, frame_stops}
+use Rattle.dwarf_machine.proofs.Pushes.{caller_pushed, caller_faults}
 use Rattle.dwarf_machine.proofs.machine.Machine.push_caller.Goals as goal
 
 pub returns-in_default : goal.returns-in_default
 returns-in_default g c =
     let is = rw (c.in_default.ensures.err, c.push.ensures.limit) at c.fail.ensures in
-    frame_stops c.args.self.now c.fail.new.self
+    caller_faults c.args.self.now c.fail.new.self
     (subst (λ (s : State). MayRefuse s.setup.limits.callers (length s.callers)) c.self.view_is (rw length-callers c.in_default.ensures.full))
     (rw (← c.self.view_is) is)
 
@@ -30,6 +30,6 @@ pub returns : goal.returns
 returns g c =
     let none : length (g.R.Reader.text c.args.callee).bytes - length (g.R.Reader.text c.args.callee).bytes ≡ 0 = omega arith in
     rw (← c.self.view_is) (record {
-      steps = frame_pushed _ _ _ _ (rw length-callers c.in-Ok.ensures.room) refl;
+      steps = caller_pushed _ _ _ _ (rw length-callers c.in-Ok.ensures.room) refl;
       alone = rw (none, c.push.ensures.limit, callers-push g.R.Reader.text (c.self.inside.pc, c.self.inside.bytecode) _ _ c.in-Ok.ensures.ok) refl;
     })

@@ -17,7 +17,7 @@ returns-in-Start-clause-follows g c =
     let new : State = c.start.new.self in
     let starts = sym c.in-Start.ensures in
     let fresh = subst (IsAtRestBy x) starts c.self.invariant in
-    let follows = start_follows x new (reply_of text number c.reply.result) c.reply.ensures.told c.in-Start.initial_value starts fresh c.start.ensures in
+    let follows = start_follows x new (reply_of text number c.reply.result) c.reply.ensures.reply c.in-Start.initial_value starts fresh c.start.ensures in
     subst (λ (z : State). Evaluates text number z new c.reply.result z.status) c.self.view_is (subst (Evaluates text number x new c.reply.result) (sym starts) follows)
 
 pub returns-in-Start-clause-counts : goal.returns-in-Start-clause-counts
@@ -28,6 +28,6 @@ returns-in-Start-clause-counts g c =
     let new : State = c.start.new.self in
     let starts = sym c.in-Start.ensures in
     let fresh = subst (IsAtRestBy x) starts c.self.invariant in
-    let told = reply_of text number c.reply.result in
-    let counts = start_counts x new told c.reply.ensures.told c.in-Start.initial_value starts fresh c.start.ensures in
-    subst (λ (z : State). EvaluatesPath z new told z.status) c.self.view_is (subst (EvaluatesPath x new told) (sym starts) counts)
+    let replied = reply_of text number c.reply.result in
+    let counts = start_counts x new replied c.reply.ensures.reply c.in-Start.initial_value starts fresh c.start.ensures in
+    subst (λ (z : State). EvaluatesPath z new replied z.status) c.self.view_is (subst (EvaluatesPath x new replied) (sym starts) counts)

@@ -22,7 +22,7 @@ returns-in-Waiting-clause-follows g c =
     let x : State = c.self.inside.machine in
     let new : State = c.resume.new.self in
     let answer = answer_of text c.args.given in
-    let means = resume_follows x new (reply_of text number c.reply.result) c.reply.ensures.told (input_of x answer) c.resume.ensures in
+    let means = resume_follows x new (reply_of text number c.reply.result) c.reply.ensures.reply (input_of x answer) c.resume.ensures in
     subst (λ (z : State). Resumes text number (input_of z answer) z new c.reply.result z.status) c.self.view_is (subst (Resumes text number (input_of x answer) x new c.reply.result) c.in-Waiting.ensures means)
 
 pub returns-in-Waiting-clause-counts : goal.returns-in-Waiting-clause-counts
@@ -31,9 +31,9 @@ returns-in-Waiting-clause-counts g c =
     let x : State = c.self.inside.machine in
     let new : State = c.resume.new.self in
     let answer = answer_of text c.args.given in
-    let told = reply_of text g.R.Offset.ReaderOffset.number c.reply.result in
-    let counts = resume_counts x new told c.reply.ensures.told (input_of x answer) c.resume.ensures in
-    subst (λ (z : State). ResumesPath (input_of z answer) z new told z.status) c.self.view_is (subst (ResumesPath (input_of x answer) x new told) c.in-Waiting.ensures counts)
+    let replied = reply_of text g.R.Offset.ReaderOffset.number c.reply.result in
+    let counts = resume_counts x new replied c.reply.ensures.reply (input_of x answer) c.resume.ensures in
+    subst (λ (z : State). ResumesPath (input_of z answer) z new replied z.status) c.self.view_is (subst (ResumesPath (input_of x answer) x new replied) c.in-Waiting.ensures counts)
 
 pub returns-in-Waiting-clause-fewer : goal.returns-in-Waiting-clause-fewer
 returns-in-Waiting-clause-fewer g c =

@@ -4,22 +4,22 @@ use Rattle.dwarf_replay.specs.Replays.{replies_in, reply_in}
 use Rattle.dwexpr.specs.Lines.{reply_line, reply_lines}
 use Rattle.dwexpr.proofs.Fronts.{all_of, as_rest, begun, more_of, refused_in}
 use Rattle.dwexpr.proofs.ListingLemmas.{lines_at}
-use Rattle.dwexpr.proofs.program.print_answers.Goals as goal
+use Rattle.dwexpr.proofs.program.print_replies.Goals as goal
 
 pub loop-answer-init : goal.loop-answer-init
 loop-answer-init g c = begun _ _
 
-pub returns-in_err-print_answer : goal.returns-in_err-print_answer
-returns-in_err-print_answer g c =
+pub returns-in_err-print_reply : goal.returns-in_err-print_reply
+returns-in_err-print_reply g c =
     refused_in _ _ _ _ _ (reply_lines (replies_in slice_text (λ x. x) (drop (c.loop-answer.answer-index + 1) c.args.answers.now))) _
     (as_rest _ _ _ _ _ (lines_at reply_line (reply_in slice_text (λ x. x)) c.args.answers.now c.loop-answer.answer-index _ c.loop-answer-test.true) c.loop-answer.invariant)
-    c.in_err-print_answer.ensures c.from_residual.ensures
+    c.in_err-print_reply.ensures c.from_residual.ensures
 
 pub loop-answer-preserved : goal.loop-answer-preserved
 loop-answer-preserved g c =
     more_of _ _ _ _ _ (reply_lines (replies_in slice_text (λ x. x) (drop (c.loop-answer.answer-index + 1) c.args.answers.now)))
     (as_rest _ _ _ _ _ (lines_at reply_line (reply_in slice_text (λ x. x)) c.args.answers.now c.loop-answer.answer-index _ c.loop-answer-test.true) c.loop-answer.invariant)
-    c.in_ok-print_answer.ensures
+    c.in_ok-print_reply.ensures
 
 pub returns : goal.returns
 returns g c =

@@ -1,7 +1,7 @@
 use Rattle.std.proofs.Common.{◌≡◌, ◌≤◌, ◌-◌, length, take}
 use Rattle.dwarf_replay.specs.Replays.{replies_in, steps_of}
 use Rattle.dwarf_replay.proofs.Standings.{Went}
-use Rattle.dwarf_replay.proofs.walk.replay.Given as goal
+use Rattle.dwarf_replay.proofs.replaying.replay.Given as goal
 
 -- the steps before this one came to the evaluation and the answers as they are
 abbrev pub invariant-loop-index : goal.invariant-loop-index

@@ -3,10 +3,10 @@ use Rattle.std.proofs.lemmas.Option.{slice_get_read}
 use Rattle.dwarf_replay.specs.Replays.{replies_in, steps_of}
 use Rattle.dwarf_replay.specs.Stepping.{step_of}
 use Rattle.dwarf_replay.specs.inner.Keeping.{TakesStep}
-use Rattle.dwarf_replay.specs.declared.walk.NotKept.{NotKept}
+use Rattle.dwarf_replay.specs.declared.replaying.NotKept.{NotKept}
 use Rattle.dwarf_replay.proofs.Standings.{Went, went_at_first}
 use Rattle.dwarf_replay.proofs.Turns.{kept_on, stopped, overflowed, taken_all}
-use Rattle.dwarf_replay.proofs.walk.replay.Goals as goal
+use Rattle.dwarf_replay.proofs.replaying.replay.Goals as goal
 
 pub loop-index-init : goal.loop-index-init
 loop-index-init g c =

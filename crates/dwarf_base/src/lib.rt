@@ -5,16 +5,12 @@ mod byte_order;
 mod common;
 pub mod constants;
 mod equality;
-#[cfg(test)]
-mod equality_tests;
 mod errors;
 mod laws;
 mod offsets;
 mod reading;
 mod slices;
 mod standard;
-#[cfg(test)]
-mod tests;
 
 pub use byte_order::{BigEndian, Endianity, LittleEndian, RunTimeEndian};
 pub use common::{

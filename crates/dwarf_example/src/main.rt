@@ -1,6 +1,8 @@
 //! Expressions evaluated on the heap and on lists of fixed capacities, in three loops that a user may write.
 #![tactic(auto)]
 
+ghost use Rattle.dwarf_eval.specs.Evaluation.{IsClosed};
+
 mod registers;
 mod requests;
 mod zeros;
@@ -107,41 +109,50 @@ impl<'a> Process<Bytes<'a>> for Stopped<'a> {
     }
 }
 
-/// Prints what a debugger's loop makes of the bytes, on the heap and on fixed lists.
-fn show_complete<'a>(rt: &HostRuntime, bytes: Bytes<'a>, process: &Stopped<'a>) -> io::Result<()> {
-    let mut evaluation = Evaluation::new(rt.alloc(), bytes, ENCODING);
+/// Prints what a debugger's loop makes of a new evaluation.
+fn show_complete<'a, S: EvaluationStorage<Bytes<'a>>>(
+    rt: &HostRuntime,
+    lists: &str,
+    mut evaluation: Evaluation<Bytes<'a>, S>,
+    process: &Stopped<'a>,
+) -> io::Result<()>
+    requires { IsClosed evaluation.status }
+{
     match complete(&mut evaluation, process) {
         Ok(()) => println!(rt;
-            "heap: {:?} {:?}",
+            "{lists}: {:?} {:?}",
             evaluation.value_result(),
             evaluation.as_result()
-        )?,
-        Err(error) => println!(rt; "heap: {error:?}")?,
+        ),
+        Err(error) => println!(rt; "{lists}: {error:?}"),
     }
-    let mut evaluation: Evaluation<Bytes<'a>, Fixed> = Evaluation::new_in(
+}
+
+/// Prints what it makes of the bytes, on the heap and on fixed lists.
+fn show_both<'a>(rt: &HostRuntime, bytes: Bytes<'a>, process: &Stopped<'a>) -> io::Result<()> {
+    let on_heap = Evaluation::new(rt.alloc(), bytes, ENCODING);
+    show_complete(rt, "heap", on_heap, process)?;
+    let on_lists: Evaluation<Bytes<'a>, Fixed> = Evaluation::new_in(
         bytes,
         ENCODING,
         ArrayVec::new(),
         ArrayVec::new(),
         ArrayVec::new(),
     );
-    match complete(&mut evaluation, process) {
-        Ok(()) => println!(rt;
-            "lists: {:?} {:?}",
-            evaluation.value_result(),
-            evaluation.as_result()
-        ),
-        Err(error) => println!(rt; "lists: {error:?}"),
+    show_complete(rt, "lists", on_lists, process)
+}
+
+/// Prints what registers alone make of the bytes.
+fn show_registers<'a>(rt: &HostRuntime, bytes: Bytes<'a>, process: &Stopped<'a>) -> io::Result<()> {
+    let mut evaluation = Evaluation::new(rt.alloc(), bytes, ENCODING);
+    match complete_with_registers(&mut evaluation, &process.registers, 2) {
+        Ok(complete) => println!(rt; "registers alone: {complete}"),
+        Err(error) => println!(rt; "registers alone: {error:?}"),
     }
 }
 
-/// Prints what registers alone make of the bytes, and how often they ask.
-fn show_others<'a>(rt: &HostRuntime, bytes: Bytes<'a>, process: &Stopped<'a>) -> io::Result<()> {
-    let mut evaluation = Evaluation::new(rt.alloc(), bytes, ENCODING);
-    match complete_with_registers(&mut evaluation, &process.registers, 2) {
-        Ok(complete) => println!(rt; "registers alone: {complete}")?,
-        Err(error) => println!(rt; "registers alone: {error:?}")?,
-    }
+/// Prints how often the bytes ask.
+fn show_requests(rt: &HostRuntime, bytes: Bytes<'_>) -> io::Result<()> {
     let mut evaluation = Evaluation::new(rt.alloc(), bytes, ENCODING);
     let nothing = EndianSlice::new(&[], RunTimeEndian::Little);
     match count_requests(&mut evaluation, nothing) {
@@ -169,8 +180,9 @@ fn show_all(rt: &HostRuntime) -> io::Result<()> {
     ];
     for expression in expressions {
         let bytes = EndianSlice::new(expression, RunTimeEndian::Little);
-        show_complete(rt, bytes, &process)?;
-        show_others(rt, bytes, &process)?;
+        show_both(rt, bytes, &process)?;
+        show_registers(rt, bytes, &process)?;
+        show_requests(rt, bytes)?;
     }
     Ok(())
 }

@@ -240,8 +240,8 @@ fn a_big_endian_constant(rt: HostRuntime) {
     expect_value(&rt, stand(&eval), Value::Generic(258), 258);
 }
 
-// Calls the resume of the answer's kind, where such a request is open.
-fn resume<'a>(
+// Hands over a value, where such a request is open.
+fn resume_with_value<'a>(
     rt: &impl Abort,
     eval: &mut Evaluation<Slice<'a>, StoreOnHeap<Global>>,
     answer: Step<Slice<'a>>,
@@ -263,6 +263,17 @@ fn resume<'a>(
             expect_waiting(rt, eval, WaitingKind::EntryValue);
             eval.resume_with_entry_value(value)
         }
+        _ => evaluate(rt, eval),
+    }
+}
+
+// Hands over an address, where such a request is open.
+fn resume_with_address<'a>(
+    rt: &impl Abort,
+    eval: &mut Evaluation<Slice<'a>, StoreOnHeap<Global>>,
+    answer: Step<Slice<'a>>,
+) -> Answered<'a> {
+    match answer {
         Step::FrameBase(frame_base) => {
             expect_waiting(rt, eval, WaitingKind::FrameBase);
             eval.resume_with_frame_base(frame_base)
@@ -275,10 +286,6 @@ fn resume<'a>(
             expect_waiting(rt, eval, WaitingKind::CallFrameCfa);
             eval.resume_with_call_frame_cfa(address)
         }
-        Step::ParameterRef(number) => {
-            expect_waiting(rt, eval, WaitingKind::ParameterRef);
-            eval.resume_with_parameter_ref(number)
-        }
         Step::RelocatedAddress(address) => {
             expect_waiting(rt, eval, WaitingKind::RelocatedAddress);
             eval.resume_with_relocated_address(address)
@@ -286,6 +293,24 @@ fn resume<'a>(
         Step::IndexedAddress(address) => {
             expect_waiting(rt, eval, WaitingKind::IndexedAddress);
             eval.resume_with_indexed_address(address)
+        }
+        _ => evaluate(rt, eval),
+    }
+}
+
+// Calls the resume of the answer's kind, where such a request is open.
+fn resume<'a>(
+    rt: &impl Abort,
+    eval: &mut Evaluation<Slice<'a>, StoreOnHeap<Global>>,
+    answer: Step<Slice<'a>>,
+) -> Answered<'a> {
+    match answer {
+        Step::Memory(_) | Step::Register(_) | Step::WasmValue(_) | Step::EntryValue(_) => {
+            resume_with_value(rt, eval, answer)
+        }
+        Step::ParameterRef(number) => {
+            expect_waiting(rt, eval, WaitingKind::ParameterRef);
+            eval.resume_with_parameter_ref(number)
         }
         Step::AtLocation(callee) => {
             expect_waiting(rt, eval, WaitingKind::AtLocation);
@@ -295,7 +320,7 @@ fn resume<'a>(
             expect_waiting(rt, eval, WaitingKind::BaseType);
             eval.resume_with_base_type(base_type)
         }
-        _ => evaluate(rt, eval),
+        _ => resume_with_address(rt, eval, answer),
     }
 }
 

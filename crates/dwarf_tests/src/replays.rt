@@ -1,4 +1,4 @@
-ghost use Rattle.std.specs.Prelude.{◌≡◌, None};
+ghost use Rattle.std.specs.Prelude.{◌≡◌, [], None};
 ghost use Rattle.dwarf_meaning.specs.Rest.{Start};
 
 use crate::evaluation::{
@@ -12,7 +12,7 @@ use dwarf_base::{
 use dwarf_expr::eval::{Evaluation, Status, WaitingKind};
 use dwarf_expr::op::{DieReference, EvaluationResult, Expression, Location, Piece};
 use dwarf_expr::replay::{Answer, Replayed, Step, replay};
-use dwarf_expr::store::EvaluationStorage;
+use dwarf_expr::store::{ArrayLike, EvaluationStorage};
 use dwarf_expr::value::Value;
 use rows::{
     BRANCHES, CALLS, CUT, Ending, FIXED, HIGH_BITS, LOCATIONS, MISPLACED, OTHERS, REQUESTS, Reply,
@@ -132,6 +132,18 @@ struct Played<R: Reader> {
     pieces: Vec<Piece<R>>,
 }
 
+// Replays the steps. What it gives has no contract, as the tests look at it.
+fn replay_all<R: Reader + Copy, S: EvaluationStorage<R>, L: ArrayLike<Item = Answer<R>>>(
+    eval: &mut Evaluation<R, S>,
+    steps: &[Step<R>],
+    answers: &mut L,
+) -> Replayed<R>
+    requires fresh { eval.old.status ≡ Start None }
+    requires empty { L.items answers.old ≡ [] }
+{
+    replay(eval, steps, answers)
+}
+
 // Replays the steps in a fresh evaluation.
 fn play<R: Reader + Copy, S: EvaluationStorage<R>>(
     alloc: Global,
@@ -141,7 +153,7 @@ fn play<R: Reader + Copy, S: EvaluationStorage<R>>(
     requires { eval.status ≡ Start None }
 {
     let mut answers = Vec::new(alloc);
-    let replayed = replay(&mut eval, steps, &mut answers);
+    let replayed = replay_all(&mut eval, steps, &mut answers);
     let (status, value, given) = stand(&eval);
     let mut pieces = Vec::new(alloc);
     pieces.extend_from_slice(given)?;
@@ -273,7 +285,16 @@ fn other_encodings(rt: HostRuntime) -> std::result::Result<(), AllocError> {
     Ok(())
 }
 
-// Replays the steps over lists of these capacities, each of them in the table.
+// Replays the steps over lists of these capacities.
+fn play_over<'a, const STACK: usize, const CALLERS: usize, const PIECES: usize>(
+    alloc: Global,
+    text: &'a [u8],
+    steps: &[Step<Slice<'a>>],
+) -> std::result::Result<Played<Slice<'a>>, AllocError> {
+    play(alloc, over_lists::<STACK, CALLERS, PIECES>(text), steps)
+}
+
+// Replays the steps over lists of capacities that are in the table.
 fn play_over_lists<'a>(
     rt: &impl Abort,
     alloc: Global,
@@ -282,16 +303,16 @@ fn play_over_lists<'a>(
     steps: &[Step<Slice<'a>>],
 ) -> std::result::Result<Played<Slice<'a>>, AllocError> {
     match capacities {
-        (0, 1, 2) => play(alloc, over_lists::<0, 1, 2>(text), steps),
-        (1, 0, 2) => play(alloc, over_lists::<1, 0, 2>(text), steps),
-        (1, 1, 0) => play(alloc, over_lists::<1, 1, 0>(text), steps),
-        (1, 1, 1) => play(alloc, over_lists::<1, 1, 1>(text), steps),
-        (1, 1, 2) => play(alloc, over_lists::<1, 1, 2>(text), steps),
-        (1, 4, 1) => play(alloc, over_lists::<1, 4, 1>(text), steps),
-        (2, 1, 1) => play(alloc, over_lists::<2, 1, 1>(text), steps),
+        (0, 1, 2) => play_over::<0, 1, 2>(alloc, text, steps),
+        (1, 0, 2) => play_over::<1, 0, 2>(alloc, text, steps),
+        (1, 1, 0) => play_over::<1, 1, 0>(alloc, text, steps),
+        (1, 1, 1) => play_over::<1, 1, 1>(alloc, text, steps),
+        (1, 1, 2) => play_over::<1, 1, 2>(alloc, text, steps),
+        (1, 4, 1) => play_over::<1, 4, 1>(alloc, text, steps),
+        (2, 1, 1) => play_over::<2, 1, 1>(alloc, text, steps),
         _ => {
             assert!(rt; capacities == (3, 1, 1));
-            play(alloc, over_lists::<3, 1, 1>(text), steps)
+            play_over::<3, 1, 1>(alloc, text, steps)
         }
     }
 }
@@ -319,7 +340,7 @@ fn steps_of_a_call<'a>() -> [Step<Slice<'a>>; 3] {
 fn room_for_two_answers(rt: HostRuntime) {
     let mut eval = on_heap(rt.alloc(), &CALL);
     let mut answers = ArrayVec::<Answer<Slice<'_>>, 2>::new();
-    let replayed = replay(&mut eval, &steps_of_a_call(), &mut answers);
+    let replayed = replay_all(&mut eval, &steps_of_a_call(), &mut answers);
     assert!(rt; replayed == Replayed::Done);
     assert!(rt; answers.as_slice() == [ASKED, COMPLETE].as_slice());
     assert!(rt; eval.status() == Status::Complete);
@@ -329,7 +350,7 @@ fn room_for_two_answers(rt: HostRuntime) {
 fn room_for_one_answer(rt: HostRuntime) {
     let mut eval = on_heap(rt.alloc(), &CALL);
     let mut answers = ArrayVec::<Answer<Slice<'_>>, 1>::new();
-    let replayed = replay(&mut eval, &steps_of_a_call(), &mut answers);
+    let replayed = replay_all(&mut eval, &steps_of_a_call(), &mut answers);
     let index = 2;
     assert!(rt;
         replayed
@@ -346,7 +367,7 @@ fn room_for_one_answer(rt: HostRuntime) {
 fn room_for_no_answer(rt: HostRuntime) {
     let mut eval = on_heap(rt.alloc(), &CALL);
     let mut answers = ArrayVec::<Answer<Slice<'_>>, 0>::new();
-    let replayed = replay(&mut eval, &steps_of_a_call(), &mut answers);
+    let replayed = replay_all(&mut eval, &steps_of_a_call(), &mut answers);
     let index = 1;
     assert!(rt;
         replayed
@@ -364,7 +385,7 @@ fn misplaced_steps(rt: HostRuntime) -> std::result::Result<(), AllocError> {
     for (text, steps, index, told, status) in &MISPLACED {
         let mut eval = on_heap(rt.alloc(), text);
         let mut answers = Vec::new(rt.alloc());
-        let replayed = replay(&mut eval, &read_all(rt.alloc(), steps)?, &mut answers);
+        let replayed = replay_all(&mut eval, &read_all(rt.alloc(), steps)?, &mut answers);
         assert!(rt; replayed == Replayed::Misplaced(*index), "{text:?}");
         expect_told(&rt, &answers, told, text);
         assert!(rt; eval.status() == *status, "{text:?}");
@@ -376,7 +397,7 @@ fn misplaced_steps(rt: HostRuntime) -> std::result::Result<(), AllocError> {
 fn no_steps(rt: HostRuntime) {
     let mut eval = on_heap(rt.alloc(), &[0x31]);
     let mut answers = Vec::new(rt.alloc());
-    assert!(rt; replay(&mut eval, &[], &mut answers) == Replayed::Done);
+    assert!(rt; replay_all(&mut eval, &[], &mut answers) == Replayed::Done);
     assert!(rt; answers.is_empty());
     assert!(rt; eval.status() == Status::Start { initial: false });
 }
@@ -386,7 +407,7 @@ fn settings_before_a_replay(rt: HostRuntime) {
     let mut eval = on_heap(rt.alloc(), &[0x97]);
     eval.set_object_address(0x7000);
     let mut answers = Vec::new(rt.alloc());
-    assert!(rt; replay(&mut eval, &[Step::Evaluate], &mut answers) == Replayed::Done);
+    assert!(rt; replay_all(&mut eval, &[Step::Evaluate], &mut answers) == Replayed::Done);
     assert!(rt; answers.as_slice() == [COMPLETE].as_slice());
     expect_value(&rt, stand(&eval), Value::Generic(0x7000), 0x7000);
 }
@@ -402,7 +423,7 @@ fn refused_growth_in_a_replay(rt: HostRuntime) {
     let full = Answer(Err(Error::StackFull));
     let mut eval = Evaluation::new(Refusing, little(&[0x31]), SMALL);
     let mut answers = ArrayVec::<Answer<Slice<'_>>, 4>::new();
-    assert!(rt; replay(&mut eval, &steps, &mut answers) == Replayed::Done);
+    assert!(rt; replay_all(&mut eval, &steps, &mut answers) == Replayed::Done);
     assert!(rt; answers.as_slice() == [full; 4].as_slice());
     assert!(rt; eval.status() == Status::Failed(Error::StackFull));
 }
@@ -411,7 +432,7 @@ fn refused_growth_in_a_replay(rt: HostRuntime) {
 fn refused_answer(rt: HostRuntime) {
     let mut eval = on_heap(rt.alloc(), &[0x31]);
     let mut answers = Vec::new(Refusing);
-    let replayed = replay(&mut eval, &[Step::Evaluate], &mut answers);
+    let replayed = replay_all(&mut eval, &[Step::Evaluate], &mut answers);
     let index = 0;
     assert!(rt;
         replayed

@@ -9,8 +9,6 @@ mod equality;
 mod laws;
 mod masks;
 mod shifts;
-#[cfg(test)]
-mod tests;
 mod types;
 mod word;
 

@@ -7,8 +7,6 @@ mod numbers;
 mod operations;
 mod program;
 mod steps;
-#[cfg(test)]
-mod tests;
 mod values;
 mod words;
 mod writing;

@@ -1,4 +1,4 @@
-use crate::{
+use dwarf_base::{
     EndianSlice, Endianity, LittleEndian, RunTimeEndian, UnitOffset, constant_laws, equality_laws,
     offset_equality_laws, slice_equality_laws,
 };

@@ -1,12 +1,12 @@
 ghost use Rattle.dwarf_value.specs.Values.{IsAddressMask};
 
-use crate::Value::{Generic, I8, I16, I32, I64, U8, U16, U32, U64};
-use crate::{Value, ValueType, equality_laws, is_addr_mask, value_laws};
 use Call::{
     Abs, Add, And, Div, Eq, Ge, Gt, Le, Lt, Mul, Ne, Neg, Not, Or, Rem, Shl, Shr, Shra, Sub, Xor,
 };
 use dwarf_base::constants::{DW_ATE_float, DW_ATE_signed, DW_ATE_unsigned};
 use dwarf_base::{DwAte, EndianSlice, Error, Result, RunTimeEndian};
+use dwarf_value::Value::{Generic, I8, I16, I32, I64, U8, U16, U32, U64};
+use dwarf_value::{Value, ValueType, equality_laws, is_addr_mask, value_laws};
 use std::process::Abort;
 
 // The mask of an address of 4 bytes.

@@ -1,5 +1,5 @@
-use crate::constants::{DW_ATE_signed, DW_OP_GNU_variable_value, DW_OP_addr, DW_OP_lit31};
-use crate::{
+use dwarf_base::constants::{DW_ATE_signed, DW_OP_GNU_variable_value, DW_OP_addr, DW_OP_lit31};
+use dwarf_base::{
     BigEndian, DebugAddrIndex, DebugInfoOffset, DwAte, DwOp, EndianSlice, Endianity, Error, Format,
     LittleEndian, Reader, ReaderOffset, ReaderOffsetId, Register, Result, RunTimeEndian,
     UnitOffset, reader_laws,

@@ -285,16 +285,7 @@ fn other_encodings(rt: HostRuntime) -> std::result::Result<(), AllocError> {
     Ok(())
 }
 
-// Replays the steps over lists of these capacities.
-fn play_over<'a, const STACK: usize, const CALLERS: usize, const PIECES: usize>(
-    alloc: Global,
-    text: &'a [u8],
-    steps: &[Step<Slice<'a>>],
-) -> std::result::Result<Played<Slice<'a>>, AllocError> {
-    play(alloc, over_lists::<STACK, CALLERS, PIECES>(text), steps)
-}
-
-// Replays the steps over lists of capacities that are in the table.
+// Replays the steps over lists of these capacities, each of them in the table.
 fn play_over_lists<'a>(
     rt: &impl Abort,
     alloc: Global,
@@ -303,16 +294,16 @@ fn play_over_lists<'a>(
     steps: &[Step<Slice<'a>>],
 ) -> std::result::Result<Played<Slice<'a>>, AllocError> {
     match capacities {
-        (0, 1, 2) => play_over::<0, 1, 2>(alloc, text, steps),
-        (1, 0, 2) => play_over::<1, 0, 2>(alloc, text, steps),
-        (1, 1, 0) => play_over::<1, 1, 0>(alloc, text, steps),
-        (1, 1, 1) => play_over::<1, 1, 1>(alloc, text, steps),
-        (1, 1, 2) => play_over::<1, 1, 2>(alloc, text, steps),
-        (1, 4, 1) => play_over::<1, 4, 1>(alloc, text, steps),
-        (2, 1, 1) => play_over::<2, 1, 1>(alloc, text, steps),
+        (0, 1, 2) => play(alloc, over_lists::<0, 1, 2>(text), steps),
+        (1, 0, 2) => play(alloc, over_lists::<1, 0, 2>(text), steps),
+        (1, 1, 0) => play(alloc, over_lists::<1, 1, 0>(text), steps),
+        (1, 1, 1) => play(alloc, over_lists::<1, 1, 1>(text), steps),
+        (1, 1, 2) => play(alloc, over_lists::<1, 1, 2>(text), steps),
+        (1, 4, 1) => play(alloc, over_lists::<1, 4, 1>(text), steps),
+        (2, 1, 1) => play(alloc, over_lists::<2, 1, 1>(text), steps),
         _ => {
             assert!(rt; capacities == (3, 1, 1));
-            play_over::<3, 1, 1>(alloc, text, steps)
+            play(alloc, over_lists::<3, 1, 1>(text), steps)
         }
     }
 }

@@ -15,7 +15,7 @@ use contract.Running.{tables, tables_of}
 use sound.WpLaws.{FmC, fm_of, WpFn-mono}
 use types.Kit.{‵, raw, ◌⊛◌, ◌$◌, ◌∵◌, !, qed, move, keep, join, split, fjoin, feq_i, suffices, done}
 use types.Run.{unit_lit, of_opd, returns, enter}
-use types.ByLocal.{alloc_all, pass_all, free_all, look_at, sets, env}
+use types.ByLocal.{alloc_all, pass_all, free_all, look_at, sets}
 use denote.RattleType.{owns}
 use denote.Exit.{yes}
 use denote.Builtin.{usize, RefOf}

@@ -10,17 +10,8 @@ use Rattle.dwarf_meaning.specs.Stores.{Setup, Store, Next, Goes, RequestNext, Fa
 use Rattle.dwarf_meaning.specs.Rest.{State, Status, Start, Running, RequestStatus, CompleteStatus, FaultStatus, with_refusal}
 use Rattle.dwarf_meaning.specs.Refusals.{before_pushes}
 use Rattle.dwarf_meaning.proofs.Effects.{IsActOf, branches, act_is}
-use Rattle.dwarf_op.specs.Entries.{plain_operation, offset_operation, block_operation, wasm_operation}
-use Rattle.dwarf_op.specs.declared.opcodes.Plain.{Plain}
-use Rattle.dwarf_op.specs.declared.opcodes.FromOffset.{FromOffset}
-use Rattle.dwarf_op.specs.declared.opcodes.FromBlock.{FromBlock}
-use Rattle.dwarf_op.specs.declared.operands.WasmPlace.{WasmPlace}
 use Rattle.dwarf_machine.specs.inner.Steps.{LeadsBy, Performs, PerformsRead, Stays, act_of, at, done_at, with_place}
 use Rattle.dwarf_meaning.specs.Operations as operation
-use Rattle.dwarf_op.specs.declared.opcodes.Plain.TheVariants as plain
-use Rattle.dwarf_op.specs.declared.opcodes.FromOffset.TheVariants as from_offset
-use Rattle.dwarf_op.specs.declared.opcodes.FromBlock.TheVariants as from_block
-use Rattle.dwarf_op.specs.declared.operands.WasmPlace.TheVariants as wasm_place
 
 -- ---- the text
 
@@ -114,68 +105,17 @@ still op (Branches rest target) (branches l (inl e)) h = subst IsNoBranch e h
 still op (Branches rest target) (branches l (inr e)) h = subst IsNoBranch e h
 still op _ d h = tt
 
--- ---- the entries that make no branch
-
-pub plain_still : (make : Plain) → IsNoBranch (plain_operation make)
-plain_still plain.Drop = tt
-plain_still plain.Swap = tt
-plain_still plain.Rot = tt
-plain_still plain.Abs = tt
-plain_still plain.And = tt
-plain_still plain.Div = tt
-plain_still plain.Minus = tt
-plain_still plain.Mod = tt
-plain_still plain.Mul = tt
-plain_still plain.Neg = tt
-plain_still plain.Not = tt
-plain_still plain.Or = tt
-plain_still plain.Plus = tt
-plain_still plain.Shl = tt
-plain_still plain.Shr = tt
-plain_still plain.Shra = tt
-plain_still plain.Xor = tt
-plain_still plain.Eq = tt
-plain_still plain.Ge = tt
-plain_still plain.Gt = tt
-plain_still plain.Le = tt
-plain_still plain.Lt = tt
-plain_still plain.Ne = tt
-plain_still plain.Nop = tt
-plain_still plain.PushObjectAddress = tt
-plain_still plain.TLS = tt
-plain_still plain.CallFrameCFA = tt
-plain_still plain.StackValue = tt
-plain_still plain.Uninitialized = tt
-
-pub offset_still : (make : FromOffset) (offset : ℕ) → IsNoBranch (offset_operation make offset)
-offset_still from_offset.UnitCall offset = tt
-offset_still from_offset.InfoCall offset = tt
-offset_still from_offset.ParameterRef offset = tt
-offset_still from_offset.AddressIndex offset = tt
-offset_still from_offset.ConstantIndex offset = tt
-offset_still from_offset.Convert offset = tt
-offset_still from_offset.Reinterpret offset = tt
-offset_still from_offset.VariableValue offset = tt
-
-pub block_still : (make : FromBlock) (block : Text) → IsNoBranch (block_operation make block)
-block_still from_block.ImplicitValue block = tt
-block_still from_block.EntryValue block = tt
-
-pub wasm_still : (make : WasmPlace) (index : ℕ) → IsNoBranch (wasm_operation make index)
-wasm_still wasm_place.Local index = tt
-wasm_still wasm_place.Global index = tt
-wasm_still wasm_place.Stack index = tt
-
 -- ---- behind the bytes of an operation
 
--- what takes no branch was done behind the bytes that were read
-pub read_done : (op : Operation) (read : Result (Operation × List ℕ) Fault) (left : List ℕ) (old new : State) → read ≡ Ok (op, left) → IsNoBranch op → Performs (act_of old op) old new → PerformsRead read left old new
-read_done op read left old new was none h = record {
-  op = op;
-  behind = left;
-  was = was;
-  performs = performs_at (act_of old op) left old new (still op (act_of old op) (act_is (address_bits old.setup) old.store.object_address op old.store.values) none) h;
-}
+-- what takes no branch is done in front of any place
+pub performs_there : (op : Operation) (left : List ℕ) (old new : State) → IsNoBranch op → Performs (act_of old op) old new → Performs (act_of old op) (at left old) (at left new)
+performs_there op left old new none h =
+    performs_at (act_of old op) left old new (still op (act_of old op) (act_is (address_bits old.setup) old.store.object_address op old.store.values) none) h
+
+-- the same of an operation by another name
+pub performs_named : (named op : Operation) (left : List ℕ) (old new : State) → named ≡ op → IsNoBranch op → Performs (act_of old op) old new → Performs (act_of old named) (at left old) (at left new)
+performs_named named op left old new is none h =
+    subst (λ (z : Operation). Performs (act_of old z) (at left old) (at left new)) (sym is) (performs_there op left old new none h)
 
 -- ---- what is left
 
@@ -186,3 +126,7 @@ left_then before left whole h reads = record { rest = suffix_trans left.bytes be
 -- and once an operation was done
 pub left_after : {X Y : Type 0} {view : X → Y} {result : Result X Error} {read : Result (Y × List ℕ) Fault} (before left : Text) (a : Act) (old new : State) → IsLeftOf before old.text → Reads view before left result read → Performs a old new → IsLeftOf left new.text
 left_after before left a old new h reads performs = subst (IsLeftOf left) (sym (performs_text a old new performs)) (left_then before left old.text h reads)
+
+-- what is left stays left
+pub left_there : (left : Text) (a : Act) (old new : State) → IsLeftOf left old.text → Performs a old new → IsLeftOf left new.text
+left_there left a old new h performs = subst (IsLeftOf left) (sym (performs_text a old new performs)) h

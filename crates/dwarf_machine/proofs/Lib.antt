@@ -24,7 +24,6 @@ pub mod Holding
 pub mod AnswerUses
 pub mod Resuming
 pub mod Behind
-pub mod OneOperand
 pub mod Loads
 pub mod Endings
 pub mod Spending

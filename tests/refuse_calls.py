@@ -17,7 +17,7 @@ import sys
 import tempfile
 
 TOP = pathlib.Path(__file__).resolve().parent.parent
-LAUNCHER = TOP / "bin" / "dwexpr"
+BUILD = TOP / "bin" / "build"
 PROGRAM = TOP / "crates" / "dwexpr" / "out" / "dwexpr"
 SECONDS = 60
 # How many numbers in a row must change nothing before they end.
@@ -128,9 +128,7 @@ def refuse_writes(library):
 
 
 def main():
-    # The launcher builds the program where it isn't built yet.
-    words = [str(LAUNCHER), "eval", "4", "4", "4", "le", "-"]
-    built = subprocess.run(words, stdin=subprocess.DEVNULL, stdout=sys.stderr, check=False)
+    built = subprocess.run([str(BUILD)], stdin=subprocess.DEVNULL, stdout=sys.stderr, check=False)
     with tempfile.TemporaryDirectory() as folder:
         library = pathlib.Path(folder) / "refuse.so"
         words = ["cc", "-std=c11", "-O1", "-Wall", "-Wextra", "-Werror", "-shared", "-fPIC"]

@@ -27,7 +27,7 @@ import sys
 
 TOP = pathlib.Path(__file__).resolve().parent.parent
 ROWS = TOP / "tests" / "rows"
-LAUNCHER = TOP / "bin" / "dwexpr"
+BUILD = TOP / "bin" / "build"
 PROGRAM = TOP / "crates" / "dwexpr" / "out" / "dwexpr"
 SECONDS = 60
 INPUTS = {"input", "input_hex", "input_from"}
@@ -141,12 +141,9 @@ def complaints_of(row):
 
 def main():
     wanted = sys.argv[1] if len(sys.argv) > 1 else ""
-    # The launcher builds the program where it isn't built yet; after that the program itself is run.
-    built = subprocess.run(
-        [str(LAUNCHER), "eval", "4", "4", "4", "le", "-"], stdin=subprocess.DEVNULL, stdout=sys.stderr, check=False
-    )
-    if built.returncode != 0 or not PROGRAM.is_file():
-        print(f"bin/dwexpr ended with status {built.returncode}, so no row was run")
+    built = subprocess.run([str(BUILD)], stdin=subprocess.DEVNULL, stdout=sys.stderr, check=False)
+    if built.returncode != 0:
+        print(f"bin/build ended with status {built.returncode}, so no row was run")
         print("0 passed, 1 failed")
         return 1
     passed = failed = 0

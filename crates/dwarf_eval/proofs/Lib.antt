@@ -1,3 +1,4 @@
 pub mod EqualPieces
 pub mod Following
 pub mod Items
+pub mod Spending

@@ -19,7 +19,7 @@ use Rattle.dwarf_replay.specs.Replays.{Tells}
 use Rattle.dwarf_eval.specs.declared.op.results.EvaluationResult.{EvaluationResult}
 use Rattle.dwarf_eval.specs.Bounds.{SpendsInAll, initial_items}
 use Rattle.dwarf_replay.proofs.Rests.{told_rest}
-use Rattle.dwarf_replay.proofs.Spending.{spent_more}
+use Rattle.dwarf_eval.proofs.Spending.{spent_more}
 use Rattle.dwarf_replay.proofs.Rests.{unwound_open}
 use Rattle.dwarf_replay.proofs.Telling.{walked_more}
 use Rattle.dwarf_replay.proofs.Standings.{Holds, Unstarted, Going, Over, WentBy, Went, later_before, may_inputs}

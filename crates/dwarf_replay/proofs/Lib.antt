@@ -3,7 +3,6 @@ pub mod Calling
 pub mod Leading
 pub mod Rests
 pub mod Settings
-pub mod Spending
 pub mod Standings
 pub mod Telling
 pub mod Turns

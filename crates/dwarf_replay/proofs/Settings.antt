@@ -10,7 +10,7 @@ use Rattle.dwarf_eval.specs.Evaluation.{with_object, with_maximum, WaitsOrIsComp
 use Rattle.dwarf_replay.specs.Stepping.{IsSet}
 use Rattle.dwarf_replay.specs.Replays.{Tells}
 use Rattle.dwarf_eval.specs.Bounds.{Spends, SpendsInAll, initial_items}
-use Rattle.dwarf_replay.proofs.Spending.{alike_spends, spent_initial, spent_more}
+use Rattle.dwarf_eval.proofs.Spending.{setting_spends, spent_initial, spent_more}
 use Rattle.dwarf_replay.proofs.Telling.{outcome, walked_more}
 use Rattle.dwarf_replay.proofs.Standings.{Holds, Unstarted, Going, WentBy, Went}
 
@@ -108,10 +108,8 @@ module _ (first : State) where
         let status : x.status ≡ new.status = ap (λ (z : State). z.status) (sym s.new_is) in
         subst (WentBy first (steps ++ step ∷ []) given new) status (set_by x.status refl w)
 
-  set_spends : {object : Option ℕ} {maximum : ℕ} (x new : State) → new ≡ set_to object maximum x → Spends x new
-  set_spends x new e =
-      alike_spends x new (ap (λ (z : State). z.status) e) (ap (λ (z : State). z.callers) e) (ap (λ (z : State). z.store.values) e) (ap (λ (z : State). z.store.pieces) e)
-      (ap (λ (z : State). z.store.last) e) (ap (λ (z : State). z.store.count) e) (ap (λ (z : State). z.decodings) e)
+  set_spends : (object : Option ℕ) (maximum : ℕ) (x new : State) → new ≡ set_to object maximum x → Spends x new
+  set_spends object maximum x new e = subst (Spends x) (sym e) (setting_spends object maximum x)
 
   object_setting : (address : ℕ) (x new : State) → new ≡ with_object (Some address) x → IsSetting (ObjectAddress address) x new
   object_setting address x new e = record {
@@ -130,7 +128,7 @@ module _ (first : State) where
       object_address = ap (λ (z : State). z.store.object_address) e;
       maximum = ap (λ (z : State). z.store.maximum) e ∙ h.maximum;
     };
-    spends = set_spends x new e;
+    spends = set_spends (Some address) x.store.maximum x new e;
   }
 
   maximum_setting : (maximum : ℕ) (x new : State) → new ≡ with_maximum maximum x → IsSetting (MaxIterations maximum) x new
@@ -150,7 +148,7 @@ module _ (first : State) where
       object_address = ap (λ (z : State). z.store.object_address) e ∙ h.object_address;
       maximum = ap (λ (z : State). z.store.maximum) e;
     };
-    spends = set_spends x new e;
+    spends = set_spends x.store.object_address maximum x new e;
   }
 
   -- the initial value

@@ -1,5 +1,5 @@
 -- What is spent by calls in a row.
-use Rattle.std.proofs.Common.{ℕ, ◌≡◌, ◌+◌, length, Some, None, arith, ap, ◌∙◌}
+use Rattle.std.proofs.Common.{ℕ, ◌≡◌, ◌+◌, length, Option, Some, None, arith, ap, refl}
 use Rattle.dwarf_meaning.specs.Stores.{Last}
 use Rattle.dwarf_meaning.specs.Rest.{State, Start}
 use Rattle.dwarf_eval.specs.Bounds.{piece_due, initial_due, answer_due, endings, located, faults_in, DecodesOnce, Spends, SpendsInAll}
@@ -56,13 +56,6 @@ spent_initial number a b c was is h =
           once_alike b c (omega (arith, met, meets)) pieces count read (omega (arith, p, q)) last (h.once was_once);
     }
 
--- a state with the same lists, status and counts
-pub alike_spends : (old new : State) → new.status ≡ old.status → new.callers ≡ old.callers → new.store.values ≡ old.store.values → new.store.pieces ≡ old.store.pieces → new.store.last ≡ old.store.last → new.store.count ≡ old.store.count → new.decodings ≡ old.decodings → Spends old new
-alike_spends old new status callers values pieces last count decodings =
-    let p = ap (piece_due new.store.last) status ∙ ap (λ (l : Last). piece_due l old.status) last in
-    let i = ap initial_due status in
-    let a = ap answer_due status in
-    let c = ap length callers in
-    let v = ap length values in
-    let s = ap length pieces in
-    record { items = omega (arith, p, i, a, c, v, s, count); callers = omega (arith, a, c, count); decodings = omega (arith, p, count, decodings); once = once_alike old new (ap faults_in status) pieces count decodings p last }
+-- the settings
+pub setting_spends : (object : Option ℕ) (maximum : ℕ) (x : State) → Spends x (record x { store = record x.store { object_address = object; maximum = maximum } })
+setting_spends object maximum x = record { items = omega arith; callers = omega arith; decodings = omega arith; once = once_alike x (record x { store = record x.store { object_address = object; maximum = maximum } }) refl refl refl refl refl refl }

@@ -91,9 +91,9 @@ pub fn twin_rows()
     ensures shift { ComeAlike plain (0x9c ∷ 0x12 ∷ 0x24 ∷ [])
         (started_steps (CfaAnswer 1 ∷ [])) (started_steps (CfaAnswer 0x100000001 ∷ []))
         (RequestReply RequiresCallFrameCfa ∷ CompleteReply ∷ []) (valued 2 2) (valued 2 2) }
-    ensures branch { ComeAlike plain (0x31 ∷ 0x9c ∷ 0x28 ∷ 0x01 ∷ 0x00 ∷ 0x32 ∷ [])
+    ensures branch { ComeAlike plain (0x31 ∷ 0x9c ∷ 0x28 ∷ 0x01 ∷ 0x00 ∷ 0x33 ∷ [])
         (started_steps (CfaAnswer 0 ∷ [])) (started_steps (CfaAnswer 0x100000000 ∷ []))
-        (RequestReply RequiresCallFrameCfa ∷ CompleteReply ∷ []) (valued 2 2) (valued 2 2) }
+        (RequestReply RequiresCallFrameCfa ∷ CompleteReply ∷ []) (valued 3 3) (valued 3 3) }
     ensures reinterpreted { ComeAlike plain (0x9c ∷ 0xa9 ∷ 0x09 ∷ [])
         (started_steps (CfaAnswer 0x10 ∷ BaseTypeAnswer kind.U32 ∷ []))
         (started_steps (CfaAnswer 0x100000010 ∷ BaseTypeAnswer kind.U32 ∷ []))

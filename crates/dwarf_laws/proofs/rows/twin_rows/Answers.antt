@@ -175,12 +175,12 @@ returns c = record {
   };
   branch = record {
     agree = more evaluate (more (resume (cfa refl)) none);
-    one = once plain (0x31 ∷ 0x9c ∷ 0x28 ∷ 0x01 ∷ 0x00 ∷ 0x32 ∷ []) RequiresCallFrameCfa
-        (open_at (0x31 ∷ 0x9c ∷ 0x28 ∷ 0x01 ∷ 0x00 ∷ 0x32 ∷ []) 2 ∷ [])
-        (CfaAnswer 0) (valued 2 2) refl (λ more. refl) (λ more. refl);
-    another = once plain (0x31 ∷ 0x9c ∷ 0x28 ∷ 0x01 ∷ 0x00 ∷ 0x32 ∷ []) RequiresCallFrameCfa
-        (open_at (0x31 ∷ 0x9c ∷ 0x28 ∷ 0x01 ∷ 0x00 ∷ 0x32 ∷ []) 2 ∷ [])
-        (CfaAnswer 0x100000000) (valued 2 2) refl (λ more. refl) (λ more. refl);
+    one = once plain (0x31 ∷ 0x9c ∷ 0x28 ∷ 0x01 ∷ 0x00 ∷ 0x33 ∷ []) RequiresCallFrameCfa
+        (open_at (0x31 ∷ 0x9c ∷ 0x28 ∷ 0x01 ∷ 0x00 ∷ 0x33 ∷ []) 2 ∷ [])
+        (CfaAnswer 0) (valued 3 3) refl (λ more. refl) (λ more. refl);
+    another = once plain (0x31 ∷ 0x9c ∷ 0x28 ∷ 0x01 ∷ 0x00 ∷ 0x33 ∷ []) RequiresCallFrameCfa
+        (open_at (0x31 ∷ 0x9c ∷ 0x28 ∷ 0x01 ∷ 0x00 ∷ 0x33 ∷ []) 2 ∷ [])
+        (CfaAnswer 0x100000000) (valued 3 3) refl (λ more. refl) (λ more. refl);
   };
   reinterpreted = record {
     agree = more evaluate (more (resume (cfa refl)) (more (resume base_type) none));

@@ -4,6 +4,7 @@ mod evaluation;
 mod requests;
 mod states;
 
+pub use crate::equality::status_equality_laws;
 pub use dwarf_meaning::WaitingKind;
 pub use evaluation::Evaluation;
 pub use states::Status;

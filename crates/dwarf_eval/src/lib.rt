@@ -4,7 +4,3 @@
 mod equality;
 pub mod eval;
 pub mod op;
-
-pub use equality::{
-    expression_equality_laws, piece_equality_laws, result_equality_laws, status_equality_laws,
-};

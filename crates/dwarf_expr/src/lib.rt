@@ -4,6 +4,7 @@
 pub mod laws;
 pub mod store;
 
+pub use dwarf_base as base;
 pub use dwarf_eval::{eval, op};
 pub use dwarf_replay as replay;
 pub use dwarf_value as value;

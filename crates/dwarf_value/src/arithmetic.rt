@@ -9,6 +9,8 @@ use dwarf_base::{Error, Result};
 
 impl Value {
     /// The sum, wrapped (`DW_OP_plus`). `TypeMismatch` where the types differ.
+    ///
+    /// `addr_mask` has a one for each bit of an address: [`is_addr_mask`](crate::is_addr_mask) tells.
     #[inline(always)]
     pub fn add(self, rhs: Value, addr_mask: u64) -> Result<Value>
         requires { IsAddressMask addr_mask }
@@ -19,6 +21,8 @@ impl Value {
     }
 
     /// The difference, wrapped (`DW_OP_minus`). `TypeMismatch` where the types differ.
+    ///
+    /// `addr_mask` has a one for each bit of an address: [`is_addr_mask`](crate::is_addr_mask) tells.
     #[inline(always)]
     pub fn sub(self, rhs: Value, addr_mask: u64) -> Result<Value>
         requires { IsAddressMask addr_mask }
@@ -29,6 +33,8 @@ impl Value {
     }
 
     /// The product, wrapped (`DW_OP_mul`). `TypeMismatch` where the types differ.
+    ///
+    /// `addr_mask` has a one for each bit of an address: [`is_addr_mask`](crate::is_addr_mask) tells.
     #[tactic(auto, using(crate::proofs::Wraps::low_bits_only))]
     #[inline(always)]
     pub fn mul(self, rhs: Value, addr_mask: u64) -> Result<Value>
@@ -42,6 +48,8 @@ impl Value {
     /// The quotient, rounded towards zero and wrapped (`DW_OP_div`). Generic values are divided as signed integers.
     ///
     /// `DivisionByZero` where the divisor is zero, of whatever type; else `TypeMismatch` where the types differ.
+    ///
+    /// `addr_mask` has a one for each bit of an address: [`is_addr_mask`](crate::is_addr_mask) tells.
     #[inline(always)]
     pub fn div(self, rhs: Value, addr_mask: u64) -> Result<Value>
         requires { IsAddressMask addr_mask }
@@ -54,6 +62,8 @@ impl Value {
     /// The remainder, with the dividend's sign (`DW_OP_mod`). Generic values are divided as unsigned integers.
     ///
     /// `DivisionByZero` where the divisor is zero, of whatever type; else `TypeMismatch` where the types differ.
+    ///
+    /// `addr_mask` has a one for each bit of an address: [`is_addr_mask`](crate::is_addr_mask) tells.
     #[inline(always)]
     pub fn rem(self, rhs: Value, addr_mask: u64) -> Result<Value>
         requires { IsAddressMask addr_mask }
@@ -64,6 +74,8 @@ impl Value {
     }
 
     /// The absolute value, wrapped (`DW_OP_abs`). A generic value is a signed integer here. It is never refused.
+    ///
+    /// `addr_mask` has a one for each bit of an address: [`is_addr_mask`](crate::is_addr_mask) tells.
     #[inline(always)]
     pub fn abs(self, addr_mask: u64) -> Result<Value>
         requires { IsAddressMask addr_mask }
@@ -76,6 +88,8 @@ impl Value {
 
     /// The negated value, wrapped (`DW_OP_neg`). A generic value is a signed integer here.
     /// `UnsupportedTypeOperation` at an unsigned type.
+    ///
+    /// `addr_mask` has a one for each bit of an address: [`is_addr_mask`](crate::is_addr_mask) tells.
     #[inline(always)]
     pub fn neg(self, addr_mask: u64) -> Result<Value>
         requires { IsAddressMask addr_mask }

@@ -7,6 +7,8 @@ use dwarf_base::Result;
 
 impl Value {
     /// Each binary digit turned (`DW_OP_not`). It is never refused.
+    ///
+    /// `addr_mask` has a one for each bit of an address: [`is_addr_mask`](crate::is_addr_mask) tells.
     #[inline(always)]
     pub fn not(self, addr_mask: u64) -> Result<Value>
         requires { IsAddressMask addr_mask }
@@ -17,6 +19,8 @@ impl Value {
     }
 
     /// The binary digits that are set in both (`DW_OP_and`). `TypeMismatch` where the types differ.
+    ///
+    /// `addr_mask` has a one for each bit of an address: [`is_addr_mask`](crate::is_addr_mask) tells.
     #[inline(always)]
     pub fn and(self, rhs: Value, addr_mask: u64) -> Result<Value>
         requires { IsAddressMask addr_mask }
@@ -27,6 +31,8 @@ impl Value {
     }
 
     /// The binary digits that are set in one or both (`DW_OP_or`). `TypeMismatch` where the types differ.
+    ///
+    /// `addr_mask` has a one for each bit of an address: [`is_addr_mask`](crate::is_addr_mask) tells.
     #[inline(always)]
     pub fn or(self, rhs: Value, addr_mask: u64) -> Result<Value>
         requires { IsAddressMask addr_mask }
@@ -37,6 +43,8 @@ impl Value {
     }
 
     /// The binary digits that are set in one of the two alone (`DW_OP_xor`). `TypeMismatch` where the types differ.
+    ///
+    /// `addr_mask` has a one for each bit of an address: [`is_addr_mask`](crate::is_addr_mask) tells.
     #[inline(always)]
     pub fn xor(self, rhs: Value, addr_mask: u64) -> Result<Value>
         requires { IsAddressMask addr_mask }

@@ -7,6 +7,8 @@ use dwarf_base::Result;
 impl Value {
     /// Whether the two are equal, as the generic 1 or 0 (`DW_OP_eq`). Generic values are signed integers here.
     /// `TypeMismatch` where the types differ.
+    ///
+    /// `addr_mask` has a one for each bit of an address: [`is_addr_mask`](crate::is_addr_mask) tells.
     #[inline(always)]
     pub fn eq(self, rhs: Value, addr_mask: u64) -> Result<Value>
         requires { IsAddressMask addr_mask }
@@ -18,6 +20,8 @@ impl Value {
 
     /// Whether it is at least `rhs`, as the generic 1 or 0 (`DW_OP_ge`). Generic values are signed integers here.
     /// `TypeMismatch` where the types differ.
+    ///
+    /// `addr_mask` has a one for each bit of an address: [`is_addr_mask`](crate::is_addr_mask) tells.
     #[inline(always)]
     pub fn ge(self, rhs: Value, addr_mask: u64) -> Result<Value>
         requires { IsAddressMask addr_mask }
@@ -29,6 +33,8 @@ impl Value {
 
     /// Whether it is above `rhs`, as the generic 1 or 0 (`DW_OP_gt`). Generic values are signed integers here.
     /// `TypeMismatch` where the types differ.
+    ///
+    /// `addr_mask` has a one for each bit of an address: [`is_addr_mask`](crate::is_addr_mask) tells.
     #[inline(always)]
     pub fn gt(self, rhs: Value, addr_mask: u64) -> Result<Value>
         requires { IsAddressMask addr_mask }
@@ -40,6 +46,8 @@ impl Value {
 
     /// Whether it is at most `rhs`, as the generic 1 or 0 (`DW_OP_le`). Generic values are signed integers here.
     /// `TypeMismatch` where the types differ.
+    ///
+    /// `addr_mask` has a one for each bit of an address: [`is_addr_mask`](crate::is_addr_mask) tells.
     #[inline(always)]
     pub fn le(self, rhs: Value, addr_mask: u64) -> Result<Value>
         requires { IsAddressMask addr_mask }
@@ -51,6 +59,8 @@ impl Value {
 
     /// Whether it is below `rhs`, as the generic 1 or 0 (`DW_OP_lt`). Generic values are signed integers here.
     /// `TypeMismatch` where the types differ.
+    ///
+    /// `addr_mask` has a one for each bit of an address: [`is_addr_mask`](crate::is_addr_mask) tells.
     #[inline(always)]
     pub fn lt(self, rhs: Value, addr_mask: u64) -> Result<Value>
         requires { IsAddressMask addr_mask }
@@ -62,6 +72,8 @@ impl Value {
 
     /// Whether the two differ, as the generic 1 or 0 (`DW_OP_ne`). Generic values are signed integers here.
     /// `TypeMismatch` where the types differ.
+    ///
+    /// `addr_mask` has a one for each bit of an address: [`is_addr_mask`](crate::is_addr_mask) tells.
     #[inline(always)]
     pub fn ne(self, rhs: Value, addr_mask: u64) -> Result<Value>
         requires { IsAddressMask addr_mask }

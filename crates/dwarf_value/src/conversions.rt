@@ -25,6 +25,8 @@ impl Value {
 
     /// The value as a number of 64 bits: a signed one with its sign extended, and of a generic one the bits of an
     /// address. It is never refused.
+    ///
+    /// `addr_mask` has a one for each bit of an address: [`is_addr_mask`](crate::is_addr_mask) tells.
     #[inline(always)]
     pub fn to_u64(self, addr_mask: u64) -> Result<u64>
         requires { IsAddressMask addr_mask }
@@ -44,6 +46,8 @@ impl Value {
     }
 
     /// The value in another type, by `to_u64` and `from_u64` (`DW_OP_convert`). It is never refused.
+    ///
+    /// `addr_mask` has a one for each bit of an address: [`is_addr_mask`](crate::is_addr_mask) tells.
     #[inline(always)]
     pub fn convert(self, value_type: ValueType, addr_mask: u64) -> Result<Value>
         requires { IsAddressMask addr_mask }
@@ -56,6 +60,8 @@ impl Value {
     /// The value's bits in another type of the same size (`DW_OP_reinterpret`). `TypeMismatch` where the sizes differ.
     ///
     /// Of a generic value all 64 bits go into a generic one.
+    ///
+    /// `addr_mask` has a one for each bit of an address: [`is_addr_mask`](crate::is_addr_mask) tells.
     #[tactic(auto, using(crate::proofs::MaskBits::all_bits))]
     #[inline(always)]
     pub fn reinterpret(self, value_type: ValueType, addr_mask: u64) -> Result<Value>

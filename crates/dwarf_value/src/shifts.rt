@@ -9,6 +9,8 @@ use dwarf_base::{Error, Result};
 impl Value {
     /// Shifted to the left by a length of any type, with zeros from the right (`DW_OP_shl`). It is zero once the
     /// length is the type's size. `InvalidShiftExpression` where the length is negative.
+    ///
+    /// `addr_mask` has a one for each bit of an address: [`is_addr_mask`](crate::is_addr_mask) tells.
     #[tactic(auto, using(crate::proofs::Wraps::left_shifts))]
     #[inline(always)]
     pub fn shl(self, rhs: Value, addr_mask: u64) -> Result<Value>
@@ -27,6 +29,8 @@ impl Value {
     /// unsigned integer here.
     ///
     /// `InvalidShiftExpression` where the length is negative; else `UnsupportedTypeOperation` at a signed type.
+    ///
+    /// `addr_mask` has a one for each bit of an address: [`is_addr_mask`](crate::is_addr_mask) tells.
     #[inline(always)]
     pub fn shr(self, rhs: Value, addr_mask: u64) -> Result<Value>
         requires { IsAddressMask addr_mask }
@@ -44,6 +48,8 @@ impl Value {
     /// value is a signed integer here.
     ///
     /// `InvalidShiftExpression` where the length is negative; else `UnsupportedTypeOperation` at an unsigned type.
+    ///
+    /// `addr_mask` has a one for each bit of an address: [`is_addr_mask`](crate::is_addr_mask) tells.
     #[inline(always)]
     pub fn shra(self, rhs: Value, addr_mask: u64) -> Result<Value>
         requires { IsAddressMask addr_mask }

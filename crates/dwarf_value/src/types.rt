@@ -67,6 +67,8 @@ impl Default for Value {
 
 impl ValueType {
     /// The size of the type's values in bits.
+    ///
+    /// `addr_mask` has a one for each bit of an address: [`is_addr_mask`](crate::is_addr_mask) tells.
     #[tactic(auto, unfolding(crate::specs::Values::bit_size_of))]
     #[inline(always)]
     pub fn bit_size(self, addr_mask: u64) -> u32

@@ -24,7 +24,7 @@ use std::marker::Model;
 ///
 /// `evaluate` starts it, and replies either that it is complete or what it has to be told before it goes on;
 /// the caller then calls the resume that the reply names, and `status` too, until it is complete. A fault is kept:
-/// every later call gives it.
+/// every later `evaluate` and resume gives it, and changes nothing.
 #[derive(Drop)]
 pub struct Evaluation<R: Reader + Copy, S: EvaluationStorage<R>> {
     machine: Machine<R, S>,
@@ -172,7 +172,22 @@ impl<R: Reader + Copy, S: EvaluationStorage<R>> Evaluation<R, S> {
 
     /// Evaluates from the start to a request or to the end.
     ///
-    /// No request may be open. After the end it replies `Complete` again, and after a fault that fault.
+    /// No request may be open. After the end it replies `Complete` again, and after a fault it gives that fault.
+    ///
+    /// # Errors
+    ///
+    /// - Those of [`Operation::parse`](crate::op::Operation::parse), if the next operation is malformed.
+    /// - Those of the calls of [`Value`] that it makes: `UnsupportedTypeOperation`, `TypeMismatch`, `DivisionByZero`,
+    ///   `InvalidShiftExpression`.
+    /// - `NotEnoughStackItems`, if a value is missing on the stack; also at the end, if there are no pieces.
+    /// - `InvalidDerefSize`, if more bytes are to be read than an address has.
+    /// - `InvalidPushObjectAddress`, if no object address is set.
+    /// - `UnsupportedEvaluation`, at an operation that can't be evaluated.
+    /// - `BadBranchTarget`, if a branch leaves its text.
+    /// - `TooManyIterations`, if as many operations as are allowed were evaluated and one more is left.
+    /// - `InvalidPiece`, if the expression ends after pieces with a value or a location that has no piece.
+    /// - `InvalidExpressionTerminator`, if a location is followed by another operation than a piece.
+    /// - `StackFull`, if a list has no room or there is no memory.
     pub fn evaluate(&mut self) -> Result<EvaluationResult<R>>
         requires { IsClosed self.old.status }
         ensures follows { Evaluates R.text R.Offset.number self.old self.new
@@ -217,6 +232,11 @@ impl<R: Reader + Copy, S: EvaluationStorage<R>> Evaluation<R, S> {
     }
 
     /// Goes on with what memory holds, after `RequiresMemory`.
+    ///
+    /// # Errors
+    ///
+    /// `StackFull`, if there is no room for the value; then those of [`evaluate`](Self::evaluate). It may be called after a
+    /// fault too, and gives that fault.
     pub fn resume_with_memory(&mut self, value: Value) -> Result<EvaluationResult<R>>
         requires { IsOpenFor kind.Memory self.old.status }
         ensures follows { Resumes R.text R.Offset.number
@@ -231,6 +251,11 @@ impl<R: Reader + Copy, S: EvaluationStorage<R>> Evaluation<R, S> {
     }
 
     /// Goes on with what a register holds, after `RequiresRegister`.
+    ///
+    /// # Errors
+    ///
+    /// `StackFull`, if there is no room for the sum; then those of [`evaluate`](Self::evaluate). It may be called after a
+    /// fault too, and gives that fault.
     pub fn resume_with_register(&mut self, value: Value) -> Result<EvaluationResult<R>>
         requires { IsOpenFor kind.Register self.old.status }
         ensures follows { Resumes R.text R.Offset.number
@@ -246,6 +271,11 @@ impl<R: Reader + Copy, S: EvaluationStorage<R>> Evaluation<R, S> {
 
     /// Goes on with a value of WebAssembly, after `RequiresWasmLocal`, `RequiresWasmGlobal` or
     /// `RequiresWasmStack`.
+    ///
+    /// # Errors
+    ///
+    /// `StackFull`, if there is no room for the value; then those of [`evaluate`](Self::evaluate). It may be called after a
+    /// fault too, and gives that fault.
     pub fn resume_with_wasm_value(&mut self, value: Value) -> Result<EvaluationResult<R>>
         requires { IsOpenFor kind.WasmValue self.old.status }
         ensures follows { Resumes R.text R.Offset.number
@@ -260,6 +290,11 @@ impl<R: Reader + Copy, S: EvaluationStorage<R>> Evaluation<R, S> {
     }
 
     /// Goes on with what the expression gave at the function's entry, after `RequiresEntryValue`.
+    ///
+    /// # Errors
+    ///
+    /// `StackFull`, if there is no room for the value; then those of [`evaluate`](Self::evaluate). It may be called after a
+    /// fault too, and gives that fault.
     pub fn resume_with_entry_value(&mut self, value: Value) -> Result<EvaluationResult<R>>
         requires { IsOpenFor kind.EntryValue self.old.status }
         ensures follows { Resumes R.text R.Offset.number
@@ -274,6 +309,11 @@ impl<R: Reader + Copy, S: EvaluationStorage<R>> Evaluation<R, S> {
     }
 
     /// Goes on with the frame base, after `RequiresFrameBase`.
+    ///
+    /// # Errors
+    ///
+    /// `StackFull`, if there is no room for the sum; then those of [`evaluate`](Self::evaluate). It may be called after a
+    /// fault too, and gives that fault.
     pub fn resume_with_frame_base(&mut self, frame_base: u64) -> Result<EvaluationResult<R>>
         requires { IsOpenFor kind.FrameBase self.old.status }
         ensures follows { Resumes R.text R.Offset.number
@@ -288,6 +328,11 @@ impl<R: Reader + Copy, S: EvaluationStorage<R>> Evaluation<R, S> {
     }
 
     /// Goes on with an address in thread-local storage, after `RequiresTls`.
+    ///
+    /// # Errors
+    ///
+    /// `StackFull`, if there is no room for the value; then those of [`evaluate`](Self::evaluate). It may be called after a
+    /// fault too, and gives that fault.
     pub fn resume_with_tls(&mut self, value: u64) -> Result<EvaluationResult<R>>
         requires { IsOpenFor kind.Tls self.old.status }
         ensures follows { Resumes R.text R.Offset.number
@@ -302,6 +347,11 @@ impl<R: Reader + Copy, S: EvaluationStorage<R>> Evaluation<R, S> {
     }
 
     /// Goes on with the canonical frame address, after `RequiresCallFrameCfa`.
+    ///
+    /// # Errors
+    ///
+    /// `StackFull`, if there is no room for the value; then those of [`evaluate`](Self::evaluate). It may be called after a
+    /// fault too, and gives that fault.
     pub fn resume_with_call_frame_cfa(&mut self, cfa: u64) -> Result<EvaluationResult<R>>
         requires { IsOpenFor kind.CallFrameCfa self.old.status }
         ensures follows { Resumes R.text R.Offset.number
@@ -317,6 +367,11 @@ impl<R: Reader + Copy, S: EvaluationStorage<R>> Evaluation<R, S> {
 
     /// Goes on with the expression that stands there, after `RequiresAtLocation`. It is evaluated in the
     /// call's place; with no bytes there is nothing to evaluate.
+    ///
+    /// # Errors
+    ///
+    /// `StackFull`, if there is no room for the caller; then those of [`evaluate`](Self::evaluate). It may be called after a
+    /// fault too, and gives that fault.
     pub fn resume_with_at_location(&mut self, bytes: R) -> Result<EvaluationResult<R>>
         requires { IsOpenFor kind.AtLocation self.old.status }
         ensures follows { Resumes R.text R.Offset.number
@@ -331,6 +386,11 @@ impl<R: Reader + Copy, S: EvaluationStorage<R>> Evaluation<R, S> {
     }
 
     /// Goes on with the value of the parameter, after `RequiresParameterRef`.
+    ///
+    /// # Errors
+    ///
+    /// `StackFull`, if there is no room for the value; then those of [`evaluate`](Self::evaluate). It may be called after a
+    /// fault too, and gives that fault.
     pub fn resume_with_parameter_ref(&mut self, parameter_value: u64) -> Result<EvaluationResult<R>>
         requires { IsOpenFor kind.ParameterRef self.old.status }
         ensures follows { Resumes R.text R.Offset.number
@@ -345,6 +405,11 @@ impl<R: Reader + Copy, S: EvaluationStorage<R>> Evaluation<R, S> {
     }
 
     /// Goes on with the relocated address, after `RequiresRelocatedAddress`.
+    ///
+    /// # Errors
+    ///
+    /// `StackFull`, if there is no room for the value; then those of [`evaluate`](Self::evaluate). It may be called after a
+    /// fault too, and gives that fault.
     pub fn resume_with_relocated_address(&mut self, address: u64) -> Result<EvaluationResult<R>>
         requires { IsOpenFor kind.RelocatedAddress self.old.status }
         ensures follows { Resumes R.text R.Offset.number
@@ -359,6 +424,11 @@ impl<R: Reader + Copy, S: EvaluationStorage<R>> Evaluation<R, S> {
     }
 
     /// Goes on with what stands at the index, after `RequiresIndexedAddress`.
+    ///
+    /// # Errors
+    ///
+    /// `StackFull`, if there is no room for the value; then those of [`evaluate`](Self::evaluate). It may be called after a
+    /// fault too, and gives that fault.
     pub fn resume_with_indexed_address(&mut self, address: u64) -> Result<EvaluationResult<R>>
         requires { IsOpenFor kind.IndexedAddress self.old.status }
         ensures follows { Resumes R.text R.Offset.number
@@ -373,6 +443,13 @@ impl<R: Reader + Copy, S: EvaluationStorage<R>> Evaluation<R, S> {
     }
 
     /// Goes on with the base type, after `RequiresBaseType`.
+    ///
+    /// # Errors
+    ///
+    /// `UnexpectedEof` or `UnsupportedTypeOperation`, if a literal's bytes give no value of the type;
+    /// `NotEnoughStackItems`, if there is no value to convert; `TypeMismatch`, if a value of another size is to be
+    /// reinterpreted; `StackFull`, if there is no room for the value; then those of [`evaluate`](Self::evaluate). It may
+    /// be called after a fault too, and gives that fault.
     pub fn resume_with_base_type(&mut self, base_type: ValueType) -> Result<EvaluationResult<R>>
         requires { IsOpenFor kind.BaseType self.old.status }
         ensures follows { Resumes R.text R.Offset.number

@@ -13,6 +13,6 @@ pub enum Status {
     Waiting(WaitingKind),
     /// The evaluation is complete: its results are there.
     Complete,
-    /// The evaluation met a fault, which every later call answers.
+    /// The evaluation met a fault, which every later `evaluate` and resume gives.
     Failed(Error),
 }

@@ -82,6 +82,7 @@ impl<R: Reader + Copy> Iterator for OperationIter<R> {
 
     ghost remaining = { item_count (items_left R.text R.Offset.BITS) };
 
+    /// The next operation, or the error that ends them; `None` at the end and after an error.
     #[inline]
     fn next(&mut self) -> Option<Result<Operation<R>>> {
         OperationIter::next(self).transpose()

@@ -1,5 +1,5 @@
 -- Numbers of 2, 4 and 8 bytes: what std makes of an array is what the places say.
-use Rattle.std.proofs.Common.{◌≡◌, ℕ, Bool, true, false, List, [], ◌∷◌, length, Ok, Err, arith, refl}
+use Rattle.std.proofs.Common.{◌≡◌, ℕ, Bool, true, false, List, [], ◌∷◌, length, slice_index_or, Ok, Err, arith, refl, ◌∙◌}
 use Rattle.std.proofs.lemmas.Bool.Decides.{nat_tests}
 use Rattle.std.specs.Int.{w16, w32, w64, from_le_bytes, from_be_bytes}
 use Rattle.dwarf_base.specs.Faults.{Fault}
@@ -23,6 +23,16 @@ unfolding fixed_at
 fixed_one big [] = refl
 fixed_one true (byte ∷ rest) = grind (arith, nat_tests)
 fixed_one false (byte ∷ rest) = grind (arith, nat_tests)
+
+one_byte : (big : Bool) (bytes : List ℕ) → length bytes ≡ 1 → slice_index_or bytes 0 0 ≡ number_of big bytes
+one_byte big [] h = absurd (omega arith)
+one_byte true (a ∷ []) h = omega arith
+one_byte false (a ∷ []) h = omega arith
+one_byte big (a ∷ t ∷ bytes) h = absurd (omega arith)
+
+pub fixed_first : (big : Bool) (bytes front rest : List ℕ) (number : ℕ) → split_at 1 bytes ≡ Ok (front, rest) → number ≡ slice_index_or front 0 0
+    → fixed_at big 1 bytes ≡ Ok (number, rest)
+fixed_first big bytes front rest number h e = fixed_taken big 1 bytes front rest number h (e ∙ one_byte big front (length_taken 1 bytes front rest h))
 
 little_two : (bytes : List ℕ) (n : ℕ) → length bytes ≡ 2 → n ≡ from_le_bytes w16 bytes → n ≡ little_of bytes
 little_two [] n h e = absurd (omega arith)

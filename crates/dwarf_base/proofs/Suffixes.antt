@@ -1,5 +1,6 @@
 -- What is left of what is left of some bytes.
-use Rattle.std.proofs.Common.{ℕ, ◌≡◌, ◌+◌, ◌-◌, List, length, drop, arith, ap, ◌∙◌, sym}
+use Rattle.std.proofs.Common.{ℕ, ◌≡◌, ◌+◌, ◌-◌, List, [], length, drop, arith, ap, ◌∙◌, sym}
+use Rattle.std.proofs.lemmas.List.{drop_all}
 use Rattle.std.proofs.Math.Seq.{drop-drop}
 use Rattle.dwarf_base.specs.Reads.{IsSuffix}
 
@@ -18,3 +19,6 @@ pub suffix_whole : (bytes : List ℕ) → IsSuffix bytes bytes
 suffix_whole bytes =
     let none : length bytes - length bytes ≡ 0 = omega arith in
     record { no_longer = omega arith; same = ap (λ (k : ℕ). drop k bytes) none }
+
+pub suffix_none : (bytes : List ℕ) → IsSuffix [] bytes
+suffix_none bytes = record { no_longer = omega arith; same = drop_all _ bytes (omega arith) }

@@ -1,5 +1,5 @@
 -- What callers see of a slice with a byte order.
-use Rattle.std.specs.Prelude.{ℕ, List}
+use Rattle.std.specs.Prelude.{ℕ, Bool, List}
 use Rattle.dwarf_base.specs.declared.byte_order.RunTimeEndian.{RunTimeEndian}
 use Rattle.dwarf_base.specs.declared.slices.EndianSlice.{EndianSlice}
 use Rattle.dwarf_base.specs.ByteOrder.{is_big_of}
@@ -13,6 +13,10 @@ slice_bytes reader = reader.slice.now
 abbrev pub slice_order : {E : Type 0} → EndianSlice E → E
 slice_order reader = reader.endian
 
+-- its text, where `is_big` says of a byte order whether it is the big one
+abbrev pub text_of : {E : Type 0} → (is_big : E → Bool) → EndianSlice E → Text
+text_of is_big reader = record { bytes = slice_bytes reader; is_big = is_big (slice_order reader) }
+
 -- the text of a slice whose byte order is known when the program runs
 abbrev pub slice_text : EndianSlice RunTimeEndian → Text
-slice_text reader = record { bytes = slice_bytes reader; is_big = is_big_of (slice_order reader) }
+slice_text reader = text_of is_big_of reader

@@ -1,5 +1,5 @@
 -- What is read from the front of a list of bytes: a value and the bytes behind it, or a fault.
-use Rattle.std.specs.Prelude.{ℕ, ◌-◌, ◌*◌, ◌≤◌, ◌≡◌, ◌==◌, ◌||◌, ℤ, Bool, List, [], ◌∷◌, Result, Ok, Err, length, take, drop, nat_lt, OnErr, if◌then◌else◌}
+use Rattle.std.specs.Prelude.{ℕ, ◌-◌, ◌*◌, ◌≤◌, ◌≡◌, ◌==◌, ◌||◌, ℤ, Bool, List, [], ◌∷◌, Result, Ok, Err, length, take, drop, nat_lt, if◌then◌else◌}
 use Rattle.dwarf_base.specs.declared.common.Format.{Format}
 use Rattle.dwarf_base.specs.declared.common.Format.TheVariants.{Dwarf32, Dwarf64}
 use Rattle.dwarf_base.specs.declared.errors.Error.{Error}
@@ -25,13 +25,6 @@ pub record IsSuffix (rest bytes : List ℕ) : Type 0 where
 -- a read, from the text before to the text behind it: what is read or its fault, and some end of the text in the same order
 pub record Reads {X Y : Type 0} (view : X → Y) (old new : Text) (result : Result X Error) (read : Result (Y × List ℕ) Fault) : Type 0 where
   pub value : Gives view result new.bytes read
-  pub rest : IsSuffix new.bytes old.bytes
-  pub order : new.is_big ≡ old.is_big
-
--- the same of a single read: where it meets a fault all bytes are left
-pub record ReadsAtOnce {X Y : Type 0} (view : X → Y) (old new : Text) (result : Result X Error) (read : Result (Y × List ℕ) Fault) : Type 0 where
-  pub value : Gives view result new.bytes read
-  pub kept : OnErr result (new.bytes ≡ old.bytes)
   pub rest : IsSuffix new.bytes old.bytes
   pub order : new.is_big ≡ old.is_big
 

@@ -6,9 +6,10 @@ use crate::constants::DwOp;
 pub enum Error {
     /// A read goes past the end. What the identifier says is left open.
     UnexpectedEof(ReaderOffsetId),
-    /// An unsigned LEB128 number has more than 64 bits, or more than are wanted.
+    /// The tenth byte of an unsigned LEB128 number is neither `00` nor `01`, or the number has more bits than are
+    /// wanted. Nine bytes `80` and a `00` are zero, and no fault.
     BadUnsignedLeb128,
-    /// A signed LEB128 number has more than 64 bits.
+    /// The tenth byte of a signed LEB128 number is neither `00` nor `7f`.
     BadSignedLeb128,
     /// An address is read at a size in bytes other than 1, 2, 4 or 8.
     UnsupportedAddressSize(u8),

@@ -1,6 +1,6 @@
-ghost use Rattle.std.specs.Prelude.{◌≡◌, ℕ, Bool, List, [], length, ◌-◌, ◌%◌, ◌^◌, ◌<◌, ◌==◌, IfOk, OnErr, IsTrue};
+ghost use Rattle.std.specs.Prelude.{◌≡◌, ℕ, Bool, List, [], length, ◌-◌, ◌%◌, ◌^◌, ◌<◌, ◌==◌, IfOk, IsTrue};
 ghost use Rattle.dwarf_base.specs.Leb.{uleb_at, uleb_u32_at, sleb_at, leb_from, unsigned_leb, signed_leb};
-ghost use Rattle.dwarf_base.specs.Reads.{Reads, ReadsAtOnce, Text, IsSuffix, u8_at, split_at, skip_at, fixed_at, signed_at, address_at, format_at, is_fixed_size};
+ghost use Rattle.dwarf_base.specs.Reads.{Reads, Text, IsSuffix, u8_at, split_at, skip_at, fixed_at, signed_at, address_at, format_at, is_fixed_size};
 
 use crate::common::Format;
 use crate::errors::{Error, Result};
@@ -10,9 +10,8 @@ use std::fmt::Debug;
 /// Bytes in a byte order, read from the front.
 ///
 /// What a read answers depends on the bytes that it takes, the byte order and its arguments alone, but for
-/// the identifier that `UnexpectedEof` carries. After an `Ok` the reader is behind those bytes. After an
-/// `Err` of a single read it is where it was; of a number that is made of several reads, or that has to fit, it is
-/// at some suffix of the bytes that it had. No call takes memory.
+/// the identifier that `UnexpectedEof` carries. After an `Ok` the reader is behind those bytes, after an `Err` at
+/// some suffix of the bytes that it had. No call takes memory.
 pub trait Reader: Debug {
     /// How it counts bytes.
     type Offset: ReaderOffset;
@@ -41,31 +40,37 @@ pub trait Reader: Debug {
 
     /// Drops the first `len` bytes. `UnexpectedEof` where there are fewer.
     fn skip(&mut self, len: Self::Offset) -> Result<()>
-        ensures { ReadsAtOnce (λ x. x) (text self.old) (text self.new) result
+        ensures { Reads (λ x. x) (text self.old) (text self.new) result
             (skip_at (Self.Offset.number len) (text self.old).bytes) };
 
     /// Takes the first `len` bytes, in the same byte order. `UnexpectedEof` where there are fewer.
     fn split(&mut self, len: Self::Offset) -> Result<Self>
-        ensures reads { ReadsAtOnce (λ front. (text front).bytes) (text self.old) (text self.new)
+        ensures reads { Reads (λ front. (text front).bytes) (text self.old) (text self.new)
             result (split_at (Self.Offset.number len) (text self.old).bytes) }
         ensures front_order { IfOk result (λ front. (text front).is_big ≡ (text self.old).is_big) };
-
-    /// Reads one byte. `UnexpectedEof` where there is none.
-    fn read_u8(&mut self) -> Result<u8>
-        ensures { ReadsAtOnce (λ n. n) (text self.old) (text self.new) result
-            (u8_at (text self.old).bytes) };
 
     /// Reads an unsigned number of `n` bytes, which are 1, 2, 4 or 8. `UnexpectedEof` where there are fewer.
     fn read_fixed(&mut self, n: u8) -> Result<u64>
         requires { IsTrue (is_fixed_size n) }
-        ensures reads { ReadsAtOnce (λ x. x) (text self.old) (text self.new) result
+        ensures reads { Reads (λ x. x) (text self.old) (text self.new) result
             (fixed_at (text self.old).is_big n (text self.old).bytes) }
         ensures fits { IfOk result (λ number. number < 256 ^ n) };
+
+    /// Reads one byte. `UnexpectedEof` where there is none.
+    #[inline]
+    #[tactic(auto, using(crate::proofs::FixedNumbers::fixed_one))]
+    fn read_u8(&mut self) -> Result<u8>
+        ensures { Reads (λ x. x) (text self.old) (text self.new) result
+            (u8_at (text self.old).bytes) }
+    {
+        let number = self.read_fixed(1)?;
+        Ok(number as u8)
+    }
 
     /// Reads an unsigned number of 2 bytes. `UnexpectedEof` where there are fewer.
     #[inline]
     fn read_u16(&mut self) -> Result<u16>
-        ensures { ReadsAtOnce (λ x. x) (text self.old) (text self.new) result
+        ensures { Reads (λ x. x) (text self.old) (text self.new) result
             (fixed_at (text self.old).is_big 2 (text self.old).bytes) }
     {
         let number = self.read_fixed(2)?;
@@ -75,7 +80,7 @@ pub trait Reader: Debug {
     /// Reads an unsigned number of 4 bytes. `UnexpectedEof` where there are fewer.
     #[inline]
     fn read_u32(&mut self) -> Result<u32>
-        ensures { ReadsAtOnce (λ x. x) (text self.old) (text self.new) result
+        ensures { Reads (λ x. x) (text self.old) (text self.new) result
             (fixed_at (text self.old).is_big 4 (text self.old).bytes) }
     {
         let number = self.read_fixed(4)?;
@@ -85,7 +90,7 @@ pub trait Reader: Debug {
     /// Reads an unsigned number of 8 bytes. `UnexpectedEof` where there are fewer.
     #[inline]
     fn read_u64(&mut self) -> Result<u64>
-        ensures { ReadsAtOnce (λ x. x) (text self.old) (text self.new) result
+        ensures { Reads (λ x. x) (text self.old) (text self.new) result
             (fixed_at (text self.old).is_big 8 (text self.old).bytes) }
     {
         self.read_fixed(8)
@@ -94,7 +99,7 @@ pub trait Reader: Debug {
     /// Reads a signed number of 1 byte, in two's complement. `UnexpectedEof` where there is none.
     #[inline]
     fn read_i8(&mut self) -> Result<i8>
-        ensures { ReadsAtOnce (λ x. x) (text self.old) (text self.new) result
+        ensures { Reads (λ x. x) (text self.old) (text self.new) result
             (signed_at (text self.old).is_big 1 (text self.old).bytes) }
     {
         let number = self.read_fixed(1)?;
@@ -104,7 +109,7 @@ pub trait Reader: Debug {
     /// Reads a signed number of 2 bytes, in two's complement. `UnexpectedEof` where there are fewer.
     #[inline]
     fn read_i16(&mut self) -> Result<i16>
-        ensures { ReadsAtOnce (λ x. x) (text self.old) (text self.new) result
+        ensures { Reads (λ x. x) (text self.old) (text self.new) result
             (signed_at (text self.old).is_big 2 (text self.old).bytes) }
     {
         let number = self.read_u16()?;
@@ -114,7 +119,7 @@ pub trait Reader: Debug {
     /// Reads a signed number of 4 bytes, in two's complement. `UnexpectedEof` where there are fewer.
     #[inline]
     fn read_i32(&mut self) -> Result<i32>
-        ensures { ReadsAtOnce (λ x. x) (text self.old) (text self.new) result
+        ensures { Reads (λ x. x) (text self.old) (text self.new) result
             (signed_at (text self.old).is_big 4 (text self.old).bytes) }
     {
         let number = self.read_u32()?;
@@ -124,7 +129,7 @@ pub trait Reader: Debug {
     /// Reads a signed number of 8 bytes, in two's complement. `UnexpectedEof` where there are fewer.
     #[inline]
     fn read_i64(&mut self) -> Result<i64>
-        ensures { ReadsAtOnce (λ x. x) (text self.old) (text self.new) result
+        ensures { Reads (λ x. x) (text self.old) (text self.new) result
             (signed_at (text self.old).is_big 8 (text self.old).bytes) }
     {
         let number = self.read_u64()?;
@@ -135,7 +140,7 @@ pub trait Reader: Debug {
     /// read, where that is none of 1, 2, 4 and 8. `UnexpectedEof` where there are fewer bytes.
     #[inline]
     fn read_address(&mut self, size: u8) -> Result<u64>
-        ensures { ReadsAtOnce (λ x. x) (text self.old) (text self.new) result
+        ensures { Reads (λ x. x) (text self.old) (text self.new) result
             (address_at (text self.old).is_big size (text self.old).bytes) }
     {
         if !matches!(size, 1 | 2 | 4 | 8) {
@@ -158,8 +163,8 @@ pub trait Reader: Debug {
         Self::Offset::from_u64(number)
     }
 
-    /// Reads an unsigned LEB128 number (DWARF 5, section 7.6). `BadUnsignedLeb128` where its tenth byte leaves
-    /// 64 bits. `UnexpectedEof` where the bytes end before.
+    /// Reads an unsigned LEB128 number (DWARF 5, section 7.6). `BadUnsignedLeb128` where its tenth byte is
+    /// neither `00` nor `01`, so that nine `80` and a `00` are zero. `UnexpectedEof` where the bytes end before.
     #[inline(always)]
     final fn read_uleb128(&mut self) -> Result<u64>
         ensures { Reads (λ x. x) (text self.old) (text self.new) result
@@ -186,8 +191,8 @@ pub trait Reader: Debug {
         }
     }
 
-    /// Reads a signed LEB128 number (DWARF 5, section 7.6). `BadSignedLeb128` where its tenth byte leaves
-    /// 64 bits. `UnexpectedEof` where the bytes end before.
+    /// Reads a signed LEB128 number (DWARF 5, section 7.6). `BadSignedLeb128` where its tenth byte is neither
+    /// `00` nor `7f`. `UnexpectedEof` where the bytes end before.
     #[inline(always)]
     final fn read_sleb128(&mut self) -> Result<i64>
         ensures { Reads (λ x. x) (text self.old) (text self.new) result

@@ -1,6 +1,6 @@
-ghost use Rattle.std.specs.Prelude.{◌≡◌, [], OnErr};
-ghost use Rattle.dwarf_base.specs.EndianSlice.{slice_bytes, slice_order};
-ghost use Rattle.dwarf_base.specs.Reads.{Gives, IsSuffix, split_at, fixed_at};
+ghost use Rattle.std.specs.Prelude.{◌≡◌, ◌<◌, ◌^◌, [], IfOk, OnErr, IsTrue};
+ghost use Rattle.dwarf_base.specs.EndianSlice.{slice_bytes, slice_order, text_of};
+ghost use Rattle.dwarf_base.specs.Reads.{Gives, IsSuffix, Reads, split_at, skip_at, fixed_at, is_fixed_size};
 
 use crate::byte_order::Endianity;
 use crate::common::ReaderOffsetId;
@@ -9,7 +9,8 @@ use crate::reading::Reader;
 
 /// The bytes of a slice, in a byte order.
 ///
-/// Two are equal where their bytes and their byte orders are.
+/// Two are equal where their bytes and their byte orders are. A refused `skip`, `split` or `read_fixed` leaves it
+/// as it was.
 #[derive(Clone, Copy, Debug, PartialEq, Eq, Hash)]
 pub struct EndianSlice<'input, E> {
     slice: &'input [u8],
@@ -34,7 +35,7 @@ impl<'input, E: Endianity> EndianSlice<'input, E> {
     fn take_front<const N: usize>(&mut self) -> Result<[u8; N]>
         ensures value { Gives (λ front. front) result self.new.slice.now
             (split_at N self.old.slice.now) }
-        ensures kept { OnErr result (self.new.slice.now ≡ self.old.slice.now) }
+        ensures kept { OnErr result (self.new ≡ self.old) }
         ensures rest { IsSuffix self.new.slice.now self.old.slice.now }
         ensures order { self.new.endian ≡ self.old.endian }
     {
@@ -49,7 +50,7 @@ impl<'input, E: Endianity> EndianSlice<'input, E> {
     fn read_two(&mut self) -> Result<u16>
         ensures value { Gives (λ x. x) result self.new.slice.now
             (fixed_at (E.is_big self.old.endian) 2 self.old.slice.now) }
-        ensures kept { OnErr result (self.new.slice.now ≡ self.old.slice.now) }
+        ensures kept { OnErr result (self.new ≡ self.old) }
         ensures rest { IsSuffix self.new.slice.now self.old.slice.now }
         ensures order { self.new.endian ≡ self.old.endian }
     {
@@ -65,7 +66,7 @@ impl<'input, E: Endianity> EndianSlice<'input, E> {
     fn read_four(&mut self) -> Result<u32>
         ensures value { Gives (λ x. x) result self.new.slice.now
             (fixed_at (E.is_big self.old.endian) 4 self.old.slice.now) }
-        ensures kept { OnErr result (self.new.slice.now ≡ self.old.slice.now) }
+        ensures kept { OnErr result (self.new ≡ self.old) }
         ensures rest { IsSuffix self.new.slice.now self.old.slice.now }
         ensures order { self.new.endian ≡ self.old.endian }
     {
@@ -81,7 +82,7 @@ impl<'input, E: Endianity> EndianSlice<'input, E> {
     fn read_eight(&mut self) -> Result<u64>
         ensures value { Gives (λ x. x) result self.new.slice.now
             (fixed_at (E.is_big self.old.endian) 8 self.old.slice.now) }
-        ensures kept { OnErr result (self.new.slice.now ≡ self.old.slice.now) }
+        ensures kept { OnErr result (self.new ≡ self.old) }
         ensures rest { IsSuffix self.new.slice.now self.old.slice.now }
         ensures order { self.new.endian ≡ self.old.endian }
     {
@@ -108,10 +109,7 @@ impl<'input, E: Endianity + Default> Default for EndianSlice<'input, E> {
 impl<'input, E: Endianity> Reader for EndianSlice<'input, E> {
     type Offset = usize;
 
-    ghost text = { λ reader. record {
-      bytes = slice_bytes reader;
-      is_big = E.is_big (slice_order reader);
-    } };
+    ghost text = { text_of E.is_big };
 
     #[inline]
     fn len(&self) -> usize {
@@ -134,16 +132,23 @@ impl<'input, E: Endianity> Reader for EndianSlice<'input, E> {
     }
 
     #[inline]
-    fn skip(&mut self, len: usize) -> Result<()> {
-        if self.slice.len() < len {
-            return Err(Error::UnexpectedEof(NOWHERE));
-        }
-        self.slice = &self.slice[len..];
+    fn skip(&mut self, len: usize) -> Result<()>
+        ensures reads { Reads (λ x. x) (text_of E.is_big self.old) (text_of E.is_big self.new) result
+            (skip_at len (slice_bytes self.old)) }
+        ensures kept { OnErr result (self.new ≡ self.old) }
+    {
+        self.split(len)?;
         Ok(())
     }
 
     #[inline]
-    fn split(&mut self, len: usize) -> Result<Self> {
+    fn split(&mut self, len: usize) -> Result<Self>
+        ensures reads { Reads slice_bytes (text_of E.is_big self.old) (text_of E.is_big self.new) result
+            (split_at len (slice_bytes self.old)) }
+        ensures front_order { IfOk result (λ front. E.is_big (slice_order front)
+            ≡ E.is_big (slice_order self.old)) }
+        ensures kept { OnErr result (self.new ≡ self.old) }
+    {
         if self.slice.len() < len {
             return Err(Error::UnexpectedEof(NOWHERE));
         }
@@ -156,18 +161,18 @@ impl<'input, E: Endianity> Reader for EndianSlice<'input, E> {
     }
 
     #[inline]
-    fn read_u8(&mut self) -> Result<u8> {
-        let Some((first, rest)) = self.slice.split_first() else {
-            return Err(Error::UnexpectedEof(NOWHERE));
-        };
-        self.slice = rest;
-        Ok(*first)
-    }
-
-    #[inline]
-    fn read_fixed(&mut self, n: u8) -> Result<u64> {
+    fn read_fixed(&mut self, n: u8) -> Result<u64>
+        requires { IsTrue (is_fixed_size n) }
+        ensures reads { Reads (λ x. x) (text_of E.is_big self.old) (text_of E.is_big self.new) result
+            (fixed_at (E.is_big (slice_order self.old)) n (slice_bytes self.old)) }
+        ensures fits { IfOk result (λ number. number < 256 ^ n) }
+        ensures kept { OnErr result (self.new ≡ self.old) }
+    {
         match n {
-            1 => Ok(u64::from(self.read_u8()?)),
+            1 => {
+                let [byte] = self.take_front::<1>()?;
+                Ok(u64::from(byte))
+            }
             2 => Ok(u64::from(self.read_two()?)),
             4 => Ok(u64::from(self.read_four()?)),
             _ => self.read_eight(),

@@ -6,4 +6,6 @@ mod evaluation;
 #[cfg(test)]
 mod operations;
 #[cfg(test)]
+mod readers;
+#[cfg(test)]
 mod replays;

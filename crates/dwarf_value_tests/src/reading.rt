@@ -62,9 +62,10 @@ fn reads_addresses(rt: HostRuntime) {
 fn reads_by_size(rt: HostRuntime) {
     assert!(rt; EndianSlice::new(&[0x01, 0x02], LittleEndian).read_fixed(2) == Ok(513));
     assert!(rt; EndianSlice::new(&[0x01, 0x02], BigEndian).read_fixed(2) == Ok(258));
-    let mut seven = EndianSlice::new(&[1, 2, 3, 4, 5, 6, 7], LittleEndian);
+    let all = [1, 2, 3, 4, 5, 6, 7];
+    let mut seven = EndianSlice::new(&all, LittleEndian);
     assert!(rt; is_same(seven.read_fixed(8), Err(EOF)));
-    assert!(rt; seven.len() <= 7);
+    assert!(rt; seven == EndianSlice::new(&all[7 - seven.len()..], LittleEndian));
 }
 
 #[test]

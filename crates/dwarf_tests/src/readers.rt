@@ -1,0 +1,127 @@
+ghost use Rattle.std.specs.Prelude.{false};
+ghost use Rattle.dwarf_base.specs.EndianSlice.{text_of};
+
+use dwarf_base::{Encoding, EndianSlice, Error, Format, LittleEndian, Reader, Result};
+use dwarf_expr::eval::{Evaluation, Status};
+use dwarf_expr::op::{EvaluationResult, Operation};
+use dwarf_expr::replay::{Answer, Step, replay};
+use dwarf_expr::value::Value;
+use std::alloc::Global;
+
+// Bytes of which none is left once a read was refused.
+#[derive(Clone, Copy, Debug, PartialEq, Eq)]
+struct Emptying<'a> {
+    slice: EndianSlice<'a, LittleEndian>,
+}
+
+impl<'a> Emptying<'a> {
+    fn new(bytes: &'a [u8]) -> Self {
+        Emptying {
+            slice: EndianSlice::new(bytes, LittleEndian),
+        }
+    }
+}
+
+impl<'a> Reader for Emptying<'a> {
+    type Offset = usize;
+
+    ghost text = { λ reader. text_of (λ _. false) reader.slice };
+
+    fn len(&self) -> usize {
+        self.slice.len()
+    }
+
+    fn is_empty(&self) -> bool {
+        self.slice.is_empty()
+    }
+
+    fn empty(&mut self) {
+        self.slice.empty();
+    }
+
+    fn offset_from(&self, base: &Self) -> usize {
+        self.slice.offset_from(&base.slice)
+    }
+
+    #[tactic(auto, using(dwarf_base::proofs::Suffixes::suffix_none))]
+    fn skip(&mut self, len: usize) -> Result<()> {
+        let skipped = self.slice.skip(len);
+        if skipped.is_err() {
+            self.empty();
+        }
+        skipped
+    }
+
+    #[tactic(auto, using(dwarf_base::proofs::Suffixes::suffix_none))]
+    fn split(&mut self, len: usize) -> Result<Self> {
+        let front = self.slice.split(len);
+        if front.is_err() {
+            self.empty();
+        }
+        Ok(Emptying { slice: front? })
+    }
+
+    #[tactic(auto, using(dwarf_base::proofs::Suffixes::suffix_none))]
+    fn read_fixed(&mut self, n: u8) -> Result<u64> {
+        let number = self.slice.read_fixed(n);
+        if number.is_err() {
+            self.empty();
+        }
+        number
+    }
+}
+
+const SMALL: Encoding = Encoding {
+    address_size: 4,
+    format: Format::Dwarf32,
+    version: 4,
+};
+
+// What a fresh evaluation answers at these steps, and the value that it ends with.
+fn play<'a>(
+    alloc: Global,
+    text: &'a [u8],
+    steps: &[Step<Emptying<'a>>],
+) -> (Vec<Answer<Emptying<'a>>>, Option<Value>) {
+    let mut eval = Evaluation::new(alloc, Emptying::new(text), SMALL);
+    let mut answers = Vec::new(alloc);
+    let _ = replay(&mut eval, steps, &mut answers);
+    let value = match eval.status() {
+        Status::Complete => eval.value_result(),
+        _ => None,
+    };
+    (answers, value)
+}
+
+#[test]
+fn parses_until_a_read_is_refused(rt: HostRuntime) {
+    let mut bytes = Emptying::new(&[0x08, 0x05, 0x9e, 0x01, 0x0a, 0x0c, 0x01, 0x02]);
+    let block = Emptying::new(&[0x0a]);
+    let five = Operation::UnsignedConstant { value: 5 };
+    assert!(rt; Operation::parse(&mut bytes, SMALL) == Ok(five));
+    assert!(rt;
+        Operation::parse(&mut bytes, SMALL) == Ok(Operation::ImplicitValue { bytes: block })
+    );
+    let refused = Operation::parse(&mut bytes, SMALL);
+    assert!(rt; matches!(refused, Err(Error::UnexpectedEof(_))));
+    assert!(rt; bytes.is_empty());
+}
+
+#[test]
+fn evaluates_through_a_request(rt: HostRuntime) {
+    let steps = [Step::Evaluate, Step::CallFrameCfa(8)];
+    let asked = Answer(Ok(EvaluationResult::RequiresCallFrameCfa));
+    let done = Answer(Ok(EvaluationResult::Complete));
+    let (answers, value) = play(rt.alloc(), &[0x9c, 0x23, 0x02], &steps);
+    assert!(rt; answers.as_slice() == [asked, done].as_slice());
+    assert!(rt; value == Some(Value::Generic(10)));
+}
+
+#[test]
+fn meets_faults_in_an_evaluation(rt: HostRuntime) {
+    let (answers, _) = play(rt.alloc(), &[0x50, 0x31, 0x93], &[Step::Evaluate]);
+    let terminator = Answer(Err(Error::InvalidExpressionTerminator(1)));
+    assert!(rt; answers.as_slice() == [terminator].as_slice());
+    let (answers, _) = play(rt.alloc(), &[0x31, 0x0c, 0x01, 0x02], &[Step::Evaluate]);
+    assert!(rt; matches!(answers.as_slice(), [Answer(Err(Error::UnexpectedEof(_)))]));
+}

@@ -443,10 +443,6 @@ impl<'a> Reader for ShortSlice<'a> {
         Ok(ShortSlice { slice })
     }
 
-    fn read_u8(&mut self) -> Result<u8> {
-        self.slice.read_u8()
-    }
-
     fn read_fixed(&mut self, n: u8) -> Result<u64> {
         self.slice.read_fixed(n)
     }

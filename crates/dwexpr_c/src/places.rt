@@ -112,13 +112,6 @@ impl<'a> Reader for Placed<'a> {
     }
 
     #[inline]
-    fn read_u8(&mut self) -> Result<u8> {
-        let byte = self.slice().read_u8()?;
-        self.advance(1);
-        Ok(byte)
-    }
-
-    #[inline]
     fn read_fixed(&mut self, n: u8) -> Result<u64> {
         let mut slice = self.slice();
         let number = slice.read_fixed(n)?;

@@ -5,10 +5,10 @@
   own crate, and of its own file where that crate has headings of files.
 - Each name in that file is one of `specs/` (a file, a definition, a field, a constructor), a public one of `src/` (an
   item, a field, a variant, a method, a module), a crate, or one of those that this script lists, with the reason.
-- Each path in README.md, bench/README.md and docs/ leads to a file or folder of the repository; what is built, gimli's
-  files and the web aside.
-- Each block of README.md whose fence names a file is what stands in that file, byte for byte; the loop over requests
-  and its proof are among them.
+- Each path in README.md, CONTRIBUTING.md, bench/README.md and docs/ leads to a file or folder of the repository; what is
+  built, gimli's files and the web aside.
+- Each block of README.md, docs/GUIDE.md and docs/PROOFS.md whose fence names a file is what stands in that file, byte
+  for byte. docs/GUIDE.md has the loop over requests and its proof.
 
 What fails is printed, a line each. The last line is `N passed, M failed`, of the names, paths and blocks; the status
 is 1 where one failed.
@@ -25,7 +25,10 @@ TOP = pathlib.Path(__file__).resolve().parent.parent
 DEFINITIONS = "docs/DEFINITIONS.md"
 # Folders of what is built or kept beside the repository, and no part of it.
 BESIDE = {"out", "build", "target", "__pycache__", ".git"}
-# What README.md has to show.
+# The pages whose blocks are compared with the files that they name.
+SHOWING = ["README.md", "docs/GUIDE.md", "docs/PROOFS.md"]
+GUIDE = "docs/GUIDE.md"
+# What the guide has to show.
 SHOWN = {
     "crates/dwarf_example/src/requests.rt",
     "crates/dwarf_example/proofs/requests/complete/Invariants.antt",
@@ -91,7 +94,8 @@ def folders():
 
 
 def documents():
-    return [name for name in files() if name in ("README.md", "bench/README.md") or name.startswith("docs/")]
+    pages = ("README.md", "CONTRIBUTING.md", "bench/README.md")
+    return [name for name in files() if name in pages or name.startswith("docs/")]
 
 
 def is_definitions(path):
@@ -195,12 +199,13 @@ def shows(path, block):
 
 
 def changed():
-    """Each block of README.md that is taken from a file: it is there as it is, and none that has to be shown lacks."""
-    blocks = BLOCK.findall(read("README.md"))
-    for path, block in blocks:
-        yield None if shows(path, block) else f"a block of README.md isn't what stands in {path}"
-    for path in sorted(SHOWN.difference(path for path, _ in blocks)):
-        yield f"README.md has no block of {path}"
+    """Each block that is taken from a file is what stands there; and each file that the guide has to show is there."""
+    for page in SHOWING:
+        blocks = BLOCK.findall(read(page))
+        for path, block in blocks:
+            yield None if shows(path, block) else f"a block of {page} isn't what stands in {path}"
+        for path in sorted(SHOWN.difference(path for path, _ in blocks)) if page == GUIDE else []:
+            yield f"{page} has no block of {path}"
 
 
 def main():

@@ -143,7 +143,7 @@ pub fn called_rows()
         (RequiresCallFrameCfa ∷ []) (RequiresCallFrameCfa ∷ []) (valued 5 5) }
 {}
 
-/// Why each premise of `high_bits` stands: the smallest two runs that come apart where it doesn't hold.
+/// Why premises of `high_bits` stand: the smallest two runs that come apart where one doesn't hold.
 ///
 /// It does nothing. Each clause of its contract gives the limits and the refusal of both runs, the text's bytes, the
 /// settings and the answers of both, and what comes of each.
@@ -184,7 +184,7 @@ pub fn premises_of_high_bits()
         (CompleteOutcome (whole (AtAddress 0) ∷ []) (Some (U16 0))) }
 {}
 
-/// Why each premise of `inlining` stands: the smallest call whose inlined text ends otherwise where it doesn't hold.
+/// Why premises of `inlining` stand: the smallest call whose inlined text ends otherwise where one doesn't hold.
 ///
 /// It does nothing. Each clause of its contract gives the limits, the bytes of the outer text and those of the inlined
 /// one, the settings, the answers to each, and what comes of each.

@@ -2,7 +2,8 @@
 """Builds the callers of libdwexpr_c.a in C and Rust, and runs them.
 
 - tests/c/*.c: each field of each operation and outcome, each code, guard pages, a signal handler; as they are, and
-  built with the sanitizers of addresses and of undefined behaviour.
+  built with the sanitizers of addresses and of undefined behaviour. decode.c is given the vectors of
+  tests/vectors/decode.json, and cut.c the expressions of tests/rows.
 - include/dwexpr.h: without a warning as C11, C17 and C++17. The structs of the crate and of wrapper/ have its fields,
   by name, type and order, and so the places that it asserts.
 - wrapper/: its tests, by rustc alone and by cargo.
@@ -12,6 +13,7 @@
 It wants cc; what else is missing is left out, and said so. The last line is `N passed, M failed`.
 """
 
+import json
 import os
 import pathlib
 import re
@@ -40,14 +42,14 @@ def count(good, bad, name, said=""):
         print(f"FAILED {name}\n{said}".rstrip())
 
 
-def run(words, seconds=SECONDS, **more):
+def run(words, seconds=SECONDS, given="", **more):
     try:
         return subprocess.run(
             [str(word) for word in words],
             text=True,
             capture_output=True,
             timeout=seconds,
-            stdin=subprocess.DEVNULL,
+            input=given,
             **more,
         )
     except (OSError, subprocess.TimeoutExpired) as error:
@@ -184,7 +186,41 @@ def count_one(name, got, wanted):
     count(got == wanted, got != wanted, name, f"{got} is not {wanted}")
 
 
+def numbers_of(encoding):
+    """The numbers of an encoding, given as words of dwexpr."""
+    address_size, offset_size, version, order = encoding
+    return [address_size, offset_size, version, "1" if order == "be" else "0"]
+
+
+FIELDS = ["number", "signed_number", "base_type", "register_number", "deref_size", "flag"]
+
+
+def vectors():
+    """The lines that tests/c/decode.c reads: of each vector the encoding, the bytes, the code and the fields."""
+    constants = dict(re.findall(r"DWEXPR_(\w+) = (\d+)", (TOP / "include/dwexpr.h").read_text()))
+    lines = []
+    for vector in json.loads((TOP / "tests/vectors/decode.json").read_text()):
+        kind = f"OP_{vector['kind']}" if "kind" in vector else "OP_NONE"
+        numbers = [constants[vector.get("code", "OK")], constants[kind], *(vector.get(field, 0) for field in FIELDS)]
+        numbers += [*vector.get("block", [0, 0]), vector.get("detail", 0)]
+        lines.append(" ".join(map(str, [*numbers_of(vector["in"].split()), vector["bytes"], *numbers])))
+    return "\n".join(lines)
+
+
+def expressions():
+    """The lines that tests/c/cut.c reads: the encoding and the bytes of each expression of tests/rows."""
+    good = re.compile(r"(?:eval|ops) ([1-8] [48] [2-5] (?:le|be)) ((?:[0-9a-fA-F]{2})+)")
+    lines = {}
+    for file in sorted((TOP / "tests" / "rows").glob("*.json")):
+        for row in json.loads(file.read_text(encoding="utf-8")):
+            words = good.fullmatch(" ".join(map(str, row["words"])))
+            if words:
+                lines[" ".join([*numbers_of(words[1].split()), words[2]])] = None
+    return "\n".join(lines)
+
+
 def callers(folder):
+    given = {"decode": vectors(), "cut": expressions()}
     for source in sorted((TOP / "tests" / "c").glob("*.c")):
         for kind, words in [("", ["-O2"]), (" with sanitizers", SANITIZERS)]:
             # A sanitizer keeps what it knows of memory on the stack, which then has to be larger than 16 KiB.
@@ -194,7 +230,7 @@ def callers(folder):
             build = ["cc", "-std=c11", *words, *WARNINGS, source, ARCHIVE, "-o", program]
             if not check(f"{source.name}{kind}: build", build):
                 continue
-            done = run([program])
+            done = run([program], given=given.get(source.stem, ""))
             said = re.search(r"(\d+) passed, (\d+) failed\n\Z", done.stdout)
             if not said or (done.returncode != 0) != (said.group(2) != "0"):
                 count(0, 1, f"{source.name}{kind}", done.stdout + done.stderr)

@@ -1,4 +1,4 @@
-//! Tests of operations, evaluation and replay, as their users see them: rows on the heap and on lists of fixed capacities.
+//! Tests of decoding, evaluation and replay, by calls that neither the program nor the archive makes.
 #![tactic(auto)]
 
 #[cfg(test)]
@@ -7,5 +7,7 @@ mod evaluation;
 mod operations;
 #[cfg(test)]
 mod readers;
+#[cfg(test)]
+mod refusals;
 #[cfg(test)]
 mod replays;

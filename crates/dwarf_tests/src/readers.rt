@@ -2,10 +2,10 @@ ghost use Rattle.std.specs.Prelude.{false};
 ghost use Rattle.dwarf_base.specs.EndianSlice.{text_of};
 
 use dwarf_base::{Encoding, EndianSlice, Error, Format, LittleEndian, Reader, Result};
-use dwarf_expr::eval::{Evaluation, Status};
-use dwarf_expr::op::{EvaluationResult, Operation};
-use dwarf_expr::replay::{Answer, Step, replay};
-use dwarf_expr::value::Value;
+use dwarf_eval::eval::{Evaluation, Status};
+use dwarf_eval::op::{EvaluationResult, Operation};
+use dwarf_replay::{Answer, Step, replay};
+use dwarf_value::Value;
 use std::alloc::Global;
 
 // Bytes of which none is left once a read was refused.

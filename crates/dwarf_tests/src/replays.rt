@@ -2,138 +2,31 @@ ghost use Rattle.std.specs.Prelude.{◌≡◌, [], None};
 ghost use Rattle.dwarf_meaning.specs.Rest.{Start};
 
 use crate::evaluation::{
-    Refusing, SMALL, Slice, expect_end, expect_value, little, on_heap, over_lists, stand, whole,
+    Refusing, SMALL, Slice, expect_complete, expect_value, little, on_heap, over_lists,
 };
 use arrayvec::ArrayVec;
-use dwarf_base::{
-    DebugAddrIndex, Encoding, EndianSlice, Error, Reader, Register, Result, RunTimeEndian,
-    UnitOffset,
-};
-use dwarf_expr::eval::{Evaluation, Status, WaitingKind};
-use dwarf_expr::op::{DieReference, EvaluationResult, Expression, Location, Piece};
-use dwarf_expr::replay::{Answer, Replayed, Step, replay};
-use dwarf_expr::store::{ArrayLike, EvaluationStorage};
-use dwarf_expr::value::Value;
-use rows::{
-    BRANCHES, CALLS, CUT, Ending, FIXED, HIGH_BITS, LOCATIONS, MISPLACED, OTHERS, REQUESTS, Reply,
-    Row, STACK,
-};
+use dwarf_base::{Error, Reader, Register, UnitOffset};
+use dwarf_eval::eval::{Evaluation, Status, WaitingKind};
+use dwarf_eval::op::{DieReference, EvaluationResult, Location, Piece};
+use dwarf_replay::{Answer, Replayed, Step, replay};
+use dwarf_store::{ArrayLike, EvaluationStorage, StoreOnHeap};
+use dwarf_value::Value::Generic;
 use std::alloc::{AllocError, Global};
 use std::process::Abort;
 
-mod refusals;
-mod rows;
-
-// An expression that calls another, and ends a piece with its location.
-static CALL: [u8; 5] = [0x98, 0x05, 0x00, 0x93, 0x04];
-
-const COMPLETE: Answer<Slice<'static>> = Answer(Ok(EvaluationResult::Complete));
+pub(crate) const COMPLETE: Answer<Slice<'static>> = Answer(Ok(EvaluationResult::Complete));
 
 // The expression at offset 5 of the unit is wanted.
 const ASKED: Answer<Slice<'static>> = Answer(Ok(EvaluationResult::RequiresAtLocation(
     DieReference::UnitRef(UnitOffset(5)),
 )));
 
-// The step, with an expression that is read in this order.
-fn read_in<'a>(endian: RunTimeEndian, step: Step<&'a [u8]>) -> Step<Slice<'a>> {
-    match step {
-        Step::InitialValue(value) => Step::InitialValue(value),
-        Step::ObjectAddress(address) => Step::ObjectAddress(address),
-        Step::MaxIterations(maximum) => Step::MaxIterations(maximum),
-        Step::Evaluate => Step::Evaluate,
-        Step::Memory(value) => Step::Memory(value),
-        Step::Register(value) => Step::Register(value),
-        Step::WasmValue(value) => Step::WasmValue(value),
-        Step::EntryValue(value) => Step::EntryValue(value),
-        Step::FrameBase(frame_base) => Step::FrameBase(frame_base),
-        Step::Tls(address) => Step::Tls(address),
-        Step::CallFrameCfa(address) => Step::CallFrameCfa(address),
-        Step::ParameterRef(number) => Step::ParameterRef(number),
-        Step::RelocatedAddress(address) => Step::RelocatedAddress(address),
-        Step::IndexedAddress(number) => Step::IndexedAddress(number),
-        Step::AtLocation(callee) => Step::AtLocation(EndianSlice::new(callee, endian)),
-        Step::BaseType(base_type) => Step::BaseType(base_type),
-    }
-}
+const CFA: Answer<Slice<'static>> = Answer(Ok(EvaluationResult::RequiresCallFrameCfa));
 
-fn read_all<'a>(
-    alloc: Global,
-    steps: &[Step<&'a [u8]>],
-) -> std::result::Result<Vec<Step<Slice<'a>>>, AllocError> {
-    let mut all = Vec::new(alloc);
-    for step in steps {
-        all.push(read_in(RunTimeEndian::Little, *step))?;
-    }
-    Ok(all)
-}
+pub(crate) const FULL: Answer<Slice<'static>> = Answer(Err(Error::StackFull));
 
-// A register's value of this type is wanted.
-fn register_request<'a>(number: u16, base_type: usize) -> EvaluationResult<Slice<'a>> {
-    EvaluationResult::RequiresRegister {
-        register: Register(number),
-        base_type: UnitOffset(base_type),
-    }
-}
-
-// A value of the generic type in memory is wanted.
-fn memory<'a>(address: u64, size: u8, space: Option<u64>) -> EvaluationResult<Slice<'a>> {
-    EvaluationResult::RequiresMemory {
-        address,
-        size,
-        space,
-        base_type: UnitOffset(0),
-    }
-}
-
-fn indexed<'a>(index: usize, relocate: bool) -> EvaluationResult<Slice<'a>> {
-    EvaluationResult::RequiresIndexedAddress {
-        index: DebugAddrIndex(index),
-        relocate,
-    }
-}
-
-// The expression at this offset of the unit is wanted.
-fn at_unit<'a>(offset: usize) -> EvaluationResult<Slice<'a>> {
-    EvaluationResult::RequiresAtLocation(DieReference::UnitRef(UnitOffset(offset)))
-}
-
-fn is_told(told: Reply, answer: Result<EvaluationResult<Slice<'_>>>) -> bool {
-    match told {
-        Reply::Complete => answer == Ok(EvaluationResult::Complete),
-        Reply::Memory(address, size, space) => answer == Ok(memory(address, size, space)),
-        Reply::Register(number, base_type) => answer == Ok(register_request(number, base_type)),
-        Reply::WasmGlobal(index) => answer == Ok(EvaluationResult::RequiresWasmGlobal { index }),
-        Reply::FrameBase => answer == Ok(EvaluationResult::RequiresFrameBase),
-        Reply::Tls(slot) => answer == Ok(EvaluationResult::RequiresTls(slot)),
-        Reply::CallFrameCfa => answer == Ok(EvaluationResult::RequiresCallFrameCfa),
-        Reply::AtUnit(offset) => answer == Ok(at_unit(offset)),
-        Reply::EntryValue(text) => {
-            answer == Ok(EvaluationResult::RequiresEntryValue(Expression(little(text))))
-        }
-        Reply::RelocatedAddress(address) => {
-            answer == Ok(EvaluationResult::RequiresRelocatedAddress(address))
-        }
-        Reply::IndexedAddress(index, relocate) => answer == Ok(indexed(index, relocate)),
-        Reply::BaseType(offset) => {
-            answer == Ok(EvaluationResult::RequiresBaseType(UnitOffset(offset)))
-        }
-        Reply::Fails(error) => answer == Err(error),
-        Reply::CutOff => matches!(answer, Err(Error::UnexpectedEof(_))),
-    }
-}
-
-// What a replay came to.
-#[derive(Drop)]
-struct Played<R: Reader> {
-    replayed: Replayed<R>,
-    answers: Vec<Answer<R>>,
-    status: Status,
-    value: Option<Value>,
-    pieces: Vec<Piece<R>>,
-}
-
-// Replays the steps. What it gives has no contract, as the tests look at it.
-fn replay_all<R: Reader + Copy, S: EvaluationStorage<R>, L: ArrayLike<Item = Answer<R>>>(
+/// Replays the steps. What it gives has no contract, as the tests look at it.
+pub(crate) fn replay_all<R: Reader + Copy, S: EvaluationStorage<R>, L: ArrayLike<Item = Answer<R>>>(
     eval: &mut Evaluation<R, S>,
     steps: &[Step<R>],
     answers: &mut L,
@@ -144,338 +37,278 @@ fn replay_all<R: Reader + Copy, S: EvaluationStorage<R>, L: ArrayLike<Item = Ans
     replay(eval, steps, answers)
 }
 
-// Replays the steps in a fresh evaluation.
-fn play<R: Reader + Copy, S: EvaluationStorage<R>>(
-    alloc: Global,
-    mut eval: Evaluation<R, S>,
-    steps: &[Step<R>],
-) -> std::result::Result<Played<R>, AllocError>
-    requires { eval.status ≡ Start None }
-{
-    let mut answers = Vec::new(alloc);
-    let replayed = replay_all(&mut eval, steps, &mut answers);
-    let (status, value, given) = stand(&eval);
-    let mut pieces = Vec::new(alloc);
-    pieces.extend_from_slice(given)?;
-    Ok(Played {
-        replayed,
-        answers,
-        status,
-        value,
-        pieces,
-    })
-}
+// An expression that calls another, and ends a piece with its location.
+static CALL: [u8; 5] = [0x98, 0x05, 0x00, 0x93, 0x04];
 
-// The answers are those.
-fn expect_told(rt: &impl Abort, answers: &[Answer<Slice<'_>>], told: &[Reply], text: &[u8]) {
-    assert!(rt; answers.len() == told.len(), "{text:?}");
-    for (answer, told) in answers.iter().zip(told) {
-        assert!(rt; is_told(*told, answer.0), "{text:?}");
-    }
-}
-
-// The pieces are those: size and offset in bits, and location.
-fn expect_pieces(
+// The steps of a call give this end and keep these answers, where there is room for so many.
+fn expect_room<const ROOM: usize>(
     rt: &impl Abort,
-    pieces: &[Piece<Slice<'_>>],
-    wanted: &[(Option<u64>, Option<u64>, Location<Slice<'static>>)],
-    text: &[u8],
+    alloc: Global,
+    end: Replayed<Slice<'static>>,
+    kept: &[Answer<Slice<'static>>],
+    status: Status,
 ) {
-    assert!(rt; pieces.len() == wanted.len(), "{text:?}");
-    for (piece, (size_in_bits, bit_offset, location)) in pieces.iter().zip(wanted) {
-        let wanted = Piece {
-            size_in_bits: *size_in_bits,
-            bit_offset: *bit_offset,
-            location: *location,
-        };
-        assert!(rt; *piece == wanted, "{text:?}");
-    }
-}
-
-// The last answer is the fault that the evaluation keeps.
-fn expect_failed(rt: &impl Abort, played: &Played<Slice<'_>>, text: &[u8]) {
-    match played.answers.last() {
-        Some(Answer(Err(error))) => {
-            assert!(rt; played.status == Status::Failed(*error), "{text:?}");
-        }
-        _ => assert!(rt; false, "{text:?}"),
-    }
-}
-
-// The replay came to what the row says.
-fn expect_row(rt: &impl Abort, played: &Played<Slice<'_>>, row: &Row) {
-    let (text, _, told, end) = *row;
-    assert!(rt; played.replayed == Replayed::Done, "{text:?}");
-    expect_told(rt, &played.answers, told, text);
-    match end {
-        Ending::Failed => expect_failed(rt, played, text),
-        Ending::Waits(kind) => {
-            assert!(rt; played.status == Status::Waiting(kind), "{text:?}");
-        }
-        Ending::Value(value, address) => {
-            assert!(rt; played.status == Status::Complete, "{text:?}");
-            assert!(rt; played.value == Some(value), "{text:?}");
-            let location = Location::Address { address };
-            expect_pieces(rt, &played.pieces, &[(None, None, location)], text);
-        }
-        Ending::Pieces(pieces) => {
-            assert!(rt; played.status == Status::Complete, "{text:?}");
-            assert!(rt; played.value == None, "{text:?}");
-            expect_pieces(rt, &played.pieces, pieces, text);
-        }
-    }
-}
-
-// Each row holds on the heap.
-fn expect_on_heap(
-    rt: &impl Abort,
-    alloc: Global,
-    rows: &[Row],
-) -> std::result::Result<(), AllocError> {
-    for row in rows {
-        let steps = read_all(alloc, row.1)?;
-        expect_row(rt, &play(alloc, on_heap(alloc, row.0), &steps)?, row);
-    }
-    Ok(())
-}
-
-#[test]
-fn stack(rt: HostRuntime) -> std::result::Result<(), AllocError> {
-    expect_on_heap(&rt, rt.alloc(), &STACK)
-}
-
-#[test]
-fn branches(rt: HostRuntime) -> std::result::Result<(), AllocError> {
-    expect_on_heap(&rt, rt.alloc(), &BRANCHES)
-}
-
-#[test]
-fn requests(rt: HostRuntime) -> std::result::Result<(), AllocError> {
-    expect_on_heap(&rt, rt.alloc(), &REQUESTS)
-}
-
-#[test]
-fn high_bits(rt: HostRuntime) -> std::result::Result<(), AllocError> {
-    expect_on_heap(&rt, rt.alloc(), &HIGH_BITS)
-}
-
-#[test]
-fn calls(rt: HostRuntime) -> std::result::Result<(), AllocError> {
-    expect_on_heap(&rt, rt.alloc(), &CALLS)
-}
-
-#[test]
-fn locations(rt: HostRuntime) -> std::result::Result<(), AllocError> {
-    expect_on_heap(&rt, rt.alloc(), &LOCATIONS)
-}
-
-#[test]
-fn other_encodings(rt: HostRuntime) -> std::result::Result<(), AllocError> {
-    for (address_size, version, row) in &OTHERS {
-        let encoding = Encoding {
-            address_size: *address_size,
-            version: *version,
-            ..SMALL
-        };
-        assert!(rt; 0 < encoding.address_size && encoding.address_size <= 8);
-        let eval = Evaluation::new(rt.alloc(), little(row.0), encoding);
-        let steps = read_all(rt.alloc(), row.1)?;
-        expect_row(&rt, &play(rt.alloc(), eval, &steps)?, row);
-    }
-    Ok(())
-}
-
-// Replays the steps over lists of these capacities, each of them in the table.
-fn play_over_lists<'a>(
-    rt: &impl Abort,
-    alloc: Global,
-    capacities: (usize, usize, usize),
-    text: &'a [u8],
-    steps: &[Step<Slice<'a>>],
-) -> std::result::Result<Played<Slice<'a>>, AllocError> {
-    match capacities {
-        (0, 1, 2) => play(alloc, over_lists::<0, 1, 2>(text), steps),
-        (1, 0, 2) => play(alloc, over_lists::<1, 0, 2>(text), steps),
-        (1, 1, 0) => play(alloc, over_lists::<1, 1, 0>(text), steps),
-        (1, 1, 1) => play(alloc, over_lists::<1, 1, 1>(text), steps),
-        (1, 1, 2) => play(alloc, over_lists::<1, 1, 2>(text), steps),
-        (1, 4, 1) => play(alloc, over_lists::<1, 4, 1>(text), steps),
-        (2, 1, 1) => play(alloc, over_lists::<2, 1, 1>(text), steps),
-        _ => {
-            assert!(rt; capacities == (3, 1, 1));
-            play(alloc, over_lists::<3, 1, 1>(text), steps)
-        }
-    }
-}
-
-#[test]
-fn fixed_capacities(rt: HostRuntime) -> std::result::Result<(), AllocError> {
-    for (capacities, row) in &FIXED {
-        let steps = read_all(rt.alloc(), row.1)?;
-        let played = play_over_lists(&rt, rt.alloc(), *capacities, row.0, &steps)?;
-        expect_row(&rt, &played, row);
-    }
-    Ok(())
-}
-
-// Steps of a call, whose expression is at offset 5 of the unit.
-fn steps_of_a_call<'a>() -> [Step<Slice<'a>>; 3] {
-    [
+    let steps = [
         Step::MaxIterations(2),
         Step::Evaluate,
         Step::AtLocation(little(&[0x50])),
-    ]
+    ];
+    let mut eval = on_heap(alloc, &CALL);
+    let mut answers = ArrayVec::<Answer<Slice<'static>>, ROOM>::new();
+    assert!(rt; replay_all(&mut eval, &steps, &mut answers) == end);
+    assert!(rt; answers.as_slice() == kept);
+    assert!(rt; eval.status() == status);
 }
 
 #[test]
-fn room_for_two_answers(rt: HostRuntime) {
-    let mut eval = on_heap(rt.alloc(), &CALL);
-    let mut answers = ArrayVec::<Answer<Slice<'_>>, 2>::new();
-    let replayed = replay_all(&mut eval, &steps_of_a_call(), &mut answers);
-    assert!(rt; replayed == Replayed::Done);
-    assert!(rt; answers.as_slice() == [ASKED, COMPLETE].as_slice());
-    assert!(rt; eval.status() == Status::Complete);
+fn room_for_answers(rt: HostRuntime) {
+    let asked = Replayed::NoRoom {
+        index: 1,
+        answer: ASKED,
+    };
+    let complete = Replayed::NoRoom {
+        index: 2,
+        answer: COMPLETE,
+    };
+    let waits = Status::Waiting(WaitingKind::AtLocation);
+    expect_room::<0>(&rt, rt.alloc(), asked, &[], waits);
+    expect_room::<1>(&rt, rt.alloc(), complete, &[ASKED], Status::Complete);
+    let both = [ASKED, COMPLETE];
+    expect_room::<2>(&rt, rt.alloc(), Replayed::Done, &both, Status::Complete);
 }
 
 #[test]
-fn room_for_one_answer(rt: HostRuntime) {
-    let mut eval = on_heap(rt.alloc(), &CALL);
-    let mut answers = ArrayVec::<Answer<Slice<'_>>, 1>::new();
-    let replayed = replay_all(&mut eval, &steps_of_a_call(), &mut answers);
-    let index = 2;
-    assert!(rt;
-        replayed
-            == Replayed::NoRoom {
-                index,
-                answer: COMPLETE
-            }
+fn ends_of_replays(rt: HostRuntime) {
+    let mut answers = Vec::new(rt.alloc());
+    let mut eval = on_heap(rt.alloc(), &[0x31]);
+    assert!(rt; replay_all(&mut eval, &[], &mut answers) == Replayed::Done);
+    assert!(rt; answers.is_empty());
+    assert!(rt; eval.status() == Status::Start { initial: false });
+
+    // What was set before counts, and a step that isn't allowed changes nothing.
+    let steps = [Step::Evaluate, Step::FrameBase(0)];
+    let mut answers = Vec::new(rt.alloc());
+    let mut eval = on_heap(rt.alloc(), &[0x9c, 0x97]);
+    eval.set_object_address(0x7000);
+    assert!(rt; replay_all(&mut eval, &steps, &mut answers) == Replayed::Misplaced(1));
+    assert!(rt; answers.as_slice() == [CFA].as_slice());
+    assert!(rt; eval.status() == Status::Waiting(WaitingKind::CallFrameCfa));
+    assert!(rt; eval.resume_with_call_frame_cfa(1) == Ok(EvaluationResult::Complete));
+    expect_value(&rt, &eval, Generic(0x7000), 0x7000);
+}
+
+#[test]
+fn replays_without_memory(rt: HostRuntime) {
+    let steps = [
+        Step::Evaluate,
+        Step::Evaluate,
+        Step::Memory(Generic(0)),
+        Step::AtLocation(little(&[0x50])),
+    ];
+    let mut eval = Evaluation::new(Refusing, little(&[0x31]), SMALL);
+    let mut answers = ArrayVec::<Answer<Slice<'_>>, 4>::new();
+    assert!(rt; replay_all(&mut eval, &steps, &mut answers) == Replayed::Done);
+    assert!(rt; answers.as_slice() == [FULL; 4].as_slice());
+    assert!(rt; eval.status() == Status::Failed(Error::StackFull));
+
+    // The answers take memory, and the evaluation none before it has to keep something.
+    let mut eval: Evaluation<Slice<'_>, StoreOnHeap<Refusing>> = Evaluation::new_in(
+        little(&CALL),
+        SMALL,
+        Vec::new(Refusing),
+        Vec::new(Refusing),
+        Vec::new(Refusing),
     );
-    assert!(rt; answers.as_slice() == [ASKED].as_slice());
-    assert!(rt; eval.status() == Status::Complete);
-}
-
-#[test]
-fn room_for_no_answer(rt: HostRuntime) {
-    let mut eval = on_heap(rt.alloc(), &CALL);
-    let mut answers = ArrayVec::<Answer<Slice<'_>>, 0>::new();
-    let replayed = replay_all(&mut eval, &steps_of_a_call(), &mut answers);
-    let index = 1;
-    assert!(rt;
-        replayed
-            == Replayed::NoRoom {
-                index,
-                answer: ASKED
-            }
-    );
+    let mut answers = Vec::new(Refusing);
+    let no_room = Replayed::NoRoom {
+        index: 0,
+        answer: ASKED,
+    };
+    assert!(rt; replay_all(&mut eval, &[Step::Evaluate], &mut answers) == no_room);
     assert!(rt; answers.is_empty());
     assert!(rt; eval.status() == Status::Waiting(WaitingKind::AtLocation));
 }
 
-#[test]
-fn misplaced_steps(rt: HostRuntime) -> std::result::Result<(), AllocError> {
-    for (text, steps, index, told, status) in &MISPLACED {
-        let mut eval = on_heap(rt.alloc(), text);
-        let mut answers = Vec::new(rt.alloc());
-        let replayed = replay_all(&mut eval, &read_all(rt.alloc(), steps)?, &mut answers);
-        assert!(rt; replayed == Replayed::Misplaced(*index), "{text:?}");
-        expect_told(&rt, &answers, told, text);
-        assert!(rt; eval.status() == *status, "{text:?}");
+// Capacities of the stack, the callers and the pieces, an expression, steps, and what each call answers.
+type Row = (
+    (usize, usize, usize),
+    &'static [u8],
+    &'static [Step<&'static [u8]>],
+    &'static [Answer<Slice<'static>>],
+);
+
+pub(crate) const AGAIN: &[u8] = &[0x98, 0x01, 0x00];
+
+/// The expression at offset 1 of the unit is wanted.
+pub(crate) const ITSELF: Answer<Slice<'static>> = Answer(Ok(EvaluationResult::RequiresAtLocation(
+    DieReference::UnitRef(UnitOffset(1)),
+)));
+
+const NOTHING: Answer<Slice<'static>> = Answer(Err(Error::NotEnoughStackItems));
+
+const SPENT: Answer<Slice<'static>> = Answer(Err(Error::TooManyIterations));
+
+// A piece at address 1, and one whose location a called expression gives.
+const PIECES: &[u8] = &[0x31, 0x93, 0x04, 0x98, 0x05, 0x00];
+
+const CALLED: &[Step<&'static [u8]>] = &[Step::Evaluate, Step::AtLocation(&[0x50, 0x93, 0x04])];
+
+static ROWS: [Row; 17] = [
+    ((2, 1, 1), &[0x31, 0x32], &[Step::Evaluate], &[COMPLETE]),
+    (
+        (2, 1, 1),
+        &[0x31, 0x32, 0x33],
+        &[Step::Evaluate; 3],
+        &[FULL; 3],
+    ),
+    (
+        (1, 4, 1),
+        AGAIN,
+        &[
+            Step::Evaluate,
+            Step::AtLocation(AGAIN),
+            Step::AtLocation(AGAIN),
+            Step::AtLocation(AGAIN),
+            Step::AtLocation(AGAIN),
+            Step::AtLocation(AGAIN),
+            Step::Evaluate,
+        ],
+        &[ITSELF, ITSELF, ITSELF, ITSELF, ITSELF, FULL, FULL],
+    ),
+    ((0, 1, 2), &[0x31], &[Step::Evaluate; 2], &[FULL; 2]),
+    ((0, 1, 2), &[], &[Step::Evaluate], &[NOTHING]),
+    (
+        (0, 1, 2),
+        &[],
+        &[Step::InitialValue(1), Step::Evaluate, Step::Evaluate],
+        &[FULL; 2],
+    ),
+    ((1, 1, 0), &[0x31], &[Step::Evaluate], &[FULL]),
+    (
+        (1, 1, 1),
+        &[0x50, 0x93, 0x04, 0x51, 0x93, 0x04],
+        &[Step::Evaluate],
+        &[FULL],
+    ),
+    (
+        (3, 1, 1),
+        &[0x30, 0x2f, 0xfc, 0xff],
+        &[Step::MaxIterations(7), Step::Evaluate],
+        &[FULL],
+    ),
+    (
+        (3, 1, 1),
+        &[0x30, 0x2f, 0xfc, 0xff],
+        &[Step::MaxIterations(6), Step::Evaluate],
+        &[SPENT],
+    ),
+    (
+        (1, 1, 1),
+        &[0x9c, 0x31],
+        &[Step::Evaluate, Step::CallFrameCfa(16), Step::Evaluate],
+        &[CFA, FULL, FULL],
+    ),
+    (
+        (1, 1, 1),
+        &[0x9c, 0x31],
+        &[
+            Step::Evaluate,
+            Step::CallFrameCfa(0x1_0000_0010),
+            Step::Evaluate,
+        ],
+        &[CFA, FULL, FULL],
+    ),
+    ((0, 1, 2), PIECES, CALLED, &[FULL; 2]),
+    ((1, 1, 0), PIECES, CALLED, &[FULL; 2]),
+    ((1, 0, 2), PIECES, CALLED, &[ASKED, FULL]),
+    ((1, 1, 1), PIECES, CALLED, &[ASKED, FULL]),
+    ((1, 1, 2), PIECES, CALLED, &[ASKED, COMPLETE]),
+];
+
+// The step, with an expression that is read; an answer of the rows above.
+fn read(step: Step<&'static [u8]>) -> Step<Slice<'static>> {
+    match step {
+        Step::InitialValue(value) => Step::InitialValue(value),
+        Step::MaxIterations(maximum) => Step::MaxIterations(maximum),
+        Step::CallFrameCfa(address) => Step::CallFrameCfa(address),
+        Step::AtLocation(callee) => Step::AtLocation(little(callee)),
+        _ => Step::Evaluate,
     }
+}
+
+// The steps give the row's answers, of which the last says how the evaluation ended.
+fn expect_row<S: EvaluationStorage<Slice<'static>>>(
+    rt: &impl Abort,
+    alloc: Global,
+    mut eval: Evaluation<Slice<'static>, S>,
+    row: &Row,
+) -> std::result::Result<(), AllocError>
+    requires { eval.status ≡ Start None }
+{
+    let mut steps = Vec::new(alloc);
+    for step in row.2 {
+        steps.push(read(*step))?;
+    }
+    let mut answers = Vec::new(alloc);
+    let text = row.1;
+    assert!(rt;
+        replay_all(&mut eval, &steps, &mut answers) == Replayed::Done,
+        "{text:?}"
+    );
+    assert!(rt; answers.as_slice() == row.3, "{text:?}");
+    let ended = match answers.last() {
+        Some(Answer(Err(error))) => eval.status() == Status::Failed(*error),
+        _ => eval.status() == Status::Complete,
+    };
+    assert!(rt; ended, "{text:?}");
     Ok(())
 }
 
 #[test]
-fn no_steps(rt: HostRuntime) {
-    let mut eval = on_heap(rt.alloc(), &[0x31]);
-    let mut answers = Vec::new(rt.alloc());
-    assert!(rt; replay_all(&mut eval, &[], &mut answers) == Replayed::Done);
-    assert!(rt; answers.is_empty());
-    assert!(rt; eval.status() == Status::Start { initial: false });
+fn fixed_capacities(rt: HostRuntime) -> std::result::Result<(), AllocError> {
+    for row in &ROWS {
+        let (alloc, text) = (rt.alloc(), row.1);
+        match row.0 {
+            (0, 1, 2) => expect_row(&rt, alloc, over_lists::<0, 1, 2>(text), row)?,
+            (1, 0, 2) => expect_row(&rt, alloc, over_lists::<1, 0, 2>(text), row)?,
+            (1, 1, 0) => expect_row(&rt, alloc, over_lists::<1, 1, 0>(text), row)?,
+            (1, 1, 1) => expect_row(&rt, alloc, over_lists::<1, 1, 1>(text), row)?,
+            (1, 1, 2) => expect_row(&rt, alloc, over_lists::<1, 1, 2>(text), row)?,
+            (1, 4, 1) => expect_row(&rt, alloc, over_lists::<1, 4, 1>(text), row)?,
+            (2, 1, 1) => expect_row(&rt, alloc, over_lists::<2, 1, 1>(text), row)?,
+            capacities => {
+                assert!(rt; capacities == (3, 1, 1));
+                expect_row(&rt, alloc, over_lists::<3, 1, 1>(text), row)?;
+            }
+        }
+    }
+    Ok(())
 }
 
+// What the complete ones of the rows came to.
 #[test]
-fn settings_before_a_replay(rt: HostRuntime) {
-    let mut eval = on_heap(rt.alloc(), &[0x97]);
-    eval.set_object_address(0x7000);
-    let mut answers = Vec::new(rt.alloc());
-    assert!(rt; replay_all(&mut eval, &[Step::Evaluate], &mut answers) == Replayed::Done);
-    assert!(rt; answers.as_slice() == [COMPLETE].as_slice());
-    expect_value(&rt, stand(&eval), Value::Generic(0x7000), 0x7000);
-}
+fn results_over_lists(rt: HostRuntime) {
+    let mut eval = over_lists::<2, 1, 1>(&[0x31, 0x32]);
+    assert!(rt; eval.evaluate() == Ok(EvaluationResult::Complete));
+    expect_value(&rt, &eval, Generic(2), 2);
 
-#[test]
-fn refused_growth_in_a_replay(rt: HostRuntime) {
     let steps = [
         Step::Evaluate,
-        Step::Evaluate,
-        Step::Memory(Value::Generic(0)),
-        Step::AtLocation(little(&[0x50])),
+        Step::AtLocation(little(&[0x50, 0x93, 0x04])),
     ];
-    let full = Answer(Err(Error::StackFull));
-    let mut eval = Evaluation::new(Refusing, little(&[0x31]), SMALL);
-    let mut answers = ArrayVec::<Answer<Slice<'_>>, 4>::new();
+    let mut eval = over_lists::<1, 1, 2>(PIECES);
+    let mut answers = ArrayVec::<Answer<Slice<'_>>, 2>::new();
     assert!(rt; replay_all(&mut eval, &steps, &mut answers) == Replayed::Done);
-    assert!(rt; answers.as_slice() == [full; 4].as_slice());
-    assert!(rt; eval.status() == Status::Failed(Error::StackFull));
-}
-
-#[test]
-fn refused_answer(rt: HostRuntime) {
-    let mut eval = on_heap(rt.alloc(), &[0x31]);
-    let mut answers = Vec::new(Refusing);
-    let replayed = replay_all(&mut eval, &[Step::Evaluate], &mut answers);
-    let index = 0;
-    assert!(rt;
-        replayed
-            == Replayed::NoRoom {
-                index,
-                answer: COMPLETE
-            }
-    );
-    assert!(rt; answers.is_empty());
-    expect_value(&rt, stand(&eval), Value::Generic(1), 1);
-}
-
-// Each front of the expression that lacks a byte has at most as many operations as bytes, and comes to an end.
-fn expect_fronts(
-    rt: &impl Abort,
-    alloc: Global,
-    address_size: u8,
-    version: u16,
-    text: &'static [u8],
-) {
-    assert!(rt; 0 < address_size && address_size <= 8);
-    let encoding = Encoding {
-        address_size,
-        version,
-        ..SMALL
-    };
-    for len in 0..text.len() {
-        let front = &text[..len];
-        let mut count = 0;
-        for _ in Expression(little(front)).operations(encoding) {
-            assert!(rt; count < len, "{text:?}");
-            count += 1;
-        }
-        expect_end(rt, Evaluation::new(alloc, little(front), encoding), front);
-    }
-}
-
-#[test]
-fn fronts(rt: HostRuntime) {
-    let tables: [&[Row]; 6] = [&STACK, &BRANCHES, &REQUESTS, &HIGH_BITS, &CALLS, &LOCATIONS];
-    for rows in tables {
-        for row in rows {
-            expect_fronts(&rt, rt.alloc(), 4, 4, row.0);
-        }
-    }
-    for (_, row) in &FIXED {
-        expect_fronts(&rt, rt.alloc(), 4, 4, row.0);
-    }
-    for (address_size, version, row) in &OTHERS {
-        expect_fronts(&rt, rt.alloc(), *address_size, *version, row.0);
-    }
-    for text in &CUT {
-        expect_fronts(&rt, rt.alloc(), 4, 4, *text);
-    }
+    let pieces = [
+        Location::Address { address: 1 },
+        Location::Register {
+            register: Register(0),
+        },
+    ];
+    let pieces = pieces.map(|location| Piece {
+        size_in_bits: Some(32),
+        bit_offset: None,
+        location,
+    });
+    expect_complete(&rt, &eval, None, &pieces);
 }

@@ -1,196 +1,31 @@
 use dwarf_base::constants::{DW_ATE_signed, DW_OP_GNU_variable_value, DW_OP_addr, DW_OP_lit31};
 use dwarf_base::{
     BigEndian, DebugAddrIndex, DebugInfoOffset, DwAte, DwOp, EndianSlice, Endianity, Error, Format,
-    LittleEndian, Reader, ReaderOffset, ReaderOffsetId, Register, Result, RunTimeEndian,
-    UnitOffset, reader_laws,
+    LittleEndian, Reader, ReaderOffset, Register, Result, RunTimeEndian, UnitOffset, reader_laws,
 };
 
-// The end of the bytes; the identifier is never compared.
-const EOF: Error = Error::UnexpectedEof(ReaderOffsetId(0));
-
-// Whether two answers are equal, whatever identifier `UnexpectedEof` carries.
-fn is_same<T: PartialEq + Drop>(left: Result<T>, right: Result<T>) -> bool {
-    match (left, right) {
-        (Ok(left), Ok(right)) => left == right,
-        (Err(Error::UnexpectedEof(_)), Err(Error::UnexpectedEof(_))) => true,
-        (Err(left), Err(right)) => left == right,
-        _ => false,
-    }
+fn is_cut_off<T: Drop>(answer: Result<T>) -> bool {
+    matches!(answer, Err(Error::UnexpectedEof(_)))
 }
 
 #[test]
-fn reads_addresses(rt: HostRuntime) {
-    let cases: [(&'static [u8], u8, Result<u64>, Result<u64>, usize); 8] = [
-        (&[0x01, 0x02], 2, Ok(513), Ok(258), 0),
-        (
-            &[0x01, 0x02, 0x03, 0x04, 0x05, 0x06, 0x07],
-            8,
-            Err(EOF),
-            Err(EOF),
-            7,
-        ),
-        (&[0xff], 1, Ok(255), Ok(255), 0),
-        (&[], 1, Err(EOF), Err(EOF), 0),
-        (
-            &[0x78, 0x56, 0x34, 0x12, 0x7f],
-            4,
-            Ok(0x1234_5678),
-            Ok(0x7856_3412),
-            1,
-        ),
-        (&[0x78, 0x56, 0x34], 4, Err(EOF), Err(EOF), 3),
-        (
-            &[0x01, 0x02, 0x03, 0x04, 0x05, 0x06, 0x07, 0x08, 0x09],
-            8,
-            Ok(0x0807_0605_0403_0201),
-            Ok(0x0102_0304_0506_0708),
-            1,
-        ),
-        (&[0x01], 2, Err(EOF), Err(EOF), 1),
-    ];
-    for (bytes, size, little, big, left) in cases {
-        let mut reader = EndianSlice::new(bytes, RunTimeEndian::Little);
-        assert!(rt; is_same(reader.read_address(size), little), "{bytes:?}");
-        assert!(rt; reader.len() <= left, "{bytes:?}");
-        let mut reader = EndianSlice::new(bytes, BigEndian);
-        assert!(rt; is_same(reader.read_address(size), big), "{bytes:?}");
-        assert!(rt; reader.len() <= left, "{bytes:?}");
-    }
-}
-
-#[test]
-fn reads_by_size(rt: HostRuntime) {
-    assert!(rt; EndianSlice::new(&[0x01, 0x02], LittleEndian).read_fixed(2) == Ok(513));
-    assert!(rt; EndianSlice::new(&[0x01, 0x02], BigEndian).read_fixed(2) == Ok(258));
+fn keeps_what_follows_a_refused_number(rt: HostRuntime) {
     let all = [1, 2, 3, 4, 5, 6, 7];
     let mut seven = EndianSlice::new(&all, LittleEndian);
-    assert!(rt; is_same(seven.read_fixed(8), Err(EOF)));
+    assert!(rt; is_cut_off(seven.read_fixed(8)));
     assert!(rt; seven == EndianSlice::new(&all[7 - seven.len()..], LittleEndian));
 }
 
 #[test]
-fn refuses_other_address_sizes(rt: HostRuntime) {
+fn refuses_other_sizes(rt: HostRuntime) {
     for size in [0, 3, 5, 6, 7, 9, 255] {
         let mut reader = EndianSlice::new(&[0; 9], LittleEndian);
         assert!(rt; reader.read_address(size) == Err(Error::UnsupportedAddressSize(size)));
         assert!(rt; reader.len() == 9);
     }
-}
-
-#[test]
-fn reads_unsigned_leb128(rt: HostRuntime) {
-    let cases: [(&'static [u8], Result<u64>, usize); 16] = [
-        (&[0x02], Ok(2), 0),
-        (&[0x7f, 0x01], Ok(127), 1),
-        (&[0x80, 0x01], Ok(128), 0),
-        (&[0x81, 0x01], Ok(129), 0),
-        (&[0xb9, 0x64], Ok(12857), 0),
-        (&[0x81, 0x00], Ok(1), 0),
-        (&[0x80, 0x80, 0x00, 0x05], Ok(0), 1),
-        (
-            &[0x80, 0x80, 0x80, 0x80, 0x80, 0x80, 0x80, 0x80, 0x20],
-            Ok(2305843009213693952),
-            0,
-        ),
-        (
-            &[0xff, 0xff, 0xff, 0xff, 0xff, 0xff, 0xff, 0xff, 0xff, 0x01],
-            Ok(u64::MAX),
-            0,
-        ),
-        (
-            &[
-                0x82, 0x80, 0x80, 0x80, 0x80, 0x80, 0x80, 0x80, 0x80, 0x00, 0x01,
-            ],
-            Ok(2),
-            1,
-        ),
-        (
-            &[0xff, 0xff, 0xff, 0xff, 0xff, 0xff, 0xff, 0xff, 0xff, 0x02],
-            Err(Error::BadUnsignedLeb128),
-            10,
-        ),
-        (
-            &[0xff, 0xff, 0xff, 0xff, 0xff, 0xff, 0xff, 0xff, 0xff, 0x81],
-            Err(Error::BadUnsignedLeb128),
-            10,
-        ),
-        (
-            &[
-                0x80, 0x80, 0x80, 0x80, 0x80, 0x80, 0x80, 0x80, 0x80, 0x80, 0x00,
-            ],
-            Err(Error::BadUnsignedLeb128),
-            11,
-        ),
-        (&[], Err(EOF), 0),
-        (&[0x80], Err(EOF), 1),
-        (
-            &[0x80, 0x80, 0x80, 0x80, 0x80, 0x80, 0x80, 0x80, 0x80],
-            Err(EOF),
-            9,
-        ),
-    ];
-    for (bytes, number, left) in cases {
-        let mut reader = EndianSlice::new(bytes, LittleEndian);
-        assert!(rt; is_same(reader.read_uleb128(), number), "{bytes:?}");
-        assert!(rt; reader.len() <= left, "{bytes:?}");
-    }
-    let cases: [(&'static [u8], Result<u32>); 4] = [
-        (&[0x80, 0x01], Ok(128)),
-        (&[0xff, 0xff, 0xff, 0xff, 0x0f], Ok(u32::MAX)),
-        (
-            &[0x80, 0x80, 0x80, 0x80, 0x10],
-            Err(Error::BadUnsignedLeb128),
-        ),
-        (&[0x80, 0x80, 0x80, 0x80], Err(EOF)),
-    ];
-    for (bytes, number) in cases {
-        let mut reader = EndianSlice::new(bytes, BigEndian);
-        assert!(rt; is_same(reader.read_uleb128_u32(), number), "{bytes:?}");
-    }
-}
-
-#[test]
-fn reads_signed_leb128(rt: HostRuntime) {
-    let cases: [(&'static [u8], Result<i64>); 17] = [
-        (&[0x02], Ok(2)),
-        (&[0x7e], Ok(-2)),
-        (&[0x7f], Ok(-1)),
-        (&[0xff, 0x00], Ok(127)),
-        (&[0x81, 0x7f], Ok(-127)),
-        (&[0x80, 0x01], Ok(128)),
-        (&[0x80, 0x7f], Ok(-128)),
-        (&[0x81, 0x01], Ok(129)),
-        (&[0xff, 0x7e], Ok(-129)),
-        (&[0xff, 0xff, 0x7f], Ok(-1)),
-        (
-            &[0x80, 0x80, 0x80, 0x80, 0x80, 0x80, 0x80, 0x80, 0x40],
-            Ok(-0x4000_0000_0000_0000),
-        ),
-        (
-            &[0x80, 0x80, 0x80, 0x80, 0x80, 0x80, 0x80, 0x80, 0x80, 0x7f],
-            Ok(i64::MIN),
-        ),
-        (
-            &[0xff, 0xff, 0xff, 0xff, 0xff, 0xff, 0xff, 0xff, 0xff, 0x00],
-            Ok(i64::MAX),
-        ),
-        (
-            &[0xff, 0xff, 0xff, 0xff, 0xff, 0xff, 0xff, 0xff, 0xff, 0x01],
-            Err(Error::BadSignedLeb128),
-        ),
-        (
-            &[
-                0x80, 0x80, 0x80, 0x80, 0x80, 0x80, 0x80, 0x80, 0x80, 0xff, 0x00,
-            ],
-            Err(Error::BadSignedLeb128),
-        ),
-        (&[], Err(EOF)),
-        (&[0x80, 0xff], Err(EOF)),
-    ];
-    for (bytes, number) in cases {
-        let mut reader = EndianSlice::new(bytes, LittleEndian);
-        assert!(rt; is_same(reader.read_sleb128(), number), "{bytes:?}");
-    }
+    let mut seven = EndianSlice::new(&[1, 2, 3, 4, 5, 6, 7], LittleEndian);
+    assert!(rt; is_cut_off(seven.read_fixed(8)));
+    assert!(rt; seven.len() <= 7);
 }
 
 // One read of each kind, in turn, seen as signed numbers.
@@ -258,8 +93,8 @@ fn skips_and_splits(rt: HostRuntime) {
     ] {
         let rest = EndianSlice::new(&bytes[3..], endian);
         assert!(rt; moved(EndianSlice::new(bytes, endian)) == Ok((rest, 3, first)));
-        assert!(rt; is_same(moved(EndianSlice::new(&bytes[..2], endian)), Err(EOF)));
-        assert!(rt; is_same(moved(EndianSlice::new(&[], endian)), Err(EOF)));
+        assert!(rt; is_cut_off(moved(EndianSlice::new(&bytes[..2], endian))));
+        assert!(rt; is_cut_off(moved(EndianSlice::new(&[], endian))));
     }
     let mut reader = EndianSlice::new(bytes, LittleEndian);
     assert!(rt; !reader.is_empty());

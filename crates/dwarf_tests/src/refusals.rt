@@ -1,0 +1,218 @@
+//! Each push of an evaluation is refused in turn.
+ghost use Rattle.std.specs.Prelude.{None};
+
+use crate::evaluation::{SMALL, Slice, little};
+use crate::replays::{AGAIN, COMPLETE, FULL, ITSELF, replay_all};
+use dwarf_base::{Error, Reader};
+use dwarf_eval::eval::{Evaluation, Status};
+use dwarf_eval::op::Piece;
+use dwarf_replay::{Answer, Replayed, Step};
+use dwarf_store::{ArrayLike, EvaluationStorage};
+use dwarf_value::Value::{self, Generic};
+use dwarf_value::ValueType;
+use std::alloc::{AllocError, Global};
+use std::process::Abort;
+
+// A list without a limit, one push of which is refused.
+#[derive(Drop)]
+struct RefusesOne<T> {
+    items: Vec<T>,
+    // How many pushes come before the refused one.
+    before: u64,
+}
+
+impl<T: Copy> ArrayLike for RefusesOne<T> {
+    type Item = T;
+
+    ghost items = { λ list. list.items.items };
+
+    ghost limit = { λ _. None };
+
+    fn len(&self) -> usize {
+        self.items.len()
+    }
+
+    fn get(&self, index: usize) -> Option<T> {
+        self.items.as_slice().get(index).copied()
+    }
+
+    fn as_slice(&self) -> &[T] {
+        self.items.as_slice()
+    }
+
+    fn pop(&mut self) -> Option<T> {
+        self.items.pop()
+    }
+
+    fn push(&mut self, item: T) -> Result<(), T> {
+        if self.before == 0 {
+            self.before = NEVER;
+            return Err(item);
+        }
+        self.before -= 1;
+        self.items.push(item).map_err(|failed| failed.value)
+    }
+}
+
+// More pushes than any of these evaluations makes.
+const NEVER: u64 = u64::MAX;
+
+struct ListsOfTests;
+
+impl<R: Reader + Copy> EvaluationStorage<R> for ListsOfTests {
+    type Stack = RefusesOne<Value>;
+
+    type ExpressionStack = RefusesOne<(R, R)>;
+
+    type Result = RefusesOne<Piece<R>>;
+}
+
+// A new list, which takes so many pushes before the refused one.
+fn list<T>(alloc: Global, before: u64) -> RefusesOne<T> {
+    RefusesOne {
+        items: Vec::new(alloc),
+        before,
+    }
+}
+
+// What comes after the answers: every call that a fault allows.
+fn later_steps() -> [Step<Slice<'static>>; 13] {
+    [
+        Step::Evaluate,
+        Step::Memory(Generic(0)),
+        Step::Register(Generic(0)),
+        Step::WasmValue(Generic(0)),
+        Step::EntryValue(Generic(0)),
+        Step::FrameBase(0),
+        Step::Tls(0),
+        Step::CallFrameCfa(0),
+        Step::ParameterRef(0),
+        Step::RelocatedAddress(0),
+        Step::IndexedAddress(0),
+        Step::AtLocation(little(&[])),
+        Step::BaseType(ValueType::U8),
+    ]
+}
+
+// An expression, its steps, what they answer with ample memory, the value and the count of pieces.
+#[derive(Clone, Copy)]
+struct Case<'a> {
+    text: &'a [u8],
+    steps: &'a [Step<Slice<'a>>],
+    told: &'a [Answer<Slice<'a>>],
+    value: Option<Value>,
+    pieces: usize,
+}
+
+// The answers are those of ample memory up to the refused call, which answers the fault, and so does every later one.
+fn expect_refused(rt: &impl Abort, answers: &[Answer<Slice<'_>>], told: &[Answer<Slice<'_>>]) {
+    let mut failed = false;
+    for (i, answer) in answers.iter().enumerate() {
+        failed = failed || *answer == FULL;
+        assert!(rt; failed || Some(answer) == told.get(i));
+        assert!(rt; !failed || *answer == FULL);
+    }
+    assert!(rt; failed && answers.len() == told.len() + later_steps().len());
+}
+
+// Replays the case, and then every call that a fault allows, over lists that take so many pushes before the refused one:
+// values, callers and pieces. The refused push is met, or there is none.
+fn expect_push(
+    rt: &impl Abort,
+    alloc: Global,
+    case: &Case<'_>,
+    before: [u64; 3],
+    is_met: bool,
+) -> Result<(), AllocError> {
+    let mut eval: Evaluation<Slice<'_>, ListsOfTests> = Evaluation::new_in(
+        little(case.text),
+        SMALL,
+        list(alloc, before[0]),
+        list(alloc, before[1]),
+        list(alloc, before[2]),
+    );
+    let mut steps = Vec::new(alloc);
+    steps.extend_from_slice(case.steps)?;
+    steps.extend_from_slice(&later_steps())?;
+    let mut answers = Vec::new(alloc);
+    let replayed = replay_all(&mut eval, &steps, &mut answers);
+    if is_met {
+        assert!(rt; replayed == Replayed::Done);
+        assert!(rt; eval.status() == Status::Failed(Error::StackFull));
+        expect_refused(rt, &answers, case.told);
+    } else {
+        assert!(rt; answers.len() == case.told.len() + 1);
+        assert!(rt;
+            answers
+                .iter()
+                .zip(case.told)
+                .all(|(answer, told)| *answer == *told)
+        );
+        assert!(rt; eval.status() == Status::Complete);
+        assert!(rt; eval.value_result() == case.value);
+        assert!(rt; eval.as_result().len() == case.pieces);
+    }
+    Ok(())
+}
+
+// Each push is refused in turn, of each list, from the first until a run meets none: so many of each.
+fn expect_refusals(
+    rt: &impl Abort,
+    alloc: Global,
+    case: &Case<'_>,
+    pushes: [u64; 3],
+) -> Result<(), AllocError> {
+    for push in 0..=pushes[0] {
+        expect_push(rt, alloc, case, [push, NEVER, NEVER], push < pushes[0])?;
+    }
+    for push in 0..=pushes[1] {
+        expect_push(rt, alloc, case, [NEVER, push, NEVER], push < pushes[1])?;
+    }
+    for push in 0..=pushes[2] {
+        expect_push(rt, alloc, case, [NEVER, NEVER, push], push < pushes[2])?;
+    }
+    Ok(())
+}
+
+// A sum of forty ones, forty values and 39 sums; twenty pieces; and a text that calls itself ten times over.
+#[test]
+fn refused_pushes(rt: HostRuntime) -> Result<(), AllocError> {
+    let mut sum = Vec::new(rt.alloc());
+    sum.extend_from_slice(&[0x31; 40])?;
+    sum.extend_from_slice(&[0x22; 39])?;
+    let case = Case {
+        text: &sum,
+        steps: &[Step::Evaluate],
+        told: &[COMPLETE],
+        value: Some(Generic(40)),
+        pieces: 1,
+    };
+    expect_refusals(&rt, rt.alloc(), &case, [79, 0, 1])?;
+
+    let mut registers = Vec::new(rt.alloc());
+    for _ in 0..20 {
+        registers.extend_from_slice(&[0x50, 0x93, 0x01])?;
+    }
+    let case = Case {
+        text: &registers,
+        steps: &[Step::Evaluate],
+        told: &[COMPLETE],
+        value: None,
+        pieces: 20,
+    };
+    expect_refusals(&rt, rt.alloc(), &case, [0, 0, 20])?;
+
+    let mut steps = [Step::AtLocation(little(AGAIN)); 11];
+    steps[0] = Step::Evaluate;
+    steps[10] = Step::AtLocation(little(&[0x31]));
+    let mut told = [ITSELF; 11];
+    told[10] = COMPLETE;
+    let case = Case {
+        text: AGAIN,
+        steps: &steps,
+        told: &told,
+        value: Some(Generic(1)),
+        pieces: 1,
+    };
+    expect_refusals(&rt, rt.alloc(), &case, [1, 10, 1])
+}

@@ -9,23 +9,16 @@ fn is_cut_off<T: Drop>(answer: Result<T>) -> bool {
 }
 
 #[test]
-fn keeps_what_follows_a_refused_number(rt: HostRuntime) {
-    let all = [1, 2, 3, 4, 5, 6, 7];
-    let mut seven = EndianSlice::new(&all, LittleEndian);
-    assert!(rt; is_cut_off(seven.read_fixed(8)));
-    assert!(rt; seven == EndianSlice::new(&all[7 - seven.len()..], LittleEndian));
-}
-
-#[test]
 fn refuses_other_sizes(rt: HostRuntime) {
     for size in [0, 3, 5, 6, 7, 9, 255] {
         let mut reader = EndianSlice::new(&[0; 9], LittleEndian);
         assert!(rt; reader.read_address(size) == Err(Error::UnsupportedAddressSize(size)));
         assert!(rt; reader.len() == 9);
     }
-    let mut seven = EndianSlice::new(&[1, 2, 3, 4, 5, 6, 7], LittleEndian);
+    let all = [1, 2, 3, 4, 5, 6, 7];
+    let mut seven = EndianSlice::new(&all, LittleEndian);
     assert!(rt; is_cut_off(seven.read_fixed(8)));
-    assert!(rt; seven.len() <= 7);
+    assert!(rt; seven == EndianSlice::new(&all[7 - seven.len()..], LittleEndian));
 }
 
 // One read of each kind, in turn, seen as signed numbers.

@@ -1,16 +1,14 @@
 -- An operation that takes no branch does the same in front of any place, and none changes the text.
 use Rattle.std.proofs.Common.{ℕ, ◌≡◌, ◌-◌, inl, inr, List, length, Result, Ok, Err, ap, ◌∙◌, sym, refl, subst}
-use Rattle.dwarf_base.specs.declared.errors.Error.{Error}
 use Rattle.dwarf_base.specs.Faults.{Fault}
-use Rattle.dwarf_base.specs.Reads.{IsLeftOf, Reads, Text}
-use Rattle.dwarf_base.proofs.Suffixes.{suffix_trans}
+use Rattle.dwarf_base.specs.Reads.{IsLeftOf, Text}
 use Rattle.dwarf_meaning.specs.Operations.{Operation}
 use Rattle.dwarf_meaning.specs.Acts.{Act, Pushes, Branches, Locates, EndsPiece, RequestAct, FaultAct}
 use Rattle.dwarf_meaning.specs.Stores.{Setup, Store, Next, Goes, RequestNext, FaultNext, goes, done, address_bits}
 use Rattle.dwarf_meaning.specs.Rest.{State, Status, Start, Running, RequestStatus, CompleteStatus, FaultStatus, with_refusal}
 use Rattle.dwarf_meaning.specs.Refusals.{before_pushes}
 use Rattle.dwarf_meaning.proofs.Effects.{IsActOf, branches, act_is}
-use Rattle.dwarf_machine.specs.inner.Steps.{LeadsBy, Performs, PerformsRead, Stays, act_of, at, done_at, with_place}
+use Rattle.dwarf_machine.specs.inner.Steps.{LeadsBy, Performs, Stays, act_of, at, done_at, with_place}
 use Rattle.dwarf_meaning.specs.Operations as operation
 
 -- ---- the text
@@ -118,14 +116,6 @@ performs_named named op left old new is none h =
     subst (λ (z : Operation). Performs (act_of old z) (at left old) (at left new)) (sym is) (performs_there op left old new none h)
 
 -- ---- what is left
-
--- what a read leaves belongs to the text still
-pub left_then : {X Y : Type 0} {view : X → Y} {result : Result X Error} {read : Result (Y × List ℕ) Fault} (before left whole : Text) → IsLeftOf before whole → Reads view before left result read → IsLeftOf left whole
-left_then before left whole h reads = record { rest = suffix_trans left.bytes before.bytes whole.bytes reads.rest h.rest; order = reads.order ∙ h.order }
-
--- and once an operation was done
-pub left_after : {X Y : Type 0} {view : X → Y} {result : Result X Error} {read : Result (Y × List ℕ) Fault} (before left : Text) (a : Act) (old new : State) → IsLeftOf before old.text → Reads view before left result read → Performs a old new → IsLeftOf left new.text
-left_after before left a old new h reads performs = subst (IsLeftOf left) (sym (performs_text a old new performs)) (left_then before left old.text h reads)
 
 -- what is left stays left
 pub left_there : (left : Text) (a : Act) (old new : State) → IsLeftOf left old.text → Performs a old new → IsLeftOf left new.text

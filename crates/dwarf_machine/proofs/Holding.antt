@@ -14,15 +14,26 @@ use Rattle.dwarf_meaning.specs.Meaning.{FaultOutcome}
 use Rattle.dwarf_meaning.specs.Rest.{State, Running, FaultStatus, with_refusal}
 use Rattle.dwarf_meaning.specs.Refusals.{Refusal, Never, before_pushes}
 use Rattle.dwarf_meaning.proofs.Counts.{OnStore, KeepsBoth, Tally, tally_of, both-push_piece}
+use Rattle.dwarf_base.specs.Reads.{Text}
+use Rattle.dwarf_op.specs.Views.{operation_of}
+use Rattle.dwarf_op.specs.declared.operations.Operation as code
+use Rattle.dwarf_op.specs.declared.operations.Operation.TheVariants as variant
 use Rattle.dwarf_machine.specs.Bounds.{piece_due, located_by, endings, located, faults_in}
 use Rattle.dwarf_machine.specs.Inputs.{with_status}
-use Rattle.dwarf_machine.specs.inner.Steps.{Does, Refused, Tries, ReadsPiece, EndsLocated, total, ComesBy, Turns, read_to, with_last}
+use Rattle.dwarf_machine.specs.inner.Steps.{Does, Refused, Tries, ReadsOperation, EndsLocated, total, ComesBy, Turns, read_to, with_last}
 use Rattle.dwarf_machine.proofs.Endings.{Ending, piece_ends}
 use Rattle.dwarf_machine.proofs.Loads.{Keeping, kept_in, piece_adds}
 use Rattle.dwarf_machine.proofs.Nearing.{nears_by}
 use Rattle.dwarf_machine.proofs.Spending.{fallen_spends, held_spends}
 use Rattle.dwarf_machine.proofs.Totals.{closed, through, going, total_running, through_failed}
 use Rattle.dwarf_machine.proofs.Turning.{total_inside, effort_running, falls_turns}
+
+-- an operation that is no piece ends none
+pub no_piece : {R O P : Type 0} (text : R → Text) (number : O → ℕ) (op : code.Operation R O P)
+    → ((size_in_bits : ℕ) (bit_offset : Option ℕ) → op ≡ variant.Piece size_in_bits bit_offset → ⊥)
+    → piece_ended_by (operation_of text number op) ≡ None
+no_piece text number (variant.Piece size_in_bits bit_offset) other = absurd (other size_in_bits bit_offset refl)
+no_piece text number op other = refl
 
 module _ (x : State) (location : Location) (runs : x.status ≡ Running) (inside : (x.place == length x.text.bytes) ≡ false) (waits : x.store.last ≡ Located location) where
   held_total : (r : Refusal) (inputs : List Input) (z : Result (Operation × List ℕ) Fault) → read x.setup x.text x.place ≡ z → total x r inputs ≡ through x.store.count x.setup x.callers (turn_located (run x.setup) x.setup x.text (length x.callers) location (with_refusal r x.store) inputs z)
@@ -142,5 +153,7 @@ module _ (x : State) (location : Location) (runs : x.status ≡ Running) (inside
   pub hold_unread : (error : Error) → read x.setup x.text x.place ≡ Err (fault_of error) → behind ≡ read_to behind.place x → new ≡ with_status (FaultStatus error) behind → Turns x new
   hold_unread error was moved is = held_unread x location runs inside waits behind.place new error (is ∙ ap (with_status (FaultStatus error)) moved) was
 
-  pub hold_turns : (piece : Option (ℕ × Option ℕ)) → ReadsPiece piece x behind → EndsLocated location piece behind new → Turns x new
-  hold_turns piece r h = held_turns x location runs inside waits r.op r.reads.behind r.reads.was new piece r.is (subst (λ (z : State). EndsLocated location piece z new) r.reads.moved h)
+  pub hold_turns : (op : Operation) → ReadsOperation op x behind → EndsLocated location (piece_ended_by op) behind new → Turns x new
+  hold_turns op r h =
+      held_turns x location runs inside waits op r.behind r.was new (piece_ended_by op) refl
+      (subst (λ (z : State). EndsLocated location (piece_ended_by op) z new) r.moved h)

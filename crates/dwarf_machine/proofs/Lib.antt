@@ -1,7 +1,6 @@
 pub mod Allowed
 pub mod Callers
 pub mod Generics
-pub mod PiecesRead
 pub mod Gives
 pub mod Pops
 pub mod Pushes
@@ -30,3 +29,5 @@ pub mod Spending
 pub mod Nearing
 pub mod AddressMasks
 pub mod Texts
+pub mod TickSteps
+pub mod TickWalks

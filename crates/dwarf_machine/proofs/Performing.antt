@@ -1,19 +1,12 @@
 -- One operation that is counted, read and done in front of what is left of a text is one turn of the nested run.
-use Rattle.std.proofs.Common.{ℕ, ◌≡◌, ◌-◌, ◌<◌, ◌≤◌, ◌==◌, ◌&&◌, not, Bool, true, false, List, length, drop, Result, Ok, Err, arith, ap, ◌∙◌, sym, refl, subst}
+use Rattle.std.proofs.Common.{ℕ, ◌≡◌, ◌-◌, ◌<◌, ◌≤◌, ◌==◌, ◌&&◌, not, Bool, true, false, List, length, arith, ap, ◌∙◌, sym, refl, subst}
 use Rattle.std.proofs.lemmas.Bool.Decides.{nat_tests}
-use Rattle.dwarf_base.specs.declared.common.Encoding.{Encoding}
-use Rattle.dwarf_base.specs.declared.errors.Error.{Error}
-use Rattle.dwarf_base.specs.Faults.{Fault, fault_of}
-use Rattle.dwarf_base.specs.Reads.{IsLeftOf, IsSuffix, Text}
-use Rattle.dwarf_meaning.specs.Decoding.{operation_at}
-use Rattle.dwarf_meaning.specs.Operations.{Operation}
-use Rattle.dwarf_meaning.specs.Run.{read}
+use Rattle.dwarf_base.specs.Reads.{IsSuffix}
 use Rattle.dwarf_meaning.specs.Stores.{Last, Nothing, Plain, Pieced, Pushed, Called, Located}
 use Rattle.dwarf_meaning.specs.Rest.{State, Status, Start, Running, RequestStatus, CompleteStatus, FaultStatus}
-use Rattle.dwarf_machine.specs.Inputs.{with_status}
-use Rattle.dwarf_machine.specs.inner.Steps.{Comes, CountsOne, IsFree, IsReady, PerformsRead, Turns, at, effort, goes_on, is_free, is_running, read_to, total}
+use Rattle.dwarf_machine.specs.inner.Steps.{Comes, CountsOne, IsFree, IsReady, Turns, at, effort, goes_on, is_free, is_running, total}
 use Rattle.dwarf_machine.proofs.Reaching.{comes_here, comes_more}
-use Rattle.dwarf_machine.proofs.Turning.{counted_turns, ready_none, unread_turns}
+use Rattle.dwarf_machine.proofs.Turning.{ready_none}
 
 -- ---- whether one more operation follows
 
@@ -53,35 +46,9 @@ none_left left bytes h = let fewer = h.no_longer in grind (arith, nat_tests, few
 pub none_turns : (left : List ℕ) (x new : State) → IsReady (at left x) → CountsOne x new false → Turns (at left x) (at left new)
 none_turns left x new ready h = ready_none (at left x) ready (at left new) (h.0, ap (at left) h.1)
 
-module _ (encoding : Encoding) (bits : ℕ) (left : Text) (after : List ℕ) (x counted_x : State) (is_encoding : encoding ≡ counted_x.setup.encoding) (is_bits : counted_x.setup.offset_bits ≡ bits) (ready : IsReady (at left.bytes x)) (rest : IsLeftOf left x.text) (can : CountsOne x counted_x true) where
-  abbrev ticked : State
-  ticked = read_to counted_x.place counted_x
-
-  counts_there : CountsOne (at left.bytes x) (at left.bytes counted_x) true
-  counts_there = (can.0, ap (at left.bytes) can.1)
-
-  -- what is read in front of what is left
-  read_there : (z : Result (Operation × List ℕ) Fault) → operation_at encoding bits left ≡ z → read counted_x.setup counted_x.text (at left.bytes counted_x).place ≡ z
-  read_there z e =
-      let setup = counted_x.setup in
-      ap (λ (y : State). operation_at setup.encoding setup.offset_bits (record { bytes = drop (length y.text.bytes - length left.bytes) y.text.bytes; is_big = y.text.is_big })) can.1
-      ∙ (ap (λ (bytes : List ℕ). operation_at setup.encoding setup.offset_bits (record { bytes = bytes; is_big = x.text.is_big })) rest.rest.same
-      ∙ (ap (λ (big : Bool). operation_at setup.encoding setup.offset_bits (record { bytes = left.bytes; is_big = big })) (sym rest.order)
-      ∙ (ap (λ (unit : Encoding). operation_at unit setup.offset_bits left) (sym is_encoding)
-      ∙ (ap (λ (n : ℕ). operation_at encoding n left) is_bits ∙ e))))
-
-  abbrev read_here : Result (Operation × List ℕ) Fault
-  read_here = operation_at encoding bits left
-
-  pub performed_turns : (new : State) → PerformsRead read_here after ticked new → Turns (at left.bytes x) (at after new)
-  performed_turns new h =
-      counted_turns (at left.bytes x) (at left.bytes counted_x) (read_to (length counted_x.text.bytes - length h.behind) (at left.bytes counted_x)) (at after new) h.op ready counts_there
-      (record { behind = h.behind; was = read_there (Ok (h.op, h.behind)) h.was; moved = refl }) h.performs
-
-  pub refused_turns : (refused new : State) (error : Error) → read_here ≡ Err (fault_of error) → refused ≡ ticked → new ≡ with_status (FaultStatus error) refused → Turns (at left.bytes x) (at after new)
-  refused_turns refused new error was same is =
-      unread_turns (at left.bytes x) (at left.bytes counted_x) (at after ticked) (at after new) error ready counts_there (read_there (Err (fault_of error)) was) refl
-      (ap (at after) (is ∙ ap (with_status (FaultStatus error)) same))
+-- the operation in front of what is left, counted
+pub counted_there : (left : List ℕ) (x counted_x : State) → CountsOne x counted_x true → CountsOne (at left x) (at left counted_x) true
+counted_there left x counted_x can = (can.0, ap (at left) can.1)
 
 -- ---- the loop
 

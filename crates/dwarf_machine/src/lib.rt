@@ -6,9 +6,10 @@
 
 mod answers;
 mod binary;
-mod entries;
 pub mod machine;
 mod operate;
+mod operations;
 mod operators;
 pub mod states;
+mod ticks;
 mod turns;

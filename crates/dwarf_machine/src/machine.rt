@@ -6,16 +6,17 @@ ghost use Rattle.dwarf_meaning.specs.Meaning.{has_pieces};
 ghost use Rattle.dwarf_meaning.specs.Rest.{Start, FaultStatus};
 ghost use Rattle.dwarf_meaning.specs.Run.{most, read};
 ghost use Rattle.dwarf_meaning.specs.Stores.{Located, Plain, address_bits, push_value, push_piece};
+ghost use Rattle.dwarf_op.specs.Views.{operation_of};
 ghost use Rattle.dwarf_machine.specs.Bounds.{IsUnspent};
 ghost use Rattle.dwarf_machine.specs.Inputs.{IsFresh, with_maximum, with_object, with_status};
 ghost use Rattle.dwarf_machine.specs.Machine.{last_of, location_of, piece_of, setup_of, status_of};
-ghost use Rattle.dwarf_machine.specs.inner.Steps.{CountsOne, GoesBack, IsFree, Jumps, Pops, PopsGenerics, ReadsPiece, Tries, TriesToEnter, at, is_free, is_running, read_to, with_last};
+ghost use Rattle.dwarf_machine.specs.inner.Steps.{CountsOne, GoesBack, IsFree, Jumps, Pops, PopsGenerics, ReadsOperation, Tries, TriesToEnter, at, is_free, is_running, read_to, with_last};
 
 use crate::states::{EvaluationState, LastOperation};
+use crate::ticks::Ticks;
 use dwarf_base::{Encoding, Error, Reader, ReaderOffset, Result};
-use dwarf_op::{Location, Piece, parse_piece};
+use dwarf_op::{Location, Operation, Piece};
 use dwarf_store::{ArrayLike, EvaluationStorage};
-use dwarf_ticks::Ticks;
 use dwarf_value::Value;
 use std::marker::Model;
 
@@ -299,35 +300,23 @@ impl<R: Reader + Copy, S: EvaluationStorage<R>> Machine<R, S> {
         self.pc = left;
     }
 
-    /// The unit's encoding.
+    /// Reads the operation in front of what is left of the running text, and counts that. Nothing else of an evaluation
+    /// decodes, and nothing else raises the count.
     #[inline(always)]
-    pub(crate) fn encoding(&self) -> Encoding
-        ensures value { result ≡ self.now.setup.encoding }
-        ensures bits { self.now.setup.offset_bits ≡ R.Offset.BITS }
-    {
-        self.encoding
-    }
-
-    /// Notes that an operation is decoded, for contracts alone.
-    #[inline(always)]
-    pub(crate) fn tick(&mut self)
-        ensures { self.new ≡ read_to self.old.place self.old }
-    {
-        self.decodings.tick();
-    }
-
-    /// Decodes the operation at the place where a location waits: the size and the offset of the piece that it ends, in
-    /// bits, where it ends one.
-    #[inline(always)]
-    pub(crate) fn read_piece(&mut self) -> Result<Option<(u64, Option<u64>)>>
-        ensures ok { IfOk result (λ piece. ReadsPiece piece self.old self.new) }
-        ensures behind { OnOk result (0 < self.new.place) }
+    pub(crate) fn decode(&mut self, left: &mut R) -> Result<Operation<R>>
+        requires { IsLeftOf (R.text left.old) self.old.text }
+        ensures ok { IfOk result
+            (λ operation. ReadsOperation (operation_of R.text R.Offset.number operation)
+            (at (R.text left.old).bytes self.old) (at (R.text left.new).bytes self.new)) }
+        ensures behind { OnOk result (0 < (at (R.text left.new).bytes self.new).place) }
         ensures err { IfErr result
-            (λ e. read self.old.setup self.old.text self.old.place ≡ Err (fault_of e)) }
-        ensures alone { self.new ≡ read_to self.new.place self.old }
+            (λ e. read self.old.setup self.old.text (at (R.text left.old).bytes self.old).place
+            ≡ Err (fault_of e)) }
+        ensures alone { self.new ≡ read_to self.old.place self.old }
+        ensures rest { IsLeftOf (R.text left.new) self.new.text }
     {
         self.decodings.tick();
-        parse_piece(&mut self.pc, self.encoding)
+        Operation::parse(left, self.encoding)
     }
 
     /// Goes to a place of the running text, or keeps the fault of a place that it doesn't have.

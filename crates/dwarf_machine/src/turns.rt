@@ -2,15 +2,17 @@ ghost use Rattle.std.specs.Prelude.{◌≡◌, ◌==◌, ◌<◌, length, true, 
 ghost use Rattle.dwarf_base.specs.Reads.{IsLeftOf};
 ghost use Rattle.dwarf_meaning.specs.Meaning.{whole as meant_whole, completion_of, finish, finish_free, finish_judged, finish_located, finish_value};
 ghost use Rattle.dwarf_meaning.specs.Rest.{Running, Start};
+ghost use Rattle.dwarf_meaning.specs.Run.{piece_ended_by};
 ghost use Rattle.dwarf_meaning.specs.RunLaws.{waits_of};
 ghost use Rattle.dwarf_meaning.specs.Stores.{Located, push_piece};
+ghost use Rattle.dwarf_op.specs.Views.{operation_of};
 ghost use Rattle.dwarf_machine.specs.Machine.{location_of, piece_of};
 ghost use Rattle.dwarf_machine.specs.inner.Steps.{RunsOn, Closes, Ends, EndsLocated, IsReady, Turns, at, goes_on, total};
 
 use crate::machine::Machine;
 use crate::states::{EvaluationState, LastOperation};
 use dwarf_base::{Error, Reader, ReaderOffset};
-use dwarf_op::{Location, Piece};
+use dwarf_op::{Location, Operation, Piece};
 use dwarf_store::EvaluationStorage;
 use dwarf_value::Value;
 
@@ -39,8 +41,9 @@ impl<R: Reader + Copy, S: EvaluationStorage<R>> Machine<R, S> {
         if !self.count() {
             return;
         }
-        if let Err(error) = self.perform_opcode(left, self.encoding()) {
-            self.fail(error);
+        match self.decode(left) {
+            Ok(operation) => self.operate(operation, left),
+            Err(error) => self.fail(error),
         }
     }
 
@@ -70,20 +73,24 @@ impl<R: Reader + Copy, S: EvaluationStorage<R>> Machine<R, S> {
 
     /// Ends the piece of a location that waits for it, if the operation that was read ends one.
     #[inline(always)]
-    fn end_located(&mut self, location: Location<R>, piece: Option<(u64, Option<u64>)>)
+    fn end_located(&mut self, location: Location<R>, operation: Operation<R>)
         requires { 0 < self.old.place }
-        ensures { EndsLocated (location_of R.text R.Offset.number location) piece
-            self.old self.new }
+        ensures { EndsLocated (location_of R.text R.Offset.number location)
+            (piece_ended_by (operation_of R.text R.Offset.number operation)) self.old self.new }
     {
-        let Some(size) = piece else {
+        let Operation::Piece {
+            size_in_bits,
+            bit_offset,
+        } = operation
+        else {
             let place = self.place().into_u64();
             self.fail(Error::InvalidExpressionTerminator(place - 1));
             return;
         };
         self.mark(LastOperation::Pieced);
         self.push_piece(Piece {
-            size_in_bits: Some(size.0),
-            bit_offset: size.1,
+            size_in_bits: Some(size_in_bits),
+            bit_offset,
             location,
         });
     }
@@ -96,8 +103,12 @@ impl<R: Reader + Copy, S: EvaluationStorage<R>> Machine<R, S> {
             ≡ Located (location_of R.text R.Offset.number location) }
         ensures { Turns self.old self.new }
     {
-        match self.read_piece() {
-            Ok(piece) => self.end_located(location, piece),
+        let mut rest = self.left();
+        match self.decode(&mut rest) {
+            Ok(operation) => {
+                self.go_to(rest);
+                self.end_located(location, operation);
+            }
             Err(error) => self.fail(error),
         }
     }

@@ -20,10 +20,6 @@ use Rattle.dwarf_op.specs.declared.opcodes.Offset as offset_shapes
 use Rattle.dwarf_op.specs.declared.opcodes.Offset.TheVariants as offset_shape
 use Rattle.dwarf_op.specs.declared.opcodes.FromOffset.{FromOffset}
 use Rattle.dwarf_op.specs.declared.opcodes.FromOffset.TheVariants as from_offset
-use Rattle.dwarf_op.specs.declared.opcodes.FromBlock.{FromBlock}
-use Rattle.dwarf_op.specs.declared.opcodes.FromBlock.TheVariants as from_block
-use Rattle.dwarf_op.specs.declared.operands.WasmPlace.{WasmPlace}
-use Rattle.dwarf_op.specs.declared.operands.WasmPlace.TheVariants as wasm_place
 use Rattle.dwarf_op.specs.declared.opcodes.Entry.{Entry}
 use Rattle.dwarf_op.specs.declared.opcodes.Entry.TheVariants as entry
 use Rattle.dwarf_op.specs.declared.opcodes.Rare.{Rare}
@@ -79,6 +75,7 @@ signed_form signed_shape.Sleb128 = SignedLeb128
 
 -- the form of an offset
 abbrev pub offset_form : offset_shapes.Offset → Form
+offset_form offset_shape.U8 = Fixed 1
 offset_form offset_shape.U16 = Fixed 2
 offset_form offset_shape.U32 = Fixed 4
 offset_form offset_shape.Uleb128 = form.Offset
@@ -96,17 +93,6 @@ offset_operation from_offset.Convert offset = meaning.Convert offset
 offset_operation from_offset.Reinterpret offset = meaning.Reinterpret offset
 offset_operation from_offset.VariableValue offset = meaning.VariableValue offset
 
--- what a block makes
-abbrev pub block_operation : FromBlock → Text → meaning.Operation
-block_operation from_block.ImplicitValue block = meaning.ImplicitValue block
-block_operation from_block.EntryValue block = meaning.EntryValue block
-
--- what an index makes, by its place in a WebAssembly machine
-abbrev pub wasm_operation : WasmPlace → ℕ → meaning.Operation
-wasm_operation wasm_place.Local index = meaning.WasmLocal index
-wasm_operation wasm_place.Global index = meaning.WasmGlobal index
-wasm_operation wasm_place.Stack index = meaning.WasmStack index
-
 -- the row that a rare entry is
 abbrev pub rare_row : Rare → Row
 rare_row rare_entry.Address = unsigned Address meaning.Address
@@ -115,7 +101,8 @@ rare_row rare_entry.NamedRegister = unsigned RegisterNumber meaning.Register
 rare_row rare_entry.NamedBaseRegister = unsigned_signed RegisterNumber SignedLeb128 (λ register offset. meaning.RegisterOffset register offset 0)
 rare_row rare_entry.TypedRegister = unsigned_two RegisterNumber form.Offset (λ register base_type. meaning.RegisterOffset register (pos 0) base_type)
 rare_row rare_entry.BitPiece = unsigned_two Leb128 Leb128 (λ size offset. meaning.Piece size (Some offset))
-rare_row (rare_entry.Block make) = sized_block form.Offset (block_operation make)
+rare_row rare_entry.ImplicitValue = sized_block form.Offset meaning.ImplicitValue
+rare_row rare_entry.EntryValue = sized_block form.Offset meaning.EntryValue
 rare_row rare_entry.TypedLiteral = Unsigned form.Offset (λ base_type. sized_block (Fixed 1) (meaning.TypedLiteral base_type))
 rare_row (rare_entry.TypedDeref space) = unsigned_two (Fixed 1) form.Offset (λ size base_type. meaning.Deref base_type size space)
 rare_row rare_entry.ImplicitPointer = unsigned_signed InfoReference SignedLeb128 meaning.ImplicitPointer

@@ -1,9 +1,7 @@
 -- What operations and their operands stand for, once a reader is seen as a text and an offset as a number.
-use Rattle.std.specs.Prelude.{ℕ, List, Option, Result, Ok}
-use Rattle.dwarf_base.specs.Faults.{Fault, ◌>>=◌}
+use Rattle.std.specs.Prelude.{ℕ}
 use Rattle.dwarf_base.specs.Reads.{Text}
 use Rattle.dwarf_meaning.specs.Operations as meaning
-use Rattle.dwarf_meaning.specs.Run.{piece_ended_by}
 use Rattle.dwarf_op.specs.declared.operations.Operation.{Operation}
 use Rattle.dwarf_op.specs.declared.operations.Operation.TheVariants as operation
 use Rattle.dwarf_op.specs.declared.operations.DieReference.{DieReference}
@@ -71,7 +69,3 @@ operation_of text number (operation.WasmLocal index) = meaning.WasmLocal index
 operation_of text number (operation.WasmGlobal index) = meaning.WasmGlobal index
 operation_of text number (operation.WasmStack index) = meaning.WasmStack index
 operation_of text number (operation.VariableValue offset) = meaning.VariableValue (number offset.0)
-
--- an operation that was read, as the piece that it ends, where it ends one
-abbrev pub piece_read : Result (meaning.Operation × List ℕ) Fault → Result (Option (ℕ × Option ℕ) × List ℕ) Fault
-piece_read read = read >>= λ op. Ok (piece_ended_by op.0, op.1)

@@ -1,23 +1,22 @@
 //! Reading the operation at the front of a text.
 
 ghost use Rattle.std.specs.Prelude.{◌≡◌, ◌<◌, length, OnOk};
+ghost use Rattle.dwarf_base.specs.declared.common.Encoding.{Encoding};
 ghost use Rattle.dwarf_base.specs.Reads.{Reads};
 ghost use Rattle.dwarf_meaning.specs.Decoding.{operation_at};
 ghost use Rattle.dwarf_op.specs.Entries.{entry_row, operands_in, rare_row};
 ghost use Rattle.dwarf_op.specs.Entries as entries;
-ghost use Rattle.dwarf_op.specs.declared.opcodes.Entry.{Entry};
-ghost use Rattle.dwarf_op.specs.Views.{operation_of, piece_read};
+ghost use Rattle.dwarf_op.specs.Views.{operation_of};
 
-use crate::opcodes::{Entry, FromBlock, FromOffset, Offset, Plain, Rare, entry_at};
+use crate::opcodes::{Entry, FromOffset, Offset, Plain, Rare, entry_at};
 use crate::operands::{
-    WasmPlace, generic_type, read_address, read_bit_piece, read_block, read_implicit_pointer,
-    read_named_base_register, read_offset, read_piece, read_register, read_signed, read_sleb128,
-    read_typed_deref, read_typed_literal, read_typed_register, read_uleb128, read_unsigned,
-    read_wasm_location,
+    generic_type, read_address, read_block, read_i16, read_offset, read_register, read_signed,
+    read_sleb128, read_u8, read_uleb128, read_unsigned,
 };
 use crate::operations::{DieReference, Operation};
 use dwarf_base::{
     DebugAddrIndex, DebugInfoOffset, DwOp, Encoding, Error, Reader, Register, Result, UnitOffset,
+    constants,
 };
 
 #[inline(always)]
@@ -90,25 +89,152 @@ fn offset_operation<R: Reader>(make: FromOffset, offset: R::Offset) -> Operation
     }
 }
 
+// A register, and an offset from what it holds.
+#[tactic(auto, using(dwarf_base::proofs::Suffixes::suffix_trans))]
 #[inline(always)]
-fn block_operation<R: Reader + Copy>(make: FromBlock, block: R) -> Operation<R>
-    ensures { operation_of R.text R.Offset.number result
-        ≡ entries.block_operation make (R.text block) }
+fn read_named_base_register<R: Reader + Copy>(bytes: &mut R) -> Result<Operation<R>>
+    ensures { (encoding : Encoding) → Reads (operation_of R.text R.Offset.number)
+        (R.text bytes.old) (R.text bytes.new) result
+        (operands_in encoding R.Offset.BITS (R.text bytes.old) (rare_row Rare.NamedBaseRegister)) }
 {
-    match make {
-        FromBlock::ImplicitValue => Operation::ImplicitValue { bytes: block },
-        FromBlock::EntryValue => Operation::EntryValue { expression: block },
-    }
+    let base = read_register(bytes)?;
+    let offset = read_sleb128(bytes)?;
+    Ok(Operation::RegisterOffset {
+        register: base,
+        offset,
+        base_type: generic_type(),
+    })
 }
 
+// A register, and the type of what it holds.
+#[tactic(auto, using(dwarf_base::proofs::Suffixes::suffix_trans))]
 #[inline(always)]
-fn wasm_operation<R: Reader>(place: WasmPlace, index: u32) -> Operation<R>
-    ensures { operation_of R.text R.Offset.number result ≡ entries.wasm_operation place index }
+fn read_typed_register<R: Reader + Copy>(bytes: &mut R, encoding: Encoding) -> Result<Operation<R>>
+    ensures { Reads (operation_of R.text R.Offset.number)
+        (R.text bytes.old) (R.text bytes.new) result
+        (operands_in encoding R.Offset.BITS (R.text bytes.old) (rare_row Rare.TypedRegister)) }
 {
-    match place {
-        WasmPlace::Local => Operation::WasmLocal { index },
-        WasmPlace::Global => Operation::WasmGlobal { index },
-        WasmPlace::Stack => Operation::WasmStack { index },
+    let register = read_register(bytes)?;
+    let base_type = read_offset(Offset::Uleb128, bytes, encoding)?;
+    Ok(Operation::RegisterOffset {
+        register,
+        offset: 0,
+        base_type: UnitOffset(base_type),
+    })
+}
+
+// The size of a piece, which stands in bytes.
+#[tactic(auto, using(dwarf_base::proofs::Suffixes::suffix_trans))]
+#[inline(always)]
+fn read_piece<R: Reader + Copy>(bytes: &mut R) -> Result<Operation<R>>
+    ensures { (encoding : Encoding) → Reads (operation_of R.text R.Offset.number)
+        (R.text bytes.old) (R.text bytes.new) result
+        (operands_in encoding R.Offset.BITS (R.text bytes.old) (entry_row encoding 0 Entry.Piece)) }
+{
+    let size = read_uleb128(bytes)?;
+    let Some(size_in_bits) = size.checked_mul(8) else {
+        return Err(Error::InvalidPieceSize(size));
+    };
+    Ok(Operation::Piece {
+        size_in_bits,
+        bit_offset: None,
+    })
+}
+
+// The size of a piece and its offset, in bits.
+#[tactic(auto, using(dwarf_base::proofs::Suffixes::suffix_trans))]
+#[inline(always)]
+fn read_bit_piece<R: Reader + Copy>(bytes: &mut R) -> Result<Operation<R>>
+    ensures { (encoding : Encoding) → Reads (operation_of R.text R.Offset.number)
+        (R.text bytes.old) (R.text bytes.new) result
+        (operands_in encoding R.Offset.BITS (R.text bytes.old) (rare_row Rare.BitPiece)) }
+{
+    let size_in_bits = read_uleb128(bytes)?;
+    let bit_offset = read_uleb128(bytes)?;
+    Ok(Operation::Piece {
+        size_in_bits,
+        bit_offset: Some(bit_offset),
+    })
+}
+
+// A type, and the bytes of a value.
+#[tactic(auto, using(dwarf_base::proofs::Suffixes::suffix_trans))]
+#[inline(always)]
+fn read_typed_literal<R: Reader + Copy>(bytes: &mut R, encoding: Encoding) -> Result<Operation<R>>
+    ensures { Reads (operation_of R.text R.Offset.number)
+        (R.text bytes.old) (R.text bytes.new) result
+        (operands_in encoding R.Offset.BITS (R.text bytes.old) (rare_row Rare.TypedLiteral)) }
+{
+    let base_type = read_offset(Offset::Uleb128, bytes, encoding)?;
+    let value = read_block(Offset::U8, bytes, encoding)?;
+    Ok(Operation::TypedLiteral {
+        base_type: UnitOffset(base_type),
+        value,
+    })
+}
+
+// A size, and the type of what is read.
+#[tactic(auto, using(dwarf_base::proofs::Suffixes::suffix_trans))]
+#[inline(always)]
+fn read_typed_deref<R: Reader + Copy>(
+    space: bool,
+    bytes: &mut R,
+    encoding: Encoding,
+) -> Result<Operation<R>>
+    ensures { Reads (operation_of R.text R.Offset.number)
+        (R.text bytes.old) (R.text bytes.new) result
+        (operands_in encoding R.Offset.BITS (R.text bytes.old) (rare_row (Rare.TypedDeref space))) }
+{
+    let size = read_u8(bytes)?;
+    let base_type = read_offset(Offset::Uleb128, bytes, encoding)?;
+    Ok(Operation::Deref {
+        size,
+        space,
+        base_type: UnitOffset(base_type),
+    })
+}
+
+// A reference into `.debug_info`, and an offset in the object there.
+#[tactic(auto, using(dwarf_base::proofs::Suffixes::suffix_trans))]
+#[inline(always)]
+fn read_implicit_pointer<R: Reader + Copy>(
+    bytes: &mut R,
+    encoding: Encoding,
+) -> Result<Operation<R>>
+    ensures { Reads (operation_of R.text R.Offset.number)
+        (R.text bytes.old) (R.text bytes.new) result
+        (operands_in encoding R.Offset.BITS (R.text bytes.old) (rare_row Rare.ImplicitPointer)) }
+{
+    let value = read_offset(Offset::Reference, bytes, encoding)?;
+    let byte_offset = read_sleb128(bytes)?;
+    Ok(Operation::ImplicitPointer {
+        value: DebugInfoOffset(value),
+        byte_offset,
+    })
+}
+
+// Where a value of WebAssembly is, and its index, which stands as the kind of the place says.
+#[tactic(auto, using(dwarf_base::proofs::Suffixes::suffix_trans))]
+#[inline(always)]
+fn read_wasm_location<R: Reader + Copy>(bytes: &mut R) -> Result<Operation<R>>
+    ensures { (encoding : Encoding) → Reads (operation_of R.text R.Offset.number)
+        (R.text bytes.old) (R.text bytes.new) result
+        (operands_in encoding R.Offset.BITS (R.text bytes.old) (rare_row Rare.WasmLocation)) }
+{
+    match read_u8(bytes)? {
+        0 => Ok(Operation::WasmLocal {
+            index: bytes.read_uleb128_u32()?,
+        }),
+        1 => Ok(Operation::WasmGlobal {
+            index: bytes.read_uleb128_u32()?,
+        }),
+        2 => Ok(Operation::WasmStack {
+            index: bytes.read_uleb128_u32()?,
+        }),
+        3 => Ok(Operation::WasmGlobal {
+            index: bytes.read_u32()?,
+        }),
+        _ => Err(Error::InvalidExpression(constants::DW_OP_WASM_location)),
     }
 }
 
@@ -149,7 +275,7 @@ fn read_offset_apart<R: Reader + Copy>(
 }
 
 // In one function of its own, so that what is read often stays small enough to be read in line.
-#[tactic(auto, using(dwarf_base::proofs::Suffixes::suffix_trans, crate::proofs::OneByte::one_byte))]
+#[tactic(auto, using(dwarf_base::proofs::Suffixes::suffix_trans))]
 #[inline(never)]
 fn read_rare_operands<R: Reader + Copy>(
     entry: Rare,
@@ -165,61 +291,24 @@ fn read_rare_operands<R: Reader + Copy>(
             address: read_address(bytes, encoding.address_size)?,
         }),
         Rare::PickByte => Ok(Operation::Pick {
-            index: bytes.read_u8()?,
+            index: read_u8(bytes)?,
         }),
         Rare::NamedRegister => Ok(Operation::Register {
             register: read_register(bytes)?,
         }),
-        Rare::NamedBaseRegister => {
-            let (register, offset) = read_named_base_register(bytes)?;
-            Ok(Operation::RegisterOffset {
-                register,
-                offset,
-                base_type: generic_type(),
-            })
-        }
-        Rare::TypedRegister => {
-            let (register, base_type) = read_typed_register(bytes, encoding)?;
-            Ok(Operation::RegisterOffset {
-                register,
-                offset: 0,
-                base_type: UnitOffset(base_type),
-            })
-        }
-        Rare::BitPiece => {
-            let (size_in_bits, bit_offset) = read_bit_piece(bytes)?;
-            Ok(Operation::Piece {
-                size_in_bits,
-                bit_offset: Some(bit_offset),
-            })
-        }
-        Rare::Block(make) => Ok(block_operation(make, read_block(bytes, encoding)?)),
-        Rare::TypedLiteral => {
-            let (base_type, value) = read_typed_literal(bytes, encoding)?;
-            Ok(Operation::TypedLiteral {
-                base_type: UnitOffset(base_type),
-                value,
-            })
-        }
-        Rare::TypedDeref(space) => {
-            let (size, base_type) = read_typed_deref(bytes, encoding)?;
-            Ok(Operation::Deref {
-                base_type: UnitOffset(base_type),
-                size,
-                space,
-            })
-        }
-        Rare::ImplicitPointer => {
-            let (value, byte_offset) = read_implicit_pointer(bytes, encoding)?;
-            Ok(Operation::ImplicitPointer {
-                value: DebugInfoOffset(value),
-                byte_offset,
-            })
-        }
-        Rare::WasmLocation => {
-            let (place, index) = read_wasm_location(bytes)?;
-            Ok(wasm_operation(place, index))
-        }
+        Rare::NamedBaseRegister => read_named_base_register(bytes),
+        Rare::TypedRegister => read_typed_register(bytes, encoding),
+        Rare::BitPiece => read_bit_piece(bytes),
+        Rare::ImplicitValue => Ok(Operation::ImplicitValue {
+            bytes: read_block(Offset::Uleb128, bytes, encoding)?,
+        }),
+        Rare::EntryValue => Ok(Operation::EntryValue {
+            expression: read_block(Offset::Uleb128, bytes, encoding)?,
+        }),
+        Rare::TypedLiteral => read_typed_literal(bytes, encoding),
+        Rare::TypedDeref(space) => read_typed_deref(space, bytes, encoding),
+        Rare::ImplicitPointer => read_implicit_pointer(bytes, encoding),
+        Rare::WasmLocation => read_wasm_location(bytes),
     }
 }
 
@@ -240,7 +329,7 @@ fn read_rare<R: Reader + Copy>(
     operation
 }
 
-#[tactic(auto, using(dwarf_base::proofs::Suffixes::suffix_trans, crate::proofs::OneByte::one_byte))]
+#[tactic(auto, using(dwarf_base::proofs::Suffixes::suffix_trans))]
 #[inline(always)]
 fn read_operands<R: Reader + Copy>(
     entry: Entry,
@@ -269,7 +358,7 @@ fn read_operands<R: Reader + Copy>(
         }),
         Entry::DerefSize(space) => Ok(Operation::Deref {
             base_type: generic_type(),
-            size: bytes.read_u8()?,
+            size: read_u8(bytes)?,
             space,
         }),
         Entry::Constant(shape) => Ok(Operation::UnsignedConstant {
@@ -285,21 +374,18 @@ fn read_operands<R: Reader + Copy>(
             offset: read_sleb128(bytes)?,
         }),
         Entry::Bra => Ok(Operation::Bra {
-            target: bytes.read_i16()?,
+            target: read_i16(bytes)?,
         }),
         Entry::Skip => Ok(Operation::Skip {
-            target: bytes.read_i16()?,
+            target: read_i16(bytes)?,
         }),
-        Entry::Offset(shape, make) => read_offset_apart(shape, make, bytes, encoding),
         Entry::BaseRegister(register) => Ok(Operation::RegisterOffset {
             register: Register(u16::from(register)),
             offset: read_sleb128(bytes)?,
             base_type: generic_type(),
         }),
-        Entry::Piece => Ok(Operation::Piece {
-            size_in_bits: read_piece(bytes)?,
-            bit_offset: None,
-        }),
+        Entry::Piece => read_piece(bytes),
+        Entry::Offset(shape, make) => read_offset_apart(shape, make, bytes, encoding),
         Entry::Rare(entry) => read_rare(entry, bytes, encoding),
     }
 }
@@ -321,57 +407,5 @@ impl<R: Reader + Copy> Operation<R> {
     {
         let opcode = bytes.read_u8()?;
         read_operands(entry_at(opcode), opcode, bytes, encoding)
-    }
-}
-
-/// Reads the operation at the front of `bytes` where a location waits for its piece (DWARF 5, section 2.6.1.2): the
-/// size and the offset of the piece, in bits, or none where the operation ends no piece.
-///
-/// The errors are those of [`Operation::parse`], in the same order.
-#[tactic(auto, using(dwarf_base::proofs::Suffixes::suffix_trans), unfolding(dwarf_meaning::specs::Decoding::operation_at))]
-#[inline(always)]
-pub fn parse_piece<R: Reader + Copy>(
-    bytes: &mut R,
-    encoding: Encoding,
-) -> Result<Option<(u64, Option<u64>)>>
-    ensures reads { Reads (λ piece. piece) (R.text bytes.old) (R.text bytes.new) result
-        (piece_read (operation_at encoding R.Offset.BITS (R.text bytes.old))) }
-    ensures less { OnOk result (length (R.text bytes.new).bytes < length (R.text bytes.old).bytes) }
-{
-    let opcode = bytes.read_u8()?;
-    match entry_at(opcode) {
-        Entry::Piece => Ok(Some((read_piece(bytes)?, None))),
-        Entry::Rare(Rare::BitPiece) => {
-            let (size_in_bits, bit_offset) = read_bit_piece(bytes)?;
-            Ok(Some((size_in_bits, Some(bit_offset))))
-        }
-        other => {
-            let mut apart = *bytes;
-            let piece = read_other_piece(other, opcode, &mut apart, encoding)?;
-            *bytes = apart;
-            Ok(piece)
-        }
-    }
-}
-
-// The piece that the operation of an entry ends, which is none but at those two; its operands may be malformed.
-#[inline(never)]
-fn read_other_piece<R: Reader + Copy>(
-    entry: Entry,
-    opcode: u8,
-    bytes: &mut R,
-    encoding: Encoding,
-) -> Result<Option<(u64, Option<u64>)>>
-    ensures { Reads (λ piece. piece) (R.text bytes.old) (R.text bytes.new) result
-        (piece_read
-        (operands_in encoding R.Offset.BITS (R.text bytes.old)
-        (entry_row encoding opcode entry))) }
-{
-    match read_operands(entry, opcode, bytes, encoding)? {
-        Operation::Piece {
-            size_in_bits,
-            bit_offset,
-        } => Ok(Some((size_in_bits, bit_offset))),
-        _ => Ok(None),
     }
 }

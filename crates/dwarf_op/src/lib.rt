@@ -8,7 +8,6 @@ mod opcodes;
 mod operands;
 mod operations;
 
-pub use decoding::parse_piece;
 pub use equality::{operation_equality_laws, reference_equality_laws};
 pub use locations::{Location, Piece};
 pub use operations::{DieReference, Operation};

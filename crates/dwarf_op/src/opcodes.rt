@@ -5,218 +5,170 @@ ghost use Rattle.dwarf_base.specs.declared.common.Encoding.{Encoding};
 ghost use Rattle.dwarf_meaning.specs.Opcodes.{row_of};
 ghost use Rattle.dwarf_op.specs.Entries.{entry_row};
 
-/// An operation without fields.
+// An operation without fields.
 #[derive(Clone, Copy)]
-pub enum Plain {
-    /// `DW_OP_drop`.
+pub(crate) enum Plain {
     Drop,
-    /// `DW_OP_swap`.
     Swap,
-    /// `DW_OP_rot`.
     Rot,
-    /// `DW_OP_abs`.
     Abs,
-    /// `DW_OP_and`.
     And,
-    /// `DW_OP_div`.
     Div,
-    /// `DW_OP_minus`.
     Minus,
-    /// `DW_OP_mod`.
     Mod,
-    /// `DW_OP_mul`.
     Mul,
-    /// `DW_OP_neg`.
     Neg,
-    /// `DW_OP_not`.
     Not,
-    /// `DW_OP_or`.
     Or,
-    /// `DW_OP_plus`.
     Plus,
-    /// `DW_OP_shl`.
     Shl,
-    /// `DW_OP_shr`.
     Shr,
-    /// `DW_OP_shra`.
     Shra,
-    /// `DW_OP_xor`.
     Xor,
-    /// `DW_OP_eq`.
     Eq,
-    /// `DW_OP_ge`.
     Ge,
-    /// `DW_OP_gt`.
     Gt,
-    /// `DW_OP_le`.
     Le,
-    /// `DW_OP_lt`.
     Lt,
-    /// `DW_OP_ne`.
     Ne,
-    /// `DW_OP_nop`.
     Nop,
-    /// `DW_OP_push_object_address`.
     PushObjectAddress,
-    /// `DW_OP_form_tls_address`, `DW_OP_GNU_push_tls_address`.
     TLS,
-    /// `DW_OP_call_frame_cfa`.
     CallFrameCFA,
-    /// `DW_OP_stack_value`.
     StackValue,
-    /// `DW_OP_GNU_uninit`.
     Uninitialized,
 }
 
-/// How an operand stands that is an unsigned number of up to 64 bits.
+// How an operand stands that is an unsigned number of up to 64 bits.
 #[derive(Clone, Copy)]
-pub enum Unsigned {
-    /// One byte.
+pub(crate) enum Unsigned {
     U8,
-    /// Two bytes.
     U16,
-    /// Four bytes.
     U32,
-    /// Eight bytes.
     U64,
-    /// An unsigned LEB128 number.
     Uleb128,
 }
 
-/// How an operand stands that is a signed number.
+// How an operand stands that is a signed number.
 #[derive(Clone, Copy)]
-pub enum Signed {
-    /// One byte.
+pub(crate) enum Signed {
     I8,
-    /// Two bytes.
     I16,
-    /// Four bytes.
     I32,
-    /// Eight bytes.
     I64,
-    /// A signed LEB128 number.
     Sleb128,
 }
 
-/// How an operand stands that has to fit the reader's offsets.
+// How an operand stands that has to fit the reader's offsets.
 #[derive(Clone, Copy)]
-pub enum Offset {
-    /// Two bytes.
+pub(crate) enum Offset {
+    U8,
     U16,
-    /// Four bytes.
     U32,
-    /// An unsigned LEB128 number.
     Uleb128,
-    /// As wide as the format says.
+    // As wide as the format says.
     Section,
-    /// The same, but in version 2 as wide as an address.
+    // The same, but in version 2 as wide as an address.
     Reference,
 }
 
-/// What is made of an offset.
+// What is made of an offset.
 #[derive(Clone, Copy)]
-pub enum FromOffset {
-    /// The entry of `DW_OP_call2` or `DW_OP_call4`.
+pub(crate) enum FromOffset {
+    // `DW_OP_call2` or `DW_OP_call4`.
     UnitCall,
-    /// The entry of `DW_OP_call_ref`.
+    // `DW_OP_call_ref`.
     InfoCall,
-    /// The parameter of `DW_OP_GNU_parameter_ref`.
+    // `DW_OP_GNU_parameter_ref`.
     ParameterRef,
-    /// The index of `DW_OP_addrx` or `DW_OP_GNU_addr_index`.
+    // `DW_OP_addrx` or `DW_OP_GNU_addr_index`.
     AddressIndex,
-    /// The index of `DW_OP_constx` or `DW_OP_GNU_const_index`.
+    // `DW_OP_constx` or `DW_OP_GNU_const_index`.
     ConstantIndex,
-    /// The type of `DW_OP_convert` or `DW_OP_GNU_convert`.
+    // `DW_OP_convert` or `DW_OP_GNU_convert`.
     Convert,
-    /// The type of `DW_OP_reinterpret` or `DW_OP_GNU_reinterpret`.
+    // `DW_OP_reinterpret` or `DW_OP_GNU_reinterpret`.
     Reinterpret,
-    /// The variable of `DW_OP_GNU_variable_value`.
+    // `DW_OP_GNU_variable_value`.
     VariableValue,
 }
 
-/// What is made of a block.
+// What stands behind an opcode that few operations have (each of these one in a hundred of real programs, or fewer),
+// and what is made of it.
 #[derive(Clone, Copy)]
-pub enum FromBlock {
-    /// The bytes of `DW_OP_implicit_value`.
-    ImplicitValue,
-    /// The expression of `DW_OP_entry_value` or `DW_OP_GNU_entry_value`.
-    EntryValue,
-}
-
-/// What stands behind an opcode that few operations have (each of these one in a hundred of real programs, or fewer),
-/// and what is made of it.
-#[derive(Clone, Copy)]
-pub enum Rare {
-    /// An address: `DW_OP_addr`.
+pub(crate) enum Rare {
+    // An address: `DW_OP_addr`.
     Address,
-    /// One byte, the index: `DW_OP_pick`.
+    // One byte, the index: `DW_OP_pick`.
     PickByte,
-    /// A register: `DW_OP_regx`.
+    // A register: `DW_OP_regx`.
     NamedRegister,
-    /// A register and a signed LEB128 number: `DW_OP_bregx`.
+    // A register and a signed LEB128 number: `DW_OP_bregx`.
     NamedBaseRegister,
-    /// A register and the offset of a base type: `DW_OP_regval_type`, `DW_OP_GNU_regval_type`.
+    // A register and the offset of a base type: `DW_OP_regval_type`, `DW_OP_GNU_regval_type`.
     TypedRegister,
-    /// A size and an offset in bits: `DW_OP_bit_piece`.
+    // A size and an offset in bits: `DW_OP_bit_piece`.
     BitPiece,
-    /// The size of a block, and the block.
-    Block(FromBlock),
-    /// The offset of a base type, the size of a block in one byte, and the block: `DW_OP_const_type`,
-    /// `DW_OP_GNU_const_type`.
+    // The size of a block, and the block: `DW_OP_implicit_value`.
+    ImplicitValue,
+    // The same: `DW_OP_entry_value`, `DW_OP_GNU_entry_value`.
+    EntryValue,
+    // The offset of a base type, the size of a block in one byte, and the block: `DW_OP_const_type`,
+    // `DW_OP_GNU_const_type`.
     TypedLiteral,
-    /// One byte and the offset of a base type: `DW_OP_deref_type`, `DW_OP_GNU_deref_type` and, with an address space,
-    /// `DW_OP_xderef_type`. Whether there is an address space.
+    // One byte and the offset of a base type: `DW_OP_deref_type`, `DW_OP_GNU_deref_type` and, with an address space,
+    // `DW_OP_xderef_type`. Whether there is an address space.
     TypedDeref(bool),
-    /// A reference into `.debug_info` and a signed LEB128 number: `DW_OP_implicit_pointer`,
-    /// `DW_OP_GNU_implicit_pointer`.
+    // A reference into `.debug_info` and a signed LEB128 number: `DW_OP_implicit_pointer`,
+    // `DW_OP_GNU_implicit_pointer`.
     ImplicitPointer,
-    /// A kind in one byte, and an index that stands as the kind says: `DW_OP_WASM_location`.
+    // A kind in one byte, and an index that stands as the kind says: `DW_OP_WASM_location`.
     WasmLocation,
 }
 
-/// What stands behind an opcode, and what is made of it: by the kinds of its operands, in order.
+// What stands behind an opcode, and what is made of it: by the kinds of its operands, in order.
 #[derive(Clone, Copy)]
-pub enum Entry {
-    /// No operation has the opcode.
+pub(crate) enum Entry {
+    // No operation has the opcode.
     Unknown,
-    /// No operands.
+    // No operands.
     Plain(Plain),
-    /// No operands; the opcode says the constant.
+    // No operands; the opcode says the constant.
     Literal(u8),
-    /// No operands; the opcode says the register.
+    // No operands; the opcode says the register.
     Register(u8),
-    /// No operands; the opcode says the index.
+    // No operands; the opcode says the index.
     Pick(u8),
-    /// No operands; the size is an address's. Whether there is an address space.
+    // No operands; the size is an address's. Whether there is an address space.
     Deref(bool),
-    /// One byte, the size: `DW_OP_deref_size`, `DW_OP_xderef_size`. Whether there is an address space.
+    // One byte, the size: `DW_OP_deref_size`, `DW_OP_xderef_size`. Whether there is an address space.
     DerefSize(bool),
-    /// An unsigned number: the constant of `DW_OP_const1u` to `DW_OP_const8u` or `DW_OP_constu`.
+    // An unsigned number: the constant of `DW_OP_const1u` to `DW_OP_const8u` or `DW_OP_constu`.
     Constant(Unsigned),
-    /// An unsigned LEB128 number: `DW_OP_plus_uconst`.
+    // An unsigned LEB128 number: `DW_OP_plus_uconst`.
     PlusConstant,
-    /// A signed number: the constant of `DW_OP_const1s` to `DW_OP_const8s` or `DW_OP_consts`.
+    // A signed number: the constant of `DW_OP_const1s` to `DW_OP_const8s` or `DW_OP_consts`.
     SignedConstant(Signed),
-    /// A signed LEB128 number: `DW_OP_fbreg`.
+    // A signed LEB128 number: `DW_OP_fbreg`.
     FrameOffset,
-    /// A signed number of two bytes: `DW_OP_bra`.
+    // A signed number of two bytes: `DW_OP_bra`.
     Bra,
-    /// The same: `DW_OP_skip`.
+    // The same: `DW_OP_skip`.
     Skip,
-    /// An offset.
+    // An offset.
     Offset(Offset, FromOffset),
-    /// A signed LEB128 number; the opcode says the register.
+    // A signed LEB128 number; the opcode says the register.
     BaseRegister(u8),
-    /// A size in bytes.
+    // A size in bytes.
     Piece,
-    /// What few operations have; it is read apart.
+    // What few operations have; it is read apart.
     Rare(Rare),
 }
 
-/// The entry of an opcode: the table of all opcodes.
+// The entry of an opcode: the table of all opcodes.
 #[tactic(auto, unfolding(dwarf_meaning::specs::Opcodes::row_of))]
 #[inline(always)]
-pub fn entry_at(opcode: u8) -> Entry
+pub(crate) fn entry_at(opcode: u8) -> Entry
     ensures { (encoding : Encoding) → entry_row encoding opcode result ≡ row_of encoding opcode }
 {
     match opcode {
@@ -279,12 +231,12 @@ pub fn entry_at(opcode: u8) -> Entry
         0x9b => Entry::Plain(Plain::TLS), // form_tls_address
         0x9c => Entry::Plain(Plain::CallFrameCFA), // call_frame_cfa
         0x9d => Entry::Rare(Rare::BitPiece), // bit_piece
-        0x9e => Entry::Rare(Rare::Block(FromBlock::ImplicitValue)), // implicit_value
+        0x9e => Entry::Rare(Rare::ImplicitValue), // implicit_value
         0x9f => Entry::Plain(Plain::StackValue), // stack_value
         0xa0 => Entry::Rare(Rare::ImplicitPointer), // implicit_pointer
         0xa1 => Entry::Offset(Offset::Uleb128, FromOffset::AddressIndex), // addrx
         0xa2 => Entry::Offset(Offset::Uleb128, FromOffset::ConstantIndex), // constx
-        0xa3 => Entry::Rare(Rare::Block(FromBlock::EntryValue)), // entry_value
+        0xa3 => Entry::Rare(Rare::EntryValue), // entry_value
         0xa4 => Entry::Rare(Rare::TypedLiteral), // const_type
         0xa5 => Entry::Rare(Rare::TypedRegister), // regval_type
         0xa6 => Entry::Rare(Rare::TypedDeref(false)), // deref_type
@@ -295,7 +247,7 @@ pub fn entry_at(opcode: u8) -> Entry
         0xed => Entry::Rare(Rare::WasmLocation), // WASM_location
         0xf0 => Entry::Plain(Plain::Uninitialized), // GNU_uninit
         0xf2 => Entry::Rare(Rare::ImplicitPointer), // GNU_implicit_pointer
-        0xf3 => Entry::Rare(Rare::Block(FromBlock::EntryValue)), // GNU_entry_value
+        0xf3 => Entry::Rare(Rare::EntryValue), // GNU_entry_value
         0xf4 => Entry::Rare(Rare::TypedLiteral), // GNU_const_type
         0xf5 => Entry::Rare(Rare::TypedRegister), // GNU_regval_type
         0xf6 => Entry::Rare(Rare::TypedDeref(false)), // GNU_deref_type

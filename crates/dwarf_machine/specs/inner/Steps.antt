@@ -13,7 +13,7 @@ use Rattle.dwarf_meaning.specs.Requests.{Request, Waiting, Answer, Input}
 use Rattle.dwarf_meaning.specs.Acts.{Act, act}
 use Rattle.dwarf_meaning.specs.RunLaws.{waits_of}
 use Rattle.dwarf_meaning.specs.Stores.{address_bits, Store, Last, Pieced, Located, push_piece, push_caller, Next, Goes, RequestNext, FaultNext, done}
-use Rattle.dwarf_meaning.specs.Run.{Position, can_count, counted, piece_ended_by, read, most}
+use Rattle.dwarf_meaning.specs.Run.{Position, can_count, counted, read, most}
 use Rattle.dwarf_meaning.specs.Meaning.{Outcome, FaultOutcome, CompleteOutcome}
 use Rattle.dwarf_meaning.specs.Rest.{State, Status, Start, Running, RequestStatus, CompleteStatus, FaultStatus, with_refusal, rest}
 use Rattle.dwarf_meaning.specs.Refusals.{Limits, Refusal, MayPick, before_input, before_pushes}
@@ -123,12 +123,6 @@ pub record ReadsOperation (op : Operation) (old new : State) : Type 0 where
   pub was : read old.setup old.text old.place ≡ Ok (op, behind)
   pub moved : new ≡ read_to (length old.text.bytes - length behind) old
 
--- an operation at the place was read that ends this piece, or none
-pub record ReadsPiece (piece : Option (ℕ × Option ℕ)) (old new : State) : Type 0 where
-  pub op : Operation
-  pub is : piece_ended_by op ≡ piece
-  pub reads : ReadsOperation op old new
-
 -- ---- operations
 
 -- what an operation does with the stack as it is
@@ -168,18 +162,6 @@ Leads f old new = LeadsBy f old new new.status
 -- the operation was done
 abbrev pub Performs : Act → State → State → Type 0
 Performs a old new = Leads (done_at a old) old new
-
--- An operation was read, and done behind its bytes; this is left of the text.
-pub record PerformsRead (read : Result (Operation × List ℕ) Fault) (left : List ℕ) (old new : State) : Type 0 where
-  pub op : Operation
-  pub behind : List ℕ
-  pub was : read ≡ Ok (op, behind)
-  pub performs : Performs (act_of old op) (at behind old) (at left new)
-
--- an operation was read and done, or it can't be read, and nothing was done
-abbrev pub TriesToPerform : {X : Type 0} → Result (Operation × List ℕ) Fault → (left : List ℕ) → State → State → Result X Error → Type 0
-TriesToPerform read left old new (Ok done) = PerformsRead read left old new
-TriesToPerform read left old new (Err error) = (read ≡ Err (fault_of error)) × (new ≡ old)
 
 -- a piece behind a location: it is ended, or the state keeps the fault
 abbrev pub EndsLocated : Location → Option (ℕ × Option ℕ) → State → State → Type 0

@@ -1,13 +1,13 @@
-use Rattle.dwarf_ticks.proofs.Steps.{[], ◌∷◌, refl, proved, ftrue, tables, ‵, raw, ◌$◌, ◌∵◌, !, qed, move, keep, join, fjoin, suffices, frame, enter, no_more, and_then, returns, alloc_all, pass_all, free_all, look_at, get, sets, nothing, on_entry, Stays, walk_of, ends_at}
+use Rattle.dwarf_machine.proofs.TickSteps.{[], ◌∷◌, refl, proved, ftrue, tables, ‵, raw, ◌$◌, ◌∵◌, !, qed, move, keep, join, fjoin, suffices, frame, enter, no_more, and_then, returns, alloc_all, pass_all, free_all, look_at, get, sets, nothing, on_entry, Stays, walk_of, ends_at}
 use types.Kit.{use0}
 use types.Part.{agg}
 use denote.Builtin.{unit}
-use Rattle.dwarf_ticks.proofs.Walks.{token, Mark, made, tells_last}
-use Rattle.dwarf_ticks.specs.contracts.Ticks as ticks
-use Rattle.dwarf_ticks.specs.contracts.Ticks.new as f
-use Rattle.dwarf_ticks.proofs.Ticks.new.Statement.{statement}
-use Rattle.dwarf_ticks.proofs.Ticks.new.Code as code
-use Rattle.dwarf_ticks.specs.contracts.Ticks.{the_row as R}
+use Rattle.dwarf_machine.proofs.TickWalks.{token, Mark, made, tells_last}
+use Rattle.dwarf_machine.specs.contracts.ticks.Ticks as ticks
+use Rattle.dwarf_machine.specs.contracts.ticks.Ticks.new as f
+use Rattle.dwarf_machine.proofs.ticks.Ticks.new.Statement.{statement}
+use Rattle.dwarf_machine.proofs.ticks.Ticks.new.Code as code
+use Rattle.dwarf_machine.specs.contracts.ticks.Ticks.{the_row as R}
 
 abbrev stayed : Stays f.ended.signature.params f.ended.kept
 stayed = tt

@@ -1,9 +1,9 @@
-use Rattle.dwarf_ticks.proofs.Steps.{[], ◌∷◌, refl, proved, ftrue, flft, named, vunit, tables, ‵, ◌⊛◌, ◌$◌, ◌∵◌, !, qed, done, move, keep, split, join, fsplit3, feq_i, suffices, frame, group, enter, of_opd, unit_lit, returns, alloc_all, pass_all, free_all, look_at, sets, MutRef, mut_vals, mut_Tells, plain, nothing, opens, closes, Stays, walk_of, says, stay_ref, Goes-ref, ends_at}
+use Rattle.dwarf_machine.proofs.TickSteps.{[], ◌∷◌, refl, proved, ftrue, flft, named, vunit, tables, ‵, ◌⊛◌, ◌$◌, ◌∵◌, !, qed, done, move, keep, split, join, fsplit3, feq_i, suffices, frame, group, enter, of_opd, unit_lit, returns, alloc_all, pass_all, free_all, look_at, sets, MutRef, mut_vals, mut_Tells, plain, nothing, opens, closes, Stays, walk_of, says, stay_ref, Goes-ref, ends_at}
 use Rattle.std.proofs.Common.{◌+◌}
-use Rattle.dwarf_ticks.specs.contracts.Ticks.tick as f
-use Rattle.dwarf_ticks.proofs.Ticks.tick.Statement.{statement}
-use Rattle.dwarf_ticks.proofs.Ticks.tick.Code as code
-use Rattle.dwarf_ticks.specs.contracts.Ticks.{the_row as R}
+use Rattle.dwarf_machine.specs.contracts.ticks.Ticks.tick as f
+use Rattle.dwarf_machine.proofs.ticks.Ticks.tick.Statement.{statement}
+use Rattle.dwarf_machine.proofs.ticks.Ticks.tick.Code as code
+use Rattle.dwarf_machine.specs.contracts.ticks.Ticks.{the_row as R}
 
 abbrev stayed : Stays f.ended.signature.params f.ended.kept
 stayed = (stay_ref (0 ∷ []) tt (plain (λ _. R)), tt)

@@ -1,26 +1,25 @@
-//! Doing the operation in front of what is left of the running text.
+//! The method of each operation.
 
 ghost use Rattle.std.specs.Prelude.{◌≡◌};
 ghost use Rattle.dwarf_base.specs.Reads.{IsLeftOf};
-ghost use Rattle.dwarf_meaning.specs.Decoding.{operation_at};
 ghost use Rattle.dwarf_meaning.specs.Rest.{Running};
-ghost use Rattle.dwarf_machine.specs.inner.Steps.{Performs, TriesToPerform, act_of, at, read_to};
+ghost use Rattle.dwarf_machine.specs.inner.Steps.{Performs, act_of, at};
 ghost use Rattle.dwarf_op.specs.Views.{operation_of};
 
 use crate::binary;
 use crate::machine::Machine;
 use crate::operators::UnaryOperator;
 use crate::states::OpenRequest;
-use dwarf_base::{Encoding, Reader, Result};
+use dwarf_base::Reader;
 use dwarf_op::{Location, Operation};
 use dwarf_store::EvaluationStorage;
 use dwarf_value::Value;
 
 impl<R: Reader + Copy, S: EvaluationStorage<R>> Machine<R, S> {
-    /// Does an operation.
+    /// Does an operation, in front of what is left of the text.
     #[inline(always)]
     #[tactic(auto, unfolding(dwarf_meaning::specs::Acts::act), using(crate::proofs::Behind::performs_there, crate::proofs::Behind::left_there))]
-    fn operate(&mut self, operation: Operation<R>, left: &mut R)
+    pub(crate) fn operate(&mut self, operation: Operation<R>, left: &mut R)
         requires runs { self.old.status ≡ Running }
         requires rest { IsLeftOf (R.text left.old) self.old.text }
         ensures performs { Performs
@@ -112,21 +111,5 @@ impl<R: Reader + Copy, S: EvaluationStorage<R>> Machine<R, S> {
             Operation::WasmStack { index } => self.ask(OpenRequest::WasmStack(index)),
             Operation::VariableValue { offset: _ } => self.fail_unsupported(),
         }
-    }
-
-    /// Reads the operation in front of what is left, and does it. But for `read_piece` no other function of evaluation
-    /// decodes.
-    #[inline(always)]
-    pub(crate) fn perform_opcode(&mut self, left: &mut R, encoding: Encoding) -> Result<()>
-        requires runs { self.old.status ≡ Running }
-        requires rest { IsLeftOf (R.text left.old) self.old.text }
-        ensures performs { TriesToPerform (operation_at encoding R.Offset.BITS (R.text left.old))
-            (R.text left.new).bytes (read_to self.old.place self.old) self.new result }
-        ensures rest { IsLeftOf (R.text left.new) self.new.text }
-    {
-        self.tick();
-        let operation = Operation::parse(left, encoding)?;
-        self.operate(operation, left);
-        Ok(())
     }
 }

@@ -1,5 +1,4 @@
 //! A number that contracts see and that takes no room in a program.
-#![tactic(auto)]
 
 ghost use Rattle.std.specs.Prelude.{◌≡◌, ◌+◌, ℕ};
 
@@ -9,7 +8,7 @@ use std::marker::{Model, PhantomData};
 ///
 /// Only `tick` raises it, and only a new one has none.
 #[derive(Drop)]
-pub struct Ticks {
+pub(crate) struct Ticks {
     marker: PhantomData<()>,
     pub ghost count: { ℕ },
 }
@@ -22,7 +21,7 @@ impl Model for Ticks {
 
 impl Ticks {
     /// Nothing was done yet.
-    pub fn new() -> Self
+    pub(crate) fn new() -> Self
         ensures { result.count ≡ 0 }
     {
         Ticks {
@@ -32,7 +31,7 @@ impl Ticks {
 
     /// It was done once more.
     #[inline]
-    pub fn tick(&mut self)
+    pub(crate) fn tick(&mut self)
         ensures { self.new.count ≡ self.old.count + 1 }
     {}
 }

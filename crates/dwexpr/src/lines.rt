@@ -10,9 +10,9 @@ ghost use Rattle.dwexpr.specs.Writing.{Prints, line, word_text};
 
 use crate::writing::{Text, Word, put_line};
 use dwarf_base::{Error, ReaderOffset};
-use dwarf_expr::op::{DieReference, EvaluationResult, Location, Piece};
-use dwarf_expr::replay::Answer;
-use dwarf_expr::value::Value;
+use dwarf_eval::op::{DieReference, EvaluationResult, Location, Piece};
+use dwarf_replay::Answer;
+use dwarf_value::Value;
 use std::io;
 use std::io::Write;
 

@@ -8,7 +8,7 @@ use crate::lines::print_fault;
 use crate::words::Reading;
 use crate::writing::{Text, Word, put_number_word, put_numbered_line};
 use dwarf_base::{EndianSlice, Reader};
-use dwarf_expr::op::Operation;
+use dwarf_eval::op::Operation;
 use std::io;
 use std::io::Write;
 

@@ -13,7 +13,7 @@ use crate::numbers::number_of;
 use crate::values::{type_of, value_of};
 use crate::writing::Text;
 use dwarf_base::{EndianSlice, RunTimeEndian};
-use dwarf_expr::replay::Step;
+use dwarf_replay::Step;
 use std::alloc::{AllocError, Allocator};
 
 /// A line of the input, and what follows it.

@@ -2,7 +2,7 @@ ghost use Rattle.std.specs.Prelude.{◌≡◌};
 ghost use Rattle.dwexpr.specs.Values.{type_in, value_in, value_of_type};
 
 use crate::numbers::{integer_of, number_of};
-use dwarf_expr::value::{Value, ValueType};
+use dwarf_value::{Value, ValueType};
 
 /// The type that a word names.
 pub(crate) fn type_of(word: &str) -> Option<ValueType>

@@ -4,7 +4,7 @@ ghost use Rattle.dwarf_base.specs.EndianSlice.{slice_bytes};
 ghost use Rattle.dwexpr.specs.Writing.{Prints, bytes_word, ending, line, value_word, word_text};
 
 use dwarf_base::{EndianSlice, Reader, RunTimeEndian};
-use dwarf_expr::value::Value;
+use dwarf_value::Value;
 use std::io;
 use std::io::{ErrorKind, Write};
 

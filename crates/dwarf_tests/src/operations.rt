@@ -86,10 +86,36 @@ fn iteration(rt: HostRuntime) {
     assert!(rt; operations.offset_from(&expression) == 2);
 }
 
-// An expression of three operations, and each front of it.
+// Expressions, some of them cut off.
+static CUT: [&'static [u8]; 8] = [
+    &[0x31, 0x93],
+    b"\x9e\x05hello",
+    &[
+        0x10, 0xff, 0xff, 0xff, 0xff, 0xff, 0xff, 0xff, 0xff, 0xff, 0x02,
+    ],
+    &[
+        0x10, 0xff, 0xff, 0xff, 0xff, 0xff, 0xff, 0xff, 0xff, 0xff, 0x81,
+    ],
+    &[0x0a, 0x01, 0x02, 0x96, 0xa8, 0xe5, 0x0e],
+    &[0x9e, 0x00],
+    &[0x31, 0x12],
+    &[0xa0, 0x00, 0x00, 0x00, 0x00, 0x00],
+];
+
+// Each front has at most as many operations as bytes, of which only the last may be cut off or none.
 #[test]
 fn iteration_in_a_loop(rt: HostRuntime) {
-    let text: &'static [u8] = &[0x0a, 0x01, 0x02, 0x96, 0xa8, 0xe5, 0x0e];
+    for text in CUT {
+        for len in 0..=text.len() {
+            let mut count = 0;
+            let mut failed = false;
+            for item in Expression(little(&text[..len])).operations(SMALL) {
+                assert!(rt; count < len && !failed, "{text:?}");
+                failed = item.is_err();
+                count += 1;
+            }
+        }
+    }
     let items = [
         Operation::UnsignedConstant { value: 513 },
         Operation::Nop,
@@ -97,16 +123,13 @@ fn iteration_in_a_loop(rt: HostRuntime) {
             base_type: UnitOffset(1893),
         },
     ];
-    for len in 0..8usize {
-        let mut count = 0;
-        for item in Expression(little(&text[..len])).operations(SMALL) {
-            assert!(rt; count < items.len());
-            assert!(rt; item == Ok(items[count]) || is_cut_off(item));
-            count += 1;
-        }
-        assert!(rt; count <= len);
-        assert!(rt; count == items.len() || len < 5);
+    let mut count = 0;
+    for item in Expression(little(CUT[4])).operations(SMALL) {
+        assert!(rt; count < items.len());
+        assert!(rt; item == Ok(items[count]));
+        count += 1;
     }
+    assert!(rt; count == items.len());
 }
 
 // Bytes that are counted in 32 bits, the lowest of a number first.

@@ -1,5 +1,5 @@
 //! Each push of an evaluation is refused in turn.
-ghost use Rattle.std.specs.Prelude.{None};
+ghost use Rattle.std.specs.Prelude.{◌≡◌, [], None};
 
 use crate::evaluation::{SMALL, Slice, little};
 use crate::replays::{AGAIN, COMPLETE, FULL, ITSELF, replay_all};
@@ -68,7 +68,9 @@ impl<R: Reader + Copy> EvaluationStorage<R> for ListsOfTests {
 }
 
 // A new list, which takes so many pushes before the refused one.
-fn list<T>(alloc: Global, before: u64) -> RefusesOne<T> {
+fn list<T>(alloc: Global, before: u64) -> RefusesOne<T>
+    ensures { result.items.items ≡ [] }
+{
     RefusesOne {
         items: Vec::new(alloc),
         before,
@@ -115,8 +117,8 @@ fn expect_refused(rt: &impl Abort, answers: &[Answer<Slice<'_>>], told: &[Answer
     assert!(rt; failed && answers.len() == told.len() + later_steps().len());
 }
 
-// Replays the case, and then every call that a fault allows, over lists that take so many pushes before the refused one:
-// values, callers and pieces. The refused push is met, or there is none.
+// Replays the case, and then every call that a fault allows, over lists that take so many pushes before the refused
+// one: values, callers and pieces. The refused push is met, or there is none.
 fn expect_push(
     rt: &impl Abort,
     alloc: Global,

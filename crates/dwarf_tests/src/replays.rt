@@ -37,26 +37,41 @@ pub(crate) fn replay_all<R: Reader + Copy, S: EvaluationStorage<R>, L: ArrayLike
     replay(eval, steps, answers)
 }
 
+// The answers are those.
+fn expect_answers<'a>(
+    rt: &impl Abort,
+    answers: &[Answer<Slice<'a>>],
+    told: &[Answer<Slice<'a>>],
+    text: &[u8],
+) {
+    assert!(rt; answers.len() == told.len(), "{text:?}");
+    for (answer, told) in answers.iter().zip(told) {
+        assert!(rt; *answer == *told, "{text:?}");
+    }
+}
+
 // An expression that calls another, and ends a piece with its location.
 static CALL: [u8; 5] = [0x98, 0x05, 0x00, 0x93, 0x04];
 
-// The steps of a call give this end and keep these answers, where there is room for so many.
-fn expect_room<const ROOM: usize>(
+// The steps of a call give this end, keep these answers and leave the evaluation there.
+fn expect_room<'a, L: ArrayLike<Item = Answer<Slice<'a>>>>(
     rt: &impl Abort,
     alloc: Global,
-    end: Replayed<Slice<'static>>,
-    kept: &[Answer<Slice<'static>>],
+    mut answers: L,
+    end: Replayed<Slice<'a>>,
+    kept: &[Answer<Slice<'a>>],
     status: Status,
-) {
+)
+    requires { L.items answers ≡ [] }
+{
     let steps = [
         Step::MaxIterations(2),
         Step::Evaluate,
         Step::AtLocation(little(&[0x50])),
     ];
     let mut eval = on_heap(alloc, &CALL);
-    let mut answers = ArrayVec::<Answer<Slice<'static>>, ROOM>::new();
     assert!(rt; replay_all(&mut eval, &steps, &mut answers) == end);
-    assert!(rt; answers.as_slice() == kept);
+    expect_answers(rt, answers.as_slice(), kept, &CALL);
     assert!(rt; eval.status() == status);
 }
 
@@ -71,10 +86,20 @@ fn room_for_answers(rt: HostRuntime) {
         answer: COMPLETE,
     };
     let waits = Status::Waiting(WaitingKind::AtLocation);
-    expect_room::<0>(&rt, rt.alloc(), asked, &[], waits);
-    expect_room::<1>(&rt, rt.alloc(), complete, &[ASKED], Status::Complete);
+    let none = ArrayVec::<Answer<Slice<'_>>, 0>::new();
+    expect_room(&rt, rt.alloc(), none, asked, &[], waits);
+    let one = ArrayVec::<Answer<Slice<'_>>, 1>::new();
+    expect_room(&rt, rt.alloc(), one, complete, &[ASKED], Status::Complete);
+    let two = ArrayVec::<Answer<Slice<'_>>, 2>::new();
     let both = [ASKED, COMPLETE];
-    expect_room::<2>(&rt, rt.alloc(), Replayed::Done, &both, Status::Complete);
+    expect_room(
+        &rt,
+        rt.alloc(),
+        two,
+        Replayed::Done,
+        &both,
+        Status::Complete,
+    );
 }
 
 #[test]
@@ -130,11 +155,11 @@ fn replays_without_memory(rt: HostRuntime) {
 }
 
 // Capacities of the stack, the callers and the pieces, an expression, steps, and what each call answers.
-type Row = (
+type Row<'a> = (
     (usize, usize, usize),
-    &'static [u8],
-    &'static [Step<&'static [u8]>],
-    &'static [Answer<Slice<'static>>],
+    &'a [u8],
+    &'a [Step<&'a [u8]>],
+    &'a [Answer<Slice<'a>>],
 );
 
 pub(crate) const AGAIN: &[u8] = &[0x98, 0x01, 0x00];
@@ -153,7 +178,7 @@ const PIECES: &[u8] = &[0x31, 0x93, 0x04, 0x98, 0x05, 0x00];
 
 const CALLED: &[Step<&'static [u8]>] = &[Step::Evaluate, Step::AtLocation(&[0x50, 0x93, 0x04])];
 
-static ROWS: [Row; 17] = [
+static ROWS: [Row<'static>; 17] = [
     ((2, 1, 1), &[0x31, 0x32], &[Step::Evaluate], &[COMPLETE]),
     (
         (2, 1, 1),
@@ -226,7 +251,7 @@ static ROWS: [Row; 17] = [
 ];
 
 // The step, with an expression that is read; an answer of the rows above.
-fn read(step: Step<&'static [u8]>) -> Step<Slice<'static>> {
+fn read<'a>(step: Step<&'a [u8]>) -> Step<Slice<'a>> {
     match step {
         Step::InitialValue(value) => Step::InitialValue(value),
         Step::MaxIterations(maximum) => Step::MaxIterations(maximum),
@@ -236,51 +261,58 @@ fn read(step: Step<&'static [u8]>) -> Step<Slice<'static>> {
     }
 }
 
-// The steps give the row's answers, of which the last says how the evaluation ended.
-fn expect_row<S: EvaluationStorage<Slice<'static>>>(
-    rt: &impl Abort,
+// What a replay gives and keeps, and where it leaves the evaluation.
+fn replayed<R: Reader + Copy, S: EvaluationStorage<R>>(
     alloc: Global,
-    mut eval: Evaluation<Slice<'static>, S>,
-    row: &Row,
-) -> std::result::Result<(), AllocError>
+    mut eval: Evaluation<R, S>,
+    steps: &[Step<R>],
+) -> (Replayed<R>, Vec<Answer<R>>, Status)
     requires { eval.status ≡ Start None }
 {
-    let mut steps = Vec::new(alloc);
-    for step in row.2 {
-        steps.push(read(*step))?;
-    }
     let mut answers = Vec::new(alloc);
-    let text = row.1;
-    assert!(rt;
-        replay_all(&mut eval, &steps, &mut answers) == Replayed::Done,
-        "{text:?}"
-    );
-    assert!(rt; answers.as_slice() == row.3, "{text:?}");
-    let ended = match answers.last() {
-        Some(Answer(Err(error))) => eval.status() == Status::Failed(*error),
-        _ => eval.status() == Status::Complete,
-    };
-    assert!(rt; ended, "{text:?}");
-    Ok(())
+    let end = replay_all(&mut eval, steps, &mut answers);
+    (end, answers, eval.status())
 }
 
+// The same over lists of these capacities.
+fn replayed_over<'a>(
+    rt: &impl Abort,
+    alloc: Global,
+    capacities: (usize, usize, usize),
+    text: &'a [u8],
+    steps: &[Step<Slice<'a>>],
+) -> (Replayed<Slice<'a>>, Vec<Answer<Slice<'a>>>, Status) {
+    match capacities {
+        (0, 1, 2) => replayed(alloc, over_lists::<0, 1, 2>(text), steps),
+        (1, 0, 2) => replayed(alloc, over_lists::<1, 0, 2>(text), steps),
+        (1, 1, 0) => replayed(alloc, over_lists::<1, 1, 0>(text), steps),
+        (1, 1, 1) => replayed(alloc, over_lists::<1, 1, 1>(text), steps),
+        (1, 1, 2) => replayed(alloc, over_lists::<1, 1, 2>(text), steps),
+        (1, 4, 1) => replayed(alloc, over_lists::<1, 4, 1>(text), steps),
+        (2, 1, 1) => replayed(alloc, over_lists::<2, 1, 1>(text), steps),
+        _ => {
+            assert!(rt; capacities == (3, 1, 1));
+            replayed(alloc, over_lists::<3, 1, 1>(text), steps)
+        }
+    }
+}
+
+// Each row gives its answers, of which the last says how the evaluation ended.
 #[test]
 fn fixed_capacities(rt: HostRuntime) -> std::result::Result<(), AllocError> {
-    for row in &ROWS {
-        let (alloc, text) = (rt.alloc(), row.1);
-        match row.0 {
-            (0, 1, 2) => expect_row(&rt, alloc, over_lists::<0, 1, 2>(text), row)?,
-            (1, 0, 2) => expect_row(&rt, alloc, over_lists::<1, 0, 2>(text), row)?,
-            (1, 1, 0) => expect_row(&rt, alloc, over_lists::<1, 1, 0>(text), row)?,
-            (1, 1, 1) => expect_row(&rt, alloc, over_lists::<1, 1, 1>(text), row)?,
-            (1, 1, 2) => expect_row(&rt, alloc, over_lists::<1, 1, 2>(text), row)?,
-            (1, 4, 1) => expect_row(&rt, alloc, over_lists::<1, 4, 1>(text), row)?,
-            (2, 1, 1) => expect_row(&rt, alloc, over_lists::<2, 1, 1>(text), row)?,
-            capacities => {
-                assert!(rt; capacities == (3, 1, 1));
-                expect_row(&rt, alloc, over_lists::<3, 1, 1>(text), row)?;
-            }
+    for (capacities, text, row_steps, told) in ROWS {
+        let mut steps = Vec::new(rt.alloc());
+        for step in row_steps {
+            steps.push(read(*step))?;
         }
+        let (end, answers, status) = replayed_over(&rt, rt.alloc(), capacities, text, &steps);
+        assert!(rt; end == Replayed::Done, "{text:?}");
+        expect_answers(&rt, &answers, told, text);
+        let ended = match told.last() {
+            Some(Answer(Err(error))) => Status::Failed(*error),
+            _ => Status::Complete,
+        };
+        assert!(rt; status == ended, "{text:?}");
     }
     Ok(())
 }

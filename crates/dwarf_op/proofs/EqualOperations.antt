@@ -1,5 +1,5 @@
 -- Operations are equal exactly where they are seen as the same.
-use Rattle.std.proofs.Common.{ℕ, ◌≡◌, ◌↔◌, Bool, true, false, Option, Some, None, IsTrue, refl, sym, ◌∙◌, ap, ◌&&◌, nat_eq}
+use Rattle.std.proofs.Common.{ℕ, suc, ◌≡◌, ◌≤◌, ◌↔◌, Bool, true, false, List, [], ◌∷◌, inl, inr, arith, Option, Some, None, IsTrue, refl, sym, ◌∙◌, ap, ◌&&◌, nat_eq}
 use Rattle.std.specs.Bool.{Decides}
 use Rattle.std.specs.Cmp.{signed_Decides, unsigned_Decides}
 use Rattle.std.specs.declared.clone.Clone as clone
@@ -12,16 +12,22 @@ use Rattle.dwarf_base.specs.declared.reading.Reader as reader
 use Rattle.dwarf_base.specs.Equality.{IsEqualityOf}
 use Rattle.dwarf_base.specs.Reads.{Text}
 use Rattle.dwarf_meaning.specs.Operations as meaning
+use Rattle.dwarf_op.specs.contracts.operations.Operation as code
 use Rattle.dwarf_op.specs.contracts.operations.DieReferencePartialEq.TheImpl as references
 use Rattle.dwarf_op.specs.contracts.operations.OperationPartialEq.TheImpl as operations
 use Rattle.dwarf_op.specs.declared.operations.DieReference.{DieReference}
 use Rattle.dwarf_op.specs.declared.operations.DieReference.TheVariants as reference
 use Rattle.dwarf_op.specs.declared.operations.Operation.{Operation}
-use Rattle.dwarf_op.specs.declared.operations.Operation.TheVariants as operation
 use Rattle.dwarf_op.specs.Views.{operation_of, reference_of}
+use denote.Enum.Compared.{Each, by}
+use denote.Enum.Declared.{Choice}
 use denote.RattleType.{RattleType}
+use denote.Struct.Field.{Field}
+use denote.Struct.Values.{Values}
 use mathlib.Core.Bool.{beq}
 use mir.Syntax.{Dict}
+
+infixr 40 ◌⊳◌
 
 -- ---- tests
 
@@ -110,10 +116,57 @@ place (meaning.WasmGlobal index) = 52
 place (meaning.WasmStack index) = 53
 place (meaning.VariableValue offset) = 54
 
-other : (x y : meaning.Operation) → nat_eq (place x) (place y) ≡ false → IsTrue false ↔ (x ≡ y)
-other x y apart =
-    let alike : x ≡ y → true ≡ false = λ h. sym ((unsigned_Decides (place x) (place y)).1 (ap place h)) ∙ apart in
-    (λ passes. absurd (let no : false ≡ true = passes in cc), λ h. absurd (let no : true ≡ false = alike h in cc))
+-- ---- variants, by their places
+
+never : {A : Type 0} → (A → ⊥) → IsTrue false ↔ A
+never refused = (λ passes. absurd (let wrong : false ≡ true = passes in cc), λ a. absurd (refused a))
+
+-- a variant: a test of two values of it, where what is seen of one stands, and that the test says which are seen as the same
+record Line (Fs : List Field) (view : Values Fs → meaning.Operation) (n : ℕ) : Type 0 where
+  test : Values Fs → Values Fs → Bool
+  there : (x : Values Fs) → place (view x) ≡ n
+  decides : (x y : Values Fs) → IsTrue (test x y) ↔ (view x ≡ view y)
+
+abbrev line : {Fs : List Field} {view : Values Fs → meaning.Operation} {n : ℕ} {test : Values Fs → Values Fs → Bool}
+    → ((x : Values Fs) → place (view x) ≡ n) → ((x y : Values Fs) → IsTrue (test x y) ↔ (view x ≡ view y)) → Line Fs view n
+line {Fs} {view} {n} {test} there decides = record { test = test; there = there; decides = decides }
+
+abbrev none : {view : Values [] → meaning.Operation} {n : ℕ} → ((x : Values []) → place (view x) ≡ n) → Line [] view n
+none there = record { test = λ x y. true; there = there; decides = λ x y. same }
+
+abbrev ◌⊳◌ : {A B : Type 0} → A → B → A × B
+a ⊳ b = (a, b)
+
+-- the variants from a place on
+abbrev Lines : (Fss : List (List Field)) → (Choice Fss → meaning.Operation) → ℕ → Type 0
+Lines [] view n = Unit {0}
+Lines (Fs ∷ Fss) view n = Line Fs (λ x. view (inl x)) n × Lines Fss (λ c. view (inr c)) (suc n)
+
+abbrev tests : (Fss : List (List Field)) (view : Choice Fss → meaning.Operation) (n : ℕ) → Lines Fss view n → Each Bool Fss
+tests [] view n lines = tt
+tests (Fs ∷ Fss) view n lines = (lines.0.test, tests Fss (λ c. view (inr c)) (suc n) lines.1)
+
+further : (Fss : List (List Field)) (view : Choice Fss → meaning.Operation) (n : ℕ) → Lines Fss view n → (c : Choice Fss) → n ≤ place (view c)
+further [] view n lines c = absurd c
+further (Fs ∷ Fss) view n lines (inl x) = let here = lines.0.there x in omega (arith, here)
+further (Fs ∷ Fss) view n lines (inr c) =
+    let above = further Fss (λ d. view (inr d)) (suc n) lines.1 c in omega (arith, above)
+
+-- a variant is seen apart from all that are further on
+apart : (Fs : List Field) (Fss : List (List Field)) (view : Choice (Fs ∷ Fss) → meaning.Operation) (n : ℕ)
+    → Lines (Fs ∷ Fss) view n → (x : Values Fs) (c : Choice Fss) → place (view (inl x)) ≡ place (view (inr c)) → ⊥
+apart Fs Fss view n lines x c equal =
+    let here = lines.0.there x in
+    let above = further Fss (λ d. view (inr d)) (suc n) lines.1 c in omega (arith, here, above, equal)
+
+-- so two values are equal exactly where they are seen as the same
+equal_choices : (Fss : List (List Field)) (view : Choice Fss → meaning.Operation) (n : ℕ) (lines : Lines Fss view n) (c d : Choice Fss)
+    → IsTrue (by false false Fss (tests Fss view n lines) c d) ↔ (view c ≡ view d)
+equal_choices [] view n lines c d = absurd c
+equal_choices (Fs ∷ Fss) view n lines (inl x) (inl y) = lines.0.decides x y
+equal_choices (Fs ∷ Fss) view n lines (inl x) (inr d) = never (λ e. apart Fs Fss view n lines x d (ap place e))
+equal_choices (Fs ∷ Fss) view n lines (inr c) (inl y) = never (λ e. apart Fs Fss view n lines y c (ap place (sym e)))
+equal_choices (Fs ∷ Fss) view n lines (inr c) (inr d) = equal_choices Fss (λ e. view (inr e)) (suc n) lines.1 c d
 
 module _ (O : RattleType) (o : partial_eq.Ghosts O.Denot) (p : Dict)
     (number : O.Denot → ℕ) (numbers : IsEqualityOf number o.eq) where
@@ -141,91 +194,76 @@ module _ (R O P : RattleType)
 
   module _ (text : R.Denot → Text) (number : O.Denot → ℕ)
       (texts : IsEqualityOf text are_readers_equal.eq) (numbers : IsEqualityOf number are_offsets_equal.eq) where
+    abbrev view : Choice (code.the_parts R O P) → meaning.Operation
+    view c = operation_of text number (code.the_make R O P c)
+
+    -- in the order of `Operation`
+    unfoldable lines : Lines (code.the_parts R O P) view 0
+    lines =
+        line (λ x. refl) (λ x y. decided (both (unsigned_Decides x.0 y.0) (both (bools x.1.0 y.1.0) (numbers x.1.1.0.0 y.1.1.0.0))) (λ (h, (t, u)). cc) (λ h. (cc, (cc, cc))))
+        ⊳ none (λ x. refl)
+        ⊳ line (λ x. refl) (λ x y. decided (unsigned_Decides x.0 y.0) (λ h. cc) (λ h. cc))
+        ⊳ none (λ x. refl)
+        ⊳ none (λ x. refl)
+        ⊳ none (λ x. refl)
+        ⊳ none (λ x. refl)
+        ⊳ none (λ x. refl)
+        ⊳ none (λ x. refl)
+        ⊳ none (λ x. refl)
+        ⊳ none (λ x. refl)
+        ⊳ none (λ x. refl)
+        ⊳ none (λ x. refl)
+        ⊳ none (λ x. refl)
+        ⊳ none (λ x. refl)
+        ⊳ line (λ x. refl) (λ x y. decided (unsigned_Decides x.0 y.0) (λ h. cc) (λ h. cc))
+        ⊳ none (λ x. refl)
+        ⊳ none (λ x. refl)
+        ⊳ none (λ x. refl)
+        ⊳ none (λ x. refl)
+        ⊳ line (λ x. refl) (λ x y. decided (signed_Decides x.0 y.0) (λ h. cc) (λ h. cc))
+        ⊳ none (λ x. refl)
+        ⊳ none (λ x. refl)
+        ⊳ none (λ x. refl)
+        ⊳ none (λ x. refl)
+        ⊳ none (λ x. refl)
+        ⊳ none (λ x. refl)
+        ⊳ line (λ x. refl) (λ x y. decided (signed_Decides x.0 y.0) (λ h. cc) (λ h. cc))
+        ⊳ line (λ x. refl) (λ x y. decided (unsigned_Decides x.0 y.0) (λ h. cc) (λ h. cc))
+        ⊳ line (λ x. refl) (λ x y. decided (signed_Decides x.0 y.0) (λ h. cc) (λ h. cc))
+        ⊳ line (λ x. refl) (λ x y. decided (unsigned_Decides x.0.0 y.0.0) (λ h. cc) (λ h. cc))
+        ⊳ line (λ x. refl) (λ x y. decided (both (unsigned_Decides x.0.0 y.0.0) (both (signed_Decides x.1.0 y.1.0) (numbers x.1.1.0.0 y.1.1.0.0))) (λ (h, (t, u)). cc) (λ h. (cc, (cc, cc))))
+        ⊳ line (λ x. refl) (λ x y. decided (signed_Decides x.0 y.0) (λ h. cc) (λ h. cc))
+        ⊳ none (λ x. refl)
+        ⊳ none (λ x. refl)
+        ⊳ line (λ x. refl) (λ x y. decided (equal_references O are_offsets_equal q number numbers x.0 y.0) (λ h. cc) (λ h. cc))
+        ⊳ none (λ x. refl)
+        ⊳ none (λ x. refl)
+        ⊳ line (λ x. refl) (λ x y. decided (both (unsigned_Decides x.0 y.0) (options x.1.0 y.1.0)) (λ (h, t). cc) (λ h. (cc, cc)))
+        ⊳ line (λ x. refl) (λ x y. decided (texts x.0 y.0) (λ h. cc) (λ h. cc))
+        ⊳ none (λ x. refl)
+        ⊳ line (λ x. refl) (λ x y. decided (both (numbers x.0.0 y.0.0) (signed_Decides x.1.0 y.1.0)) (λ (h, t). cc) (λ h. (cc, cc)))
+        ⊳ line (λ x. refl) (λ x y. decided (texts x.0 y.0) (λ h. cc) (λ h. cc))
+        ⊳ line (λ x. refl) (λ x y. decided (numbers x.0.0 y.0.0) (λ h. cc) (λ h. cc))
+        ⊳ line (λ x. refl) (λ x y. decided (unsigned_Decides x.0 y.0) (λ h. cc) (λ h. cc))
+        ⊳ line (λ x. refl) (λ x y. decided (numbers x.0.0 y.0.0) (λ h. cc) (λ h. cc))
+        ⊳ line (λ x. refl) (λ x y. decided (numbers x.0.0 y.0.0) (λ h. cc) (λ h. cc))
+        ⊳ line (λ x. refl) (λ x y. decided (both (numbers x.0.0 y.0.0) (texts x.1.0 y.1.0)) (λ (h, t). cc) (λ h. (cc, cc)))
+        ⊳ line (λ x. refl) (λ x y. decided (numbers x.0.0 y.0.0) (λ h. cc) (λ h. cc))
+        ⊳ line (λ x. refl) (λ x y. decided (numbers x.0.0 y.0.0) (λ h. cc) (λ h. cc))
+        ⊳ none (λ x. refl)
+        ⊳ line (λ x. refl) (λ x y. decided (unsigned_Decides x.0 y.0) (λ h. cc) (λ h. cc))
+        ⊳ line (λ x. refl) (λ x y. decided (unsigned_Decides x.0 y.0) (λ h. cc) (λ h. cc))
+        ⊳ line (λ x. refl) (λ x y. decided (unsigned_Decides x.0 y.0) (λ h. cc) (λ h. cc))
+        ⊳ line (λ x. refl) (λ x y. decided (numbers x.0.0 y.0.0) (λ h. cc) (λ h. cc))
+        ⊳ tt
+
+    seen : (x : Operation R.Denot O.Denot P.Denot) → view (code.as_values R O P x) ≡ operation_of text number x
+    seen x = ap (operation_of text number) (code.the_eta R O P x)
+
     pub equal_operations : (x y : Operation R.Denot O.Denot P.Denot)
         → IsTrue (are_operations_equal x y) ↔ (operation_of text number x ≡ operation_of text number y)
-    equal_operations (operation.Deref size space base_type) (operation.Deref size' space' base_type') =
-        decided (both (unsigned_Decides size size') (both (bools space space') (numbers base_type.0 base_type'.0)))
-        (λ (h, (t, u)). cc) (λ h. (cc, (cc, cc)))
-    equal_operations operation.Drop operation.Drop = same
-    equal_operations (operation.Pick index) (operation.Pick index') =
-        decided (unsigned_Decides index index') (λ h. cc) (λ h. cc)
-    equal_operations operation.Swap operation.Swap = same
-    equal_operations operation.Rot operation.Rot = same
-    equal_operations operation.Abs operation.Abs = same
-    equal_operations operation.And operation.And = same
-    equal_operations operation.Div operation.Div = same
-    equal_operations operation.Minus operation.Minus = same
-    equal_operations operation.Mod operation.Mod = same
-    equal_operations operation.Mul operation.Mul = same
-    equal_operations operation.Neg operation.Neg = same
-    equal_operations operation.Not operation.Not = same
-    equal_operations operation.Or operation.Or = same
-    equal_operations operation.Plus operation.Plus = same
-    equal_operations (operation.PlusConstant value) (operation.PlusConstant value') =
-        decided (unsigned_Decides value value') (λ h. cc) (λ h. cc)
-    equal_operations operation.Shl operation.Shl = same
-    equal_operations operation.Shr operation.Shr = same
-    equal_operations operation.Shra operation.Shra = same
-    equal_operations operation.Xor operation.Xor = same
-    equal_operations (operation.Bra target) (operation.Bra target') =
-        decided (signed_Decides target target') (λ h. cc) (λ h. cc)
-    equal_operations operation.Eq operation.Eq = same
-    equal_operations operation.Ge operation.Ge = same
-    equal_operations operation.Gt operation.Gt = same
-    equal_operations operation.Le operation.Le = same
-    equal_operations operation.Lt operation.Lt = same
-    equal_operations operation.Ne operation.Ne = same
-    equal_operations (operation.Skip target) (operation.Skip target') =
-        decided (signed_Decides target target') (λ h. cc) (λ h. cc)
-    equal_operations (operation.UnsignedConstant value) (operation.UnsignedConstant value') =
-        decided (unsigned_Decides value value') (λ h. cc) (λ h. cc)
-    equal_operations (operation.SignedConstant value) (operation.SignedConstant value') =
-        decided (signed_Decides value value') (λ h. cc) (λ h. cc)
-    equal_operations (operation.Register register) (operation.Register register') =
-        decided (unsigned_Decides register.0 register'.0) (λ h. cc) (λ h. cc)
-    equal_operations (operation.RegisterOffset register offset base_type) (operation.RegisterOffset register' offset' base_type') =
-        decided (both (unsigned_Decides register.0 register'.0) (both (signed_Decides offset offset') (numbers base_type.0 base_type'.0)))
-        (λ (h, (t, u)). cc) (λ h. (cc, (cc, cc)))
-    equal_operations (operation.FrameOffset offset) (operation.FrameOffset offset') =
-        decided (signed_Decides offset offset') (λ h. cc) (λ h. cc)
-    equal_operations operation.Nop operation.Nop = same
-    equal_operations operation.PushObjectAddress operation.PushObjectAddress = same
-    equal_operations (operation.Call offset) (operation.Call offset') =
-        decided (equal_references O are_offsets_equal q number numbers offset offset') (λ h. cc) (λ h. cc)
-    equal_operations operation.TLS operation.TLS = same
-    equal_operations operation.CallFrameCFA operation.CallFrameCFA = same
-    equal_operations (operation.Piece size_in_bits bit_offset) (operation.Piece size_in_bits' bit_offset') =
-        decided (both (unsigned_Decides size_in_bits size_in_bits') (options bit_offset bit_offset'))
-        (λ (h, t). cc) (λ h. (cc, cc))
-    equal_operations (operation.ImplicitValue bytes) (operation.ImplicitValue bytes') =
-        decided (texts bytes bytes') (λ h. cc) (λ h. cc)
-    equal_operations operation.StackValue operation.StackValue = same
-    equal_operations (operation.ImplicitPointer value byte_offset) (operation.ImplicitPointer value' byte_offset') =
-        decided (both (numbers value.0 value'.0) (signed_Decides byte_offset byte_offset'))
-        (λ (h, t). cc) (λ h. (cc, cc))
-    equal_operations (operation.EntryValue expression) (operation.EntryValue expression') =
-        decided (texts expression expression') (λ h. cc) (λ h. cc)
-    equal_operations (operation.ParameterRef offset) (operation.ParameterRef offset') =
-        decided (numbers offset.0 offset'.0) (λ h. cc) (λ h. cc)
-    equal_operations (operation.Address address) (operation.Address address') =
-        decided (unsigned_Decides address address') (λ h. cc) (λ h. cc)
-    equal_operations (operation.AddressIndex index) (operation.AddressIndex index') =
-        decided (numbers index.0 index'.0) (λ h. cc) (λ h. cc)
-    equal_operations (operation.ConstantIndex index) (operation.ConstantIndex index') =
-        decided (numbers index.0 index'.0) (λ h. cc) (λ h. cc)
-    equal_operations (operation.TypedLiteral base_type value) (operation.TypedLiteral base_type' value') =
-        decided (both (numbers base_type.0 base_type'.0) (texts value value')) (λ (h, t). cc) (λ h. (cc, cc))
-    equal_operations (operation.Convert base_type) (operation.Convert base_type') =
-        decided (numbers base_type.0 base_type'.0) (λ h. cc) (λ h. cc)
-    equal_operations (operation.Reinterpret base_type) (operation.Reinterpret base_type') =
-        decided (numbers base_type.0 base_type'.0) (λ h. cc) (λ h. cc)
-    equal_operations operation.Uninitialized operation.Uninitialized = same
-    equal_operations (operation.WasmLocal index) (operation.WasmLocal index') =
-        decided (unsigned_Decides index index') (λ h. cc) (λ h. cc)
-    equal_operations (operation.WasmGlobal index) (operation.WasmGlobal index') =
-        decided (unsigned_Decides index index') (λ h. cc) (λ h. cc)
-    equal_operations (operation.WasmStack index) (operation.WasmStack index') =
-        decided (unsigned_Decides index index') (λ h. cc) (λ h. cc)
-    equal_operations (operation.VariableValue offset) (operation.VariableValue offset') =
-        decided (numbers offset.0 offset'.0) (λ h. cc) (λ h. cc)
-    equal_operations x y = other (operation_of text number x) (operation_of text number y) refl
+    unfolding lines
+    equal_operations x y =
+        let equal : IsTrue (are_operations_equal x y) ↔ (view (code.as_values R O P x) ≡ view (code.as_values R O P y)) =
+        equal_choices (code.the_parts R O P) view 0 lines (code.as_values R O P x) (code.as_values R O P y) in
+        (λ passes. sym (seen x) ∙ (equal.0 passes ∙ seen y), λ e. equal.1 (seen x ∙ (e ∙ sym (seen y))))

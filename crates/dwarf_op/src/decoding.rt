@@ -10,8 +10,8 @@ ghost use Rattle.dwarf_op.specs.Views.{operation_of};
 
 use crate::opcodes::{Entry, FromOffset, Offset, Plain, Rare, entry_at};
 use crate::operands::{
-    generic_type, read_address, read_block, read_i16, read_offset, read_register, read_signed,
-    read_sleb128, read_u8, read_uleb128, read_unsigned,
+    generic_type, read_block, read_i16, read_offset, read_register, read_signed, read_sleb128,
+    read_u8, read_uleb128, read_unsigned,
 };
 use crate::operations::{DieReference, Operation};
 use dwarf_base::{
@@ -288,7 +288,7 @@ fn read_rare_operands<R: Reader + Copy>(
 {
     match entry {
         Rare::Address => Ok(Operation::Address {
-            address: read_address(bytes, encoding.address_size)?,
+            address: bytes.read_address(encoding.address_size)?,
         }),
         Rare::PickByte => Ok(Operation::Pick {
             index: read_u8(bytes)?,

@@ -3,7 +3,7 @@
 ghost use Rattle.std.specs.Prelude.{◌≡◌, ◌<◌, pos, neg_ℤ, ◌≤ℤ◌, ◌<ℤ◌};
 ghost use Rattle.dwarf_base.specs.declared.common.Encoding.{Encoding};
 ghost use Rattle.dwarf_base.specs.Leb.{uleb_at, sleb_at, sign_extended};
-ghost use Rattle.dwarf_base.specs.Reads.{Reads, Text, address_at, fixed_at, signed_at};
+ghost use Rattle.dwarf_base.specs.Reads.{Reads, Text, fixed_at, signed_at};
 ghost use Rattle.dwarf_meaning.specs.Operands.{context_of};
 ghost use Rattle.dwarf_meaning.specs.Operations.{Operation};
 ghost use Rattle.dwarf_meaning.specs.Opcodes.{sized_block};
@@ -130,26 +130,6 @@ fn read_long_sleb128<R: Reader>(bytes: &mut R) -> Result<i64>
     bytes.read_sleb128()
 }
 
-// An address, apart: it has any of four widths.
-#[inline(always)]
-pub(crate) fn read_address<R: Reader + Copy>(bytes: &mut R, size: u8) -> Result<u64>
-    ensures { Reads (λ n. n) (R.text bytes.old) (R.text bytes.new) result
-        (address_at (R.text bytes.old).is_big size (R.text bytes.old).bytes) }
-{
-    let mut apart = *bytes;
-    let address = read_address_apart(&mut apart, size)?;
-    *bytes = apart;
-    Ok(address)
-}
-
-#[inline(never)]
-fn read_address_apart<R: Reader>(bytes: &mut R, size: u8) -> Result<u64>
-    ensures { Reads (λ n. n) (R.text bytes.old) (R.text bytes.new) result
-        (address_at (R.text bytes.old).is_big size (R.text bytes.old).bytes) }
-{
-    bytes.read_address(size)
-}
-
 // An unsigned number.
 #[inline(always)]
 pub(crate) fn read_unsigned<R: Reader + Copy>(shape: Unsigned, bytes: &mut R) -> Result<u64>
@@ -200,7 +180,7 @@ pub(crate) fn read_offset<R: Reader + Copy>(
         Offset::Section => bytes.read_offset(encoding.format),
         Offset::Reference => {
             if encoding.version == 2 {
-                R::Offset::from_u64(read_address(bytes, encoding.address_size)?)
+                R::Offset::from_u64(bytes.read_address(encoding.address_size)?)
             } else {
                 bytes.read_offset(encoding.format)
             }

@@ -23,7 +23,7 @@ use Rattle.dwexpr.specs.Evaluates.{EvaluatesSteps, EvaluatesSaid, behind_replies
 use Rattle.dwexpr.specs.Steps.{ReadsSteps}
 use Rattle.dwexpr.specs.declared.steps.StepsFault.{StepsFault}
 use Rattle.dwexpr.specs.declared.steps.StepsFault.TheVariants as fault
-use Rattle.dwexpr.specs.Endings.{Ending, misplaced, no_memory, standing}
+use Rattle.dwexpr_text.specs.Endings.{Ending, misplaced, no_memory, standing}
 use Rattle.dwexpr.specs.inner.Replayed.{HasLine, ending_of}
 
 asking_ending : (request : Request) (positions : List Position) (x : State) (status : Status) → IsInRequest request positions x status

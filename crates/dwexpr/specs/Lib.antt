@@ -1,9 +1,4 @@
 pub mod Evaluates
-pub mod Lines
 pub mod Program
-pub mod Endings
 pub mod Steps
-pub mod Values
-pub mod Words
-pub mod Writing
 pub mod inner

@@ -1,43 +1,18 @@
 -- The lines that `eval` reads: each is a step.
-use Rattle.std.specs.Prelude.{ℕ, ◌≡◌, IsSome, Vec, map, zero, suc, codes, bytes_eq, Bool, List, [], ◌∷◌, length, Option, Some, None, option_and_then, option_map, Result, Ok, Err, if◌then◌else◌}
+use Rattle.std.specs.Prelude.{ℕ, ◌≡◌, IsSome, Vec, map, suc, codes, bytes_eq, Bool, List, [], ◌∷◌, Option, Some, None, option_and_then, option_map, Result, Ok, Err, if◌then◌else◌}
 use Rattle.std.specs.Str.{is_utf8}
-use Rattle.std.specs.Str.Lines.{strip_carriage_return}
 use Rattle.dwarf_base.specs.EndianSlice.{slice_text}
 use Rattle.dwarf_meaning.specs.Requests as requests
 use Rattle.dwarf_meaning.specs.Steps.{Step, InitialValue, ObjectAddress, MaxIterations, Evaluate, Resume}
 use Rattle.dwarf_replay.specs.Stepping.{step_of}
-use Rattle.dwexpr.specs.Values.{below, cut_at, number_in, type_in, value_in}
-use Rattle.dwexpr.specs.Words.{bytes_in}
+use Rattle.dwexpr_text.specs.Values.{below, cut_at, number_in, type_in, value_in}
+use Rattle.dwexpr_text.specs.Words.{bytes_in}
 use Rattle.dwexpr.specs.declared.steps.LineFault.{LineFault}
 use Rattle.dwexpr.specs.declared.steps.LineFault.TheVariants as line
 use Rattle.dwexpr.specs.declared.steps.StepsFault.{StepsFault}
 use Rattle.dwexpr.specs.declared.steps.StepsFault.TheVariants as fault
 use Rattle.dwexpr.specs.declared.steps.OwnedStep.{OwnedStep}
 use Rattle.dwexpr.specs.declared.steps.OwnedStep.TheVariants as owned
-
--- ---- lines
-
--- A line ends at a line feed (10), which a carriage return may precede, or at the end of the input. What follows it.
-abbrev pub line_and_rest : List ℕ → Option (List ℕ × List ℕ) → List ℕ × List ℕ
-line_and_rest input None = (input, [])
-line_and_rest input (Some parts) = (strip_carriage_return parts.0, parts.1)
-
--- the first line, and what follows it
-abbrev pub first_line : List ℕ → List ℕ × List ℕ
-first_line input = line_and_rest input (cut_at 10 input)
-
--- up to so many lines
-abbrev pub lines_within : (most : ℕ) → List ℕ → List (List ℕ)
-lines_within zero input = []
-lines_within (suc most) [] = []
-lines_within (suc most) (byte ∷ input) =
-    let first = first_line (byte ∷ input) in first.0 ∷ lines_within most first.1
-
--- all of them: no more than there are bytes
-abbrev pub lines_in : List ℕ → List (List ℕ)
-lines_in input = lines_within (length input) input
-
--- ---- steps
 
 -- the steps whose word is a number, a value or a type
 abbrev pub plain_step_in : (name word : List ℕ) → Option Step

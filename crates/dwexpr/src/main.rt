@@ -1,17 +1,11 @@
 //! `dwexpr` evaluates DWARF expressions, one answer a line.
 #![tactic(auto)]
 
-mod hexadecimal;
-mod lines;
-mod numbers;
-mod operations;
 mod program;
+mod results;
 mod steps;
-mod values;
-mod words;
-mod writing;
 
-pub use hexadecimal::{HexFault, bytes_of};
+pub use dwexpr_text::{HexFault, bytes_of};
 pub use program::run;
 use program::run_without_words;
 use std::alloc::AllocError;

@@ -6,70 +6,28 @@ ghost use Rattle.dwarf_eval.specs.Machine.{piece_of};
 ghost use Rattle.dwarf_replay.specs.Replays.{replies_in, steps_of};
 ghost use Rattle.dwarf_meaning.specs.Steps.{untold};
 ghost use Rattle.dwexpr.specs.Evaluates.{EvaluatesSteps, EvaluatesLines, behind_replies, bad_steps, unlimited_setup};
-ghost use Rattle.dwexpr.specs.Lines.{listing_of, piece_lines, reply_lines};
+ghost use Rattle.dwexpr_text.specs.Lines.{listing_of, piece_lines, reply_lines};
 ghost use Rattle.dwexpr.specs.Program.{EndsFor, EvaluatesInput, Exits, without_words};
-ghost use Rattle.dwexpr.specs.Endings as runs;
-ghost use Rattle.dwexpr.specs.Endings.{Ending, WritesEnding, complete_ending, listed, standing};
+ghost use Rattle.dwexpr_text.specs.Endings as runs;
+ghost use Rattle.dwexpr_text.specs.Endings.{Ending, WritesEnding, complete_ending, listed, standing};
 ghost use Rattle.dwexpr.specs.inner.Replayed.{HasLine, ending_of};
-ghost use Rattle.dwexpr.specs.Writing.{Prints};
+ghost use Rattle.dwexpr_text.specs.Writing.{Prints};
 
-use crate::hexadecimal::{HexFault, bytes_of};
-use crate::lines::{print_piece, print_reply, print_value_line};
-use crate::operations::print_operations;
+use crate::results::{print_piece, print_reply};
 use crate::steps::{StepsFault, borrow_steps, steps_in};
-use crate::words::{Command, Reading, command_of, reading_of};
-use crate::writing::{Text, Word, put_line};
 use dwarf_base::EndianSlice;
 use dwarf_eval::eval::{Evaluation, Status};
 use dwarf_eval::op::Piece;
 use dwarf_replay::{Answer, Replayed, Step, replay};
-use dwarf_store::StoreOnHeap;
+use dwarf_store::{EvaluationStorage, StoreOnHeap};
 use dwarf_value::Value;
+use dwexpr_text::{
+    Command, DONE, FAILED, HexFault, Reading, Text, bad_step, bad_words, bytes_of, command_of,
+    misplaced, no_memory, print_operations, print_value_line, reading_of,
+};
 use std::alloc::Allocator;
 use std::io;
 use std::io::{ErrorKind, Read, Write};
-
-// How the program ends.
-const DONE: u8 = 0;
-
-const FAILED: u8 = 1;
-
-const MISUSED: u8 = 2;
-
-/// Prints that the words are not those of the program.
-fn bad_words<W: Write>(output: &mut W) -> io::Result<u8>
-    ensures { WritesEnding (W.contents output.old) (W.contents output.new) runs.bad_words result }
-{
-    put_line(output, "bad words", &[])?;
-    Ok(MISUSED)
-}
-
-/// Prints that there was no memory.
-fn no_memory<W: Write>(output: &mut W) -> io::Result<u8>
-    ensures { WritesEnding (W.contents output.old) (W.contents output.new) runs.no_memory result }
-{
-    put_line(output, "no memory", &[])?;
-    Ok(FAILED)
-}
-
-/// Prints that the line of this number is no step.
-fn bad_step<W: Write>(output: &mut W, number: usize) -> io::Result<u8>
-    ensures { WritesEnding (W.contents output.old) (W.contents output.new) (runs.bad_step number)
-        result }
-{
-    put_line(output, "bad step", &[Word::Number(number as u64)])?;
-    Ok(MISUSED)
-}
-
-/// Prints that the step at this index, from 0, isn't allowed.
-fn misplaced<W: Write>(output: &mut W, index: usize) -> io::Result<u8>
-    requires { index < 2 ^ 64 - 1 }
-    ensures { WritesEnding (W.contents output.old) (W.contents output.new) (runs.misplaced index)
-        result }
-{
-    put_line(output, "misplaced", &[Word::Number(index as u64 + 1)])?;
-    Ok(MISUSED)
-}
 
 /// Prints what each call of the evaluation gave.
 fn print_replies<W: Write>(output: &mut W, answers: &[Answer<Text<'_>>]) -> io::Result<()>
@@ -107,9 +65,9 @@ fn print_complete<W: Write>(
 }
 
 /// Prints what came out of the evaluation, where it is complete.
-fn print_outcome<A: Allocator + Copy, W: Write>(
+fn print_outcome<'a, S: EvaluationStorage<Text<'a>>, W: Write>(
     output: &mut W,
-    evaluation: &Evaluation<Text<'_>, StoreOnHeap<A>>,
+    evaluation: &Evaluation<Text<'a>, S>,
 ) -> io::Result<u8>
     ensures { WritesEnding (W.contents output.old) (W.contents output.new)
         (standing evaluation.now evaluation.now.status) result }

@@ -1,62 +1,16 @@
-ghost use Rattle.std.specs.Prelude.{◌≡◌, ◌==◌, ◌<◌, Bool, ℕ, length, map, None, Some, IfOk, IsSome, Ok, option_map};
-ghost use Rattle.std.specs.List.{position};
-ghost use Rattle.std.specs.Str.Lines.{strip_carriage_return};
+ghost use Rattle.std.specs.Prelude.{◌≡◌, Bool, map, IfOk, option_map};
 ghost use Rattle.dwarf_base.specs.EndianSlice.{slice_text};
 ghost use Rattle.dwarf_base.specs.ByteOrder.{is_big_of};
 ghost use Rattle.dwarf_replay.specs.Replays.{steps_of};
 ghost use Rattle.dwarf_replay.specs.Stepping.{step_of};
 ghost use Rattle.dwexpr.specs.Steps as spec;
-ghost use Rattle.dwexpr.specs.Steps.{ReadsStep, ReadsSteps, lines_in, step_owned};
+ghost use Rattle.dwexpr.specs.Steps.{ReadsStep, ReadsSteps, step_owned};
+ghost use Rattle.dwexpr_text.specs.Input.{lines_in};
 
-use crate::hexadecimal::{HexFault, bytes_of};
-use crate::numbers::number_of;
-use crate::values::{type_of, value_of};
-use crate::writing::Text;
 use dwarf_base::{EndianSlice, RunTimeEndian};
 use dwarf_replay::Step;
+use dwexpr_text::{HexFault, Text, bytes_of, first_line, number_of, type_of, value_of};
 use std::alloc::{AllocError, Allocator};
-
-/// A line of the input, and what follows it.
-#[derive(Clone, Copy)]
-struct Line<'a> {
-    text: &'a [u8],
-    rest: &'a [u8],
-}
-
-/// The text without a carriage return at its end.
-fn without_return(text: &[u8]) -> &[u8]
-    ensures { result.now ≡ strip_carriage_return text.now }
-{
-    match text {
-        [front @ .., b'\r'] => front,
-        _ => text,
-    }
-}
-
-/// Where the first line feed stands.
-fn line_feed_in(input: &[u8]) -> Option<usize>
-    ensures { result ≡ position (λ byte. byte == 10) input.now }
-{
-    input.iter().position(|byte| *byte == b'\n')
-}
-
-/// The first line: up to a line feed, or all of the input where there is none.
-fn first_line(input: &[u8]) -> Line<'_>
-    requires { 0 < length input.now }
-    ensures line { (result.text.now, result.rest.now) ≡ spec.first_line input.now }
-    ensures less { length result.rest.now < length input.now }
-{
-    match line_feed_in(input) {
-        Some(end) => Line {
-            text: without_return(&input[..end]),
-            rest: &input[end + 1..],
-        },
-        None => Line {
-            text: input,
-            rest: &[],
-        },
-    }
-}
 
 /// A step that owns its text.
 #[derive(Drop)]

@@ -3,7 +3,7 @@ use Rattle.std.specs.Prelude.{◌<◌, ◌-◌, ◌^◌}
 use Rattle.dwarf_meaning.specs.Rest.{State}
 use Rattle.dwarf_replay.specs.declared.steps.Replayed.{Replayed}
 use Rattle.dwarf_replay.specs.declared.steps.Replayed.TheVariants as replayed
-use Rattle.dwexpr.specs.Endings.{Ending, misplaced, no_memory, standing}
+use Rattle.dwexpr_text.specs.Endings.{Ending, misplaced, no_memory, standing}
 
 -- behind the replies
 abbrev pub ending_of : {R O P : Type 0} → State → Replayed R O P → Ending

@@ -1,9 +1,9 @@
 use Rattle.std.proofs.Common.{[], append-nil, map, refl, sym}
 use Rattle.dwarf_base.specs.EndianSlice.{slice_text}
 use Rattle.dwarf_eval.specs.Machine.{piece_of}
-use Rattle.dwexpr.specs.Lines.{piece_lines, value_line}
-use Rattle.dwexpr.proofs.Fronts.{appends_both, as_rest, begun, more_of}
-use Rattle.dwexpr.proofs.ListingLemmas.{ends_refused}
+use Rattle.dwexpr_text.specs.Lines.{piece_lines, value_line}
+use Rattle.dwexpr_text.proofs.Fronts.{appends_both, as_rest, begun, more_of}
+use Rattle.dwexpr_text.proofs.ListingLemmas.{ends_refused}
 use Rattle.dwexpr.proofs.program.print_complete.Goals as goal
 
 pub returns-in_err-print_pieces : goal.returns-in_err-print_pieces

@@ -1,9 +1,9 @@
 use Rattle.std.proofs.Common.{◌+◌, ap, drop, drop_of_length-le}
 use Rattle.dwarf_base.specs.EndianSlice.{slice_text}
 use Rattle.dwarf_replay.specs.Replays.{replies_in, reply_in}
-use Rattle.dwexpr.specs.Lines.{reply_line, reply_lines}
-use Rattle.dwexpr.proofs.Fronts.{all_of, as_rest, begun, more_of, refused_in}
-use Rattle.dwexpr.proofs.ListingLemmas.{lines_at}
+use Rattle.dwexpr_text.specs.Lines.{reply_line, reply_lines}
+use Rattle.dwexpr_text.proofs.Fronts.{all_of, as_rest, begun, more_of, refused_in}
+use Rattle.dwexpr_text.proofs.ListingLemmas.{lines_at}
 use Rattle.dwexpr.proofs.program.print_replies.Goals as goal
 
 pub loop-answer-init : goal.loop-answer-init

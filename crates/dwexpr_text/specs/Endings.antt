@@ -1,0 +1,54 @@
+-- What is printed behind the replies of an evaluation, and the status that the program ends with.
+use Rattle.std.specs.Prelude.{ℕ, ◌≡◌, ◌+◌, ◌++◌, codes, decimal, List, [], ◌∷◌, Option, Result, Ok, Err, if◌then◌else◌}
+use Rattle.std.specs.Io.KnownBytes.{Appends}
+use Rattle.dwarf_value.specs.declared.types.Value.{Value}
+use Rattle.dwarf_meaning.specs.Locations.{Piece}
+use Rattle.dwarf_meaning.specs.Rest.{State, Status, Start, Running, RequestStatus, CompleteStatus, FaultStatus}
+use Rattle.dwexpr_text.specs.Lines.{Listing, piece_lines, value_line}
+use Rattle.dwexpr_text.specs.Writing.{AppendsFront, line}
+
+-- lines, and the status: 0 where all was done, 1 where it failed, 2 where the words or the lines are wrong
+pub record Ending : Type 0 where
+  pub text : List ℕ
+  pub status : ℕ
+
+-- all of it was written, and this is the status; or a front of it, where a write was refused
+abbrev pub WritesEnding : {E : Type 0} → (old new : Option (List ℕ)) → Ending → Result ℕ E → Type 0
+WritesEnding old new ending (Ok status) = Appends old new ending.text × (status ≡ ending.status)
+WritesEnding old new ending (Err e) = AppendsFront old new ending.text
+
+-- the words aren't of their form
+abbrev pub bad_words : Ending
+bad_words = record { text = line (codes "bad words") []; status = 2 }
+
+-- memory was refused
+abbrev pub no_memory : Ending
+no_memory = record { text = line (codes "no memory") []; status = 1 }
+
+-- the input could not be read
+abbrev pub unread : Ending
+unread = record { text = []; status = 1 }
+
+-- the line of this number is no step
+abbrev pub bad_step : (number : ℕ) → Ending
+bad_step number = record { text = line (codes "bad step") (decimal number ∷ []); status = 2 }
+
+-- the step at this index, from 0, isn't allowed: its line, from 1
+abbrev pub misplaced : (index : ℕ) → Ending
+misplaced index = record { text = line (codes "misplaced") (decimal (index + 1) ∷ []); status = 2 }
+
+-- the operations of `ops`
+abbrev pub listed : Listing → Ending
+listed listing = record { text = listing.text; status = if listing.is_whole then 0 else 1 }
+
+-- the pieces and the value of a complete evaluation
+abbrev pub complete_ending : List Piece → Option Value → Ending
+complete_ending pieces value = record { text = piece_lines pieces ++ value_line value; status = 0 }
+
+-- where an evaluation stands
+abbrev pub standing : State → Status → Ending
+standing x (CompleteStatus value) = complete_ending x.store.pieces value
+standing x (FaultStatus error) = record { text = []; status = 1 }
+standing x (Start initial_value) = record { text = []; status = 0 }
+standing x (RequestStatus request waiting) = record { text = []; status = 0 }
+standing x Running = record { text = []; status = 0 }

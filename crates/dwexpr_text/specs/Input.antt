@@ -1,0 +1,24 @@
+-- The lines of an input.
+use Rattle.std.specs.Prelude.{ℕ, zero, suc, List, [], ◌∷◌, length, Option, Some, None}
+use Rattle.std.specs.Str.Lines.{strip_carriage_return}
+use Rattle.dwexpr_text.specs.Values.{cut_at}
+
+-- A line ends at a line feed (10), which a carriage return may precede, or at the end of the input. What follows it.
+abbrev pub line_and_rest : List ℕ → Option (List ℕ × List ℕ) → List ℕ × List ℕ
+line_and_rest input None = (input, [])
+line_and_rest input (Some parts) = (strip_carriage_return parts.0, parts.1)
+
+-- the first line, and what follows it
+abbrev pub first_line : List ℕ → List ℕ × List ℕ
+first_line input = line_and_rest input (cut_at 10 input)
+
+-- up to so many lines
+abbrev pub lines_within : (most : ℕ) → List ℕ → List (List ℕ)
+lines_within zero input = []
+lines_within (suc most) [] = []
+lines_within (suc most) (byte ∷ input) =
+    let first = first_line (byte ∷ input) in first.0 ∷ lines_within most first.1
+
+-- all of them: no more than there are bytes
+abbrev pub lines_in : List ℕ → List (List ℕ)
+lines_in input = lines_within (length input) input

@@ -1,0 +1,51 @@
+ghost use Rattle.std.specs.Prelude.{◌<◌, ◌-◌, ◌^◌};
+ghost use Rattle.dwexpr_text.specs.Endings as endings;
+ghost use Rattle.dwexpr_text.specs.Endings.{WritesEnding};
+
+use crate::writing::{Word, put_line};
+use std::io;
+use std::io::Write;
+
+/// The status where all was done.
+pub const DONE: u8 = 0;
+
+/// The status where something failed.
+pub const FAILED: u8 = 1;
+
+/// The status where the words or the lines are wrong.
+const MISUSED: u8 = 2;
+
+/// Prints that the words are not those of the program.
+pub fn bad_words<W: Write>(output: &mut W) -> io::Result<u8>
+    ensures { WritesEnding (W.contents output.old) (W.contents output.new) endings.bad_words result }
+{
+    put_line(output, "bad words", &[])?;
+    Ok(MISUSED)
+}
+
+/// Prints that there was no memory.
+pub fn no_memory<W: Write>(output: &mut W) -> io::Result<u8>
+    ensures { WritesEnding (W.contents output.old) (W.contents output.new) endings.no_memory result }
+{
+    put_line(output, "no memory", &[])?;
+    Ok(FAILED)
+}
+
+/// Prints that the line of this number is no step.
+pub fn bad_step<W: Write>(output: &mut W, number: usize) -> io::Result<u8>
+    ensures { WritesEnding (W.contents output.old) (W.contents output.new) (endings.bad_step number)
+        result }
+{
+    put_line(output, "bad step", &[Word::Number(number as u64)])?;
+    Ok(MISUSED)
+}
+
+/// Prints that the step at this index, from 0, isn't allowed.
+pub fn misplaced<W: Write>(output: &mut W, index: usize) -> io::Result<u8>
+    requires { index < 2 ^ 64 - 1 }
+    ensures { WritesEnding (W.contents output.old) (W.contents output.new) (endings.misplaced index)
+        result }
+{
+    put_line(output, "misplaced", &[Word::Number(index as u64 + 1)])?;
+    Ok(MISUSED)
+}

@@ -1,8 +1,9 @@
-ghost use Rattle.std.specs.Prelude.{◌≡◌, [], ◌∷◌, Some};
+ghost use Rattle.std.specs.Prelude.{◌≡◌, [], ◌∷◌, Some, pos, negsuc};
 ghost use Rattle.dwarf_base.specs.declared.errors.Error.TheVariants.{NotEnoughStackItems, BadBranchTarget, TooManyIterations, InvalidPiece, InvalidExpressionTerminator, StackFull};
 ghost use Rattle.dwarf_value.specs.declared.types.Value.TheVariants.{Generic};
 ghost use Rattle.dwarf_meaning.specs.Operations.{UnitRef};
 ghost use Rattle.dwarf_meaning.specs.Locations.{InRegister, AtAddress};
+ghost use Rattle.dwarf_meaning.specs.Stores.{Store, Goes, FaultNext, branch, branch_target};
 ghost use Rattle.dwarf_meaning.specs.Requests.{RequiresCallFrameCfa, RequiresAtLocation, RequiresRelocatedAddress, RegisterAnswer, CfaAnswer, RelocatedAnswer};
 ghost use Rattle.dwarf_meaning.specs.Refusals.{Never, After};
 ghost use Rattle.dwarf_meaning.specs.Meaning.{RequestOutcome, FaultOutcome, meaning};
@@ -20,6 +21,12 @@ pub fn worked_rows()
     ensures branch_of_zero_up_to_the_address { meaning plain Never
         (text (0x28 ∷ 0x04 ∷ 0x00 ∷ 0x31 ∷ 0x2f ∷ 0x01 ∷ 0x00 ∷ 0x32 ∷ []))
         (record unset { initial_value = Some 0x100000000 }) [] ≡ valued 1 1 }
+    ensures branch_of_nothing { (s : Store) → branch 5 (branch_target plain 0 (pos 0)) s ≡ Goes 0 s }
+    ensures branch_before_the_start { (s : Store) → branch 5 (branch_target plain 0 (negsuc 0)) s
+        ≡ FaultNext (BadBranchTarget 18446744073709551615) }
+    ensures branch_to_the_end { (s : Store) → branch 5 (branch_target plain 0 (pos 5)) s ≡ Goes 5 s }
+    ensures branch_back { (s : Store) → branch 5 (branch_target plain 3 (negsuc 1)) s ≡ Goes 1 s }
+    ensures branch_ahead { (s : Store) → branch 5 (branch_target plain 2 (pos 2)) s ≡ Goes 4 s }
     ensures value_after_piece { meaning plain Never (text (0x31 ∷ 0x93 ∷ 0x04 ∷ 0x31 ∷ [])) unset []
         ≡ FaultOutcome InvalidPiece }
     ensures endless_loop { meaning plain Never (text (0x2f ∷ 0xfd ∷ 0xff ∷ [])) (at_most 3) []

@@ -27,6 +27,11 @@ returns c = record {
   branch_of_zero_up_to_the_address =
       in_twenty plain Never (text (0x28 ∷ 0x04 ∷ 0x00 ∷ 0x31 ∷ 0x2f ∷ 0x01 ∷ 0x00 ∷ 0x32 ∷ [])) (record unset { initial_value = Some 0x100000000 }) []
       (valued 1 1) (λ more. refl);
+  branch_of_nothing = λ s. refl;
+  branch_before_the_start = λ s. refl;
+  branch_to_the_end = λ s. refl;
+  branch_back = λ s. refl;
+  branch_ahead = λ s. refl;
   value_after_piece = in_twenty plain Never (text (0x31 ∷ 0x93 ∷ 0x04 ∷ 0x31 ∷ [])) unset [] (FaultOutcome InvalidPiece) (λ more. refl);
   endless_loop = in_twenty plain Never (text (0x2f ∷ 0xfd ∷ 0xff ∷ [])) (at_most 3) [] (FaultOutcome TooManyIterations) (λ more. refl);
   call_asks = in_twenty plain Never (text (0x98 ∷ 0x05 ∷ 0x00 ∷ 0x93 ∷ 0x04 ∷ [])) (at_most 2) [] (RequestOutcome (RequiresAtLocation (UnitRef 5)) (open_at (0x98 ∷ 0x05 ∷ 0x00 ∷ 0x93 ∷ 0x04 ∷ []) 3 ∷ [])) (λ more. refl);

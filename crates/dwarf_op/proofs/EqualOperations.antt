@@ -28,7 +28,6 @@ use mathlib.Core.Bool.{beq}
 use mir.Syntax.{Dict}
 
 infixr 40 ◌⊳◌
-
 -- ---- tests
 
 decided : {P A : Type 0} {b : Bool} → Decides b P → (P → A) → (A → P) → IsTrue b ↔ A

@@ -261,6 +261,17 @@ fn read<'a>(step: Step<&'a [u8]>) -> Step<Slice<'a>> {
     }
 }
 
+fn read_all<'a>(
+    alloc: Global,
+    steps: &[Step<&'a [u8]>],
+) -> std::result::Result<Vec<Step<Slice<'a>>>, AllocError> {
+    let mut read_in = Vec::new(alloc);
+    for step in steps {
+        read_in.push(read(*step))?;
+    }
+    Ok(read_in)
+}
+
 // What a replay gives and keeps, and where it leaves the evaluation.
 fn replayed<R: Reader + Copy, S: EvaluationStorage<R>>(
     alloc: Global,
@@ -300,11 +311,9 @@ fn replayed_over<'a>(
 // Each row gives its answers, of which the last says how the evaluation ended.
 #[test]
 fn fixed_capacities(rt: HostRuntime) -> std::result::Result<(), AllocError> {
-    for (capacities, text, row_steps, told) in ROWS {
-        let mut steps = Vec::new(rt.alloc());
-        for step in row_steps {
-            steps.push(read(*step))?;
-        }
+    for row in &ROWS {
+        let (capacities, text, row_steps, told) = *row;
+        let steps = read_all(rt.alloc(), row_steps)?;
         let (end, answers, status) = replayed_over(&rt, rt.alloc(), capacities, text, &steps);
         assert!(rt; end == Replayed::Done, "{text:?}");
         expect_answers(&rt, &answers, told, text);

@@ -1,5 +1,5 @@
 -- What the entries of the code's table of opcodes stand for: rows of the standard's table.
-use Rattle.std.specs.Prelude.{ℕ, ◌*◌, pos, List, Some, None, Result, Ok}
+use Rattle.std.specs.Prelude.{ℕ, ◌*◌, pos, List, Some, None, Result, Ok, true, false}
 use Rattle.dwarf_base.specs.Faults.{Fault, ◌>>=◌}
 use Rattle.dwarf_base.specs.Leb.{uleb_at}
 use Rattle.dwarf_base.specs.Numbers.{register_of}
@@ -94,19 +94,21 @@ offset_operation from_offset.Reinterpret offset = meaning.Reinterpret offset
 offset_operation from_offset.VariableValue offset = meaning.VariableValue offset
 
 -- the row that a rare entry is
-abbrev pub rare_row : Rare → Row
-rare_row rare_entry.Address = unsigned Address meaning.Address
-rare_row rare_entry.PickByte = unsigned (Fixed 1) meaning.Pick
-rare_row rare_entry.NamedRegister = unsigned RegisterNumber meaning.Register
-rare_row rare_entry.NamedBaseRegister = unsigned_signed RegisterNumber SignedLeb128 (λ register offset. meaning.RegisterOffset register offset 0)
-rare_row rare_entry.TypedRegister = unsigned_two RegisterNumber form.Offset (λ register base_type. meaning.RegisterOffset register (pos 0) base_type)
-rare_row rare_entry.BitPiece = unsigned_two Leb128 Leb128 (λ size offset. meaning.Piece size (Some offset))
-rare_row rare_entry.ImplicitValue = sized_block form.Offset meaning.ImplicitValue
-rare_row rare_entry.EntryValue = sized_block form.Offset meaning.EntryValue
-rare_row rare_entry.TypedLiteral = Unsigned form.Offset (λ base_type. sized_block (Fixed 1) (meaning.TypedLiteral base_type))
-rare_row (rare_entry.TypedDeref space) = unsigned_two (Fixed 1) form.Offset (λ size base_type. meaning.Deref base_type size space)
-rare_row rare_entry.ImplicitPointer = unsigned_signed InfoReference SignedLeb128 meaning.ImplicitPointer
-rare_row rare_entry.WasmLocation = Unsigned (Fixed 1) wasm_row
+abbrev pub rare_row : Encoding → Rare → Row
+rare_row encoding rare_entry.Address = unsigned Address meaning.Address
+rare_row encoding rare_entry.PickByte = unsigned (Fixed 1) meaning.Pick
+rare_row encoding rare_entry.SpaceDeref = Makes (meaning.Deref 0 encoding.address_size true)
+rare_row encoding rare_entry.SpaceDerefSize = unsigned (Fixed 1) (λ size. meaning.Deref 0 size true)
+rare_row encoding rare_entry.NamedRegister = unsigned RegisterNumber meaning.Register
+rare_row encoding rare_entry.NamedBaseRegister = unsigned_signed RegisterNumber SignedLeb128 (λ register offset. meaning.RegisterOffset register offset 0)
+rare_row encoding rare_entry.TypedRegister = unsigned_two RegisterNumber form.Offset (λ register base_type. meaning.RegisterOffset register (pos 0) base_type)
+rare_row encoding rare_entry.BitPiece = unsigned_two Leb128 Leb128 (λ size offset. meaning.Piece size (Some offset))
+rare_row encoding rare_entry.ImplicitValue = sized_block form.Offset meaning.ImplicitValue
+rare_row encoding rare_entry.EntryValue = sized_block form.Offset meaning.EntryValue
+rare_row encoding rare_entry.TypedLiteral = Unsigned form.Offset (λ base_type. sized_block (Fixed 1) (meaning.TypedLiteral base_type))
+rare_row encoding (rare_entry.TypedDeref space) = unsigned_two (Fixed 1) form.Offset (λ size base_type. meaning.Deref base_type size space)
+rare_row encoding rare_entry.ImplicitPointer = unsigned_signed InfoReference SignedLeb128 meaning.ImplicitPointer
+rare_row encoding rare_entry.WasmLocation = Unsigned (Fixed 1) wasm_row
 
 -- the row that an entry is at an opcode
 abbrev pub entry_row : Encoding → (opcode : ℕ) → Entry → Row
@@ -115,8 +117,8 @@ entry_row encoding opcode (entry.Plain operation) = Makes (plain_operation opera
 entry_row encoding opcode (entry.Literal number) = Makes (meaning.UnsignedConstant number)
 entry_row encoding opcode (entry.Register register) = Makes (meaning.Register register)
 entry_row encoding opcode (entry.Pick index) = Makes (meaning.Pick index)
-entry_row encoding opcode (entry.Deref space) = Makes (meaning.Deref 0 encoding.address_size space)
-entry_row encoding opcode (entry.DerefSize space) = unsigned (Fixed 1) (λ size. meaning.Deref 0 size space)
+entry_row encoding opcode entry.Deref = Makes (meaning.Deref 0 encoding.address_size false)
+entry_row encoding opcode entry.DerefSize = unsigned (Fixed 1) (λ size. meaning.Deref 0 size false)
 entry_row encoding opcode (entry.Constant shape) = unsigned (unsigned_form shape) meaning.UnsignedConstant
 entry_row encoding opcode entry.PlusConstant = unsigned Leb128 meaning.PlusConstant
 entry_row encoding opcode (entry.SignedConstant shape) = signed (signed_form shape) meaning.SignedConstant
@@ -126,7 +128,7 @@ entry_row encoding opcode entry.Skip = signed (SignedFixed 2) meaning.Skip
 entry_row encoding opcode (entry.Offset shape make) = unsigned (offset_form shape) (offset_operation make)
 entry_row encoding opcode (entry.BaseRegister register) = signed SignedLeb128 (λ offset. meaning.RegisterOffset register offset 0)
 entry_row encoding opcode entry.Piece = unsigned PieceSize (λ size. meaning.Piece (8 * size) None)
-entry_row encoding opcode (entry.Rare rare) = rare_row rare
+entry_row encoding opcode (entry.Rare rare) = rare_row encoding rare
 
 -- a row's operands at the front of a text
 abbrev pub operands_in : Encoding → (offset_bits : ℕ) → Text → Row → Result (meaning.Operation × List ℕ) Fault

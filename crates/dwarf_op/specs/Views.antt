@@ -14,7 +14,7 @@ reference_of number (reference.DebugInfoRef offset) = meaning.DebugInfoRef (numb
 
 -- an operation of the code, as the definitions have it
 abbrev pub operation_of : {R O P : Type 0} → (R → Text) → (O → ℕ) → Operation R O P → meaning.Operation
-operation_of text number (operation.Deref size space base_type) = meaning.Deref (number base_type.0) size space
+operation_of text number (operation.Deref size base_type space) = meaning.Deref (number base_type.0) size space
 operation_of text number operation.Drop = meaning.Drop
 operation_of text number (operation.Pick index) = meaning.Pick index
 operation_of text number operation.Swap = meaning.Swap

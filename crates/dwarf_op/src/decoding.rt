@@ -95,7 +95,7 @@ fn offset_operation<R: Reader>(make: FromOffset, offset: R::Offset) -> Operation
 fn read_named_base_register<R: Reader + Copy>(bytes: &mut R) -> Result<Operation<R>>
     ensures { (encoding : Encoding) → Reads (operation_of R.text R.Offset.number)
         (R.text bytes.old) (R.text bytes.new) result
-        (operands_in encoding R.Offset.BITS (R.text bytes.old) (rare_row Rare.NamedBaseRegister)) }
+        (operands_in encoding R.Offset.BITS (R.text bytes.old) (rare_row encoding Rare.NamedBaseRegister)) }
 {
     let base = read_register(bytes)?;
     let offset = read_sleb128(bytes)?;
@@ -112,7 +112,7 @@ fn read_named_base_register<R: Reader + Copy>(bytes: &mut R) -> Result<Operation
 fn read_typed_register<R: Reader + Copy>(bytes: &mut R, encoding: Encoding) -> Result<Operation<R>>
     ensures { Reads (operation_of R.text R.Offset.number)
         (R.text bytes.old) (R.text bytes.new) result
-        (operands_in encoding R.Offset.BITS (R.text bytes.old) (rare_row Rare.TypedRegister)) }
+        (operands_in encoding R.Offset.BITS (R.text bytes.old) (rare_row encoding Rare.TypedRegister)) }
 {
     let register = read_register(bytes)?;
     let base_type = read_offset(Offset::Uleb128, bytes, encoding)?;
@@ -147,7 +147,7 @@ fn read_piece<R: Reader + Copy>(bytes: &mut R) -> Result<Operation<R>>
 fn read_bit_piece<R: Reader + Copy>(bytes: &mut R) -> Result<Operation<R>>
     ensures { (encoding : Encoding) → Reads (operation_of R.text R.Offset.number)
         (R.text bytes.old) (R.text bytes.new) result
-        (operands_in encoding R.Offset.BITS (R.text bytes.old) (rare_row Rare.BitPiece)) }
+        (operands_in encoding R.Offset.BITS (R.text bytes.old) (rare_row encoding Rare.BitPiece)) }
 {
     let size_in_bits = read_uleb128(bytes)?;
     let bit_offset = read_uleb128(bytes)?;
@@ -163,7 +163,7 @@ fn read_bit_piece<R: Reader + Copy>(bytes: &mut R) -> Result<Operation<R>>
 fn read_typed_literal<R: Reader + Copy>(bytes: &mut R, encoding: Encoding) -> Result<Operation<R>>
     ensures { Reads (operation_of R.text R.Offset.number)
         (R.text bytes.old) (R.text bytes.new) result
-        (operands_in encoding R.Offset.BITS (R.text bytes.old) (rare_row Rare.TypedLiteral)) }
+        (operands_in encoding R.Offset.BITS (R.text bytes.old) (rare_row encoding Rare.TypedLiteral)) }
 {
     let base_type = read_offset(Offset::Uleb128, bytes, encoding)?;
     let value = read_block(Offset::U8, bytes, encoding)?;
@@ -183,14 +183,14 @@ fn read_typed_deref<R: Reader + Copy>(
 ) -> Result<Operation<R>>
     ensures { Reads (operation_of R.text R.Offset.number)
         (R.text bytes.old) (R.text bytes.new) result
-        (operands_in encoding R.Offset.BITS (R.text bytes.old) (rare_row (Rare.TypedDeref space))) }
+        (operands_in encoding R.Offset.BITS (R.text bytes.old) (rare_row encoding (Rare.TypedDeref space))) }
 {
     let size = read_u8(bytes)?;
     let base_type = read_offset(Offset::Uleb128, bytes, encoding)?;
     Ok(Operation::Deref {
         size,
-        space,
         base_type: UnitOffset(base_type),
+        space,
     })
 }
 
@@ -203,7 +203,7 @@ fn read_implicit_pointer<R: Reader + Copy>(
 ) -> Result<Operation<R>>
     ensures { Reads (operation_of R.text R.Offset.number)
         (R.text bytes.old) (R.text bytes.new) result
-        (operands_in encoding R.Offset.BITS (R.text bytes.old) (rare_row Rare.ImplicitPointer)) }
+        (operands_in encoding R.Offset.BITS (R.text bytes.old) (rare_row encoding Rare.ImplicitPointer)) }
 {
     let value = read_offset(Offset::Reference, bytes, encoding)?;
     let byte_offset = read_sleb128(bytes)?;
@@ -219,7 +219,7 @@ fn read_implicit_pointer<R: Reader + Copy>(
 fn read_wasm_location<R: Reader + Copy>(bytes: &mut R) -> Result<Operation<R>>
     ensures { (encoding : Encoding) → Reads (operation_of R.text R.Offset.number)
         (R.text bytes.old) (R.text bytes.new) result
-        (operands_in encoding R.Offset.BITS (R.text bytes.old) (rare_row Rare.WasmLocation)) }
+        (operands_in encoding R.Offset.BITS (R.text bytes.old) (rare_row encoding Rare.WasmLocation)) }
 {
     match read_u8(bytes)? {
         0 => Ok(Operation::WasmLocal {
@@ -284,7 +284,7 @@ fn read_rare_operands<R: Reader + Copy>(
 ) -> Result<Operation<R>>
     ensures { Reads (operation_of R.text R.Offset.number)
         (R.text bytes.old) (R.text bytes.new) result
-        (operands_in encoding R.Offset.BITS (R.text bytes.old) (rare_row entry)) }
+        (operands_in encoding R.Offset.BITS (R.text bytes.old) (rare_row encoding entry)) }
 {
     match entry {
         Rare::Address => Ok(Operation::Address {
@@ -292,6 +292,16 @@ fn read_rare_operands<R: Reader + Copy>(
         }),
         Rare::PickByte => Ok(Operation::Pick {
             index: read_u8(bytes)?,
+        }),
+        Rare::SpaceDeref => Ok(Operation::Deref {
+            size: encoding.address_size,
+            base_type: generic_type(),
+            space: true,
+        }),
+        Rare::SpaceDerefSize => Ok(Operation::Deref {
+            size: read_u8(bytes)?,
+            base_type: generic_type(),
+            space: true,
         }),
         Rare::NamedRegister => Ok(Operation::Register {
             register: read_register(bytes)?,
@@ -321,7 +331,7 @@ fn read_rare<R: Reader + Copy>(
 ) -> Result<Operation<R>>
     ensures { Reads (operation_of R.text R.Offset.number)
         (R.text bytes.old) (R.text bytes.new) result
-        (operands_in encoding R.Offset.BITS (R.text bytes.old) (rare_row entry)) }
+        (operands_in encoding R.Offset.BITS (R.text bytes.old) (rare_row encoding entry)) }
 {
     let mut apart = *bytes;
     let operation = read_rare_operands(entry, &mut apart, encoding);
@@ -351,15 +361,15 @@ fn read_operands<R: Reader + Copy>(
             register: Register(u16::from(register)),
         }),
         Entry::Pick(index) => Ok(Operation::Pick { index }),
-        Entry::Deref(space) => Ok(Operation::Deref {
-            base_type: generic_type(),
+        Entry::Deref => Ok(Operation::Deref {
             size: encoding.address_size,
-            space,
-        }),
-        Entry::DerefSize(space) => Ok(Operation::Deref {
             base_type: generic_type(),
+            space: false,
+        }),
+        Entry::DerefSize => Ok(Operation::Deref {
             size: read_u8(bytes)?,
-            space,
+            base_type: generic_type(),
+            space: false,
         }),
         Entry::Constant(shape) => Ok(Operation::UnsignedConstant {
             value: read_unsigned(shape, bytes)?,

@@ -101,6 +101,10 @@ pub(crate) enum Rare {
     Address,
     // One byte, the index: `DW_OP_pick`.
     PickByte,
+    // No operands; the size is an address's, and there is an address space: `DW_OP_xderef`.
+    SpaceDeref,
+    // One byte, the size, and there is an address space: `DW_OP_xderef_size`.
+    SpaceDerefSize,
     // A register: `DW_OP_regx`.
     NamedRegister,
     // A register and a signed LEB128 number: `DW_OP_bregx`.
@@ -139,10 +143,10 @@ pub(crate) enum Entry {
     Register(u8),
     // No operands; the opcode says the index.
     Pick(u8),
-    // No operands; the size is an address's. Whether there is an address space.
-    Deref(bool),
-    // One byte, the size: `DW_OP_deref_size`, `DW_OP_xderef_size`. Whether there is an address space.
-    DerefSize(bool),
+    // No operands; the size is an address's: `DW_OP_deref`.
+    Deref,
+    // One byte, the size: `DW_OP_deref_size`.
+    DerefSize,
     // An unsigned number: the constant of `DW_OP_const1u` to `DW_OP_const8u` or `DW_OP_constu`.
     Constant(Unsigned),
     // An unsigned LEB128 number: `DW_OP_plus_uconst`.
@@ -173,7 +177,7 @@ pub(crate) fn entry_at(opcode: u8) -> Entry
 {
     match opcode {
         0x03 => Entry::Rare(Rare::Address), // addr
-        0x06 => Entry::Deref(false), // deref
+        0x06 => Entry::Deref, // deref
         0x08 => Entry::Constant(Unsigned::U8), // const1u
         0x09 => Entry::SignedConstant(Signed::I8), // const1s
         0x0a => Entry::Constant(Unsigned::U16), // const2u
@@ -190,7 +194,7 @@ pub(crate) fn entry_at(opcode: u8) -> Entry
         0x15 => Entry::Rare(Rare::PickByte), // pick
         0x16 => Entry::Plain(Plain::Swap), // swap
         0x17 => Entry::Plain(Plain::Rot), // rot
-        0x18 => Entry::Deref(true), // xderef
+        0x18 => Entry::Rare(Rare::SpaceDeref), // xderef
         0x19 => Entry::Plain(Plain::Abs), // abs
         0x1a => Entry::Plain(Plain::And), // and
         0x1b => Entry::Plain(Plain::Div), // div
@@ -221,8 +225,8 @@ pub(crate) fn entry_at(opcode: u8) -> Entry
         0x91 => Entry::FrameOffset, // fbreg
         0x92 => Entry::Rare(Rare::NamedBaseRegister), // bregx
         0x93 => Entry::Piece, // piece
-        0x94 => Entry::DerefSize(false), // deref_size
-        0x95 => Entry::DerefSize(true), // xderef_size
+        0x94 => Entry::DerefSize, // deref_size
+        0x95 => Entry::Rare(Rare::SpaceDerefSize), // xderef_size
         0x96 => Entry::Plain(Plain::Nop), // nop
         0x97 => Entry::Plain(Plain::PushObjectAddress), // push_object_address
         0x98 => Entry::Offset(Offset::U16, FromOffset::UnitCall), // call2

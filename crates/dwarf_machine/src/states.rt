@@ -1,6 +1,9 @@
+ghost use Rattle.std.specs.Prelude.{◌≡◌, ⊤};
+
 use dwarf_base::{DebugAddrIndex, Error, Reader, Register, UnitOffset};
 use dwarf_op::{DieReference, Location};
 use dwarf_value::{Value, ValueType};
+use std::alloc::AllocError;
 
 /// Of what sort the last operation was.
 #[derive(Clone, Copy)]
@@ -18,7 +21,7 @@ pub(crate) enum LastOperation<R: Reader, O = <R as Reader>::Offset> {
 }
 
 /// An open request, with what is to be done with the answer.
-#[derive(Clone, Copy)]
+#[derive(Copy)]
 pub enum OpenRequest<R: Reader, O = <R as Reader>::Offset> {
     /// Push what memory holds.
     Memory {
@@ -89,8 +92,19 @@ pub enum OpenRequest<R: Reader, O = <R as Reader>::Offset> {
     },
 }
 
+// A copy, and not a clone of each field, which takes long to prove.
+impl<R: Reader + Copy, O: Copy> Clone for OpenRequest<R, O> {
+    ghost is_clone = { λ x y. y ≡ x };
+
+    ghost is_infallible = { λ _. ⊤ };
+
+    fn clone(&self) -> Result<Self, AllocError> {
+        Ok(*self)
+    }
+}
+
 /// Where an evaluation stands.
-#[derive(Clone, Copy)]
+#[derive(Copy)]
 pub enum EvaluationState<R: Reader, O = <R as Reader>::Offset> {
     /// Nothing was evaluated yet; the initial value, where one is set.
     Start(Option<u64>),
@@ -104,8 +118,19 @@ pub enum EvaluationState<R: Reader, O = <R as Reader>::Offset> {
     Failed(Error),
 }
 
+// A copy too.
+impl<R: Reader + Copy, O: Copy> Clone for EvaluationState<R, O> {
+    ghost is_clone = { λ x y. y ≡ x };
+
+    ghost is_infallible = { λ _. ⊤ };
+
+    fn clone(&self) -> Result<Self, AllocError> {
+        Ok(*self)
+    }
+}
+
 /// What a resume is given, by the request that it answers.
-#[derive(Clone, Copy)]
+#[derive(Copy)]
 pub enum Given<R> {
     /// What memory holds.
     Memory(Value),
@@ -131,4 +156,15 @@ pub enum Given<R> {
     AtLocation(R),
     /// A type.
     BaseType(ValueType),
+}
+
+// A copy too.
+impl<R: Copy> Clone for Given<R> {
+    ghost is_clone = { λ x y. y ≡ x };
+
+    ghost is_infallible = { λ _. ⊤ };
+
+    fn clone(&self) -> Result<Self, AllocError> {
+        Ok(*self)
+    }
 }

@@ -1,4 +1,7 @@
+ghost use Rattle.std.specs.Prelude.{◌≡◌, ⊤};
+
 use dwarf_base::{DebugAddrIndex, DebugInfoOffset, Reader, Register, UnitOffset};
+use std::alloc::AllocError;
 
 /// Where a called expression stands (DWARF 5, section 2.5.1.5).
 #[derive(Clone, Copy, Debug, PartialEq, Eq)]
@@ -12,7 +15,7 @@ pub enum DieReference<T = usize> {
 /// One operation of an expression, with its operands (DWARF 5, sections 2.5 and 2.6).
 ///
 /// The base type at offset 0 is the generic type.
-#[derive(Clone, Copy, Debug, PartialEq, Eq)]
+#[derive(Copy, Debug, PartialEq, Eq)]
 pub enum Operation<R: Reader, O = <R as Reader>::Offset> {
     /// Pop an address and push what memory holds there: `DW_OP_deref`, `DW_OP_deref_size`, `DW_OP_deref_type` and,
     /// with an address space, `DW_OP_xderef`, `DW_OP_xderef_size`, `DW_OP_xderef_type`.
@@ -226,4 +229,15 @@ pub enum Operation<R: Reader, O = <R as Reader>::Offset> {
         /// Where the variable is described.
         offset: DebugInfoOffset<O>,
     },
+}
+
+// A copy, and not a clone of each field, which takes long to prove.
+impl<R: Reader + Copy, O: Copy> Clone for Operation<R, O> {
+    ghost is_clone = { λ x y. y ≡ x };
+
+    ghost is_infallible = { λ _. ⊤ };
+
+    fn clone(&self) -> Result<Self, AllocError> {
+        Ok(*self)
+    }
 }

@@ -107,7 +107,33 @@ fn respond<'a, S: EvaluationStorage<Text<'a>>>(
     ensures { IfOk result (λ replied. Admits replied evaluation.new.status) }
 {
     match request {
-        EvaluationResult::Complete => Ok(EvaluationResult::Complete),
+        EvaluationResult::RequiresFrameBase => evaluation.resume_with_frame_base(0x7ffe_1000),
+        EvaluationResult::RequiresTls(_) => evaluation.resume_with_tls(0x10),
+        EvaluationResult::RequiresCallFrameCfa => {
+            evaluation.resume_with_call_frame_cfa(0x7ffe_2000)
+        }
+        EvaluationResult::RequiresAtLocation(_) => evaluation.resume_with_at_location(called),
+        EvaluationResult::RequiresParameterRef(_) => evaluation.resume_with_parameter_ref(5),
+        EvaluationResult::RequiresRelocatedAddress(address) => {
+            evaluation.resume_with_relocated_address(address)
+        }
+        EvaluationResult::RequiresIndexedAddress { .. } => {
+            evaluation.resume_with_indexed_address(5)
+        }
+        _ => respond_with_value(evaluation, request),
+    }
+}
+
+/// Gives the request a made-up value or type, if it wants one, and else hands it back.
+#[inline(always)]
+fn respond_with_value<'a, S: EvaluationStorage<Text<'a>>>(
+    evaluation: &mut Evaluation<Text<'a>, S>,
+    request: EvaluationResult<Text<'a>>,
+) -> Result<EvaluationResult<Text<'a>>>
+    requires { Admits request evaluation.old.status }
+    ensures { IfOk result (λ replied. Admits replied evaluation.new.status) }
+{
+    match request {
         EvaluationResult::RequiresMemory { .. } => {
             evaluation.resume_with_memory(Value::Generic(0x1234))
         }
@@ -119,25 +145,13 @@ fn respond<'a, S: EvaluationStorage<Text<'a>>>(
         | EvaluationResult::RequiresWasmStack { index } => {
             evaluation.resume_with_wasm_value(Value::U32(index))
         }
-        EvaluationResult::RequiresFrameBase => evaluation.resume_with_frame_base(0x7ffe_1000),
-        EvaluationResult::RequiresTls(_) => evaluation.resume_with_tls(0x10),
-        EvaluationResult::RequiresCallFrameCfa => {
-            evaluation.resume_with_call_frame_cfa(0x7ffe_2000)
-        }
-        EvaluationResult::RequiresAtLocation(_) => evaluation.resume_with_at_location(called),
         EvaluationResult::RequiresEntryValue(_) => {
             evaluation.resume_with_entry_value(Value::Generic(5))
-        }
-        EvaluationResult::RequiresParameterRef(_) => evaluation.resume_with_parameter_ref(5),
-        EvaluationResult::RequiresRelocatedAddress(address) => {
-            evaluation.resume_with_relocated_address(address)
-        }
-        EvaluationResult::RequiresIndexedAddress { .. } => {
-            evaluation.resume_with_indexed_address(5)
         }
         EvaluationResult::RequiresBaseType(_) => {
             evaluation.resume_with_base_type(ValueType::Generic)
         }
+        _ => Ok(request),
     }
 }
 

@@ -1,7 +1,10 @@
 //! An evaluation that answers every request: the loop of a debugger.
 
-ghost use Rattle.std.specs.Prelude.{OnOk};
+ghost use Rattle.std.specs.Prelude.{◌≢◌, ◌<◌, IfOk, OnOk};
+ghost use Rattle.dwarf_eval.specs.Bounds.{calls_left};
 ghost use Rattle.dwarf_eval.specs.Evaluation.{IsClosed, IsComplete};
+ghost use Rattle.dwarf_eval.specs.Permits.{Admits};
+ghost use Rattle.dwarf_eval.specs.declared.op.results.EvaluationResult.TheVariants as reply;
 
 use dwarf_base::{DebugAddrIndex, Reader, Register, Result, UnitOffset};
 use dwarf_expr::eval::Evaluation;
@@ -49,7 +52,7 @@ pub trait Process<R: Reader> {
 }
 
 /// Evaluates to the end, with the process's answer to each request.
-pub fn complete<R: Reader + Copy + PartialEq, S: EvaluationStorage<R>, P: Process<R>>(
+pub fn complete<R: Reader + Copy, S: EvaluationStorage<R>, P: Process<R>>(
     evaluation: &mut Evaluation<R, S>,
     process: &P,
 ) -> Result<()>
@@ -57,52 +60,69 @@ pub fn complete<R: Reader + Copy + PartialEq, S: EvaluationStorage<R>, P: Proces
     ensures { OnOk result (IsComplete evaluation.new.status) }
 {
     let mut request = evaluation.evaluate()?;
-    'requests: while request != EvaluationResult::Complete {
+    'requests: loop {
         request = match request {
             EvaluationResult::Complete => break,
-            EvaluationResult::RequiresMemory {
-                address,
-                size,
-                space,
-                ..
-            } => { evaluation.resume_with_memory(process.memory(address, size, space)?)? }
-            EvaluationResult::RequiresRegister {
-                register,
-                base_type,
-            } => { evaluation.resume_with_register(process.register(register, base_type)?)? }
-            EvaluationResult::RequiresWasmLocal { index }
-            | EvaluationResult::RequiresWasmGlobal { index }
-            | EvaluationResult::RequiresWasmStack { index } => {
-                evaluation.resume_with_wasm_value(process.wasm_value(index)?)?
-            }
-            EvaluationResult::RequiresFrameBase => {
-                evaluation.resume_with_frame_base(process.frame_base()?)?
-            }
-            EvaluationResult::RequiresTls(offset) => {
-                evaluation.resume_with_tls(process.thread_local(offset)?)?
-            }
-            EvaluationResult::RequiresCallFrameCfa => {
-                evaluation.resume_with_call_frame_cfa(process.call_frame_cfa()?)?
-            }
-            EvaluationResult::RequiresAtLocation(entry) => {
-                evaluation.resume_with_at_location(process.expression_at(entry)?)?
-            }
-            EvaluationResult::RequiresEntryValue(expression) => {
-                evaluation.resume_with_entry_value(process.entry_value(expression)?)?
-            }
-            EvaluationResult::RequiresParameterRef(entry) => {
-                evaluation.resume_with_parameter_ref(process.parameter(entry)?)?
-            }
-            EvaluationResult::RequiresRelocatedAddress(address) => {
-                evaluation.resume_with_relocated_address(process.relocated(address)?)?
-            }
-            EvaluationResult::RequiresIndexedAddress { index, relocate } => {
-                evaluation.resume_with_indexed_address(process.indexed_address(index, relocate)?)?
-            }
-            EvaluationResult::RequiresBaseType(entry) => {
-                evaluation.resume_with_base_type(process.base_type(entry)?)?
-            }
+            request => answer(evaluation, request, process)?,
         };
     }
     Ok(())
+}
+
+/// Goes on with the process's answer to the request.
+fn answer<R: Reader + Copy, S: EvaluationStorage<R>, P: Process<R>>(
+    evaluation: &mut Evaluation<R, S>,
+    request: EvaluationResult<R>,
+    process: &P,
+) -> Result<EvaluationResult<R>>
+    requires open { Admits request evaluation.old.status }
+    requires asks { request ≢ reply.Complete }
+    ensures admits { IfOk result (λ replied. Admits replied evaluation.new.status) }
+    ensures fewer { IfOk result (λ replied. calls_left evaluation.new < calls_left evaluation.old) }
+{
+    match request {
+        EvaluationResult::Complete => unreachable!(),
+        EvaluationResult::RequiresMemory {
+            address,
+            size,
+            space,
+            ..
+        } => evaluation.resume_with_memory(process.memory(address, size, space)?),
+        EvaluationResult::RequiresRegister {
+            register,
+            base_type,
+        } => evaluation.resume_with_register(process.register(register, base_type)?),
+        EvaluationResult::RequiresWasmLocal { index }
+        | EvaluationResult::RequiresWasmGlobal { index }
+        | EvaluationResult::RequiresWasmStack { index } => {
+            evaluation.resume_with_wasm_value(process.wasm_value(index)?)
+        }
+        EvaluationResult::RequiresFrameBase => {
+            evaluation.resume_with_frame_base(process.frame_base()?)
+        }
+        EvaluationResult::RequiresTls(offset) => {
+            evaluation.resume_with_tls(process.thread_local(offset)?)
+        }
+        EvaluationResult::RequiresCallFrameCfa => {
+            evaluation.resume_with_call_frame_cfa(process.call_frame_cfa()?)
+        }
+        EvaluationResult::RequiresAtLocation(entry) => {
+            evaluation.resume_with_at_location(process.expression_at(entry)?)
+        }
+        EvaluationResult::RequiresEntryValue(expression) => {
+            evaluation.resume_with_entry_value(process.entry_value(expression)?)
+        }
+        EvaluationResult::RequiresParameterRef(entry) => {
+            evaluation.resume_with_parameter_ref(process.parameter(entry)?)
+        }
+        EvaluationResult::RequiresRelocatedAddress(address) => {
+            evaluation.resume_with_relocated_address(process.relocated(address)?)
+        }
+        EvaluationResult::RequiresIndexedAddress { index, relocate } => {
+            evaluation.resume_with_indexed_address(process.indexed_address(index, relocate)?)
+        }
+        EvaluationResult::RequiresBaseType(entry) => {
+            evaluation.resume_with_base_type(process.base_type(entry)?)
+        }
+    }
 }

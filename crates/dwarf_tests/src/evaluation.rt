@@ -1,16 +1,15 @@
 ghost use Rattle.std.specs.Borrow.{ffalse};
-ghost use Rattle.std.specs.Prelude.{◌≡◌, None};
+ghost use Rattle.std.specs.Prelude.{◌≡◌, ◌≤◌, [], None};
 ghost use Rattle.dwarf_meaning.specs.Rest.{Start};
-ghost use Rattle.dwarf_eval.specs.Permits.{IsOpenFor};
 
 use arrayvec::ArrayVec;
 use dwarf_base::{
-    DebugAddrIndex, Encoding, EndianSlice, Format, Reader, Register, Result, RunTimeEndian,
-    UnitOffset,
+    DebugAddrIndex, Encoding, EndianSlice, Format, Reader, Register, RunTimeEndian, UnitOffset,
 };
-use dwarf_eval::eval::{Evaluation, Status, WaitingKind};
+use dwarf_eval::eval::{Evaluation, Status};
 use dwarf_eval::op::{DieReference, EvaluationResult, Expression, Location, Piece};
-use dwarf_store::{EvaluationStorage, StoreOnHeap};
+use dwarf_replay::{Answer, Replayed, Step, replay};
+use dwarf_store::{ArrayLike, EvaluationStorage, StoreOnHeap};
 use dwarf_value::Value::{self, Generic};
 use dwarf_value::ValueType;
 use std::alloc::{AllocError, Allocator, Global};
@@ -60,42 +59,167 @@ pub(crate) fn little(text: &[u8]) -> Slice<'_> {
     EndianSlice::new(text, RunTimeEndian::Little)
 }
 
-/// A fresh evaluation on the heap.
-pub(crate) fn on_heap(alloc: Global, text: &[u8]) -> Evaluation<Slice<'_>, StoreOnHeap<Global>>
-    ensures { result.status ≡ Start None }
-{
-    Evaluation::new(alloc, little(text), SMALL)
+/// A call that is complete.
+pub(crate) const COMPLETE: Answer<Slice<'static>> = Answer(Ok(EvaluationResult::Complete));
+
+/// A text and steps, what the calls of a replay give, how it ends, and where the evaluation then stands.
+#[derive(Clone, Copy)]
+pub(crate) struct Case<'a> {
+    pub(crate) text: &'a [u8],
+    pub(crate) steps: &'a [Step<Slice<'a>>],
+    pub(crate) told: &'a [Answer<Slice<'a>>],
+    pub(crate) end: Replayed<Slice<'a>>,
+    pub(crate) status: Status,
+    pub(crate) value: Option<Value>,
+    pub(crate) pieces: &'a [Piece<Slice<'a>>],
 }
 
-/// A fresh evaluation over lists of these capacities.
-pub(crate) fn over_lists<const STACK: usize, const CALLERS: usize, const PIECES: usize>(
-    text: &[u8],
-) -> Evaluation<Slice<'_>, Fixed<STACK, CALLERS, PIECES>>
-    ensures { result.status ≡ Start None }
+/// A case that ends with no result.
+pub(crate) fn without_result<'a>(
+    text: &'a [u8],
+    steps: &'a [Step<Slice<'a>>],
+    told: &'a [Answer<Slice<'a>>],
+    end: Replayed<Slice<'a>>,
+    status: Status,
+) -> Case<'a> {
+    Case {
+        text,
+        steps,
+        told,
+        end,
+        status,
+        value: None,
+        pieces: &[],
+    }
+}
+
+/// A case that is complete.
+pub(crate) fn with_result<'a>(
+    text: &'a [u8],
+    steps: &'a [Step<Slice<'a>>],
+    told: &'a [Answer<Slice<'a>>],
+    value: Option<Value>,
+    pieces: &'a [Piece<Slice<'a>>],
+) -> Case<'a> {
+    Case {
+        text,
+        steps,
+        told,
+        end: Replayed::Done,
+        status: Status::Complete,
+        value,
+        pieces,
+    }
+}
+
+/// How a replay ended, and where the evaluation then stood.
+#[derive(Drop)]
+pub(crate) struct Outcome<R: Reader + Copy> {
+    pub(crate) end: Replayed<R>,
+    pub(crate) status: Status,
+    pub(crate) value: Option<Value>,
+    pub(crate) pieces: Vec<Piece<R>>,
+}
+
+/// Replays the steps. What it gives has no contract, since the tests look at it.
+pub(crate) fn replayed<R: Reader + Copy, S: EvaluationStorage<R>, L: ArrayLike<Item = Answer<R>>>(
+    rt: &impl Abort,
+    alloc: Global,
+    eval: &mut Evaluation<R, S>,
+    steps: &[Step<R>],
+    answers: &mut L,
+) -> Outcome<R>
+    requires fresh { eval.old.status ≡ Start None }
+    requires empty { L.items answers.old ≡ [] }
 {
-    Evaluation::new_in(
-        little(text),
+    let end = replay(eval, steps, answers);
+    let status = eval.status();
+    let mut value = None;
+    let mut pieces = Vec::new(alloc);
+    if matches!(status, Status::Complete) {
+        value = eval.value_result();
+        assert!(rt; pieces.extend_from_slice(eval.as_result()).is_ok());
+    }
+    Outcome {
+        end,
+        status,
+        value,
+        pieces,
+    }
+}
+
+/// The outcome and the answers are those that the case names.
+pub(crate) fn expect(
+    rt: &impl Abort,
+    outcome: &Outcome<Slice<'_>>,
+    answers: &[Answer<Slice<'_>>],
+    case: &Case<'_>,
+) {
+    assert!(rt; answers == case.told, "{:?}", case.text);
+    assert!(rt; outcome.end == case.end, "{:?}", case.text);
+    assert!(rt; outcome.status == case.status, "{:?}", case.text);
+    assert!(rt; outcome.value == case.value, "{:?}", case.text);
+    assert!(rt; outcome.pieces.as_slice() == case.pieces, "{:?}", case.text);
+}
+
+/// Replays the case on a fresh evaluation.
+pub(crate) fn expect_of<'a, S: EvaluationStorage<Slice<'a>>>(
+    rt: &impl Abort,
+    alloc: Global,
+    mut eval: Evaluation<Slice<'a>, S>,
+    case: &Case<'a>,
+)
+    requires { eval.status ≡ Start None }
+{
+    let mut answers = Vec::new(alloc);
+    let outcome = replayed(rt, alloc, &mut eval, case.steps, &mut answers);
+    expect(rt, &outcome, answers.as_slice(), case);
+}
+
+// The pieces are handed over, if the evaluation is complete.
+fn expect_result<'a, A: Allocator + Copy>(
+    rt: &impl Abort,
+    eval: Evaluation<Slice<'a>, StoreOnHeap<A>>,
+    pieces: &[Piece<Slice<'a>>],
+) {
+    if matches!(eval.status(), Status::Complete) {
+        assert!(rt; eval.result().as_slice() == pieces);
+    }
+}
+
+/// Replays the case on the heap, with the answers in a list of this capacity.
+pub(crate) fn expect_with_room<const CAP: usize>(rt: &impl Abort, alloc: Global, case: &Case<'_>)
+    requires { CAP ≤ 13 }
+{
+    let mut eval = Evaluation::new(alloc, little(case.text), SMALL);
+    let mut answers = ArrayVec::<Answer<Slice<'_>>, CAP>::new();
+    let outcome = replayed(rt, alloc, &mut eval, case.steps, &mut answers);
+    expect(rt, &outcome, answers.as_slice(), case);
+    expect_result(rt, eval, case.pieces);
+}
+
+/// Replays the case over lists of these capacities.
+pub(crate) fn expect_over_lists<const STACK: usize, const CALLERS: usize, const PIECES: usize>(
+    rt: &impl Abort,
+    alloc: Global,
+    case: &Case<'_>,
+)
+    requires stack { STACK ≤ 13 }
+    requires callers { CALLERS ≤ 13 }
+    requires pieces { PIECES ≤ 13 }
+{
+    let eval: Evaluation<Slice<'_>, Fixed<STACK, CALLERS, PIECES>> = Evaluation::new_in(
+        little(case.text),
         SMALL,
         ArrayVec::new(),
         ArrayVec::new(),
         ArrayVec::new(),
-    )
-}
-
-/// Complete, with this value and these pieces.
-pub(crate) fn expect_complete<'a, S: EvaluationStorage<Slice<'a>>>(
-    rt: &impl Abort,
-    eval: &Evaluation<Slice<'a>, S>,
-    value: Option<Value>,
-    pieces: &[Piece<Slice<'a>>],
-) {
-    assert!(rt; eval.status() == Status::Complete);
-    assert!(rt; eval.value_result() == value);
-    assert!(rt; eval.as_result() == pieces);
+    );
+    expect_of(rt, alloc, eval, case);
 }
 
 /// A piece of no size: the whole variable.
-fn whole(location: Location<Slice<'_>>) -> Piece<Slice<'_>> {
+pub(crate) fn whole(location: Location<Slice<'_>>) -> Piece<Slice<'_>> {
     Piece {
         size_in_bits: None,
         bit_offset: None,
@@ -103,87 +227,53 @@ fn whole(location: Location<Slice<'_>>) -> Piece<Slice<'_>> {
     }
 }
 
-/// Complete, with this value, and one piece at this address.
-pub(crate) fn expect_value<'a, S: EvaluationStorage<Slice<'a>>>(
-    rt: &impl Abort,
-    eval: &Evaluation<Slice<'a>, S>,
-    value: Value,
-    address: u64,
-) {
-    expect_complete(
-        rt,
-        eval,
-        Some(value),
-        &[whole(Location::Address { address })],
-    );
-}
-
-// Evaluates where no request is open. It has no contract, as the tests look at what it gives.
-fn evaluate<R: Reader + Copy, S: EvaluationStorage<R>>(
-    rt: &impl Abort,
-    eval: &mut Evaluation<R, S>,
-) -> Result<EvaluationResult<R>> {
-    assert!(rt; !matches!(eval.status(), Status::Waiting(_)));
-    eval.evaluate()
-}
-
-// A new evaluation of `33 97 22`, with an object's address and at most three operations, gives 8.
-fn expect_eight<'a, S: EvaluationStorage<Slice<'a>>>(
-    rt: &impl Abort,
-    mut eval: Evaluation<Slice<'a>, S>,
-)
-    requires { eval.status ≡ Start None }
-{
-    assert!(rt; eval.status() == Status::Start { initial: false });
-    eval.set_initial_value(1);
-    assert!(rt; eval.status() == Status::Start { initial: true });
-    eval.set_object_address(5);
-    eval.set_max_iterations(3);
-    assert!(rt; evaluate(rt, &mut eval) == Ok(EvaluationResult::Complete));
-    expect_value(rt, &eval, Generic(8), 8);
-    assert!(rt; evaluate(rt, &mut eval) == Ok(EvaluationResult::Complete));
-}
-
+// With an initial value of 1, an object at 5 and at most three operations, `33 97 22` is 8.
 #[test]
 fn ways_to_begin(rt: HostRuntime) {
-    let text = little(&[0x33, 0x97, 0x22]);
-    expect_eight(&rt, Evaluation::new(rt.alloc(), text, SMALL));
-    expect_eight(&rt, Expression(text).evaluation(rt.alloc(), SMALL));
-    let on_heap: Evaluation<Slice<'static>, StoreOnHeap<Global>> = Evaluation::new_in(
+    let steps = [
+        Step::InitialValue(1),
+        Step::ObjectAddress(5),
+        Step::MaxIterations(3),
+        Step::Evaluate,
+        Step::Evaluate,
+    ];
+    let pieces = [whole(Location::Address { address: 8 })];
+    let case = with_result(
+        &[0x33, 0x97, 0x22],
+        &steps,
+        &[COMPLETE; 2],
+        Some(Generic(8)),
+        &pieces,
+    );
+    let text = little(case.text);
+    let alloc = rt.alloc();
+    expect_with_room::<2>(&rt, alloc, &case);
+    expect_of(&rt, alloc, Expression(text).evaluation(alloc, SMALL), &case);
+    let lists: Evaluation<Slice<'_>, StoreOnHeap<Global>> = Evaluation::new_in(
         text,
         SMALL,
-        Vec::new(rt.alloc()),
-        Vec::new(rt.alloc()),
-        Vec::new(rt.alloc()),
+        Vec::new(alloc),
+        Vec::new(alloc),
+        Vec::new(alloc),
     );
-    expect_eight(&rt, on_heap);
-    expect_eight(&rt, over_lists::<3, 0, 1>(&[0x33, 0x97, 0x22]));
+    expect_of(&rt, alloc, lists, &case);
+    expect_over_lists::<3, 0, 1>(&rt, alloc, &case);
 }
 
 #[test]
 fn results_on_the_heap(rt: HostRuntime) {
-    let mut eval = on_heap(rt.alloc(), b"\x9e\x05hello");
-    assert!(rt; evaluate(&rt, &mut eval) == Ok(EvaluationResult::Complete));
     let hello = whole(Location::Bytes {
         value: little(b"hello"),
     });
-    expect_complete(&rt, &eval, None, &[hello]);
-    assert!(rt; eval.status() == Status::Complete);
-    assert!(rt; eval.result().as_slice() == [hello].as_slice());
-}
-
-// The request is open, and its answer is of this kind.
-fn expect_request<'a, S: EvaluationStorage<Slice<'a>>>(
-    rt: &impl Abort,
-    eval: &Evaluation<Slice<'a>, S>,
-    given: Result<EvaluationResult<Slice<'a>>>,
-    request: EvaluationResult<Slice<'a>>,
-    kind: WaitingKind,
-)
-    ensures { IsOpenFor kind eval.now.status }
-{
-    assert!(rt; given == Ok(request));
-    assert!(rt; eval.status() == Status::Waiting(kind));
+    let pieces = [hello];
+    let case = with_result(
+        b"\x9e\x05hello",
+        &[Step::Evaluate],
+        &[COMPLETE],
+        None,
+        &pieces,
+    );
+    expect_with_room::<1>(&rt, rt.alloc(), &case);
 }
 
 // Asks for each answer once, and adds the answers up.
@@ -193,121 +283,62 @@ static EACH_REQUEST: &[u8] = &[
     0x22, 0xa1, 0x05, 0x22, 0x98, 0x05, 0x00, 0x22, 0xa8, 0x07,
 ];
 
-// The answers that are values.
-fn answer_values<'a, S: EvaluationStorage<Slice<'a>>>(
-    rt: &impl Abort,
-    eval: &mut Evaluation<Slice<'a>, S>,
-) -> Result<EvaluationResult<Slice<'a>>> {
-    let memory = EvaluationResult::RequiresMemory {
-        address: 1,
-        size: 4,
-        space: None,
-        base_type: UnitOffset(0),
-    };
-    let given = evaluate(rt, eval);
-    expect_request(rt, eval, given, memory, WaitingKind::Memory);
-    let register = EvaluationResult::RequiresRegister {
-        register: Register(0),
-        base_type: UnitOffset(0),
-    };
-    let given = eval.resume_with_memory(Generic(1));
-    expect_request(rt, eval, given, register, WaitingKind::Register);
-    let global = EvaluationResult::RequiresWasmGlobal { index: 1 };
-    let given = eval.resume_with_register(Generic(2));
-    expect_request(rt, eval, given, global, WaitingKind::WasmValue);
-    let entry = EvaluationResult::RequiresEntryValue(Expression(little(&[0x9c])));
-    let given = eval.resume_with_wasm_value(Generic(4));
-    expect_request(rt, eval, given, entry, WaitingKind::EntryValue);
-    eval.resume_with_entry_value(Generic(8))
-}
-
-// The answers that are of the frame, the thread and the caller, after an entry value.
-fn answer_frames<'a, S: EvaluationStorage<Slice<'a>>>(
-    rt: &impl Abort,
-    eval: &mut Evaluation<Slice<'a>, S>,
-    given: Result<EvaluationResult<Slice<'a>>>,
-) -> Result<EvaluationResult<Slice<'a>>> {
-    expect_request(
-        rt,
-        eval,
-        given,
+// What it asks for.
+fn requests<'a>(entry: Slice<'a>) -> [Answer<Slice<'a>>; 13] {
+    [
+        EvaluationResult::RequiresMemory {
+            address: 1,
+            size: 4,
+            space: None,
+            base_type: UnitOffset(0),
+        },
+        EvaluationResult::RequiresRegister {
+            register: Register(0),
+            base_type: UnitOffset(0),
+        },
+        EvaluationResult::RequiresWasmGlobal { index: 1 },
+        EvaluationResult::RequiresEntryValue(Expression(entry)),
         EvaluationResult::RequiresFrameBase,
-        WaitingKind::FrameBase,
-    );
-    let given = eval.resume_with_frame_base(16);
-    expect_request(
-        rt,
-        eval,
-        given,
         EvaluationResult::RequiresTls(5),
-        WaitingKind::Tls,
-    );
-    let given = eval.resume_with_tls(32);
-    expect_request(
-        rt,
-        eval,
-        given,
         EvaluationResult::RequiresCallFrameCfa,
-        WaitingKind::CallFrameCfa,
-    );
-    let given = eval.resume_with_call_frame_cfa(64);
-    expect_request(
-        rt,
-        eval,
-        given,
         EvaluationResult::RequiresParameterRef(UnitOffset(7)),
-        WaitingKind::ParameterRef,
-    );
-    eval.resume_with_parameter_ref(128)
-}
-
-// The answers that are of the program and its debug information, after a parameter.
-fn answer_addresses<'a, S: EvaluationStorage<Slice<'a>>>(
-    rt: &impl Abort,
-    eval: &mut Evaluation<Slice<'a>, S>,
-    given: Result<EvaluationResult<Slice<'a>>>,
-) -> Result<EvaluationResult<Slice<'a>>> {
-    expect_request(
-        rt,
-        eval,
-        given,
         EvaluationResult::RequiresRelocatedAddress(0x10),
-        WaitingKind::RelocatedAddress,
-    );
-    let indexed = EvaluationResult::RequiresIndexedAddress {
-        index: DebugAddrIndex(5),
-        relocate: true,
-    };
-    let given = eval.resume_with_relocated_address(256);
-    expect_request(rt, eval, given, indexed, WaitingKind::IndexedAddress);
-    let call = EvaluationResult::RequiresAtLocation(DieReference::UnitRef(UnitOffset(5)));
-    let given = eval.resume_with_indexed_address(512);
-    expect_request(rt, eval, given, call, WaitingKind::AtLocation);
-    let given = eval.resume_with_at_location(little(&[0x0a, 0x00, 0x04]));
-    expect_request(
-        rt,
-        eval,
-        given,
+        EvaluationResult::RequiresIndexedAddress {
+            index: DebugAddrIndex(5),
+            relocate: true,
+        },
+        EvaluationResult::RequiresAtLocation(DieReference::UnitRef(UnitOffset(5))),
         EvaluationResult::RequiresBaseType(UnitOffset(7)),
-        WaitingKind::BaseType,
-    );
-    eval.resume_with_base_type(ValueType::U16)
+        EvaluationResult::Complete,
+    ]
+    .map(|request| Answer(Ok(request)))
 }
 
-// Each request is answered by another power of two, and the value is their sum.
-fn expect_sum<'a, S: EvaluationStorage<Slice<'a>>>(
-    rt: &impl Abort,
-    mut eval: Evaluation<Slice<'a>, S>,
-) {
-    let given = answer_values(rt, &mut eval);
-    let given = answer_frames(rt, &mut eval, given);
-    let given = answer_addresses(rt, &mut eval, given);
-    assert!(rt; given == Ok(EvaluationResult::Complete));
-    expect_value(rt, &eval, Value::U16(2047), 2047);
+// Each of its answers is another power of two.
+fn answers<'a>(callee: Slice<'a>) -> [Step<Slice<'a>>; 13] {
+    [
+        Step::Evaluate,
+        Step::Memory(Generic(1)),
+        Step::Register(Generic(2)),
+        Step::WasmValue(Generic(4)),
+        Step::EntryValue(Generic(8)),
+        Step::FrameBase(16),
+        Step::Tls(32),
+        Step::CallFrameCfa(64),
+        Step::ParameterRef(128),
+        Step::RelocatedAddress(256),
+        Step::IndexedAddress(512),
+        Step::AtLocation(callee),
+        Step::BaseType(ValueType::U16),
+    ]
 }
 
 #[test]
 fn each_request(rt: HostRuntime) {
-    expect_sum(&rt, on_heap(rt.alloc(), EACH_REQUEST));
-    expect_sum(&rt, over_lists::<2, 1, 1>(EACH_REQUEST));
+    let told = requests(little(&[0x9c]));
+    let steps = answers(little(&[0x0a, 0x00, 0x04]));
+    let pieces = [whole(Location::Address { address: 2047 })];
+    let case = with_result(EACH_REQUEST, &steps, &told, Some(Value::U16(2047)), &pieces);
+    expect_with_room::<13>(&rt, rt.alloc(), &case);
+    expect_over_lists::<2, 1, 1>(&rt, rt.alloc(), &case);
 }

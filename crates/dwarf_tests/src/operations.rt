@@ -7,6 +7,7 @@ use dwarf_base::{
 };
 use dwarf_eval::op::Expression;
 use dwarf_op::Operation;
+use std::process::Abort;
 
 fn is_cut_off(outcome: Result<Operation<Slice<'_>>>) -> bool {
     matches!(outcome, Err(Error::UnexpectedEof(_)))
@@ -61,29 +62,48 @@ fn refused_operations(rt: HostRuntime) {
     );
 }
 
+// The next three items, and the places before, between and after them.
+fn three_items<'a>(
+    expression: Expression<Slice<'a>>,
+) -> ([Result<Option<Operation<Slice<'a>>>>; 3], [usize; 4]) {
+    let mut operations = expression.operations(SMALL);
+    let start = operations.offset_from(&expression);
+    let first = operations.next();
+    let second_place = operations.offset_from(&expression);
+    let second = operations.next();
+    let third_place = operations.offset_from(&expression);
+    let third = operations.next();
+    let end = operations.offset_from(&expression);
+    (
+        [first, second, third],
+        [start, second_place, third_place, end],
+    )
+}
+
 #[test]
 fn iteration(rt: HostRuntime) {
-    let expression = Expression(little(&[0x31, 0x93]));
     let one = Operation::UnsignedConstant { value: 1 };
-    let mut operations = expression.operations(SMALL);
-    assert!(rt; operations.offset_from(&expression) == 0);
-    assert!(rt; operations.next() == Ok(Some(one)));
-    assert!(rt; operations.offset_from(&expression) == 1);
-    assert!(rt; matches!(operations.next(), Err(Error::UnexpectedEof(_))));
-    assert!(rt; operations.offset_from(&expression) == 2);
-    assert!(rt; operations.next() == Ok(None));
-    assert!(rt; operations.offset_from(&expression) == 2);
+    let ([first, second, third], places) = three_items(Expression(little(&[0x31, 0x93])));
+    assert!(rt; places == [0, 1, 2, 2]);
+    assert!(rt; first == Ok(Some(one)));
+    assert!(rt; matches!(second, Err(Error::UnexpectedEof(_))));
+    assert!(rt; third == Ok(None));
+}
 
-    let mut operations = expression.operations(SMALL);
-    assert!(rt; Iterator::next(&mut operations) == Some(Ok(one)));
-    assert!(rt;
-        matches!(
-            Iterator::next(&mut operations),
-            Some(Err(Error::UnexpectedEof(_)))
-        )
-    );
-    assert!(rt; Iterator::next(&mut operations) == None);
-    assert!(rt; operations.offset_from(&expression) == 2);
+// Counts the items of an expression by `for`. There are at most as many as bytes, of which the last alone may be a
+// fault. They begin with these operations.
+fn count_items(rt: &impl Abort, text: &[u8], wanted: &[Operation<Slice<'_>>]) -> usize {
+    let mut count = 0;
+    let mut failed = false;
+    for item in Expression(little(text)).operations(SMALL) {
+        assert!(rt; count < text.len() && !failed, "{text:?}");
+        if count < wanted.len() {
+            assert!(rt; item == Ok(wanted[count]), "{text:?}");
+        }
+        failed = item.is_err();
+        count += 1;
+    }
+    count
 }
 
 // Expressions, some of them cut off.
@@ -102,18 +122,11 @@ static CUT: [&'static [u8]; 8] = [
     &[0xa0, 0x00, 0x00, 0x00, 0x00, 0x00],
 ];
 
-// Each front has at most as many operations as bytes, of which only the last may be cut off or none.
 #[test]
 fn iteration_in_a_loop(rt: HostRuntime) {
     for text in CUT {
         for len in 0..=text.len() {
-            let mut count = 0;
-            let mut failed = false;
-            for item in Expression(little(&text[..len])).operations(SMALL) {
-                assert!(rt; count < len && !failed, "{text:?}");
-                failed = item.is_err();
-                count += 1;
-            }
+            assert!(rt; count_items(&rt, &text[..len], &[]) <= len);
         }
     }
     let items = [
@@ -123,13 +136,9 @@ fn iteration_in_a_loop(rt: HostRuntime) {
             base_type: UnitOffset(1893),
         },
     ];
-    let mut count = 0;
-    for item in Expression(little(CUT[4])).operations(SMALL) {
-        assert!(rt; count < items.len());
-        assert!(rt; item == Ok(items[count]));
-        count += 1;
-    }
-    assert!(rt; count == items.len());
+    assert!(rt; count_items(&rt, CUT[4], &items) == 3);
+    let one = Operation::UnsignedConstant { value: 1 };
+    assert!(rt; count_items(&rt, CUT[0], &[one]) == 2);
 }
 
 // Bytes that are counted in 32 bits, the lowest of a number first.

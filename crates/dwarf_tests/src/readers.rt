@@ -1,12 +1,14 @@
 ghost use Rattle.std.specs.Prelude.{false};
 ghost use Rattle.dwarf_base.specs.EndianSlice.{text_of};
 
-use dwarf_base::{Encoding, EndianSlice, Error, Format, LittleEndian, Reader, Result};
-use dwarf_eval::eval::{Evaluation, Status};
+use crate::evaluation::{SMALL, replayed};
+use dwarf_base::{EndianSlice, Error, LittleEndian, Reader, Result};
+use dwarf_eval::eval::Evaluation;
 use dwarf_eval::op::{EvaluationResult, Operation};
-use dwarf_replay::{Answer, Step, replay};
+use dwarf_replay::{Answer, Step};
 use dwarf_value::Value;
 use std::alloc::Global;
+use std::process::Abort;
 
 // Bytes of which none is left once a read was refused.
 #[derive(Clone, Copy, Debug, PartialEq, Eq)]
@@ -71,26 +73,17 @@ impl<'a> Reader for Emptying<'a> {
     }
 }
 
-const SMALL: Encoding = Encoding {
-    address_size: 4,
-    format: Format::Dwarf32,
-    version: 4,
-};
-
 // What a fresh evaluation answers at these steps, and the value that it ends with.
 fn play<'a>(
+    rt: &impl Abort,
     alloc: Global,
     text: &'a [u8],
     steps: &[Step<Emptying<'a>>],
 ) -> (Vec<Answer<Emptying<'a>>>, Option<Value>) {
     let mut eval = Evaluation::new(alloc, Emptying::new(text), SMALL);
     let mut answers = Vec::new(alloc);
-    let _ = replay(&mut eval, steps, &mut answers);
-    let value = match eval.status() {
-        Status::Complete => eval.value_result(),
-        _ => None,
-    };
-    (answers, value)
+    let outcome = replayed(rt, alloc, &mut eval, steps, &mut answers);
+    (answers, outcome.value)
 }
 
 #[test]
@@ -112,16 +105,21 @@ fn evaluates_through_a_request(rt: HostRuntime) {
     let steps = [Step::Evaluate, Step::CallFrameCfa(8)];
     let asked = Answer(Ok(EvaluationResult::RequiresCallFrameCfa));
     let done = Answer(Ok(EvaluationResult::Complete));
-    let (answers, value) = play(rt.alloc(), &[0x9c, 0x23, 0x02], &steps);
+    let (answers, value) = play(&rt, rt.alloc(), &[0x9c, 0x23, 0x02], &steps);
     assert!(rt; answers.as_slice() == [asked, done].as_slice());
     assert!(rt; value == Some(Value::Generic(10)));
 }
 
 #[test]
 fn meets_faults_in_an_evaluation(rt: HostRuntime) {
-    let (answers, _) = play(rt.alloc(), &[0x50, 0x31, 0x93], &[Step::Evaluate]);
+    let (answers, _) = play(&rt, rt.alloc(), &[0x50, 0x31, 0x93], &[Step::Evaluate]);
     let terminator = Answer(Err(Error::InvalidExpressionTerminator(1)));
     assert!(rt; answers.as_slice() == [terminator].as_slice());
-    let (answers, _) = play(rt.alloc(), &[0x31, 0x0c, 0x01, 0x02], &[Step::Evaluate]);
+    let (answers, _) = play(
+        &rt,
+        rt.alloc(),
+        &[0x31, 0x0c, 0x01, 0x02],
+        &[Step::Evaluate],
+    );
     assert!(rt; matches!(answers.as_slice(), [Answer(Err(Error::UnexpectedEof(_)))]));
 }

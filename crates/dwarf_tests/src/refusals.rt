@@ -1,8 +1,8 @@
 //! Each push of an evaluation is refused in turn.
 ghost use Rattle.std.specs.Prelude.{◌≡◌, [], None};
 
-use crate::evaluation::{SMALL, Slice, little};
-use crate::replays::{AGAIN, COMPLETE, FULL, ITSELF, replay_all};
+use crate::evaluation::{COMPLETE, SMALL, Slice, little, replayed};
+use crate::replays::{AGAIN, FULL, ITSELF};
 use dwarf_base::{Error, Reader};
 use dwarf_eval::eval::{Evaluation, Status};
 use dwarf_eval::op::Piece;
@@ -98,7 +98,7 @@ fn later_steps() -> [Step<Slice<'static>>; 13] {
 
 // An expression, its steps, what they answer with ample memory, the value and the count of pieces.
 #[derive(Clone, Copy)]
-struct Case<'a> {
+struct Refusal<'a> {
     text: &'a [u8],
     steps: &'a [Step<Slice<'a>>],
     told: &'a [Answer<Slice<'a>>],
@@ -122,7 +122,7 @@ fn expect_refused(rt: &impl Abort, answers: &[Answer<Slice<'_>>], told: &[Answer
 fn expect_push(
     rt: &impl Abort,
     alloc: Global,
-    case: &Case<'_>,
+    case: &Refusal<'_>,
     before: [u64; 3],
     is_met: bool,
 ) -> Result<(), AllocError> {
@@ -137,22 +137,18 @@ fn expect_push(
     steps.extend_from_slice(case.steps)?;
     steps.extend_from_slice(&later_steps())?;
     let mut answers = Vec::new(alloc);
-    let replayed = replay_all(&mut eval, &steps, &mut answers);
+    let outcome = replayed(rt, alloc, &mut eval, &steps, &mut answers);
     if is_met {
-        assert!(rt; replayed == Replayed::Done);
-        assert!(rt; eval.status() == Status::Failed(Error::StackFull));
+        assert!(rt; outcome.end == Replayed::Done);
+        assert!(rt; outcome.status == Status::Failed(Error::StackFull));
         expect_refused(rt, &answers, case.told);
     } else {
-        assert!(rt; answers.len() == case.told.len() + 1);
-        assert!(rt;
-            answers
-                .iter()
-                .zip(case.told)
-                .all(|(answer, told)| *answer == *told)
-        );
-        assert!(rt; eval.status() == Status::Complete);
-        assert!(rt; eval.value_result() == case.value);
-        assert!(rt; eval.as_result().len() == case.pieces);
+        // After the end `evaluate` gives `Complete` once more, and no answer is allowed.
+        assert!(rt; outcome.end == Replayed::Misplaced(case.steps.len() + 1));
+        assert!(rt; answers.split_last() == Some((&COMPLETE, case.told)));
+        assert!(rt; outcome.status == Status::Complete);
+        assert!(rt; outcome.value == case.value);
+        assert!(rt; outcome.pieces.len() == case.pieces);
     }
     Ok(())
 }
@@ -161,7 +157,7 @@ fn expect_push(
 fn expect_refusals(
     rt: &impl Abort,
     alloc: Global,
-    case: &Case<'_>,
+    case: &Refusal<'_>,
     pushes: [u64; 3],
 ) -> Result<(), AllocError> {
     for push in 0..=pushes[0] {
@@ -182,7 +178,7 @@ fn refused_pushes(rt: HostRuntime) -> Result<(), AllocError> {
     let mut sum = Vec::new(rt.alloc());
     sum.extend_from_slice(&[0x31; 40])?;
     sum.extend_from_slice(&[0x22; 39])?;
-    let case = Case {
+    let case = Refusal {
         text: &sum,
         steps: &[Step::Evaluate],
         told: &[COMPLETE],
@@ -195,7 +191,7 @@ fn refused_pushes(rt: HostRuntime) -> Result<(), AllocError> {
     for _ in 0..20 {
         registers.extend_from_slice(&[0x50, 0x93, 0x01])?;
     }
-    let case = Case {
+    let case = Refusal {
         text: &registers,
         steps: &[Step::Evaluate],
         told: &[COMPLETE],
@@ -209,7 +205,7 @@ fn refused_pushes(rt: HostRuntime) -> Result<(), AllocError> {
     steps[10] = Step::AtLocation(little(&[0x31]));
     let mut told = [ITSELF; 11];
     told[10] = COMPLETE;
-    let case = Case {
+    let case = Refusal {
         text: AGAIN,
         steps: &steps,
         told: &told,

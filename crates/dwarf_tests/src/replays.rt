@@ -1,20 +1,18 @@
-ghost use Rattle.std.specs.Prelude.{◌≡◌, [], None};
+ghost use Rattle.std.specs.Prelude.{◌≡◌, None};
 ghost use Rattle.dwarf_meaning.specs.Rest.{Start};
 
 use crate::evaluation::{
-    Refusing, SMALL, Slice, expect_complete, expect_value, little, on_heap, over_lists,
+    COMPLETE, Case, Refusing, SMALL, Slice, expect, expect_of, expect_over_lists, expect_with_room,
+    little, replayed, whole, with_result, without_result,
 };
-use arrayvec::ArrayVec;
-use dwarf_base::{Error, Reader, Register, UnitOffset};
+use dwarf_base::{Error, Register, UnitOffset};
 use dwarf_eval::eval::{Evaluation, Status, WaitingKind};
 use dwarf_eval::op::{DieReference, EvaluationResult, Location, Piece};
-use dwarf_replay::{Answer, Replayed, Step, replay};
-use dwarf_store::{ArrayLike, EvaluationStorage, StoreOnHeap};
+use dwarf_replay::{Answer, Replayed, Step};
+use dwarf_store::{EvaluationStorage, StoreOnHeap};
 use dwarf_value::Value::Generic;
-use std::alloc::{AllocError, Global};
+use std::alloc::{AllocError, Allocator, Global};
 use std::process::Abort;
-
-pub(crate) const COMPLETE: Answer<Slice<'static>> = Answer(Ok(EvaluationResult::Complete));
 
 // The expression at offset 5 of the unit is wanted.
 const ASKED: Answer<Slice<'static>> = Answer(Ok(EvaluationResult::RequiresAtLocation(
@@ -25,136 +23,129 @@ const CFA: Answer<Slice<'static>> = Answer(Ok(EvaluationResult::RequiresCallFram
 
 pub(crate) const FULL: Answer<Slice<'static>> = Answer(Err(Error::StackFull));
 
-/// Replays the steps. What it gives has no contract, as the tests look at it.
-pub(crate) fn replay_all<R: Reader + Copy, S: EvaluationStorage<R>, L: ArrayLike<Item = Answer<R>>>(
-    eval: &mut Evaluation<R, S>,
-    steps: &[Step<R>],
-    answers: &mut L,
-) -> Replayed<R>
-    requires fresh { eval.old.status ≡ Start None }
-    requires empty { L.items answers.old ≡ [] }
-{
-    replay(eval, steps, answers)
-}
+const IN_REGISTER: Location<Slice<'static>> = Location::Register {
+    register: Register(0),
+};
 
-// The answers are those.
-fn expect_answers<'a>(
-    rt: &impl Abort,
-    answers: &[Answer<Slice<'a>>],
-    told: &[Answer<Slice<'a>>],
-    text: &[u8],
-) {
-    assert!(rt; answers.len() == told.len(), "{text:?}");
-    for (answer, told) in answers.iter().zip(told) {
-        assert!(rt; *answer == *told, "{text:?}");
+fn of_32_bits(location: Location<Slice<'_>>) -> Piece<Slice<'_>> {
+    Piece {
+        size_in_bits: Some(32),
+        bit_offset: None,
+        location,
     }
 }
 
-// An expression that calls another, and ends a piece with its location.
-static CALL: [u8; 5] = [0x98, 0x05, 0x00, 0x93, 0x04];
-
-// The steps of a call give this end, keep these answers and leave the evaluation there.
-fn expect_room<'a, L: ArrayLike<Item = Answer<Slice<'a>>>>(
-    rt: &impl Abort,
-    alloc: Global,
-    mut answers: L,
-    end: Replayed<Slice<'a>>,
-    kept: &[Answer<Slice<'a>>],
-    status: Status,
-)
-    requires { L.items answers ≡ [] }
-{
+// A call of an expression, whose location ends a piece.
+#[test]
+fn room_for_answers(rt: HostRuntime) {
+    let text = &[0x98, 0x05, 0x00, 0x93, 0x04];
+    let callee = little(&[0x50]);
     let steps = [
         Step::MaxIterations(2),
         Step::Evaluate,
-        Step::AtLocation(little(&[0x50])),
+        Step::AtLocation(callee),
     ];
-    let mut eval = on_heap(alloc, &CALL);
-    assert!(rt; replay_all(&mut eval, &steps, &mut answers) == end);
-    expect_answers(rt, answers.as_slice(), kept, &CALL);
-    assert!(rt; eval.status() == status);
-}
-
-#[test]
-fn room_for_answers(rt: HostRuntime) {
-    let asked = Replayed::NoRoom {
-        index: 1,
-        answer: ASKED,
-    };
-    let complete = Replayed::NoRoom {
+    let pieces = [of_32_bits(IN_REGISTER)];
+    let both = [ASKED, COMPLETE];
+    let done = with_result(text, &steps, &both, None, &pieces);
+    expect_with_room::<2>(&rt, rt.alloc(), &done);
+    let mut second = with_result(text, &steps, &[ASKED], None, &pieces);
+    second.end = Replayed::NoRoom {
         index: 2,
         answer: COMPLETE,
     };
+    expect_with_room::<1>(&rt, rt.alloc(), &second);
+    let no_room = Replayed::NoRoom {
+        index: 1,
+        answer: ASKED,
+    };
     let waits = Status::Waiting(WaitingKind::AtLocation);
-    let none = ArrayVec::<Answer<Slice<'_>>, 0>::new();
-    expect_room(&rt, rt.alloc(), none, asked, &[], waits);
-    let one = ArrayVec::<Answer<Slice<'_>>, 1>::new();
-    expect_room(&rt, rt.alloc(), one, complete, &[ASKED], Status::Complete);
-    let two = ArrayVec::<Answer<Slice<'_>>, 2>::new();
-    let both = [ASKED, COMPLETE];
-    expect_room(
-        &rt,
-        rt.alloc(),
-        two,
-        Replayed::Done,
-        &both,
-        Status::Complete,
-    );
+    let first = without_result(text, &steps, &[], no_room, waits);
+    expect_with_room::<0>(&rt, rt.alloc(), &first);
+}
+
+// What was set before a replay counts. A step that isn't allowed changes nothing, and the evaluation goes on by hand.
+fn expect_misplaced<'a, S: EvaluationStorage<Slice<'a>>>(
+    rt: &impl Abort,
+    alloc: Global,
+    mut eval: Evaluation<Slice<'a>, S>,
+    case: &Case<'a>,
+)
+    requires { eval.status ≡ Start None }
+{
+    eval.set_object_address(0x7000);
+    let mut answers = Vec::new(alloc);
+    let outcome = replayed(rt, alloc, &mut eval, case.steps, &mut answers);
+    expect(rt, &outcome, answers.as_slice(), case);
+    assert!(rt; eval.status() == Status::Waiting(WaitingKind::CallFrameCfa));
+    assert!(rt; eval.resume_with_call_frame_cfa(1) == Ok(EvaluationResult::Complete));
+    assert!(rt; eval.status() == Status::Complete);
+    assert!(rt; eval.value_result() == Some(Generic(0x7000)));
 }
 
 #[test]
 fn ends_of_replays(rt: HostRuntime) {
-    let mut answers = Vec::new(rt.alloc());
-    let mut eval = on_heap(rt.alloc(), &[0x31]);
-    assert!(rt; replay_all(&mut eval, &[], &mut answers) == Replayed::Done);
-    assert!(rt; answers.is_empty());
-    assert!(rt; eval.status() == Status::Start { initial: false });
+    let alloc = rt.alloc();
+    let fresh = Status::Start { initial: false };
+    let nothing = without_result(&[0x31], &[], &[], Replayed::Done, fresh);
+    expect_over_lists::<1, 1, 1>(&rt, alloc, &nothing);
+    let set = Status::Start { initial: true };
+    let setting = without_result(&[0x31], &[Step::InitialValue(1)], &[], Replayed::Done, set);
+    expect_over_lists::<1, 1, 1>(&rt, alloc, &setting);
 
-    // What was set before counts, and a step that isn't allowed changes nothing.
     let steps = [Step::Evaluate, Step::FrameBase(0)];
-    let mut answers = Vec::new(rt.alloc());
-    let mut eval = on_heap(rt.alloc(), &[0x9c, 0x97]);
-    eval.set_object_address(0x7000);
-    assert!(rt; replay_all(&mut eval, &steps, &mut answers) == Replayed::Misplaced(1));
-    assert!(rt; answers.as_slice() == [CFA].as_slice());
-    assert!(rt; eval.status() == Status::Waiting(WaitingKind::CallFrameCfa));
-    assert!(rt; eval.resume_with_call_frame_cfa(1) == Ok(EvaluationResult::Complete));
-    expect_value(&rt, &eval, Generic(0x7000), 0x7000);
+    let waits = Status::Waiting(WaitingKind::CallFrameCfa);
+    let misplaced = without_result(&[0x9c, 0x97], &steps, &[CFA], Replayed::Misplaced(1), waits);
+    let eval = Evaluation::new(alloc, little(misplaced.text), SMALL);
+    expect_misplaced(&rt, alloc, eval, &misplaced);
 }
 
-#[test]
-fn replays_without_memory(rt: HostRuntime) {
+// With no memory a push is refused.
+fn expect_refused_push<A: Allocator + Copy>(rt: &impl Abort, alloc: Global, none: A) {
+    let callee = little(&[0x50]);
     let steps = [
         Step::Evaluate,
         Step::Evaluate,
         Step::Memory(Generic(0)),
-        Step::AtLocation(little(&[0x50])),
+        Step::AtLocation(callee),
     ];
-    let mut eval = Evaluation::new(Refusing, little(&[0x31]), SMALL);
-    let mut answers = ArrayVec::<Answer<Slice<'_>>, 4>::new();
-    assert!(rt; replay_all(&mut eval, &steps, &mut answers) == Replayed::Done);
-    assert!(rt; answers.as_slice() == [FULL; 4].as_slice());
-    assert!(rt; eval.status() == Status::Failed(Error::StackFull));
-
-    // The answers take memory, and the evaluation none before it has to keep something.
-    let mut eval: Evaluation<Slice<'_>, StoreOnHeap<Refusing>> = Evaluation::new_in(
-        little(&CALL),
-        SMALL,
-        Vec::new(Refusing),
-        Vec::new(Refusing),
-        Vec::new(Refusing),
+    let failed = Status::Failed(Error::StackFull);
+    let case = without_result(&[0x31], &steps, &[FULL; 4], Replayed::Done, failed);
+    expect_of(
+        rt,
+        alloc,
+        Evaluation::new(none, little(case.text), SMALL),
+        &case,
     );
-    let mut answers = Vec::new(Refusing);
+}
+
+// An evaluation takes no memory before it has to keep something. Here its answer takes some, and is refused.
+fn expect_refused_answer<A: Allocator + Copy>(rt: &impl Abort, alloc: Global, none: A) {
     let no_room = Replayed::NoRoom {
         index: 0,
         answer: ASKED,
     };
-    assert!(rt; replay_all(&mut eval, &[Step::Evaluate], &mut answers) == no_room);
-    assert!(rt; answers.is_empty());
-    assert!(rt; eval.status() == Status::Waiting(WaitingKind::AtLocation));
+    let waits = Status::Waiting(WaitingKind::AtLocation);
+    let case = without_result(&[0x98, 0x05, 0x00], &[Step::Evaluate], &[], no_room, waits);
+    let mut eval: Evaluation<Slice<'_>, StoreOnHeap<A>> = Evaluation::new_in(
+        little(case.text),
+        SMALL,
+        Vec::new(none),
+        Vec::new(none),
+        Vec::new(none),
+    );
+    let mut answers = Vec::new(none);
+    let outcome = replayed(rt, alloc, &mut eval, case.steps, &mut answers);
+    expect(rt, &outcome, answers.as_slice(), &case);
 }
 
-// Capacities of the stack, the callers and the pieces, an expression, steps, and what each call answers.
+#[test]
+fn replays_without_memory(rt: HostRuntime) {
+    expect_refused_push(&rt, rt.alloc(), Refusing);
+    expect_refused_answer(&rt, rt.alloc(), Refusing);
+}
+
+// Capacities of the stack, the callers and the pieces, an expression, steps, and what each call gives.
 type Row<'a> = (
     (usize, usize, usize),
     &'a [u8],
@@ -162,6 +153,7 @@ type Row<'a> = (
     &'a [Answer<Slice<'a>>],
 );
 
+/// An expression that calls the one at offset 1 of the unit.
 pub(crate) const AGAIN: &[u8] = &[0x98, 0x01, 0x00];
 
 /// The expression at offset 1 of the unit is wanted.
@@ -178,8 +170,7 @@ const PIECES: &[u8] = &[0x31, 0x93, 0x04, 0x98, 0x05, 0x00];
 
 const CALLED: &[Step<&'static [u8]>] = &[Step::Evaluate, Step::AtLocation(&[0x50, 0x93, 0x04])];
 
-static ROWS: [Row<'static>; 17] = [
-    ((2, 1, 1), &[0x31, 0x32], &[Step::Evaluate], &[COMPLETE]),
+static ROWS: [Row<'static>; 15] = [
     (
         (2, 1, 1),
         &[0x31, 0x32, 0x33],
@@ -247,7 +238,6 @@ static ROWS: [Row<'static>; 17] = [
     ((1, 1, 0), PIECES, CALLED, &[FULL; 2]),
     ((1, 0, 2), PIECES, CALLED, &[ASKED, FULL]),
     ((1, 1, 1), PIECES, CALLED, &[ASKED, FULL]),
-    ((1, 1, 2), PIECES, CALLED, &[ASKED, COMPLETE]),
 ];
 
 // The step, with an expression that is read; an answer of the rows above.
@@ -261,95 +251,57 @@ fn read<'a>(step: Step<&'a [u8]>) -> Step<Slice<'a>> {
     }
 }
 
-fn read_all<'a>(
-    alloc: Global,
-    steps: &[Step<&'a [u8]>],
-) -> std::result::Result<Vec<Step<Slice<'a>>>, AllocError> {
-    let mut read_in = Vec::new(alloc);
-    for step in steps {
-        read_in.push(read(*step))?;
-    }
-    Ok(read_in)
-}
-
-// What a replay gives and keeps, and where it leaves the evaluation.
-fn replayed<R: Reader + Copy, S: EvaluationStorage<R>>(
-    alloc: Global,
-    mut eval: Evaluation<R, S>,
-    steps: &[Step<R>],
-) -> (Replayed<R>, Vec<Answer<R>>, Status)
-    requires { eval.status ≡ Start None }
-{
-    let mut answers = Vec::new(alloc);
-    let end = replay_all(&mut eval, steps, &mut answers);
-    (end, answers, eval.status())
-}
-
-// The same over lists of these capacities.
-fn replayed_over<'a>(
-    rt: &impl Abort,
-    alloc: Global,
-    capacities: (usize, usize, usize),
-    text: &'a [u8],
-    steps: &[Step<Slice<'a>>],
-) -> (Replayed<Slice<'a>>, Vec<Answer<Slice<'a>>>, Status) {
+// Replays the case over lists of these capacities.
+fn expect_over(rt: &impl Abort, alloc: Global, capacities: (usize, usize, usize), case: &Case<'_>) {
     match capacities {
-        (0, 1, 2) => replayed(alloc, over_lists::<0, 1, 2>(text), steps),
-        (1, 0, 2) => replayed(alloc, over_lists::<1, 0, 2>(text), steps),
-        (1, 1, 0) => replayed(alloc, over_lists::<1, 1, 0>(text), steps),
-        (1, 1, 1) => replayed(alloc, over_lists::<1, 1, 1>(text), steps),
-        (1, 1, 2) => replayed(alloc, over_lists::<1, 1, 2>(text), steps),
-        (1, 4, 1) => replayed(alloc, over_lists::<1, 4, 1>(text), steps),
-        (2, 1, 1) => replayed(alloc, over_lists::<2, 1, 1>(text), steps),
+        (0, 1, 2) => expect_over_lists::<0, 1, 2>(rt, alloc, case),
+        (1, 0, 2) => expect_over_lists::<1, 0, 2>(rt, alloc, case),
+        (1, 1, 0) => expect_over_lists::<1, 1, 0>(rt, alloc, case),
+        (1, 1, 1) => expect_over_lists::<1, 1, 1>(rt, alloc, case),
+        (1, 4, 1) => expect_over_lists::<1, 4, 1>(rt, alloc, case),
+        (2, 1, 1) => expect_over_lists::<2, 1, 1>(rt, alloc, case),
         _ => {
             assert!(rt; capacities == (3, 1, 1));
-            replayed(alloc, over_lists::<3, 1, 1>(text), steps)
+            expect_over_lists::<3, 1, 1>(rt, alloc, case);
         }
     }
 }
 
-// Each row gives its answers, of which the last says how the evaluation ended.
+// Each row gives its answers, of which the last is the fault that the evaluation ends with.
 #[test]
-fn fixed_capacities(rt: HostRuntime) -> std::result::Result<(), AllocError> {
+fn fixed_capacities(rt: HostRuntime) -> Result<(), AllocError> {
     for row in &ROWS {
         let (capacities, text, row_steps, told) = *row;
-        let steps = read_all(rt.alloc(), row_steps)?;
-        let (end, answers, status) = replayed_over(&rt, rt.alloc(), capacities, text, &steps);
-        assert!(rt; end == Replayed::Done, "{text:?}");
-        expect_answers(&rt, &answers, told, text);
-        let ended = match told.last() {
+        let mut steps = Vec::new(rt.alloc());
+        for step in row_steps {
+            steps.push(read(*step))?;
+        }
+        let status = match told.last() {
             Some(Answer(Err(error))) => Status::Failed(*error),
             _ => Status::Complete,
         };
-        assert!(rt; status == ended, "{text:?}");
+        let case = without_result(text, &steps, told, Replayed::Done, status);
+        expect_over(&rt, rt.alloc(), capacities, &case);
     }
     Ok(())
 }
 
-// What the complete ones of the rows came to.
+// Lists that are just large enough.
 #[test]
 fn results_over_lists(rt: HostRuntime) {
-    let mut eval = over_lists::<2, 1, 1>(&[0x31, 0x32]);
-    assert!(rt; eval.evaluate() == Ok(EvaluationResult::Complete));
-    expect_value(&rt, &eval, Generic(2), 2);
+    let pieces = [whole(Location::Address { address: 2 })];
+    let two = with_result(
+        &[0x31, 0x32],
+        &[Step::Evaluate],
+        &[COMPLETE],
+        Some(Generic(2)),
+        &pieces,
+    );
+    expect_over_lists::<2, 1, 1>(&rt, rt.alloc(), &two);
 
-    let steps = [
-        Step::Evaluate,
-        Step::AtLocation(little(&[0x50, 0x93, 0x04])),
-    ];
-    let mut eval = over_lists::<1, 1, 2>(PIECES);
-    let mut answers = ArrayVec::<Answer<Slice<'_>>, 2>::new();
-    assert!(rt; replay_all(&mut eval, &steps, &mut answers) == Replayed::Done);
-    let pieces = [
-        Location::Address { address: 1 },
-        Location::Register {
-            register: Register(0),
-        },
-    ];
-    let pieces = pieces.map(|location| Piece {
-        size_in_bits: Some(32),
-        bit_offset: None,
-        location,
-    });
-    expect_complete(&rt, &eval, None, &pieces);
+    let callee = little(&[0x50, 0x93, 0x04]);
+    let steps = [Step::Evaluate, Step::AtLocation(callee)];
+    let pieces = [Location::Address { address: 1 }, IN_REGISTER].map(of_32_bits);
+    let called = with_result(PIECES, &steps, &[ASKED, COMPLETE], None, &pieces);
+    expect_over_lists::<1, 1, 2>(&rt, rt.alloc(), &called);
 }

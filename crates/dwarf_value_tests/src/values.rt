@@ -11,7 +11,7 @@ use dwarf_value::{Value, ValueType, equality_laws, is_addr_mask, value_laws};
 // The mask of an address of 4 bytes.
 const MASK: u64 = 0xffff_ffff;
 
-#[derive(Clone, Copy, Debug)]
+#[derive(Clone, Copy)]
 enum Call {
     Abs,
     Neg,
@@ -111,13 +111,10 @@ static ANSWERS: [(Call, Value, Value, u64, Result<Value>); 24] = [
 
 #[test]
 fn answers(rt: HostRuntime) {
-    for (call, x, y, addr_mask, wanted) in ANSWERS {
-        assert!(rt; is_addr_mask(addr_mask));
-        assert_eq!(rt;
-            answer(call, x, y, addr_mask),
-            wanted,
-            "{call:?} {x:?} {y:?}"
-        );
+    for (i, row) in ANSWERS.iter().enumerate() {
+        let (call, x, y, addr_mask, wanted) = *row;
+        assert!(rt; is_addr_mask(addr_mask), "row {i}");
+        assert!(rt; answer(call, x, y, addr_mask) == wanted, "row {i}");
     }
 }
 
@@ -129,60 +126,64 @@ fn conversions(rt: HostRuntime) {
         (I8(-1), U32(0xffff_ffff)),
         (U16(0xff80), I8(-128)),
     ] {
-        let answer = value.convert(wanted.value_type(), MASK);
-        assert_eq!(rt; answer, Ok(wanted), "{value:?}");
+        assert!(rt;
+            value.convert(wanted.value_type(), MASK) == Ok(wanted),
+            "{value:?}"
+        );
     }
     for (value, value_type, wanted) in [
         (U8(255), ValueType::I8, Ok(I8(-1))),
         (I32(-1), ValueType::Generic, Ok(Generic(u64::MAX))),
         (U64(1), ValueType::Generic, Err(Error::TypeMismatch)),
     ] {
-        let answer = value.reinterpret(value_type, MASK);
-        assert_eq!(rt; answer, wanted, "{value:?}");
+        assert!(rt; value.reinterpret(value_type, MASK) == wanted, "{value:?}");
     }
-    assert_eq!(rt; Value::default(), Generic(0));
-    assert_eq!(rt; Generic(0x1_0000_0003).to_u64(MASK), Ok(3));
-    assert_eq!(rt; I8(-1).to_u64(MASK), Ok(u64::MAX));
+    assert!(rt; Value::default() == Generic(0));
+    assert!(rt; Generic(0x1_0000_0003).to_u64(MASK) == Ok(3));
+    assert!(rt; I8(-1).to_u64(MASK) == Ok(u64::MAX));
     let all_bits = Value::from_u64(ValueType::Generic, 0x1_0000_0003);
-    assert_eq!(rt; all_bits, Ok(Generic(0x1_0000_0003)));
+    assert!(rt; all_bits == Ok(Generic(0x1_0000_0003)));
 }
 
 #[test]
 fn parses(rt: HostRuntime) {
     let bytes = EndianSlice::new(&[0xff, 0x7f, 0x9f], RunTimeEndian::Little);
-    assert_eq!(rt; Value::parse(ValueType::I16, bytes), Ok(I16(32767)));
+    assert!(rt; Value::parse(ValueType::I16, bytes) == Ok(I16(32767)));
     let short = Value::parse(ValueType::U32, bytes);
     assert!(rt; matches!(short, Err(Error::UnexpectedEof(_))));
     let none = EndianSlice::new(&[], RunTimeEndian::Little);
     let generic = Value::parse(ValueType::Generic, none);
-    assert_eq!(rt; generic, Err(Error::UnsupportedTypeOperation));
+    assert!(rt; generic == Err(Error::UnsupportedTypeOperation));
 }
+
+// An encoding, a size in bytes, the type that they make, and its size in bits.
+static TYPES: [(DwAte, u64, Option<ValueType>, u32); 11] = [
+    (DW_ATE_signed, 1, Some(ValueType::I8), 8),
+    (DW_ATE_signed, 2, Some(ValueType::I16), 16),
+    (DW_ATE_signed, 4, Some(ValueType::I32), 32),
+    (DW_ATE_signed, 8, Some(ValueType::I64), 64),
+    (DW_ATE_unsigned, 1, Some(ValueType::U8), 8),
+    (DW_ATE_unsigned, 2, Some(ValueType::U16), 16),
+    (DW_ATE_unsigned, 4, Some(ValueType::U32), 32),
+    (DW_ATE_unsigned, 8, Some(ValueType::U64), 64),
+    (DW_ATE_float, 4, None, 32),
+    (DW_ATE_float, 8, None, 32),
+    (DW_ATE_signed, 3, None, 32),
+];
 
 #[test]
 fn types_and_masks(rt: HostRuntime) {
-    let types: [(DwAte, u64, Option<ValueType>, u32); 11] = [
-        (DW_ATE_signed, 1, Some(ValueType::I8), 8),
-        (DW_ATE_signed, 2, Some(ValueType::I16), 16),
-        (DW_ATE_signed, 4, Some(ValueType::I32), 32),
-        (DW_ATE_signed, 8, Some(ValueType::I64), 64),
-        (DW_ATE_unsigned, 1, Some(ValueType::U8), 8),
-        (DW_ATE_unsigned, 2, Some(ValueType::U16), 16),
-        (DW_ATE_unsigned, 4, Some(ValueType::U32), 32),
-        (DW_ATE_unsigned, 8, Some(ValueType::U64), 64),
-        (DW_ATE_float, 4, None, 32),
-        (DW_ATE_float, 8, None, 32),
-        (DW_ATE_signed, 3, None, 32),
-    ];
     assert!(rt; is_addr_mask(MASK));
-    for (encoding, byte_size, wanted, bits) in types {
+    for (i, row) in TYPES.iter().enumerate() {
+        let (encoding, byte_size, wanted, bits) = *row;
         let value_type = ValueType::from_encoding(encoding, byte_size);
-        assert_eq!(rt; value_type, wanted, "{encoding:?} {byte_size}");
+        assert!(rt; value_type == wanted, "row {i}");
         // Of no type here, the generic one's.
         let value_type = value_type.unwrap_or(ValueType::Generic);
-        assert_eq!(rt; value_type.bit_size(MASK), bits, "{encoding:?} {byte_size}");
+        assert!(rt; value_type.bit_size(MASK) == bits, "row {i}");
     }
     for (addr_mask, wanted) in [(0, false), (1, true), (6, false), (u64::MAX, true)] {
-        assert_eq!(rt; is_addr_mask(addr_mask), wanted, "{addr_mask:#x}");
+        assert!(rt; is_addr_mask(addr_mask) == wanted, "{addr_mask}");
     }
     value_laws();
     equality_laws();

@@ -1,8 +1,10 @@
 -- A call answers what the meaning gives, and what is left is what the meaning gives for the inputs to come.
-use Rattle.std.proofs.Common.{ℕ, zero, suc, ◌≡◌, ◌+◌, arith, List, [], ◌∷◌, ◌++◌, length, Result, Ok, Err, Option, ap, ◌∙◌, sym, refl, subst}
+use Rattle.std.proofs.Common.{ℕ, zero, suc, ◌≡◌, ◌+◌, arith, List, [], ◌∷◌, ◌++◌, length, Result, Ok, Err, IfOk, Option, true, false, ap, ◌∙◌, sym, refl, subst}
+use Rattle.std.proofs.lemmas.Bool.{false≢true, true≢false}
 use Rattle.std.proofs.lemmas.List.{append-nil}
 use Rattle.dwarf_base.specs.declared.errors.Error.{Error}
 use Rattle.dwarf_base.specs.Faults.{Fault, fault_of}
+use Rattle.dwarf_base.specs.Reads.{Text}
 use Rattle.dwarf_meaning.specs.Requests.{Request, Input}
 use Rattle.dwarf_meaning.specs.Stores.{Setup, Store}
 use Rattle.dwarf_meaning.specs.Run.{Position, Course, End, CompleteEnd, RequestEnd, FaultEnd, run}
@@ -10,9 +12,12 @@ use Rattle.dwarf_meaning.specs.Meaning.{Outcome, unwound, with_initial, course_f
 use Rattle.dwarf_meaning.specs.Rest.{State, Status, Start, Running, RequestStatus, CompleteStatus, FaultStatus, with_refusal, rest_from_start, rest_by, rest}
 use Rattle.dwarf_meaning.specs.Steps.{Reply, RequestReply, reply}
 use Rattle.dwarf_meaning.specs.Refusals.{Refusal, Never, After, before_pushes, IsLater}
-use Rattle.dwarf_eval.specs.Evaluation.{Counts, Follows, IsFresh, WaitsOrIsComplete, IsReplied, after_input, means, means_path, path_after}
+use Rattle.dwarf_eval.specs.Evaluation.{Counts, Follows, IsEndedBy, IsFresh, WaitsOrIsComplete, IsReplied, Resumes, ResumesPath, after_input, means, means_path, path_after, reply_of}
+use Rattle.dwarf_eval.specs.Permits.{IsOpenFor, IsWaitingFor}
+use Rattle.dwarf_eval.specs.declared.op.results.EvaluationResult.{EvaluationResult}
+use Rattle.dwarf_meaning.specs.declared.kinds.WaitingKind.{WaitingKind}
 use Rattle.dwarf_eval.specs.Paths.{path, path_behind, path_by, path_started, path_through}
-use Rattle.dwarf_machine.specs.inner.Steps.{Total, total, total_after, Reaches, Falls, EndsBy, Ends}
+use Rattle.dwarf_machine.specs.inner.Steps.{Total, has_failed, total, total_after, Reaches, Falls, EndsBy, Ends}
 use Rattle.dwarf_machine.proofs.Refusals.{before_never, before_later}
 
 open_reply : (setup : Setup) (callers : List Position) (request : Request) (positions : List Position) (inputs : List Input) → reply (unwound setup callers (RequestEnd request positions inputs)) ≡ RequestReply request
@@ -205,3 +210,48 @@ module _ (x new : State) (told : Reply) (t : IsReplied told new.status) where
 
     pub resume_counts : Counts x (after_input x input) (path_after x input) told new
     resume_counts = ends_count x (total_after x input) new told (path_after x input) (λ r inputs. refl) h t
+
+-- ---- a resume, by whether a fault was met
+
+-- a request is open, if there was no fault
+pub waits : (kind : WaitingKind) (status : Status) → has_failed status ≡ false → IsOpenFor kind status → IsWaitingFor kind status
+waits kind (RequestStatus request waiting) e h = h
+waits kind (FaultStatus error) e h = absurd (true≢false e)
+waits kind Running e h = absurd h
+waits kind (Start initial_value) e h = absurd h
+waits kind (CompleteStatus value) e h = absurd h
+
+module _ {R O P : Type 0} (text : R → Text) (number : O → ℕ) (input : Input) (x new : State) (replied : Result (EvaluationResult R O P) Error) where
+  -- a request took the input
+  pub resumed : (kind : WaitingKind) (status : Status) → IsWaitingFor kind status → Follows x (after_input x input) (reply_of text number replied) new → Resumes text number input x new replied status
+  resumed kind (RequestStatus request waiting) w h = h
+  resumed kind (FaultStatus error) w h = absurd w
+  resumed kind Running w h = absurd w
+  resumed kind (Start initial_value) w h = absurd w
+  resumed kind (CompleteStatus value) w h = absurd w
+
+  pub resumed_path : (kind : WaitingKind) (status : Status) → IsWaitingFor kind status → Counts x (after_input x input) (path_after x input) (reply_of text number replied) new → ResumesPath input x new (reply_of text number replied) status
+  resumed_path kind (RequestStatus request waiting) w h = h
+  resumed_path kind (FaultStatus error) w h = absurd w
+  resumed_path kind Running w h = absurd w
+  resumed_path kind (Start initial_value) w h = absurd w
+  resumed_path kind (CompleteStatus value) w h = absurd w
+
+  -- a fault is given again
+  pub failed_again : (status : Status) → has_failed status ≡ true → IsEndedBy replied status → Resumes text number input x x replied status
+  failed_again (FaultStatus error) e h = (h, refl)
+  failed_again (RequestStatus request waiting) e h = absurd (false≢true e)
+  failed_again Running e h = tt
+  failed_again (Start initial_value) e h = tt
+  failed_again (CompleteStatus value) e h = tt
+
+  pub failed_path : (status : Status) → has_failed status ≡ true → ResumesPath input x x (reply_of text number replied) status
+  failed_path (FaultStatus error) e = refl
+  failed_path (RequestStatus request waiting) e = absurd (false≢true e)
+  failed_path Running e = tt
+  failed_path (Start initial_value) e = tt
+  failed_path (CompleteStatus value) e = tt
+
+-- and promises nothing more
+pub failed_fewer : {Y : Type 0} (P : Type 0) (replied : Result Y Error) (error : Error) → replied ≡ Err error → IfOk replied (λ t. P)
+failed_fewer P replied error h = subst (λ (r : Result _ Error). IfOk r (λ t. P)) (sym h) tt

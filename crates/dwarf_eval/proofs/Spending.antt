@@ -1,6 +1,5 @@
 -- What is spent by calls in a row.
 use Rattle.std.proofs.Common.{ℕ, ◌≡◌, ◌+◌, length, Option, Some, None, arith, ap, refl}
-use Rattle.dwarf_meaning.specs.Stores.{Last}
 use Rattle.dwarf_meaning.specs.Rest.{State, Start}
 use Rattle.dwarf_eval.specs.Bounds.{piece_due, initial_due, answer_due, endings, located, faults_in, DecodesOnce, Spends, SpendsInAll}
 

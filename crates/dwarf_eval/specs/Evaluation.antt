@@ -60,6 +60,12 @@ IsReplied replied (CompleteStatus value) = replied ≡ CompleteReply
 IsReplied replied (FaultStatus error) = replied ≡ FaultReply (fault_of error)
 IsReplied replied _ = ⊥
 
+-- after the end the result is completion, and after a fault that fault
+abbrev pub IsEndedBy : {R O P : Type 0} → Result (EvaluationResult R O P) Error → Status → Type 0
+IsEndedBy replied (CompleteStatus value) = replied ≡ Ok result.Complete
+IsEndedBy replied (FaultStatus error) = replied ≡ Err error
+IsEndedBy replied _ = Unit {0}
+
 -- A call replied what `outcomes` gives for some refusal, or for none; and as long as it isn't over, what is
 -- left of the new state is what `outcomes` gives, for all inputs to come.
 pub record Follows (old : State) (outcomes : Refusal → List Input → Outcome) (replied : Reply) (new : State) : Type 0 where

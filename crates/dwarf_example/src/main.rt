@@ -109,16 +109,16 @@ impl<'a> Process<Bytes<'a>> for Stopped<'a> {
     }
 }
 
-/// Prints what a debugger's loop makes of a new evaluation.
+/// Prints what a debugger's loop makes of an evaluation.
 fn show_complete<'a, S: EvaluationStorage<Bytes<'a>>>(
     rt: &HostRuntime,
     lists: &str,
-    mut evaluation: Evaluation<Bytes<'a>, S>,
+    evaluation: &mut Evaluation<Bytes<'a>, S>,
     process: &Stopped<'a>,
 ) -> io::Result<()>
-    requires { IsClosed evaluation.status }
+    requires { IsClosed evaluation.old.status }
 {
-    match complete(&mut evaluation, process) {
+    match complete(evaluation, process) {
         Ok(()) => println!(rt;
             "{lists}: {:?} {:?}",
             evaluation.value_result(),
@@ -130,16 +130,32 @@ fn show_complete<'a, S: EvaluationStorage<Bytes<'a>>>(
 
 /// Prints what it makes of the bytes, on the heap and on fixed lists.
 fn show_both<'a>(rt: &HostRuntime, bytes: Bytes<'a>, process: &Stopped<'a>) -> io::Result<()> {
-    let on_heap = Evaluation::new(rt.alloc(), bytes, ENCODING);
-    show_complete(rt, "heap", on_heap, process)?;
-    let on_lists: Evaluation<Bytes<'a>, Fixed> = Evaluation::new_in(
+    let mut on_heap = Evaluation::new(rt.alloc(), bytes, ENCODING);
+    show_complete(rt, "heap", &mut on_heap, process)?;
+    let mut on_lists: Evaluation<Bytes<'a>, Fixed> = Evaluation::new_in(
         bytes,
         ENCODING,
         ArrayVec::new(),
         ArrayVec::new(),
         ArrayVec::new(),
     );
-    show_complete(rt, "lists", on_lists, process)
+    show_complete(rt, "lists", &mut on_lists, process)
+}
+
+/// Prints what it makes of each expression. One evaluation serves for all of them, so only the first few take memory.
+fn show_restarted<'a>(
+    rt: &HostRuntime,
+    expressions: &[&'a [u8]],
+    process: &Stopped<'a>,
+) -> io::Result<()> {
+    let nothing = EndianSlice::new(&[], RunTimeEndian::Little);
+    let mut evaluation = Evaluation::new(rt.alloc(), nothing, ENCODING);
+    for expression in expressions {
+        let bytes = EndianSlice::new(expression, RunTimeEndian::Little);
+        evaluation.restart(bytes, ENCODING);
+        show_complete(rt, "restarted", &mut evaluation, process)?;
+    }
+    Ok(())
 }
 
 /// Prints what registers alone make of the bytes.
@@ -184,7 +200,7 @@ fn show_all(rt: &HostRuntime) -> io::Result<()> {
         show_registers(rt, bytes, &process)?;
         show_requests(rt, bytes)?;
     }
-    Ok(())
+    show_restarted(rt, &expressions, &process)
 }
 
 fn main(rt: HostRuntime) -> ExitCode {

@@ -15,7 +15,7 @@ use dwarf_value::{Value, ValueType};
 
 impl<R: Reader + Copy, S: EvaluationStorage<R>> Machine<R, S> {
     /// Pushes an answer.
-    #[inline]
+    #[inline(always)]
     fn push_answer(&mut self, value: Value)
         ensures { Tried 0 (push_value self.old.setup value)
             (with_status Running (with_last Pushed self.old)) self.new }
@@ -26,6 +26,7 @@ impl<R: Reader + Copy, S: EvaluationStorage<R>> Machine<R, S> {
     }
 
     /// Pushes what a register holds, plus the offset.
+    #[inline(always)]
     fn take_register(&mut self, value: Value)
         requires { IsWaitingFor kind.Register self.old.status }
         ensures { Takes (requests.RegisterAnswer value) self.old self.new }
@@ -43,6 +44,7 @@ impl<R: Reader + Copy, S: EvaluationStorage<R>> Machine<R, S> {
     }
 
     /// Pushes the value of a register, plus the offset in its type.
+    #[inline(always)]
     fn take_offset(&mut self, value: Value, offset: i64)
         requires { IsWaitingTo (requests.Register offset) self.old.status }
         ensures { Takes (requests.RegisterAnswer value) self.old self.new }
@@ -54,6 +56,7 @@ impl<R: Reader + Copy, S: EvaluationStorage<R>> Machine<R, S> {
     }
 
     /// Pushes the frame base plus the offset.
+    #[inline(always)]
     fn take_frame_base(&mut self, frame_base: u64)
         requires { IsWaitingFor kind.FrameBase self.old.status }
         ensures { Takes (requests.FrameBaseAnswer frame_base) self.old self.new }
@@ -67,7 +70,7 @@ impl<R: Reader + Copy, S: EvaluationStorage<R>> Machine<R, S> {
     }
 
     /// Pushes the sum of the frame base and the offset.
-    #[inline]
+    #[inline(always)]
     fn take_frame_offset(&mut self, frame_base: u64, offset: i64)
         requires { IsWaitingTo (requests.FrameBase offset) self.old.status }
         ensures { Takes (requests.FrameBaseAnswer frame_base) self.old self.new }
@@ -76,6 +79,7 @@ impl<R: Reader + Copy, S: EvaluationStorage<R>> Machine<R, S> {
     }
 
     /// Makes a value of the type: of the literal, or of the top.
+    #[inline(never)]
     fn take_base_type(&mut self, base_type: ValueType)
         requires { IsWaitingFor kind.BaseType self.old.status }
         ensures { Takes (requests.BaseTypeAnswer base_type) self.old self.new }
@@ -139,6 +143,7 @@ impl<R: Reader + Copy, S: EvaluationStorage<R>> Machine<R, S> {
     }
 
     /// Runs the called text in the call's place; goes on at once where it is empty.
+    #[inline(never)]
     fn take_location(&mut self, callee: R)
         requires { IsWaitingFor kind.AtLocation self.old.status }
         ensures { Takes (requests.LocationAnswer (R.text callee)) self.old self.new }
@@ -152,6 +157,7 @@ impl<R: Reader + Copy, S: EvaluationStorage<R>> Machine<R, S> {
     }
 
     /// Takes an answer.
+    #[inline(always)]
     fn take(&mut self, given: Given<R>)
         requires { IsWaitingFor (kind_of_answer (answer_of R.text given)) self.old.status }
         ensures { Takes (answer_of R.text given) self.old self.new }
@@ -173,6 +179,7 @@ impl<R: Reader + Copy, S: EvaluationStorage<R>> Machine<R, S> {
     }
 
     /// Takes an answer, and runs on to a request, to the end, or to a fault, which it keeps.
+    #[inline(always)]
     pub fn resume(&mut self, given: Given<R>)
         requires { IsWaitingFor (kind_of_answer (answer_of R.text given)) self.old.status }
         ensures { Ends self.old (total_after self.old (input_of self.old (answer_of R.text given)))

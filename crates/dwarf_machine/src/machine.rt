@@ -1,6 +1,7 @@
 ghost use Rattle.std.specs.Prelude.{◌≡◌, ◌==◌, ◌<◌, ◌≤◌, ◌*◌, ℕ, [], None, Some, Err, map, length, slice_get, OnOk, IfOk, IfErr, IfSome, IfNone};
 ghost use Rattle.dwarf_base.specs.Reads.{IsLeftOf};
 ghost use Rattle.dwarf_base.specs.Faults.{fault_of};
+ghost use Rattle.dwarf_base.specs.declared.errors.Error.TheVariants.{StackFull, TooManyIterations};
 ghost use Rattle.dwarf_value.specs.Values.{IsAddressMask, width_of};
 ghost use Rattle.dwarf_meaning.specs.Meaning.{has_pieces};
 ghost use Rattle.dwarf_meaning.specs.Rest.{Start, FaultStatus};
@@ -10,7 +11,7 @@ ghost use Rattle.dwarf_op.specs.Views.{operation_of};
 ghost use Rattle.dwarf_machine.specs.Bounds.{IsUnspent};
 ghost use Rattle.dwarf_machine.specs.Inputs.{IsFresh, with_maximum, with_object, with_status};
 ghost use Rattle.dwarf_machine.specs.Machine.{last_of, location_of, piece_of, setup_of, status_of};
-ghost use Rattle.dwarf_machine.specs.inner.Steps.{CountsOne, GoesBack, IsFree, Jumps, Pops, PopsGenerics, ReadsOperation, Tries, TriesToEnter, at, is_free, is_running, read_to, with_last};
+ghost use Rattle.dwarf_machine.specs.inner.Steps.{CountsOne, GoesBack, IsFree, Jumps, Pops, PopsGenerics, ReadsOperation, Tries, TriesToEnter, at, has_failed, is_free, is_running, read_to, with_last};
 
 use crate::states::{EvaluationState, LastOperation};
 use crate::ticks::Ticks;
@@ -65,12 +66,29 @@ impl<R: Reader + Copy, S: EvaluationStorage<R>> Model for Machine<R, S> {
 
 impl<R: Reader + Copy, S: EvaluationStorage<R>> Machine<R, S> {
     /// Keeps a fault, which ends the run.
-    #[cold]
-    #[inline(never)]
+    #[inline(always)]
     pub(crate) fn fail(&mut self, error: Error)
         ensures { self.new ≡ with_status (FaultStatus error) self.old }
     {
         self.state = EvaluationState::Failed(error);
+    }
+
+    /// Keeps the fault of a list that is full.
+    #[cold]
+    #[inline(never)]
+    fn fail_full(&mut self)
+        ensures { self.new ≡ with_status (FaultStatus StackFull) self.old }
+    {
+        self.fail(Error::StackFull);
+    }
+
+    /// Keeps the fault of a maximum that is reached.
+    #[cold]
+    #[inline(never)]
+    fn fail_spent(&mut self)
+        ensures { self.new ≡ with_status (FaultStatus TooManyIterations) self.old }
+    {
+        self.fail(Error::TooManyIterations);
     }
 
     /// Pushes a value, or keeps the fault of a stack that doesn't take it.
@@ -79,7 +97,7 @@ impl<R: Reader + Copy, S: EvaluationStorage<R>> Machine<R, S> {
         ensures { Tries 0 (push_value self.old.setup value) self.old self.new result }
     {
         let Ok(()) = self.stack.push(value) else {
-            self.fail(Error::StackFull);
+            self.fail_full();
             return false;
         };
         true
@@ -128,7 +146,7 @@ impl<R: Reader + Copy, S: EvaluationStorage<R>> Machine<R, S> {
             self.old self.new result }
     {
         let Ok(()) = self.pieces.push(piece) else {
-            self.fail(Error::StackFull);
+            self.fail_full();
             return false;
         };
         true
@@ -140,7 +158,7 @@ impl<R: Reader + Copy, S: EvaluationStorage<R>> Machine<R, S> {
         ensures { CountsOne self.old self.new result }
     {
         if self.iteration >= self.max_iterations {
-            self.fail(Error::TooManyIterations);
+            self.fail_spent();
             return false;
         }
         self.iteration += 1;
@@ -213,6 +231,14 @@ impl<R: Reader + Copy, S: EvaluationStorage<R>> Machine<R, S> {
         ensures { result ≡ is_running self.now.status }
     {
         matches!(self.state, EvaluationState::Running)
+    }
+
+    /// Whether it met a fault.
+    #[inline(always)]
+    pub fn has_failed(&self) -> bool
+        ensures { result ≡ has_failed self.now.status }
+    {
+        matches!(self.state, EvaluationState::Failed(_))
     }
 
     /// Whether no location waits for its piece.
@@ -342,7 +368,7 @@ impl<R: Reader + Copy, S: EvaluationStorage<R>> Machine<R, S> {
     {
         let caller = (self.pc, self.bytecode);
         let Ok(()) = self.expression_stack.push(caller) else {
-            self.fail(Error::StackFull);
+            self.fail_full();
             return false;
         };
         self.pc = callee;
@@ -390,6 +416,36 @@ impl<R: Reader + Copy, S: EvaluationStorage<R>> Machine<R, S> {
             ≡ self.store.pieces }
     {
         self.pieces
+    }
+
+    /// Stands as a fresh evaluation of another text, over the same lists, which keep their memory.
+    #[tactic(auto, unfolding(dwarf_meaning::specs::Run::most))]
+    pub fn restart(&mut self, bytecode: R, encoding: Encoding)
+        requires some { 0 < encoding.address_size }
+        requires fits { encoding.address_size ≤ 8 }
+        ensures status { self.new.status ≡ Start None }
+        ensures setup { self.new.setup
+            ≡ setup_of encoding R.Offset.BITS self.old.setup.limits.values
+            self.old.setup.limits.callers self.old.setup.limits.pieces }
+        ensures text { self.new.text ≡ R.text bytecode }
+        ensures object_address { self.new.store.object_address ≡ None }
+        ensures maximum { self.new.store.maximum ≡ most }
+        ensures fresh { IsFresh self.new None }
+        ensures unspent { IsUnspent self.new }
+    {
+        clear(&mut self.stack);
+        clear(&mut self.expression_stack);
+        clear(&mut self.pieces);
+        self.state = EvaluationState::Start(None);
+        self.encoding = encoding;
+        self.addr_mask = mask_of(encoding.address_size);
+        self.object_address = None;
+        self.max_iterations = u32::MAX;
+        self.iteration = 0;
+        self.bytecode = bytecode;
+        self.pc = bytecode;
+        self.last = LastOperation::Nothing;
+        self.decodings = Ticks::new();
     }
 
     /// A fresh evaluation.
@@ -442,4 +498,13 @@ fn mask_of(address_size: u8) -> u64
     ensures width { width_of result ≡ 8 * address_size }
 {
     u64::MAX >> (64 - 8 * u32::from(address_size))
+}
+
+/// Empties a list, which keeps its memory.
+#[inline(always)]
+fn clear<L: ArrayLike>(list: &mut L)
+    ensures items { L.items list.new ≡ [] }
+    ensures limit { L.limit list.new ≡ L.limit list.old }
+{
+    while let Some(_) = list.pop() {}
 }

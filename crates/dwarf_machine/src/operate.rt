@@ -18,7 +18,7 @@ use crate::states::{EvaluationState, LastOperation, OpenRequest};
 use dwarf_base::{Error, Reader, ReaderOffset, Result, UnitOffset};
 use dwarf_op::{Location, Piece};
 use dwarf_store::EvaluationStorage;
-use dwarf_value::Value;
+use dwarf_value::{Value, ValueType};
 
 impl<R: Reader + Copy, S: EvaluationStorage<R>> Machine<R, S> {
     /// Pushes the value of a plain operation.
@@ -138,7 +138,21 @@ impl<R: Reader + Copy, S: EvaluationStorage<R>> Machine<R, S> {
 
     /// A value plus a constant of its type.
     #[inline(always)]
+    #[tactic(auto, unfolding(dwarf_value::specs::Values::type_of))]
     pub(crate) fn sum(&self, value: Value, constant: u64) -> Result<Value>
+        ensures { result
+            ≡ add_of (address_bits self.now.setup) value (from_u64_of (type_of value) constant) }
+    {
+        let Value::Generic(content) = value else {
+            return self.typed_sum(value, constant);
+        };
+        let addend = Value::from_u64(ValueType::Generic, constant)?;
+        Value::Generic(content).add(addend, self.addr_mask())
+    }
+
+    /// The same, of a value of another type.
+    #[inline(never)]
+    fn typed_sum(&self, value: Value, constant: u64) -> Result<Value>
         ensures { result
             ≡ add_of (address_bits self.now.setup) value (from_u64_of (type_of value) constant) }
     {
@@ -149,6 +163,19 @@ impl<R: Reader + Copy, S: EvaluationStorage<R>> Machine<R, S> {
     /// The number of an address's bits that a value is.
     #[inline(always)]
     pub(crate) fn number_of(&self, value: Value) -> u64
+        ensures { result ≡ to_u64_of (address_bits self.now.setup) value }
+    {
+        let Value::Generic(content) = value else {
+            return self.typed_number_of(value);
+        };
+        Value::Generic(content)
+            .to_u64(self.addr_mask())
+            .unwrap_or(0)
+    }
+
+    /// The same, of a value of another type.
+    #[inline(never)]
+    fn typed_number_of(&self, value: Value) -> u64
         ensures { result ≡ to_u64_of (address_bits self.now.setup) value }
     {
         value.to_u64(self.addr_mask()).unwrap_or(0)

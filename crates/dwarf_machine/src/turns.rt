@@ -57,7 +57,7 @@ impl<R: Reader + Copy, S: EvaluationStorage<R>> Machine<R, S> {
     }
 
     /// Does operations until something else comes next. What is left of the text is a local meanwhile.
-    #[inline(never)]
+    #[inline(always)]
     fn run_operations(&mut self)
         requires { IsReady self.old }
         ensures { Turns self.old self.new }
@@ -96,6 +96,7 @@ impl<R: Reader + Copy, S: EvaluationStorage<R>> Machine<R, S> {
     }
 
     /// Reads the piece of a location that waits for it.
+    #[inline(never)]
     fn hold(&mut self, location: Location<R>)
         requires runs { self.old.status ≡ Running }
         requires inside { (self.old.place == length self.old.text.bytes) ≡ false }
@@ -193,6 +194,7 @@ impl<R: Reader + Copy, S: EvaluationStorage<R>> Machine<R, S> {
     }
 
     /// Leaves the running text at its end.
+    #[inline(never)]
     fn leave(&mut self)
         requires runs { self.old.status ≡ Running }
         requires ends { (self.old.place == length self.old.text.bytes) ≡ true }

@@ -53,27 +53,27 @@ impl<T: Copy, A: Allocator> ArrayLike for Vec<T, A> {
 
     ghost limit = { λ _. None };
 
-    #[inline]
+    #[inline(always)]
     fn len(&self) -> usize {
         Vec::len(self)
     }
 
-    #[inline]
+    #[inline(always)]
     fn get(&self, index: usize) -> Option<T> {
         self.as_slice().get(index).copied()
     }
 
-    #[inline]
+    #[inline(always)]
     fn as_slice(&self) -> &[T] {
         Vec::as_slice(self)
     }
 
-    #[inline]
+    #[inline(always)]
     fn pop(&mut self) -> Option<T> {
         Vec::pop(self)
     }
 
-    #[inline]
+    #[inline(always)]
     fn push(&mut self, item: T) -> Result<(), T> {
         Vec::push(self, item).map_err(|failed| failed.value)
     }
@@ -86,27 +86,27 @@ impl<T: Copy + Default, const CAP: usize> ArrayLike for ArrayVec<T, CAP> {
 
     ghost limit = { λ _. Some CAP };
 
-    #[inline]
+    #[inline(always)]
     fn len(&self) -> usize {
         ArrayVec::len(self)
     }
 
-    #[inline]
+    #[inline(always)]
     fn get(&self, index: usize) -> Option<T> {
         self.as_slice().get(index).copied()
     }
 
-    #[inline]
+    #[inline(always)]
     fn as_slice(&self) -> &[T] {
         ArrayVec::as_slice(self)
     }
 
-    #[inline]
+    #[inline(always)]
     fn pop(&mut self) -> Option<T> {
         ArrayVec::pop(self)
     }
 
-    #[inline]
+    #[inline(always)]
     fn push(&mut self, item: T) -> Result<(), T> {
         ArrayVec::try_push(self, item).map_err(|refused| refused.element())
     }

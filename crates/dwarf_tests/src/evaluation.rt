@@ -4,9 +4,10 @@ ghost use Rattle.dwarf_meaning.specs.Rest.{Start};
 
 use arrayvec::ArrayVec;
 use dwarf_base::{
-    DebugAddrIndex, Encoding, EndianSlice, Format, Reader, Register, RunTimeEndian, UnitOffset,
+    DebugAddrIndex, Encoding, EndianSlice, Error, Format, Reader, Register, RunTimeEndian,
+    UnitOffset,
 };
-use dwarf_eval::eval::{Evaluation, Status};
+use dwarf_eval::eval::{Evaluation, Status, WaitingKind};
 use dwarf_eval::op::{DieReference, EvaluationResult, Expression, Location, Piece};
 use dwarf_replay::{Answer, Replayed, Step, replay};
 use dwarf_store::{ArrayLike, EvaluationStorage, StoreOnHeap};
@@ -162,7 +163,7 @@ pub(crate) fn expect(
     assert!(rt; outcome.pieces.as_slice() == case.pieces, "{:?}", case.text);
 }
 
-/// Replays the case on a fresh evaluation.
+/// Replays the case on a fresh evaluation, and again after a restart.
 pub(crate) fn expect_of<'a, S: EvaluationStorage<Slice<'a>>>(
     rt: &impl Abort,
     alloc: Global,
@@ -173,6 +174,20 @@ pub(crate) fn expect_of<'a, S: EvaluationStorage<Slice<'a>>>(
 {
     let mut answers = Vec::new(alloc);
     let outcome = replayed(rt, alloc, &mut eval, case.steps, &mut answers);
+    expect(rt, &outcome, answers.as_slice(), case);
+    expect_restarted(rt, alloc, &mut eval, case);
+}
+
+// Replays the case on an evaluation that is restarted for it.
+fn expect_restarted<'a, S: EvaluationStorage<Slice<'a>>>(
+    rt: &impl Abort,
+    alloc: Global,
+    eval: &mut Evaluation<Slice<'a>, S>,
+    case: &Case<'a>,
+) {
+    eval.restart(little(case.text), SMALL);
+    let mut answers = Vec::new(alloc);
+    let outcome = replayed(rt, alloc, eval, case.steps, &mut answers);
     expect(rt, &outcome, answers.as_slice(), case);
 }
 
@@ -258,6 +273,82 @@ fn ways_to_begin(rt: HostRuntime) {
     );
     expect_of(&rt, alloc, lists, &case);
     expect_over_lists::<3, 0, 1>(&rt, alloc, &case);
+}
+
+// One evaluation serves for all: after settings, a fault, an open request, and pieces. Nothing of the case before is left.
+#[test]
+fn restarts(rt: HostRuntime) {
+    let settings = [
+        Step::InitialValue(1),
+        Step::ObjectAddress(5),
+        Step::MaxIterations(3),
+        Step::Evaluate,
+    ];
+    let eight = [whole(Location::Address { address: 8 })];
+    let one = [whole(Location::Address { address: 1 })];
+    let register = [Piece {
+        size_in_bits: Some(32),
+        bit_offset: None,
+        location: Location::Register {
+            register: Register(0),
+        },
+    }];
+    let cases = [
+        with_result(
+            &[0x33, 0x97, 0x22],
+            &settings,
+            &[COMPLETE],
+            Some(Generic(8)),
+            &eight,
+        ),
+        without_result(
+            &[0x97],
+            &[Step::Evaluate],
+            &[Answer(Err(Error::InvalidPushObjectAddress))],
+            Replayed::Done,
+            Status::Failed(Error::InvalidPushObjectAddress),
+        ),
+        with_result(
+            &[0x31; 4],
+            &[Step::Evaluate],
+            &[COMPLETE],
+            Some(Generic(1)),
+            &one,
+        ),
+        without_result(
+            &[0x31, 0x91, 0x00],
+            &[Step::Evaluate],
+            &[Answer(Ok(EvaluationResult::RequiresFrameBase))],
+            Replayed::Done,
+            Status::Waiting(WaitingKind::FrameBase),
+        ),
+        without_result(
+            &[0x22],
+            &[Step::Evaluate],
+            &[Answer(Err(Error::NotEnoughStackItems))],
+            Replayed::Done,
+            Status::Failed(Error::NotEnoughStackItems),
+        ),
+        with_result(
+            &[0x50, 0x93, 0x04],
+            &[Step::Evaluate],
+            &[COMPLETE],
+            None,
+            &register,
+        ),
+        without_result(
+            &[],
+            &[Step::Evaluate],
+            &[Answer(Err(Error::NotEnoughStackItems))],
+            Replayed::Done,
+            Status::Failed(Error::NotEnoughStackItems),
+        ),
+    ];
+    let alloc = rt.alloc();
+    let mut eval = Evaluation::new(alloc, little(&[]), SMALL);
+    for case in cases {
+        expect_restarted(&rt, alloc, &mut eval, &case);
+    }
 }
 
 #[test]

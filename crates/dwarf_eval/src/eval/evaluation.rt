@@ -127,6 +127,26 @@ impl<R: Reader + Copy, S: EvaluationStorage<R>> Evaluation<R, S> {
         }
     }
 
+    /// Stands as a fresh evaluation of another `bytecode`, over the same lists with the same limits. It may be called in any
+    /// status, and after a fault too. Nothing that was set stays set. The lists are emptied and keep their memory, so it
+    /// takes none and gives none back.
+    ///
+    /// The encoding's addresses have from 1 to 8 bytes.
+    pub fn restart(&mut self, bytecode: R, encoding: Encoding)
+        requires some { 0 < encoding.address_size }
+        requires fits { encoding.address_size ≤ 8 }
+        ensures status { self.new.status ≡ Start None }
+        ensures setup { self.new.setup
+            ≡ setup_of encoding R.Offset.BITS self.old.setup.limits.values
+            self.old.setup.limits.callers self.old.setup.limits.pieces }
+        ensures text { self.new.text ≡ R.text bytecode }
+        ensures object_address { self.new.store.object_address ≡ None }
+        ensures maximum { self.new.store.maximum ≡ most }
+        ensures unspent { IsUnspent self.new }
+    {
+        self.machine.restart(bytecode, encoding);
+    }
+
     /// Where the evaluation stands, and so which calls it allows.
     pub fn status(&self) -> Status
         ensures shows { Shows self.now.status result }
@@ -209,6 +229,7 @@ impl<R: Reader + Copy, S: EvaluationStorage<R>> Evaluation<R, S> {
     }
 
     /// Goes on with an answer.
+    #[inline(always)]
     fn resume(&mut self, given: Given<R>) -> Result<EvaluationResult<R>>
         requires { IsOpenFor (kind_of_answer (answer_of R.text given)) self.old.status }
         ensures follows { Resumes R.text R.Offset.number
@@ -219,16 +240,10 @@ impl<R: Reader + Copy, S: EvaluationStorage<R>> Evaluation<R, S> {
         ensures admits { IfOk result (λ replied. Admits replied self.new.status) }
         ensures fewer { IfOk result (λ reply. calls_left self.new < calls_left self.old) }
     {
-        match self.machine.state() {
-            EvaluationState::Waiting(_) => {
-                self.machine.resume(given);
-                return reply(&self.machine);
-            }
-            EvaluationState::Failed(error) => return Err(error),
-            EvaluationState::Start(_) => unreachable!(),
-            EvaluationState::Complete(_) => unreachable!(),
-            EvaluationState::Running => unreachable!(),
+        if !self.machine.has_failed() {
+            self.machine.resume(given);
         }
+        reply(&self.machine)
     }
 
     /// Goes on with what memory holds, after `RequiresMemory`.

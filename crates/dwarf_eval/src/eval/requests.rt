@@ -5,7 +5,7 @@ ghost use Rattle.dwarf_meaning.specs.Steps.{RequestReply};
 ghost use Rattle.dwarf_machine.specs.Machine.{request_of, waiting_of};
 ghost use Rattle.dwarf_machine.specs.inner.Steps.{HasReply};
 ghost use Rattle.dwarf_eval.specs.Permits.{Admits};
-ghost use Rattle.dwarf_eval.specs.Evaluation.{IsReplied, reply_of, ok_reply};
+ghost use Rattle.dwarf_eval.specs.Evaluation.{IsEndedBy, IsReplied, reply_of, ok_reply};
 
 use crate::op::{EvaluationResult, Expression};
 use dwarf_base::{Reader, Result};
@@ -95,12 +95,14 @@ pub(crate) fn kind_of_open<R: Reader + Copy>(request: OpenRequest<R>) -> Waiting
 }
 
 /// What the state replies to the caller.
+#[inline(never)]
 pub(crate) fn reply<R: Reader + Copy, S: EvaluationStorage<R>>(
     machine: &Machine<R, S>,
 ) -> Result<EvaluationResult<R>>
     requires { HasReply machine.now.status }
     ensures reply { IsReplied (reply_of R.text R.Offset.number result)
         machine.now.status }
+    ensures ends { IsEndedBy result machine.now.status }
     ensures admits { IfOk result (λ replied. Admits replied machine.now.status) }
 {
     match machine.state() {

@@ -303,6 +303,10 @@ abbrev pub is_running : Status → Bool
 is_running Running = true
 is_running _ = false
 
+abbrev pub has_failed : Status → Bool
+has_failed (FaultStatus error) = true
+has_failed _ = false
+
 abbrev pub is_free : Last → Bool
 is_free (Located location) = false
 is_free _ = true

@@ -1,4 +1,4 @@
-use Rattle.std.proofs.Common.{ℤ, FitsSigned, ap, of_z, rules, subst, sym, to_z, w16}
+use Rattle.std.proofs.Common.{ℤ, FitsSigned, ap, rules, subst, sym, w16}
 use Rattle.std.proofs.lemmas.Int.{to_z-of_z}
 use Rattle.dwarf_meaning.specs.Acts.{act}
 use Rattle.dwarf_meaning.specs.Operations as operation

@@ -28,8 +28,15 @@ impl Job {
     }
 }
 
-/// What both sides do with an expression.
+/// What is done with an expression.
 pub type Work = fn(&[u8], &Job) -> u64;
+
+/// What a side does: a work with each expression, or one with all of them, each so many times before the next.
+#[derive(Clone, Copy)]
+pub enum Side {
+    Each(Work),
+    All(fn(&[Case], u32) -> u64),
+}
 
 /// An expression with its encoding.
 #[derive(Clone, Debug)]

@@ -10,7 +10,7 @@ mod theirs;
 mod works;
 
 use expressions::Numbers;
-use job::{Case, Work};
+use job::{Case, Job, Side, Work};
 use std::hint::black_box;
 use std::process::ExitCode;
 use works::{Made, Timed};
@@ -76,10 +76,11 @@ fn main() -> ExitCode {
 
 /// Compares the checksums of decoding and of evaluation.
 fn compare(cases: &[Case], lists: bool) {
-    let ways: [(&str, Work, Work); 3] = [
+    let ways: [(&str, Work, Work); 4] = [
         ("decode", theirs::decode, ours::decode),
         ("evaluate on the heap", theirs::evaluate_on_heap, ours::evaluate_on_heap),
         ("evaluate in arrays", theirs::evaluate_in_arrays, ours::evaluate_in_arrays),
+        ("restarted on the heap", theirs::evaluate_on_heap, restarted),
     ];
     let mut numbers = Numbers::new();
     let any: Vec<Case> = (0..200_000).map(|_| expressions::any(&mut numbers)).collect();
@@ -144,15 +145,30 @@ fn time_one(work: &Timed, rounds: usize) {
 }
 
 /// Does a work so many times: the sum of its answers, and the nanoseconds.
-fn run(side: Work, work: &Timed, passes: u64) -> (u64, f64) {
+fn run(side: Side, work: &Timed, passes: u64) -> (u64, f64) {
     let start = clock::now();
     let mut total = 0u64;
     for _ in 0..passes {
-        for case in work.cases {
-            for _ in 0..work.each {
-                total = total.wrapping_add(side(black_box(&case.bytes), &case.job));
-            }
-        }
+        total = total.wrapping_add(match side {
+            Side::All(all) => all(black_box(work.cases), work.each),
+            Side::Each(one) => run_each(one, work),
+        });
     }
     (black_box(total), clock::now() - start)
+}
+
+fn run_each(one: Work, work: &Timed) -> u64 {
+    let mut total = 0u64;
+    for case in work.cases {
+        for _ in 0..work.each {
+            total = total.wrapping_add(one(black_box(&case.bytes), &case.job));
+        }
+    }
+    total
+}
+
+/// The same on the heap, by an evaluation that did the expression once, and is restarted for it.
+fn restarted(bytes: &[u8], job: &Job) -> u64 {
+    let case = Case { bytes: bytes.to_vec(), job: *job };
+    ours::restart_on_heap(&[case], 2).wrapping_sub(ours::evaluate_on_heap(bytes, job))
 }

@@ -1,22 +1,32 @@
 //! The works that are timed. To add one, add a line to `all`, or a `Way` with a function on each side.
 
-use crate::job::{Case, Job, Work};
+use crate::job::{Case, Job, Side, Work};
 use crate::{from_c, ours, theirs};
 
 /// How gimli does a work, and how this repository's library does.
 #[derive(Clone, Copy)]
 pub struct Way {
-    pub theirs: Work,
-    pub ours: Work,
+    pub theirs: Side,
+    pub ours: Side,
 }
 
-const DECODE: Way = Way { theirs: theirs::decode, ours: ours::decode };
-const ON_HEAP: Way = Way { theirs: theirs::evaluate_on_heap, ours: ours::evaluate_on_heap };
-const IN_ARRAYS: Way = Way { theirs: theirs::evaluate_in_arrays, ours: ours::evaluate_in_arrays };
-const DECODE_FROM_C: Way = Way { theirs: theirs::decode, ours: from_c::decode };
-const FROM_C: Way = Way { theirs: theirs::evaluate_on_heap, ours: from_c::evaluate };
-const FROM_C_IN_ARRAYS: Way = Way { theirs: theirs::evaluate_in_arrays, ours: from_c::evaluate };
-const OURS_IN_ARRAYS: Way = Way { theirs: theirs::evaluate_on_heap, ours: ours::evaluate_in_arrays };
+const fn each(theirs: Work, ours: Work) -> Way {
+    Way { theirs: Side::Each(theirs), ours: Side::Each(ours) }
+}
+
+const DECODE: Way = each(theirs::decode, ours::decode);
+const ON_HEAP: Way = each(theirs::evaluate_on_heap, ours::evaluate_on_heap);
+const IN_ARRAYS: Way = each(theirs::evaluate_in_arrays, ours::evaluate_in_arrays);
+const OURS_IN_ARRAYS: Way = each(theirs::evaluate_on_heap, ours::evaluate_in_arrays);
+const DECODE_FROM_C: Way = each(theirs::decode, from_c::decode);
+const FROM_C: Way = each(theirs::evaluate_on_heap, from_c::evaluate);
+const FROM_C_IN_ARRAYS: Way = each(theirs::evaluate_in_arrays, from_c::evaluate);
+// gimli has no such call, so it makes an evaluation for each expression.
+const RESTARTED: Way = Way { theirs: Side::Each(theirs::evaluate_on_heap), ours: Side::All(ours::restart_on_heap) };
+const RESTARTED_BESIDE_ARRAYS: Way =
+    Way { theirs: Side::Each(theirs::evaluate_in_arrays), ours: Side::All(ours::restart_on_heap) };
+const RESTARTED_IN_ARRAYS: Way =
+    Way { theirs: Side::Each(theirs::evaluate_in_arrays), ours: Side::All(ours::restart_in_arrays) };
 
 /// A list of expressions, and what is done with each of them.
 pub struct Timed<'a> {
@@ -104,6 +114,11 @@ pub fn all<'a>(cases: &'a [Case], made: &'a Made) -> Vec<Timed<'a>> {
     add("evaluate on the heap, each 16 times".into(), ON_HEAP, cases, 16, 16 * expressions, "expression");
     add("evaluate in arrays, gimli on the heap".into(), OURS_IN_ARRAYS, cases, 1, expressions, "expression");
     add("evaluate in arrays, both".into(), IN_ARRAYS, cases, 1, expressions, "expression");
+    add("evaluate in arrays, both, each 16 times".into(), IN_ARRAYS, cases, 16, 16 * expressions, "expression");
+    add("restarted on the heap, in order".into(), RESTARTED, cases, 1, expressions, "expression");
+    add("restarted on the heap, each 16 times".into(), RESTARTED, cases, 16, 16 * expressions, "expression");
+    add("restarted on the heap, gimli in arrays".into(), RESTARTED_BESIDE_ARRAYS, cases, 1, expressions, "expression");
+    add("restarted in arrays, gimli in arrays".into(), RESTARTED_IN_ARRAYS, cases, 1, expressions, "expression");
     add("from C: decode, in order".into(), DECODE_FROM_C, cases, 1, operations, "operation");
     add("from C: decode, each 16 times".into(), DECODE_FROM_C, cases, 16, 16 * operations, "operation");
     for (count, text) in &made.texts {

@@ -4,15 +4,22 @@ ghost use Rattle.std.specs.Prelude.{◌<◌, ◌≤◌, ◌↔◌, IfOk, IsTrue}
 ghost use Rattle.dwarf_eval.specs.Permits.{Admits};
 ghost use Rattle.dwarf_eval.specs.Evaluation.{IsClosed};
 
-use crate::jobs::{Job, Text};
+use crate::jobs::{Case, Job, Text};
 use crate::sums::{mix, mix_location, mix_option, mix_request, mix_value};
 use arrayvec::ArrayVec;
-use dwarf_base::Result;
+use dwarf_base::{Encoding, EndianSlice, Format, Result, RunTimeEndian};
 use dwarf_eval::eval::{Evaluation, Status};
 use dwarf_eval::op::{EvaluationResult, Piece};
 use dwarf_store::{EvaluationStorage, StoreOnHeap};
 use dwarf_value::{Value, ValueType};
 use std::alloc::Global;
+
+/// What an evaluation begins with that is then restarted.
+const ANY_ENCODING: Encoding = Encoding {
+    address_size: 8,
+    format: Format::Dwarf32,
+    version: 5,
+};
 
 /// Lists of fixed capacities.
 struct Arrays;
@@ -51,6 +58,48 @@ pub fn evaluate_in_arrays(bytes: &[u8], job: Job) -> u64 {
         ArrayVec::new(),
     );
     complete(&mut evaluation, text, job)
+}
+
+pub fn restart_on_heap(alloc: Global, cases: &[Case<'_>], times: u32) -> u64 {
+    let nothing = EndianSlice::new(&[], RunTimeEndian::Little);
+    let mut evaluation: Evaluation<Text<'_>, StoreOnHeap<Global>> = Evaluation::new(
+        alloc,
+        nothing,
+        ANY_ENCODING,
+    );
+    restart_all(&mut evaluation, cases, times)
+}
+
+pub fn restart_in_arrays(cases: &[Case<'_>], times: u32) -> u64 {
+    let nothing = EndianSlice::new(&[], RunTimeEndian::Little);
+    let mut evaluation: Evaluation<Text<'_>, Arrays> = Evaluation::new_in(
+        nothing,
+        ANY_ENCODING,
+        ArrayVec::new(),
+        ArrayVec::new(),
+        ArrayVec::new(),
+    );
+    restart_all(&mut evaluation, cases, times)
+}
+
+/// Evaluates each case so many times by one evaluation: the sum of what `complete` gives.
+#[inline(always)]
+fn restart_all<'a, S: EvaluationStorage<Text<'a>>>(
+    evaluation: &mut Evaluation<Text<'a>, S>,
+    cases: &[Case<'a>],
+    times: u32,
+) -> u64 {
+    let mut total = 0u64;
+    for case in cases {
+        for _ in 0..times {
+            if is_evaluated(case.job) {
+                let text = case.job.text(case.bytes);
+                evaluation.restart(text, case.job.encoding());
+                total = total.wrapping_add(complete(evaluation, text, case.job));
+            }
+        }
+    }
+    total
 }
 
 /// Whether there is evaluation at this size of addresses.

@@ -29,6 +29,14 @@ pub struct Job {
     pub depth: u32,
 }
 
+/// An expression, and what is asked of it.
+#[repr(C)]
+#[derive(Clone, Copy)]
+pub struct Case<'a> {
+    pub bytes: &'a [u8],
+    pub job: Job,
+}
+
 impl Job {
     pub fn encoding(self) -> Encoding
         ensures { result.address_size ≡ self.address_size }

@@ -1,4 +1,4 @@
-//! Decoding and evaluation behind three exports, for a program that times them beside gimli (`bench/`).
+//! Decoding and evaluation behind five exports, for a program that times them beside gimli (`bench/`).
 #![tactic(auto)]
 
 mod decoding;
@@ -6,7 +6,7 @@ mod evaluating;
 mod jobs;
 mod sums;
 
-use jobs::Job;
+use jobs::{Case, Job};
 use std::alloc::Global;
 
 /// Decodes `bytes` to their end or to their first fault: the number of operations, and a checksum where it is asked
@@ -27,4 +27,17 @@ pub extern "C" fn dwarf_bench_evaluate(alloc: Global, bytes: &[u8], job: &Job) -
 #[unsafe(no_mangle)]
 pub extern "C" fn dwarf_bench_evaluate_in_arrays(bytes: &[u8], job: &Job) -> u64 {
     evaluating::evaluate_in_arrays(bytes, *job)
+}
+
+/// Evaluates each case so many times before the next, by one evaluation on the heap, which is restarted for each: the sum
+/// of what `dwarf_bench_evaluate` gives.
+#[unsafe(no_mangle)]
+pub extern "C" fn dwarf_bench_restart(alloc: Global, cases: &[Case<'_>], times: u32) -> u64 {
+    evaluating::restart_on_heap(alloc, cases, times)
+}
+
+/// The same on lists of fixed capacities.
+#[unsafe(no_mangle)]
+pub extern "C" fn dwarf_bench_restart_in_arrays(cases: &[Case<'_>], times: u32) -> u64 {
+    evaluating::restart_in_arrays(cases, times)
 }

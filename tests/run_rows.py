@@ -7,7 +7,8 @@ of parts, each a text or a pair of a text and how often it stands. A row may say
 - `program`: the program's name, the word before its words;
 - `input_times`: how often the input stands, one after another;
 - `input_from`: in place of an input, a `directory`, whose read fails, or a pipe that stays `open` and gives nothing;
-- `output_to`: `full`, a device on which every write fails;
+- `output_to`: `full`, a device on which every write fails, or `closed`, a pipe that nobody reads, with the signal of that
+  ignored;
 - `megabytes`: how much memory the program may have;
 - `output_pattern`: a regular expression for all of the output, in place of it.
 
@@ -85,10 +86,17 @@ def input_of(row):
 
 @contextlib.contextmanager
 def output_of(row):
-    """What the program writes to: the row's reader, or a device that is full."""
+    """What the program writes to: the row's reader, a device that is full, or a pipe that nobody reads."""
     if row.get("output_to") == "full":
         with open("/dev/full", "wb") as device:
             yield device
+    elif row.get("output_to") == "closed":
+        reader, writer = os.pipe()
+        os.close(reader)
+        try:
+            yield writer
+        finally:
+            os.close(writer)
     else:
         yield subprocess.PIPE
 
@@ -110,6 +118,8 @@ def run(row):
             stdout=sink,
             stderr=subprocess.PIPE,
             preexec_fn=limit_of(row),
+            # Python ignores SIGPIPE, and so does the program then: it has to see that its write failed.
+            restore_signals=False,
             timeout=SECONDS,
             check=False,
         )

@@ -247,6 +247,19 @@ static void all_pieces(void)
     check(pieces[0].kind == DWEXPR_HOLDS_BYTES && pieces[0].block_text == 2 && pieces[0].block_offset == 3 &&
               pieces[0].block_length == 3,
           name, "the place of the bytes");
+
+    begin("the same block in the called text", "a3 01 55 98 0500"), start();
+    step(DWEXPR_ANSWER_ENTRY_VALUE, DWEXPR_GENERIC, 1, 0), step(DWEXPR_ANSWER_LOCATION, 0, 0, 2);
+    texts[2].bytes = (const uint8_t *)"\x96\x96\xa3\x01\x55", texts[2].length = 5;
+    run(LE8, 3);
+    want.request = DWEXPR_WANTS_ENTRY_VALUE, want.block_text = 2, want.block_offset = 4, want.block_length = 1, expect();
+
+    begin("the same bytes in the called text", "9e 01 55 93 01 98 0500"), start(), step(DWEXPR_ANSWER_LOCATION, 0, 0, 2);
+    texts[2].bytes = (const uint8_t *)"\x96\x9e\x01\x55\x93\x01", texts[2].length = 6;
+    run(LE8, 3);
+    want.request = DWEXPR_COMPLETE, want.pieces = 2, expect();
+    check(pieces[0].block_text == 0 && pieces[0].block_offset == 2, name, "the place of the first bytes");
+    check(pieces[1].block_text == 2 && pieces[1].block_offset == 3, name, "the place of the second bytes");
 }
 
 static void faults(void)

@@ -23,8 +23,8 @@ import sys
 
 TOP = pathlib.Path(__file__).resolve().parent.parent
 DEFINITIONS = "docs/DEFINITIONS.md"
-# Folders of what is built or kept beside the repository, and no part of it.
-BESIDE = {"out", "build", "target", "__pycache__", ".git"}
+# Folders of what is built or kept beside the repository, and no part of it; and those of a package.
+BESIDE = {"out", "build", "target", "__pycache__", ".git", "dist", "lib", "share"}
 # The pages whose blocks are compared with the files that they name.
 SHOWING = ["README.md", "docs/GUIDE.md", "docs/PROOFS.md"]
 GUIDE = "docs/GUIDE.md"

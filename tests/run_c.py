@@ -23,13 +23,15 @@ import sys
 import tempfile
 
 TOP = pathlib.Path(__file__).resolve().parent.parent
-CRATE = TOP / "crates" / "dwexpr_c"
-ARCHIVE = CRATE / "out" / "libdwexpr_c.a"
+sys.dont_write_bytecode = True
+sys.path.insert(0, str(TOP / "bin"))
+import archive  # noqa: E402
+
+CRATE = archive.CRATE
+ARCHIVE = archive.path_of()
 WARNINGS = ["-Wall", "-Wextra", "-Werror", f"-I{TOP / 'include'}"]
 SANITIZERS = ["-g", "-fsanitize=address,undefined", "-fno-sanitize-recover=all"]
 SECONDS = 300
-# For the archive, which is proved from nothing where nothing of it is kept.
-PROOF_SECONDS = 3600
 
 passed = failed = 0
 
@@ -64,50 +66,6 @@ def check(name, words, **more):
 
 def left_out(what, lack):
     print(f"left out: {what}: there is no {lack}")
-
-
-def libraries_of_crates():
-    """The libraries that each crate names in crates.txt, in its order."""
-    lines = [line.split("#")[0].partition(":") for line in (TOP / "crates.txt").read_text().splitlines()]
-    return {head.split()[0]: rest.split() for head, _, rest in lines if head.strip()}
-
-
-def built_by_the_gate(named):
-    """The libraries below the archive's crate, as `rt ci` has just built them; none, where one is missing or older than a
-    source, or was built by `rt lib`, which builds its own: the gate's hold the statements of each crate alone."""
-    newest = max(path.stat().st_mtime for path in TOP.glob("crates/*/s*/**/*") if path.is_file())
-    below = [CRATE.name]
-    for name in below:
-        below += [it for it in named[name] if it in named and it not in below]
-    libraries = {name: TOP / "crates" / name / "out" / "rlib" / f"{name}.rlib" for name in below[1:]}
-    for library in libraries.values():
-        if not library.exists() or library.stat().st_mtime < newest or (library.parent / "stamp").exists():
-            return {}
-    return libraries
-
-
-def build_words(named, libraries):
-    """The call of the kit's compiler that proves the archive's crate over these libraries, and builds it."""
-    kit = pathlib.Path(run(["rt", "doc"]).stdout.strip()).parent
-    words = [kit / "bin" / "rattle", "build", "--crate-name", CRATE.name, "src/lib.rt", "--crate-type", "staticlib"]
-    for name in ["std", *named[CRATE.name]]:
-        words += ["--extern", f"{name}={libraries.get(name, kit / 'rlibs' / f'{name}.rlib')}"]
-    for folder in [kit / "rlibs", *(library.parent for library in libraries.values())]:
-        words += ["-L", f"dependency={folder}"]
-    words += ["--antt-project", kit / "rattle/logic/antt-project.json", "--logic-built", kit / "logic_built"]
-    words += ["--toolchain", kit / "toolchain", "--jobs", str(min(os.cpu_count() or 1, 4)), "-o", ARCHIVE]
-    return words
-
-
-def build_archive():
-    newest = max(path.stat().st_mtime for path in TOP.glob("crates/*/src/**/*.rt"))
-    if ARCHIVE.exists() and ARCHIVE.stat().st_mtime >= newest:
-        return True
-    ARCHIVE.parent.mkdir(exist_ok=True)
-    named = libraries_of_crates()
-    libraries = built_by_the_gate(named)
-    words = build_words(named, libraries) if libraries else ["rt", "lib"]
-    return check("the archive", words, seconds=PROOF_SECONDS, cwd=CRATE) and ARCHIVE.exists()
 
 
 def header():
@@ -344,7 +302,9 @@ def main():
     if not shutil.which("cc"):
         print("tests/run_c.py: cc isn't on PATH: add a C compiler")
         count(0, 1, "cc")
-    elif build_archive():
+    elif failure := archive.build():
+        count(0, 1, "the archive", failure)
+    else:
         with tempfile.TemporaryDirectory() as name:
             folder = pathlib.Path(name)
             header()

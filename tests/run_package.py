@@ -1,0 +1,205 @@
+#!/usr/bin/env python3
+"""Packs the archive as bin/package does, and uses the package where no `rt` is on PATH and HOME is empty.
+
+- Two packages are the same, byte for byte.
+- examples/decode.c is built by cc, with the words of pkg-config, and by a CMake project; a caller in C++ by c++.
+- The Rust crate is built, and its tests run, by cargo.
+- For aarch64 decode.c is built by Debian's cross compiler and run by qemu-user.
+
+It wants cc; what else is missing is left out, and said so. The last line is `N passed, M failed`.
+"""
+
+import os
+import pathlib
+import shutil
+import subprocess
+import sys
+import tarfile
+import tempfile
+
+TOP = pathlib.Path(__file__).resolve().parent.parent
+ARM = "aarch64-unknown-linux-gnu"
+SECONDS = 3600
+
+CMAKE = """\
+cmake_minimum_required(VERSION 3.10)
+project(user C)
+find_package(dwexpr 0.1 REQUIRED)
+add_executable(decode ${EXAMPLES}/decode.c)
+target_link_libraries(decode dwexpr::dwexpr)
+"""
+
+# DW_OP_fbreg -16, in a frame at 0x3000.
+CPP = """\
+#include <cstdio>
+#include <dwexpr.h>
+
+int main()
+{
+    const uint8_t bytes[] = {0x91, 0x70};
+    const dwexpr_text text = {bytes, sizeof bytes};
+    const dwexpr_encoding encoding = {8, 4, 0, 5};
+    dwexpr_step steps[2] = {};
+    steps[0].kind = DWEXPR_EVALUATE;
+    steps[1].kind = DWEXPR_ANSWER_FRAME_BASE;
+    steps[1].number = 0x3000;
+    dwexpr_outcome outcome;
+    dwexpr_piece piece;
+    const uint32_t code = dwexpr_evaluate(&text, 1, encoding, steps, 2, &outcome, &piece, 1);
+    std::printf("%u 0x%llx\\n", code, static_cast<unsigned long long>(piece.number));
+}
+"""
+
+WORDS = ["8", "4", "5", "le", "916c06"]
+WANTED = "0 DW_OP_fbreg: -20\n2 DW_OP_deref\n"
+
+passed = failed = 0
+
+
+def run(words, **more):
+    words = [str(word) for word in words]
+    try:
+        return subprocess.run(words, text=True, capture_output=True, timeout=SECONDS, check=False, **more)
+    except (OSError, subprocess.TimeoutExpired) as error:
+        return subprocess.CompletedProcess(words, 1, "", str(error))
+
+
+def check(good, name, said=""):
+    global passed, failed
+    passed += bool(good)
+    failed += not good
+    if not good:
+        print(f"FAILED {name}\n{said}".rstrip())
+    return good
+
+
+def check_run(name, words, **more):
+    done = run(words, **more)
+    return check(done.returncode == 0, name, done.stdout + done.stderr)
+
+
+def check_decode(name, words, **more):
+    done = run([*words, *WORDS], **more)
+    check(done.returncode == 0 and done.stdout == WANTED, name, done.stdout + done.stderr)
+
+
+def left_out(what, lack):
+    print(f"left out: {what}: there is no {lack}")
+
+
+def packed(*words):
+    """The package that bin/package writes."""
+    done = run([TOP / "bin/package", *words])
+    if not check(done.returncode == 0, f"bin/package {' '.join(words)}", done.stdout + done.stderr):
+        return None
+    return pathlib.Path(done.stdout.strip())
+
+
+def unpacked(package, folder):
+    with tarfile.open(package) as tar:
+        tar.extractall(folder)
+    return folder / package.name.removesuffix(".tar.gz")
+
+
+def environment(home):
+    """That of one who doesn't have the kit."""
+    folders = os.environ["PATH"].split(":")
+    links = home / "bin"
+    links.mkdir()
+    # A folder may hold `rt` beside a compiler.
+    for folder in folders:
+        if pathlib.Path(folder, "rt").exists():
+            for program in pathlib.Path(folder).iterdir():
+                if program.name != "rt" and not (links / program.name).exists():
+                    (links / program.name).symlink_to(program)
+    plain = [folder for folder in folders if not pathlib.Path(folder, "rt").exists()]
+    kept = {name: os.environ[name] for name in ("CARGO_HOME", "RUSTUP_HOME") if name in os.environ}
+    for name, folder in (("CARGO_HOME", ".cargo"), ("RUSTUP_HOME", ".rustup")):
+        kept.setdefault(name, str(pathlib.Path.home() / folder))
+    return {**kept, "PATH": ":".join([str(links), *plain]), "HOME": str(home)}
+
+
+def by_compilers(package, folder, env):
+    source = package / "share/dwexpr/examples/decode.c"
+    flags = [f"-I{package / 'include'}", f"-L{package / 'lib'}", "-ldwexpr"]
+    if shutil.which("pkg-config"):
+        asked = {**env, "PKG_CONFIG_PATH": str(package / "lib/pkgconfig")}
+        done = run(["pkg-config", "--cflags", "--libs", "dwexpr"], env=asked)
+        check(done.returncode == 0, "pkg-config", done.stderr)
+        flags = done.stdout.split()
+    else:
+        left_out("the words of pkg-config", "pkg-config")
+    program = folder / "decode"
+    if check_run("decode.c by cc", ["cc", "-std=c11", source, *flags, "-o", program], env=env):
+        check_decode("decode.c by cc, run", [program], env=env)
+    if not shutil.which("c++"):
+        return left_out("a caller in C++", "c++")
+    caller, program = folder / "caller.cpp", folder / "caller"
+    caller.write_text(CPP)
+    if check_run("a caller in C++", ["c++", "-std=c++17", "-Wall", "-Wextra", caller, *flags, "-o", program], env=env):
+        done = run([program], env=env)
+        check(done.stdout == "0 0x2ff0\n", "a caller in C++, run", done.stdout + done.stderr)
+
+
+def by_cmake(package, folder, env):
+    if not shutil.which("cmake"):
+        return left_out("a CMake project", "cmake")
+    project = folder / "project"
+    project.mkdir()
+    (project / "CMakeLists.txt").write_text(CMAKE)
+    words = ["cmake", "-S", project, "-B", folder / "made", f"-DCMAKE_PREFIX_PATH={package}"]
+    words.append(f"-DEXAMPLES={package / 'share/dwexpr/examples'}")
+    if check_run("CMake: configure", words, env=env) and check_run(
+        "CMake: build", ["cmake", "--build", folder / "made"], env=env
+    ):
+        check_decode("CMake: run", [folder / "made/decode"], env=env)
+
+
+def by_cargo(package, folder, env):
+    if not shutil.which("cargo"):
+        return left_out("the crate by cargo", "cargo")
+    words = ["--offline", "--quiet", "--manifest-path", package / "share/dwexpr/rust/Cargo.toml"]
+    env = {**env, "CARGO_TARGET_DIR": str(folder / "target")}
+    check_run("the crate by cargo: build", ["cargo", "build", *words], env=env)
+    check_run("the crate by cargo: tests", ["cargo", "test", *words], env=env)
+
+
+def for_arm(folder, env):
+    compiler, runner = "aarch64-linux-gnu-gcc", "qemu-aarch64"
+    for program in (compiler, runner):
+        if not shutil.which(program):
+            return left_out(f"the package for {ARM}", program)
+    package = packed(ARM)
+    if not package:
+        return None
+    package = unpacked(package, folder)
+    program = folder / "decode_arm"
+    words = [compiler, "-static", package / "share/dwexpr/examples/decode.c", f"-I{package / 'include'}"]
+    if check_run(f"decode.c for {ARM}", [*words, f"-L{package / 'lib'}", "-ldwexpr", "-o", program], env=env):
+        check_decode(f"decode.c for {ARM}, run", [runner, program], env=env)
+
+
+def main():
+    with tempfile.TemporaryDirectory() as name:
+        folder = pathlib.Path(name)
+        home = folder / "home"
+        home.mkdir()
+        env = environment(home)
+        check(shutil.which("rt", path=env["PATH"]) is None, "no rt on PATH")
+        package = packed()
+        if package:
+            first = package.read_bytes()
+            check(packed() == package and package.read_bytes() == first, "two packages are the same")
+            here = unpacked(package, folder)
+            by_compilers(here, folder, env)
+            by_cmake(here, folder, env)
+            by_cargo(here, folder, env)
+            check_run("bin/package --prefix", [TOP / "bin/package", "--prefix", folder / "prefix"])
+            check((folder / "prefix/lib/libdwexpr.a").exists(), "the prefix has the archive")
+            for_arm(folder, env)
+    print(f"{passed} passed, {failed} failed")
+    return 1 if failed else 0
+
+
+if __name__ == "__main__":
+    sys.exit(main())

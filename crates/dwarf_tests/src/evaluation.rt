@@ -275,79 +275,99 @@ fn ways_to_begin(rt: HostRuntime) {
     expect_over_lists::<3, 0, 1>(&rt, alloc, &case);
 }
 
-// One evaluation serves for all: after settings, a fault, an open request, and pieces. Nothing of the case before is left.
+// After settings, a fault, an open request, and pieces.
+static RESTARTED: [Case<'static>; 7] = [
+    Case {
+        text: &[0x33, 0x97, 0x22],
+        steps: &[
+            Step::InitialValue(1),
+            Step::ObjectAddress(5),
+            Step::MaxIterations(3),
+            Step::Evaluate,
+        ],
+        told: &[COMPLETE],
+        end: Replayed::Done,
+        status: Status::Complete,
+        value: Some(Generic(8)),
+        pieces: &[Piece {
+            size_in_bits: None,
+            bit_offset: None,
+            location: Location::Address { address: 8 },
+        }],
+    },
+    Case {
+        text: &[0x97],
+        steps: &[Step::Evaluate],
+        told: &[Answer(Err(Error::InvalidPushObjectAddress))],
+        end: Replayed::Done,
+        status: Status::Failed(Error::InvalidPushObjectAddress),
+        value: None,
+        pieces: &[],
+    },
+    Case {
+        text: &[0x31; 4],
+        steps: &[Step::Evaluate],
+        told: &[COMPLETE],
+        end: Replayed::Done,
+        status: Status::Complete,
+        value: Some(Generic(1)),
+        pieces: &[Piece {
+            size_in_bits: None,
+            bit_offset: None,
+            location: Location::Address { address: 1 },
+        }],
+    },
+    Case {
+        text: &[0x31, 0x91, 0x00],
+        steps: &[Step::Evaluate],
+        told: &[Answer(Ok(EvaluationResult::RequiresFrameBase))],
+        end: Replayed::Done,
+        status: Status::Waiting(WaitingKind::FrameBase),
+        value: None,
+        pieces: &[],
+    },
+    Case {
+        text: &[0x22],
+        steps: &[Step::Evaluate],
+        told: &[Answer(Err(Error::NotEnoughStackItems))],
+        end: Replayed::Done,
+        status: Status::Failed(Error::NotEnoughStackItems),
+        value: None,
+        pieces: &[],
+    },
+    Case {
+        text: &[0x50, 0x93, 0x04],
+        steps: &[Step::Evaluate],
+        told: &[COMPLETE],
+        end: Replayed::Done,
+        status: Status::Complete,
+        value: None,
+        pieces: &[Piece {
+            size_in_bits: Some(32),
+            bit_offset: None,
+            location: Location::Register {
+                register: Register(0),
+            },
+        }],
+    },
+    Case {
+        text: &[],
+        steps: &[Step::Evaluate],
+        told: &[Answer(Err(Error::NotEnoughStackItems))],
+        end: Replayed::Done,
+        status: Status::Failed(Error::NotEnoughStackItems),
+        value: None,
+        pieces: &[],
+    },
+];
+
+// One evaluation serves for all. Nothing of the case before is left.
 #[test]
 fn restarts(rt: HostRuntime) {
-    let settings = [
-        Step::InitialValue(1),
-        Step::ObjectAddress(5),
-        Step::MaxIterations(3),
-        Step::Evaluate,
-    ];
-    let eight = [whole(Location::Address { address: 8 })];
-    let one = [whole(Location::Address { address: 1 })];
-    let register = [Piece {
-        size_in_bits: Some(32),
-        bit_offset: None,
-        location: Location::Register {
-            register: Register(0),
-        },
-    }];
-    let cases = [
-        with_result(
-            &[0x33, 0x97, 0x22],
-            &settings,
-            &[COMPLETE],
-            Some(Generic(8)),
-            &eight,
-        ),
-        without_result(
-            &[0x97],
-            &[Step::Evaluate],
-            &[Answer(Err(Error::InvalidPushObjectAddress))],
-            Replayed::Done,
-            Status::Failed(Error::InvalidPushObjectAddress),
-        ),
-        with_result(
-            &[0x31; 4],
-            &[Step::Evaluate],
-            &[COMPLETE],
-            Some(Generic(1)),
-            &one,
-        ),
-        without_result(
-            &[0x31, 0x91, 0x00],
-            &[Step::Evaluate],
-            &[Answer(Ok(EvaluationResult::RequiresFrameBase))],
-            Replayed::Done,
-            Status::Waiting(WaitingKind::FrameBase),
-        ),
-        without_result(
-            &[0x22],
-            &[Step::Evaluate],
-            &[Answer(Err(Error::NotEnoughStackItems))],
-            Replayed::Done,
-            Status::Failed(Error::NotEnoughStackItems),
-        ),
-        with_result(
-            &[0x50, 0x93, 0x04],
-            &[Step::Evaluate],
-            &[COMPLETE],
-            None,
-            &register,
-        ),
-        without_result(
-            &[],
-            &[Step::Evaluate],
-            &[Answer(Err(Error::NotEnoughStackItems))],
-            Replayed::Done,
-            Status::Failed(Error::NotEnoughStackItems),
-        ),
-    ];
     let alloc = rt.alloc();
     let mut eval = Evaluation::new(alloc, little(&[]), SMALL);
-    for case in cases {
-        expect_restarted(&rt, alloc, &mut eval, &case);
+    for case in &RESTARTED {
+        expect_restarted(&rt, alloc, &mut eval, case);
     }
 }
 

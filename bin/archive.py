@@ -35,12 +35,18 @@ def libraries_below(named):
     return {name: TOP / "crates" / name / "out" / "rlib" / f"{name}.rlib" for name in below[1:]}
 
 
+def newest():
+    """When the newest file of code, definitions and proofs was written."""
+    files = (path for part in ("src", "specs", "proofs") for path in TOP.glob(f"crates/*/{part}/**/*"))
+    return max(path.stat().st_mtime for path in files if path.is_file())
+
+
 def built_by_the_gate(libraries):
     """Whether `rt ci` has just built these libraries. None may be missing, or older than a source, or be one of `rt lib`,
     which builds its own: the gate's hold the statements of each crate alone."""
-    newest = max(path.stat().st_mtime for path in TOP.glob("crates/*/s*/**/*") if path.is_file())
+    last = newest()
     return all(
-        library.exists() and library.stat().st_mtime >= newest and not (library.parent / "stamp").exists()
+        library.exists() and library.stat().st_mtime >= last and not (library.parent / "stamp").exists()
         for library in libraries.values()
     )
 
@@ -60,10 +66,9 @@ def build_words(target, named, libraries):
 
 
 def build(target=HERE):
-    """Proves and builds the archive for a target, unless it is there and newer than all code. What went wrong, or ""."""
+    """Proves and builds the archive for a target, unless it is there and newer than all sources. What went wrong, or ""."""
     archive = path_of(target)
-    newest = max(path.stat().st_mtime for path in TOP.glob("crates/*/src/**/*.rt"))
-    if archive.exists() and archive.stat().st_mtime >= newest:
+    if archive.exists() and archive.stat().st_mtime >= newest():
         return ""
     archive.parent.mkdir(parents=True, exist_ok=True)
     named = libraries_of_crates()

@@ -31,7 +31,7 @@ impl Job {
 /// What is done with an expression.
 pub type Work = fn(&[u8], &Job) -> u64;
 
-/// What a side does: a work with each expression, or one with all of them, each so many times before the next.
+/// What a side does: a work with each expression, or one with all of them, each a number of times before the next.
 #[derive(Clone, Copy)]
 pub enum Side {
     Each(Work),

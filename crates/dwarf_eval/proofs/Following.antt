@@ -62,7 +62,7 @@ module _ (old : State) (totals : Refusal → List Input → Total) (new : State)
     reply = told_rest Never new told t ∙ ap (λ (z : Total). reply z.outcome) (sym (later_total h Never [] tt));
     status = t;
     more = λ open_now r inputs l. ap (λ (z : Total). z.outcome) (later_total h r inputs l);
-    kept = λ open_now. h.kept;
+    kept = h.kept;
     spends = h.spends;
   }
 
@@ -73,7 +73,7 @@ module _ (old : State) (totals : Refusal → List Input → Total) (new : State)
     reply = subst (IsReplied told) failed t ∙ sym (ap (λ (z : Total). reply z.outcome) (h.same []));
     status = t;
     more = λ open_now r inputs l. absurd (subst WaitsOrIsComplete failed open_now);
-    kept = λ open_now. h.kept;
+    kept = h.kept;
     spends = h.spends;
   }
 

@@ -66,15 +66,15 @@ IsEndedBy replied (CompleteStatus value) = replied ≡ Ok result.Complete
 IsEndedBy replied (FaultStatus error) = replied ≡ Err error
 IsEndedBy replied _ = Unit {0}
 
--- A call replied what `outcomes` gives for some refusal, or for none; and as long as it isn't over, what is
--- left of the new state is what `outcomes` gives, for all inputs to come.
+-- A call replied what `outcomes` gives for some refusal, or for none; the setup and the settings stay; and as long as it
+-- isn't over, what is left of the new state is what `outcomes` gives, for all inputs to come.
 pub record Follows (old : State) (outcomes : Refusal → List Input → Outcome) (replied : Reply) (new : State) : Type 0 where
   pub refusal : Refusal
   pub may : MayPick old.setup.limits refusal
   pub reply : replied ≡ reply (outcomes refusal [])
   pub status : IsReplied replied new.status
   pub more : WaitsOrIsComplete new.status → (r : Refusal) (inputs : List Input) → IsLater r → outcomes r inputs ≡ rest r new inputs
-  pub kept : WaitsOrIsComplete new.status → Keeps old new
+  pub kept : Keeps old new
   pub spends : Spends old new
 
 -- The same call counts what `paths` gives: for some refusal, or for none, it replies what `outcomes` gives and
@@ -98,12 +98,13 @@ means_path x initial_value r inputs = (course_of x.setup r x.text (first_of x in
 abbrev pub path_after : State → Input → Refusal → List Input → List Position
 path_after x input r inputs = path (before_input r) x (input ∷ inputs)
 
--- `evaluate`: at the start it replies the meaning; after that it replies what it replied, and changes nothing
+-- `evaluate`: at the start it replies the meaning; after that it replies what it replied, and changes nothing; it isn't
+-- called in a request, nor does anything run between calls
 abbrev pub Evaluates : {R O P : Type 0} → (R → Text) → (O → ℕ) → State → State → Result (EvaluationResult R O P) Error → Status → Type 0
 Evaluates text number old new replied (Start initial_value) = Follows old (means old initial_value) (reply_of text number replied) new
 Evaluates text number old new replied (CompleteStatus value) = (replied ≡ Ok result.Complete) × (new ≡ old)
 Evaluates text number old new replied (FaultStatus error) = (replied ≡ Err error) × (new ≡ old)
-Evaluates text number old new replied _ = Unit {0}
+Evaluates text number old new replied _ = ⊥
 
 -- `evaluate` counts the operations on the path of the meaning, and after the start none
 abbrev pub EvaluatesPath : State → State → Reply → Status → Type 0

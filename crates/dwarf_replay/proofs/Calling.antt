@@ -85,13 +85,11 @@ module _ (first : State) where
       spent = spent;
     }
 
-    called_by : (status : Status) → new.status ≡ status → MayPick first.setup.limits (before_inputs n h.refusal) → (WaitsOrIsComplete new.status → Holds first now new) → SpendsInAll (initial_items now.settings.initial_value) first new → ((r : Refusal) → (IsLater r ⊎ (r ≡ h.refusal)) → told ≡ reply (outcomes r []) → Tells first (steps ++ step ∷ []) (given ++ told ∷ []) now (before_inputs n r)) → WentBy first (steps ++ step ∷ []) (given ++ told ∷ []) new status
+    called_by : (status : Status) → new.status ≡ status → MayPick first.setup.limits (before_inputs n h.refusal) → Holds first now new → SpendsInAll (initial_items now.settings.initial_value) first new → ((r : Refusal) → (IsLater r ⊎ (r ≡ h.refusal)) → told ≡ reply (outcomes r []) → Tells first (steps ++ step ∷ []) (given ++ told ∷ []) now (before_inputs n r)) → WentBy first (steps ++ step ∷ []) (given ++ told ∷ []) new status
     called_by (RequestStatus request waiting) e may holds spent walked =
-        let o : WaitsOrIsComplete new.status = subst WaitsOrIsComplete (sym e) tt in
-        called_going o (holds o) spent (λ r l. walked r (inl l))
+        called_going (subst WaitsOrIsComplete (sym e) tt) holds spent (λ r l. walked r (inl l))
     called_by (CompleteStatus value) e may holds spent walked =
-        let o : WaitsOrIsComplete new.status = subst WaitsOrIsComplete (sym e) tt in
-        called_going o (holds o) spent (λ r l. walked r (inl l))
+        called_going (subst WaitsOrIsComplete (sym e) tt) holds spent (λ r l. walked r (inl l))
     called_by (FaultStatus error) e may holds spent walked = called_over error e may spent (walked h.refusal (inr refl) h.reply)
     called_by (Start initial_value) e may holds spent walked = absurd (subst (IsReplied told) e h.status)
     called_by Running e may holds spent walked = absurd (subst (IsReplied told) e h.status)
@@ -120,10 +118,10 @@ module _ (first : State) (steps : List Step) (given : List Reply) (x new : State
       let unstarted : (r : Refusal) → outcome_of first.setup r first.text w.told ≡ None = λ r. ap (outcome_from first.setup r first.text w.told.inputs) w.started in
       called_by first steps given Evaluate x new told (means x initial_value) h now 0 settings refl (ap length w.inputs) means_is (λ o. refl) new.status refl
       (subst (λ (s : Setup). MayPick s.limits h.refusal) w.holds.setup h.may)
-      (λ o. record {
-        setup = (h.kept o).setup ∙ w.holds.setup;
-        object_address = (h.kept o).object_address ∙ w.holds.object_address;
-        maximum = (h.kept o).maximum ∙ w.holds.maximum;
+      (record {
+        setup = h.kept.setup ∙ w.holds.setup;
+        object_address = h.kept.object_address ∙ w.holds.object_address;
+        maximum = h.kept.maximum ∙ w.holds.maximum;
       })
       (spent_more (initial_items settings.initial_value) first x new w.spent h.spends)
       (λ r l e. walked_more first steps given (given ++ told ∷ []) Evaluate r w.told now (w.walked r)
@@ -196,10 +194,10 @@ module _ (first : State) (steps : List Step) (given : List Reply) (x new : State
       let counted : length now.inputs ≡ suc w.taken = omega (arith, lengths, was) in
       called_by first steps given (Resume answer) x new told (after_input x input) h now (suc w.taken) w.settings w.started counted means_is (λ o. refl) new.status refl
       (may_inputs first.setup.limits (suc w.taken) h.refusal (subst (λ (s : Setup). MayPick s.limits h.refusal) w.holds.setup h.may))
-      (λ o. record {
-        setup = (h.kept o).setup ∙ w.holds.setup;
-        object_address = (h.kept o).object_address ∙ w.holds.object_address;
-        maximum = (h.kept o).maximum ∙ w.holds.maximum;
+      (record {
+        setup = h.kept.setup ∙ w.holds.setup;
+        object_address = h.kept.object_address ∙ w.holds.object_address;
+        maximum = h.kept.maximum ∙ w.holds.maximum;
       })
       (spent_more (initial_items settings.initial_value) first x new w.spent h.spends)
       (λ r l s. walked_more first steps given (given ++ told ∷ []) (Resume answer) (before_inputs (suc w.taken) r) w.told now (w.walked (before_input r) (later_before r))

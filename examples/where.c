@@ -8,6 +8,7 @@
 #include <inttypes.h>
 #include <stdio.h>
 
+#include "dwexpr_run.h"
 #include "place.h"
 
 /* ---- what expressions ask for */
@@ -95,7 +96,7 @@ static int read_frame_base(void *context, uint64_t *address)
     dwexpr_outcome outcome;
     dwexpr_piece piece;
     if (!dwarf_attr_integrate(&place->function, DW_AT_frame_base, &attribute) || !find_here(place, &attribute, &text) ||
-        dwexpr_run(text, place->encoding, &callbacks, place, &outcome, &piece, 1) || outcome.pieces != 1)
+        dwexpr_run(text, place->encoding, &callbacks, place, NULL, &outcome, &piece, 1) || outcome.pieces != 1)
         return -1;
     *address = piece.number;
     return piece.kind == DWEXPR_IN_REGISTER ? read_register(place, (uint32_t)piece.number, address) : 0;
@@ -153,12 +154,12 @@ static int read_value(struct place *place, dwexpr_text text, uint8_t *bytes, siz
     static dwexpr_piece pieces[DWEXPR_MAX_PIECES];
     dwexpr_outcome outcome;
     size_t i, done = 0;
-    int ended = dwexpr_run(text, place->encoding, &callbacks, place, &outcome, pieces, DWEXPR_MAX_PIECES);
+    int ended = dwexpr_run(text, place->encoding, &callbacks, place, NULL, &outcome, pieces, DWEXPR_MAX_PIECES);
     if (ended) {
         if (ended < 0)
             printf("unknown: request %" PRIu32 " isn't answered\n", outcome.request);
         else
-            printf("unknown: fault %d\n", ended);
+            printf("unknown: fault: %s\n", dwexpr_code_name(outcome.code));
         return -1;
     }
     for (i = 0; i < outcome.pieces && done < size; i++) {

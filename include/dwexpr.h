@@ -1,16 +1,16 @@
-/* DWARF expressions, decoded and evaluated. Link with libdwexpr_c.a.
+/* DWARF expressions, decoded and evaluated. Link with libdwexpr.a.
  *
  * Debug information says by small programs, DWARF expressions, where a variable is, what a frame's base is, or which
  * value a register had in the caller (DWARF 5, sections 2.5 and 2.6). Here are
  *
- *   dwexpr_decode     the operation at an offset of an expression
- *   dwexpr_evaluate   what an expression comes to, given the answers to what it asked so far
- *   dwexpr_run        the same in one call, with callbacks that answer
+ *   dwexpr_decode        the operation at an offset of an expression
+ *   dwexpr_evaluate      what an expression comes to, given the answers to what it asked so far
+ *   dwexpr_evaluation_*  the same, one answer after another, in memory of the caller's
  *
- * Of the first two each result is proved; dwexpr_run is plain C below, over dwexpr_evaluate.
+ * Each result of these is proved. dwexpr_run.h has plain C over them: one call, with callbacks that answer.
  *
- * No call takes memory, keeps a pointer, waits, or touches errno, a global or a thread-local variable. So each may be
- * made from any thread and from a signal handler; 16 KiB of stack suffice.
+ * No call takes memory, waits, or touches errno, a global or a thread-local variable, and none but dwexpr_evaluation_*
+ * keeps a pointer. So each may be made from any thread and from a signal handler; 16 KiB of stack suffice.
  *
  * What a caller owes, as no call can test it:
  *   - a pointer that is given with a count points to that many items, aligned, which nothing else writes during the
@@ -24,6 +24,8 @@
 
 #include <stddef.h>
 #include <stdint.h>
+
+#define DWEXPR_VERSION "0.1.0"
 
 #ifdef __cplusplus
 extern "C" {
@@ -60,7 +62,9 @@ enum dwexpr_code {
     DWEXPR_BAD_OFFSET = 65,                     /* decode: there is no byte at the offset */
     DWEXPR_BAD_TEXT = 66,                       /* evaluate: no texts, or a step names one that isn't there */
     DWEXPR_BAD_STEP = 67,                       /* evaluate: kind or type of a step is none, or its maximum too large */
-    DWEXPR_MISPLACED = 68                       /* evaluate: the step isn't allowed where it stands */
+    DWEXPR_MISPLACED = 68,                      /* evaluate: the step isn't allowed where it stands */
+    DWEXPR_LOST_TEXT = 69,                      /* resume: bytes of an earlier text are in none of those given now */
+    DWEXPR_TOO_MANY_TEXTS = 70                  /* run: more texts are called than there is room for */
 };
 
 /* How an expression is to be read: what its unit says. */
@@ -294,145 +298,154 @@ uint32_t dwexpr_evaluate(const dwexpr_text *texts, size_t texts_length, dwexpr_e
                          const dwexpr_step *steps, size_t steps_length, dwexpr_outcome *outcome,
                          dwexpr_piece *pieces, size_t pieces_length);
 
-/* ---------------------------------------------------------------- evaluation by callbacks, which isn't proved */
+/* ---------------------------------------------------------------- an evaluation that is held */
 
-/* What an expression may ask for. Each gives back 0; any other number ends the evaluation, and dwexpr_run gives that
- * back. One that is NULL is as one that gives -1. */
-typedef struct dwexpr_callbacks {
-    /* `size` bytes at an address; `space` is NULL but where an address space is named */
-    int (*memory)(void *context, uint64_t address, uint32_t size, const uint64_t *space, uint64_t *content);
-    int (*register_content)(void *context, uint32_t register_number, uint64_t *content);
-    int (*frame_base)(void *context, uint64_t *address);
-    int (*cfa)(void *context, uint64_t *address);
-    int (*tls)(void *context, uint64_t offset, uint64_t *address);
-    /* the value that the expression had on entry of the function */
-    int (*entry_value)(void *context, const uint8_t *bytes, size_t length, uint64_t *content);
-    /* the expression of the entry at an offset in the unit, or in .debug_info; it stays until dwexpr_run ends */
-    int (*location)(void *context, int in_debug_info, uint64_t offset, dwexpr_text *text);
-    int (*parameter)(void *context, uint64_t offset, uint64_t *value);
-    /* NULL here is as one that gives the address as it is */
-    int (*relocated)(void *context, uint64_t address, uint64_t *relocated);
-    int (*indexed)(void *context, uint64_t index, int relocate, uint64_t *address);
-    /* the type of the entry at an offset in the unit, DWEXPR_I8 to DWEXPR_U64; it isn't asked for offset 0 */
-    int (*base_type)(void *context, uint64_t offset, uint32_t *value_type);
-} dwexpr_callbacks;
+/* dwexpr_evaluate begins anew at each request. An evaluation that is held goes on: it is started once, and resumed with
+ * each answer. It lies in memory of the caller's, and can be started again as often as there are expressions:
+ *
+ *     dwexpr_evaluation evaluation = {malloc(dwexpr_evaluation_size())};
+ *     dwexpr_evaluation_begin(&evaluation);
+ *     code = dwexpr_evaluation_start(&evaluation, texts, 1, encoding, steps, 1, &outcome, pieces, 32);
+ *     while (code == DWEXPR_OK && outcome.request != DWEXPR_COMPLETE)
+ *         code = dwexpr_evaluation_resume(&evaluation, texts, 1, answer_to(&outcome), &outcome, pieces, 32);
+ *
+ * What a caller owes besides:
+ *   - the memory has dwexpr_evaluation_size() bytes, is aligned to 8, and is not moved;
+ *   - `begin` is called once on it, before `start` and `resume`, and nothing else writes there;
+ *   - one call at a time;
+ *   - the texts of a start, and those that answers name, stay as they are until the next start, and each call gets the
+ *     same table of texts, to which more may have been added. */
+typedef struct dwexpr_evaluation {
+    void *memory;
+} dwexpr_evaluation;
 
-/* How many steps and texts dwexpr_run has room for, and how many operations there may be; define them before the header
- * for others. An expression may loop: with no maximum it ends after 4294967295 operations, which takes a minute. */
-#ifndef DWEXPR_RUN_STEPS
-#define DWEXPR_RUN_STEPS 64
-#endif
-#ifndef DWEXPR_RUN_TEXTS
-#define DWEXPR_RUN_TEXTS 17
-#endif
-#ifndef DWEXPR_RUN_OPERATIONS
-#define DWEXPR_RUN_OPERATIONS 100000
-#endif
+/* How many bytes of memory an evaluation takes: at most DWEXPR_EVALUATION_SIZE. */
+size_t dwexpr_evaluation_size(void);
 
-/* What dwexpr_run gives back where it has no room for one more answer or text. */
-#define DWEXPR_RUN_NO_ROOM (-2)
+#define DWEXPR_EVALUATION_SIZE 5376
 
-/* Answers what the outcome asks for, into the step. */
-static inline int dwexpr_answer(const dwexpr_outcome *asked, const dwexpr_text *texts, const dwexpr_callbacks *calls,
-                                void *context, dwexpr_step *step, dwexpr_text *called)
+/* Makes the memory an evaluation that can be started. */
+void dwexpr_evaluation_begin(dwexpr_evaluation *evaluation);
+
+/* Starts texts[0] in the steps, mostly settings and then DWEXPR_EVALUATE. It forgets what was started before. What it
+ * answers and writes is what dwexpr_evaluate does; if that is DWEXPR_BAD_ENCODING, or DWEXPR_BAD_TEXT with `step` 0 and
+ * no texts, the evaluation is as it was. */
+uint32_t dwexpr_evaluation_start(dwexpr_evaluation *evaluation, const dwexpr_text *texts, size_t texts_length,
+                                 dwexpr_encoding encoding, const dwexpr_step *steps, size_t steps_length,
+                                 dwexpr_outcome *outcome, dwexpr_piece *pieces, size_t pieces_length);
+
+/* Takes one more step: the answer to what was asked, or a setting.
+ *
+ * Answers 0; a fault, which every later answer gets too; DWEXPR_BAD_TEXT to DWEXPR_MISPLACED, which change nothing; or
+ * DWEXPR_LOST_TEXT. `outcome` is written in each case. It shows what the step answered; after a setting DWEXPR_NOTHING,
+ * or again the end; `step` is 0. Of `pieces` as many as fit are written once the evaluation is complete. */
+uint32_t dwexpr_evaluation_resume(dwexpr_evaluation *evaluation, const dwexpr_text *texts, size_t texts_length,
+                                  dwexpr_step step, dwexpr_outcome *outcome, dwexpr_piece *pieces,
+                                  size_t pieces_length);
+
+/* ---------------------------------------------------------------- blocks and names */
+
+/* The bytes of an operation's block; `bytes` are those that were decoded. */
+static inline dwexpr_text dwexpr_operation_block(const dwexpr_operation *operation, const uint8_t *bytes)
 {
-    uint64_t *number = &step->number;
-    if (asked->base_type) {
-        int failed = calls->base_type ? calls->base_type(context, asked->base_type, &step->value_type) : -1;
-        if (failed)
-            return failed;
-    }
-    switch (asked->request) {
-    case DWEXPR_WANTS_MEMORY:
-        step->kind = DWEXPR_ANSWER_MEMORY;
-        return calls->memory ? calls->memory(context, asked->number, asked->size,
-                                             asked->flag ? &asked->space : NULL, number)
-                             : -1;
-    case DWEXPR_WANTS_REGISTER:
-        step->kind = DWEXPR_ANSWER_REGISTER;
-        return calls->register_content ? calls->register_content(context, asked->register_number, number) : -1;
-    case DWEXPR_WANTS_FRAME_BASE:
-        step->kind = DWEXPR_ANSWER_FRAME_BASE;
-        return calls->frame_base ? calls->frame_base(context, number) : -1;
-    case DWEXPR_WANTS_TLS:
-        step->kind = DWEXPR_ANSWER_TLS;
-        return calls->tls ? calls->tls(context, asked->number, number) : -1;
-    case DWEXPR_WANTS_CFA:
-        step->kind = DWEXPR_ANSWER_CFA;
-        return calls->cfa ? calls->cfa(context, number) : -1;
-    case DWEXPR_WANTS_LOCATION:
-        step->kind = DWEXPR_ANSWER_LOCATION;
-        return calls->location ? calls->location(context, asked->flag != 0, asked->number, called) : -1;
-    case DWEXPR_WANTS_ENTRY_VALUE:
-        step->kind = DWEXPR_ANSWER_ENTRY_VALUE;
-        return calls->entry_value ? calls->entry_value(context, texts[asked->block_text].bytes + asked->block_offset,
-                                                       asked->block_length, number)
-                                  : -1;
-    case DWEXPR_WANTS_PARAMETER:
-        step->kind = DWEXPR_ANSWER_PARAMETER;
-        return calls->parameter ? calls->parameter(context, asked->number, number) : -1;
-    case DWEXPR_WANTS_RELOCATED:
-        step->kind = DWEXPR_ANSWER_RELOCATED;
-        *number = asked->number;
-        return calls->relocated ? calls->relocated(context, asked->number, number) : 0;
-    case DWEXPR_WANTS_INDEXED:
-        step->kind = DWEXPR_ANSWER_INDEXED;
-        return calls->indexed ? calls->indexed(context, asked->number, asked->flag != 0, number) : -1;
-    case DWEXPR_WANTS_BASE_TYPE:
-        step->kind = DWEXPR_ANSWER_BASE_TYPE;
-        return 0;
-    default: /* WebAssembly */
-        return -1;
+    dwexpr_text block = {operation->block_length ? bytes + operation->block_offset : NULL, operation->block_length};
+    return block;
+}
+
+/* The bytes of the block that an outcome asks about. */
+static inline dwexpr_text dwexpr_outcome_block(const dwexpr_outcome *outcome, const dwexpr_text *texts)
+{
+    dwexpr_text block = {NULL, outcome->block_length};
+    if (block.length)
+        block.bytes = texts[outcome->block_text].bytes + outcome->block_offset;
+    return block;
+}
+
+/* The bytes that a piece holds. */
+static inline dwexpr_text dwexpr_piece_block(const dwexpr_piece *piece, const dwexpr_text *texts)
+{
+    dwexpr_text block = {NULL, piece->block_length};
+    if (block.length)
+        block.bytes = texts[piece->block_text].bytes + piece->block_offset;
+    return block;
+}
+
+/* What a code says, in a few words; NULL if there is no such code. */
+static inline const char *dwexpr_code_name(uint32_t code)
+{
+    switch (code) {
+    case DWEXPR_OK: return "no fault";
+    case DWEXPR_UNEXPECTED_EOF: return "an operation is cut off";
+    case DWEXPR_BAD_UNSIGNED_LEB128: return "an unsigned LEB128 number is too large";
+    case DWEXPR_BAD_SIGNED_LEB128: return "a signed LEB128 number is too large";
+    case DWEXPR_UNSUPPORTED_ADDRESS_SIZE: return "no address has this size";
+    case DWEXPR_UNSUPPORTED_OFFSET: return "an offset is too large";
+    case DWEXPR_UNSUPPORTED_REGISTER: return "no register has this number";
+    case DWEXPR_INVALID_EXPRESSION: return "no operation has this opcode";
+    case DWEXPR_INVALID_PIECE_SIZE: return "a piece is too large";
+    case DWEXPR_UNSUPPORTED_TYPE_OPERATION: return "the operation has no meaning for values of this type";
+    case DWEXPR_TYPE_MISMATCH: return "two values have different types";
+    case DWEXPR_DIVISION_BY_ZERO: return "a division by zero";
+    case DWEXPR_INVALID_SHIFT_EXPRESSION: return "a shift by a negative number";
+    case DWEXPR_NOT_ENOUGH_STACK_ITEMS: return "a value is missing on the stack";
+    case DWEXPR_INVALID_DEREF_SIZE: return "more bytes are read than an address has";
+    case DWEXPR_INVALID_PUSH_OBJECT_ADDRESS: return "no object's address was set";
+    case DWEXPR_UNSUPPORTED_EVALUATION: return "the operation can't be evaluated";
+    case DWEXPR_BAD_BRANCH_TARGET: return "a branch leaves the expression";
+    case DWEXPR_TOO_MANY_ITERATIONS: return "too many operations";
+    case DWEXPR_INVALID_PIECE: return "the last piece is missing";
+    case DWEXPR_INVALID_EXPRESSION_TERMINATOR: return "a location is followed by another operation than a piece";
+    case DWEXPR_STACK_FULL: return "a list is full";
+    case DWEXPR_BAD_ENCODING: return "no such encoding";
+    case DWEXPR_BAD_OFFSET: return "no byte is at this offset";
+    case DWEXPR_BAD_TEXT: return "no such text";
+    case DWEXPR_BAD_STEP: return "no such step";
+    case DWEXPR_MISPLACED: return "the step isn't allowed here";
+    case DWEXPR_LOST_TEXT: return "a text of before isn't there";
+    case DWEXPR_TOO_MANY_TEXTS: return "too many texts are called";
+    default: return NULL;
     }
 }
 
-/* Evaluates an expression, with the settings of the caller's before the start, DWEXPR_SET_*. Gives back 0 where it is
- * complete; a code above 0, which the outcome has too; what a callback gave; or DWEXPR_RUN_NO_ROOM. It takes 2 KiB of
- * stack for its lists. */
-static inline int dwexpr_run_with(const dwexpr_step *settings, size_t settings_length, dwexpr_text text,
-                                  dwexpr_encoding encoding, const dwexpr_callbacks *calls, void *context,
-                                  dwexpr_outcome *outcome, dwexpr_piece *pieces, size_t pieces_length)
+/* The name of an opcode, as "DW_OP_deref"; NULL if it is the opcode of no operation. */
+static inline const char *dwexpr_opcode_name(uint32_t opcode)
 {
-    dwexpr_text texts[DWEXPR_RUN_TEXTS];
-    dwexpr_step steps[DWEXPR_RUN_STEPS];
-    size_t texts_length = 1, steps_length;
-    const dwexpr_step empty_step = {DWEXPR_EVALUATE, DWEXPR_GENERIC, 0, 0};
-    if (settings_length >= DWEXPR_RUN_STEPS)
-        return DWEXPR_RUN_NO_ROOM;
-    for (steps_length = 0; steps_length < settings_length; steps_length++)
-        steps[steps_length] = settings[steps_length];
-    texts[0] = text;
-    steps[steps_length++] = empty_step;
-    for (;;) {
-        dwexpr_step *step;
-        dwexpr_text called = {NULL, 0};
-        int failed;
-        uint32_t code =
-            dwexpr_evaluate(texts, texts_length, encoding, steps, steps_length, outcome, pieces, pieces_length);
-        if (code != DWEXPR_OK || outcome->request == DWEXPR_COMPLETE)
-            return (int)code;
-        if (steps_length == DWEXPR_RUN_STEPS)
-            return DWEXPR_RUN_NO_ROOM;
-        step = &steps[steps_length++];
-        *step = empty_step;
-        failed = dwexpr_answer(outcome, texts, calls, context, step, &called);
-        if (failed)
-            return failed;
-        if (step->kind == DWEXPR_ANSWER_LOCATION) {
-            if (texts_length == DWEXPR_RUN_TEXTS)
-                return DWEXPR_RUN_NO_ROOM;
-            step->text = texts_length;
-            texts[texts_length++] = called;
-        }
-    }
-}
-
-/* The same with one setting, a maximum of DWEXPR_RUN_OPERATIONS. */
-static inline int dwexpr_run(dwexpr_text text, dwexpr_encoding encoding, const dwexpr_callbacks *calls, void *context,
-                             dwexpr_outcome *outcome, dwexpr_piece *pieces, size_t pieces_length)
-{
-    const dwexpr_step maximum = {DWEXPR_SET_MAX_ITERATIONS, DWEXPR_NO_TYPE, DWEXPR_RUN_OPERATIONS, 0};
-    return dwexpr_run_with(&maximum, 1, text, encoding, calls, context, outcome, pieces, pieces_length);
+    static const char *const names[256] = {
+        NULL, NULL, NULL, "DW_OP_addr", NULL, NULL, "DW_OP_deref", NULL, "DW_OP_const1u", "DW_OP_const1s",
+        "DW_OP_const2u", "DW_OP_const2s", "DW_OP_const4u", "DW_OP_const4s", "DW_OP_const8u", "DW_OP_const8s",
+        "DW_OP_constu", "DW_OP_consts", "DW_OP_dup", "DW_OP_drop", "DW_OP_over", "DW_OP_pick", "DW_OP_swap",
+        "DW_OP_rot", "DW_OP_xderef", "DW_OP_abs", "DW_OP_and", "DW_OP_div", "DW_OP_minus", "DW_OP_mod", "DW_OP_mul",
+        "DW_OP_neg", "DW_OP_not", "DW_OP_or", "DW_OP_plus", "DW_OP_plus_uconst", "DW_OP_shl", "DW_OP_shr",
+        "DW_OP_shra", "DW_OP_xor", "DW_OP_bra", "DW_OP_eq", "DW_OP_ge", "DW_OP_gt", "DW_OP_le", "DW_OP_lt",
+        "DW_OP_ne", "DW_OP_skip", "DW_OP_lit0", "DW_OP_lit1", "DW_OP_lit2", "DW_OP_lit3", "DW_OP_lit4", "DW_OP_lit5",
+        "DW_OP_lit6", "DW_OP_lit7", "DW_OP_lit8", "DW_OP_lit9", "DW_OP_lit10", "DW_OP_lit11", "DW_OP_lit12",
+        "DW_OP_lit13", "DW_OP_lit14", "DW_OP_lit15", "DW_OP_lit16", "DW_OP_lit17", "DW_OP_lit18", "DW_OP_lit19",
+        "DW_OP_lit20", "DW_OP_lit21", "DW_OP_lit22", "DW_OP_lit23", "DW_OP_lit24", "DW_OP_lit25", "DW_OP_lit26",
+        "DW_OP_lit27", "DW_OP_lit28", "DW_OP_lit29", "DW_OP_lit30", "DW_OP_lit31", "DW_OP_reg0", "DW_OP_reg1",
+        "DW_OP_reg2", "DW_OP_reg3", "DW_OP_reg4", "DW_OP_reg5", "DW_OP_reg6", "DW_OP_reg7", "DW_OP_reg8",
+        "DW_OP_reg9", "DW_OP_reg10", "DW_OP_reg11", "DW_OP_reg12", "DW_OP_reg13", "DW_OP_reg14", "DW_OP_reg15",
+        "DW_OP_reg16", "DW_OP_reg17", "DW_OP_reg18", "DW_OP_reg19", "DW_OP_reg20", "DW_OP_reg21", "DW_OP_reg22",
+        "DW_OP_reg23", "DW_OP_reg24", "DW_OP_reg25", "DW_OP_reg26", "DW_OP_reg27", "DW_OP_reg28", "DW_OP_reg29",
+        "DW_OP_reg30", "DW_OP_reg31", "DW_OP_breg0", "DW_OP_breg1", "DW_OP_breg2", "DW_OP_breg3", "DW_OP_breg4",
+        "DW_OP_breg5", "DW_OP_breg6", "DW_OP_breg7", "DW_OP_breg8", "DW_OP_breg9", "DW_OP_breg10", "DW_OP_breg11",
+        "DW_OP_breg12", "DW_OP_breg13", "DW_OP_breg14", "DW_OP_breg15", "DW_OP_breg16", "DW_OP_breg17",
+        "DW_OP_breg18", "DW_OP_breg19", "DW_OP_breg20", "DW_OP_breg21", "DW_OP_breg22", "DW_OP_breg23",
+        "DW_OP_breg24", "DW_OP_breg25", "DW_OP_breg26", "DW_OP_breg27", "DW_OP_breg28", "DW_OP_breg29",
+        "DW_OP_breg30", "DW_OP_breg31", "DW_OP_regx", "DW_OP_fbreg", "DW_OP_bregx", "DW_OP_piece", "DW_OP_deref_size",
+        "DW_OP_xderef_size", "DW_OP_nop", "DW_OP_push_object_address", "DW_OP_call2", "DW_OP_call4", "DW_OP_call_ref",
+        "DW_OP_form_tls_address", "DW_OP_call_frame_cfa", "DW_OP_bit_piece", "DW_OP_implicit_value",
+        "DW_OP_stack_value", "DW_OP_implicit_pointer", "DW_OP_addrx", "DW_OP_constx", "DW_OP_entry_value",
+        "DW_OP_const_type", "DW_OP_regval_type", "DW_OP_deref_type", "DW_OP_xderef_type", "DW_OP_convert",
+        "DW_OP_reinterpret", NULL, NULL, NULL, NULL, NULL, NULL, NULL, NULL, NULL, NULL, NULL, NULL, NULL, NULL, NULL,
+        NULL, NULL, NULL, NULL, NULL, NULL, NULL, NULL, NULL, NULL, NULL, NULL, NULL, NULL, NULL, NULL, NULL, NULL,
+        NULL, NULL, NULL, NULL, NULL, NULL, NULL, NULL, NULL, NULL, NULL, NULL, NULL, NULL, NULL, NULL, NULL, NULL,
+        NULL, NULL, NULL, "DW_OP_GNU_push_tls_address", NULL, NULL, NULL, NULL, NULL, NULL, NULL, NULL, NULL, NULL,
+        NULL, NULL, "DW_OP_WASM_location", NULL, NULL, "DW_OP_GNU_uninit", NULL, "DW_OP_GNU_implicit_pointer",
+        "DW_OP_GNU_entry_value", "DW_OP_GNU_const_type", "DW_OP_GNU_regval_type", "DW_OP_GNU_deref_type",
+        "DW_OP_GNU_convert", NULL, "DW_OP_GNU_reinterpret", "DW_OP_GNU_parameter_ref", "DW_OP_GNU_addr_index",
+        "DW_OP_GNU_const_index", "DW_OP_GNU_variable_value", NULL, NULL,
+    };
+    return opcode < 256 ? names[opcode] : NULL;
 }
 
 #ifdef __cplusplus
@@ -449,6 +462,7 @@ static inline int dwexpr_run(dwexpr_text text, dwexpr_encoding encoding, const d
 #endif
 #define DWEXPR_AT(type, field, place) DWEXPR_ASSERT(type##_##field, offsetof(type, field) == (place))
 
+DWEXPR_ASSERT(evaluation, sizeof(dwexpr_evaluation) == 8);
 DWEXPR_ASSERT(words, sizeof(size_t) == 8 && sizeof(void *) == 8);
 DWEXPR_ASSERT(encoding, sizeof(dwexpr_encoding) == 4);
 DWEXPR_AT(dwexpr_encoding, address_size, 0);

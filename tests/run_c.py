@@ -4,8 +4,8 @@
 - tests/c/*.c: each field of each operation and outcome, each code, guard pages, a signal handler; as they are, and
   built with the sanitizers of addresses and of undefined behaviour. decode.c is given the vectors of
   tests/vectors/decode.json, and cut.c the expressions of tests/rows.
-- include/dwexpr.h: without a warning as C11, C17 and C++17. The structs of the crate and of wrapper/ have its fields,
-  by name, type and order, and so the places that it asserts.
+- include: the headers, without a warning as C11, C17 and C++17. The structs of the crate and of wrapper/ have the fields
+  of dwexpr.h, by name, type and order, and so the places that it asserts.
 - wrapper/: its tests, by rustc alone and by cargo.
 - examples/: decode is compared with what it is to print. expressions and where need libdw, and are run where it is;
   what where prints is compared with gdb, where that is.
@@ -68,8 +68,8 @@ def left_out(what, lack):
     print(f"left out: {what}: there is no {lack}")
 
 
-def header():
-    text = '#include "dwexpr.h"\nint main(void) { return 0; }\n'
+def headers():
+    text = '#include "dwexpr_run.h"\nint main(void) { return 0; }\n'
     for compiler, words in [
         ("cc", ["-std=c11"]),
         ("cc", ["-std=c17"]),
@@ -77,7 +77,7 @@ def header():
         ("clang", ["-std=c11"]),
         ("clang++", ["-std=c++17", "-x", "c++"]),
     ]:
-        name = f"dwexpr.h by {compiler} {words[0]}"
+        name = f"the headers by {compiler} {words[0]}"
         if not shutil.which(compiler):
             left_out(name, compiler)
             continue
@@ -138,6 +138,9 @@ def layout():
         count_one(f"layout of {name}: the wrapper", fields_of(wrapper, f"Raw{name.title()}"), wanted)
         count_one(f"layout of {name}: places", [(field, int(place)) for field, place in asserted], places)
         count_one(f"layout of {name}: sizes", in_crate + in_header, [str(size)] * 2)
+    version = re.search(r'DWEXPR_VERSION "(.*)"', header).group(1)
+    in_wrapper = re.search(r'^version = "(.*)"', (TOP / "wrapper/Cargo.toml").read_text(), re.MULTILINE).group(1)
+    count_one("the version", version, in_wrapper)
 
 
 def count_one(name, got, wanted):
@@ -221,7 +224,7 @@ DECODED = """\
   0 DW_OP_reg5
 6 DW_OP_implicit_value 2 byte block: aa bb
 10 DW_OP_bit_piece: size: 3 offset: 5
-13 fault 7 (1)
+13 fault: no operation has this opcode (1)
 """
 
 
@@ -307,7 +310,7 @@ def main():
     else:
         with tempfile.TemporaryDirectory() as name:
             folder = pathlib.Path(name)
-            header()
+            headers()
             layout()
             callers(folder)
             wrapper(folder)

@@ -1,5 +1,7 @@
-/* Each request, answer, kind of piece and code of dwexpr_evaluate, and the callbacks of dwexpr_run. */
+/* Each request, answer, kind of piece and code, of dwexpr_evaluate and of an evaluation that is held, and the callbacks
+ * of dwexpr_run. */
 #include "check.h"
+#include "dwexpr_run.h"
 
 #define MANY 40
 
@@ -9,6 +11,8 @@ static dwexpr_step steps[80];
 static size_t steps_length;
 static dwexpr_outcome outcome, want;
 static dwexpr_piece pieces[MANY];
+static uint64_t memory[DWEXPR_EVALUATION_SIZE / 8];
+static dwexpr_evaluation evaluation = {memory};
 static const char *name;
 
 static void begin(const char *row, const char *digits)
@@ -34,6 +38,33 @@ static void start(void)
     step(DWEXPR_EVALUATE, 0, 0, 0);
 }
 
+/* An evaluation that is held is started with the steps up to the first DWEXPR_EVALUATE, and resumed with the others:
+ * what it answers at last is what dwexpr_evaluate did. Only after a setting in a request it shows nothing. */
+static void hold(dwexpr_encoding encoding, size_t texts_length)
+{
+    static dwexpr_outcome held;
+    static dwexpr_piece places[MANY];
+    uint32_t code, last = steps_length ? steps[steps_length - 1].kind : 0;
+    size_t at = 0;
+    while (at < steps_length && steps[at].kind != DWEXPR_EVALUATE)
+        at++;
+    at += at < steps_length;
+    memset(&held, 0xa5, sizeof held);
+    memset(places, 0xa5, sizeof places);
+    code = dwexpr_evaluation_start(&evaluation, texts, texts_length, encoding, steps, at, &held, places, MANY);
+    while (code == DWEXPR_OK && at < steps_length) {
+        code = dwexpr_evaluation_resume(&evaluation, texts, texts_length, steps[at], &held, places, MANY);
+        check(held.step == 0, name, "held: the step");
+        held.step = code ? at : 0;
+        at++;
+    }
+    check(code == held.code, name, "held: the code that is given back is the outcome's");
+    if (outcome.request > DWEXPR_COMPLETE && last >= DWEXPR_SET_INITIAL_VALUE && last < DWEXPR_EVALUATE)
+        return;
+    check(!memcmp(&held, &outcome, sizeof held), name, "held: the outcome");
+    check(code || !memcmp(places, pieces, sizeof places), name, "held: the pieces");
+}
+
 /* No struct has padding, so that they are compared as bytes. */
 static void run(dwexpr_encoding encoding, size_t texts_length)
 {
@@ -42,6 +73,7 @@ static void run(dwexpr_encoding encoding, size_t texts_length)
     memset(pieces, 0xa5, sizeof pieces);
     code = dwexpr_evaluate(texts, texts_length, encoding, steps, steps_length, &outcome, pieces, MANY);
     check(code == outcome.code, name, "the code that is given back is the outcome's");
+    hold(encoding, texts_length);
 }
 
 static void expect(void)
@@ -412,6 +444,18 @@ static int give_type(void *context, uint64_t offset, uint32_t *value_type)
     return 0;
 }
 
+/* Two texts in turn, or a new one each time. */
+static int give_many(void *context, int in_debug_info, uint64_t offset, dwexpr_text *text)
+{
+    static const uint8_t nops[2 * DWEXPR_RUN_TEXTS] = {0};
+    uint64_t *calls = (uint64_t *)context;
+    (void)offset;
+    text->bytes = nops + (in_debug_info ? *calls % (2 * DWEXPR_RUN_TEXTS) : *calls % 2);
+    text->length = 0;
+    *calls += 1;
+    return 0;
+}
+
 static int refuse(void *context, uint64_t *number)
 {
     (void)context;
@@ -434,6 +478,7 @@ static void callbacks(void)
     };
     uint64_t context = 100;
     dwexpr_callbacks calls, none;
+    int refusal;
     size_t i;
     memset(&none, 0, sizeof none);
     calls = none;
@@ -442,35 +487,130 @@ static void callbacks(void)
     calls.relocated = give_more, calls.indexed = give_indexed, calls.base_type = give_type;
     for (i = 0; i < sizeof rows / sizeof *rows; i++) {
         begin(rows[i].name, rows[i].bytes);
-        check(dwexpr_run(texts[0], LE8, &calls, &context, &outcome, pieces, MANY) == 0, name, "a callback: the result");
+        check(dwexpr_run(texts[0], LE8, &calls, &context, NULL, &outcome, pieces, MANY) == 0, name, "the result");
         check(outcome.request == DWEXPR_COMPLETE && outcome.value == rows[i].value, name, "a callback: the value");
-        if (strcmp(rows[i].name, "relocated"))
-            check(dwexpr_run(texts[0], LE8, &none, &context, &outcome, pieces, MANY) == -1, name, "no callback");
+        if (strcmp(rows[i].name, "relocated")) {
+            refusal = 0;
+            check(dwexpr_run(texts[0], LE8, &none, &context, &refusal, &outcome, pieces, MANY) == DWEXPR_REFUSED, name,
+                  "no callback");
+            check(refusal == -1, name, "no callback: the refusal");
+        }
     }
     begin("relocated without a callback", "03 0100000000000000");
-    check(dwexpr_run(texts[0], LE8, &none, NULL, &outcome, pieces, MANY) == 0 && outcome.value == 1, name, "the value");
+    check(dwexpr_run(texts[0], LE8, &none, NULL, NULL, &outcome, pieces, MANY) == 0, name, "the result");
+    check(outcome.value == 1, name, "the value");
     begin("a type", "09 ff a8 02 9f");
-    check(dwexpr_run(texts[0], LE8, &calls, &context, &outcome, pieces, MANY) == 0, name, "the result");
+    check(dwexpr_run(texts[0], LE8, &calls, &context, NULL, &outcome, pieces, MANY) == 0, name, "the result");
     check(pieces[0].kind == DWEXPR_HOLDS_VALUE && pieces[0].value_type == DWEXPR_I8, name, "the piece");
     begin("a refusal", "9c");
     calls.cfa = refuse;
-    check(dwexpr_run(texts[0], LE8, &calls, &context, &outcome, pieces, MANY) == 77, name, "the result");
+    check(dwexpr_run(texts[0], LE8, &calls, &context, &refusal, &outcome, pieces, MANY) == DWEXPR_REFUSED, name, "it");
+    check(refusal == 77, name, "its number");
+    check(dwexpr_run(texts[0], LE8, &calls, &context, NULL, &outcome, pieces, MANY) == DWEXPR_REFUSED, name, "again");
     begin("a fault", "01");
-    check(dwexpr_run(texts[0], LE8, &calls, &context, &outcome, pieces, MANY) == DWEXPR_INVALID_EXPRESSION, name, "it");
+    check(dwexpr_run(texts[0], LE8, &calls, &context, NULL, &outcome, pieces, MANY) == DWEXPR_INVALID_EXPRESSION, name,
+          "it");
+    begin("a bad encoding", "01");
+    check(dwexpr_run(texts[0], encoding_of(9, 4, 5, 0), &calls, &context, NULL, &outcome, pieces, MANY) ==
+              DWEXPR_BAD_ENCODING,
+          name, "it");
     begin("a branch for ever", "2f fdff");
-    check(dwexpr_run(texts[0], LE8, &calls, &context, &outcome, pieces, MANY) == DWEXPR_TOO_MANY_ITERATIONS, name, "it");
+    check(dwexpr_run(texts[0], LE8, &calls, &context, NULL, &outcome, pieces, MANY) == DWEXPR_TOO_MANY_ITERATIONS, name,
+          "it");
     begin("settings", "97 22"), step(DWEXPR_SET_INITIAL_VALUE, 0, 3, 0), step(DWEXPR_SET_OBJECT_ADDRESS, 0, 4, 0);
-    check(dwexpr_run_with(steps, 2, texts[0], LE8, &none, NULL, &outcome, pieces, MANY) == 0, name, "the result");
+    check(dwexpr_run_in(&evaluation, steps, 2, texts[0], LE8, &none, NULL, NULL, &outcome, pieces, MANY) == 0, name,
+          "the result");
     check(outcome.value == 7 && pieces[0].number == 7, name, "the value");
-    check(dwexpr_run_with(steps, DWEXPR_RUN_STEPS, texts[0], LE8, &none, NULL, &outcome, pieces, MANY) ==
-              DWEXPR_RUN_NO_ROOM,
-          name, "too many");
-    begin("too many answers", "77 00 13 2f faff");
-    check(dwexpr_run(texts[0], LE8, &calls, &context, &outcome, pieces, MANY) == DWEXPR_RUN_NO_ROOM, name, "it");
+    begin("many answers", "77 00 13 2f faff");
+    check(dwexpr_run(texts[0], LE8, &calls, &context, NULL, &outcome, pieces, MANY) == DWEXPR_TOO_MANY_ITERATIONS, name,
+          "it");
+    calls.location = give_many;
+    context = 0;
+    begin("two texts, many times", "98 0000 2f faff");
+    check(dwexpr_run(texts[0], LE8, &calls, &context, NULL, &outcome, pieces, MANY) == DWEXPR_TOO_MANY_ITERATIONS, name,
+          "it");
+    check(context == DWEXPR_RUN_OPERATIONS / 2, name, "the calls");
+    context = 0;
+    begin("many texts", "9a 00000000 2f f8ff");
+    check(dwexpr_run(texts[0], LE8, &calls, &context, NULL, &outcome, pieces, MANY) == DWEXPR_TOO_MANY_TEXTS, name,
+          "it");
+    check(context == DWEXPR_RUN_TEXTS, name, "the calls");
+}
+
+/* What an evaluation that is held does, and dwexpr_evaluate can't. */
+static void holding(void)
+{
+    static uint8_t other[] = {0x96, 0x96, 0x96};
+    const dwexpr_step entry_value = {DWEXPR_ANSWER_ENTRY_VALUE, DWEXPR_GENERIC, 5, 0};
+    const dwexpr_step cfa = {DWEXPR_ANSWER_CFA, DWEXPR_GENERIC, 5, 0};
+    const dwexpr_step object = {DWEXPR_SET_OBJECT_ADDRESS, 0, 5, 0};
+    dwexpr_evaluation unstarted;
+    uint64_t more[DWEXPR_EVALUATION_SIZE / 8];
+
+    name = "the size";
+    check(dwexpr_evaluation_size() <= DWEXPR_EVALUATION_SIZE, name, "at most");
+    check(dwexpr_evaluation_size() + 512 > DWEXPR_EVALUATION_SIZE, name, "not much less");
+
+    name = "not started";
+    unstarted.memory = more;
+    dwexpr_evaluation_begin(&unstarted);
+    check(dwexpr_evaluation_resume(&unstarted, NULL, 0, cfa, &outcome, NULL, 0) == DWEXPR_MISPLACED, name, "the code");
+
+    begin("a setting in a request", "9c 97 22"), start();
+    dwexpr_evaluation_start(&evaluation, texts, 1, LE8, steps, 1, &outcome, pieces, MANY);
+    check(outcome.request == DWEXPR_WANTS_CFA, name, "the request");
+    dwexpr_evaluation_resume(&evaluation, texts, 1, object, &outcome, pieces, MANY);
+    expect();
+    dwexpr_evaluation_resume(&evaluation, texts, 1, cfa, &outcome, pieces, MANY);
+    check(outcome.request == DWEXPR_COMPLETE && outcome.value == 10, name, "the value");
+
+    begin("a bad start", "9c"), start();
+    dwexpr_evaluation_start(&evaluation, texts, 1, LE8, steps, 1, &outcome, pieces, MANY);
+    check(dwexpr_evaluation_start(&evaluation, texts, 1, encoding_of(0, 4, 5, 0), steps, 1, &outcome, pieces, MANY) ==
+              DWEXPR_BAD_ENCODING,
+          name, "the encoding");
+    check(dwexpr_evaluation_start(&evaluation, texts, 0, LE8, steps, 1, &outcome, pieces, MANY) == DWEXPR_BAD_TEXT,
+          name, "no text");
+    dwexpr_evaluation_resume(&evaluation, texts, 1, cfa, &outcome, pieces, MANY);
+    check(outcome.request == DWEXPR_COMPLETE && outcome.value == 5, name, "the request stays open");
+
+    begin("a fault is kept", "9c 01"), start();
+    dwexpr_evaluation_start(&evaluation, texts, 1, LE8, steps, 1, &outcome, pieces, MANY);
+    dwexpr_evaluation_resume(&evaluation, texts, 1, cfa, &outcome, pieces, MANY);
+    end(DWEXPR_INVALID_EXPRESSION, 1, 0), expect();
+    dwexpr_evaluation_resume(&evaluation, texts, 1, cfa, &outcome, pieces, MANY);
+    end(DWEXPR_INVALID_EXPRESSION, 1, 0), expect();
+    check(dwexpr_evaluation_start(&evaluation, texts, 1, LE8, steps, 1, &outcome, pieces, MANY) == 0, name, "anew");
+
+    begin("other texts", "a3 01 55 a3 01 56"), start();
+    dwexpr_evaluation_start(&evaluation, texts, 1, LE8, steps, 1, &outcome, pieces, MANY);
+    check(outcome.request == DWEXPR_WANTS_ENTRY_VALUE, name, "the request");
+    check(dwexpr_outcome_block(&outcome, texts).length == 1, name, "the length of its block");
+    check(*dwexpr_outcome_block(&outcome, texts).bytes == 0x55, name, "the bytes of its block");
+    texts[1].bytes = other, texts[1].length = sizeof other;
+    check(dwexpr_evaluation_resume(&evaluation, texts + 1, 1, entry_value, &outcome, pieces, MANY) == DWEXPR_LOST_TEXT,
+          name, "the code");
+}
+
+/* Each code and opcode has a name. */
+static void names(void)
+{
+    uint32_t number, codes = 0, opcodes = 0;
+    for (number = 0; number < 300; number++) {
+        codes += dwexpr_code_name(number) != NULL;
+        opcodes += dwexpr_opcode_name(number) != NULL;
+    }
+    name = "names";
+    check(codes == 1 + 21 + 7, name, "of codes");
+    check(opcodes == 178, name, "of opcodes");
+    check(!strcmp(dwexpr_opcode_name(0x03), "DW_OP_addr"), name, "of the first opcode");
+    check(!strcmp(dwexpr_opcode_name(0x4f), "DW_OP_lit31"), name, "of a literal");
+    check(!strcmp(dwexpr_opcode_name(0xfd), "DW_OP_GNU_variable_value"), name, "of the last opcode");
 }
 
 int main(void)
 {
+    dwexpr_evaluation_begin(&evaluation);
     memset(&want, 0, sizeof want);
     requests();
     answers();
@@ -479,5 +619,7 @@ int main(void)
     faults();
     arguments();
     callbacks();
+    holding();
+    names();
     return finish();
 }

@@ -1,4 +1,4 @@
-/* Random expressions, steps and places, each right before memory that can't be touched. */
+/* Random expressions, steps, places and evaluations, each right before memory that can't be touched. */
 #define _DEFAULT_SOURCE
 #include <sys/mman.h>
 
@@ -16,15 +16,15 @@ static uint64_t any(void)
     return state;
 }
 
-/* the end of a page, before one that can't be touched */
+/* the end of two pages, before one that can't be touched */
 static uint8_t *guarded(void)
 {
-    uint8_t *pages = mmap(NULL, 3 * PAGE, PROT_READ | PROT_WRITE, MAP_PRIVATE | MAP_ANONYMOUS, -1, 0);
-    if (pages == MAP_FAILED || mprotect(pages, PAGE, PROT_NONE) || mprotect(pages + 2 * PAGE, PAGE, PROT_NONE)) {
+    uint8_t *pages = mmap(NULL, 4 * PAGE, PROT_READ | PROT_WRITE, MAP_PRIVATE | MAP_ANONYMOUS, -1, 0);
+    if (pages == MAP_FAILED || mprotect(pages, PAGE, PROT_NONE) || mprotect(pages + 3 * PAGE, PAGE, PROT_NONE)) {
         perror("guard");
         exit(2);
     }
-    return pages + 2 * PAGE;
+    return pages + 3 * PAGE;
 }
 
 static uint8_t any_opcode(void)
@@ -58,8 +58,10 @@ int main(void)
     dwexpr_operation *op = (dwexpr_operation *)(void *)(operation_end - sizeof *op);
     dwexpr_outcome *outcome = (dwexpr_outcome *)(void *)(outcome_end - sizeof *outcome);
     dwexpr_text *texts = (dwexpr_text *)(void *)(texts_end - 2 * sizeof *texts);
+    dwexpr_evaluation evaluation = {guarded() - dwexpr_evaluation_size()};
     static const uint32_t kinds[] = {0, 0, 5, 6, 9, 10, 11, 15, 8, 12, 13, 14, 16, 7, 7, 7};
     size_t round, i, completed = 0, bad = 0;
+    dwexpr_evaluation_begin(&evaluation);
     for (round = 0; round < ROUNDS; round++) {
         size_t length = any() % 24, room = any() % 4, count = 1 + any() % 7, at;
         uint8_t *bytes = text_end - length;
@@ -82,7 +84,12 @@ int main(void)
             steps[i].number = any() % 2 ? any() : any() % 16;
         }
         for (i = 1; i <= count; i++) {
-            uint32_t code = dwexpr_evaluate(texts, 2, encoding, steps, i, outcome, pieces, room);
+            uint32_t code;
+            if (i == 1)
+                dwexpr_evaluation_start(&evaluation, texts, 2, encoding, steps, 1, outcome, pieces, room);
+            else
+                dwexpr_evaluation_resume(&evaluation, texts, 2, steps[i - 1], outcome, pieces, room);
+            code = dwexpr_evaluate(texts, 2, encoding, steps, i, outcome, pieces, room);
             bad += code != outcome->code || code > DWEXPR_MISPLACED || outcome->request > 15;
             bad += bad_block(texts, outcome->block_text, outcome->block_offset, outcome->block_length);
             if (code || outcome->request == DWEXPR_COMPLETE) {

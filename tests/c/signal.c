@@ -1,9 +1,10 @@
-/* An evaluation by callbacks in a signal handler, on a stack of 16 KiB. */
+/* Evaluations by callbacks in a signal handler, on a stack of 16 KiB. */
 #define _DEFAULT_SOURCE
 #include <signal.h>
 #include <sys/mman.h>
 
 #include "check.h"
+#include "dwexpr_run.h"
 
 enum { STACK = 16 * 1024 };
 
@@ -38,7 +39,7 @@ static void on_signal(int number)
     calls.memory = give_memory;
     text.bytes = bytes;
     text.length = sizeof bytes;
-    result = dwexpr_run(text, encoding_of(8, 4, 5, 0), &calls, NULL, &outcome, pieces, 4);
+    result = dwexpr_run(text, encoding_of(8, 4, 5, 0), &calls, NULL, NULL, &outcome, pieces, 4);
 }
 
 int main(void)

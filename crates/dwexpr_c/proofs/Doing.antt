@@ -7,11 +7,11 @@ use Rattle.dwarf_meaning.specs.Steps.{Step}
 use Rattle.dwarf_eval.specs.Evaluation.{ok_reply}
 use Rattle.dwarf_eval.specs.declared.op.results.EvaluationResult.{EvaluationResult}
 use Rattle.dwarf_replay.specs.Stepping.{HasReplied, MayTake}
-use Rattle.dwexpr_c.specs.Codes.{code_of_fault, number_of_fault, misplaced_code}
+use Rattle.dwexpr_c.specs.Codes.{code_of_fault, number_of_fault, lost_text_code, misplaced_code}
 use Rattle.dwexpr_c.specs.Outcomes.{ShowsReply}
 use Rattle.dwexpr_c.specs.Texts.{text_of_placed}
-use Rattle.dwexpr_c.specs.inner.Places.{AsksNowhere}
-use Rattle.dwexpr_c.specs.inner.Stepping.{DoesStep, plain_end, unplaced_code}
+use Rattle.dwexpr_c.specs.Places.{AsksNowhere}
+use Rattle.dwexpr_c.specs.Stepping.{DoesStep, plain_end}
 use Rattle.dwexpr_c.specs.declared.faults.FaultNumbers.{FaultNumbers}
 use Rattle.dwexpr_c.specs.declared.outcomes.DwexprOutcome.{DwexprOutcome}
 use Rattle.dwexpr_c.specs.declared.places.Placed.{Placed}
@@ -26,7 +26,7 @@ module _ (texts : List DwexprText) (said : Result Step ℕ) (step : Step) (old n
   does_fail end error called e =
       subst (λ (r : Result Step ℕ). DoesStep texts r old new before before (Err end)) (sym is) (inr (inl (record { error = error; called = called; shown = e })))
 
-  pub does_unplaced : (end : FaultNumbers) (told : EvaluationResult Placed ℕ ℕ) → HasReplied text_of_placed (λ x. x) step old new (Ok told) → AsksNowhere texts (ok_reply text_of_placed (λ x. x) told) → end ≡ plain_end unplaced_code → DoesStep texts said old new before before (Err end)
+  pub does_unplaced : (end : FaultNumbers) (told : EvaluationResult Placed ℕ ℕ) → HasReplied text_of_placed (λ x. x) step old new (Ok told) → AsksNowhere texts (ok_reply text_of_placed (λ x. x) told) → end ≡ plain_end lost_text_code → DoesStep texts said old new before before (Err end)
   does_unplaced end told called asks e =
       subst (λ (r : Result Step ℕ). DoesStep texts r old new before before (Err end)) (sym is) (inr (inr (record { told = told; called = called; asks = asks; shown = e })))
 

@@ -13,9 +13,11 @@ use Rattle.dwarf_replay.specs.Replays.{StandsAt, IsInRequest, told_at}
 use Rattle.dwexpr_c.specs.Evaluated.{EvaluatesGiven, EvaluatesFirst, Beginning, IsCutShort, ShowsOutcome, comes_of, limited_setup, told_by}
 use Rattle.dwexpr_c.specs.Outcomes.{ShowsRequest}
 use Rattle.dwexpr_c.specs.Texts.{TextAt}
-use Rattle.dwexpr_c.specs.inner.Places.{IsGiven}
-use Rattle.dwexpr_c.specs.inner.Runs.{EvaluatesFound, RanAll, Runs, given_at}
-use Rattle.dwexpr_c.specs.inner.Stepping.{EndsOutcome, FinishesOutcome, ShowsStatus}
+use Rattle.dwexpr_c.specs.Places.{IsGiven}
+use Rattle.dwexpr_c.specs.Held.{HasStopped, HasTaken, StandsAfter, StandsAfterFirst}
+use Rattle.dwexpr_c.specs.inner.Runs.{EvaluatesFound, Runs, StandsAfterFound, given_at}
+use Rattle.dwexpr_c.specs.Stepping.{EndsOutcome, FinishesOutcome, ShowsStatus}
+use Rattle.dwexpr_c.specs.declared.held.Held.{Held}
 use Rattle.dwexpr_c.specs.declared.outcomes.DwexprOutcome.{DwexprOutcome}
 use Rattle.dwexpr_c.specs.declared.pieces.DwexprPiece.{DwexprPiece}
 use Rattle.dwexpr_c.specs.declared.places.Placed.{Placed}
@@ -24,7 +26,7 @@ use Rattle.dwexpr_c.specs.declared.steps.DwexprText.{DwexprText}
 use Rattle.dwexpr_c.proofs.Given.{pieces_somewhere}
 use Rattle.dwexpr_c.proofs.Runs.{no_fault}
 
-module _ (texts : List DwexprText) (numbers : List DwexprStep) (first new : State) (out after : DwexprOutcome) (old places : List DwexprPiece) (ran : RanAll texts numbers first new out) (is_given : IsGiven texts first.text.bytes) where
+module _ (texts : List DwexprText) (numbers : List DwexprStep) (first new : State) (out after : DwexprOutcome) (old places : List DwexprPiece) (ran : HasTaken (given_at first texts) numbers new) (showed : ShowsStatus texts new.status out) (is_given : IsGiven texts first.text.bytes) where
   abbrev given : Beginning
   given = given_at first texts
 
@@ -52,11 +54,11 @@ module _ (texts : List DwexprText) (numbers : List DwexprStep) (first new : Stat
   finished : (o : Option Outcome) → comes_of given ran.steps ≡ o → StandsAt (told_by given ran.steps) new o → FinishesOutcome texts (length numbers) new.store.pieces out after old places new.status → EvaluatesGiven given numbers after old places
   finished None e h f =
       let k = finishes_as (Start _) h.0 f in
-      let s = subst (λ (z : Status). ShowsStatus texts z out) h.0 ran.shown in
+      let s = subst (λ (z : Status). ShowsStatus texts z out) h.0 showed in
       done None e (k.0 ∙ s, k.1)
   finished (Some (RequestOutcome request positions)) e h f =
-      done (Some (RequestOutcome request positions)) e (asked_as request positions new.status refl h.0 ran.shown f)
-  finished (Some (FaultOutcome fault)) e h f = absurd (no_fault texts (told_by given ran.steps) new (Some (FaultOutcome fault)) new.status out refl ran.shown h)
+      done (Some (RequestOutcome request positions)) e (asked_as request positions new.status refl h.0 showed f)
+  finished (Some (FaultOutcome fault)) e h f = absurd (no_fault texts (told_by given ran.steps) new (Some (FaultOutcome fault)) new.status out refl showed h)
   finished (Some (CompleteOutcome pieces value)) e h f =
       let k = finishes_as (CompleteStatus value) h.0 f in
       completes_as pieces value e (subst (λ (p : List Piece). FinishesOutcome texts (length numbers) p out after old places (CompleteStatus value)) h.1 k)
@@ -67,9 +69,15 @@ module _ (texts : List DwexprText) (numbers : List DwexprStep) (first new : Stat
 
 -- they were done, or one ended it
 pub all_ends : (texts : List DwexprText) (numbers : List DwexprStep) (first new : State) (done : Result DwexprOutcome DwexprOutcome) (after : DwexprOutcome) (old places : List DwexprPiece) → IsGiven texts first.text.bytes → Runs texts numbers first new done → EndsOutcome texts (length numbers) new.store.pieces done after old places new.status → EvaluatesGiven (given_at first texts) numbers after old places
-all_ends texts numbers first new (Ok out) after old places is_given ran f = all_done texts numbers first new out after old places ran is_given f
+all_ends texts numbers first new (Ok out) after old places is_given ran f = all_done texts numbers first new out after old places ran.0 ran.1 is_given f
 all_ends texts numbers first new (Err end) after old places is_given ran f =
-    inr (subst (λ (o : DwexprOutcome). IsCutShort (given_at first texts) numbers o) (sym f.0) ran, f.1)
+    inr (subst (λ (o : DwexprOutcome). IsCutShort (given_at first texts) numbers o) (sym f.0) ran.cut, f.1)
+
+-- the evaluation stands where they lead
+pub stands_there : (texts : List DwexprText) (numbers : List DwexprStep) (first new : State) (done : Result DwexprOutcome DwexprOutcome) (after : DwexprOutcome) (old places : List DwexprPiece) → Runs texts numbers first new done → EndsOutcome texts (length numbers) new.store.pieces done after old places new.status → StandsAfter (given_at first texts) numbers new after
+stands_there texts numbers first new (Ok out) after old places ran f = inl ran.0
+stands_there texts numbers first new (Err end) after old places ran f =
+    inr (subst (λ (o : DwexprOutcome). HasStopped (given_at first texts) numbers new o) (sym f.0) ran)
 
 -- a fresh evaluation
 pub given_is : (first : State) (texts : List DwexprText) (encoding : Encoding) (text : Text) → first.setup ≡ limited_setup encoding → first.text ≡ text → first.store.object_address ≡ None → first.store.maximum ≡ most → given_at first texts ≡ record { setup = limited_setup encoding; text = text; told = untold; texts = texts }
@@ -87,3 +95,12 @@ first_found encoding big [] numbers out old new (Some placed) h e = absurd cc
 first_found encoding big (text ∷ texts) numbers out old new None h e = absurd (let f = h.1 in cc)
 first_found encoding big (text ∷ texts) numbers out old new (Some placed) h e =
     subst (λ (t : Text). EvaluatesGiven (record { setup = limited_setup encoding; text = t; told = untold; texts = text ∷ texts }) numbers out old new) h.0 e
+
+pub stands_first : (encoding : Encoding) (big : Bool) (texts : List DwexprText) (numbers : List DwexprStep) (before after : Held) (out : DwexprOutcome) (found : Option Placed) → TextAt big (slice_get texts 0) found → StandsAfterFound encoding texts numbers before after out found → StandsAfterFirst encoding big texts numbers before after out
+stands_first encoding big [] numbers before after out None h s = s
+stands_first encoding big [] numbers before after out (Some placed) h s = absurd cc
+stands_first encoding big (text ∷ texts) numbers before after out None h s = absurd (let f = h.1 in cc)
+stands_first encoding big (text ∷ texts) numbers before after out (Some placed) h s = (
+  s.0 ∙ ap (λ (t : Text). t.is_big) h.0,
+  subst (λ (t : Text). StandsAfter (record { setup = limited_setup encoding; text = t; told = untold; texts = text ∷ texts }) numbers after.evaluation out) h.0 s.1,
+)

@@ -24,7 +24,7 @@ use Rattle.dwexpr_c.specs.Operations.{block_in}
 use Rattle.dwexpr_c.specs.Steps.{step_coded, with_value, with_type, with_text}
 use Rattle.dwexpr_c.specs.Texts.{IsPlaced}
 use Rattle.dwexpr_c.specs.Values.{type_coded, value_coded}
-use Rattle.dwexpr_c.specs.inner.Places.{IsGiven, AsksNowhere, HoldsNowhere, SomeNowhere}
+use Rattle.dwexpr_c.specs.Places.{IsGiven, AsksNowhere, HoldsNowhere, SomeNowhere}
 use Rattle.dwexpr_c.specs.inner.Runs.{given_at}
 use Rattle.dwexpr_c.specs.declared.steps.DwexprStep.{DwexprStep}
 use Rattle.dwexpr_c.specs.declared.steps.DwexprText.{DwexprText}

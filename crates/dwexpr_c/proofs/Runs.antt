@@ -24,15 +24,17 @@ use Rattle.dwexpr_c.specs.Evaluated.{AreTaken, EndsByStep, Beginning, IsCutShort
 use Rattle.dwexpr_c.specs.Outcomes.{ShowsReply, ended_outcome, blank_outcome}
 use Rattle.dwexpr_c.specs.Steps.{step_coded}
 use Rattle.dwexpr_c.specs.Texts.{text_of_placed}
-use Rattle.dwexpr_c.specs.inner.Runs.{RanAll, given_at}
-use Rattle.dwexpr_c.specs.inner.Places.{AsksNowhere, IsGiven}
-use Rattle.dwexpr_c.specs.inner.Stepping.{DoesStep, ShowsStatus}
+use Rattle.dwexpr_c.specs.Held.{HasStopped, HasTaken}
+use Rattle.dwexpr_c.specs.inner.Runs.{given_at}
+use Rattle.dwexpr_c.specs.Places.{AsksNowhere, IsGiven}
+use Rattle.dwexpr_c.specs.Stepping.{DoesStep, ShowsStatus, Stops, Takes}
 use Rattle.dwexpr_c.specs.declared.faults.FaultNumbers.{FaultNumbers}
 use Rattle.dwexpr_c.specs.declared.outcomes.DwexprOutcome.{DwexprOutcome}
 use Rattle.dwexpr_c.specs.declared.places.Placed.{Placed}
 use Rattle.dwexpr_c.specs.declared.steps.DwexprStep.{DwexprStep}
 use Rattle.dwexpr_c.specs.declared.steps.DwexprText.{DwexprText}
 use Rattle.dwexpr_c.proofs.Given.{asks_somewhere}
+use Rattle.dwexpr_c.proofs.Keeping.{reply_keeps, set_keeps, stop_keeps}
 
 -- ---- what a call answered, and where the evaluation stands behind it
 
@@ -184,6 +186,7 @@ pub record Reached (texts : List DwexprText) (numbers : List DwexprStep) (first 
   pub replies : List Reply
   pub went : Went first steps replies x
   pub shown : ShowsStatus texts x.status out
+  pub setup : x.setup ≡ first.setup
 
 pub at_first : (texts : List DwexprText) (x : State) → x.status ≡ Start None → Reached texts [] x x blank_outcome
 at_first texts x fresh = record {
@@ -192,6 +195,7 @@ at_first texts x fresh = record {
   replies = [];
   went = went_at_first x fresh;
   shown = subst (λ (s : Status). ShowsStatus texts s blank_outcome) (sym fresh) refl;
+  setup = refl;
 }
 
 module _ (texts : List DwexprText) (all : List DwexprStep) (index : ℕ) (at : DwexprStep) (is_there : slice_get all index ≡ Some at) (first : State) (limits : first.setup.limits ≡ capacities) (is_given : IsGiven texts first.text.bytes) where
@@ -209,7 +213,7 @@ module _ (texts : List DwexprText) (all : List DwexprStep) (index : ℕ) (at : D
       ∙ sym (map-append Ok steps (step ∷ [])))))
 
   module _ (x new : State) (out : DwexprOutcome) (r : Reached texts (take index all) first x out) where
-    next_by : (now : DwexprOutcome) (o : Result Step ℕ) → step_coded first.text.is_big texts at ≡ o → DoesStep texts o x new out now (Ok tt) → Reached texts (take (suc index) all) first new now
+    next_by : (now : DwexprOutcome) (o : Result Step ℕ) → step_coded first.text.is_big texts at ≡ o → Takes texts o x new out now → Reached texts (take (suc index) all) first new now
     next_by now (Ok step) one (inl h) =
         subst (Reached texts (take (suc index) all) first new) (sym h.1)
         (record {
@@ -218,6 +222,7 @@ module _ (texts : List DwexprText) (all : List DwexprStep) (index : ℕ) (at : D
           replies = r.replies;
           went = set_went_on first r.steps r.replies step x new h.0 r.went;
           shown = shows_set texts out step x new h.0 r.shown;
+          setup = set_keeps x new step h.0 ∙ r.setup;
         })
     next_by now (Ok step) one (inr h) = record {
       steps = r.steps ++ step ∷ [];
@@ -225,6 +230,7 @@ module _ (texts : List DwexprText) (all : List DwexprStep) (index : ℕ) (at : D
       replies = r.replies ++ reply_of text_of_placed (λ x. x) (Ok h.told) ∷ [];
       went = called_went_on text_of_placed (λ x. x) first r.steps r.replies x new step (Ok h.told) h.called r.went;
       shown = shows_told texts now (ok_reply text_of_placed (λ x. x) h.told) new.status (told_by_call x new (Ok h.told) texts out step r.shown h.called) h.shown;
+      setup = reply_keeps x new (Ok h.told) step h.called ∙ r.setup;
     }
     next_by now (Err code) one h = absurd h
 
@@ -274,7 +280,7 @@ module _ (texts : List DwexprText) (all : List DwexprStep) (index : ℕ) (at : D
     nowhere_never step one (Some (CompleteOutcome pieces value)) e a = a
     nowhere_never step one None e a = a
 
-    ends_at : (end : FaultNumbers) (step : Step) → step_coded first.text.is_big texts at ≡ Ok step → DoesStep texts (Ok step) x new out out (Err end) → EndsByStep given r.steps (Ok step) (ended_outcome end.code end.number index)
+    ends_at : (end : FaultNumbers) (step : Step) → step_coded first.text.is_big texts at ≡ Ok step → Stops texts (Ok step) x new end → EndsByStep given r.steps (Ok step) (ended_outcome end.code end.number index)
     ends_at end step one (inl h) =
         inl (record { not_allowed = misplaced_at step h.not_taken; shown = ap (λ (e : FaultNumbers). ended_outcome e.code e.number index) h.shown })
     ends_at end step one (inr (inl h)) =
@@ -291,21 +297,31 @@ module _ (texts : List DwexprText) (all : List DwexprStep) (index : ℕ) (at : D
         let told = told_by_call x new (Ok h.told) texts out step r.shown h.called in
         absurd (nowhere_never step one _ refl (stands_at_block texts _ new _ (ok_reply text_of_placed (λ x. x) h.told) new.status refl told h.asks w.stands))
 
-    cut_short_by : (end : FaultNumbers) (now : DwexprOutcome) (o : Result Step ℕ) → step_coded first.text.is_big texts at ≡ o → DoesStep texts o x new out now (Err end) → EndsByStep given r.steps o (ended_outcome end.code end.number index)
-    cut_short_by end now (Ok step) one h = ends_at end step one h
-    cut_short_by end now (Err code) one h = ap (λ (e : FaultNumbers). ended_outcome e.code e.number index) h
+    cut_short_by : (end : FaultNumbers) (o : Result Step ℕ) → step_coded first.text.is_big texts at ≡ o → Stops texts o x new end → EndsByStep given r.steps o (ended_outcome end.code end.number index)
+    cut_short_by end (Ok step) one h = ends_at end step one h
+    cut_short_by end (Err code) one h = ap (λ (e : FaultNumbers). ended_outcome e.code e.number index) h.0
 
     -- it was not
-    pub cut_short : (end : FaultNumbers) (now : DwexprOutcome) → DoesStep texts (step_coded first.text.is_big texts at) x new out now (Err end) → IsCutShort given all (ended_outcome end.code end.number index)
-    cut_short end now h = ends_by end (cut_short_by end now (step_coded first.text.is_big texts at) refl h)
+    pub stopped : (end : FaultNumbers) → Stops texts (step_coded first.text.is_big texts at) x new end → HasStopped given all new (ended_outcome end.code end.number index)
+    unfolding ends_by
+    stopped end h = record {
+      cut = ends_by end (cut_short_by end (step_coded first.text.is_big texts at) refl h);
+      before = x;
+      stands = walks.stands;
+      end = end;
+      stops = h;
+      setup = stop_keeps x new texts (step_coded first.text.is_big texts at) end h ∙ r.setup;
+    }
 
 -- all were
-pub ran_all : (texts : List DwexprText) (all : List DwexprStep) (index : ℕ) (first x : State) (out : DwexprOutcome) → first.setup.limits ≡ capacities → length all ≤ index → Reached texts (take index all) first x out → RanAll texts all first x out
+pub ran_all : (texts : List DwexprText) (all : List DwexprStep) (index : ℕ) (first x : State) (out : DwexprOutcome) → first.setup.limits ≡ capacities → length all ≤ index → Reached texts (take index all) first x out → HasTaken (given_at first texts) all x × ShowsStatus texts x.status out
 ran_all texts all index first x out limits past r =
-    let w = done_never first r.steps r.replies x limits r.went in
-    record {
-      steps = r.steps;
-      taken = record { said = ap (map (step_coded first.text.is_big texts)) (sym (take_all index all past)) ∙ r.said; allowed = w.allowed };
-      stands = w.stands;
-      shown = r.shown;
-    }
+    let w = done_never first r.steps r.replies x limits r.went in (
+      record {
+        steps = r.steps;
+        taken = record { said = ap (map (step_coded first.text.is_big texts)) (sym (take_all index all past)) ∙ r.said; allowed = w.allowed };
+        stands = w.stands;
+        setup = r.setup;
+      },
+      r.shown,
+    )

@@ -57,3 +57,7 @@ bad_step_code = 67
 -- the step isn't allowed here
 abbrev pub misplaced_code : ℕ
 misplaced_code = 68
+
+-- bytes that were asked about are in none of the texts
+abbrev pub lost_text_code : ℕ
+lost_text_code = 69

@@ -7,7 +7,7 @@ use Rattle.dwarf_meaning.specs.Stores.{Setup}
 use Rattle.dwarf_meaning.specs.Meaning.{Outcome, RequestOutcome, FaultOutcome, CompleteOutcome}
 use Rattle.dwarf_meaning.specs.Steps.{Step, Told, Allows, AllAllowed, after_steps, outcome_of, untold}
 use Rattle.dwarf_meaning.specs.Refusals.{Limits, Never}
-use Rattle.dwexpr_c.specs.Codes.{misplaced_code}
+use Rattle.dwexpr_c.specs.Codes.{bad_text_code, misplaced_code}
 use Rattle.dwexpr_c.specs.Outcomes.{ShowsRequest, complete_outcome, ended_outcome, fault_outcome, blank_outcome}
 use Rattle.dwexpr_c.specs.Pieces.{AreWritten}
 use Rattle.dwexpr_c.specs.Steps.{step_coded}
@@ -31,6 +31,10 @@ pub record Beginning : Type 0 where
   pub text : Text
   pub told : Told
   pub texts : List DwexprText
+
+-- the first of a caller's texts, before any step
+abbrev pub beginning : Encoding → (big : Bool) → (first : DwexprText) → (texts : List DwexprText) → Beginning
+beginning encoding big first texts = record { setup = limited_setup encoding; text = text_in big first; told = untold; texts = texts }
 
 -- what was told once the steps are done
 abbrev pub told_by : Beginning → List Step → Told
@@ -103,6 +107,6 @@ EvaluatesGiven given numbers out old new =
 
 -- the first of the texts is evaluated
 abbrev pub EvaluatesFirst : Encoding → (big : Bool) → List DwexprText → List DwexprStep → DwexprOutcome → (old new : List DwexprPiece) → Type 0
-EvaluatesFirst encoding big [] numbers out old new = (out ≡ ended_outcome 66 0 0) × (new ≡ old)
+EvaluatesFirst encoding big [] numbers out old new = (out ≡ ended_outcome bad_text_code 0 0) × (new ≡ old)
 EvaluatesFirst encoding big (text ∷ texts) numbers out old new =
-    EvaluatesGiven (record { setup = limited_setup encoding; text = text_in big text; told = untold; texts = text ∷ texts }) numbers out old new
+    EvaluatesGiven (beginning encoding big text (text ∷ texts)) numbers out old new

@@ -8,20 +8,16 @@ use Rattle.dwarf_meaning.specs.Steps.{Step}
 use Rattle.dwarf_eval.specs.Evaluation.{ok_reply}
 use Rattle.dwarf_eval.specs.declared.op.results.EvaluationResult.{EvaluationResult}
 use Rattle.dwarf_replay.specs.Stepping.{HasReplied, IsSet, MayTake}
-use Rattle.dwexpr_c.specs.Codes.{code_of_fault, number_of_fault, misplaced_code}
+use Rattle.dwexpr_c.specs.Codes.{code_of_fault, number_of_fault, lost_text_code, misplaced_code}
 use Rattle.dwexpr_c.specs.Outcomes.{ShowsReply, ShowsRequest, request_outcome, complete_outcome, ended_outcome, blank_outcome}
 use Rattle.dwexpr_c.specs.Pieces.{AreWritten}
 use Rattle.dwexpr_c.specs.Texts.{text_of_placed}
-use Rattle.dwexpr_c.specs.inner.Places.{AsksNowhere, SomeNowhere}
+use Rattle.dwexpr_c.specs.Places.{AsksNowhere, SomeNowhere}
 use Rattle.dwexpr_c.specs.declared.faults.FaultNumbers.{FaultNumbers}
 use Rattle.dwexpr_c.specs.declared.outcomes.DwexprOutcome.{DwexprOutcome}
 use Rattle.dwexpr_c.specs.declared.pieces.DwexprPiece.{DwexprPiece}
 use Rattle.dwexpr_c.specs.declared.places.Placed.{Placed}
 use Rattle.dwexpr_c.specs.declared.steps.DwexprText.{DwexprText}
-
--- A block is nowhere in the caller's texts. No evaluation comes to that, so that no call replies this code.
-abbrev pub unplaced_code : ℕ
-unplaced_code = 69
 
 abbrev pub plain_end : (code : ℕ) → FaultNumbers
 plain_end code = record { code = code; number = 0 }
@@ -43,19 +39,27 @@ pub record Unplaced (texts : List DwexprText) (step : Step) (old new : State) (e
   pub told : EvaluationResult Placed ℕ ℕ
   pub called : HasReplied text_of_placed (λ x. x) step old new (Ok told)
   pub asks : AsksNowhere texts (ok_reply text_of_placed (λ x. x) told)
-  pub shown : end ≡ plain_end unplaced_code
+  pub shown : end ≡ plain_end lost_text_code
 
 pub record NotTaken (step : Step) (old new : State) (end : FaultNumbers) : Type 0 where
   pub same : new ≡ old
   pub not_taken : MayTake step old.status → ⊥
   pub shown : end ≡ plain_end misplaced_code
 
--- what came of a step that the numbers say, or of its code where they say none
+-- the step that the numbers say was taken
+abbrev pub Takes : List DwexprText → Result Step ℕ → (old new : State) → (before after : DwexprOutcome) → Type 0
+Takes texts (Ok step) old new before after = (IsSet step old new × (after ≡ before)) ⊎ Replied texts step old new after
+Takes texts (Err code) old new before after = ⊥
+
+-- it ended the evaluation, or the numbers say none
+abbrev pub Stops : List DwexprText → Result Step ℕ → (old new : State) → FaultNumbers → Type 0
+Stops texts (Ok step) old new end = NotTaken step old new end ⊎ (Failed step old new end ⊎ Unplaced texts step old new end)
+Stops texts (Err code) old new end = (end ≡ plain_end code) × (new ≡ old)
+
+-- what came of it
 abbrev pub DoesStep : List DwexprText → Result Step ℕ → (old new : State) → (before after : DwexprOutcome) → Result (Unit {0}) FaultNumbers → Type 0
-DoesStep texts (Ok step) old new before after (Ok _) = (IsSet step old new × (after ≡ before)) ⊎ Replied texts step old new after
-DoesStep texts (Ok step) old new before after (Err end) = NotTaken step old new end ⊎ (Failed step old new end ⊎ Unplaced texts step old new end)
-DoesStep texts (Err code) old new before after (Ok _) = ⊥
-DoesStep texts (Err code) old new before after (Err end) = end ≡ plain_end code
+DoesStep texts said old new before after (Ok _) = Takes texts said old new before after
+DoesStep texts said old new before after (Err end) = Stops texts said old new end
 
 -- the outcome shows where an evaluation without a fault stands
 abbrev pub ShowsStatus : List DwexprText → Status → DwexprOutcome → Type 0
@@ -68,7 +72,7 @@ ShowsStatus texts Running out = ⊥
 -- the outcome gets the pieces and the value of a complete evaluation
 abbrev pub FinishesOutcome : List DwexprText → (count : ℕ) → List Piece → (before after : DwexprOutcome) → (old new : List DwexprPiece) → Status → Type 0
 FinishesOutcome texts count pieces before after old new (CompleteStatus value) =
-    ((after ≡ complete_outcome (length pieces) value) × AreWritten texts pieces old new) ⊎ ((after ≡ ended_outcome unplaced_code 0 count) × SomeNowhere texts pieces)
+    ((after ≡ complete_outcome (length pieces) value) × AreWritten texts pieces old new) ⊎ ((after ≡ ended_outcome lost_text_code 0 count) × SomeNowhere texts pieces)
 FinishesOutcome texts count pieces before after old new (Start initial_value) = (after ≡ before) × (new ≡ old)
 FinishesOutcome texts count pieces before after old new (RequestStatus request waiting) = (after ≡ before) × (new ≡ old)
 FinishesOutcome texts count pieces before after old new (FaultStatus error) = (after ≡ before) × (new ≡ old)

@@ -22,8 +22,8 @@ pub(crate) const BAD_STEP: u32 = 67;
 /// The code of a step that isn't allowed where it stands.
 pub(crate) const MISPLACED: u32 = 68;
 
-/// The code of a block that is nowhere in the texts. No call answers it: each block is somewhere, and is found.
-pub(crate) const UNPLACED: u32 = 69;
+/// The code of bytes that are in none of the texts. Only an evaluation that is held and is given other texts answers it.
+pub(crate) const LOST_TEXT: u32 = 69;
 
 /// A fault as callers see it.
 #[derive(Clone, Copy)]

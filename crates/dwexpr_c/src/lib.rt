@@ -1,20 +1,25 @@
 //! DWARF expressions, decoded and evaluated, for callers in C. `include/dwexpr.h` declares what is exported.
 //!
-//! Each call is given everything: it takes no memory, keeps nothing and calls nothing back.
+//! No call takes memory or calls anything back. `dwexpr_decode` and `dwexpr_evaluate` are given everything and keep nothing;
+//! the calls `dwexpr_evaluation_..` keep an evaluation in memory of the caller's.
 #![tactic(auto)]
 
 mod decoding;
 mod encodings;
 mod evaluating;
 mod faults;
+mod held;
+mod holding;
 mod operations;
 mod outcomes;
 mod pieces;
 mod places;
+mod starting;
 mod steps;
 mod values;
 
 use crate::encodings::DwexprEncoding;
+use crate::held::DwexprEvaluation;
 use crate::operations::DwexprOperation;
 use crate::outcomes::DwexprOutcome;
 use crate::pieces::DwexprPiece;
@@ -32,3 +37,5 @@ const _: () = prove!(size_of::<DwexprStep>() == 24);
 const _: () = prove!(size_of::<DwexprOutcome>() == 104);
 
 const _: () = prove!(size_of::<DwexprPiece>() == 72);
+
+const _: () = prove!(size_of::<DwexprEvaluation>() == 8);

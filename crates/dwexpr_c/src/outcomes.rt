@@ -2,7 +2,7 @@ ghost use Rattle.std.specs.Prelude.{◌≡◌, IfSome, IfNone};
 ghost use Rattle.dwarf_eval.specs.Evaluation.{ok_reply};
 ghost use Rattle.dwexpr_c.specs.Outcomes.{ShowsReply, request_outcome, complete_outcome, ended_outcome, blank_outcome};
 ghost use Rattle.dwexpr_c.specs.Texts.{text_of_placed};
-ghost use Rattle.dwexpr_c.specs.inner.Places.{AsksNowhere};
+ghost use Rattle.dwexpr_c.specs.Places.{AsksNowhere};
 
 use crate::faults::{FaultNumbers, OK};
 use crate::places::Placed;

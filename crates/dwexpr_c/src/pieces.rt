@@ -2,7 +2,7 @@ ghost use Rattle.std.specs.Prelude.{◌≡◌, IfSome, IfNone, true, false, map,
 ghost use Rattle.dwarf_eval.specs.Machine.{location_of, piece_of};
 ghost use Rattle.dwexpr_c.specs.Pieces.{AreWritten, ShowsLocation, ShowsPiece, has, or_zero, sized};
 ghost use Rattle.dwexpr_c.specs.Texts.{text_of_placed};
-ghost use Rattle.dwexpr_c.specs.inner.Places.{HoldsNowhere, SomeNowhere};
+ghost use Rattle.dwexpr_c.specs.Places.{HoldsNowhere, SomeNowhere};
 
 use crate::places::Placed;
 use crate::steps::{DwexprText, Place, place_of};

@@ -3,7 +3,7 @@ ghost use Rattle.dwarf_base.specs.ByteOrder.{is_big_of};
 ghost use Rattle.dwarf_replay.specs.Stepping as stepping;
 ghost use Rattle.dwexpr_c.specs.Steps.{step_coded};
 ghost use Rattle.dwexpr_c.specs.Texts.{IsPlaced, TextAt, text_of_placed};
-ghost use Rattle.dwexpr_c.specs.inner.Places.{IsAt, IsGiven, IsNotAt, IsNotIn, IsNowhere};
+ghost use Rattle.dwexpr_c.specs.Places.{IsAt, IsGiven, IsNotAt, IsNotIn, IsNowhere};
 
 use crate::faults::{BAD_STEP, BAD_TEXT};
 use crate::places::Placed;

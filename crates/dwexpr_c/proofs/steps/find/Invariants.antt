@@ -1,5 +1,5 @@
 use Rattle.std.proofs.Common.{ℕ, ◌<◌}
-use Rattle.dwexpr_c.specs.inner.Places.{IsNotAt}
+use Rattle.dwexpr_c.specs.Places.{IsNotAt}
 use Rattle.dwexpr_c.proofs.steps.find.Given as goal
 
 -- it is in none of the texts before this one

@@ -1,5 +1,5 @@
 use Rattle.std.proofs.Common.{ℕ, List, IfNone, subst}
-use Rattle.dwexpr_c.specs.inner.Places.{IsNowhere}
+use Rattle.dwexpr_c.specs.Places.{IsNowhere}
 use Rattle.dwexpr_c.proofs.steps.place_of.Goals as goal
 
 pub returns-clause-none : goal.returns-clause-none

@@ -1,0 +1,65 @@
+-- No step changes the encoding or the limits of an evaluation.
+use Rattle.std.proofs.Common.{ℕ, ◌≡◌, inl, inr, List, Result, Ok, Err, ap}
+use Rattle.dwarf_base.specs.declared.errors.Error.{Error}
+use Rattle.dwarf_meaning.specs.Kinds.{kind_of_answer}
+use Rattle.dwarf_meaning.specs.Requests as requests
+use Rattle.dwarf_meaning.specs.Rest.{State, Status, Start, Running, RequestStatus, CompleteStatus, FaultStatus}
+use Rattle.dwarf_meaning.specs.Steps.{Step, InitialValue, ObjectAddress, MaxIterations, Evaluate, Resume}
+use Rattle.dwarf_eval.specs.Evaluation.{Evaluates, Resumes, input_of}
+use Rattle.dwarf_eval.specs.declared.op.results.EvaluationResult.{EvaluationResult}
+use Rattle.dwarf_replay.specs.Stepping.{HasReplied, IsInRequestFor, IsSet}
+use Rattle.dwexpr_c.specs.Stepping.{DoesStep, Stops, Takes}
+use Rattle.dwexpr_c.specs.Texts.{text_of_placed}
+use Rattle.dwexpr_c.specs.declared.faults.FaultNumbers.{FaultNumbers}
+use Rattle.dwexpr_c.specs.declared.outcomes.DwexprOutcome.{DwexprOutcome}
+use Rattle.dwexpr_c.specs.declared.places.Placed.{Placed}
+use Rattle.dwexpr_c.specs.declared.steps.DwexprText.{DwexprText}
+
+module _ (x new : State) where
+  same_keeps : new ≡ x → new.setup ≡ x.setup
+  same_keeps e = ap (λ (z : State). z.setup) e
+
+  pub set_keeps : (step : Step) → IsSet step x new → new.setup ≡ x.setup
+  set_keeps (InitialValue number) h = ap (λ (z : State). z.setup) h.1
+  set_keeps (ObjectAddress address) h = ap (λ (z : State). z.setup) h
+  set_keeps (MaxIterations maximum) h = ap (λ (z : State). z.setup) h
+  set_keeps Evaluate h = absurd h
+  set_keeps (Resume answer) h = absurd h
+
+  module _ (told : Result (EvaluationResult Placed ℕ ℕ) Error) where
+    evaluate_keeps : (status : Status) → Evaluates text_of_placed (λ x. x) x new told status → new.setup ≡ x.setup
+    evaluate_keeps (Start initial_value) h = h.kept.setup
+    evaluate_keeps (CompleteStatus value) h = same_keeps h.1
+    evaluate_keeps (FaultStatus error) h = same_keeps h.1
+    evaluate_keeps (RequestStatus request waiting) h = absurd h
+    evaluate_keeps Running h = absurd h
+
+    resume_keeps : (answer : requests.Answer) (status : Status) → IsInRequestFor (kind_of_answer answer) status → Resumes text_of_placed (λ x. x) (input_of x answer) x new told status → new.setup ≡ x.setup
+    resume_keeps answer (RequestStatus request waiting) asking h = h.kept.setup
+    resume_keeps answer (FaultStatus error) asking h = same_keeps h.1
+    resume_keeps answer (Start initial_value) asking h = absurd asking
+    resume_keeps answer (CompleteStatus value) asking h = absurd asking
+    resume_keeps answer Running asking h = absurd asking
+
+    pub reply_keeps : (step : Step) → HasReplied text_of_placed (λ x. x) step x new told → new.setup ≡ x.setup
+    reply_keeps Evaluate h = evaluate_keeps x.status h.1
+    reply_keeps (Resume answer) h = resume_keeps answer x.status h.0 h.1
+    reply_keeps (InitialValue number) h = absurd h
+    reply_keeps (ObjectAddress address) h = absurd h
+    reply_keeps (MaxIterations maximum) h = absurd h
+
+  module _ (texts : List DwexprText) where
+    take_keeps : (said : Result Step ℕ) (before after : DwexprOutcome) → Takes texts said x new before after → new.setup ≡ x.setup
+    take_keeps (Ok step) before after (inl h) = set_keeps step h.0
+    take_keeps (Ok step) before after (inr h) = reply_keeps (Ok h.told) step h.called
+    take_keeps (Err code) before after h = absurd h
+
+    pub stop_keeps : (said : Result Step ℕ) (end : FaultNumbers) → Stops texts said x new end → new.setup ≡ x.setup
+    stop_keeps (Ok step) end (inl h) = same_keeps h.same
+    stop_keeps (Ok step) end (inr (inl h)) = reply_keeps (Err h.error) step h.called
+    stop_keeps (Ok step) end (inr (inr h)) = reply_keeps (Ok h.told) step h.called
+    stop_keeps (Err code) end h = same_keeps h.1
+
+    pub step_keeps : (said : Result Step ℕ) (before after : DwexprOutcome) (ended : Result (Unit {0}) FaultNumbers) → DoesStep texts said x new before after ended → new.setup ≡ x.setup
+    step_keeps said before after (Ok _) h = take_keeps said before after h
+    step_keeps said before after (Err end) h = stop_keeps said end h

@@ -1,0 +1,78 @@
+-- Where an evaluation stands that is held between the calls of a caller in C (DWARF 5, section 2.5).
+use Rattle.std.specs.Prelude.{◌≡◌, ◌⊎◌, Bool, List, [], ◌∷◌, Result, Ok, Err, Option, None, Some}
+use Rattle.dwarf_base.specs.declared.common.Encoding.{Encoding}
+use Rattle.dwarf_base.specs.ByteOrder.{is_big_of}
+use Rattle.dwarf_meaning.specs.Rest.{State}
+use Rattle.dwarf_meaning.specs.Steps.{Step}
+use Rattle.dwarf_replay.specs.Replays.{StandsAt}
+use Rattle.dwexpr_c.specs.Evaluated.{AreTaken, Beginning, IsCutShort, beginning, capacities, comes_of, told_by}
+use Rattle.dwexpr_c.specs.Outcomes.{blank_outcome, ended_outcome}
+use Rattle.dwexpr_c.specs.Stepping.{DoesStep, FinishesOutcome, Stops}
+use Rattle.dwexpr_c.specs.Steps.{step_coded}
+use Rattle.dwexpr_c.specs.declared.faults.FaultNumbers.{FaultNumbers}
+use Rattle.dwexpr_c.specs.declared.held.Held.{Held}
+use Rattle.dwexpr_c.specs.declared.outcomes.DwexprOutcome.{DwexprOutcome}
+use Rattle.dwexpr_c.specs.declared.pieces.DwexprPiece.{DwexprPiece}
+use Rattle.dwexpr_c.specs.declared.steps.DwexprStep.{DwexprStep}
+use Rattle.dwexpr_c.specs.declared.steps.DwexprText.{DwexprText}
+
+-- the lists have the limits that the header names
+abbrev pub HasCapacities : State → Type 0
+HasCapacities x = x.setup.limits ≡ capacities
+
+-- there is an evaluation
+abbrev pub IsBegun : Option Held → Type 0
+IsBegun None = ⊥
+IsBegun (Some held) = HasCapacities held.evaluation
+
+-- ---- after a start
+
+-- the numbers say steps that were all allowed when they came, and the evaluation stands where they lead
+pub record HasTaken (given : Beginning) (numbers : List DwexprStep) (new : State) : Type 0 where
+  pub steps : List Step
+  pub taken : AreTaken given numbers steps
+  pub stands : StandsAt (told_by given steps) new (comes_of given steps)
+  pub setup : new.setup ≡ given.setup
+
+-- a step ended it, as is shown: those before it led to a state, of which this step made the new one
+pub record HasStopped (given : Beginning) (numbers : List DwexprStep) (new : State) (out : DwexprOutcome) : Type 0 where
+  pub cut : IsCutShort given numbers out
+  pub before : State
+  pub stands : StandsAt (told_by given cut.before) before (comes_of given cut.before)
+  pub end : FaultNumbers
+  pub stops : Stops given.texts (step_coded given.text.is_big given.texts cut.at) before new end
+  pub setup : new.setup ≡ given.setup
+
+abbrev pub StandsAfter : Beginning → List DwexprStep → (new : State) → DwexprOutcome → Type 0
+StandsAfter given numbers new out = HasTaken given numbers new ⊎ HasStopped given numbers new out
+
+-- it stands where the steps of the first of the texts lead; without a text it is as it was
+abbrev pub StandsAfterFirst : Encoding → (big : Bool) → List DwexprText → List DwexprStep → (before after : Held) → DwexprOutcome → Type 0
+StandsAfterFirst encoding big [] numbers before after out = after ≡ before
+StandsAfterFirst encoding big (text ∷ texts) numbers before after out =
+    (is_big_of after.order ≡ big) × StandsAfter (beginning encoding big text (text ∷ texts)) numbers after.evaluation out
+
+-- the same of a handle
+abbrev pub Starts : Encoding → (big : Bool) → List DwexprText → List DwexprStep → (before after : Option Held) → DwexprOutcome → Type 0
+Starts encoding big texts numbers (Some before) (Some after) out = StandsAfterFirst encoding big texts numbers before after out
+Starts encoding big texts numbers _ _ out = ⊥
+
+-- ---- after a resume
+
+-- what is shown of the step, by how it ended
+abbrev pub Shows : List DwexprText → State → (told : DwexprOutcome) → Result (Unit {0}) FaultNumbers → (out : DwexprOutcome) → (old new : List DwexprPiece) → Type 0
+Shows texts x told (Ok _) out old new = FinishesOutcome texts 0 x.store.pieces told out old new x.status
+Shows texts x told (Err end) out old new = (out ≡ ended_outcome end.code end.number 0) × (new ≡ old)
+
+-- the step that the numbers say was taken, or ended the evaluation, and that is shown
+pub record HasResumed (texts : List DwexprText) (number : DwexprStep) (before after : Held) (out : DwexprOutcome) (old new : List DwexprPiece) : Type 0 where
+  pub order : after.order ≡ before.order
+  pub ended : Result (Unit {0}) FaultNumbers
+  pub told : DwexprOutcome
+  pub does : DoesStep texts (step_coded (is_big_of before.order) texts number) before.evaluation after.evaluation blank_outcome told ended
+  pub shown : Shows texts after.evaluation told ended out old new
+
+-- the same of a handle
+abbrev pub Resumes : List DwexprText → DwexprStep → (before after : Option Held) → DwexprOutcome → (old new : List DwexprPiece) → Type 0
+Resumes texts number (Some before) (Some after) out old new = HasResumed texts number before after out old new
+Resumes texts number _ _ out old new = ⊥

@@ -1,0 +1,103 @@
+ghost use Rattle.std.specs.Mem.{type_size};
+ghost use Rattle.std.specs.Prelude.{◌≡◌, None, false, true};
+ghost use Rattle.dwarf_base.specs.ByteOrder.{is_big_of};
+ghost use Rattle.dwexpr_c.specs.Codes.{bad_encoding_code};
+ghost use Rattle.dwexpr_c.specs.Encodings.{is_encoding, encoding_in, is_big_in};
+ghost use Rattle.dwexpr_c.specs.Evaluated.{EvaluatesFirst};
+ghost use Rattle.dwexpr_c.specs.Held.{HasCapacities, HasResumed, IsBegun, Resumes, Starts};
+ghost use Rattle.dwexpr_c.specs.Outcomes.{ended_outcome};
+ghost use Rattle.dwexpr_c.specs.Owned.{held_row};
+
+use crate::encodings::DwexprEncoding;
+use crate::evaluating::{do_step, show_status};
+use crate::held::{DwexprEvaluation, Held, unstarted};
+use crate::outcomes::{DwexprOutcome, UNTOLD, show_end};
+use crate::pieces::DwexprPiece;
+use crate::starting::start;
+use crate::steps::{DwexprStep, DwexprText};
+
+/// Takes one more step, and shows what it answered.
+fn resume(
+    held: &mut Held<'static>,
+    texts: &[DwexprText<'static>],
+    step: DwexprStep,
+    places: &mut [DwexprPiece],
+) -> DwexprOutcome
+    requires { HasCapacities held.old.evaluation }
+    ensures resumes { HasResumed texts.now step held.old held.new result places.old places.new }
+    ensures capacities { HasCapacities held.new.evaluation }
+{
+    let mut outcome = UNTOLD;
+    match do_step(&mut held.evaluation, texts, held.order, step, &mut outcome) {
+        Ok(()) => show_status(&held.evaluation, texts, 0, outcome, places),
+        Err(end) => show_end(end, 0),
+    }
+}
+
+/// How many bytes of memory an evaluation takes that is held.
+#[unsafe(no_mangle)]
+pub extern "C" fn dwexpr_evaluation_size() -> usize
+    ensures { result ≡ type_size held_row }
+{
+    size_of::<Held<'static>>()
+}
+
+/// Makes memory an evaluation that can be started.
+#[unsafe(no_mangle)]
+pub extern "C" fn dwexpr_evaluation_begin(evaluation: &mut DwexprEvaluation)
+    requires { evaluation.old.held ≡ None }
+    ensures { IsBegun evaluation.new.held }
+{
+    evaluation.fill(unstarted());
+}
+
+/// Starts an evaluation that is held: of the first of the texts, in the steps, from nothing (DWARF 5, sections 2.5 and
+/// 2.6). What it answers and writes is what `dwexpr_evaluate` does, and the evaluation then stands where the steps lead.
+#[unsafe(no_mangle)]
+pub extern "C" fn dwexpr_evaluation_start(
+    evaluation: &mut DwexprEvaluation,
+    texts: &[DwexprText<'static>],
+    encoding: DwexprEncoding,
+    steps: &[DwexprStep],
+    outcome: &mut DwexprOutcome,
+    pieces: &mut [DwexprPiece],
+) -> u32
+    requires { IsBegun evaluation.old.held }
+    ensures begun { IsBegun evaluation.new.held }
+    ensures code { result ≡ outcome.new.code }
+    ensures encoding { is_encoding encoding ≡ false
+        → (outcome.new ≡ ended_outcome bad_encoding_code 0 0) × (pieces.new ≡ pieces.old)
+        × (evaluation.new.held ≡ evaluation.old.held) }
+    ensures evaluates { is_encoding encoding ≡ true
+        → EvaluatesFirst (encoding_in encoding) (is_big_in encoding) texts.now steps.now outcome.new
+        pieces.old pieces.new }
+    ensures starts { is_encoding encoding ≡ true
+        → Starts (encoding_in encoding) (is_big_in encoding) texts.now steps.now evaluation.old.held
+        evaluation.new.held outcome.new }
+{
+    *outcome = start(evaluation.get(), texts, encoding, steps, pieces);
+    outcome.code
+}
+
+/// Takes one more step of an evaluation that is held, mostly the answer to what it asked (DWARF 5, section 2.5).
+///
+/// It answers 0, or the code of a fault of the expression or of an argument. `outcome` is written in each case. It shows
+/// what the step answered, a request or completion, and nothing after a setting; `step` is 0. Of the pieces of a complete
+/// evaluation as many are written as there is room for.
+#[unsafe(no_mangle)]
+pub extern "C" fn dwexpr_evaluation_resume(
+    evaluation: &mut DwexprEvaluation,
+    texts: &[DwexprText<'static>],
+    step: DwexprStep,
+    outcome: &mut DwexprOutcome,
+    pieces: &mut [DwexprPiece],
+) -> u32
+    requires { IsBegun evaluation.old.held }
+    ensures begun { IsBegun evaluation.new.held }
+    ensures code { result ≡ outcome.new.code }
+    ensures resumes { Resumes texts.now step evaluation.old.held evaluation.new.held outcome.new
+        pieces.old pieces.new }
+{
+    *outcome = resume(evaluation.get(), texts, step, pieces);
+    outcome.code
+}

@@ -1,0 +1,143 @@
+ghost use Rattle.std.specs.Prelude.{◌≡◌, ◌<◌, ◌≤◌, true, false, IfSome};
+ghost use Rattle.dwarf_base.specs.ByteOrder.{is_big_of};
+ghost use Rattle.dwexpr_c.specs.Codes.{bad_encoding_code};
+ghost use Rattle.dwexpr_c.specs.Encodings.{is_encoding, encoding_in, is_big_in};
+ghost use Rattle.dwexpr_c.specs.Evaluated.{EvaluatesGiven, EvaluatesFirst};
+ghost use Rattle.dwexpr_c.specs.Held.{HasCapacities, StandsAfter, StandsAfterFirst};
+ghost use Rattle.dwexpr_c.specs.Outcomes.{ended_outcome};
+ghost use Rattle.dwexpr_c.specs.Places.{IsGiven};
+ghost use Rattle.dwexpr_c.specs.Texts.{text_of_placed};
+ghost use Rattle.dwexpr_c.specs.inner.Runs.{EvaluatesFound, StandsAfterFound, beginning_at};
+
+use crate::encodings::{DwexprEncoding, Reading, reading_of};
+use crate::evaluating::evaluate_steps;
+use crate::faults::{BAD_ENCODING, BAD_TEXT, plain};
+use crate::held::{Held, unstarted};
+use crate::outcomes::{DwexprOutcome, show_end};
+use crate::pieces::DwexprPiece;
+use crate::places::Placed;
+use crate::steps::{DwexprStep, DwexprText, text_at};
+
+/// What the steps of a text come to.
+fn start_text<'a>(
+    held: &mut Held<'a>,
+    texts: &[DwexprText<'a>],
+    text: Placed<'a>,
+    reading: Reading,
+    steps: &[DwexprStep],
+    places: &mut [DwexprPiece],
+) -> DwexprOutcome
+    requires capacities { HasCapacities held.old.evaluation }
+    requires some { 0 < reading.encoding.address_size }
+    requires fits { reading.encoding.address_size ≤ 8 }
+    requires order { (text_of_placed text).is_big ≡ is_big_of reading.order }
+    requires given { IsGiven texts.now (text_of_placed text).bytes }
+    ensures capacities { HasCapacities held.new.evaluation }
+    ensures evaluates { EvaluatesGiven (beginning_at reading.encoding text.entry texts.now) steps.now
+        result places.old places.new }
+    ensures order { is_big_of held.new.order ≡ (text_of_placed text.entry).is_big }
+    ensures stands { StandsAfter (beginning_at reading.encoding text.entry texts.now) steps.now
+        held.new.evaluation result }
+{
+    held.order = reading.order;
+    held.evaluation.restart(text, reading.encoding);
+    evaluate_steps(&mut held.evaluation, texts, reading.order, steps, places)
+}
+
+/// What the steps of a text come to, where there is one.
+fn start_found<'a>(
+    held: &mut Held<'a>,
+    texts: &[DwexprText<'a>],
+    found: Option<Placed<'a>>,
+    reading: Reading,
+    steps: &[DwexprStep],
+    places: &mut [DwexprPiece],
+) -> DwexprOutcome
+    requires capacities { HasCapacities held.old.evaluation }
+    requires some { 0 < reading.encoding.address_size }
+    requires fits { reading.encoding.address_size ≤ 8 }
+    requires order { IfSome found (λ text. (text_of_placed text).is_big ≡ is_big_of reading.order) }
+    requires given { IfSome found (λ text. IsGiven texts.now (text_of_placed text).bytes) }
+    ensures capacities { HasCapacities held.new.evaluation }
+    ensures evaluates { EvaluatesFound reading.encoding texts.now steps.now result places.old
+        places.new found.entry }
+    ensures stands { StandsAfterFound reading.encoding texts.now steps.now held.old held.new result
+        found.entry }
+{
+    match found {
+        None => show_end(plain(BAD_TEXT), 0),
+        Some(text) => start_text(held, texts, text, reading, steps, places),
+    }
+}
+
+/// What the steps of the first of the texts come to.
+fn start_first<'a>(
+    held: &mut Held<'a>,
+    texts: &[DwexprText<'a>],
+    reading: Reading,
+    steps: &[DwexprStep],
+    places: &mut [DwexprPiece],
+) -> DwexprOutcome
+    requires capacities { HasCapacities held.old.evaluation }
+    requires some { 0 < reading.encoding.address_size }
+    requires fits { reading.encoding.address_size ≤ 8 }
+    ensures capacities { HasCapacities held.new.evaluation }
+    ensures evaluates { EvaluatesFirst reading.encoding (is_big_of reading.order) texts.now steps.now
+        result places.old places.new }
+    ensures stands { StandsAfterFirst reading.encoding (is_big_of reading.order) texts.now steps.now
+        held.old held.new result }
+{
+    let found = text_at(texts, reading.order, 0);
+    start_found(held, texts, found, reading, steps, places)
+}
+
+/// What the steps of the first of the texts come to, and where the evaluation then stands.
+pub(crate) fn start<'a>(
+    held: &mut Held<'a>,
+    texts: &[DwexprText<'a>],
+    numbers: DwexprEncoding,
+    steps: &[DwexprStep],
+    places: &mut [DwexprPiece],
+) -> DwexprOutcome
+    requires { HasCapacities held.old.evaluation }
+    ensures capacities { HasCapacities held.new.evaluation }
+    ensures encoding { is_encoding numbers ≡ false
+        → (result ≡ ended_outcome bad_encoding_code 0 0) × (places.new ≡ places.old)
+        × (held.new ≡ held.old) }
+    ensures evaluates { is_encoding numbers ≡ true
+        → EvaluatesFirst (encoding_in numbers) (is_big_in numbers) texts.now steps.now result
+        places.old places.new }
+    ensures stands { is_encoding numbers ≡ true
+        → StandsAfterFirst (encoding_in numbers) (is_big_in numbers) texts.now steps.now held.old
+        held.new result }
+{
+    match reading_of(numbers) {
+        None => show_end(plain(BAD_ENCODING), 0),
+        Some(reading) => start_first(held, texts, reading, steps, places),
+    }
+}
+
+/// Evaluates an expression, the first of the texts, in the steps, from nothing (DWARF 5, sections 2.5 and 2.6).
+///
+/// It answers 0, the code of a fault of the expression, 1 to 21, or of an argument, 64 and above. `outcome` is written in
+/// each case, and its `code` is that. Where it isn't 0 and not of the encoding, `step` is the index of the step that
+/// ended the evaluation. Else it shows what the last call of the steps answered: a request, or completion with its value
+/// and its pieces, of which as many are written as there is room for.
+#[unsafe(no_mangle)]
+pub extern "C" fn dwexpr_evaluate(
+    texts: &[DwexprText<'_>],
+    encoding: DwexprEncoding,
+    steps: &[DwexprStep],
+    outcome: &mut DwexprOutcome,
+    pieces: &mut [DwexprPiece],
+) -> u32
+    ensures code { result ≡ outcome.new.code }
+    ensures encoding { is_encoding encoding ≡ false
+        → (outcome.new ≡ ended_outcome bad_encoding_code 0 0) × (pieces.new ≡ pieces.old) }
+    ensures evaluates { is_encoding encoding ≡ true
+        → EvaluatesFirst (encoding_in encoding) (is_big_in encoding) texts.now steps.now outcome.new
+        pieces.old pieces.new }
+{
+    *outcome = start(&mut unstarted(), texts, encoding, steps, pieces);
+    outcome.code
+}

@@ -9,14 +9,30 @@
 #include <sys/wait.h>
 #include <unistd.h>
 
-/* the content of a register in the numbering of DWARF */
-static int register_of(const struct user_regs_struct *r, uint32_t number, uint64_t *content)
+/* The registers of a frame in the numbering of DWARF; RIP is the last. */
+enum { RAX = 0, RBX = 3, RIP = 16, REGISTERS };
+
+struct registers {
+    uint64_t contents[REGISTERS];
+    uint32_t known; /* a bit for each */
+};
+
+static int read_registers(pid_t process, struct registers *registers)
 {
-    const uint64_t all[] = {r->rax, r->rdx, r->rcx, r->rbx, r->rsi, r->rdi, r->rbp, r->rsp, r->r8,
-                            r->r9,  r->r10, r->r11, r->r12, r->r13, r->r14, r->r15, r->rip};
-    if (number >= sizeof all / sizeof *all)
+    struct user_regs_struct r;
+    if (ptrace(PTRACE_GETREGS, process, NULL, &r))
         return -1;
-    *content = all[number];
+    *registers = (struct registers){{r.rax, r.rdx, r.rcx, r.rbx, r.rsi, r.rdi, r.rbp, r.rsp, r.r8, r.r9, r.r10, r.r11,
+                                     r.r12, r.r13, r.r14, r.r15, r.rip}, (1 << REGISTERS) - 1};
+    return 0;
+}
+
+/* the content of a register; -1 if it isn't known */
+static int register_of(const struct registers *registers, uint32_t number, uint64_t *content)
+{
+    if (number >= REGISTERS || !(registers->known >> number & 1))
+        return -1;
+    *content = registers->contents[number];
     return 0;
 }
 

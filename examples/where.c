@@ -3,13 +3,13 @@
  *     cc -Iinclude -Iexamples examples/where.c crates/dwexpr_c/out/libdwexpr_c.a -ldw -lelf -o build/where
  *     build/where PROGRAM ARGUMENT..
  *
- * For x86-64 under Linux. Variables whose places need the caller's frame are named with what is wanted. */
+ * For x86-64 under Linux. What a register held on entry of the function is asked of the caller, if it says so. */
 #define _DEFAULT_SOURCE
 #include <inttypes.h>
 #include <stdio.h>
 
+#include "caller.h"
 #include "dwexpr_run.h"
-#include "place.h"
 
 /* ---- what expressions ask for */
 
@@ -70,12 +70,14 @@ static int find_type(void *context, uint64_t offset, uint32_t *value_type)
 }
 
 static int read_frame_base(void *context, uint64_t *address);
+static int read_entry_value(void *context, const uint8_t *bytes, size_t length, uint64_t *content);
 
 static const dwexpr_callbacks callbacks = {
     .memory = read_memory,
     .register_content = read_register,
     .frame_base = read_frame_base,
     .cfa = read_cfa,
+    .entry_value = read_entry_value,
     .relocated = relocate,
     .indexed = read_indexed,
     .base_type = find_type,
@@ -100,6 +102,24 @@ static int read_frame_base(void *context, uint64_t *address)
         return -1;
     *address = piece.number;
     return piece.kind == DWEXPR_IN_REGISTER ? read_register(place, (uint32_t)piece.number, address) : 0;
+}
+
+/* what the caller passed, by its own registers and memory */
+static int read_entry_value(void *context, const uint8_t *bytes, size_t length, uint64_t *content)
+{
+    const struct place *place = context;
+    struct place caller;
+    Dwarf_Die function = place->function, site;
+    dwexpr_text text;
+    dwexpr_outcome outcome;
+    if (find_caller(place, &caller) ||
+        find_call_site(&caller.function, caller.registers.contents[RIP] - caller.bias, &site) ||
+        !calls_function(&site, &function) || find_passed(&site, bytes, length, &text) ||
+        dwexpr_run(text, caller.encoding, &callbacks, &caller, NULL, &outcome, NULL, 0) ||
+        outcome.value_type == DWEXPR_NO_TYPE)
+        return -1;
+    *content = outcome.value;
+    return 0;
 }
 
 /* the bytes of a piece; -1 where it has none */
@@ -198,18 +218,24 @@ static void print_variable(struct place *place, Dwarf_Die *variable)
         print_bytes(bytes, size, sign);
 }
 
+static int is_function(Dwarf_Die *scope)
+{
+    return dwarf_tag(scope) == DW_TAG_subprogram || dwarf_tag(scope) == DW_TAG_inlined_subroutine;
+}
+
+/* the variables of each function at the place, those of its inner blocks first */
 static void print_scopes(struct place *place)
 {
     Dwarf_Die *scopes = NULL;
-    int i, count = find_scopes(place, &scopes);
-    for (i = 0; i < count; i++)
-        if (dwarf_tag(&scopes[i]) == DW_TAG_subprogram)
-            place->function = scopes[i];
+    int i, count = find_scopes(place, &scopes), function = -1;
     for (i = 0; i < count; i++) {
         Dwarf_Die child;
-        int tag = dwarf_tag(&scopes[i]);
-        if (tag == DW_TAG_subprogram || tag == DW_TAG_inlined_subroutine)
-            printf("in %s\n", dwarf_diename(&scopes[i]) ? dwarf_diename(&scopes[i]) : "?");
+        if (function < i) {
+            for (function = i; function < count && !is_function(&scopes[function]); function++)
+                continue;
+            if (function < count)
+                printf("in %s\n", dwarf_diename(&scopes[function]) ? dwarf_diename(&scopes[function]) : "?");
+        }
         if (dwarf_child(&scopes[i], &child))
             continue;
         do {

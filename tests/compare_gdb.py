@@ -24,7 +24,7 @@ ARCHIVE = TOP / "crates" / "dwexpr_c" / "out" / "libdwexpr_c.a"
 ALONE = ["setarch", "-R", "env", "-i"]
 
 # Runs in gdb: prints a line of JSON for each place, with the variables of the innermost function and of those that it
-# is inlined into, innermost first: a name, and a number, bytes, or None where it was optimized away.
+# is inlined into, innermost first: the function, a name, and a number, bytes, or None if it was optimized away.
 IN_GDB = r"""
 import gdb, json
 SCALARS = {gdb.TYPE_CODE_INT, gdb.TYPE_CODE_CHAR, gdb.TYPE_CODE_BOOL, gdb.TYPE_CODE_ENUM, gdb.TYPE_CODE_PTR}
@@ -55,9 +55,9 @@ def variables(frame):
         for symbol in block:
             if symbol.is_variable or symbol.is_argument:
                 try:
-                    yield symbol.name, content(symbol.value(frame)), symbol.type.strip_typedefs().sizeof
+                    yield frame.name(), symbol.name, content(symbol.value(frame)), symbol.type.strip_typedefs().sizeof
                 except gdb.error as error:
-                    yield symbol.name, "error: " + str(error), 0
+                    yield frame.name(), symbol.name, "error: " + str(error), 0
         if block.function:
             break
         block = block.superblock
@@ -91,13 +91,14 @@ def of_gdb(program, places, folder):
 
 
 def of_where(where, program, place):
-    """The variables in order, each with a number, bytes as digits, or what else is said."""
-    found = collections.defaultdict(list)
+    """The variables of each function in order, each with a number, bytes as digits, or what else is said."""
+    found, function = collections.defaultdict(list), None
     for line in run([*ALONE, where, program, place]).stdout.splitlines():
+        function = line.removeprefix("in ") if line.startswith("in ") else function
         said = re.fullmatch(r"(\w+) = (.*)", line)
         if not said:
             continue
-        name, text = said.groups()
+        name, text = (function, said.group(1)), said.group(2)
         number = re.fullmatch(r"(-?\d+)(?: \(0x[0-9a-f]+\))?", text)
         if number:
             found[name].append(int(number.group(1)))
@@ -143,8 +144,9 @@ def compare(where, program, places, name, folder, sums):
         if variables is None:
             continue
         ours = of_where(where, program, place)
-        for variable, theirs, size in variables:
-            said = ours[variable].pop(0) if ours[variable] else "nothing"
+        for function, variable, theirs, size in variables:
+            known = ours[function, variable]
+            said = known.pop(0) if known else "nothing"
             what = kind_of(theirs, said, size)
             sums[what] += 1
             if what not in SAME:

@@ -1,5 +1,5 @@
-/* The works as a program in C does them: over dwexpr_decode, and over dwexpr_evaluate with made-up answers, the same
- * that src/theirs.rs gives. */
+/* The works as a program in C does them: over dwexpr_decode, and over one evaluation that is held, with made-up answers,
+ * the same that src/theirs.rs gives. */
 #include "dwexpr.h"
 
 /* Job of src/job.rs, field by field */
@@ -13,9 +13,6 @@ struct job {
     uint32_t answers;
     uint32_t depth;
 };
-
-/* an answer to each request that may be made, and the settings and the start before them */
-enum { BEFORE = 3, MOST_ANSWERS = 64 };
 
 static dwexpr_encoding encoding_of(const struct job *job)
 {
@@ -85,20 +82,27 @@ static dwexpr_step answer_to(const dwexpr_outcome *asked)
 /* how many answers were given; calls are answered by no bytes */
 uint64_t from_c_evaluate(const uint8_t *bytes, size_t length, const struct job *job)
 {
+    static uint64_t memory[DWEXPR_EVALUATION_SIZE / 8];
+    static dwexpr_evaluation evaluation;
     const dwexpr_encoding encoding = encoding_of(job);
     const dwexpr_text texts[2] = {{bytes, length}, {NULL, 0}};
-    dwexpr_step steps[BEFORE + MOST_ANSWERS];
+    dwexpr_step steps[3];
     dwexpr_outcome outcome;
     dwexpr_piece pieces[DWEXPR_MAX_PIECES];
-    size_t given;
+    uint64_t given = 0;
+    uint32_t code;
+    if (!evaluation.memory) {
+        evaluation.memory = memory;
+        dwexpr_evaluation_begin(&evaluation);
+    }
     steps[0] = step_of(DWEXPR_SET_MAX_ITERATIONS, 0, job->maximum);
     steps[1] = step_of(DWEXPR_SET_OBJECT_ADDRESS, 0, 0x7000);
     steps[2] = step_of(DWEXPR_EVALUATE, 0, 0);
-    for (given = 0; given < job->answers && given < MOST_ANSWERS; given++) {
-        if (dwexpr_evaluate(texts, 2, encoding, steps, BEFORE + given, &outcome, pieces, DWEXPR_MAX_PIECES) ||
-            outcome.request == DWEXPR_COMPLETE)
-            break;
-        steps[BEFORE + given] = answer_to(&outcome);
+    code = dwexpr_evaluation_start(&evaluation, texts, 2, encoding, steps, 3, &outcome, pieces, DWEXPR_MAX_PIECES);
+    while (code == DWEXPR_OK && outcome.request != DWEXPR_COMPLETE && given < job->answers) {
+        code = dwexpr_evaluation_resume(&evaluation, texts, 2, answer_to(&outcome), &outcome, pieces,
+                                        DWEXPR_MAX_PIECES);
+        given++;
     }
     return given;
 }

@@ -47,9 +47,11 @@ pub struct Made {
     texts: Vec<(u64, Vec<Case>)>,
     pieces: Vec<(u64, Vec<Case>)>,
     calls: Vec<(u64, Vec<Case>)>,
+    requests: Vec<(u64, Vec<Case>)>,
 }
 
 const SIZES: [u32; 3] = [10, 1_000, 100_000];
+const REQUESTS: [u32; 4] = [1, 3, 10, 60];
 const TURNS: u32 = 1_000_000;
 
 const PLAIN: Job = Job {
@@ -87,6 +89,10 @@ impl Made {
             texts: SIZES.map(|k| (2 * u64::from(k) + 1, one(repeated(&[0x31, 0x13], k, &[0x31]), PLAIN))).into(),
             pieces: SIZES.map(|k| (u64::from(k), one(repeated(&[0x50, 0x93, 0x04], k, &[]), PLAIN))).into(),
             calls: SIZES.map(|k| (u64::from(k), one(called.to_vec(), deep(k)))).into(),
+            // Registers that are dropped, but for the last.
+            requests: REQUESTS
+                .map(|k| (u64::from(k), one(repeated(&[0x70, 0x00, 0x13], k - 1, &[0x70, 0x00]), PLAIN)))
+                .into(),
         }
     }
 }
@@ -126,6 +132,9 @@ pub fn all<'a>(cases: &'a [Case], made: &'a Made) -> Vec<Timed<'a>> {
     }
     add("from C: evaluate, gimli on the heap".into(), FROM_C, cases, 1, expressions, "expression");
     add("from C: evaluate, gimli in arrays".into(), FROM_C_IN_ARRAYS, cases, 1, expressions, "expression");
+    for (count, text) in &made.requests {
+        add(format!("from C: evaluate {count} requests"), FROM_C, text, 1, *count, "request");
+    }
     for (name, text) in &made.loops {
         add(format!("loop: {name}"), ON_HEAP, text, 1, u64::from(TURNS), "operation");
     }

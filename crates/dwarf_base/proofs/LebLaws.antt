@@ -1,4 +1,4 @@
--- A LEB128 number is read exactly where a front of the bytes spells it.
+-- A LEB128 number is read exactly if a front of the bytes spells it.
 use Rattle.std.proofs.Common.{◌≡◌, ℕ, ◌+◌, ◌*◌, ◌%◌, ◌^◌, ◌<◌, ◌≤◌, Bool, true, false, cond, List, [], ◌∷◌, ◌++◌, length, length-append, Result, Ok, Err, arith, refl, ap, sym, ◌∙◌, zero-add, ◌⊎◌, inl, inr}
 use Rattle.std.proofs.lemmas.Bool.{cases_lt, cases_eq}
 use Rattle.std.proofs.lemmas.Bool.Decides.{nat_tests}

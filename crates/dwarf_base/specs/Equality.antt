@@ -15,7 +15,7 @@ IsEquality {X} test = IsEqualityOf (λ x. x) test
 abbrev pub IsEqualityBy : {X Part : Type 0} → (X → X → Bool) → (part : X → Part) → (Part → Part → Bool) → Type 0
 IsEqualityBy {X} test part are_parts_equal = (x y : X) → test x y ≡ are_parts_equal (part x) (part y)
 
--- a test of slices that is true exactly where the bytes are the same, and the byte orders by a test of their own
+-- a test of slices that is true exactly if the bytes are the same, and the byte orders by a test of their own
 abbrev pub IsSliceEquality : {E : Type 0} → (E → E → Bool) → (EndianSlice E → EndianSlice E → Bool) → Type 0
 IsSliceEquality {E} are_orders_equal test =
     (x y : EndianSlice E)

@@ -9,7 +9,7 @@ pub record Begins {A : Type 0} (Spells : List ℕ → A → Type 0) (bytes : Lis
   pub whole : front ++ rest ≡ bytes
   pub spells : Spells front value
 
--- a read gives a value exactly where a front spells it, and a fault exactly where the bytes are malformed, by it
+-- a read gives a value exactly if a front spells it, and a fault exactly if the bytes are malformed, by it
 pub record ReadsExactly {A : Type 0} (Spells : List ℕ → A → Type 0) (Malformed : List ℕ → Fault → Type 0) (read : List ℕ → Result (A × List ℕ) Fault) : Type 0 where
   pub ok : (bytes : List ℕ) (value : A) (rest : List ℕ) → (read bytes ≡ Ok (value, rest)) ↔ Begins Spells bytes value rest
   pub err : (bytes : List ℕ) (fault : Fault) → (read bytes ≡ Err fault) ↔ Malformed bytes fault

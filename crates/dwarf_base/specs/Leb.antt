@@ -77,7 +77,7 @@ MalformedLeb form bytes fault = (IsCutOff bytes × (fault ≡ past_the_end)) ⊎
 
 -- ---- reading one
 
--- a number at the front, where `place` bytes came before, whose low bits sum up to `sum`
+-- a number at the front, after `place` bytes whose low bits sum up to `sum`
 abbrev pub leb_from : {A : Type 0} → LebForm A → (place sum : ℕ) → List ℕ → Result (A × List ℕ) Fault
 leb_from form place sum [] = Err past_the_end
 leb_from form place sum (byte ∷ rest) =

@@ -8,7 +8,7 @@ abbrev pub residue : (bits : ℕ) → ℤ → ℕ
 residue bits (pos n) = n % 2 ^ bits
 residue bits (negsuc n) = 2 ^ bits - 1 - n % 2 ^ bits
 
--- a number as an offset of so many bits
+-- a number as an offset of this many bits
 abbrev pub offset_of : (bits number : ℕ) → Result ℕ Fault
 offset_of bits number = if nat_lt number (2 ^ bits) then Ok number else Err UnsupportedOffset
 
@@ -16,7 +16,7 @@ offset_of bits number = if nat_lt number (2 ^ bits) then Ok number else Err Unsu
 abbrev pub register_of : ℕ → Result ℕ Fault
 register_of number = if nat_lt number 65536 then Ok number else Err (UnsupportedRegister number)
 
--- two's complement: the integer of so many bits whose remainder by two to the bits is the number
+-- two's complement: the integer of this many bits whose remainder by two to the bits is the number
 abbrev pub signed_of : (bits number : ℕ) → ℤ
 signed_of bits number = if nat_lt number (2 ^ (bits - 1)) then pos number else pos number -ℤ pos (2 ^ bits)
 

@@ -1,4 +1,4 @@
--- What is read from the front of a list of bytes: a value and the bytes behind it, or a fault.
+-- What is read from the front of a list of bytes: a value and the bytes after it, or a fault.
 use Rattle.std.specs.Prelude.{ℕ, ◌-◌, ◌*◌, ◌≤◌, ◌≡◌, ◌==◌, ◌||◌, ℤ, Bool, List, [], ◌∷◌, Result, Ok, Err, length, take, drop, nat_lt, if◌then◌else◌}
 use Rattle.dwarf_base.specs.declared.common.Format.{Format}
 use Rattle.dwarf_base.specs.declared.common.Format.TheVariants.{Dwarf32, Dwarf64}
@@ -22,7 +22,7 @@ pub record IsSuffix (rest bytes : List ℕ) : Type 0 where
   pub no_longer : length rest ≤ length bytes
   pub same : drop (length bytes - length rest) bytes ≡ rest
 
--- a read, from the text before to the text behind it: what is read or its fault, and some end of the text in the same order
+-- a read, from the text before to the text after it: what is read or its fault, and some end of the text in the same order
 pub record Reads {X Y : Type 0} (view : X → Y) (old new : Text) (result : Result X Error) (read : Result (Y × List ℕ) Fault) : Type 0 where
   pub value : Gives view result new.bytes read
   pub rest : IsSuffix new.bytes old.bytes
@@ -58,7 +58,7 @@ signed_at big n bytes = fixed_at big n bytes >>= λ number. Ok (signed_of (8 * n
 abbrev pub is_fixed_size : ℕ → Bool
 is_fixed_size n = n == 1 || n == 2 || n == 4 || n == 8
 
--- an address of so many bytes (DWARF 5, section 7.5.1)
+-- an address of this many bytes (DWARF 5, section 7.5.1)
 abbrev pub address_at : (big : Bool) (size : ℕ) → List ℕ → Result (ℕ × List ℕ) Fault
 address_at big size bytes = if is_fixed_size size then fixed_at big size bytes else Err (UnsupportedAddressSize size)
 
@@ -67,7 +67,7 @@ abbrev pub offset_size : Format → ℕ
 offset_size Dwarf32 = 4
 offset_size Dwarf64 = 8
 
--- an offset in a format, which has to fit so many bits
+-- an offset in a format, which has to fit this many bits
 abbrev pub format_at : (big : Bool) → Format → (bits : ℕ) → List ℕ → Result (ℕ × List ℕ) Fault
 format_at big format bits bytes =
     fixed_at big (offset_size format) bytes >>= λ number. offset_of bits number.0 >>= λ offset. Ok (offset, number.1)

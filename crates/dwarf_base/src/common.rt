@@ -28,7 +28,7 @@ pub struct Encoding {
 pub struct Register(pub u16);
 
 impl Register {
-    /// The register of this number; `UnsupportedRegister` exactly where the number is above 65535.
+    /// The register of this number; `UnsupportedRegister` exactly if the number is above 65535.
     #[inline]
     pub fn from_u64(register: u64) -> Result<Register>
         ensures { Returns (λ r. r.0) result (register_of register) }

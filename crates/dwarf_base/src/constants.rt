@@ -120,7 +120,7 @@ pub const DW_OP_shra: DwOp = DwOp(0x26);
 /// Bitwise exclusive or.
 pub const DW_OP_xor: DwOp = DwOp(0x27);
 
-/// A branch where the top isn't zero.
+/// A branch if the top isn't zero.
 pub const DW_OP_bra: DwOp = DwOp(0x28);
 
 /// Whether the two values are equal.
@@ -441,13 +441,13 @@ pub const DW_OP_fbreg: DwOp = DwOp(0x91);
 /// A register, by its number, plus a signed LEB128 number.
 pub const DW_OP_bregx: DwOp = DwOp(0x92);
 
-/// A piece of so many bytes.
+/// A piece of this many bytes.
 pub const DW_OP_piece: DwOp = DwOp(0x93);
 
-/// So many bytes of the memory at an address.
+/// This many bytes of the memory at an address.
 pub const DW_OP_deref_size: DwOp = DwOp(0x94);
 
-/// So many bytes of the memory at an address of an address space.
+/// This many bytes of the memory at an address of an address space.
 pub const DW_OP_xderef_size: DwOp = DwOp(0x95);
 
 /// Nothing.
@@ -471,7 +471,7 @@ pub const DW_OP_form_tls_address: DwOp = DwOp(0x9b);
 /// The canonical frame address.
 pub const DW_OP_call_frame_cfa: DwOp = DwOp(0x9c);
 
-/// A piece of so many bits, from a bit on.
+/// A piece of this many bits, from a bit on.
 pub const DW_OP_bit_piece: DwOp = DwOp(0x9d);
 
 /// The location is a block of bytes that has no place in memory.

@@ -9,7 +9,7 @@ use crate::constants::{DwAte, DwOp};
 use crate::errors::Error;
 use crate::slices::EndianSlice;
 
-/// Two values are equal exactly where contracts see the same. It does nothing; its contract is the laws.
+/// Two values are equal exactly if contracts see the same. It does nothing; its contract is the laws.
 pub fn equality_laws()
     ensures little_endian { IsEquality ⟦<LittleEndian as PartialEq>⟧.eq }
     ensures big_endian { IsEquality ⟦<BigEndian as PartialEq>⟧.eq }
@@ -23,7 +23,7 @@ pub fn equality_laws()
     ensures error { IsEquality ⟦<Error as PartialEq>⟧.eq }
 {}
 
-/// Offsets and indices are equal exactly where their numbers are.
+/// Offsets and indices are equal exactly if their numbers are.
 pub fn offset_equality_laws<T: Eq>()
     ensures unit_offset { IsEqualityBy ⟦<UnitOffset<T> as PartialEq>⟧.eq (λ offset. offset.0)
         T.PartialEq.eq }
@@ -33,7 +33,7 @@ pub fn offset_equality_laws<T: Eq>()
         T.PartialEq.eq }
 {}
 
-/// Slices are equal exactly where their bytes are the same and their byte orders are equal.
+/// Slices are equal exactly if their bytes are the same and their byte orders are equal.
 pub fn slice_equality_laws<E: Endianity + Eq>()
     ensures { IsSliceEquality E.PartialEq.eq ⟦<EndianSlice<'static, E> as PartialEq>⟧.eq }
 {}

@@ -23,7 +23,7 @@ pub enum Error {
     InvalidPieceSize(u64),
     /// The operation isn't defined at the value's type.
     UnsupportedTypeOperation,
-    /// Two values differ in their types, or in their sizes where these have to be equal.
+    /// Two values differ in their types, or in their sizes if these have to be equal.
     TypeMismatch,
     /// The divisor is zero.
     DivisionByZero,
@@ -37,7 +37,7 @@ pub enum Error {
     InvalidPushObjectAddress,
     /// The operation is decoded, and can't be evaluated.
     UnsupportedEvaluation,
-    /// A branch leads to this place, which is behind the end of its expression.
+    /// A branch leads to this place, which is after the end of its expression.
     BadBranchTarget(u64),
     /// The maximum of operations is reached.
     TooManyIterations,

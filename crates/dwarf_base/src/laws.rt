@@ -7,14 +7,14 @@ ghost use Rattle.dwarf_base.specs.Reads.{u8_at, split_at, fixed_at, signed_at, a
 
 /// What is read is what a front of the bytes spells, and nothing but that front is looked at.
 pub fn reader_laws()
-    // A value is read exactly where a front spells it, and a fault is met exactly where one is due.
+    // A value is read exactly if a front spells it, and a fault is met exactly if one is due.
     ensures block { (n : ℕ) → ReadsExactly (SpellsBlock n) (MalformedBlock n) (split_at n) }
     ensures fixed { (big : Bool) (n : ℕ)
         → ReadsExactly (SpellsFixed big n) (MalformedBlock n) (fixed_at big n) }
     ensures unsigned { ReadsExactly (SpellsLeb unsigned_leb) (MalformedLeb unsigned_leb) uleb_at }
     ensures signed { ReadsExactly (SpellsLeb signed_leb) (MalformedLeb signed_leb) sleb_at }
 
-    // Bytes behind that front change nothing, and each shorter front is `UnexpectedEof`.
+    // Bytes after that front change nothing, and each shorter front is `UnexpectedEof`.
     ensures byte_fronts { ReadsFronts u8_at }
     ensures block_fronts { (n : ℕ) → ReadsFronts (split_at n) }
     ensures fixed_fronts { (big : Bool) (n : ℕ) → ReadsFronts (fixed_at big n) }

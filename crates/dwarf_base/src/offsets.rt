@@ -31,7 +31,7 @@ pub trait ReaderOffset: Debug + Copy + Eq {
     fn from_u32(offset: u32) -> Self
         ensures { number result ≡ offset };
 
-    /// The same number; `UnsupportedOffset` exactly where it doesn't fit.
+    /// The same number; `UnsupportedOffset` exactly if it doesn't fit.
     fn from_u64(offset: u64) -> Result<Self>
         ensures { Returns number result (offset_of BITS offset) };
 

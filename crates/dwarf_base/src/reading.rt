@@ -10,8 +10,8 @@ use std::fmt::Debug;
 /// Bytes in a byte order, read from the front.
 ///
 /// What a read answers depends on the bytes that it takes, the byte order and its arguments alone, but for
-/// the identifier that `UnexpectedEof` carries. After an `Ok` the reader is behind those bytes, after an `Err` at
-/// some suffix of the bytes that it had. No call takes memory.
+/// the identifier that `UnexpectedEof` carries. After an `Ok` the reader has the bytes that follow those, and after an
+/// `Err` some suffix of the bytes that it had. No call takes memory.
 pub trait Reader: Debug {
     /// How it counts bytes.
     type Offset: ReaderOffset;
@@ -38,25 +38,25 @@ pub trait Reader: Debug {
         ensures { Self.Offset.number result
             ≡ length (text base.now).bytes - length (text self.now).bytes };
 
-    /// Drops the first `len` bytes. `UnexpectedEof` where there are fewer.
+    /// Drops the first `len` bytes. `UnexpectedEof` if there are fewer.
     fn skip(&mut self, len: Self::Offset) -> Result<()>
         ensures { Reads (λ x. x) (text self.old) (text self.new) result
             (skip_at (Self.Offset.number len) (text self.old).bytes) };
 
-    /// Takes the first `len` bytes, in the same byte order. `UnexpectedEof` where there are fewer.
+    /// Takes the first `len` bytes, in the same byte order. `UnexpectedEof` if there are fewer.
     fn split(&mut self, len: Self::Offset) -> Result<Self>
         ensures reads { Reads (λ front. (text front).bytes) (text self.old) (text self.new)
             result (split_at (Self.Offset.number len) (text self.old).bytes) }
         ensures front_order { IfOk result (λ front. (text front).is_big ≡ (text self.old).is_big) };
 
-    /// Reads an unsigned number of `n` bytes, which are 1, 2, 4 or 8. `UnexpectedEof` where there are fewer.
+    /// Reads an unsigned number of `n` bytes, which are 1, 2, 4 or 8. `UnexpectedEof` if there are fewer.
     fn read_fixed(&mut self, n: u8) -> Result<u64>
         requires { IsTrue (is_fixed_size n) }
         ensures reads { Reads (λ x. x) (text self.old) (text self.new) result
             (fixed_at (text self.old).is_big n (text self.old).bytes) }
         ensures fits { IfOk result (λ number. number < 256 ^ n) };
 
-    /// Reads one byte. `UnexpectedEof` where there is none.
+    /// Reads one byte. `UnexpectedEof` if there is none.
     #[inline]
     #[tactic(auto, using(crate::proofs::FixedNumbers::fixed_one))]
     fn read_u8(&mut self) -> Result<u8>
@@ -67,7 +67,7 @@ pub trait Reader: Debug {
         Ok(number as u8)
     }
 
-    /// Reads an unsigned number of 2 bytes. `UnexpectedEof` where there are fewer.
+    /// Reads an unsigned number of 2 bytes. `UnexpectedEof` if there are fewer.
     #[inline]
     fn read_u16(&mut self) -> Result<u16>
         ensures { Reads (λ x. x) (text self.old) (text self.new) result
@@ -77,7 +77,7 @@ pub trait Reader: Debug {
         Ok(number as u16)
     }
 
-    /// Reads an unsigned number of 4 bytes. `UnexpectedEof` where there are fewer.
+    /// Reads an unsigned number of 4 bytes. `UnexpectedEof` if there are fewer.
     #[inline]
     fn read_u32(&mut self) -> Result<u32>
         ensures { Reads (λ x. x) (text self.old) (text self.new) result
@@ -87,7 +87,7 @@ pub trait Reader: Debug {
         Ok(number as u32)
     }
 
-    /// Reads an unsigned number of 8 bytes. `UnexpectedEof` where there are fewer.
+    /// Reads an unsigned number of 8 bytes. `UnexpectedEof` if there are fewer.
     #[inline]
     fn read_u64(&mut self) -> Result<u64>
         ensures { Reads (λ x. x) (text self.old) (text self.new) result
@@ -96,7 +96,7 @@ pub trait Reader: Debug {
         self.read_fixed(8)
     }
 
-    /// Reads a signed number of 1 byte, in two's complement. `UnexpectedEof` where there is none.
+    /// Reads a signed number of 1 byte, in two's complement. `UnexpectedEof` if there is none.
     #[inline]
     fn read_i8(&mut self) -> Result<i8>
         ensures { Reads (λ x. x) (text self.old) (text self.new) result
@@ -106,7 +106,7 @@ pub trait Reader: Debug {
         Ok((number as u8).cast_signed())
     }
 
-    /// Reads a signed number of 2 bytes, in two's complement. `UnexpectedEof` where there are fewer.
+    /// Reads a signed number of 2 bytes, in two's complement. `UnexpectedEof` if there are fewer.
     #[inline]
     fn read_i16(&mut self) -> Result<i16>
         ensures { Reads (λ x. x) (text self.old) (text self.new) result
@@ -116,7 +116,7 @@ pub trait Reader: Debug {
         Ok(number.cast_signed())
     }
 
-    /// Reads a signed number of 4 bytes, in two's complement. `UnexpectedEof` where there are fewer.
+    /// Reads a signed number of 4 bytes, in two's complement. `UnexpectedEof` if there are fewer.
     #[inline]
     fn read_i32(&mut self) -> Result<i32>
         ensures { Reads (λ x. x) (text self.old) (text self.new) result
@@ -126,7 +126,7 @@ pub trait Reader: Debug {
         Ok(number.cast_signed())
     }
 
-    /// Reads a signed number of 8 bytes, in two's complement. `UnexpectedEof` where there are fewer.
+    /// Reads a signed number of 8 bytes, in two's complement. `UnexpectedEof` if there are fewer.
     #[inline]
     fn read_i64(&mut self) -> Result<i64>
         ensures { Reads (λ x. x) (text self.old) (text self.new) result
@@ -137,7 +137,7 @@ pub trait Reader: Debug {
     }
 
     /// Reads an address of `size` bytes (DWARF 5, section 7.5.1). `UnsupportedAddressSize`, before a byte is
-    /// read, where that is none of 1, 2, 4 and 8. `UnexpectedEof` where there are fewer bytes.
+    /// read, if that is none of 1, 2, 4 and 8. `UnexpectedEof` if there are fewer bytes.
     #[inline]
     fn read_address(&mut self, size: u8) -> Result<u64>
         ensures { Reads (λ x. x) (text self.old) (text self.new) result
@@ -150,7 +150,7 @@ pub trait Reader: Debug {
     }
 
     /// Reads an offset, of 4 bytes in the 32-bit format and 8 in the 64-bit one (DWARF 5, section 7.4).
-    /// `UnexpectedEof` where there are fewer bytes, then `UnsupportedOffset` where it doesn't fit.
+    /// `UnexpectedEof` if there are fewer bytes, then `UnsupportedOffset` if it doesn't fit.
     #[inline]
     fn read_offset(&mut self, format: Format) -> Result<Self::Offset>
         ensures { Reads Self.Offset.number (text self.old) (text self.new) result
@@ -163,8 +163,8 @@ pub trait Reader: Debug {
         Self::Offset::from_u64(number)
     }
 
-    /// Reads an unsigned LEB128 number (DWARF 5, section 7.6). `BadUnsignedLeb128` where its tenth byte is
-    /// neither `00` nor `01`, so that nine `80` and a `00` are zero. `UnexpectedEof` where the bytes end before.
+    /// Reads an unsigned LEB128 number (DWARF 5, section 7.6). `BadUnsignedLeb128` if its tenth byte is
+    /// neither `00` nor `01`, so that nine `80` and a `00` are zero. `UnexpectedEof` if the bytes end before.
     #[inline(always)]
     final fn read_uleb128(&mut self) -> Result<u64>
         ensures { Reads (λ x. x) (text self.old) (text self.new) result
@@ -177,7 +177,7 @@ pub trait Reader: Debug {
         rest_of_uleb128(self, first)
     }
 
-    /// Reads an unsigned LEB128 number of 32 bits. The errors of `read_uleb128`, and `BadUnsignedLeb128` where
+    /// Reads an unsigned LEB128 number of 32 bits. The errors of `read_uleb128`, and `BadUnsignedLeb128` if
     /// the number is above 4294967295.
     #[inline(always)]
     final fn read_uleb128_u32(&mut self) -> Result<u32>
@@ -191,8 +191,8 @@ pub trait Reader: Debug {
         }
     }
 
-    /// Reads a signed LEB128 number (DWARF 5, section 7.6). `BadSignedLeb128` where its tenth byte is neither
-    /// `00` nor `7f`. `UnexpectedEof` where the bytes end before.
+    /// Reads a signed LEB128 number (DWARF 5, section 7.6). `BadSignedLeb128` if its tenth byte is neither
+    /// `00` nor `7f`. `UnexpectedEof` if the bytes end before.
     #[inline(always)]
     final fn read_sleb128(&mut self) -> Result<i64>
         ensures { Reads (λ x. x) (text self.old) (text self.new) result
@@ -209,7 +209,7 @@ pub trait Reader: Debug {
     }
 }
 
-// The number of a first byte that goes on, and the bytes behind it. Apart, so that one byte is read in line.
+// The number of a first byte that goes on, and the bytes after it. Apart, so that one byte is read in line.
 #[inline(never)]
 fn rest_of_uleb128<R: Reader>(reader: &mut R, first: u8) -> Result<u64>
     ensures { Reads (λ x. x) (R.text reader.old) (R.text reader.new) result
@@ -232,7 +232,7 @@ fn rest_of_uleb128<R: Reader>(reader: &mut R, first: u8) -> Result<u64>
     }
 }
 
-// The number of a first byte that goes on, and the bytes behind it. Apart, so that one byte is read in line.
+// The number of a first byte that goes on, and the bytes after it. Apart, so that one byte is read in line.
 #[inline(never)]
 fn rest_of_sleb128<R: Reader>(reader: &mut R, first: u8) -> Result<i64>
     ensures { Reads (λ x. x) (R.text reader.old) (R.text reader.new) result

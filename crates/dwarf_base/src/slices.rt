@@ -9,7 +9,7 @@ use crate::reading::Reader;
 
 /// The bytes of a slice, in a byte order.
 ///
-/// Two are equal where their bytes and their byte orders are. A refused `skip`, `split` or `read_fixed` leaves it
+/// Two are equal if their bytes and their byte orders are. A refused `skip`, `split` or `read_fixed` leaves it
 /// as it was.
 #[derive(Clone, Copy, Debug, PartialEq, Eq, Hash)]
 pub struct EndianSlice<'input, E> {

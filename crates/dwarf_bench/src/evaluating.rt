@@ -82,7 +82,7 @@ pub fn restart_in_arrays(cases: &[Case<'_>], times: u32) -> u64 {
     restart_all(&mut evaluation, cases, times)
 }
 
-/// Evaluates each case so many times by one evaluation: the sum of what `complete` gives.
+/// Evaluates each case `times` times by one evaluation: the sum of what `complete` gives.
 #[inline(always)]
 fn restart_all<'a, S: EvaluationStorage<Text<'a>>>(
     evaluation: &mut Evaluation<Text<'a>, S>,
@@ -110,7 +110,7 @@ fn is_evaluated(job: Job) -> bool
 }
 
 /// Evaluates to the end, to a fault or until no more answers are given: the number of answers that were given, and a
-/// checksum of the requests that aren't only counted and, where none is, of the pieces and of the value.
+/// checksum of the requests that aren't only counted and, if none is, of the pieces and of the value.
 #[inline(always)]
 fn complete<'a, S: EvaluationStorage<Text<'a>>>(
     evaluation: &mut Evaluation<Text<'a>, S>,

@@ -177,7 +177,7 @@ fn show_requests(rt: &HostRuntime, bytes: Bytes<'_>) -> io::Result<()> {
     }
 }
 
-/// Prints what comes of some expressions.
+/// Prints the outcome of some expressions.
 fn show_all(rt: &HostRuntime) -> io::Result<()> {
     let process = Stopped {
         registers: [0x1000, 0x2000],

@@ -9,7 +9,7 @@ use dwarf_expr::op::EvaluationResult;
 use dwarf_expr::store::EvaluationStorage;
 use dwarf_expr::value::Value;
 
-/// Evaluates with the values of registers, and at most `step` operations more for each; `false` where anything else is
+/// Evaluates with the values of registers, and at most `step` operations more for each; `false` if anything else is
 /// asked, which is left open.
 pub fn complete_with_registers<R: Reader + Copy + PartialEq, S: EvaluationStorage<R>>(
     evaluation: &mut Evaluation<R, S>,

@@ -32,7 +32,7 @@ pub trait Process<R: Reader> {
     /// Where a variable of the thread stands.
     fn thread_local(&self, offset: u64) -> Result<u64>;
 
-    /// The `DW_AT_location` of an entry, or no bytes where it has none.
+    /// The `DW_AT_location` of an entry, or no bytes if it has none.
     fn expression_at(&self, entry: DieReference<R::Offset>) -> Result<R>;
 
     /// What the expression gave when the function was entered.

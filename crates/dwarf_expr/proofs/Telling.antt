@@ -1,4 +1,4 @@
--- What steps told, where no fault was met, is what they tell; and a refusal that refused nothing changes nothing.
+-- What steps told, if no fault was met, is what they tell; and a refusal that refused nothing changes nothing.
 use Rattle.std.proofs.Common.{◌≡◌, ◌≢◌, ap, refl, sym, subst, ◌∙◌, ◌⊎◌, inl, inr, List, [], ◌∷◌, ◌++◌, Option, Some, None, append_assoc}
 use Rattle.std.proofs.lemmas.List.{append-nil}
 use Rattle.dwarf_base.specs.Faults.{Fault}
@@ -128,7 +128,7 @@ module _ (setup : Setup) (refusal : Refusal) (text : Text) where
   told_by told Evaluate a h = refl
   told_by told (Resume answer) a h = heard_all told answer (comes told) a h
 
-  -- where no fault was met in the end
+  -- if no fault was met in the end
   pub told_is : (told : Told) (steps : List Step) → AllAllowed setup refusal text told steps
       → ((fault : Fault) → comes (after_steps setup refusal text told steps) ≢ Some (FaultOutcome fault))
       → after_steps setup refusal text told steps ≡ tells told steps
@@ -137,7 +137,7 @@ module _ (setup : Setup) (refusal : Refusal) (text : Text) where
       let now = told_by told step a.0 (λ fault e. h fault (steps_keep told (step ∷ steps) fault e)) in
       told_is (after_step setup refusal text told step) steps a.1 h ∙ ap (λ (t : Told). tells t steps) now
 
-  -- where what the steps tell comes to no fault
+  -- if what the steps tell comes to no fault
   pub told_comes : (told : Told) (steps : List Step) → AllAllowed setup refusal text told steps
       → ((fault : Fault) → comes (tells told steps) ≢ Some (FaultOutcome fault))
       → after_steps setup refusal text told steps ≡ tells told steps

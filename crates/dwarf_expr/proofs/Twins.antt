@@ -35,7 +35,7 @@ shorter (suc n) zero xs h = absurd (omega arith)
 shorter (suc n) (suc m) [] h = ([], refl)
 shorter (suc n) (suc m) (x ∷ xs) h = let r = shorter n m xs (omega arith) in (r.0, ap (λ l. x ∷ l) r.1)
 
--- a front goes on with the item behind it
+-- a front goes on with the item after it
 pub next_item : {A : Type 0} (n m : ℕ) (xs : List A) (x : A) → slice_get xs n ≡ Some x → n < m
     → (rest : List A) × (take m xs ≡ take n xs ++ x ∷ rest)
 next_item n zero xs x e h = absurd (omega arith)

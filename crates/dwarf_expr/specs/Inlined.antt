@@ -16,7 +16,7 @@ abbrev pub input_by : First → Answer → Input
 input_by settings answer =
     record { object_address = settings.object_address; maximum = settings.maximum; answer = answer }
 
--- what a step tells, where every answer is awaited
+-- what a step tells, if every answer is awaited
 abbrev pub tell : Told → Step → Told
 tell told (InitialValue number) = record told { settings = record told.settings { initial_value = Some number } }
 tell told (ObjectAddress address) = record told { settings = record told.settings { object_address = Some address } }

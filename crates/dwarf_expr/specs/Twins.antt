@@ -92,7 +92,7 @@ BothMisplaced =
     → AreComparableReplays x y replies given
     → (index ≡ second) × (replies ≡ given) × StatesStandAlike (address_bits x.setup) new other
 
--- no step is misplaced on one side where all were done on the other
+-- no step is misplaced on one side if all were done on the other
 abbrev pub NoneMisplacedAlone : Type 0
 NoneMisplacedAlone =
     (index : ℕ) (x y new other : State) (steps others : List Step) (replies given : List Reply)
@@ -100,7 +100,7 @@ NoneMisplacedAlone =
     → ((WalksTo index x steps replies new → Walks y others given other → ⊥)
     × (Walks x steps replies new → WalksTo index y others given other → ⊥))
 
--- A reply found no room on the second side. Its replies, with that one, are the first of the other side's: where
+-- A reply found no room on the second side. Its replies, with that one, are the first of the other side's: if
 -- that one did all its steps, came to a misplaced one, which then comes later, or found no room either, at that step
 -- or later.
 abbrev pub NoRoomThere : Type 0

@@ -117,7 +117,7 @@ module _ (encoding : Encoding) (bits : ℕ) (A K B : List ℕ) (big : Bool) (off
       ∙ choose_false (length A == length (A ++ (K ++ B))) _ _ (let l = length-append A (K ++ B) in
       let k = length-append K B in let m = some_call in grind (arith, nat_tests))
 
-  -- where the run of some inputs stays at the call, the run of any asks it
+  -- if the run of some inputs stays at the call, the run of any asks it
   pub call_turn : (t : Store) (before : List Input) → AtCall (run S outer (length A) 0 (calm t) before).end
       → (inputs : List Input) → run S outer (length A) 0 (calm t) inputs ≡ call_course t inputs
   call_turn t before at_call inputs =

@@ -15,7 +15,7 @@ use Rattle.dwarf_laws.specs.Inlining.{CallSite, outer, inlined, behind_call, wit
 use Rattle.dwarf_laws.specs.Rows.{resumes, started_steps, ComeTo, IsWorked}
 
 module _ (setup : Setup) (text : Text) where
-  -- from what was told, where this comes of it, the steps answer that and lead there
+  -- from what was told, if this comes of it, the steps answer that and lead there
   pub record ComeFrom (told : Told) (steps : List Step) (replied : List Reply) (outcome : Outcome) : Type 0 where
     pub allowed : AllAllowed setup Never text told steps
     pub replies_are : replies_of setup Never text told steps ≡ replied
@@ -42,7 +42,7 @@ module _ (setup : Setup) (text : Text) where
         comes = h.comes;
       }
 
-  -- a call, and what comes of it
+  -- a call, and its outcome
   pub replies_to : (told : Told) (o : Option Outcome) (step : Step) (next : Outcome) (steps : List Step)
       (replied : List Reply) (outcome : Outcome)
       → outcome_of setup Never text told ≡ o → ((p : Option Outcome) → step_replies step p ≡ replies p) → Allows told o step
@@ -66,7 +66,7 @@ module _ (setup : Setup) (text : Text) where
             comes = h.comes;
           }
 
-  -- ---- answers, each with what comes of it
+  -- ---- answers, each with its outcome
 
   abbrev pub answers_in : List (Answer × Outcome) → List Answer
   answers_in [] = []
@@ -106,7 +106,7 @@ module _ (setup : Setup) (text : Text) where
 -- ---- whole runs, of few turns
 
 module _ (setup : Setup) (bytes : List ℕ) where
-  -- what comes of it in twenty turns, however many more there are
+  -- its outcome in twenty turns, however many more there are
   abbrev pub Computes : List Input → Outcome → Type 0
   Computes inputs outcome = (more : ℕ) → outcome_for (twenty more) setup Never (text bytes) unset inputs ≡ outcome
 

@@ -149,7 +149,7 @@ none_full_behind (x ∷ xs) ys h = none_full_behind xs ys h.1
 -- ---- all steps
 
 module _ (Free : Type 0) where
-  -- no push was refused, where `Free` holds
+  -- no push was refused, if `Free` holds
   abbrev pub IsClearSoFar : Option Outcome → Type 0
   IsClearSoFar o = Free → o ≢ Some (FaultOutcome StackFull)
 
@@ -197,7 +197,7 @@ module _ (Free : Type 0) (setup : Setup) (limits : Limits) (premise : Free ⊎ (
       path_both Free setup limits premise width refusal another same_refusal text _ _ inputs inputs' a i
       (λ free e. h free (ap Some e)) (λ free e. k free (ap Some e))
 
-  -- what agreeing tellings lead to, where no push was refused
+  -- what agreeing tellings lead to, if no push was refused
   stand_alike : (told told' : Told) → AgreeingTold w told told'
       → IsClearSoFar Free (outcome_of setup refusal text told) → IsClearSoFar Free (outcome_of other another text told')
       → StandAlike setup other refusal another text told told'

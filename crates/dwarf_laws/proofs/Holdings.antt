@@ -25,7 +25,7 @@ pub data AgreeingLasts (w : ℕ) : Last → Last → Type 0 where
   both_located : {location other : Location} → AgreeingLocations w location other
       → AgreeingLasts w (Located location) (Located other)
 
--- Where `Free` holds, pushes may be refused on one side alone.
+-- If `Free` holds, pushes may be refused on one side alone.
 pub record AgreeingStores (Free : Type 0) (w : ℕ) (s t : Store) : Type 0 where
   pub values : Pairwise (Agree w) s.values t.values
   pub pieces : Pairwise (AgreeingPieces w) s.pieces t.pieces
@@ -35,7 +35,7 @@ pub record AgreeingStores (Free : Type 0) (w : ℕ) (s t : Store) : Type 0 where
   pub last : AgreeingLasts w s.last t.last
   pub refusal : Free ⊎ (s.refusal ≡ t.refusal)
 
--- what is left of two refusals; each push that is refused may be refused alone where `Free` holds
+-- what is left of two refusals; each push that is refused may be refused alone if `Free` holds
 data AgreeingRooms (Free : Type 0) : Result Refusal Fault → Result Refusal Fault → Type 0 where
   rooms : {left right : Refusal} → Free ⊎ (left ≡ right) → AgreeingRooms Free (Ok left) (Ok right)
   no_rooms : AgreeingRooms Free (Err StackFull) (Err StackFull)

@@ -197,7 +197,7 @@ module _ (encoding : Encoding) (bits : ℕ) where
           (subst (λ (e : End). EndsAt (c.requests ++ first.requests) first.end (c.requests ++ second.requests) e)
           (sym h.goes_on.end) both))
 
-      -- the callee in its call's place, and what is behind
+      -- the callee in its call's place, and what follows
       callee_ends : (t : Store) (inputs : List Input) → Fits target inputs t.object_address t.maximum
           → let c = run S callee 0 1 (ahead 1 t) inputs in let x = return_to_caller (run S) behind_call 0 c c.end in
           let y = run S inlined (length A) 0 (calm t) inputs in EndsAt x.requests x.end y.requests y.end

@@ -38,7 +38,7 @@ pub leads_holds : (setup : Setup) (location : Location) (place : ℕ) (s : Store
 leads_holds setup location place s (Some piece) = leads_goes place _
 leads_holds setup location place s None = tt
 
--- the outermost text that is open stands behind the place
+-- the outermost open text stands at a later place
 pub record OpenBehind (T : Text) (q : ℕ) (positions : List Position) : Type 0 where
   pub inner : List Position
   pub place : ℕ

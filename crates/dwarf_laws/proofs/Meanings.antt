@@ -1,4 +1,4 @@
--- What comes of two runs of one text.
+-- The outcome of two runs of one text.
 use Rattle.std.proofs.Common.{ℕ, ◌≡◌, ◌≢◌, ap, refl, ◌⊎◌, List, [], Option, Some, None, Result}
 use Rattle.dwarf_base.specs.Faults.{Fault}
 use Rattle.dwarf_base.specs.declared.errors.Error.TheVariants.{StackFull}
@@ -19,13 +19,13 @@ use Rattle.dwarf_laws.proofs.Actions.{same_addresses}
 use Rattle.dwarf_laws.proofs.Holdings.{AgreeingLasts, both_nothing, both_plain, both_pieced, both_pushed, both_called, both_located, AgreeingStores, AgreeingResults, stores, refusals, result_first, result_second, push_value_both, push_piece_both, changed}
 use Rattle.dwarf_laws.proofs.Runs.{AgreeingEnds, finish_both, ask_both, fail_both, AgreeingCourses, courses, course_first, course_second, run_both}
 
--- They agree; or, where `Free` holds, one of them is a push that was refused.
+-- They agree; or, if `Free` holds, one of them is a push that was refused.
 data AgreeUnlessFull (Free : Type 0) (w : ℕ) : Outcome → Outcome → Type 0 where
   agree : {x y : Outcome} → AgreeingOutcomes w x y → AgreeUnlessFull Free w x y
   full_first : {x y : Outcome} → Free → x ≡ FaultOutcome StackFull → AgreeUnlessFull Free w x y
   full_second : {x y : Outcome} → Free → y ≡ FaultOutcome StackFull → AgreeUnlessFull Free w x y
 
--- no push was refused, where `Free` holds
+-- no push was refused, if `Free` holds
 abbrev pub IsClear : (Free : Type 0) → Outcome → Type 0
 IsClear Free x = Free → x ≢ FaultOutcome StackFull
 
@@ -138,7 +138,7 @@ module _ (Free : Type 0) (setup : Setup) (limits : Limits) (premise : Free ⊎ (
     course_both x y inputs inputs' a i =
         from_both inputs inputs' _ _ i (initial_both x.initial_value y.initial_value _ _ a.initial_value (fresh_both x y a))
 
-    -- agreeing settings and inputs have agreeing meanings, where no push was refused on one side alone
+    -- agreeing settings and inputs have agreeing meanings, if no push was refused on one side alone
     pub meaning_both : (x y : First) (inputs inputs' : List Input) → AgreeingFirsts w x y
         → Pairwise (AgreeingInputs w) inputs inputs' → IsClear Free (meaning setup refusal text x inputs)
         → IsClear Free (meaning other another text y inputs')

@@ -163,7 +163,7 @@ module _ (encoding : Encoding) (bits : ℕ) where
         (t : Store) (inputs : List Input) → Fits target inputs t.object_address t.maximum
         → Leads (run S outer p 0 (calm t) inputs) (λ X more. run S (text X) p 0 (calm t) (inputs ++ more))
 
-    -- ---- what comes of one operation before the call
+    -- ---- the outcome of one operation before the call
 
     record EndsCalm (s : Store) (left : List Input) : Type 0 where
       store : Store

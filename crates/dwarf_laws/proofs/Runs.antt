@@ -23,7 +23,7 @@ pub data AgreeingEnds (Free : Type 0) (w : ℕ) : End → End → Type 0 where
       → AgreeingEnds Free w (RequestEnd request positions inputs) (RequestEnd request positions inputs')
   fail_both : {fault : Fault} → AgreeingEnds Free w (FaultEnd fault) (FaultEnd fault)
 
--- Two courses with agreeing ends; where `Free` holds, one of them may end in a push that was refused.
+-- Two courses with agreeing ends; if `Free` holds, one of them may end in a push that was refused.
 pub data AgreeingCourses (Free : Type 0) (w : ℕ) : Course → Course → Type 0 where
   courses : {first second : Course} → first.path ≡ second.path → first.requests ≡ second.requests
       → AgreeingEnds Free w first.end second.end → AgreeingCourses Free w first second

@@ -1,4 +1,4 @@
--- Places of texts: behind an operation, in a callee, and behind a call.
+-- Places of texts: after an operation, in a callee, and after a call.
 use Rattle.std.proofs.Common.{ℕ, zero, suc, ◌+◌, ◌-◌, ◌%◌, ◌^◌, ◌≡◌, ◌≤◌, ◌<◌, ℤ, pos, negsuc, ◌+ℤ◌, ◌≤ℤ◌, ◌<ℤ◌, Bool, List, [], ◌∷◌, ◌++◌, length, drop, Option, Some, None, Result, Ok, Err, sym, ap, subst, ◌∙◌, arith, length-append}
 use Rattle.std.proofs.lemmas.Bool.Decides.{nat_tests}
 use Rattle.std.proofs.lemmas.Int.{ints}
@@ -55,7 +55,7 @@ module _ (encoding : Encoding) (bits : ℕ) where
   abbrev S : Setup
   S = free encoding bits
 
-  -- an operation stands at a place, and the rest behind it
+  -- an operation stands at a place, and the rest after it
   pub record Stands (T : Text) (p : ℕ) (rest : List ℕ) : Type 0 where
     pub size : ℕ
     pub some : 0 < size
@@ -150,7 +150,7 @@ module _ (encoding : Encoding) (bits : ℕ) where
           };
     }
 
-    -- the same place behind the call and behind the callee
+    -- the same place after the call and after the callee
     pub record Beside (p p' : ℕ) : Type 0 where
       pub beyond : ℕ
       pub first : p ≡ length A + (length K + beyond)

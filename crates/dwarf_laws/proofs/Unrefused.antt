@@ -266,7 +266,7 @@ module _ (encoding : Encoding) (bits : ℕ) where
   from_calm text inputs r r' (stores {s = s}) = run_for_calm enough text 0 0 s inputs
   from_calm text inputs r r' no_stores = full refl
 
-  -- a push was refused, or it is what comes of it without a refusal
+  -- a push was refused, or it is its outcome without a refusal
   pub meaning_calm : (refusal : Refusal) (text : Text) (first : First) (inputs : List Input)
       → (meaning S refusal text first inputs ≡ FaultOutcome StackFull) ⊎ (meaning S refusal text first inputs ≡ meaning S
       Never text first inputs)

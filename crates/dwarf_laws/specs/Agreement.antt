@@ -68,7 +68,7 @@ pub record AgreeingTold (w : ℕ) (told other : Told) : Type 0 where
   pub first : Both (AgreeingFirsts w) told.first other.first
   pub inputs : Pairwise (AgreeingInputs w) told.inputs other.inputs
 
--- ---- what comes of it
+-- ---- its outcome
 
 -- the same location, or two values that agree
 pub data AgreeingLocations (w : ℕ) : Location → Location → Type 0 where

@@ -16,7 +16,7 @@ use Rattle.dwarf_meaning.specs.Refusals.{Never}
 
 -- ---- the texts
 
--- The bytes before a call, those of the call and those behind it, and the bytes that it is answered by, in one order.
+-- The bytes before a call, those of the call and those after it, and the bytes that it is answered by, in one order.
 pub record CallSite : Type 0 where
   pub before : List ℕ
   pub call : List ℕ
@@ -36,7 +36,7 @@ called site = record { bytes = site.callee; is_big = site.is_big }
 abbrev pub inlined : CallSite → Text
 inlined site = record { bytes = site.before ++ (site.callee ++ site.behind); is_big = site.is_big }
 
--- the outer text, at the place behind the call
+-- the outer text, at the place after the call
 abbrev pub behind_call : CallSite → Position
 behind_call site = record { text = outer site; place = length site.before + length site.call }
 
@@ -110,7 +110,7 @@ pub data EndAlike : Outcome → Outcome → Type 0 where
       → EndAlike (CompleteOutcome pieces value) (CompleteOutcome pieces value)
   requests : {request : Request} {positions others : List Position} → EndAlike (RequestOutcome request positions) (RequestOutcome request others)
 
--- the same requests in the same order, but for this one, which comes behind the earlier ones
+-- the same requests in the same order, but for this one, which comes after the earlier ones
 pub record LacksOne (request : Request) (earlier whole lacking : List Request) : Type 0 where
   pub later : List Request
   pub with_it : whole ≡ earlier ++ (request ∷ later)
@@ -125,7 +125,7 @@ pub record IsInlined (setup : Setup) (site : CallSite) (offset : DieReference) (
       (course_of setup Never (outer site) first (with_answer site first earlier later)).requests
       (course_of setup Never (inlined site) first (earlier ++ later)).requests
 
--- without limits and refusals, where the outer run meets no fault
+-- without limits and refusals, if the outer run meets no fault
 abbrev pub Inlining : Type 0
 Inlining =
     (setup : Setup) (site : CallSite) (offset : DieReference) (first : First) (earlier later : List Input)

@@ -20,14 +20,14 @@ resumes (answer ∷ answers) = Resume answer ∷ resumes answers
 abbrev pub started_steps : List Answer → List Step
 started_steps answers = Evaluate ∷ resumes answers
 
--- Steps from the beginning, each of them allowed: the replies to them, and what comes of them.
+-- Steps from the beginning, each of them allowed: the replies to them, and their outcome.
 pub record ComeTo (setup : Setup) (bytes : List ℕ) (steps : List Step) (replied : List Reply)
     (outcome : Outcome) : Type 0 where
   pub allowed : AllAllowed setup Never (text bytes) untold steps
   pub replies : replies_of setup Never (text bytes) untold steps ≡ replied
   pub comes : outcome_of setup Never (text bytes) (after_steps setup Never (text bytes) untold steps) ≡ Some outcome
 
--- Two runs by agreeing steps, for addresses of 4 bytes: the same replies, and what comes of each.
+-- Two runs by agreeing steps, for addresses of 4 bytes: the same replies, and the outcome of each.
 pub record ComeAlike (setup : Setup) (bytes : List ℕ) (steps others : List Step) (replied : List Reply)
     (outcome other : Outcome) : Type 0 where
   pub agree : Pairwise (AgreeingSteps 32) steps others
@@ -41,8 +41,8 @@ abbrev pub call_site : (before behind callee : List ℕ) → CallSite
 call_site before behind callee =
     record { before = before; call = 0x98 ∷ 0x05 ∷ 0x00 ∷ []; behind = behind; callee = callee; is_big = false }
 
--- Every premise of the law holds, with nothing set; what comes of both texts; and what they ask, before the call and
--- behind it.
+-- Every premise of the law holds, with nothing set; the outcomes of both texts; and what they ask, before the call and
+-- after it.
 pub record IsWorked (site : CallSite) (earlier later : List Input) (before behind : List Request)
     (outcome : Outcome) : Type 0 where
   pub no_limits : HasNoLimits plain
@@ -60,14 +60,14 @@ pub record IsWorked (site : CallSite) (earlier later : List Input) (before behin
 
 -- ---- why the premises stand
 
--- Two runs of one text, for addresses of 4 bytes, and what comes of each: it doesn't agree.
+-- Two runs of one text, for addresses of 4 bytes, and the outcome of each: it doesn't agree.
 pub record ComeApart (setup other : Setup) (refusal another : Refusal) (bytes : List ℕ) (first second : First)
     (inputs others : List Input) (outcome apart : Outcome) : Type 0 where
   pub one_comes : meaning setup refusal (text bytes) first inputs ≡ outcome
   pub other_comes : meaning other another (text bytes) second others ≡ apart
   pub differ : AgreeingOutcomes 32 outcome apart → ⊥
 
--- Two texts and what comes of each, by its own inputs: they don't end alike.
+-- Two texts and the outcome of each, by its own inputs: they don't end alike.
 pub record EndApart (setup : Setup) (bytes others : List ℕ) (first : First) (inputs later : List Input)
     (outcome apart : Outcome) : Type 0 where
   pub outer_comes : meaning setup Never (text bytes) first inputs ≡ outcome

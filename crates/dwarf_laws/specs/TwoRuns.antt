@@ -25,7 +25,7 @@ path_from setup refusal text inputs (Some first) = (course_of setup refusal text
 abbrev pub path_of : Setup → Refusal → Text → Told → List Position
 path_of setup refusal text told = path_from setup refusal text told.inputs told.first
 
--- what came of all that was told before, once it was started, and the replies to the steps
+-- the outcome of all that was told before, once it was started, and the replies to the steps
 abbrev pub all_replies : Setup → Refusal → Text → Told → List Step → List Reply
 all_replies setup refusal text told steps = replies (outcome_of setup refusal text told) ++ replies_of setup refusal text told steps
 

@@ -14,7 +14,7 @@ ghost use Rattle.dwarf_laws.specs.Rows.{started_steps, ComeAlike, call_site, IsW
 /// Worked rows of `high_bits`: two runs of one text whose answers differ above the 32 bits of an address.
 ///
 /// It does nothing. Each clause of its contract gives the limits, the text's bytes, and the steps of both runs, which
-/// agree; then what both reply, and what comes of each.
+/// agree; then what both reply, and the outcome of each.
 pub fn twin_rows()
     ensures frame_address { ComeAlike plain (0x9c ∷ [])
         (started_steps (CfaAnswer 0x10 ∷ [])) (started_steps (CfaAnswer 0x100000010 ∷ []))
@@ -121,9 +121,9 @@ pub fn twin_rows()
 
 /// Worked rows of `inlining`: calls and the texts that they are answered by.
 ///
-/// It does nothing. Each clause of its contract gives the bytes before a call and those behind it, and the bytes that
-/// it is answered by; the answers before that one and those after it; what is asked before the call and behind it; and
-/// what comes of the outer text and of the inlined one. It says that every premise of the law holds.
+/// It does nothing. Each clause of its contract gives the bytes before a call and those after it, and the bytes that
+/// it is answered by; the answers before that one and those after it; what is asked before the call and after it; and
+/// the outcome of the outer text and of the inlined one. It says that every premise of the law holds.
 pub fn called_rows()
     ensures sum { IsWorked (call_site (0x31 ∷ []) (0x22 ∷ []) (0x32 ∷ []))
         [] []
@@ -143,10 +143,10 @@ pub fn called_rows()
         (RequiresCallFrameCfa ∷ []) (RequiresCallFrameCfa ∷ []) (valued 5 5) }
 {}
 
-/// Why premises of `high_bits` stand: the smallest two runs that come apart where one doesn't hold.
+/// Why premises of `high_bits` stand: the smallest two runs that come apart if one doesn't hold.
 ///
 /// It does nothing. Each clause of its contract gives the limits and the refusal of both runs, the text's bytes, the
-/// settings and the answers of both, and what comes of each.
+/// settings and the answers of both, and the outcome of each.
 pub fn premises_of_high_bits()
     ensures limits_differ { ComeApart plain (with_limits (record no_limits { values = Some 0 }))
         Never Never (0x31 ∷ []) unset unset
@@ -184,10 +184,10 @@ pub fn premises_of_high_bits()
         (CompleteOutcome (whole (AtAddress 0) ∷ []) (Some (U16 0))) }
 {}
 
-/// Why premises of `inlining` stand: the smallest call whose inlined text ends otherwise where one doesn't hold.
+/// Why premises of `inlining` stand: the smallest call whose inlined text ends otherwise if one doesn't hold.
 ///
 /// It does nothing. Each clause of its contract gives the limits, the bytes of the outer text and those of the inlined
-/// one, the settings, the answers to each, and what comes of each.
+/// one, the settings, the answers to each, and the outcome of each.
 pub fn premises_of_inlining()
     ensures callers_have_a_limit { EndApart (with_limits (record no_limits { callers = Some 0 }))
         (0x98 ∷ 0x05 ∷ 0x00 ∷ []) (0x31 ∷ [])

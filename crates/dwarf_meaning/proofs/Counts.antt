@@ -1,4 +1,4 @@
--- What an operation does, a piece behind a location and an answer leave the count and the settings as they are.
+-- What an operation does, a piece after a location and an answer leave the count and the settings as they are.
 use Rattle.std.proofs.Common.{ℕ, ◌≡◌, List, [], ◌∷◌, ◌++◌, length, Option, Some, None, Result, Ok, Err, refl, ◌∙◌}
 use Rattle.dwarf_base.specs.Faults.{Fault, ◌>>=◌}
 use Rattle.dwarf_value.specs.declared.types.Value.{Value}
@@ -9,12 +9,12 @@ use Rattle.dwarf_meaning.specs.Run.{end_located}
 use Rattle.dwarf_meaning.specs.Refusals.{Refusal, room}
 use Rattle.dwarf_meaning.proofs.Choices.{choose_both}
 
--- where a store comes of it, P holds of that
+-- if a store comes of it, P holds of that
 abbrev pub OnStore : (Store → Type 0) → Result Store Fault → Type 0
 OnStore P (Ok s) = P s
 OnStore P (Err fault) = Unit {0}
 
--- where the run goes on, P holds of what is kept
+-- if the run goes on, P holds of what is kept
 abbrev pub OnNext : (Store → Type 0) → Next → Type 0
 OnNext P (Goes place s) = P s
 OnNext P (RequestNext request waiting s) = P s
@@ -90,7 +90,7 @@ tally-done setup place len (EndsPiece rest piece) s = on_goes (HasTally (tally_o
 tally-done setup place len (RequestAct rest request waiting) s = refl
 tally-done setup place len (FaultAct fault) s = tt
 
--- behind a location the run goes on behind its piece, or fails
+-- after a location the run goes on after its piece, or fails
 abbrev pub OnPiece : Tally → Next → Type 0
 OnPiece m (Goes place s) = KeepsBoth m Pieced s
 OnPiece m (RequestNext request waiting s) = ⊥

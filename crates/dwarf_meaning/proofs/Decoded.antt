@@ -1,4 +1,4 @@
--- What users of decoding need of it: an operation has bytes, all of the text, and bytes behind them don't matter.
+-- What users of decoding need of it: an operation has bytes, all of the text, and bytes after them don't matter.
 use Rattle.std.proofs.Common.{ℕ, ◌≡◌, ◌<◌, ◌⊎◌, inl, inr, Bool, List, [], ◌∷◌, ◌++◌, length, Ok, Err, arith, length-append, append_assoc, refl, sym, ap, subst, ◌∙◌}
 use Rattle.dwarf_base.specs.declared.common.Encoding.{Encoding}
 use Rattle.dwarf_base.specs.Faults.{Fault, past_the_end}
@@ -29,7 +29,7 @@ operation_shortens encoding bits text op rest h =
     let whole : length (b.front ++ rest) ≡ length text.bytes = ap length b.whole in
     omega (arith, length-append b.front rest)
 
--- bytes behind an operation don't change what is read
+-- bytes after an operation don't change what is read
 pub operation_before : (encoding : Encoding) (bits : ℕ) (text : Text) (op : Operation) (rest more : List ℕ) → operation_at encoding bits text ≡ Ok (op, rest) → operation_at encoding bits (record { bytes = text.bytes ++ more; is_big = text.is_big }) ≡ Ok (op, rest ++ more)
 operation_before encoding bits text op rest more h =
     let b = operation_begins encoding bits text op rest h in

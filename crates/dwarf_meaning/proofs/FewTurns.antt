@@ -12,7 +12,7 @@ abbrev course_for : (turns : ℕ) → Setup → Text → List Input → Result S
 course_for turns setup text inputs (Ok s) = run_for turns setup text 0 0 s inputs
 course_for turns setup text inputs (Err fault) = only_end (FaultEnd fault)
 
--- what comes of a text in so many turns
+-- the outcome of a text in this many turns
 abbrev pub outcome_for : (turns : ℕ) → Setup → Refusal → Text → First → List Input → Outcome
 outcome_for turns setup refusal text first inputs =
     unwound setup [] (course_for turns setup text inputs (with_initial setup first.initial_value (fresh first refusal))).end
@@ -34,7 +34,7 @@ enough_twenty : enough ≡ twenty (enough - 20)
 unfolding enough most
 enough_twenty = refl
 
--- what comes of it in twenty turns, however many more there are, is the meaning
+-- its outcome in twenty turns, however many more there are, is the meaning
 pub in_twenty : (setup : Setup) (refusal : Refusal) (text : Text) (first : First) (inputs : List Input) (outcome : Outcome)
     → ((more : ℕ) → outcome_for (twenty more) setup refusal text first inputs ≡ outcome) → meaning setup refusal text first inputs ≡ outcome
 in_twenty setup refusal text first inputs outcome h =

@@ -12,7 +12,7 @@ use Rattle.dwarf_meaning.specs.Meaning.{unwound, First, fresh, with_initial, cou
 use Rattle.dwarf_meaning.specs.RunLaws.{IsSettled, end_before, course_before, IsOver}
 use Rattle.dwarf_meaning.specs.Refusals.{Refusal}
 
--- the second is the first with more inputs left, where the first waits for none
+-- the second is the first with more inputs left, if the first waits for none
 abbrev pub Extends : List Input → Course → Course → Type 0
 Extends more first second = IsSettled first.end → second ≡ course_before more first
 

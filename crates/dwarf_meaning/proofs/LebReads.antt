@@ -1,4 +1,4 @@
--- LEB128 numbers are read exactly where they are spelled.
+-- LEB128 numbers are read exactly if they are spelled.
 use Rattle.std.proofs.Common.{ℕ, ◌≡◌, List, [], ◌∷◌, ◌++◌, Ok, Err, refl, append-nil, sym, ◌∙◌}
 use Rattle.dwarf_base.specs.Faults.{Fault, past_the_end}
 use Rattle.dwarf_base.specs.Fronts as fronts

@@ -25,7 +25,7 @@ within_less (Some limit) n m h i = omega (arith, h, i)
 
 -- ---- pushes
 
--- where there is room for one more, there is one more within the limit
+-- if there is room for one more, there is one more within the limit
 room_within : (limit : Option ℕ) (n : ℕ) (refusal : Refusal) (P : Store → Type 0) (make : Refusal → Store) → (IsWithin limit (suc n) → (left : Refusal) → P (make left)) → OnStore P (room limit n refusal >>= λ left. Ok (make left))
 room_within None n refusal P make h = bound_store P (spent refusal) make (h tt)
 room_within (Some limit) n refusal P make h =
@@ -92,7 +92,7 @@ module _ (setup : Setup) where
   one_open : (position : Position) (depth : ℕ) → IsWithin setup.limits.callers depth → OpenTexts setup.limits.callers position.text depth (position ∷ [])
   one_open position depth h = record { callees = []; place = position.place; itself = refl; one_more = refl; within = within_less setup.limits.callers _ _ (omega arith) h }
 
-  -- a caller is open behind its callees
+  -- a caller is open as long as its callees are
   caller_open : (position : Position) (callee : Text) (depth : ℕ) (positions : List Position) → OpenTexts setup.limits.callers callee (suc depth) positions → OpenTexts setup.limits.callers position.text depth (positions ++ position ∷ [])
   caller_open position callee depth positions h =
       let l = length-append positions (position ∷ []) in
@@ -198,7 +198,7 @@ module _ (setup : Setup) where
   finish_within text s Pieced h = free_within text s h
   finish_within text s Called h = free_within text s h
 
-  -- a text's callers are open behind it
+  -- a text's callers are open as long as it is
   callers_open : (text : Text) (positions callers : List Position) → OpenTexts setup.limits.callers text (length callers) positions → OpenTexts setup.limits.callers (outermost text callers) 0 (positions ++ callers)
   callers_open text positions [] h = subst (λ (fs : List Position). OpenTexts setup.limits.callers text 0 fs) (sym (append-nil positions)) h
   callers_open text positions (caller ∷ callers) h =

@@ -1,4 +1,4 @@
--- Operands that are numbers are read exactly where they are spelled.
+-- Operands that are numbers are read exactly if they are spelled.
 use Rattle.std.proofs.Common.{ℕ, ◌*◌, ◌≡◌, ◌<◌, ℤ, Bool, true, false, cond, List, ◌∷◌, ◌++◌, length, Result, Ok, Err, refl, sym, ap, subst, ◌∙◌}
 use Rattle.dwarf_base.specs.Faults.{Fault, past_the_end}
 use Rattle.dwarf_base.specs.declared.errors.Error.TheVariants.{UnsupportedAddressSize}
@@ -27,7 +27,7 @@ reads_fixed : (big : Bool) (size : ℕ) → ReadsExactly (fixed_at big size) (Fi
 unfolding fixed_at FixedSpelling FixedRefusal
 reads_fixed big size = reads_checked (split_at size) (SpellsBlock size) (RefusesBlock size) (number_in big) (reads_block size)
 
--- a fixed number is so many bytes
+-- a fixed number is this many bytes
 record FixedBytes (big : Bool) (size : ℕ) (bytes : List ℕ) (number : ℕ) : Type 0 where
   sized : size ≡ length bytes
   valued : number ≡ number_of big bytes

@@ -1,4 +1,4 @@
--- Operations are read exactly where they are spelled.
+-- Operations are read exactly if they are spelled.
 use Rattle.std.proofs.Common.{ℕ, ◌≡◌, inl, inr, ℤ, Bool, List, [], ◌∷◌, ◌++◌, length, Ok, Err, append_assoc, refl, sym, ap, subst, ◌∙◌}
 use Rattle.dwarf_base.specs.declared.common.Encoding.{Encoding}
 use Rattle.dwarf_base.specs.Faults.{Fault, past_the_end, invalid_expression, ◌>>=◌}

@@ -31,7 +31,7 @@ module _ (encoding : Encoding) (bits : ℕ) (big : Bool) where
   same_after n m bytes behind (Ok x) e = ap (λ (items : Items). Ok x.0 ∷ items) (behind x.1 (operation_shortens encoding bits (text bytes) x.0 x.1 e))
   same_after n m bytes behind (Err fault) e = refl
 
-  -- what is read doesn't depend on how many items are allowed, where they are enough
+  -- what is read doesn't depend on how many items are allowed, if they are enough
   enough : (n m : ℕ) (bytes : List ℕ) → length bytes ≤ n → length bytes ≤ m → within n bytes ≡ within m bytes
   enough zero zero bytes h k = refl
   enough zero (suc m) [] h k = refl

@@ -22,7 +22,7 @@ waits_little Pushed = omega arith
 waits_little Called = omega arith
 waits_little (Located location) = omega arith
 
--- what is left where this many were counted
+-- what is left if this many were counted
 abbrev room_at : ℕ → ℕ
 room_at n = 2 * (most - n) + 1
 
@@ -98,7 +98,7 @@ module _ (go : Continues) (lowers : Lowers go) where
       (λ can. let below = below_most s can in ends_more (room_at (s.count + 1)) (turns_left s) _ (omega arith) (lowers_does setup text depth (counted s) inputs (read setup text place)))
       (λ e. tt)
 
-  -- behind a location
+  -- after a location
   lowers_piece : (setup : Setup) (text : Text) (depth place : ℕ) (inputs : List Input) (n : Tally) (next : Next) → OnPiece n next → (m : ℕ) → 2 * (most - n.count) ≤ m → EndsWithin m (after_operation go setup text depth place inputs next).end
   lowers_piece setup text depth place inputs n (Goes to s) h m i =
       let none : waits_of s.last ≡ 0 = ap waits_of h.last in
@@ -128,7 +128,7 @@ unfolding run_for
 lowers_run zero setup = lowers_turn out_of_turns (λ text place depth s inputs. tt) setup
 lowers_run (suc turns) setup = lowers_turn (run_for turns setup) (lowers_run turns setup) setup
 
--- two ways to go on that are alike where at most m turns are left
+-- two ways to go on that are alike if at most m turns are left
 abbrev pub Alike : ℕ → Continues → Continues → Type 0
 Alike m go other = (text : Text) (place depth : ℕ) (s : Store) (inputs : List Input) → turns_left s ≤ m → go text place depth s inputs ≡ other text place depth s inputs
 
@@ -211,7 +211,7 @@ module _ (go other : Continues) (m : ℕ) (alike : Alike m go other) (lowers : L
   alike_turn setup text place depth s inputs h =
       ap (choose (place == length text.bytes) (only_end (CompleteEnd s inputs))) (alike_by setup text place depth s inputs s.last refl h)
 
--- where no turn is left the runs are over, however they would go on
+-- if no turn is left the runs are over, however they would go on
 module _ (go other : Continues) where
   counted_out_of_turns : (setup : Setup) (text : Text) (place depth : ℕ) (s : Store) (inputs : List Input) → turns_left s ≤ 0 → turn_counted go setup text place depth s inputs ≡ turn_counted other setup text place depth s inputs
   counted_out_of_turns setup text place depth s inputs h =

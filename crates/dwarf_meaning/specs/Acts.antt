@@ -29,7 +29,7 @@ pub data Act : Type 0 where
 
 -- ---- words for the tables below
 
--- the first where the test holds, else the second
+-- the first if the test holds, else the second
 unfoldable pub choose : {A : Type 0} → Bool → A → A → A
 choose true first second = first
 choose false first second = second
@@ -72,7 +72,7 @@ binary call values = on_top values short (λ y below. on_top below short (λ x r
 
 -- ---- operations that are done at once, and those that ask
 
--- An address has `bits` bits, and `object` is the address of the object that is described, where one is known.
+-- An address has `bits` bits, and `object` is the address of the object that is described, if one is known.
 unfoldable pub act : (bits : ℕ) (object : Option ℕ) → Operation → List Value → Act
 act bits object operation.Drop values = on_top values short (λ x rest. Pushes rest [])
 act bits object (operation.Pick index) values = on_some (slice_get values index) short (push values)

@@ -10,7 +10,7 @@ use Rattle.dwarf_meaning.specs.Decoding.{operation_at}
 use Rattle.dwarf_meaning.specs.Spelling.{Spells, Malformed}
 use Rattle.dwarf_meaning.specs.Splitting.{Splitting, Joined, items_of, items_at}
 
--- an operation is read exactly where a front spells it, and a fault is met exactly where the bytes are malformed, by it
+-- an operation is read exactly if a front spells it, and a fault is met exactly if the bytes are malformed, by it
 pub record ReadsExactlyTheSpelled (encoding : Encoding) (offset_bits : ℕ) (text : Text) : Type 0 where
   pub operation : (op : Operation) (rest : List ℕ)
       → (operation_at encoding offset_bits text ≡ Ok (op, rest)) ↔ Begins (Spells encoding offset_bits text.is_big) text.bytes op rest

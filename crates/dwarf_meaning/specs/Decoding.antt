@@ -1,4 +1,4 @@
--- The operation at the front of a text and the bytes behind it, or the fault (DWARF 5, sections 7.6 and 7.7.1).
+-- The operation at the front of a text and the bytes after it, or the fault (DWARF 5, sections 7.6 and 7.7.1).
 use Rattle.std.specs.Prelude.{ℕ, ℤ, Bool, List, Result, Ok, Err}
 use Rattle.dwarf_base.specs.declared.common.Encoding.{Encoding}
 use Rattle.dwarf_base.specs.Faults.{Fault, invalid_expression, ◌>>=◌}

@@ -12,7 +12,7 @@ pub data Location : Type 0 where
   HoldsBytes : (value : Text) → Location
   PointsInto : (value : ℕ) (byte_offset : ℤ) → Location
 
--- A part of a variable, or all of it where there is no size.
+-- A part of a variable, or all of it if there is no size.
 pub record Piece : Type 0 where
   pub size_in_bits : Option ℕ
   pub bit_offset : Option ℕ

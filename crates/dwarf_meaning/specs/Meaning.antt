@@ -13,14 +13,14 @@ use Rattle.dwarf_meaning.specs.Stores.{Setup, address_bits, Store, Last, Nothing
 use Rattle.dwarf_meaning.specs.Run.{Position, End, CompleteEnd, RequestEnd, FaultEnd, Course, only_end, run}
 use Rattle.dwarf_meaning.specs.Refusals.{Refusal}
 
--- what comes of an evaluation
+-- the outcome of an evaluation
 pub data Outcome : Type 0 where
-  -- a request, with the texts that are open, the innermost first, each at the place behind what was begun last
+  -- a request, with the texts that are open, the innermost first, each at the place after what was begun last
   RequestOutcome : Request → List Position → Outcome
   FaultOutcome : Fault → Outcome
   CompleteOutcome : List Piece → Option Value → Outcome
 
--- completion with this value, where the last push found room
+-- completion with this value, if the last push found room
 abbrev pub completion_of : Option Value → Result Store Fault → Outcome
 completion_of value (Ok s) = CompleteOutcome s.pieces value
 completion_of value (Err fault) = FaultOutcome fault
@@ -36,7 +36,7 @@ has_pieces (piece ∷ pieces) = true
 abbrev pub whole : Location → Piece
 whole location = record { size_in_bits = None; bit_offset = None; location = location }
 
--- behind a location, which is the whole variable
+-- after a location, which is the whole variable
 abbrev pub finish_located : Setup → Location → Store → Outcome
 finish_located setup location s = choose (has_pieces s.pieces) (FaultOutcome InvalidPiece) (completion_of None (push_piece setup (whole location) s))
 
@@ -46,11 +46,11 @@ finish_value setup s =
     on_top s.values (FaultOutcome NotEnoughStackItems)
     (λ x rest. completion_of (Some x) (push_piece setup (whole (AtAddress (to_u64_of (address_bits setup) x))) (record s { values = rest })))
 
--- behind an operation that may not follow pieces
+-- after an operation that may not follow pieces
 abbrev pub finish_judged : Setup → Store → Outcome
 finish_judged setup s = choose (has_pieces s.pieces) (FaultOutcome InvalidPiece) (finish_value setup s)
 
--- behind an operation that may follow pieces
+-- after an operation that may follow pieces
 abbrev pub finish_free : Setup → Store → Outcome
 finish_free setup s = choose (has_pieces s.pieces) (CompleteOutcome s.pieces None) (finish_value setup s)
 
@@ -85,12 +85,12 @@ abbrev pub fresh : First → Refusal → Store
 fresh first refusal =
     record { values = []; pieces = []; count = 0; object_address = first.object_address; maximum = first.maximum; last = Nothing; refusal = refusal }
 
--- the initial value is pushed, where there is one
+-- the initial value is pushed, if there is one
 abbrev pub with_initial : Setup → Option ℕ → Store → Result Store Fault
 with_initial setup None s = Ok s
 with_initial setup (Some number) s = push_value setup (Generic number) s
 
--- the run of a text from its beginning, where the initial value found room
+-- the run of a text from its beginning, if the initial value found room
 abbrev pub course_from : Setup → Text → List Input → Result Store Fault → Course
 course_from setup text inputs (Ok s) = run setup text 0 0 s inputs
 course_from setup text inputs (Err fault) = only_end (FaultEnd fault)
@@ -99,6 +99,6 @@ course_from setup text inputs (Err fault) = only_end (FaultEnd fault)
 abbrev pub course_of : Setup → Refusal → Text → First → List Input → Course
 course_of setup refusal text first inputs = course_from setup text inputs (with_initial setup first.initial_value (fresh first refusal))
 
--- what comes of a text; its path and its requests are those of the course
+-- the outcome of a text; its path and its requests are those of the course
 unfoldable pub meaning : Setup → Refusal → Text → First → List Input → Outcome
 meaning setup refusal text first inputs = unwound setup [] (course_of setup refusal text first inputs).end

@@ -30,7 +30,7 @@ unsigned_two first second make = Unsigned first (λ number. unsigned second (mak
 abbrev pub unsigned_signed : Form → SignedForm → (ℕ → ℤ → Operation) → Row
 unsigned_signed first second make = Unsigned first (λ number. signed second (make number))
 
--- a size and then so many bytes
+-- a size and then this many bytes
 abbrev pub sized_block : Form → (Text → Operation) → Row
 sized_block form make = Unsigned form (λ size. Block size (λ block. Makes (make block)))
 
@@ -43,7 +43,7 @@ wasm_row kind =
     else (if kind == 3 then unsigned (Fixed 4) operation.WasmGlobal
     else Invalid 0xed)))
 
--- opcodes from one to another, and the row of the one that is so far behind the first
+-- opcodes from one to another, and the row of the one that is this far after the first
 pub record Line : Type 0 where
   pub from : ℕ
   pub to : ℕ

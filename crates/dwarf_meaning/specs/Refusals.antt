@@ -4,14 +4,14 @@ use Rattle.dwarf_base.specs.Faults.{Fault}
 use Rattle.dwarf_base.specs.declared.errors.Error.TheVariants.{StackFull}
 use Rattle.dwarf_meaning.specs.Acts.{choose}
 
--- how many items each list holds at most, where there is such a number
+-- how many items each list holds at most, if there is such a number
 pub record Limits : Type 0 where
   pub values : Option ℕ
   pub callers : Option ℕ
   pub pieces : Option ℕ
 
--- Which push on a list without a limit is refused: none, or the one that comes after so many more inputs
--- were taken, and then after so many more of such pushes.
+-- Which push on a list without a limit is refused: none, or the one that comes after this many more inputs
+-- were taken, and then after this many more of such pushes.
 pub data Refusal : Type 0 where
   Never : Refusal
   After : (inputs pushes : ℕ) → Refusal
@@ -36,7 +36,7 @@ before_push Never = Never
 before_push (After zero pushes) = After zero (suc pushes)
 before_push (After (suc inputs) pushes) = After (suc inputs) pushes
 
--- the refusal before so many of them
+-- the refusal before this many of them
 abbrev pub before_pushes : ℕ → Refusal → Refusal
 before_pushes zero refusal = refusal
 before_pushes (suc pushes) refusal = before_push (before_pushes pushes refusal)
@@ -63,7 +63,7 @@ abbrev pub before_input : Refusal → Refusal
 before_input Never = Never
 before_input (After inputs pushes) = After (suc inputs) pushes
 
--- the refusal, so many inputs before
+-- the refusal, this many inputs before
 abbrev pub before_inputs : ℕ → Refusal → Refusal
 before_inputs zero refusal = refusal
 before_inputs (suc n) refusal = before_inputs n (before_input refusal)

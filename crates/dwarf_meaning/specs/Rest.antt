@@ -39,7 +39,7 @@ with_refusal refusal s = record s { refusal = refusal }
 abbrev pub rest_of_run : State → Store → List Input → Outcome
 rest_of_run x s inputs = unwound x.setup x.callers (run x.setup x.text x.place (length x.callers) s inputs).end
 
--- the run begins, where the initial value found room
+-- the run begins, if the initial value found room
 abbrev pub rest_from_start : State → List Input → Result Store Fault → Outcome
 rest_from_start x inputs (Ok s) = rest_of_run x s inputs
 rest_from_start x inputs (Err fault) = FaultOutcome fault
@@ -57,6 +57,6 @@ rest_by x s inputs (RequestStatus request waiting) = rest_of_request x request w
 rest_by x s inputs (CompleteStatus value) = CompleteOutcome s.pieces value
 rest_by x s inputs (FaultStatus error) = FaultOutcome (fault_of error)
 
--- what comes of a state with these inputs, where this push is refused
+-- the outcome of a state with these inputs, if this push is refused
 unfoldable pub rest : Refusal → State → List Input → Outcome
 rest refusal x inputs = rest_by x (with_refusal refusal x.store) inputs x.status

@@ -50,23 +50,23 @@ append_course first second = record { path = first.path ++ second.path; requests
 abbrev pub Continues : Type 0
 Continues = (text : Text) (place depth : ℕ) → Store → List Input → Course
 
--- the caller's rest, behind its callee's course
+-- the caller's rest, after its callee's course
 abbrev pub return_to_caller : Continues → Position → (depth : ℕ) → Course → End → Course
 return_to_caller go position depth course (CompleteEnd s inputs) = append_course course (go position.text position.place depth s inputs)
 return_to_caller go position depth course (RequestEnd request positions inputs) = record course { end = RequestEnd request (positions ++ position ∷ []) inputs }
 return_to_caller go position depth course (FaultEnd fault) = record course { end = FaultEnd fault }
 
--- on from a position, where the push found room
+-- on from a position, if the push found room
 abbrev pub after_push : Continues → Position → (depth : ℕ) → List Input → Result Store Fault → Course
 after_push go position depth inputs (Ok s) = go position.text position.place depth s inputs
 after_push go position depth inputs (Err fault) = only_end (FaultEnd fault)
 
--- a callee is run from its beginning, where its caller found room, and then the caller's rest
+-- a callee is run from its beginning, if its caller found room, and then the caller's rest
 abbrev pub enter_callee : Continues → Position → (depth : ℕ) → Text → List Input → Result Store Fault → Course
 enter_callee go position depth callee inputs (Ok s) = let course = go callee 0 (suc depth) s inputs in return_to_caller go position depth course course.end
 enter_callee go position depth callee inputs (Err fault) = only_end (FaultEnd fault)
 
--- a call goes on at once where it was answered by no bytes
+-- a call goes on at once if it was answered by no bytes
 abbrev pub run_callee : Continues → Setup → Position → (depth : ℕ) → Text → List ℕ → Store → List Input → Course
 run_callee go setup position depth callee [] s inputs = go position.text position.place depth (record s { last = Called }) inputs
 run_callee go setup position depth callee (byte ∷ bytes) s inputs = enter_callee go position depth callee inputs (push_caller setup depth s)
@@ -82,7 +82,7 @@ after_answer go setup position depth WrongKind s inputs unanswered = unanswered
 abbrev pub with_input : Input → Store → Store
 with_input input s = record s { object_address = input.object_address; maximum = input.maximum; refusal = taken s.refusal }
 
--- a request takes the next input; it stays open where there is none, or none of its kind
+-- a request takes the next input; it stays open if there is none, or none of its kind
 abbrev pub await_answer : Continues → Setup → Position → (depth : ℕ) → Request → Waiting → Store → List Input → Course
 await_answer go setup position depth request waiting s [] = only_end (RequestEnd request (position ∷ []) [])
 await_answer go setup position depth request waiting s (input ∷ inputs) =
@@ -96,13 +96,13 @@ after_operation go setup text depth place inputs (RequestNext request waiting s)
     add_request request (await_answer go setup (record { text = text; place = place }) depth request waiting s inputs)
 after_operation go setup text depth place inputs (FaultNext fault) = only_end (FaultEnd fault)
 
--- the operation at a place, and the bytes behind it
+-- the operation at a place, and the bytes after it
 abbrev pub read : Setup → Text → (place : ℕ) → Result (Operation × List ℕ) Fault
 read setup text place = operation_at setup.encoding setup.offset_bits (record { bytes = drop place text.bytes; is_big = text.is_big })
 
 -- ---- a turn at an operation that is counted
 
--- the maximum that holds where none is set; no run counts more
+-- the maximum that holds if none is set; no run counts more
 unfoldable pub most : ℕ
 most = 4294967295
 
@@ -128,14 +128,14 @@ turn_counted go setup text place depth s inputs =
     (add_to_path (record { text = text; place = place }) (do_operation go setup text depth (counted s) inputs (read setup text place)))
     (only_end (FaultEnd TooManyIterations))
 
--- ---- a turn behind a location, which is not counted
+-- ---- a turn after a location, which is not counted
 
--- the size and the offset of a piece, in bits, where the operation ends one
+-- the size and the offset of a piece, in bits, if the operation ends one
 abbrev pub piece_ended_by : Operation → Option (ℕ × Option ℕ)
 piece_ended_by (operation.Piece size_in_bits bit_offset) = Some (size_in_bits, bit_offset)
 piece_ended_by _ = None
 
--- Behind a location comes its piece, and nothing else; `place` is the one behind the operation.
+-- After a location comes its piece, and nothing else; `place` is the one after the operation.
 abbrev pub end_located : Setup → Location → (place : ℕ) → Store → Option (ℕ × Option ℕ) → Next
 end_located setup location place s (Some piece) =
     goes place (push_piece setup (record { size_in_bits = Some piece.0; bit_offset = piece.1; location = location }) (record s { last = Pieced }))
@@ -150,7 +150,7 @@ turn_located go setup text depth location s inputs (Err fault) = only_end (Fault
 
 -- ---- runs
 
--- a turn by the last operation: behind a location, or one that is counted
+-- a turn by the last operation: after a location, or one that is counted
 abbrev pub turn_by : Continues → Setup → Text → (place depth : ℕ) → Store → List Input → Last → Course
 turn_by go setup text place depth s inputs (Located location) = turn_located go setup text depth location s inputs (read setup text place)
 turn_by go setup text place depth s inputs _ = turn_counted go setup text place depth s inputs
@@ -163,12 +163,12 @@ turn go setup text place depth s inputs = choose (place == length text.bytes) (o
 abbrev pub out_of_turns : Continues
 out_of_turns text place depth s inputs = only_end (FaultEnd TooManyIterations)
 
--- a run of at most so many turns
+-- a run of at most this many turns
 unfoldable pub run_for : (turns : ℕ) → Setup → Continues
 run_for zero setup = turn out_of_turns setup
 run_for (suc turns) setup = turn (run_for turns setup) setup
 
--- Turns enough for every run, as each turn counts an operation or reads the one piece behind a counted location.
+-- Turns enough for every run, as each turn counts an operation or reads the one piece after a counted location.
 unfoldable pub enough : ℕ
 enough = 2 * most + 1
 

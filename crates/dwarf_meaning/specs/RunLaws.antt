@@ -9,7 +9,7 @@ use Rattle.dwarf_base.specs.Reads.{Text}
 
 -- ---- turns
 
--- 1 where a location waits for its piece
+-- 1 if a location waits for its piece
 abbrev pub waits_of : Last → ℕ
 waits_of (Located location) = 1
 waits_of _ = 0
@@ -72,25 +72,25 @@ AllMaxima P (input ∷ inputs) = P input.maximum × AllMaxima P inputs
 abbrev pub MaximaWithin : (bound : ℕ) → List Input → Type 0
 MaximaWithin bound inputs = AllMaxima (λ m. m ≤ bound) inputs
 
--- where the text ends, so many operations are counted
+-- at the end of the text this many operations are counted
 abbrev pub EndCounts : (total : ℕ) → End → Type 0
 EndCounts total (CompleteEnd s left) = s.count ≡ total
 EndCounts total (RequestEnd request positions left) = Unit {0}
 EndCounts total (FaultEnd fault) = Unit {0}
 
--- where the text ends, the count is within the bound
+-- at the end of the text the count is within the bound
 abbrev pub EndCountWithin : (bound : ℕ) → End → Type 0
 EndCountWithin bound (CompleteEnd s left) = s.count ≤ bound
 EndCountWithin bound (RequestEnd request positions left) = Unit {0}
 EndCountWithin bound (FaultEnd fault) = Unit {0}
 
--- where the text ends, the maximum in force is within the bound
+-- at the end of the text the maximum in force is within the bound
 abbrev pub EndMaximumWithin : (bound : ℕ) → End → Type 0
 EndMaximumWithin bound (CompleteEnd s left) = s.maximum ≤ bound
 EndMaximumWithin bound (RequestEnd request positions left) = Unit {0}
 EndMaximumWithin bound (FaultEnd fault) = Unit {0}
 
--- From where `start` operations were counted, no more are counted than the bound.
+-- If `start` operations were counted before, no more are counted in all than the bound.
 pub record CountsWithin (bound start : ℕ) (course : Course) : Type 0 where
   pub few : length course.path ≤ bound - start
   pub count : EndCountWithin bound course.end
@@ -110,7 +110,7 @@ pub record OpenTexts (limit : Option ℕ) (text : Text) (depth : ℕ) (positions
   pub one_more : length positions ≡ length callees + 1
   pub within : IsWithin limit (depth + length callees)
 
--- where the text ends, its lists are within the limits; and so are the texts that are open in a request
+-- at the end of the text its lists are within the limits, and in a request the open texts are
 abbrev pub EndWithin : Limits → Text → (depth : ℕ) → End → Type 0
 EndWithin limits text depth (CompleteEnd s left) = ListsWithin limits s
 EndWithin limits text depth (RequestEnd request positions left) = OpenTexts limits.callers text depth positions

@@ -17,7 +17,7 @@ pub data Step : Type 0 where
   Evaluate : Step
   Resume : (answer : Answer) → Step
 
--- What some steps told: the settings that hold now, those that held at the start, where there was one, and the inputs since.
+-- What some steps told: the settings that hold now, those that held at the start, if there was one, and the inputs since.
 pub record Told : Type 0 where
   pub settings : First
   pub first : Option First
@@ -31,12 +31,12 @@ untold = record {
   inputs = [];
 }
 
--- what comes of it so far, once it was started
+-- its outcome so far, once it was started
 abbrev pub outcome_from : Setup → Refusal → Text → List Input → Option First → Option Outcome
 outcome_from setup refusal text inputs None = None
 outcome_from setup refusal text inputs (Some first) = Some (meaning setup refusal text first inputs)
 
--- what comes of all that was told
+-- the outcome of all that was told
 abbrev pub outcome_of : Setup → Refusal → Text → Told → Option Outcome
 outcome_of setup refusal text told = outcome_from setup refusal text told.inputs told.first
 
@@ -58,7 +58,7 @@ pub record IsUntold (told : Told) : Type 0 where
   pub first : told.first ≡ None
   pub initial_value : told.settings.initial_value ≡ None
 
--- whether a step may come where this came of the steps before
+-- whether a step may come after steps with this outcome
 abbrev pub Allows : Told → Option Outcome → Step → Type 0
 Allows told outcome (InitialValue number) = IsUntold told
 Allows told outcome (ObjectAddress address) = Unit {0}
@@ -68,7 +68,7 @@ Allows told outcome (Resume answer) = Awaits answer outcome
 
 -- ---- what a step tells
 
--- the settings at the start, where it is the first one
+-- the settings at the start, if it is the first one
 abbrev pub begun : First → Option First → First
 begun settings None = settings
 begun settings (Some first) = first
@@ -103,12 +103,12 @@ reply (RequestOutcome request positions) = RequestReply request
 reply (CompleteOutcome pieces value) = CompleteReply
 reply (FaultOutcome fault) = FaultReply fault
 
--- the reply, where it was started
+-- the reply, if it was started
 abbrev pub replies : Option Outcome → List Reply
 replies None = []
 replies (Some outcome) = reply outcome ∷ []
 
--- a setting has no reply; `outcome` is what comes of what was told, the step included
+-- a setting has no reply; `outcome` is the outcome of what was told, the step included
 abbrev pub step_replies : Step → Option Outcome → List Reply
 step_replies (InitialValue number) outcome = []
 step_replies (ObjectAddress address) outcome = []
@@ -117,7 +117,7 @@ step_replies Evaluate outcome = replies outcome
 step_replies (Resume answer) outcome = replies outcome
 
 module _ (setup : Setup) (refusal : Refusal) (text : Text) where
-  -- what was told once a step is done, by what came of the steps before
+  -- what was told once a step is done, by the outcome of the steps before
   abbrev pub after_step : Told → Step → Told
   after_step told step = after told (outcome_of setup refusal text told) step
 
@@ -131,7 +131,7 @@ module _ (setup : Setup) (refusal : Refusal) (text : Text) where
   AllAllowed told [] = Unit {0}
   AllAllowed told (step ∷ steps) = Allows told (outcome_of setup refusal text told) step × AllAllowed (after_step told step) steps
 
-  -- the replies to the steps, one after another: each what comes of all that was told up to it
+  -- the replies to the steps, one after another: each the outcome of all that was told up to it
   abbrev pub replies_of : Told → List Step → List Reply
   replies_of told [] = []
   replies_of told (step ∷ steps) =

@@ -10,7 +10,7 @@ use Rattle.dwarf_meaning.specs.Requests.{Request, Waiting}
 use Rattle.dwarf_meaning.specs.Acts.{choose, Act, Pushes, Branches, Locates, EndsPiece, RequestAct, FaultAct}
 use Rattle.dwarf_meaning.specs.Refusals.{Limits, Refusal, room}
 
--- no more than the limit, where there is one
+-- no more than the limit, if there is one
 abbrev pub IsWithin : (limit : Option ℕ) → ℕ → Type 0
 IsWithin None n = Unit {0}
 IsWithin (Some limit) n = n ≤ limit
@@ -58,11 +58,11 @@ pub record Store : Type 0 where
 unfoldable pub push_value : Setup → Value → Store → Result Store Fault
 push_value setup value s = room setup.limits.values (length s.values) s.refusal >>= λ left. Ok (record s { values = value ∷ s.values; refusal = left })
 
--- a piece, behind the others
+-- a piece, after the others
 unfoldable pub push_piece : Setup → Piece → Store → Result Store Fault
 push_piece setup piece s = room setup.limits.pieces (length s.pieces) s.refusal >>= λ left. Ok (record s { pieces = s.pieces ++ piece ∷ []; refusal = left })
 
--- a caller, where `depth` callers wait
+-- a caller, if `depth` callers wait
 unfoldable pub push_caller : Setup → (depth : ℕ) → Store → Result Store Fault
 push_caller setup depth s = room setup.limits.callers depth s.refusal >>= λ left. Ok (record s { refusal = left })
 
@@ -79,12 +79,12 @@ pub data Next : Type 0 where
   RequestNext : Request → Waiting → Store → Next
   FaultNext : Fault → Next
 
--- on at this place, where the pushes found room
+-- on at this place, if the pushes found room
 abbrev pub goes : (place : ℕ) → Result Store Fault → Next
 goes place (Ok s) = Goes place s
 goes place (Err fault) = FaultNext fault
 
--- where a branch leads to, from the place behind it: offsets wrap
+-- where a branch leads to, from the place after it: offsets wrap
 abbrev pub branch_target : Setup → (place : ℕ) → ℤ → ℕ
 branch_target setup place target = residue setup.offset_bits (pos place +ℤ target)
 
@@ -92,7 +92,7 @@ branch_target setup place target = residue setup.offset_bits (pos place +ℤ tar
 abbrev pub branch : (len place : ℕ) → Store → Next
 branch len place s = choose (nat_lt len place) (FaultNext (BadBranchTarget place)) (Goes place s)
 
--- What an operation does to what is kept; `place` is the one behind it, in a text of length `len`.
+-- What an operation does to what is kept; `place` is the one after it, in a text of length `len`.
 abbrev pub done : Setup → (place len : ℕ) → Act → Store → Next
 done setup place len (Pushes rest pushed) s = goes place (push_values setup pushed (record s { values = rest; last = Plain }))
 done setup place len (Branches rest target) s = branch len (branch_target setup place target) (record s { values = rest; last = Plain })

@@ -17,7 +17,7 @@ ghost use Rattle.dwarf_meaning.specs.Refusals.{Refusal};
 
 /// Laws of decoding, for every text.
 ///
-/// It does nothing. Its contract says that operations are read exactly where they are spelled, that a text
+/// It does nothing. Its contract says that operations are read exactly if they are spelled, that a text
 /// begins with exactly one operation or is refused by exactly one fault, how it splits into operations, and
 /// that branches have operands of 16 bits.
 pub fn decode_laws()
@@ -45,7 +45,7 @@ pub fn decode_laws()
 ///
 /// It does nothing. Its contract says that a run is one turn and then a run again, and that every number of
 /// turns that is enough gives the same run; that each request that is answered takes one input, and that inputs
-/// behind those change nothing; that each operation of the path is counted once, up to the maximum in force and
+/// after those change nothing; that each operation of the path is counted once, up to the maximum in force and
 /// 4294967295; that each list stays within its limit, as do the texts that are open in a request; and that these
 /// are the text and its open callees.
 pub fn run_laws()

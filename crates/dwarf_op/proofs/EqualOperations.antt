@@ -1,4 +1,4 @@
--- Operations are equal exactly where they are seen as the same.
+-- Operations are equal exactly if they are seen as the same.
 use Rattle.std.proofs.Common.{ℕ, suc, ◌≡◌, ◌≤◌, ◌↔◌, Bool, true, false, List, [], ◌∷◌, inl, inr, arith, Option, Some, None, IsTrue, refl, sym, ◌∙◌, ap, ◌&&◌, nat_eq}
 use Rattle.std.specs.Bool.{Decides}
 use Rattle.std.specs.Cmp.{signed_Decides, unsigned_Decides}
@@ -158,7 +158,7 @@ apart Fs Fss view n lines x c equal =
     let here = lines.0.there x in
     let above = further Fss (λ d. view (inr d)) (suc n) lines.1 c in omega (arith, here, above, equal)
 
--- so two values are equal exactly where they are seen as the same
+-- so two values are equal exactly if they are seen as the same
 equal_choices : (Fss : List (List Field)) (view : Choice Fss → meaning.Operation) (n : ℕ) (lines : Lines Fss view n) (c d : Choice Fss)
     → IsTrue (by false false Fss (tests Fss view n lines) c d) ↔ (view c ≡ view d)
 equal_choices [] view n lines c d = absurd c

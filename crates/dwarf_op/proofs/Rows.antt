@@ -6,7 +6,7 @@ use Rattle.dwarf_meaning.specs.Operations as operation
 use Rattle.dwarf_meaning.specs.Operands.{SignedLeb128}
 use Rattle.dwarf_meaning.specs.Opcodes.{Row, Makes, Invalid, signed, row_of}
 
--- the rows that a function gives to so many opcodes
+-- the rows that a function gives to this many opcodes
 abbrev rows_from : (ℕ → Row) → (from count : ℕ) → List Row
 rows_from row from zero = []
 rows_from row from (suc count) = row from ∷ rows_from row (suc from) count

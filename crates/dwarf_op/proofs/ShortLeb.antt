@@ -8,7 +8,7 @@ use Rattle.dwarf_base.specs.Leb.{unsigned_leb, signed_leb, sign_extended, uleb_a
 use Rattle.dwarf_base.specs.Reads.{u8_at}
 use Rattle.dwarf_base.proofs.LebSteps.{none_from, last_from, unsigned_more, signed_more, signed_first_low, signed_first_high, signed_last_low, signed_last_high}
 
--- ---- cut off behind the first byte
+-- ---- cut off after the first byte
 
 pub unsigned_cut : (bytes after : List ℕ) (first : ℕ) (fault : Fault) → u8_at bytes ≡ Ok (first, after) → 128 ≤ first
     → u8_at after ≡ Err fault → uleb_at bytes ≡ Err fault

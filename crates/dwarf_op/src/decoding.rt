@@ -403,7 +403,7 @@ fn read_operands<R: Reader + Copy>(
 impl<R: Reader + Copy> Operation<R> {
     /// Reads the operation at the front of `bytes` (DWARF 5, sections 2.5 and 7.7.1).
     ///
-    /// `UnexpectedEof` where its bytes are cut off, `InvalidExpression` of an unknown opcode, and
+    /// `UnexpectedEof` if its bytes are cut off, `InvalidExpression` of an unknown opcode, and
     /// `BadUnsignedLeb128`, `BadSignedLeb128`, `UnsupportedAddressSize`, `UnsupportedOffset`, `UnsupportedRegister` or
     /// `InvalidPieceSize` of an operand; the first operand that isn't allowed decides. After an error `bytes` is at a suffix of
     /// what it was.

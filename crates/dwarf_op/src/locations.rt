@@ -6,7 +6,7 @@ use dwarf_value::Value;
 /// Where a piece of a variable is, or what it holds (DWARF 5, section 2.6.1).
 #[derive(Clone, Copy, Debug, PartialEq, Eq)]
 pub enum Location<R: Reader, O = <R as Reader>::Offset> {
-    /// Nowhere: the piece was optimized away. It is a piece with nothing in front of it.
+    /// Nowhere: the piece was optimized away. It is a piece with nothing before it.
     Empty,
     /// In a register: `DW_OP_reg0` to `DW_OP_reg31`, `DW_OP_regx`.
     Register {
@@ -37,7 +37,7 @@ pub enum Location<R: Reader, O = <R as Reader>::Offset> {
     },
 }
 
-/// A part of a variable, or all of it where it has no size.
+/// A part of a variable, or all of it if it has no size.
 #[derive(Clone, Copy, Debug, PartialEq, Eq)]
 pub struct Piece<R: Reader, O = <R as Reader>::Offset> {
     /// Its size in bits; without one it is the only piece, and the whole variable.

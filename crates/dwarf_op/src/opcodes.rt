@@ -93,7 +93,7 @@ pub(crate) enum FromOffset {
     VariableValue,
 }
 
-// What stands behind an opcode that few operations have (each of these one in a hundred of real programs, or fewer),
+// What stands after an opcode that few operations have (each of these one in a hundred of real programs, or fewer),
 // and what is made of it.
 #[derive(Clone, Copy)]
 pub(crate) enum Rare {
@@ -130,7 +130,7 @@ pub(crate) enum Rare {
     WasmLocation,
 }
 
-// What stands behind an opcode, and what is made of it: by the kinds of its operands, in order.
+// What stands after an opcode, and what is made of it: by the kinds of its operands, in order.
 #[derive(Clone, Copy)]
 pub(crate) enum Entry {
     // No operation has the opcode.

@@ -1,4 +1,4 @@
-//! Reading the operands behind an opcode, a function for each shape (DWARF 5, section 7.7.1).
+//! Reading the operands after an opcode, a function for each shape (DWARF 5, section 7.7.1).
 
 ghost use Rattle.std.specs.Prelude.{◌≡◌, ◌<◌, pos, neg_ℤ, ◌≤ℤ◌, ◌<ℤ◌};
 ghost use Rattle.dwarf_base.specs.declared.common.Encoding.{Encoding};
@@ -89,8 +89,8 @@ fn last_byte(byte: u8) -> i64
     i64::from((byte + 64) % 128) - 64
 }
 
-// A number of three bytes or more. The copy is made in a function of its own: where a function begins, room for all of
-// its locals is set to zero, and most numbers are short.
+// A number of three bytes or more. The copy is made in a function of its own: a function begins by setting the room of
+// all its locals to zero, and most numbers are short.
 #[inline(always)]
 fn read_uleb128_apart<R: Reader + Copy>(bytes: &mut R) -> Result<u64>
     ensures { Reads (λ n. n) (R.text bytes.old) (R.text bytes.new) result

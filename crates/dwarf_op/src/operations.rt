@@ -71,9 +71,9 @@ pub enum Operation<R: Reader, O = <R as Reader>::Offset> {
     Shra,
     /// Bitwise exclusive or: `DW_OP_xor`.
     Xor,
-    /// Pop a value and branch where it isn't zero: `DW_OP_bra`.
+    /// Pop a value and branch if it isn't zero: `DW_OP_bra`.
     Bra {
-        /// How many bytes, from behind the operation.
+        /// How many bytes, from the end of the operation.
         target: i16,
     },
     /// Whether the second equals the top: `DW_OP_eq`.
@@ -90,7 +90,7 @@ pub enum Operation<R: Reader, O = <R as Reader>::Offset> {
     Ne,
     /// Branch: `DW_OP_skip`.
     Skip {
-        /// How many bytes, from behind the operation.
+        /// How many bytes, from the end of the operation.
         target: i16,
     },
     /// Push an unsigned constant: `DW_OP_lit0` to `DW_OP_lit31`, `DW_OP_const1u` to `DW_OP_const8u`, `DW_OP_constu`.
@@ -140,8 +140,8 @@ pub enum Operation<R: Reader, O = <R as Reader>::Offset> {
     TLS,
     /// Push the canonical frame address (DWARF 5, section 6.4): `DW_OP_call_frame_cfa`.
     CallFrameCFA,
-    /// End a piece of the variable: `DW_OP_piece`, `DW_OP_bit_piece`. Behind an operation that gives a location the
-    /// piece is there; else it is at the address that it pops, or nowhere where the stack is empty.
+    /// End a piece of the variable: `DW_OP_piece`, `DW_OP_bit_piece`. After an operation that gives a location the
+    /// piece is there; else it is at the address that it pops, or nowhere if the stack is empty.
     Piece {
         /// Its size, in bits.
         size_in_bits: u64,

@@ -23,7 +23,7 @@ Agree-sym w x y a = record { types = sym a.types; integers = sym a.integers }
 pub Agree-trans : (w : ℕ) (x y z : Value) → Agree w x y → Agree w y z → Agree w x z
 Agree-trans w x y z a b = record { types = a.types ∙ b.types; integers = a.integers ∙ b.integers }
 
--- generic values agree where their contents are congruent
+-- generic values agree if their contents are congruent
 pub Agree-Generic : (w m n : ℕ) → m % 2 ^ w ≡ n % 2 ^ w → Agree w (Generic m) (Generic n)
 unfolding type_of integer_of word_integer
 Agree-Generic w m n e = record { types = refl; integers = ap pos e }

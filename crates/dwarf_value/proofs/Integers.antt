@@ -25,7 +25,7 @@ unfolding word_integer
 zero_word true k n e = let p = pow_pos (k - 1) in grind (arith, nat_tests)
 zero_word false k n e = ap pos e
 
--- a value is zero with a sign where it is without
+-- a value is zero with a sign if it is without
 pub unsigned_zero : (signed : Bool) (w : ℕ) (x : Value) → integer_of signed w x ≡ pos 0 → unsigned_integer w x ≡ pos 0
 unfolding integer_of
 unsigned_zero signed w (Generic n) e = zero_word false w (n % 2 ^ w) (word_zero signed w (n % 2 ^ w) (mod_below n (2 ^ w) (pow_pos w)) e)

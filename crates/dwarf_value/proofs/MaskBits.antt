@@ -63,7 +63,7 @@ ones-IsAddressMask mask h m = m.low_ones ∙ sym (ones_low mask h)
 pub not-IsAddressMask-zero : IsAddressMask 0 → ⊥
 not-IsAddressMask-zero m = let p = pow_below 0 (width_of 0) m.some_bit in omega (arith, m.low_ones)
 
--- the lowest bits, by the mask of so many ones
+-- the lowest bits, by the mask of this many ones
 pub and-address_mask : (n mask : ℕ) → IsAddressMask mask → bit_and n mask ≡ n % 2 ^ width_of mask
 and-address_mask n mask is_mask = ap (bit_and n) is_mask.low_ones ∙ and_mask n (width_of mask)
 

@@ -36,7 +36,7 @@ type_of (U32 n) = kind.U32
 type_of (I64 x) = kind.I64
 type_of (U64 n) = kind.U64
 
--- how many bits a value of the type has, where an address has w
+-- how many bits a value of the type has, if an address has w
 unfoldable pub bit_size_of : (w : ℕ) → ValueType → ℕ
 bit_size_of w kind.Generic = w
 bit_size_of w kind.I8 = 8
@@ -87,11 +87,11 @@ integer_of signed w (U32 n) = pos n
 integer_of signed w (I64 x) = x
 integer_of signed w (U64 n) = pos n
 
--- the integer, from 0 up where the value is generic
+-- the integer, from 0 up if the value is generic
 abbrev pub unsigned_integer : (w : ℕ) → Value → ℤ
 unsigned_integer = integer_of false
 
--- the integer, in two's complement where the value is generic
+-- the integer, in two's complement if the value is generic
 abbrev pub signed_integer : (w : ℕ) → Value → ℤ
 signed_integer = integer_of true
 
@@ -248,7 +248,7 @@ shra_of w x y = shifted w y λ n.
 
 -- ---- comparisons
 
--- the generic 1 where the integers of two values of one type pass the test, else the generic 0
+-- the generic 1 if the integers of two values of one type pass the test, else the generic 0
 abbrev pub compared : (ℤ → ℤ → Bool) → (w : ℕ) → Value → Value → Result Value Error
 compared passes w x y = of_one_type x y (Generic (if passes (signed_integer w x) (signed_integer w y) then 1 else 0))
 

@@ -8,7 +8,7 @@ use crate::word::{low_bits, same_type};
 use dwarf_base::{Error, Result};
 
 impl Value {
-    /// The sum, wrapped (`DW_OP_plus`). `TypeMismatch` where the types differ.
+    /// The sum, wrapped (`DW_OP_plus`). `TypeMismatch` if the types differ.
     ///
     /// `addr_mask` has a one for each bit of an address: [`is_addr_mask`](crate::is_addr_mask) tells.
     #[inline(always)]
@@ -20,7 +20,7 @@ impl Value {
         Ok(Value::wrapped(value_type, x + y, addr_mask))
     }
 
-    /// The difference, wrapped (`DW_OP_minus`). `TypeMismatch` where the types differ.
+    /// The difference, wrapped (`DW_OP_minus`). `TypeMismatch` if the types differ.
     ///
     /// `addr_mask` has a one for each bit of an address: [`is_addr_mask`](crate::is_addr_mask) tells.
     #[inline(always)]
@@ -32,7 +32,7 @@ impl Value {
         Ok(Value::wrapped(value_type, x - y, addr_mask))
     }
 
-    /// The product, wrapped (`DW_OP_mul`). `TypeMismatch` where the types differ.
+    /// The product, wrapped (`DW_OP_mul`). `TypeMismatch` if the types differ.
     ///
     /// `addr_mask` has a one for each bit of an address: [`is_addr_mask`](crate::is_addr_mask) tells.
     #[tactic(auto, using(crate::proofs::Wraps::low_bits_only))]
@@ -47,7 +47,7 @@ impl Value {
 
     /// The quotient, rounded towards zero and wrapped (`DW_OP_div`). Generic values are divided as signed integers.
     ///
-    /// `DivisionByZero` where the divisor is zero, of whatever type; else `TypeMismatch` where the types differ.
+    /// `DivisionByZero` if the divisor is zero, of whatever type; else `TypeMismatch` if the types differ.
     ///
     /// `addr_mask` has a one for each bit of an address: [`is_addr_mask`](crate::is_addr_mask) tells.
     #[inline(always)]
@@ -61,7 +61,7 @@ impl Value {
 
     /// The remainder, with the dividend's sign (`DW_OP_mod`). Generic values are divided as unsigned integers.
     ///
-    /// `DivisionByZero` where the divisor is zero, of whatever type; else `TypeMismatch` where the types differ.
+    /// `DivisionByZero` if the divisor is zero, of whatever type; else `TypeMismatch` if the types differ.
     ///
     /// `addr_mask` has a one for each bit of an address: [`is_addr_mask`](crate::is_addr_mask) tells.
     #[inline(always)]

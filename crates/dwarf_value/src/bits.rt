@@ -18,7 +18,7 @@ impl Value {
         Ok(Value::wrapped_to_64(value_type, -word.integer() - 1))
     }
 
-    /// The binary digits that are set in both (`DW_OP_and`). `TypeMismatch` where the types differ.
+    /// The binary digits that are set in both (`DW_OP_and`). `TypeMismatch` if the types differ.
     ///
     /// `addr_mask` has a one for each bit of an address: [`is_addr_mask`](crate::is_addr_mask) tells.
     #[inline(always)]
@@ -30,7 +30,7 @@ impl Value {
         Value::from_u64(value_type, low_bits(x) & low_bits(y))
     }
 
-    /// The binary digits that are set in one or both (`DW_OP_or`). `TypeMismatch` where the types differ.
+    /// The binary digits that are set in one or both (`DW_OP_or`). `TypeMismatch` if the types differ.
     ///
     /// `addr_mask` has a one for each bit of an address: [`is_addr_mask`](crate::is_addr_mask) tells.
     #[inline(always)]
@@ -42,7 +42,7 @@ impl Value {
         Value::from_u64(value_type, low_bits(x) | low_bits(y))
     }
 
-    /// The binary digits that are set in one of the two alone (`DW_OP_xor`). `TypeMismatch` where the types differ.
+    /// The binary digits that are set in one of the two alone (`DW_OP_xor`). `TypeMismatch` if the types differ.
     ///
     /// `addr_mask` has a one for each bit of an address: [`is_addr_mask`](crate::is_addr_mask) tells.
     #[inline(always)]

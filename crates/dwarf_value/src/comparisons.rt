@@ -6,7 +6,7 @@ use dwarf_base::Result;
 
 impl Value {
     /// Whether the two are equal, as the generic 1 or 0 (`DW_OP_eq`). Generic values are signed integers here.
-    /// `TypeMismatch` where the types differ.
+    /// `TypeMismatch` if the types differ.
     ///
     /// `addr_mask` has a one for each bit of an address: [`is_addr_mask`](crate::is_addr_mask) tells.
     #[inline(always)]
@@ -19,7 +19,7 @@ impl Value {
     }
 
     /// Whether it is at least `rhs`, as the generic 1 or 0 (`DW_OP_ge`). Generic values are signed integers here.
-    /// `TypeMismatch` where the types differ.
+    /// `TypeMismatch` if the types differ.
     ///
     /// `addr_mask` has a one for each bit of an address: [`is_addr_mask`](crate::is_addr_mask) tells.
     #[inline(always)]
@@ -32,7 +32,7 @@ impl Value {
     }
 
     /// Whether it is above `rhs`, as the generic 1 or 0 (`DW_OP_gt`). Generic values are signed integers here.
-    /// `TypeMismatch` where the types differ.
+    /// `TypeMismatch` if the types differ.
     ///
     /// `addr_mask` has a one for each bit of an address: [`is_addr_mask`](crate::is_addr_mask) tells.
     #[inline(always)]
@@ -45,7 +45,7 @@ impl Value {
     }
 
     /// Whether it is at most `rhs`, as the generic 1 or 0 (`DW_OP_le`). Generic values are signed integers here.
-    /// `TypeMismatch` where the types differ.
+    /// `TypeMismatch` if the types differ.
     ///
     /// `addr_mask` has a one for each bit of an address: [`is_addr_mask`](crate::is_addr_mask) tells.
     #[inline(always)]
@@ -58,7 +58,7 @@ impl Value {
     }
 
     /// Whether it is below `rhs`, as the generic 1 or 0 (`DW_OP_lt`). Generic values are signed integers here.
-    /// `TypeMismatch` where the types differ.
+    /// `TypeMismatch` if the types differ.
     ///
     /// `addr_mask` has a one for each bit of an address: [`is_addr_mask`](crate::is_addr_mask) tells.
     #[inline(always)]
@@ -71,7 +71,7 @@ impl Value {
     }
 
     /// Whether the two differ, as the generic 1 or 0 (`DW_OP_ne`). Generic values are signed integers here.
-    /// `TypeMismatch` where the types differ.
+    /// `TypeMismatch` if the types differ.
     ///
     /// `addr_mask` has a one for each bit of an address: [`is_addr_mask`](crate::is_addr_mask) tells.
     #[inline(always)]

@@ -9,7 +9,7 @@ use dwarf_base::{Error, Reader, Result};
 impl Value {
     /// Reads a number of the type from the front of the bytes, in their order. The rest is ignored.
     ///
-    /// `UnsupportedTypeOperation` at the generic type; else `UnexpectedEof` where there are too few bytes.
+    /// `UnsupportedTypeOperation` at the generic type; else `UnexpectedEof` if there are too few bytes.
     #[inline(always)]
     pub fn parse<R: Reader + Copy>(value_type: ValueType, bytes: R) -> Result<Value>
         ensures { Returns (λ value. value) result
@@ -57,7 +57,7 @@ impl Value {
         Value::from_u64(value_type, bits)
     }
 
-    /// The value's bits in another type of the same size (`DW_OP_reinterpret`). `TypeMismatch` where the sizes differ.
+    /// The value's bits in another type of the same size (`DW_OP_reinterpret`). `TypeMismatch` if the sizes differ.
     ///
     /// Of a generic value all 64 bits go into a generic one.
     ///

@@ -8,7 +8,7 @@ use dwarf_base::{Error, Result};
 
 impl Value {
     /// Shifted to the left by a length of any type, with zeros from the right (`DW_OP_shl`). It is zero once the
-    /// length is the type's size. `InvalidShiftExpression` where the length is negative.
+    /// length is the type's size. `InvalidShiftExpression` if the length is negative.
     ///
     /// `addr_mask` has a one for each bit of an address: [`is_addr_mask`](crate::is_addr_mask) tells.
     #[tactic(auto, using(crate::proofs::Wraps::left_shifts))]
@@ -28,7 +28,7 @@ impl Value {
     /// Shifted to the right by a length of any type, with zeros from the left (`DW_OP_shr`). A generic value is an
     /// unsigned integer here.
     ///
-    /// `InvalidShiftExpression` where the length is negative; else `UnsupportedTypeOperation` at a signed type.
+    /// `InvalidShiftExpression` if the length is negative; else `UnsupportedTypeOperation` at a signed type.
     ///
     /// `addr_mask` has a one for each bit of an address: [`is_addr_mask`](crate::is_addr_mask) tells.
     #[inline(always)]
@@ -47,7 +47,7 @@ impl Value {
     /// Shifted to the right by a length of any type, with copies of the sign from the left (`DW_OP_shra`). A generic
     /// value is a signed integer here.
     ///
-    /// `InvalidShiftExpression` where the length is negative; else `UnsupportedTypeOperation` at an unsigned type.
+    /// `InvalidShiftExpression` if the length is negative; else `UnsupportedTypeOperation` at an unsigned type.
     ///
     /// `addr_mask` has a one for each bit of an address: [`is_addr_mask`](crate::is_addr_mask) tells.
     #[inline(always)]
@@ -63,7 +63,7 @@ impl Value {
         Ok(Value::wrapped_to_64(value_type, shifted_right(word.integer(), length)))
     }
 
-    /// The length of a shift by this value. `InvalidShiftExpression` where it is negative.
+    /// The length of a shift by this value. `InvalidShiftExpression` if it is negative.
     #[inline(always)]
     fn shift_length(self, addr_mask: u64) -> Result<u64>
         requires { IsAddressMask addr_mask }
@@ -79,7 +79,7 @@ impl Value {
     }
 }
 
-/// Bits of a type of so many bits, shifted to the left.
+/// Bits of a type of this many bits, shifted to the left.
 #[inline(always)]
 fn shifted_left(bits: u64, length: u64, size: u32) -> u64
     requires { size ≤ 64 }

@@ -33,7 +33,7 @@ pub enum ValueType {
 #[derive(Clone, Copy, Debug, PartialEq, Eq)]
 pub enum Value {
     /// A generic value. Operations on it count its bits up to the size of an address, but for `reinterpret`, which
-    /// takes all 64; where it is handed on it keeps them.
+    /// takes all 64; if it is handed on it keeps them.
     Generic(u64),
     /// A signed integer of 8 bits.
     I8(i8),

@@ -19,7 +19,7 @@ pub(crate) struct Word {
 }
 
 impl Word {
-    /// So many bits, with a sign or without.
+    /// This many bits, with a sign or without.
     #[inline(always)]
     pub fn new(bits: u64, width: u32, signed: bool) -> Word
         requires some_bit { 0 < width }
@@ -117,7 +117,7 @@ impl Value {
         }
     }
 
-    /// The type and the integers of two values of one type; `TypeMismatch` where the types differ. The bits of generic
+    /// The type and the integers of two values of one type; `TypeMismatch` if the types differ. The bits of generic
     /// ones are those of an address, `signed` or not.
     #[inline(always)]
     pub(crate) fn operands(

@@ -64,7 +64,7 @@ fn reads_one_of_each(rt: HostRuntime) {
     assert!(rt; one_of_each(EndianSlice::new(&big, RunTimeEndian::Big)) == Ok(numbers));
 }
 
-// What is left after 2 bytes are taken from behind the first, and how far that is from the start.
+// What is left if one byte is skipped and the next 2 are taken, and how far that is from the start.
 fn moved<R: Reader + Copy>(bytes: R) -> Result<(R, u64, u64)> {
     let mut reader = bytes;
     reader.skip(R::Offset::from_u8(1))?;

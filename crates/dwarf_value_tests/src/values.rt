@@ -35,7 +35,7 @@ enum Call {
     Ne,
 }
 
-// A call on x, and on y where it takes two values.
+// A call on x, and on y if it takes two values.
 fn answer(call: Call, x: Value, y: Value, addr_mask: u64) -> Result<Value>
     requires { IsAddressMask addr_mask }
 {

@@ -18,14 +18,14 @@ abbrev pub unlimited_setup : Encoding → Setup
 unlimited_setup encoding =
     record { encoding = encoding; offset_bits = 64; limits = record { values = None; callers = None; pieces = None } }
 
--- what comes out, behind the replies: pieces and a value, the status of a fault, or nothing
+-- what comes out, after the replies: pieces and a value, the status of a fault, or nothing
 abbrev pub outcome_ending : Option Outcome → Ending
 outcome_ending None = record { text = []; status = 0 }
 outcome_ending (Some (RequestOutcome request positions)) = record { text = []; status = 0 }
 outcome_ending (Some (FaultOutcome fault)) = record { text = []; status = 1 }
 outcome_ending (Some (CompleteOutcome pieces value)) = complete_ending pieces value
 
--- the replies, one a line, and what is behind them
+-- the replies, one a line, and what is after them
 abbrev pub behind_replies : List Reply → Ending → Ending
 behind_replies replies ending = record ending { text = reply_lines replies ++ ending.text }
 

@@ -14,7 +14,7 @@ use Rattle.dwexpr_text.specs.Writing.{AppendsFront}
 use Rattle.dwexpr_text.specs.declared.words.Command.{Command}
 use Rattle.dwexpr_text.specs.declared.words.Command.TheVariants.{Ops, Eval}
 
--- an input was read whole, which is what the reader had left where that is known; or it wasn't
+-- an input was read whole, which is what the reader had left if that is known; or it wasn't
 abbrev pub EvaluatesInput : Encoding → Text → (left : Option (List ℕ)) → Ending → Type 0
 EvaluatesInput encoding text left ending =
     ((input : List ℕ) × IfSome left (λ bytes. input ≡ bytes) × EvaluatesLines encoding text input ending)
@@ -37,12 +37,12 @@ EndsInvocation (Some asked) left ending = EndsCommand asked.command asked left e
 abbrev pub EndsFor : (words : List (List ℕ)) → (left : Option (List ℕ)) → Ending → Type 0
 EndsFor words left ending = EndsInvocation (invocation_in words) left ending
 
--- what the program ends with where its words couldn't be had: one isn't UTF-8, or there was no memory for them
+-- what the program ends with if its words couldn't be had: one isn't UTF-8, or there was no memory for them
 abbrev pub without_words : ErrorKind → Ending
 without_words InvalidData = bad_words
 without_words _ = no_memory
 
--- all was written, and the status is the ending's; or a front was, where a write was refused, and it is 1
+-- all was written, and the status is the ending's; or a front was, if a write was refused, and it is 1
 abbrev pub Exits : (old new : Option (List ℕ)) → Ending → (status : ℕ) → Type 0
 Exits old new ending status =
     (Appends old new ending.text × (status ≡ ending.status)) ⊎ (AppendsFront old new ending.text × (status ≡ 1))

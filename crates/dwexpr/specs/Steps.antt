@@ -52,7 +52,7 @@ text_step_in big line =
 abbrev pub step_in : (big : Bool) → List ℕ → Option Step
 step_in big line = if is_utf8 line then text_step_in big line else None
 
--- a line's step, and then those of the lines behind it
+-- a line's step, and then those of the lines after it
 abbrev pub said_then : Option Step → Result (List Step) ℕ → Result (List Step) ℕ
 said_then None more = Err 1
 said_then (Some step) (Ok steps) = Ok (step ∷ steps)

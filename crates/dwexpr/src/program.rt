@@ -64,7 +64,7 @@ fn print_complete<W: Write>(
     Ok(DONE)
 }
 
-/// Prints what came out of the evaluation, where it is complete.
+/// Prints what came out of the evaluation, if it is complete.
 fn print_outcome<'a, S: EvaluationStorage<Text<'a>>, W: Write>(
     output: &mut W,
     evaluation: &Evaluation<Text<'a>, S>,
@@ -84,7 +84,7 @@ fn print_outcome<'a, S: EvaluationStorage<Text<'a>>, W: Write>(
     }
 }
 
-/// Prints what stands behind the answers.
+/// Prints what stands after the answers.
 fn print_end<A: Allocator + Copy, W: Write>(
     output: &mut W,
     evaluation: &Evaluation<Text<'_>, StoreOnHeap<A>>,
@@ -104,7 +104,7 @@ fn print_end<A: Allocator + Copy, W: Write>(
     }
 }
 
-/// Prints the answers, and what stands behind them.
+/// Prints the answers, and what stands after them.
 fn print_replay<A: Allocator + Copy, W: Write>(
     output: &mut W,
     answers: &[Answer<Text<'_>>],
@@ -276,15 +276,15 @@ pub(crate) fn run_without_words<W: Write>(error: io::Error, output: &mut W) -> u
     refuse_words(error.kind(), output).unwrap_or(FAILED)
 }
 
-/// Runs the program on the words behind its name, and answers its exit status.
+/// Runs the program on the words after its name, and answers its exit status.
 ///
 /// `ops ADDR OFFSET VERSION ORDER HEX` lists the operations of the bytes HEX: the place, the bytes and the name of
-/// each, or the place and the fault where one is met. `eval ADDR OFFSET VERSION ORDER HEX` evaluates the bytes HEX in
+/// each, or the place and the fault if one is met. `eval ADDR OFFSET VERSION ORDER HEX` evaluates the bytes HEX in
 /// the steps that the lines of `input` say: all of them are read and judged first, and then done in order. It prints
-/// a line for each answer and, where the evaluation is complete at the end, its pieces and its value.
+/// a line for each answer and, if the evaluation is complete at the end, its pieces and its value.
 ///
-/// The status is 0; 1 where the evaluation or the decoding failed, a read or a write failed or there was no memory;
-/// and 2 where the words or a line are bad or a step isn't allowed where it stands.
+/// The status is 0; 1 if the evaluation or the decoding failed, a read or a write failed or there was no memory;
+/// and 2 if the words or a line are bad or a step isn't allowed where it stands.
 pub fn run<A: Allocator + Copy, I: Read + Drop, W: Write>(
     alloc: A,
     words: &[String<A>],

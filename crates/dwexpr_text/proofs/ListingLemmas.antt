@@ -11,7 +11,7 @@ use Rattle.dwexpr_text.specs.Endings.{Ending, WritesEnding}
 use Rattle.dwexpr_text.specs.Writing.{AppendsFront, bytes_word, line}
 use Rattle.dwexpr_text.proofs.Fronts.{Written, appends_both, begun, last_of, more_of, refused_in}
 
--- what is listed where an operation is read
+-- what is listed if an operation is read
 pub next_listed : (most : ℕ) (encoding : Encoding) (big at_big : Bool) (place size : ℕ) (bytes rest spelled name : List ℕ) (op : Operation)
     → at_big ≡ big → operation_at encoding 64 (record { bytes = bytes; is_big = at_big }) ≡ Ok (op, rest)
     → (length bytes == 0) ≡ false → length bytes ≤ most → size ≡ length bytes - length rest → spelled ≡ take size bytes
@@ -24,7 +24,7 @@ next_listed zero encoding big at_big place size (byte ∷ bytes) rest spelled na
 next_listed (suc most) encoding big at_big place size (byte ∷ bytes) rest spelled name op e h some enough f g k =
     (most, (λ less. omega (arith, less, enough)), rw (← e, h, g, k, f) refl)
 
--- what is listed where a fault is met
+-- what is listed if a fault is met
 pub fault_listed : (most : ℕ) (encoding : Encoding) (big at_big : Bool) (place : ℕ) (bytes : List ℕ) (fault : Fault)
     → at_big ≡ big → operation_at encoding 64 (record { bytes = bytes; is_big = at_big }) ≡ Err fault
     → (length bytes == 0) ≡ false → length bytes ≤ most

@@ -66,7 +66,7 @@ pub unsigned_parsed : {E : Type 0} (base : ℕ) (word : List ℕ) (r : Result �
     → result_ok r ≡ option_and_then (below 64) (numeral_in base word)
 unsigned_parsed base word r h unsigned = numeral_parsed base word r (rw (without_leading_plus_none word unsigned) at h)
 
--- ---- behind `0x`, or not
+-- ---- after `0x`, or not
 
 pub number_in-prefix : (word digits : List ℕ) (n : ℕ) → FindsTextPrefix (codes "0x") word (Some n)
     → digits ≡ drop n word
@@ -108,7 +108,7 @@ within-none w bits e (negsuc n) outside =
       | false ↦ λ _. refl
     ] refl
 
--- a conversion to a signed type of so many bits
+-- a conversion to a signed type of this many bits
 pub narrowed_signed : {E : Type 0} (w : Width) (bits : ℕ) → hbits w ≡ bits - 1 → (z : ℤ) (r : Result ℤ E)
     → OkIff r (FitsSigned w z) z
     → result_ok r ≡ within bits z
@@ -124,7 +124,7 @@ narrowed_to_i16 z r h = narrowed_signed w16 16 refl z r h
 pub narrowed_to_i32 : {E : Type 0} (z : ℤ) (r : Result ℤ E) → OkIff r (FitsSigned w32 z) z → result_ok r ≡ within 32 z
 narrowed_to_i32 z r h = narrowed_signed w32 32 refl z r h
 
--- a conversion to an unsigned type of so many bits
+-- a conversion to an unsigned type of this many bits
 pub narrowed_unsigned : {E : Type 0} (bits n : ℕ) (r : Result ℕ E) → OkIff r (FitsUnsignedBits bits (pos n)) n
     → result_ok r ≡ below bits n
 narrowed_unsigned bits n (Ok x) h = ap Some h.1 ∙ sym (rw (lt-ltb n (2 ^ bits) h.0) refl)

@@ -1,4 +1,4 @@
--- What a word says as bytes, where its digits were judged.
+-- What a word says as bytes, if its digits were judged.
 use Rattle.std.proofs.Common.{◌≡◌, ◌≢◌, ℕ, ◌%◌, List, [], ◌∷◌, length, None, Result, Ok, Err, IsSome, refl, arith}
 use Rattle.std.specs.List.{AllPass}
 use Rattle.hex.specs.Hex.{decode_of, is_hex_digit}

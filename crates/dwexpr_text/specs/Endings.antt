@@ -1,4 +1,4 @@
--- What is printed behind the replies of an evaluation, and the status that the program ends with.
+-- What is printed after the replies of an evaluation, and the status that the program ends with.
 use Rattle.std.specs.Prelude.{ℕ, ◌≡◌, ◌+◌, ◌++◌, codes, decimal, List, [], ◌∷◌, Option, Result, Ok, Err, if◌then◌else◌}
 use Rattle.std.specs.Io.KnownBytes.{Appends}
 use Rattle.dwarf_value.specs.declared.types.Value.{Value}
@@ -7,12 +7,12 @@ use Rattle.dwarf_meaning.specs.Rest.{State, Status, Start, Running, RequestStatu
 use Rattle.dwexpr_text.specs.Lines.{Listing, piece_lines, value_line}
 use Rattle.dwexpr_text.specs.Writing.{AppendsFront, line}
 
--- lines, and the status: 0 where all was done, 1 where it failed, 2 where the words or the lines are wrong
+-- lines, and the status: 0 if all was done, 1 if it failed, 2 if the words or the lines are wrong
 pub record Ending : Type 0 where
   pub text : List ℕ
   pub status : ℕ
 
--- all of it was written, and this is the status; or a front of it, where a write was refused
+-- all of it was written, and this is the status; or a front of it, if a write was refused
 abbrev pub WritesEnding : {E : Type 0} → (old new : Option (List ℕ)) → Ending → Result ℕ E → Type 0
 WritesEnding old new ending (Ok status) = Appends old new ending.text × (status ≡ ending.status)
 WritesEnding old new ending (Err e) = AppendsFront old new ending.text

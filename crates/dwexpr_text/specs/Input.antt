@@ -12,7 +12,7 @@ line_and_rest input (Some parts) = (strip_carriage_return parts.0, parts.1)
 abbrev pub first_line : List ℕ → List ℕ × List ℕ
 first_line input = line_and_rest input (cut_at 10 input)
 
--- up to so many lines
+-- up to this many lines
 abbrev pub lines_within : (most : ℕ) → List ℕ → List (List ℕ)
 lines_within zero input = []
 lines_within (suc most) [] = []

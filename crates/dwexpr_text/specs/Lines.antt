@@ -47,7 +47,7 @@ fault_line fault = line (codes "fault") (fault_words fault)
 
 -- ---- requests
 
--- the space of an address, where one is named
+-- the space of an address, if one is named
 abbrev pub space_word : Option ℕ → List ℕ
 space_word None = codes "none"
 space_word (Some space) = hexadecimal space
@@ -86,7 +86,7 @@ reply_line (FaultReply fault) = fault_line fault
 
 -- ---- what comes out
 
--- a number, where there is one
+-- a number, if there is one
 abbrev pub number_or_none : Option ℕ → List ℕ
 number_or_none None = codes "none"
 number_or_none (Some number) = decimal number
@@ -105,7 +105,7 @@ abbrev pub piece_line : Piece → List ℕ
 piece_line piece =
     line (codes "piece") (number_or_none piece.size_in_bits ∷ number_or_none piece.bit_offset ∷ location_words piece.location)
 
--- the line behind the pieces
+-- the line after the pieces
 abbrev pub value_line : Option Value → List ℕ
 value_line None = line (codes "value") (codes "none" ∷ [])
 value_line (Some value) = line (codes "value") (value_word value ∷ [])
@@ -191,14 +191,14 @@ pub record Listing : Type 0 where
 abbrev pub behind : List ℕ → Listing → Listing
 behind first listing = record listing { text = first ++ listing.text }
 
--- what is read at the front, and then what is listed behind it
+-- what is read at the front, and then what is listed after it
 abbrev pub listing_then : (place : ℕ) → List ℕ → Result (Operation × List ℕ) Fault → (ℕ → List ℕ → Listing) → Listing
 listing_then place bytes (Ok x) next =
     let size = length bytes - length x.1 in behind (operation_line place (take size bytes) x.0) (next (place + size) x.1)
 listing_then place bytes (Err fault) next =
     record { text = line (decimal place) (codes "fault" ∷ fault_words fault); is_whole = false }
 
--- up to so many operations, from this place on
+-- up to this many operations, from this place on
 abbrev pub listing_within : (most : ℕ) → Encoding → (is_big : Bool) → (place : ℕ) → List ℕ → Listing
 listing_within zero encoding is_big place bytes = record { text = []; is_whole = true }
 listing_within (suc most) encoding is_big place [] = record { text = []; is_whole = true }

@@ -21,7 +21,7 @@ numeral_in base [] = None
 numeral_in base (digit ∷ digits) =
     if all_digits base (digit ∷ digits) then Some (digits_value base (digit ∷ digits)) else None
 
--- a number of so many bits
+-- a number of this many bits
 abbrev pub below : (bits : ℕ) → ℕ → Option ℕ
 below bits number = if nat_lt number (2 ^ bits) then Some number else None
 
@@ -30,12 +30,12 @@ abbrev pub number_in : List ℕ → Option ℕ
 number_in word =
     option_and_then (below 64) (if starts_with nat_eq word (codes "0x") then numeral_in 16 (drop 2 word) else numeral_in 10 word)
 
--- an integer of so many bits, one of them the sign's
+-- an integer of this many bits, one of them the sign's
 abbrev pub within : (bits : ℕ) → ℤ → Option ℤ
 within bits (pos n) = if nat_lt n (2 ^ (bits - 1)) then Some (pos n) else None
 within bits (negsuc n) = if nat_lt n (2 ^ (bits - 1)) then Some (negsuc n) else None
 
--- N of a signed type: decimal digits, behind a minus sign (45) or none, that say an integer of at most 64 bits
+-- N of a signed type: decimal digits, after a minus sign (45) or none, that say an integer of at most 64 bits
 abbrev pub integer_in : List ℕ → Option ℤ
 integer_in word =
     option_and_then (within 64)
@@ -70,7 +70,7 @@ value_of_type number type.U32 = option_map value.U32 (option_and_then (below 32)
 value_of_type number type.I64 = option_map value.I64 (integer_in number)
 value_of_type number type.U64 = option_map value.U64 (number_in number)
 
--- what stands before the first such byte, and behind it
+-- what stands before the first such byte, and after it
 abbrev pub cut_at : (byte : ℕ) → List ℕ → Option (List ℕ × List ℕ)
 cut_at byte word =
     if nat_lt (position_or_len (λ b. b == byte) word) (length word)

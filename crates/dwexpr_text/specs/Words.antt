@@ -12,7 +12,7 @@ use Rattle.dwexpr_text.specs.declared.words.Reading.{Reading}
 
 -- ---- HEX
 
--- the bytes, where the digits say some
+-- the bytes, if the digits say some
 abbrev pub decoded_bytes : Result (List ℕ) FromHexError → Option (List ℕ)
 decoded_bytes (Ok bytes) = Some bytes
 decoded_bytes (Err e) = None

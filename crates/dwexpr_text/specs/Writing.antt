@@ -15,14 +15,14 @@ pub record AppendsFront (old new : Option (List ℕ)) (text : List ℕ) : Type 0
   pub whole : text ≡ front ++ rest
   pub written : Appends old new front
 
--- the known bytes grew by the text, or by a front of it where a write was refused
+-- the known bytes grew by the text, or by a front of it if a write was refused
 abbrev pub Prints : {T E : Type 0} → Option (List ℕ) → Option (List ℕ) → List ℕ → Result T E → Type 0
 Prints old new text (Ok x) = Appends old new text
 Prints old new text (Err e) = AppendsFront old new text
 
 -- ---- words of a line
 
--- lower case digits behind `0x`
+-- lower case digits after `0x`
 abbrev pub hexadecimal : ℕ → List ℕ
 hexadecimal number = codes "0x" ++ digits 16 false number
 
@@ -59,7 +59,7 @@ word_text (word.Bytes text) = bytes_word (slice_bytes text)
 
 -- ---- lines
 
--- each further word behind a blank (32), and a line feed (10)
+-- each further word after a blank (32), and a line feed (10)
 abbrev pub ending : List (List ℕ) → List ℕ
 ending [] = 10 ∷ []
 ending (word ∷ words) = 32 ∷ (word ++ ending words)

@@ -6,13 +6,13 @@ use crate::writing::{Word, put_line};
 use std::io;
 use std::io::Write;
 
-/// The status where all was done.
+/// The status if all was done.
 pub const DONE: u8 = 0;
 
-/// The status where something failed.
+/// The status if something failed.
 pub const FAILED: u8 = 1;
 
-/// The status where the words or the lines are wrong.
+/// The status if the words or the lines are wrong.
 const MISUSED: u8 = 2;
 
 /// Prints that the words are not those of the program.

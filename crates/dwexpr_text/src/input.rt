@@ -29,7 +29,7 @@ fn line_feed_in(input: &[u8]) -> Option<usize>
     input.iter().position(|byte| *byte == b'\n')
 }
 
-/// The first line: up to a line feed, or all of the input where there is none.
+/// The first line: up to a line feed, or all of the input if there is none.
 pub fn first_line(input: &[u8]) -> Line<'_>
     requires { 0 < length input.now }
     ensures line { (result.text.now, result.rest.now) ≡ spec.first_line input.now }

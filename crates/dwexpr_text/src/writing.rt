@@ -11,7 +11,7 @@ use std::io::{ErrorKind, Write};
 /// Bytes in the byte order of the words.
 pub type Text<'a> = EndianSlice<'a, RunTimeEndian>;
 
-/// Writes the bytes; of `write!` it isn't known what it wrote where a write was refused.
+/// Writes the bytes; of `write!` it isn't known what it wrote if a write was refused.
 fn put<W: Write>(output: &mut W, bytes: &[u8]) -> io::Result<()>
     ensures { Prints (W.contents output.old) (W.contents output.new) bytes.now result }
 {
@@ -83,7 +83,7 @@ fn put_digits<W: Write>(output: &mut W, base: u64, number: u64) -> io::Result<()
     put(output, &buffer[start..])
 }
 
-/// Lower case digits behind the prefix.
+/// Lower case digits after the prefix.
 fn put_number<W: Write>(output: &mut W, prefix: &str, base: u64, number: u64) -> io::Result<()>
     requires least { 2 ≤ base }
     requires most { base ≤ 16 }
@@ -94,7 +94,7 @@ fn put_number<W: Write>(output: &mut W, prefix: &str, base: u64, number: u64) ->
     put_digits(output, base, number)
 }
 
-/// A minus sign where there is one, and decimal digits, behind the prefix.
+/// A minus sign if there is one, and decimal digits, after the prefix.
 fn put_integer<W: Write>(output: &mut W, prefix: &str, number: i64) -> io::Result<()>
     ensures { Prints (W.contents output.old) (W.contents output.new)
         (prefix.now ++ signed_decimal number) result }
@@ -151,9 +151,9 @@ pub enum Word<'a> {
     Name(&'static str),
     /// In decimal.
     Number(u64),
-    /// In decimal, behind a minus sign where it is negative.
+    /// In decimal, after a minus sign if it is negative.
     Integer(i64),
-    /// In hexadecimal, behind `0x`.
+    /// In hexadecimal, after `0x`.
     Hexadecimal(u64),
     /// Its type, a colon and its content.
     Value(Value),
@@ -174,7 +174,7 @@ fn put_word<W: Write>(output: &mut W, word: Word<'_>) -> io::Result<()>
     }
 }
 
-/// A number and the blank behind it.
+/// A number and the blank after it.
 pub(crate) fn put_number_word<W: Write>(output: &mut W, number: u64) -> io::Result<()>
     ensures { Prints (W.contents output.old) (W.contents output.new) (decimal number ++ codes " ")
         result }
@@ -183,7 +183,7 @@ pub(crate) fn put_number_word<W: Write>(output: &mut W, number: u64) -> io::Resu
     put_text(output, " ")
 }
 
-/// The end of a line: each word behind a blank, and a line feed.
+/// The end of a line: each word after a blank, and a line feed.
 fn put_ending<W: Write>(output: &mut W, words: &[Word<'_>]) -> io::Result<()>
     ensures { Prints (W.contents output.old) (W.contents output.new)
         (ending (map word_text words.now)) result }
@@ -195,7 +195,7 @@ fn put_ending<W: Write>(output: &mut W, words: &[Word<'_>]) -> io::Result<()>
     put_text(output, "\n")
 }
 
-/// A line: the first word, each further one behind a blank, and a line feed.
+/// A line: the first word, each further one after a blank, and a line feed.
 pub fn put_line<W: Write>(output: &mut W, first: &str, words: &[Word<'_>]) -> io::Result<()>
     ensures { Prints (W.contents output.old) (W.contents output.new)
         (line first.now (map word_text words.now)) result }

@@ -5,7 +5,7 @@ use Rattle.dwarf_replay.specs.declared.steps.Replayed.{Replayed}
 use Rattle.dwarf_replay.specs.declared.steps.Replayed.TheVariants as replayed
 use Rattle.dwexpr_text.specs.Endings.{Ending, misplaced, no_memory, standing}
 
--- behind the replies
+-- after the replies
 abbrev pub ending_of : {R O P : Type 0} → State → Replayed R O P → Ending
 ending_of x replayed.Done = standing x x.status
 ending_of x (replayed.Misplaced index) = misplaced index

@@ -1,10 +1,9 @@
 #!/usr/bin/env python3
 """What the documents name is there, and what they have to name is named.
 
-- Each definition under `specs/` that a public contract can cite stands in docs/DEFINITIONS.md, under the heading of its
-  own crate, and of its own file where that crate has headings of files.
-- Each name in that file is one of `specs/` (a file, a definition, a field, a constructor), a public one of `src/` (an
-  item, a field, a variant, a method, a module), a crate, or one of those that this script lists, with the reason.
+- docs/GLOSSARY.md is what `bin/glossary` makes of the comments under `specs/`, and each definition has one.
+- Each name in docs/DEFINITIONS.md is one of `specs/` (a file, a definition, a field, a constructor), a public one of
+  `src/` (an item, a field, a variant, a method, a module), or a crate.
 - Each path in README.md, CONTRIBUTING.md, bench/README.md and docs/ leads to a file or folder of the repository; what is
   built, gimli's files and the web aside.
 - Each block of README.md, docs/GUIDE.md and docs/PROOFS.md whose fence names a file is what stands in that file, byte
@@ -19,10 +18,12 @@ import functools
 import os
 import pathlib
 import re
+import subprocess
 import sys
 
 TOP = pathlib.Path(__file__).resolve().parent.parent
 DEFINITIONS = "docs/DEFINITIONS.md"
+GLOSSARY = "docs/GLOSSARY.md"
 # Folders of what is built or kept beside the repository, and no part of it; and those of a package.
 BESIDE = {"out", "build", "target", "__pycache__", ".git", "dist", "lib", "share"}
 # The pages whose blocks are compared with the files that they name.
@@ -34,11 +35,6 @@ SHOWN = {
     "crates/dwarf_example/proofs/requests/complete/Invariants.antt",
 }
 
-# Names in DEFINITIONS.md that no crate of the repository defines, each with the reason.
-ELSEWHERE = {
-    "hex": "a crate of the kit",
-    "Iterator": "a trait of the kit's standard library",
-}
 # Paths in the documents that lead nowhere here, each with the reason.
 PATHS_ELSEWHERE = {
     "src/read/op.rs": "a file of gimli's",
@@ -102,38 +98,11 @@ def is_definitions(path):
     return path.startswith("crates/") and "/specs/" in path and path.endswith(".antt")
 
 
-def is_cited(path):
-    """Whether public contracts can cite what this file defines."""
-    return is_definitions(path) and "/specs/inner" not in path
-
-
-def parts(text, level):
-    """The parts of a text under the headings of a level, each with its heading; what stands before them is dropped."""
-    found = re.split(rf"^{'#' * level} (.*)$", text, flags=re.MULTILINE)[1:]
-    return list(zip(found[::2], found[1::2]))
-
-
-def named(text):
-    """The words that stand between backquotes."""
-    return {name for quoted in QUOTED.findall(text) for name in quoted.split()}
-
-
-def places(path):
-    """The parts of DEFINITIONS.md where what a file defines may stand: those of its crate, and there of the file."""
-    _, crate, _, file = path.split("/")
-    own = [text for heading, text in parts(read(DEFINITIONS), 2) if crate in QUOTED.findall(heading)]
-    by_file = [part for text in own for part in parts(text, 3)]
-    return [text for heading, text in by_file if file in QUOTED.findall(heading)] if by_file else own
-
-
-def undocumented():
-    """Each definition that a contract can cite: it stands in its place in DEFINITIONS.md."""
-    for path in filter(is_cited, files()):
-        names = set().union(*map(named, places(path)))
-        for name in DEFINED.findall(read(path)):
-            if name not in ("use", "mod"):
-                missing = name.replace("◌", "") not in names
-                yield f"{DEFINITIONS} lacks `{name}` under the heading of {path}" if missing else None
+def glossary():
+    """The page of definitions is what the comments make it, and no definition lacks one."""
+    ran = subprocess.run([TOP / "bin" / "glossary"], capture_output=True, text=True, check=False)
+    yield "bin/glossary: a definition lacks its comment" if ran.returncode else None
+    yield None if ran.stdout == read(GLOSSARY) else f"{GLOSSARY} isn't what bin/glossary prints"
 
 
 def public_names(code):
@@ -147,7 +116,7 @@ def public_names(code):
 @functools.cache
 def known():
     """What a reader may be pointed to: all that is defined, and what is public in the code."""
-    names = set(ELSEWHERE)
+    names = set()
     for path in filter(lambda name: name.startswith("crates/"), files()):
         names.add(path.split("/")[1])
         if is_definitions(path):
@@ -209,7 +178,7 @@ def changed():
 
 
 def main():
-    found = [*undocumented(), *unknown(), *astray(), *changed()]
+    found = [*glossary(), *unknown(), *astray(), *changed()]
     failed = [line for line in found if line]
     for line in failed:
         print(line)

@@ -25,7 +25,7 @@ abbrev pub Returns : {X Y : Type 0} → (X → Y) → Result X Error → Result 
 Returns view (Ok x) wanted = wanted ≡ Ok (view x)
 Returns view (Err e) wanted = wanted ≡ Err (fault_of e)
 
--- a result, and then what is made of it
+-- a result, and then what is made of it; the first fault stands
 infixl 10 ◌>>=◌
 abbrev pub ◌>>=◌ : {A B : Type 0} → Result A Fault → (A → Result B Fault) → Result B Fault
 (Ok x) >>= next = next x

@@ -43,6 +43,7 @@ pub record HasStopped (given : Beginning) (numbers : List DwexprStep) (new : Sta
   pub stops : Stops given.texts (step_coded given.text.is_big given.texts cut.at) before new end
   pub setup : new.setup ≡ given.setup
 
+-- it stands where the steps lead, or where the one that ended it left it
 abbrev pub StandsAfter : Beginning → List DwexprStep → (new : State) → DwexprOutcome → Type 0
 StandsAfter given numbers new out = HasTaken given numbers new ⊎ HasStopped given numbers new out
 

@@ -10,6 +10,7 @@ use Rattle.dwexpr_c.specs.declared.steps.DwexprText.{DwexprText}
 abbrev pub IsAt : (text : List ℕ) (place : ℕ) (block : List ℕ) → Type 0
 IsAt text place block = (place + length block ≤ length text) × (slice_range text place (place + length block) ≡ block)
 
+-- the block is at no place of a text
 abbrev pub IsNotIn : (text block : List ℕ) → Type 0
 IsNotIn text block = (place : ℕ) → IsAt text place block → ⊥
 

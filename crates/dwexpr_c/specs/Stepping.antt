@@ -19,6 +19,7 @@ use Rattle.dwexpr_c.specs.declared.pieces.DwexprPiece.{DwexprPiece}
 use Rattle.dwexpr_c.specs.declared.places.Placed.{Placed}
 use Rattle.dwexpr_c.specs.declared.steps.DwexprText.{DwexprText}
 
+-- the end with this code, which carries no number
 abbrev pub plain_end : (code : ℕ) → FaultNumbers
 plain_end code = record { code = code; number = 0 }
 
@@ -41,6 +42,7 @@ pub record Unplaced (texts : List DwexprText) (step : Step) (old new : State) (e
   pub asks : AsksNowhere texts (ok_reply text_of_placed (λ x. x) told)
   pub shown : end ≡ plain_end lost_text_code
 
+-- the step isn't allowed, and nothing changes
 pub record NotTaken (step : Step) (old new : State) (end : FaultNumbers) : Type 0 where
   pub same : new ≡ old
   pub not_taken : MayTake step old.status → ⊥
@@ -78,6 +80,7 @@ FinishesOutcome texts count pieces before after old new (RequestStatus request w
 FinishesOutcome texts count pieces before after old new (FaultStatus error) = (after ≡ before) × (new ≡ old)
 FinishesOutcome texts count pieces before after old new Running = Unit {0}
 
+-- after a step that ended it the outcome is that end, and the pieces stay; after any other, by where it stands
 abbrev pub EndsOutcome : List DwexprText → (count : ℕ) → List Piece → Result DwexprOutcome DwexprOutcome → (after : DwexprOutcome) → (old new : List DwexprPiece) → Status → Type 0
 EndsOutcome texts count pieces (Ok before) after old new status = FinishesOutcome texts count pieces before after old new status
 EndsOutcome texts count pieces (Err end) after old new status = (after ≡ end) × (new ≡ old)

@@ -8,7 +8,7 @@ use Rattle.dwarf_meaning.specs.Stores.{Setup, Store, Next, Goes, RequestNext, Fa
 use Rattle.dwarf_meaning.specs.Rest.{State, Status, Start, Running, RequestStatus, CompleteStatus, FaultStatus, with_refusal}
 use Rattle.dwarf_meaning.specs.Refusals.{before_pushes}
 use Rattle.dwarf_meaning.proofs.Effects.{IsActOf, branches, act_is}
-use Rattle.dwarf_machine.specs.inner.Steps.{LeadsBy, Performs, Stays, act_of, at, done_at, with_place}
+use Rattle.dwarf_machine.specs.inner.Steps.{IsNoBranch, LeadsBy, Performs, Stays, act_of, at, done_at, with_place}
 use Rattle.dwarf_meaning.specs.Operations as operation
 
 -- ---- the text
@@ -93,11 +93,6 @@ performs_at a left old new still h =
 
 -- ---- the operations that take no branch
 
-abbrev pub IsNoBranch : Operation → Type 0
-IsNoBranch (operation.Bra target) = ⊥
-IsNoBranch (operation.Skip target) = ⊥
-IsNoBranch _ = Unit {0}
-
 still : (op : Operation) {n : ℕ} (a : Act) → IsActOf op n a → IsNoBranch op → IsStill a
 still op (Branches rest target) (branches l (inl e)) h = subst IsNoBranch e h
 still op (Branches rest target) (branches l (inr e)) h = subst IsNoBranch e h
@@ -109,11 +104,6 @@ still op _ d h = tt
 pub performs_there : (op : Operation) (left : List ℕ) (old new : State) → IsNoBranch op → Performs (act_of old op) old new → Performs (act_of old op) (at left old) (at left new)
 performs_there op left old new none h =
     performs_at (act_of old op) left old new (still op (act_of old op) (act_is (address_bits old.setup) old.store.object_address op old.store.values) none) h
-
--- the same of an operation by another name
-pub performs_named : (named op : Operation) (left : List ℕ) (old new : State) → named ≡ op → IsNoBranch op → Performs (act_of old op) old new → Performs (act_of old named) (at left old) (at left new)
-performs_named named op left old new is none h =
-    subst (λ (z : Operation). Performs (act_of old z) (at left old) (at left new)) (sym is) (performs_there op left old new none h)
 
 -- ---- what is left
 

@@ -3,7 +3,7 @@
 ghost use Rattle.std.specs.Prelude.{◌≡◌};
 ghost use Rattle.dwarf_base.specs.Reads.{IsLeftOf};
 ghost use Rattle.dwarf_meaning.specs.Rest.{Running};
-ghost use Rattle.dwarf_machine.specs.inner.Steps.{Performs, act_of, at};
+ghost use Rattle.dwarf_machine.specs.inner.Steps.{IsNoBranch, Performs, act_of, at};
 ghost use Rattle.dwarf_op.specs.Views.{operation_of};
 
 use crate::binary;
@@ -16,9 +16,9 @@ use dwarf_store::EvaluationStorage;
 use dwarf_value::Value;
 
 impl<R: Reader + Copy, S: EvaluationStorage<R>> Machine<R, S> {
-    /// Does an operation, in front of what is left of the text.
+    /// Does an operation, before what is left of the text.
     #[inline(always)]
-    #[tactic(auto, unfolding(dwarf_meaning::specs::Acts::act), using(crate::proofs::Behind::performs_there, crate::proofs::Behind::left_there))]
+    #[tactic(auto, using(crate::proofs::Behind::left_there))]
     pub(crate) fn operate(&mut self, operation: Operation<R>, left: &mut R)
         requires runs { self.old.status ≡ Running }
         requires rest { IsLeftOf (R.text left.old) self.old.text }
@@ -26,6 +26,22 @@ impl<R: Reader + Copy, S: EvaluationStorage<R>> Machine<R, S> {
             (act_of self.old (operation_of R.text R.Offset.number operation))
             (at (R.text left.old).bytes self.old) (at (R.text left.new).bytes self.new) }
         ensures rest { IsLeftOf (R.text left.new) self.new.text }
+    {
+        match operation {
+            Operation::Bra { target } => self.branch_if(target, left),
+            Operation::Skip { target } => self.take_branch(target, left),
+            _ => self.operate_in_place(operation),
+        }
+    }
+
+    /// Does an operation that is no branch.
+    #[inline(always)]
+    #[tactic(auto, unfolding(dwarf_meaning::specs::Acts::act))]
+    fn operate_in_place(&mut self, operation: Operation<R>)
+        requires runs { self.old.status ≡ Running }
+        requires still { IsNoBranch (operation_of R.text R.Offset.number operation) }
+        ensures { Performs
+            (act_of self.old (operation_of R.text R.Offset.number operation)) self.old self.new }
     {
         match operation {
             Operation::Deref {
@@ -52,14 +68,13 @@ impl<R: Reader + Copy, S: EvaluationStorage<R>> Machine<R, S> {
             Operation::Shr => self.compute_binary::<binary::Shr>(),
             Operation::Shra => self.compute_binary::<binary::Shra>(),
             Operation::Xor => self.compute_binary::<binary::Xor>(),
-            Operation::Bra { target } => self.branch_if(target, left),
+            Operation::Bra { .. } | Operation::Skip { .. } => unreachable!(),
             Operation::Eq => self.compute_binary::<binary::Eq>(),
             Operation::Ge => self.compute_binary::<binary::Ge>(),
             Operation::Gt => self.compute_binary::<binary::Gt>(),
             Operation::Le => self.compute_binary::<binary::Le>(),
             Operation::Lt => self.compute_binary::<binary::Lt>(),
             Operation::Ne => self.compute_binary::<binary::Ne>(),
-            Operation::Skip { target } => self.take_branch(target, left),
             Operation::UnsignedConstant { value } => self.push_constant(Value::Generic(value)),
             Operation::SignedConstant { value } => self.push_signed(value),
             Operation::Register { register } => self.locate(Location::Register { register }),

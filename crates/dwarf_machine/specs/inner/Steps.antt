@@ -8,6 +8,7 @@ use Rattle.dwarf_value.specs.declared.types.Value.{Value}
 use Rattle.dwarf_value.specs.declared.types.Value.TheVariants.{Generic}
 use Rattle.dwarf_value.specs.Values.{to_u64_of}
 use Rattle.dwarf_meaning.specs.Operations.{Operation}
+use Rattle.dwarf_meaning.specs.Operations as operation
 use Rattle.dwarf_meaning.specs.Locations.{Location}
 use Rattle.dwarf_meaning.specs.Requests.{Request, Waiting, Answer, Input}
 use Rattle.dwarf_meaning.specs.Acts.{Act, act}
@@ -129,7 +130,13 @@ pub record ReadsOperation (op : Operation) (old new : State) : Type 0 where
 abbrev pub act_of : State → Operation → Act
 act_of x op = act (address_bits x.setup) x.store.object_address op x.store.values
 
--- what an operation does to what is kept, where it was read
+-- the operation takes no branch
+abbrev pub IsNoBranch : Operation → Type 0
+IsNoBranch (operation.Bra target) = ⊥
+IsNoBranch (operation.Skip target) = ⊥
+IsNoBranch _ = Unit {0}
+
+-- what an operation does to what is kept, if it was read
 abbrev pub done_at : Act → State → Store → Next
 done_at a x s = done x.setup x.place (length x.text.bytes) a s
 

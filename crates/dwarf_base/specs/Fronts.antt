@@ -4,24 +4,30 @@ use Rattle.dwarf_base.specs.Faults.{Fault, past_the_end}
 use Rattle.dwarf_base.specs.Numbers.{number_of}
 
 -- some front of the bytes spells the value, and the rest follows it
-pub record Begins {A : Type 0} (Spells : List ℕ → A → Type 0) (bytes : List ℕ) (value : A) (rest : List ℕ) : Type 0 where
+pub record Begins {A : Type 0} (Spells : List ℕ → A → Type 0) (bytes : List ℕ) (value : A)
+    (rest : List ℕ) : Type 0 where
   pub front : List ℕ
   pub whole : front ++ rest ≡ bytes
   pub spells : Spells front value
 
 -- a read gives a value exactly if a front spells it, and a fault exactly if the bytes are malformed, by it
-pub record ReadsExactly {A : Type 0} (Spells : List ℕ → A → Type 0) (Malformed : List ℕ → Fault → Type 0) (read : List ℕ → Result (A × List ℕ) Fault) : Type 0 where
-  pub ok : (bytes : List ℕ) (value : A) (rest : List ℕ) → (read bytes ≡ Ok (value, rest)) ↔ Begins Spells bytes value rest
+pub record ReadsExactly {A : Type 0} (Spells : List ℕ → A → Type 0) (Malformed : List ℕ → Fault → Type 0)
+    (read : List ℕ → Result (A × List ℕ) Fault) : Type 0 where
+  pub ok : (bytes : List ℕ) (value : A) (rest : List ℕ) → (read bytes ≡ Ok (value, rest))
+      ↔ Begins Spells bytes value rest
   pub err : (bytes : List ℕ) (fault : Fault) → (read bytes ≡ Err fault) ↔ Malformed bytes fault
 
 -- the read takes this front for the value, whatever follows it, and is cut off by the end of any shorter one
-pub record TakesFront {A : Type 0} (read : List ℕ → Result (A × List ℕ) Fault) (front : List ℕ) (value : A) : Type 0 where
+pub record TakesFront {A : Type 0} (read : List ℕ → Result (A × List ℕ) Fault) (front : List ℕ)
+    (value : A) : Type 0 where
   pub whatever_follows : (more : List ℕ) → read (front ++ more) ≡ Ok (value, more)
-  pub cut_off : (shorter : List ℕ) (byte : ℕ) (lost : List ℕ) → shorter ++ (byte ∷ lost) ≡ front → read shorter ≡ Err past_the_end
+  pub cut_off : (shorter : List ℕ) (byte : ℕ) (lost : List ℕ) → shorter ++ (byte ∷ lost) ≡ front
+      → read shorter ≡ Err past_the_end
 
 -- whatever the read gives, it takes some front for it
 pub record ReadsFronts {A : Type 0} (read : List ℕ → Result (A × List ℕ) Fault) : Type 0 where
-  pub taken : (bytes : List ℕ) (value : A) (rest : List ℕ) → read bytes ≡ Ok (value, rest) → Begins (TakesFront read) bytes value rest
+  pub taken : (bytes : List ℕ) (value : A) (rest : List ℕ) → read bytes ≡ Ok (value, rest)
+      → Begins (TakesFront read) bytes value rest
 
 -- a block of n bytes spells itself
 pub record SpellsBlock (n : ℕ) (bytes block : List ℕ) : Type 0 where

@@ -13,7 +13,8 @@ pub record LebForm (A : Type 0) : Type 0 where
 
 -- a tenth byte may be 0 or 1
 abbrev pub unsigned_leb : LebForm ℕ
-unsigned_leb = record { allows_tenth = λ byte. nat_lt byte 2; too_long = BadUnsignedLeb128; number = λ sum count last. sum }
+unsigned_leb =
+    record { allows_tenth = λ byte. nat_lt byte 2; too_long = BadUnsignedLeb128; number = λ sum count last. sum }
 
 -- the bit 0x40 of the last byte is the sign's
 abbrev pub sign_extended : (sum count last : ℕ) → ℤ
@@ -21,7 +22,8 @@ sign_extended sum count last = if nat_lt last 64 then pos sum else pos sum -ℤ 
 
 -- a tenth byte may be 0 or 127
 abbrev pub signed_leb : LebForm ℤ
-signed_leb = record { allows_tenth = λ byte. byte == 0 || byte == 127; too_long = BadSignedLeb128; number = sign_extended }
+signed_leb =
+    record { allows_tenth = λ byte. byte == 0 || byte == 127; too_long = BadSignedLeb128; number = sign_extended }
 
 -- ---- which bytes spell a number
 
@@ -73,7 +75,8 @@ pub record IsTooLong {A : Type 0} (form : LebForm A) (bytes : List ℕ) : Type 0
 
 -- no front of the bytes spells a number, for this fault
 abbrev pub MalformedLeb : {A : Type 0} → LebForm A → List ℕ → Fault → Type 0
-MalformedLeb form bytes fault = (IsCutOff bytes × (fault ≡ past_the_end)) ⊎ (IsTooLong form bytes × (fault ≡ form.too_long))
+MalformedLeb form bytes fault =
+    (IsCutOff bytes × (fault ≡ past_the_end)) ⊎ (IsTooLong form bytes × (fault ≡ form.too_long))
 
 -- ---- reading one
 
@@ -81,7 +84,8 @@ MalformedLeb form bytes fault = (IsCutOff bytes × (fault ≡ past_the_end)) ⊎
 abbrev pub leb_from : {A : Type 0} → LebForm A → (place sum : ℕ) → List ℕ → Result (A × List ℕ) Fault
 leb_from form place sum [] = Err past_the_end
 leb_from form place sum (byte ∷ rest) =
-    if place == 9 then (if form.allows_tenth byte then Ok (form.number (sum + byte * 128 ^ 9) 10 byte, rest) else Err form.too_long)
+    if place == 9 then (if form.allows_tenth byte then Ok (form.number (sum + byte * 128 ^ 9) 10 byte, rest)
+        else Err form.too_long)
     else (if nat_lt byte 128 then Ok (form.number (sum + byte * 128 ^ place) (place + 1) byte, rest)
     else leb_from form (place + 1) (sum + byte % 128 * 128 ^ place) rest)
 

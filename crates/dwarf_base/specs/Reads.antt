@@ -22,8 +22,10 @@ pub record IsSuffix (rest bytes : List ℕ) : Type 0 where
   pub no_longer : length rest ≤ length bytes
   pub same : drop (length bytes - length rest) bytes ≡ rest
 
--- a read, from the text before to the text after it: what is read or its fault, and some end of the text in the same order
-pub record Reads {X Y : Type 0} (view : X → Y) (old new : Text) (result : Result X Error) (read : Result (Y × List ℕ) Fault) : Type 0 where
+-- a read, from the text before to the text after it: what is read or its fault, and some end of the text in the same
+-- order
+pub record Reads {X Y : Type 0} (view : X → Y) (old new : Text) (result : Result X Error)
+    (read : Result (Y × List ℕ) Fault) : Type 0 where
   pub value : Gives view result new.bytes read
   pub rest : IsSuffix new.bytes old.bytes
   pub order : new.is_big ≡ old.is_big

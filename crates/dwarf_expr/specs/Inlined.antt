@@ -49,7 +49,8 @@ pub record MayInline (x y : State) (site : CallSite) (offset : DieReference) (st
   pub leads : LeadsToCall x.setup site offset first (tells (told_at x) start).inputs requests
   pub object_in_force : (tells (told_at x) start).settings.object_address
       ≡ (in_force first (tells (told_at x) start).inputs).object_address
-  pub maximum_in_force : (tells (told_at x) start).settings.maximum ≡ (in_force first (tells (told_at x) start).inputs).maximum
+  pub maximum_in_force : (tells (told_at x) start).settings.maximum
+      ≡ (in_force first (tells (told_at x) start).inputs).maximum
 
 -- both wait in the same request, or are complete with the same pieces and value
 pub data StatesEndAlike (x y : State) : Type 0 where

@@ -99,7 +99,8 @@ pub record IsInlinable (setup : Setup) (site : CallSite) : Type 0 where
 -- The earlier inputs, all of them, lead to the call, in the outer text alone; `requests` were asked before it.
 pub record LeadsToCall (setup : Setup) (site : CallSite) (offset : DieReference) (first : First)
     (earlier : List Input) (requests : List Request) : Type 0 where
-  pub end : (course_of setup Never (outer site) first earlier).end ≡ RequestEnd (RequiresAtLocation offset) (behind_call site ∷ []) []
+  pub end : (course_of setup Never (outer site) first earlier).end
+      ≡ RequestEnd (RequiresAtLocation offset) (behind_call site ∷ []) []
   pub asked : (course_of setup Never (outer site) first earlier).requests ≡ requests ++ (RequiresAtLocation offset ∷ [])
 
 -- ---- what is said
@@ -108,7 +109,8 @@ pub record LeadsToCall (setup : Setup) (site : CallSite) (offset : DieReference)
 pub data EndAlike : Outcome → Outcome → Type 0 where
   completions : {pieces : List Piece} {value : Option Value}
       → EndAlike (CompleteOutcome pieces value) (CompleteOutcome pieces value)
-  requests : {request : Request} {positions others : List Position} → EndAlike (RequestOutcome request positions) (RequestOutcome request others)
+  requests : {request : Request} {positions others : List Position}
+      → EndAlike (RequestOutcome request positions) (RequestOutcome request others)
 
 -- the same requests in the same order, but for this one, which comes after the earlier ones
 pub record LacksOne (request : Request) (earlier whole lacking : List Request) : Type 0 where
@@ -132,5 +134,6 @@ Inlining =
     (requests : List Request)
     → HasNoLimits setup → StandsIn setup site offset → IsInlinable setup site
     → LeadsToCall setup site offset first earlier requests
-    → ((fault : Fault) → meaning setup Never (outer site) first (with_answer site first earlier later) ≢ FaultOutcome fault)
+    → ((fault : Fault) → meaning setup Never (outer site) first (with_answer site first earlier later) ≢ FaultOutcome
+    fault)
     → IsInlined setup site offset first earlier later requests

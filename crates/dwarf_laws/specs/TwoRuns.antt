@@ -27,7 +27,8 @@ path_of setup refusal text told = path_from setup refusal text told.inputs told.
 
 -- the outcome of all that was told before, once it was started, and the replies to the steps
 abbrev pub all_replies : Setup → Refusal → Text → Told → List Step → List Reply
-all_replies setup refusal text told steps = replies (outcome_of setup refusal text told) ++ replies_of setup refusal text told steps
+all_replies setup refusal text told steps =
+    replies (outcome_of setup refusal text told) ++ replies_of setup refusal text told steps
 
 -- Two evaluations of one text stand alike, by what each was told.
 pub record StandAlike (setup other : Setup) (refusal another : Refusal) (text : Text)
@@ -56,7 +57,8 @@ abbrev pub AreComparable : (setup other : Setup) (refusal another : Refusal) (te
     (steps others : List Step) → Type 0
 AreComparable setup other refusal another text told second steps others =
     ((setup.limits ≡ other.limits) × (refusal ≡ another))
-    ⊎ (NoneIsFull (all_replies setup refusal text told steps) × NoneIsFull (all_replies other another text second others))
+    ⊎ (NoneIsFull (all_replies setup refusal text told steps)
+    × NoneIsFull (all_replies other another text second others))
 
 -- Agreeing steps, from what was told before, under any limits and refusals. With nothing told on either side
 -- (`untold`) it speaks of whole evaluations.

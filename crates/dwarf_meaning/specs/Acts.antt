@@ -68,7 +68,9 @@ unary call values = on_top values short (λ x rest. on_result (result_of (call x
 
 -- the two on top become the call's result
 abbrev pub binary : (Value → Value → Result Value Error) → List Value → Act
-binary call values = on_top values short (λ y below. on_top below short (λ x rest. on_result (result_of (call x y)) FaultAct (push rest)))
+binary call values =
+    on_top values short (λ y below. on_top below short
+    (λ x rest. on_result (result_of (call x y)) FaultAct (push rest)))
 
 -- ---- operations that are done at once, and those that ask
 
@@ -76,8 +78,11 @@ binary call values = on_top values short (λ y below. on_top below short (λ x r
 unfoldable pub act : (bits : ℕ) (object : Option ℕ) → Operation → List Value → Act
 act bits object operation.Drop values = on_top values short (λ x rest. Pushes rest [])
 act bits object (operation.Pick index) values = on_some (slice_get values index) short (push values)
-act bits object operation.Swap values = on_top values short (λ y below. on_top below short (λ x rest. Pushes rest (y ∷ x ∷ [])))
-act bits object operation.Rot values = on_top values short (λ z below. on_top below short (λ y lower. on_top lower short (λ x rest. Pushes rest (z ∷ x ∷ y ∷ []))))
+act bits object operation.Swap values =
+    on_top values short (λ y below. on_top below short (λ x rest. Pushes rest (y ∷ x ∷ [])))
+act bits object operation.Rot values =
+    on_top values short (λ z below. on_top below short
+    (λ y lower. on_top lower short (λ x rest. Pushes rest (z ∷ x ∷ y ∷ []))))
 act bits object operation.Abs values = unary (abs_of bits) values
 act bits object operation.Neg values = unary (neg_of bits) values
 act bits object operation.Not values = unary (not_of bits) values
@@ -98,11 +103,14 @@ act bits object operation.Gt values = binary (gt_of bits) values
 act bits object operation.Le values = binary (le_of bits) values
 act bits object operation.Lt values = binary (lt_of bits) values
 act bits object operation.Ne values = binary (ne_of bits) values
-act bits object (operation.PlusConstant value) values = unary (λ x. add_of bits x (from_u64_of (type_of x) value)) values
+act bits object (operation.PlusConstant value) values =
+    unary (λ x. add_of bits x (from_u64_of (type_of x) value)) values
 act bits object (operation.UnsignedConstant value) values = push values (Generic value)
 act bits object (operation.SignedConstant value) values = push values (Generic (residue 64 value))
-act bits object operation.PushObjectAddress values = on_some object (FaultAct InvalidPushObjectAddress) (λ address. push values (Generic address))
-act bits object (operation.Bra target) values = on_top values short (λ x rest. choose (to_u64_of bits x == 0) (Pushes rest []) (Branches rest target))
+act bits object operation.PushObjectAddress values =
+    on_some object (FaultAct InvalidPushObjectAddress) (λ address. push values (Generic address))
+act bits object (operation.Bra target) values =
+    on_top values short (λ x rest. choose (to_u64_of bits x == 0) (Pushes rest []) (Branches rest target))
 act bits object (operation.Skip target) values = Branches values target
 act bits object operation.Nop values = Pushes values []
 act bits object (operation.VariableValue offset) values = FaultAct UnsupportedEvaluation
@@ -112,18 +120,26 @@ act bits object (operation.Deref base_type size false) values =
     (on_top values short (λ x rest. RequestAct rest (RequiresMemory (to_u64_of bits x) size None base_type) Memory))
 act bits object (operation.Deref base_type size true) values =
     choose (nat_lt bits (8 * size)) (FaultAct (InvalidDerefSize size))
-    (on_top values short (λ x below. on_top below short (λ y rest. RequestAct rest (RequiresMemory (to_u64_of bits x) size (Some (to_u64_of bits y)) base_type) Memory)))
-act bits object (operation.RegisterOffset register offset base_type) values = RequestAct values (RequiresRegister register base_type) (Register offset)
+    (on_top values short (λ x below. on_top below short
+        (λ y rest. RequestAct rest (RequiresMemory (to_u64_of bits x) size (Some (to_u64_of bits y)) base_type)
+        Memory)))
+act bits object (operation.RegisterOffset register offset base_type) values =
+    RequestAct values (RequiresRegister register base_type) (Register offset)
 act bits object (operation.FrameOffset offset) values = RequestAct values RequiresFrameBase (FrameBase offset)
-act bits object operation.TLS values = on_top values short (λ x rest. RequestAct rest (RequiresTls (to_u64_of bits x)) Tls)
+act bits object operation.TLS values =
+    on_top values short (λ x rest. RequestAct rest (RequiresTls (to_u64_of bits x)) Tls)
 act bits object operation.CallFrameCFA values = RequestAct values RequiresCallFrameCfa CallFrameCfa
 act bits object (operation.Call offset) values = RequestAct values (RequiresAtLocation offset) AtLocation
 act bits object (operation.EntryValue expression) values = RequestAct values (RequiresEntryValue expression) EntryValue
 act bits object (operation.ParameterRef offset) values = RequestAct values (RequiresParameterRef offset) ParameterRef
-act bits object (operation.Address address) values = RequestAct values (RequiresRelocatedAddress address) RelocatedAddress
-act bits object (operation.AddressIndex index) values = RequestAct values (RequiresIndexedAddress index true) IndexedAddress
-act bits object (operation.ConstantIndex index) values = RequestAct values (RequiresIndexedAddress index false) IndexedAddress
-act bits object (operation.TypedLiteral base_type value) values = RequestAct values (RequiresBaseType base_type) (TypedLiteral value)
+act bits object (operation.Address address) values =
+    RequestAct values (RequiresRelocatedAddress address) RelocatedAddress
+act bits object (operation.AddressIndex index) values =
+    RequestAct values (RequiresIndexedAddress index true) IndexedAddress
+act bits object (operation.ConstantIndex index) values =
+    RequestAct values (RequiresIndexedAddress index false) IndexedAddress
+act bits object (operation.TypedLiteral base_type value) values =
+    RequestAct values (RequiresBaseType base_type) (TypedLiteral value)
 act bits object (operation.Convert base_type) values = RequestAct values (RequiresBaseType base_type) Convert
 act bits object (operation.Reinterpret base_type) values = RequestAct values (RequiresBaseType base_type) Reinterpret
 act bits object (operation.WasmLocal index) values = RequestAct values (RequiresWasmLocal index) WasmValue
@@ -134,8 +150,10 @@ act bits object (operation.ImplicitValue bytes) values = Locates values (HoldsBy
 act bits object operation.StackValue values = on_top values short (λ x rest. Locates rest (HoldsValue x))
 act bits object (operation.ImplicitPointer value byte_offset) values = Locates values (PointsInto value byte_offset)
 act bits object (operation.Piece size_in_bits bit_offset) values =
-    on_top values (EndsPiece [] (record { size_in_bits = Some size_in_bits; bit_offset = bit_offset; location = Empty }))
-    (λ x rest. EndsPiece rest (record { size_in_bits = Some size_in_bits; bit_offset = bit_offset; location = AtAddress (to_u64_of bits x) }))
+    on_top values (EndsPiece [] (record { size_in_bits = Some size_in_bits; bit_offset = bit_offset;
+        location = Empty }))
+    (λ x rest. EndsPiece rest (record { size_in_bits = Some size_in_bits; bit_offset = bit_offset;
+        location = AtAddress (to_u64_of bits x) }))
 
 -- ---- what is done with an answer
 
@@ -149,14 +167,16 @@ pub data Use : Type 0 where
   -- the answer isn't of the kind that is waited for
   WrongKind : Use
 
--- What an answer is used for, by what waits for it; the values are those on the stack. An answer of another kind isn't used.
+-- What an answer is used for, by what waits for it; the values are those on the stack. An answer of another kind isn't
+-- used.
 unfoldable pub use_of : (bits : ℕ) → Waiting → Answer → List Value → Use
 use_of bits Memory (MemoryAnswer value) values = PushesAnswer values value
 use_of bits (Register offset) (RegisterAnswer x) values =
     on_result (result_of (add_of bits x (from_u64_of (type_of x) (residue 64 offset)))) FaultUse (PushesAnswer values)
 use_of bits WasmValue (WasmAnswer value) values = PushesAnswer values value
 use_of bits EntryValue (EntryAnswer value) values = PushesAnswer values value
-use_of bits (FrameBase offset) (FrameBaseAnswer number) values = PushesAnswer values (Generic (residue 64 (pos number +ℤ offset)))
+use_of bits (FrameBase offset) (FrameBaseAnswer number) values =
+    PushesAnswer values (Generic (residue 64 (pos number +ℤ offset)))
 use_of bits Tls (TlsAnswer number) values = PushesAnswer values (Generic number)
 use_of bits CallFrameCfa (CfaAnswer number) values = PushesAnswer values (Generic number)
 use_of bits ParameterRef (ParameterAnswer number) values = PushesAnswer values (Generic number)
@@ -166,7 +186,9 @@ use_of bits AtLocation (LocationAnswer text) values = Calls text
 use_of bits (TypedLiteral literal) (BaseTypeAnswer value_type) values =
     on_result (parse_of value_type literal.is_big literal.bytes) FaultUse (PushesAnswer values)
 use_of bits Convert (BaseTypeAnswer value_type) values =
-    on_top values (FaultUse NotEnoughStackItems) (λ x rest. on_result (result_of (convert_of bits value_type x)) FaultUse (PushesAnswer rest))
+    on_top values (FaultUse NotEnoughStackItems)
+        (λ x rest. on_result (result_of (convert_of bits value_type x)) FaultUse (PushesAnswer rest))
 use_of bits Reinterpret (BaseTypeAnswer value_type) values =
-    on_top values (FaultUse NotEnoughStackItems) (λ x rest. on_result (result_of (reinterpret_of bits value_type x)) FaultUse (PushesAnswer rest))
+    on_top values (FaultUse NotEnoughStackItems)
+        (λ x rest. on_result (result_of (reinterpret_of bits value_type x)) FaultUse (PushesAnswer rest))
 use_of bits _ _ values = WrongKind

@@ -13,16 +13,22 @@ use Rattle.dwarf_meaning.specs.Splitting.{Splitting, Joined, items_of, items_at}
 -- an operation is read exactly if a front spells it, and a fault is met exactly if the bytes are malformed, by it
 pub record ReadsExactlyTheSpelled (encoding : Encoding) (offset_bits : ℕ) (text : Text) : Type 0 where
   pub operation : (op : Operation) (rest : List ℕ)
-      → (operation_at encoding offset_bits text ≡ Ok (op, rest)) ↔ Begins (Spells encoding offset_bits text.is_big) text.bytes op rest
+      → (operation_at encoding offset_bits text ≡ Ok (op, rest))
+      ↔ Begins (Spells encoding offset_bits text.is_big) text.bytes op rest
   pub fault : (fault : Fault)
-      → (operation_at encoding offset_bits text ≡ Err fault) ↔ Malformed encoding offset_bits text.is_big text.bytes fault
+      → (operation_at encoding offset_bits text ≡ Err fault)
+      ↔ Malformed encoding offset_bits text.is_big text.bytes fault
 
 -- one front spells, and one operation, or the bytes are malformed by one fault, and never both
 pub record IsDecided (encoding : Encoding) (offset_bits : ℕ) (is_big : Bool) (bytes : List ℕ) : Type 0 where
-  pub either : ((op : Operation) × ((rest : List ℕ) × Begins (Spells encoding offset_bits is_big) bytes op rest)) ⊎ ((fault : Fault) × Malformed encoding offset_bits is_big bytes fault)
+  pub either : ((op : Operation) × ((rest : List ℕ) × Begins (Spells encoding offset_bits is_big) bytes op rest))
+      ⊎ ((fault : Fault) × Malformed encoding offset_bits is_big bytes fault)
   pub not_both : (op : Operation) (rest : List ℕ) (fault : Fault)
-      → Begins (Spells encoding offset_bits is_big) bytes op rest → Malformed encoding offset_bits is_big bytes fault → ⊥
-  pub one_front : (first second : Operation) (rest others : List ℕ) (a : Begins (Spells encoding offset_bits is_big) bytes first rest) (b : Begins (Spells encoding offset_bits is_big) bytes second others)
+      → Begins (Spells encoding offset_bits is_big) bytes op rest → Malformed encoding offset_bits is_big bytes fault
+      → ⊥
+  pub one_front : (first second : Operation) (rest others : List ℕ)
+      (a : Begins (Spells encoding offset_bits is_big) bytes first rest)
+      (b : Begins (Spells encoding offset_bits is_big) bytes second others)
       → a.front ≡ b.front
   pub one_operation : (first second : Operation) (rest others : List ℕ)
       → Begins (Spells encoding offset_bits is_big) bytes first rest
@@ -30,8 +36,10 @@ pub record IsDecided (encoding : Encoding) (offset_bits : ℕ) (is_big : Bool) (
   pub one_fault : (first second : Fault) → Malformed encoding offset_bits is_big bytes first
       → Malformed encoding offset_bits is_big bytes second → first ≡ second
 
--- an operation's bytes are some, are read the same whatever follows, and every front of them that lacks a byte is cut off
-pub record IsWhole (encoding : Encoding) (offset_bits : ℕ) (is_big : Bool) (bytes : List ℕ) (op : Operation) : Type 0 where
+-- an operation's bytes are some, are read the same whatever follows, and every front of them that lacks a byte is cut
+-- off
+pub record IsWhole (encoding : Encoding) (offset_bits : ℕ) (is_big : Bool) (bytes : List ℕ)
+    (op : Operation) : Type 0 where
   pub some_bytes : 0 < length bytes
   pub whatever_follows : (rest : List ℕ)
       → operation_at encoding offset_bits (record { bytes = bytes ++ rest; is_big = is_big }) ≡ Ok (op, rest)
@@ -49,7 +57,8 @@ pub record SplitsOnce (encoding : Encoding) (offset_bits : ℕ) (is_big : Bool) 
       → fault ≡ other
 
 -- A splitting has no more items than bytes, is what is read item by item, and is the longest list of operations.
-pub record IsSplitting (encoding : Encoding) (offset_bits : ℕ) (is_big : Bool) (bytes : List ℕ) (ops : List Operation) (fault : Option Fault) : Type 0 where
+pub record IsSplitting (encoding : Encoding) (offset_bits : ℕ) (is_big : Bool) (bytes : List ℕ) (ops : List Operation)
+    (fault : Option Fault) : Type 0 where
   pub items : items_at encoding offset_bits (record { bytes = bytes; is_big = is_big }) ≡ items_of ops fault
   pub few : length (items_of ops fault) ≤ length bytes
   pub whole : fault ≡ None → Joined encoding offset_bits is_big bytes ops

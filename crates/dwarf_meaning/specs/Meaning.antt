@@ -1,4 +1,5 @@
--- The meaning of an expression, for the settings and the answers of its caller (DWARF 5, sections 2.5, 2.6.1.1 and 2.6.1.2).
+-- The meaning of an expression, for the settings and the answers of its caller (DWARF 5, sections 2.5, 2.6.1.1 and
+-- 2.6.1.2).
 use Rattle.std.specs.Prelude.{Bool, true, false, ℕ, List, [], ◌∷◌, ◌++◌, Option, Some, None, Result, Ok, Err, length}
 use Rattle.dwarf_base.specs.Faults.{Fault}
 use Rattle.dwarf_base.specs.declared.errors.Error.TheVariants.{InvalidPiece, NotEnoughStackItems}
@@ -38,13 +39,15 @@ whole location = record { size_in_bits = None; bit_offset = None; location = loc
 
 -- after a location, which is the whole variable
 abbrev pub finish_located : Setup → Location → Store → Outcome
-finish_located setup location s = choose (has_pieces s.pieces) (FaultOutcome InvalidPiece) (completion_of None (push_piece setup (whole location) s))
+finish_located setup location s =
+    choose (has_pieces s.pieces) (FaultOutcome InvalidPiece) (completion_of None (push_piece setup (whole location) s))
 
 -- the top is the value, and the address of the whole variable
 abbrev pub finish_value : Setup → Store → Outcome
 finish_value setup s =
     on_top s.values (FaultOutcome NotEnoughStackItems)
-    (λ x rest. completion_of (Some x) (push_piece setup (whole (AtAddress (to_u64_of (address_bits setup) x))) (record s { values = rest })))
+    (λ x rest. completion_of (Some x) (push_piece setup (whole (AtAddress (to_u64_of (address_bits setup) x)))
+        (record s { values = rest })))
 
 -- after an operation that may not follow pieces
 abbrev pub finish_judged : Setup → Store → Outcome
@@ -70,7 +73,8 @@ finish setup s = finish_by setup s s.last
 -- The rest of the callers follows a run, inside out, and then the end.
 abbrev pub unwound : Setup → List Position → End → Outcome
 unwound setup [] (CompleteEnd s inputs) = finish setup s
-unwound setup (caller ∷ callers) (CompleteEnd s inputs) = unwound setup callers (run setup caller.text caller.place (length callers) s inputs).end
+unwound setup (caller ∷ callers) (CompleteEnd s inputs) =
+    unwound setup callers (run setup caller.text caller.place (length callers) s inputs).end
 unwound setup callers (RequestEnd request positions inputs) = RequestOutcome request (positions ++ callers)
 unwound setup callers (FaultEnd fault) = FaultOutcome fault
 
@@ -83,7 +87,8 @@ pub record First : Type 0 where
 -- what is kept at the start: nothing but the settings
 abbrev pub fresh : First → Refusal → Store
 fresh first refusal =
-    record { values = []; pieces = []; count = 0; object_address = first.object_address; maximum = first.maximum; last = Nothing; refusal = refusal }
+    record { values = []; pieces = []; count = 0; object_address = first.object_address; maximum = first.maximum;
+        last = Nothing; refusal = refusal }
 
 -- the initial value is pushed, if there is one
 abbrev pub with_initial : Setup → Option ℕ → Store → Result Store Fault
@@ -97,7 +102,8 @@ course_from setup text inputs (Err fault) = only_end (FaultEnd fault)
 
 -- the run of a text, from its settings and the inputs after them
 abbrev pub course_of : Setup → Refusal → Text → First → List Input → Course
-course_of setup refusal text first inputs = course_from setup text inputs (with_initial setup first.initial_value (fresh first refusal))
+course_of setup refusal text first inputs =
+    course_from setup text inputs (with_initial setup first.initial_value (fresh first refusal))
 
 -- the outcome of a text; its path and its requests are those of the course
 unfoldable pub meaning : Setup → Refusal → Text → First → List Input → Outcome

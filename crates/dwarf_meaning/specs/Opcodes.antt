@@ -107,7 +107,8 @@ lines encoding =
     ∷ range 0x70 0x8f (λ number. signed SignedLeb128 (λ offset. operation.RegisterOffset number offset 0))
     ∷ one 0x90 (unsigned RegisterNumber operation.Register)
     ∷ one 0x91 (signed SignedLeb128 operation.FrameOffset)
-    ∷ one 0x92 (unsigned_signed RegisterNumber SignedLeb128 (λ register offset. operation.RegisterOffset register offset 0))
+    ∷ one 0x92 (unsigned_signed RegisterNumber SignedLeb128
+    (λ register offset. operation.RegisterOffset register offset 0))
     ∷ one 0x93 (unsigned PieceSize (λ size. operation.Piece (8 * size) None))
     ∷ one 0x94 (unsigned (Fixed 1) (λ size. operation.Deref 0 size false))
     ∷ one 0x95 (unsigned (Fixed 1) (λ size. operation.Deref 0 size true))
@@ -126,7 +127,8 @@ lines encoding =
     ∷ one 0xa2 (unsigned Offset operation.ConstantIndex)
     ∷ one 0xa3 (sized_block Offset operation.EntryValue)
     ∷ one 0xa4 (Unsigned Offset (λ base_type. sized_block (Fixed 1) (operation.TypedLiteral base_type)))
-    ∷ one 0xa5 (unsigned_two RegisterNumber Offset (λ register base_type. operation.RegisterOffset register (pos 0) base_type))
+    ∷ one 0xa5 (unsigned_two RegisterNumber Offset
+    (λ register base_type. operation.RegisterOffset register (pos 0) base_type))
     ∷ one 0xa6 (unsigned_two (Fixed 1) Offset (λ size base_type. operation.Deref base_type size false))
     ∷ one 0xa7 (unsigned_two (Fixed 1) Offset (λ size base_type. operation.Deref base_type size true))
     ∷ one 0xa8 (unsigned Offset operation.Convert)
@@ -137,7 +139,8 @@ lines encoding =
     ∷ one 0xf2 (unsigned_signed InfoReference SignedLeb128 operation.ImplicitPointer)
     ∷ one 0xf3 (sized_block Offset operation.EntryValue)
     ∷ one 0xf4 (Unsigned Offset (λ base_type. sized_block (Fixed 1) (operation.TypedLiteral base_type)))
-    ∷ one 0xf5 (unsigned_two RegisterNumber Offset (λ register base_type. operation.RegisterOffset register (pos 0) base_type))
+    ∷ one 0xf5 (unsigned_two RegisterNumber Offset
+    (λ register base_type. operation.RegisterOffset register (pos 0) base_type))
     ∷ one 0xf6 (unsigned_two (Fixed 1) Offset (λ size base_type. operation.Deref base_type size false))
     ∷ one 0xf7 (unsigned Offset operation.Convert)
     ∷ one 0xf9 (unsigned Offset operation.Reinterpret)

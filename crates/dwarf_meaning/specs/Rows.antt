@@ -20,7 +20,8 @@ no_limits = record { values = None; callers = None; pieces = None }
 
 -- addresses of 4 bytes, the 32-bit format, version 4, offsets of 64 bits
 abbrev pub with_limits : Limits → Setup
-with_limits limits = record { encoding = record { address_size = 4; format = Dwarf32; version = 4 }; offset_bits = 64; limits = limits }
+with_limits limits =
+    record { encoding = record { address_size = 4; format = Dwarf32; version = 4 }; offset_bits = 64; limits = limits }
 
 -- the same without limits
 abbrev pub plain : Setup

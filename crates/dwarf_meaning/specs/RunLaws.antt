@@ -102,7 +102,8 @@ pub record ListsWithin (limits : Limits) (s : Store) : Type 0 where
   pub values : IsWithin limits.values (length s.values)
   pub pieces : IsWithin limits.pieces (length s.pieces)
 
--- the texts that are open in a run of a text at a depth of calls: callees, within the limit of callers, and one more, the text itself
+-- the texts that are open in a run of a text at a depth of calls: callees, within the limit of callers, and one more,
+-- the text itself
 pub record OpenTexts (limit : Option ℕ) (text : Text) (depth : ℕ) (positions : List Position) : Type 0 where
   pub callees : List Position
   pub place : ℕ
@@ -142,7 +143,8 @@ pub record IsCallee (inputs : List Input) (text : Text) : Type 0 where
 -- the texts that are open in a run of a text: the text alone, or those that are open in its callee and then the text
 pub data Open (inputs : List Input) : Text → List Position → Type 0 where
   alone : (position : Position) → Open inputs position.text (position ∷ [])
-  calling : (position : Position) (callee : Text) (positions : List Position) → IsCallee inputs callee → Open inputs callee positions
+  calling : (position : Position) (callee : Text) (positions : List Position) → IsCallee inputs callee
+      → Open inputs callee positions
       → Open inputs position.text (positions ++ position ∷ [])
 
 -- at a request the open texts are the text and callees

@@ -1,4 +1,5 @@
--- Which bytes spell which operation, and which texts are malformed: relations on whole lists of bytes (DWARF 5, sections 7.6 and 7.7.1).
+-- Which bytes spell which operation, and which texts are malformed: relations on whole lists of bytes (DWARF 5,
+-- sections 7.6 and 7.7.1).
 use Rattle.std.specs.Prelude.{ℕ, ◌*◌, ◌<◌, ◌≡◌, ℤ, Bool, true, false, List, [], ◌∷◌, ◌++◌, Ok, Err, length}
 use Rattle.dwarf_base.specs.declared.common.Encoding.{Encoding}
 use Rattle.dwarf_base.specs.Faults.{Fault, past_the_end, invalid_expression}

@@ -8,7 +8,8 @@ use Rattle.dwarf_meaning.specs.Decoding.{operation_at}
 use Rattle.dwarf_meaning.specs.Spelling.{Spells, Malformed}
 
 -- Operations whose spellings, joined, are the bytes; or, with a fault, a front of them, after which they are malformed.
-pub data Splitting (encoding : Encoding) (offset_bits : ℕ) (is_big : Bool) : List ℕ → List Operation → Option Fault → Type 0 where
+pub data Splitting (encoding : Encoding) (offset_bits : ℕ) (is_big : Bool) : List ℕ → List Operation → Option Fault
+    → Type 0 where
   ends : Splitting encoding offset_bits is_big [] [] None
   faults : (byte : ℕ) (bytes : List ℕ) (fault : Fault) → Malformed encoding offset_bits is_big (byte ∷ bytes) fault
       → Splitting encoding offset_bits is_big (byte ∷ bytes) [] (Some fault)
@@ -29,16 +30,19 @@ items_of [] (Some fault) = Err fault ∷ []
 items_of (op ∷ ops) fault = Ok op ∷ items_of ops fault
 
 -- what is read at the front, and then what is read after it
-abbrev pub item_then : Result (Operation × List ℕ) Fault → (List ℕ → List (Result Operation Fault)) → List (Result Operation Fault)
+abbrev pub item_then : Result (Operation × List ℕ) Fault → (List ℕ → List (Result Operation Fault))
+    → List (Result Operation Fault)
 item_then (Ok x) items = Ok x.0 ∷ items x.1
 item_then (Err fault) items = Err fault ∷ []
 
 -- the same items as they are read, up to this many
-abbrev pub items_within : (most : ℕ) → Encoding → (offset_bits : ℕ) → (is_big : Bool) → List ℕ → List (Result Operation Fault)
+abbrev pub items_within : (most : ℕ) → Encoding → (offset_bits : ℕ) → (is_big : Bool) → List ℕ
+    → List (Result Operation Fault)
 items_within zero encoding offset_bits is_big bytes = []
 items_within (suc most) encoding offset_bits is_big [] = []
 items_within (suc most) encoding offset_bits is_big (byte ∷ bytes) =
-    item_then (operation_at encoding offset_bits (record { bytes = byte ∷ bytes; is_big = is_big })) (items_within most encoding offset_bits is_big)
+    item_then (operation_at encoding offset_bits (record { bytes = byte ∷ bytes; is_big = is_big }))
+        (items_within most encoding offset_bits is_big)
 
 -- all of them: no more than there are bytes
 unfoldable pub items_at : Encoding → (offset_bits : ℕ) → Text → List (Result Operation Fault)

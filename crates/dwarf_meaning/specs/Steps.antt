@@ -17,7 +17,8 @@ pub data Step : Type 0 where
   Evaluate : Step
   Resume : (answer : Answer) → Step
 
--- What some steps told: the settings that hold now, those that held at the start, if there was one, and the inputs since.
+-- What some steps told: the settings that hold now, those that held at the start, if there was one, and the inputs
+-- since.
 pub record Told : Type 0 where
   pub settings : First
   pub first : Option First
@@ -83,8 +84,10 @@ heard settings inputs answer (Some (CompleteOutcome pieces value)) = inputs
 
 -- what was told once a step is done
 abbrev pub after : Told → Option Outcome → Step → Told
-after told outcome (InitialValue number) = record told { settings = record told.settings { initial_value = Some number } }
-after told outcome (ObjectAddress address) = record told { settings = record told.settings { object_address = Some address } }
+after told outcome (InitialValue number) =
+    record told { settings = record told.settings { initial_value = Some number } }
+after told outcome (ObjectAddress address) =
+    record told { settings = record told.settings { object_address = Some address } }
 after told outcome (MaxIterations maximum) = record told { settings = record told.settings { maximum = maximum } }
 after told outcome Evaluate = record told { first = Some (begun told.settings told.first) }
 after told outcome (Resume answer) = record told { inputs = heard told.settings told.inputs answer outcome }
@@ -129,10 +132,12 @@ module _ (setup : Setup) (refusal : Refusal) (text : Text) where
   -- each step is allowed when it comes
   abbrev pub AllAllowed : Told → List Step → Type 0
   AllAllowed told [] = Unit {0}
-  AllAllowed told (step ∷ steps) = Allows told (outcome_of setup refusal text told) step × AllAllowed (after_step told step) steps
+  AllAllowed told (step ∷ steps) =
+      Allows told (outcome_of setup refusal text told) step × AllAllowed (after_step told step) steps
 
   -- the replies to the steps, one after another: each the outcome of all that was told up to it
   abbrev pub replies_of : Told → List Step → List Reply
   replies_of told [] = []
   replies_of told (step ∷ steps) =
-      let told_now = after_step told step in step_replies step (outcome_of setup refusal text told_now) ++ replies_of told_now steps
+      let told_now = after_step told step
+          in step_replies step (outcome_of setup refusal text told_now) ++ replies_of told_now steps

@@ -1,4 +1,5 @@
--- What a run keeps beside texts and places, and the rule by which its lists take one more item (DWARF 5, sections 2.5.1, 2.5.1.5 and 2.6.1.2).
+-- What a run keeps beside texts and places, and the rule by which its lists take one more item (DWARF 5, sections
+-- 2.5.1, 2.5.1.5 and 2.6.1.2).
 use Rattle.std.specs.Prelude.{ℕ, ◌*◌, ◌≤◌, ℤ, pos, ◌+ℤ◌, List, [], ◌∷◌, ◌++◌, Option, Some, None, Result, Ok, Err, length, nat_lt}
 use Rattle.dwarf_base.specs.declared.common.Encoding.{Encoding}
 use Rattle.dwarf_base.specs.Faults.{Fault, ◌>>=◌}
@@ -56,11 +57,15 @@ pub record Store : Type 0 where
 
 -- a value, on top
 unfoldable pub push_value : Setup → Value → Store → Result Store Fault
-push_value setup value s = room setup.limits.values (length s.values) s.refusal >>= λ left. Ok (record s { values = value ∷ s.values; refusal = left })
+push_value setup value s =
+    room setup.limits.values (length s.values) s.refusal
+    >>= λ left. Ok (record s { values = value ∷ s.values; refusal = left })
 
 -- a piece, after the others
 unfoldable pub push_piece : Setup → Piece → Store → Result Store Fault
-push_piece setup piece s = room setup.limits.pieces (length s.pieces) s.refusal >>= λ left. Ok (record s { pieces = s.pieces ++ piece ∷ []; refusal = left })
+push_piece setup piece s =
+    room setup.limits.pieces (length s.pieces) s.refusal
+    >>= λ left. Ok (record s { pieces = s.pieces ++ piece ∷ []; refusal = left })
 
 -- a caller, if `depth` callers wait
 unfoldable pub push_caller : Setup → (depth : ℕ) → Store → Result Store Fault
@@ -94,9 +99,12 @@ branch len place s = choose (nat_lt len place) (FaultNext (BadBranchTarget place
 
 -- What an operation does to what is kept; `place` is the one after it, in a text of length `len`.
 abbrev pub done : Setup → (place len : ℕ) → Act → Store → Next
-done setup place len (Pushes rest pushed) s = goes place (push_values setup pushed (record s { values = rest; last = Plain }))
-done setup place len (Branches rest target) s = branch len (branch_target setup place target) (record s { values = rest; last = Plain })
+done setup place len (Pushes rest pushed) s =
+    goes place (push_values setup pushed (record s { values = rest; last = Plain }))
+done setup place len (Branches rest target) s =
+    branch len (branch_target setup place target) (record s { values = rest; last = Plain })
 done setup place len (Locates rest location) s = Goes place (record s { values = rest; last = Located location })
-done setup place len (EndsPiece rest piece) s = goes place (push_piece setup piece (record s { values = rest; last = Pieced }))
+done setup place len (EndsPiece rest piece) s =
+    goes place (push_piece setup piece (record s { values = rest; last = Pieced }))
 done setup place len (RequestAct rest request waiting) s = RequestNext request waiting (record s { values = rest })
 done setup place len (FaultAct fault) s = FaultNext fault

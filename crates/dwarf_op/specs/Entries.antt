@@ -100,13 +100,17 @@ rare_row encoding rare_entry.PickByte = unsigned (Fixed 1) meaning.Pick
 rare_row encoding rare_entry.SpaceDeref = Makes (meaning.Deref 0 encoding.address_size true)
 rare_row encoding rare_entry.SpaceDerefSize = unsigned (Fixed 1) (λ size. meaning.Deref 0 size true)
 rare_row encoding rare_entry.NamedRegister = unsigned RegisterNumber meaning.Register
-rare_row encoding rare_entry.NamedBaseRegister = unsigned_signed RegisterNumber SignedLeb128 (λ register offset. meaning.RegisterOffset register offset 0)
-rare_row encoding rare_entry.TypedRegister = unsigned_two RegisterNumber form.Offset (λ register base_type. meaning.RegisterOffset register (pos 0) base_type)
+rare_row encoding rare_entry.NamedBaseRegister =
+    unsigned_signed RegisterNumber SignedLeb128 (λ register offset. meaning.RegisterOffset register offset 0)
+rare_row encoding rare_entry.TypedRegister =
+    unsigned_two RegisterNumber form.Offset (λ register base_type. meaning.RegisterOffset register (pos 0) base_type)
 rare_row encoding rare_entry.BitPiece = unsigned_two Leb128 Leb128 (λ size offset. meaning.Piece size (Some offset))
 rare_row encoding rare_entry.ImplicitValue = sized_block form.Offset meaning.ImplicitValue
 rare_row encoding rare_entry.EntryValue = sized_block form.Offset meaning.EntryValue
-rare_row encoding rare_entry.TypedLiteral = Unsigned form.Offset (λ base_type. sized_block (Fixed 1) (meaning.TypedLiteral base_type))
-rare_row encoding (rare_entry.TypedDeref space) = unsigned_two (Fixed 1) form.Offset (λ size base_type. meaning.Deref base_type size space)
+rare_row encoding rare_entry.TypedLiteral =
+    Unsigned form.Offset (λ base_type. sized_block (Fixed 1) (meaning.TypedLiteral base_type))
+rare_row encoding (rare_entry.TypedDeref space) =
+    unsigned_two (Fixed 1) form.Offset (λ size base_type. meaning.Deref base_type size space)
 rare_row encoding rare_entry.ImplicitPointer = unsigned_signed InfoReference SignedLeb128 meaning.ImplicitPointer
 rare_row encoding rare_entry.WasmLocation = Unsigned (Fixed 1) wasm_row
 
@@ -126,7 +130,8 @@ entry_row encoding opcode entry.FrameOffset = signed SignedLeb128 meaning.FrameO
 entry_row encoding opcode entry.Bra = signed (SignedFixed 2) meaning.Bra
 entry_row encoding opcode entry.Skip = signed (SignedFixed 2) meaning.Skip
 entry_row encoding opcode (entry.Offset shape make) = unsigned (offset_form shape) (offset_operation make)
-entry_row encoding opcode (entry.BaseRegister register) = signed SignedLeb128 (λ offset. meaning.RegisterOffset register offset 0)
+entry_row encoding opcode (entry.BaseRegister register) =
+    signed SignedLeb128 (λ offset. meaning.RegisterOffset register offset 0)
 entry_row encoding opcode entry.Piece = unsigned PieceSize (λ size. meaning.Piece (8 * size) None)
 entry_row encoding opcode (entry.Rare rare) = rare_row encoding rare
 

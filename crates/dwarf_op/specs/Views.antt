@@ -45,7 +45,8 @@ operation_of text number (operation.Skip target) = meaning.Skip target
 operation_of text number (operation.UnsignedConstant value) = meaning.UnsignedConstant value
 operation_of text number (operation.SignedConstant value) = meaning.SignedConstant value
 operation_of text number (operation.Register register) = meaning.Register register.0
-operation_of text number (operation.RegisterOffset register offset base_type) = meaning.RegisterOffset register.0 offset (number base_type.0)
+operation_of text number (operation.RegisterOffset register offset base_type) =
+    meaning.RegisterOffset register.0 offset (number base_type.0)
 operation_of text number (operation.FrameOffset offset) = meaning.FrameOffset offset
 operation_of text number operation.Nop = meaning.Nop
 operation_of text number operation.PushObjectAddress = meaning.PushObjectAddress
@@ -55,13 +56,15 @@ operation_of text number operation.CallFrameCFA = meaning.CallFrameCFA
 operation_of text number (operation.Piece size_in_bits bit_offset) = meaning.Piece size_in_bits bit_offset
 operation_of text number (operation.ImplicitValue bytes) = meaning.ImplicitValue (text bytes)
 operation_of text number operation.StackValue = meaning.StackValue
-operation_of text number (operation.ImplicitPointer value byte_offset) = meaning.ImplicitPointer (number value.0) byte_offset
+operation_of text number (operation.ImplicitPointer value byte_offset) =
+    meaning.ImplicitPointer (number value.0) byte_offset
 operation_of text number (operation.EntryValue expression) = meaning.EntryValue (text expression)
 operation_of text number (operation.ParameterRef offset) = meaning.ParameterRef (number offset.0)
 operation_of text number (operation.Address address) = meaning.Address address
 operation_of text number (operation.AddressIndex index) = meaning.AddressIndex (number index.0)
 operation_of text number (operation.ConstantIndex index) = meaning.ConstantIndex (number index.0)
-operation_of text number (operation.TypedLiteral base_type value) = meaning.TypedLiteral (number base_type.0) (text value)
+operation_of text number (operation.TypedLiteral base_type value) =
+    meaning.TypedLiteral (number base_type.0) (text value)
 operation_of text number (operation.Convert base_type) = meaning.Convert (number base_type.0)
 operation_of text number (operation.Reinterpret base_type) = meaning.Reinterpret (number base_type.0)
 operation_of text number operation.Uninitialized = meaning.Uninitialized

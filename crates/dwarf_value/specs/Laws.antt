@@ -41,7 +41,8 @@ OneHolds a b c = (Holds a × Fails b × Fails c) ⊎ (Fails a × Holds b × Fail
 
 -- of two values of one type, the first is below, equal to or above the second
 abbrev pub Trichotomy : Type 0
-Trichotomy = (w : ℕ) (x y : Value) → IsWidth w → type_of x ≡ type_of y → OneHolds (lt_of w x y) (eq_of w x y) (gt_of w x y)
+Trichotomy =
+    (w : ℕ) (x y : Value) → IsWidth w → type_of x ≡ type_of y → OneHolds (lt_of w x y) (eq_of w x y) (gt_of w x y)
 
 -- one of two results is 1, and the other 0
 abbrev pub AreOpposite : (first second : Result Value Error) → Type 0
@@ -51,15 +52,18 @@ AreOpposite a b = (Holds a × Fails b) ⊎ (Fails a × Holds b)
 abbrev pub Opposites : Type 0
 Opposites =
     (w : ℕ) (x y : Value) → IsWidth w → type_of x ≡ type_of y
-    → AreOpposite (ne_of w x y) (eq_of w x y) × AreOpposite (ge_of w x y) (lt_of w x y) × AreOpposite (le_of w x y) (gt_of w x y)
+    → AreOpposite (ne_of w x y) (eq_of w x y) × AreOpposite (ge_of w x y) (lt_of w x y)
+    × AreOpposite (le_of w x y) (gt_of w x y)
 
 -- ---- arithmetic
 
 -- the quotient times the divisor, plus the remainder, is the dividend, at each type but the generic one
 abbrev pub QuotientAndRemainder : Type 0
 QuotientAndRemainder =
-    (w : ℕ) (x y : Value) → IsWidth w → InRange x → type_of x ≢ kind.Generic → type_of x ≡ type_of y → unsigned_integer w y ≢ pos 0
-    → (quotient remainder product : Value) × (div_of w x y ≡ Ok quotient) × (rem_of w x y ≡ Ok remainder) × (mul_of w quotient y ≡ Ok product) × (add_of w product remainder ≡ Ok x)
+    (w : ℕ) (x y : Value) → IsWidth w → InRange x → type_of x ≢ kind.Generic → type_of x ≡ type_of y
+        → unsigned_integer w y ≢ pos 0
+    → (quotient remainder product : Value) × (div_of w x y ≡ Ok quotient) × (rem_of w x y ≡ Ok remainder)
+    × (mul_of w quotient y ≡ Ok product) × (add_of w product remainder ≡ Ok x)
 
 -- to negate twice, at a signed type
 abbrev pub NegateTwice : Type 0
@@ -71,13 +75,15 @@ NegateTwice =
 abbrev pub NegateTwiceGeneric : Type 0
 NegateTwiceGeneric =
     (w n : ℕ) → IsWidth w
-    → (negated again : Value) × (neg_of w (Generic n) ≡ Ok negated) × (neg_of w negated ≡ Ok again) × Agree w (Generic n) again
+    → (negated again : Value) × (neg_of w (Generic n) ≡ Ok negated) × (neg_of w negated ≡ Ok again)
+    × Agree w (Generic n) again
 
 -- to a type of the same size, and back
 abbrev pub ReinterpretTwice : Type 0
 ReinterpretTwice =
     (w : ℕ) (t : ValueType) (x : Value) → IsWidth w → InRange x → bit_size_of w (type_of x) ≡ bit_size_of w t
-    → (there back : Value) × (reinterpret_of w t x ≡ Ok there) × (reinterpret_of w (type_of x) there ≡ Ok back) × Agree w x back
+    → (there back : Value) × (reinterpret_of w t x ≡ Ok there) × (reinterpret_of w (type_of x) there ≡ Ok back)
+    × Agree w x back
 
 -- ---- agreement
 
@@ -94,12 +100,15 @@ SameForOne result = (w : ℕ) (x x' : Value) → Agree w x x' → result w x ≡
 abbrev pub SameForTwo : (ℕ → Value → Value → Result Value Error) → Type 0
 SameForTwo result = (w : ℕ) (x x' y y' : Value) → Agree w x x' → Agree w y y' → result w x y ≡ result w x' y'
 
--- agreeing arguments give agreeing results, and equal ones but for `reinterpret`, which reads all bits of a generic value
+-- agreeing arguments give agreeing results, and equal ones but for `reinterpret`, which reads all bits of a generic
+-- value
 pub record AgreementIsKept : Type 0 where
   pub to_u64 : (w : ℕ) (x x' : Value) → Agree w x x' → to_u64_of w x ≡ to_u64_of w x'
   pub convert : (t : ValueType) → SameForOne (λ w. convert_of w t)
-  pub reinterpret : (w : ℕ) (t : ValueType) (x x' : Value) → IsWidth w → Agree w x x' → AgreeingResults w (reinterpret_of w t x) (reinterpret_of w t x')
-  pub add_constant : (w n : ℕ) (x x' : Value) → Agree w x x' → add_of w x (from_u64_of (type_of x) n) ≡ add_of w x' (from_u64_of (type_of x') n)
+  pub reinterpret : (w : ℕ) (t : ValueType) (x x' : Value) → IsWidth w → Agree w x x'
+      → AgreeingResults w (reinterpret_of w t x) (reinterpret_of w t x')
+  pub add_constant : (w n : ℕ) (x x' : Value) → Agree w x x'
+      → add_of w x (from_u64_of (type_of x) n) ≡ add_of w x' (from_u64_of (type_of x') n)
   pub abs : SameForOne abs_of
   pub neg : SameForOne neg_of
   pub not : SameForOne not_of

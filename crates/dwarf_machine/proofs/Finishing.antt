@@ -10,9 +10,9 @@ use Rattle.dwarf_meaning.specs.Locations.{AtAddress, Piece}
 use Rattle.dwarf_meaning.specs.Requests.{Input}
 use Rattle.dwarf_meaning.specs.Acts.{choose}
 use Rattle.dwarf_meaning.specs.RunLaws.{waits_of}
-use Rattle.dwarf_meaning.specs.Stores.{Setup, address_bits, Store, push_piece}
+use Rattle.dwarf_meaning.specs.Stores.{Setup, address_bits, Store, Last, Nothing, Plain, Pieced, Pushed, Called, Located, push_piece}
 use Rattle.dwarf_meaning.specs.Run.{Position, CompleteEnd, only_end, turn_by, run}
-use Rattle.dwarf_meaning.specs.Meaning.{Outcome, FaultOutcome, CompleteOutcome, completion_of, has_pieces, whole, finish_value, finish}
+use Rattle.dwarf_meaning.specs.Meaning.{Outcome, FaultOutcome, CompleteOutcome, completion_of, has_pieces, whole, finish_value, finish_by, finish}
 use Rattle.dwarf_meaning.specs.Rest.{State, Status, Start, Running, RequestStatus, CompleteStatus, FaultStatus, with_refusal}
 use Rattle.dwarf_meaning.specs.Refusals.{Refusal, Never, before_pushes}
 use Rattle.dwarf_meaning.proofs.Choices.{choose_true, choose_false, top_none, top_some}
@@ -20,7 +20,7 @@ use Rattle.dwarf_meaning.proofs.Counts.{HasTally, OnStore, Tally, tally_of, tall
 use Rattle.dwarf_meaning.proofs.Turns.{run_turn}
 use Rattle.dwarf_machine.specs.Bounds.{endings, faults_in}
 use Rattle.dwarf_machine.specs.Inputs.{Keeps, with_status}
-use Rattle.dwarf_machine.specs.inner.Steps.{Does, Refused, Stays, Pops, total, ComesBy, GoesBack, Adds, ClosesBy, Closes, Turns, with_store, with_values}
+use Rattle.dwarf_machine.specs.inner.Steps.{Does, Refused, Stays, Pops, total, ComesBy, GoesBack, Adds, ClosesBy, Closes, IsFree, Turns, with_store, with_values}
 use Rattle.dwarf_machine.proofs.Reaching.{may_along}
 use Rattle.dwarf_machine.proofs.Endings.{EndsAlike, finish_alike}
 use Rattle.dwarf_machine.proofs.Loads.{Extended, piece_extends}
@@ -127,6 +127,22 @@ stands g old new e is =
       kept = record { setup = ap (λ (z : State). z.setup) is; object_address = ap (λ (z : State). z.store.object_address) is; maximum = ap (λ (z : State). z.store.maximum) is };
       adds = record { items = omega (arith, values, pieces); count = ap (λ (z : State). z.store.count) is };
     })
+
+-- the end, by the last operation
+pub finish_as : (last : Last) (old new : State) → old.store.last ≡ last → Closes (waits_of last) (λ s. finish_by old.setup s last) old new → Closes (waits_of old.store.last) (finish old.setup) old new
+finish_as last old new e h =
+    let more = waits_of old.store.last in
+    closes_as (λ s. finish_by old.setup s old.store.last) (finish old.setup) more more old old new (omega arith) (stays_here old) (λ r. refl) (λ s status. refl)
+    (subst (λ (l : Last). Closes (waits_of l) (λ s. finish_by old.setup s l) old new) (sym e) h)
+
+-- with the value on top, without pieces, where no location waits
+pub finish_plain : (last : Last) (old new : State) → old.store.last ≡ last → IsFree last → has_pieces old.store.pieces ≡ false → Closes 0 (finish_value old.setup) old new → Closes (waits_of old.store.last) (finish old.setup) old new
+finish_plain Nothing old new e free none h = finish_as Nothing old new e (closes_else 0 (λ s. CompleteOutcome s.pieces None) (finish_value old.setup) old new none h)
+finish_plain Plain old new e free none h = finish_as Plain old new e (closes_else 0 (λ s. FaultOutcome InvalidPiece) (finish_value old.setup) old new none h)
+finish_plain Pieced old new e free none h = finish_as Pieced old new e (closes_else 0 (λ s. CompleteOutcome s.pieces None) (finish_value old.setup) old new none h)
+finish_plain Pushed old new e free none h = finish_as Pushed old new e (closes_else 0 (λ s. FaultOutcome InvalidPiece) (finish_value old.setup) old new none h)
+finish_plain Called old new e free none h = finish_as Called old new e (closes_else 0 (λ s. CompleteOutcome s.pieces None) (finish_value old.setup) old new none h)
+finish_plain (Located location) old new e free none h = absurd free
 
 -- the value on top is the result
 abbrev pub top_done : Setup → Store → Value → List Value → Outcome

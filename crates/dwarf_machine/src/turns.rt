@@ -1,6 +1,6 @@
 ghost use Rattle.std.specs.Prelude.{◌≡◌, ◌==◌, ◌<◌, length, true, false};
 ghost use Rattle.dwarf_base.specs.Reads.{IsLeftOf};
-ghost use Rattle.dwarf_meaning.specs.Meaning.{whole as meant_whole, completion_of, finish, finish_free, finish_judged, finish_located, finish_value};
+ghost use Rattle.dwarf_meaning.specs.Meaning.{whole as meant_whole, completion_of, finish, finish_value};
 ghost use Rattle.dwarf_meaning.specs.Rest.{Running, Start};
 ghost use Rattle.dwarf_meaning.specs.Run.{piece_ended_by};
 ghost use Rattle.dwarf_meaning.specs.RunLaws.{waits_of};
@@ -140,57 +140,27 @@ impl<R: Reader + Copy, S: EvaluationStorage<R>> Machine<R, S> {
         self.complete(whole(Location::Address { address }), Some(value));
     }
 
-    /// Ends the run with a location that waits for a piece.
-    fn finish_located(&mut self, location: Location<R>)
-        requires { self.old.status ≡ Running }
-        ensures { Closes 1
-            (finish_located self.old.setup (location_of R.text R.Offset.number location))
-            self.old self.new }
-    {
-        if self.has_pieces() {
-            self.fail(Error::InvalidPiece);
-            return;
-        }
-        self.complete(whole(location), None);
-    }
-
-    /// Ends the run behind an operation that may not follow pieces.
-    fn finish_judged(&mut self)
-        requires { self.old.status ≡ Running }
-        ensures { Closes 0 (finish_judged self.old.setup) self.old self.new }
-    {
-        if self.has_pieces() {
-            self.fail(Error::InvalidPiece);
-            return;
-        }
-        self.finish_value();
-    }
-
-    /// Ends the run behind another operation.
-    fn finish_free(&mut self)
-        requires { self.old.status ≡ Running }
-        ensures { Closes 0 (finish_free self.old.setup) self.old self.new }
-    {
-        if self.has_pieces() {
-            self.enter(EvaluationState::Complete(None));
-            return;
-        }
-        self.finish_value();
-    }
-
-    /// Ends the run.
+    /// Ends the run: with the pieces, if its last operation may follow them, or else with one piece.
     fn finish(&mut self)
         requires { self.old.status ≡ Running }
         ensures { Closes (waits_of self.old.store.last) (finish self.old.setup) self.old self.new }
     {
-        match self.last() {
-            LastOperation::Located(location) => self.finish_located(location),
-            LastOperation::Plain => self.finish_judged(),
-            LastOperation::Pushed => self.finish_judged(),
-            LastOperation::Nothing => self.finish_free(),
-            LastOperation::Pieced => self.finish_free(),
-            LastOperation::Called => self.finish_free(),
+        if self.has_pieces() {
+            match self.last() {
+                LastOperation::Nothing => self.enter(EvaluationState::Complete(None)),
+                LastOperation::Plain => self.fail(Error::InvalidPiece),
+                LastOperation::Pieced => self.enter(EvaluationState::Complete(None)),
+                LastOperation::Pushed => self.fail(Error::InvalidPiece),
+                LastOperation::Called => self.enter(EvaluationState::Complete(None)),
+                LastOperation::Located(_) => self.fail(Error::InvalidPiece),
+            }
+            return;
         }
+        let Some(location) = self.located() else {
+            self.finish_value();
+            return;
+        };
+        self.complete(whole(location), None);
     }
 
     /// Leaves the running text at its end.

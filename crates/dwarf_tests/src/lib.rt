@@ -2,6 +2,8 @@
 #![tactic(auto)]
 
 #[cfg(test)]
+mod allocators;
+#[cfg(test)]
 mod evaluation;
 #[cfg(test)]
 mod operations;

@@ -1,16 +1,17 @@
-//! Each push of an evaluation is refused in turn.
+//! Each push of an evaluation is refused in turn, and each growth of its lists and of the answers.
 ghost use Rattle.std.specs.Prelude.{◌≡◌, [], None};
 
+use crate::allocators::{NEVER, RefusesGrowth};
 use crate::evaluation::{COMPLETE, SMALL, Slice, little, replayed};
 use crate::replays::{AGAIN, FULL, ITSELF};
 use dwarf_base::{Error, Reader};
 use dwarf_eval::eval::{Evaluation, Status};
-use dwarf_eval::op::Piece;
-use dwarf_replay::{Answer, Replayed, Step};
-use dwarf_store::{ArrayLike, EvaluationStorage};
+use dwarf_eval::op::{Expression, Piece};
+use dwarf_replay::{Answer, Replayed, Step, Stepped, take_step};
+use dwarf_store::{ArrayLike, EvaluationStorage, StoreOnHeap};
 use dwarf_value::Value::{self, Generic};
 use dwarf_value::ValueType;
-use std::alloc::{AllocError, Global};
+use std::alloc::{AllocError, Allocator, Global};
 use std::process::Abort;
 
 // A list without a limit, one push of which is refused.
@@ -53,9 +54,6 @@ impl<T: Copy> ArrayLike for RefusesOne<T> {
         self.items.push(item).map_err(|failed| failed.value)
     }
 }
-
-// More pushes than any of these evaluations makes.
-const NEVER: u64 = u64::MAX;
 
 struct ListsOfTests;
 
@@ -153,6 +151,61 @@ fn expect_push(
     Ok(())
 }
 
+// Takes the case's steps. The call that meets the refusal answers the fault, and so does each later one.
+fn expect_steps<'a, S: EvaluationStorage<Slice<'a>>>(
+    rt: &impl Abort,
+    mut eval: Evaluation<Slice<'a>, S>,
+    case: &Refusal<'a>,
+    memory: &RefusesGrowth<Global>,
+) {
+    for (step, told) in case.steps.iter().zip(case.told) {
+        let stepped = take_step(&mut eval, *step);
+        let wanted = if memory.has_refused() { FULL } else { *told };
+        assert!(rt; stepped == Stepped::Answered(wanted));
+    }
+}
+
+// Replays the case, and keeps the answers in memory one growth of which may be refused. If it is, the answer that meets
+// the refusal is handed back. Says whether one was.
+fn expect_answers<A: Allocator>(
+    rt: &impl Abort,
+    alloc: Global,
+    case: &Refusal<'_>,
+    memory: A,
+) -> bool {
+    let mut eval = Evaluation::new(alloc, little(case.text), SMALL);
+    let mut answers = Vec::new(memory);
+    let outcome = replayed(rt, alloc, &mut eval, case.steps, &mut answers);
+    assert!(rt; case.told.starts_with(answers.as_slice()));
+    let Some(answer) = case.told.get(answers.len()) else {
+        assert!(rt; outcome.end == Replayed::Done);
+        return false;
+    };
+    let refused = Replayed::NoRoom {
+        index: answers.len(),
+        answer: *answer,
+    };
+    assert!(rt; outcome.end == refused);
+    true
+}
+
+// More growths than the lists of one of these cases have together.
+const GROWTHS: u64 = 16;
+
+// Each growth is refused in turn, of the lists and of the answers.
+fn expect_refused_growths(rt: &impl Abort, alloc: Global, case: &Refusal<'_>) {
+    for before in 0..GROWTHS {
+        let memory = RefusesGrowth::new(alloc, before);
+        let eval = Evaluation::new(&memory, little(case.text), SMALL);
+        expect_steps(rt, eval, case, &memory);
+        let answers = RefusesGrowth::new(alloc, before);
+        let is_refused = expect_answers(rt, alloc, case, &answers);
+        assert!(rt; is_refused == answers.has_refused());
+        assert!(rt; before > 0 || memory.has_refused() && answers.has_refused());
+        assert!(rt; before < GROWTHS - 1 || !memory.has_refused() && !answers.has_refused());
+    }
+}
+
 // Each push is refused in turn, of each list, from the first until a run meets none: so many of each.
 fn expect_refusals(
     rt: &impl Abort,
@@ -169,6 +222,7 @@ fn expect_refusals(
     for push in 0..=pushes[2] {
         expect_push(rt, alloc, case, [NEVER, NEVER, push], push < pushes[2])?;
     }
+    expect_refused_growths(rt, alloc, case);
     Ok(())
 }
 
@@ -213,4 +267,29 @@ fn refused_pushes(rt: HostRuntime) -> Result<(), AllocError> {
         pieces: 1,
     };
     expect_refusals(&rt, rt.alloc(), &case, [1, 10, 1])
+}
+
+// Begins in each way, and once more.
+fn begin<A: Allocator + Copy>(memory: A) {
+    let text = little(&[0x31]);
+    let mut eval: Evaluation<Slice<'_>, StoreOnHeap<A>> = Evaluation::new_in(
+        text,
+        SMALL,
+        Vec::new(memory),
+        Vec::new(memory),
+        Vec::new(memory),
+    );
+    eval.restart(text, SMALL);
+    eval = Evaluation::new(memory, text, SMALL);
+    eval.restart(text, SMALL);
+    eval = Expression(text).evaluation(memory, SMALL);
+    eval.restart(text, SMALL);
+}
+
+// An evaluation takes no memory before it has to keep something.
+#[test]
+fn begins_without_memory(rt: HostRuntime) {
+    let memory = RefusesGrowth::new(rt.alloc(), NEVER);
+    begin(&memory);
+    assert!(rt; memory.before() == NEVER);
 }

@@ -282,16 +282,19 @@ static void all_pieces(void)
 
     begin("the same block in the called text", "a3 01 55 98 0500"), start();
     step(DWEXPR_ANSWER_ENTRY_VALUE, DWEXPR_GENERIC, 1, 0), step(DWEXPR_ANSWER_LOCATION, 0, 0, 2);
-    texts[2].bytes = (const uint8_t *)"\x96\x96\xa3\x01\x55", texts[2].length = 5;
+    texts[2].bytes = (const uint8_t *)"\x96\x96\xa3\x01\x55\xa3\x01\x55", texts[2].length = 8;
     run(LE8, 3);
     want.request = DWEXPR_WANTS_ENTRY_VALUE, want.block_text = 2, want.block_offset = 4, want.block_length = 1, expect();
+    step(DWEXPR_ANSWER_ENTRY_VALUE, DWEXPR_GENERIC, 1, 0), run(LE8, 3);
+    want.request = DWEXPR_WANTS_ENTRY_VALUE, want.block_text = 2, want.block_offset = 7, want.block_length = 1, expect();
 
     begin("the same bytes in the called text", "9e 01 55 93 01 98 0500"), start(), step(DWEXPR_ANSWER_LOCATION, 0, 0, 2);
-    texts[2].bytes = (const uint8_t *)"\x96\x9e\x01\x55\x93\x01", texts[2].length = 6;
+    texts[2].bytes = (const uint8_t *)"\x96\x9e\x01\x55\x93\x01\x9e\x01\x55\x93\x01", texts[2].length = 11;
     run(LE8, 3);
-    want.request = DWEXPR_COMPLETE, want.pieces = 2, expect();
+    want.request = DWEXPR_COMPLETE, want.pieces = 3, expect();
     check(pieces[0].block_text == 0 && pieces[0].block_offset == 2, name, "the place of the first bytes");
     check(pieces[1].block_text == 2 && pieces[1].block_offset == 3, name, "the place of the second bytes");
+    check(pieces[2].block_text == 2 && pieces[2].block_offset == 8, name, "the place of the third bytes");
 }
 
 static void faults(void)

@@ -156,11 +156,11 @@ pub(crate) fn expect(
     answers: &[Answer<Slice<'_>>],
     case: &Case<'_>,
 ) {
-    assert!(rt; answers == case.told, "{:?}", case.text);
-    assert!(rt; outcome.end == case.end, "{:?}", case.text);
-    assert!(rt; outcome.status == case.status, "{:?}", case.text);
-    assert!(rt; outcome.value == case.value, "{:?}", case.text);
-    assert!(rt; outcome.pieces.as_slice() == case.pieces, "{:?}", case.text);
+    assert!(rt; answers == case.told);
+    assert!(rt; outcome.end == case.end);
+    assert!(rt; outcome.status == case.status);
+    assert!(rt; outcome.value == case.value);
+    assert!(rt; outcome.pieces.as_slice() == case.pieces);
 }
 
 /// Replays the case on a fresh evaluation, and again after a restart.
@@ -243,8 +243,7 @@ pub(crate) fn whole(location: Location<Slice<'_>>) -> Piece<Slice<'_>> {
 }
 
 // With an initial value of 1, an object at 5 and at most three operations, `33 97 22` is 8.
-#[test]
-fn ways_to_begin(rt: HostRuntime) {
+fn expect_ways<A: Allocator + Copy>(rt: &impl Abort, alloc: Global, memory: A) {
     let steps = [
         Step::InitialValue(1),
         Step::ObjectAddress(5),
@@ -261,18 +260,22 @@ fn ways_to_begin(rt: HostRuntime) {
         &pieces,
     );
     let text = little(case.text);
-    let alloc = rt.alloc();
-    expect_with_room::<2>(&rt, alloc, &case);
-    expect_of(&rt, alloc, Expression(text).evaluation(alloc, SMALL), &case);
-    let lists: Evaluation<Slice<'_>, StoreOnHeap<Global>> = Evaluation::new_in(
+    expect_with_room::<2>(rt, alloc, &case);
+    expect_of(rt, alloc, Expression(text).evaluation(memory, SMALL), &case);
+    let lists: Evaluation<Slice<'_>, StoreOnHeap<A>> = Evaluation::new_in(
         text,
         SMALL,
-        Vec::new(alloc),
-        Vec::new(alloc),
-        Vec::new(alloc),
+        Vec::new(memory),
+        Vec::new(memory),
+        Vec::new(memory),
     );
-    expect_of(&rt, alloc, lists, &case);
-    expect_over_lists::<3, 0, 1>(&rt, alloc, &case);
+    expect_of(rt, alloc, lists, &case);
+    expect_over_lists::<3, 0, 1>(rt, alloc, &case);
+}
+
+#[test]
+fn ways_to_begin(rt: HostRuntime) {
+    expect_ways(&rt, rt.alloc(), rt.alloc());
 }
 
 // After settings, a fault, an open request, and pieces.

@@ -96,9 +96,9 @@ fn count_items(rt: &impl Abort, text: &[u8], wanted: &[Operation<Slice<'_>>]) ->
     let mut count = 0;
     let mut failed = false;
     for item in Expression(little(text)).operations(SMALL) {
-        assert!(rt; count < text.len() && !failed, "{text:?}");
+        assert!(rt; count < text.len() && !failed);
         if count < wanted.len() {
-            assert!(rt; item == Ok(wanted[count]), "{text:?}");
+            assert!(rt; item == Ok(wanted[count]));
         }
         failed = item.is_err();
         count += 1;

@@ -134,6 +134,6 @@ Inlining =
     (requests : List Request)
     → HasNoLimits setup → StandsIn setup site offset → IsInlinable setup site
     → LeadsToCall setup site offset first earlier requests
-    → ((fault : Fault) → meaning setup Never (outer site) first (with_answer site first earlier later) ≢ FaultOutcome
-    fault)
+    → ((fault : Fault)
+    → meaning setup Never (outer site) first (with_answer site first earlier later) ≢ FaultOutcome fault)
     → IsInlined setup site offset first earlier later requests

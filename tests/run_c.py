@@ -4,9 +4,9 @@
 - tests/c/*.c: each field of each operation and outcome, each code, guard pages, a signal handler; as they are, and
   built with the sanitizers of addresses and of undefined behaviour. decode.c is given the vectors of
   tests/vectors/decode.json, and cut.c the expressions of tests/rows.
-- include: the headers, without a warning as C11, C17 and C++17. The structs of the crate and of wrapper/ have the fields
+- include: the headers, without a warning as C11, C17 and C++17. The structs of the crate and of rust/ have the fields
   of dwexpr.h, by name, type and order, and so the places that it asserts.
-- wrapper/: its tests, by rustc alone and by cargo.
+- rust/: its tests, by rustc alone and by cargo.
 - examples/: decode is compared with what it is to print. expressions and where need libdw, and are run where it is;
   what where prints is compared with gdb, where that is.
 
@@ -125,7 +125,7 @@ def places_of(fields):
 def layout():
     header = (TOP / "include/dwexpr.h").read_text()
     crate = "\n".join(path.read_text() for path in sorted((CRATE / "src").glob("*.rt")))
-    wrapper = (TOP / "wrapper/src/raw.rs").read_text()
+    wrapper = (TOP / "rust/src/raw.rs").read_text()
     for name in STRUCTS:
         body = re.search(rf"typedef struct dwexpr_{name} {{\n(.*?)\n}} dwexpr_{name};", header, re.DOTALL)
         declared = re.findall(r"^    (const uint8_t \*|\w+)\s*(\w+);", body.group(1), re.MULTILINE)
@@ -139,7 +139,7 @@ def layout():
         count_one(f"layout of {name}: places", [(field, int(place)) for field, place in asserted], places)
         count_one(f"layout of {name}: sizes", in_crate + in_header, [str(size)] * 2)
     version = re.search(r'DWEXPR_VERSION "(.*)"', header).group(1)
-    in_wrapper = re.search(r'^version = "(.*)"', (TOP / "wrapper/Cargo.toml").read_text(), re.MULTILINE).group(1)
+    in_wrapper = re.search(r'^version = "(.*)"', (TOP / "rust/Cargo.toml").read_text(), re.MULTILINE).group(1)
     count_one("the version", version, in_wrapper)
 
 
@@ -204,8 +204,8 @@ def wrapper(folder):
         return left_out("the wrapper's tests", "rustc")
     library, tests = folder / "libdwexpr.rlib", folder / "calls"
     words = ["rustc", "--edition", "2024", "-D", "warnings", "-L", ARCHIVE.parent]
-    build = [*words, "--crate-name", "dwexpr", "--crate-type", "lib", TOP / "wrapper/src/lib.rs", "-o", library]
-    build_tests = [*words, "--test", "--extern", f"dwexpr={library}", TOP / "wrapper/tests/calls.rs", "-o", tests]
+    build = [*words, "--crate-name", "dwexpr", "--crate-type", "lib", TOP / "rust/src/lib.rs", "-o", library]
+    build_tests = [*words, "--test", "--extern", f"dwexpr={library}", TOP / "rust/tests/calls.rs", "-o", tests]
     if check("wrapper: build", build) and check("wrapper: tests build", build_tests):
         done = run([tests])
         said = re.search(r"(\d+) passed; (\d+) failed", done.stdout)
@@ -213,7 +213,7 @@ def wrapper(folder):
         count(good, bad, "wrapper: tests", done.stdout + done.stderr)
     if not shutil.which("cargo"):
         return left_out("the wrapper's tests by cargo", "cargo")
-    words = ["cargo", "test", "--offline", "--quiet", "--manifest-path", TOP / "wrapper/Cargo.toml"]
+    words = ["cargo", "test", "--offline", "--quiet", "--manifest-path", TOP / "rust/Cargo.toml"]
     check("wrapper: tests by cargo", words, env={**os.environ, "CARGO_TARGET_DIR": str(folder / "target")})
 
 

@@ -6,6 +6,7 @@
  *   dwexpr_decode        the operation at an offset of an expression
  *   dwexpr_evaluate      what an expression comes to, given the answers to what it asked so far
  *   dwexpr_evaluation_*  the same, one answer after another, in memory of the caller's
+ *   dwexpr_value_*       an operation on values alone; dwexpr_type_* is of their types
  *
  * Each result of these is proved. dwexpr_run.h has plain C over them: one call, with callbacks that answer.
  *
@@ -64,7 +65,8 @@ enum dwexpr_code {
     DWEXPR_BAD_STEP = 67,                       /* evaluate: kind or type of a step is none, or its maximum too large */
     DWEXPR_MISPLACED = 68,                      /* evaluate: the step isn't allowed where it stands */
     DWEXPR_LOST_TEXT = 69,                      /* resume: bytes of an earlier text are in none of those given now */
-    DWEXPR_TOO_MANY_TEXTS = 70                  /* run: more texts are called than there is room for */
+    DWEXPR_TOO_MANY_TEXTS = 70,                 /* run: more texts are called than there is room for */
+    DWEXPR_BAD_VALUE = 71                       /* value: no such operation, type, byte order or mask */
 };
 
 /* How an expression is to be read: what its unit says. */
@@ -343,6 +345,42 @@ uint32_t dwexpr_evaluation_resume(dwexpr_evaluation *evaluation, const dwexpr_te
                                   dwexpr_step step, dwexpr_outcome *outcome, dwexpr_piece *pieces,
                                   size_t pieces_length);
 
+/* ---------------------------------------------------------------- values */
+
+/* What an evaluation does with values, each operation as a call: for who converts or compares values that an evaluation
+ * gave. No evaluation needs it. */
+typedef struct dwexpr_value {
+    uint32_t value_type; /* DWEXPR_GENERIC to DWEXPR_U64; DWEXPR_NO_TYPE where a call gives no value */
+    uint64_t content;    /* of a value that is given the lowest bits, as many as its type has; one that is written is
+                            extended to 64 bits by its sign */
+} dwexpr_value;
+
+/* An operation, by its kind: DWEXPR_OP_ABS, _NEG or _NOT of one value; of two, whose second was on top of the stack,
+ * DWEXPR_OP_AND to _MUL, _OR, _PLUS, _SHL to _XOR or _EQ to _NE; DWEXPR_OP_CONVERT by the number or _REINTERPRET by the
+ * bits in another type. `addr_mask` has a one for each bit of an address: 0xffffffff where it has 4 bytes.
+ *
+ * Answers 0, a fault, or DWEXPR_BAD_VALUE where a number is none that is allowed. `result` is written in each case, and
+ * has the type DWEXPR_NO_TYPE and the content 0 where the answer isn't 0. */
+uint32_t dwexpr_value_unary(uint32_t operation, dwexpr_value value, uint64_t addr_mask, dwexpr_value *result);
+
+uint32_t dwexpr_value_binary(uint32_t operation, dwexpr_value left, dwexpr_value right, uint64_t addr_mask,
+                             dwexpr_value *result);
+
+uint32_t dwexpr_value_convert(uint32_t operation, dwexpr_value value, uint32_t value_type, uint64_t addr_mask,
+                              dwexpr_value *result);
+
+/* The value of a type at the front of `length` bytes, in the order that `big_endian` names as in dwexpr_encoding. The
+ * generic type is DWEXPR_UNSUPPORTED_TYPE_OPERATION. Answers as above. */
+uint32_t dwexpr_value_parse(uint32_t value_type, const uint8_t *bytes, size_t length, uint8_t big_endian,
+                            dwexpr_value *result);
+
+/* How many bits the values of a type have; 0 where there is no such type or mask. */
+uint32_t dwexpr_type_bit_size(uint32_t value_type, uint64_t addr_mask);
+
+/* The type of an integer by DW_AT_encoding of its base type, 5 for signed and 7 for unsigned ones, and its size in
+ * bytes; DWEXPR_NO_TYPE where it is none. */
+uint32_t dwexpr_type_from_encoding(uint8_t encoding, uint64_t byte_size);
+
 /* ---------------------------------------------------------------- blocks and names */
 
 /* The bytes of an operation's block; `bytes` are those that were decoded. */
@@ -403,6 +441,7 @@ static inline const char *dwexpr_code_name(uint32_t code)
     case DWEXPR_MISPLACED: return "the step isn't allowed here";
     case DWEXPR_LOST_TEXT: return "a text of before isn't there";
     case DWEXPR_TOO_MANY_TEXTS: return "too many texts are called";
+    case DWEXPR_BAD_VALUE: return "no such operation, type or mask";
     default: return NULL;
     }
 }
@@ -492,6 +531,9 @@ DWEXPR_AT(dwexpr_step, kind, 0);
 DWEXPR_AT(dwexpr_step, value_type, 4);
 DWEXPR_AT(dwexpr_step, number, 8);
 DWEXPR_AT(dwexpr_step, text, 16);
+DWEXPR_ASSERT(value, sizeof(dwexpr_value) == 16);
+DWEXPR_AT(dwexpr_value, value_type, 0);
+DWEXPR_AT(dwexpr_value, content, 8);
 DWEXPR_ASSERT(outcome, sizeof(dwexpr_outcome) == 104);
 DWEXPR_AT(dwexpr_outcome, code, 0);
 DWEXPR_AT(dwexpr_outcome, request, 4);

@@ -26,7 +26,7 @@ static int finish(void)
     return failed != 0;
 }
 
-static dwexpr_encoding encoding_of(int address_size, int offset_size, int version, int big_endian)
+static inline dwexpr_encoding encoding_of(int address_size, int offset_size, int version, int big_endian)
 {
     dwexpr_encoding encoding;
     encoding.address_size = (uint8_t)address_size;

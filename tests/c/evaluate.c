@@ -604,7 +604,7 @@ static void names(void)
         opcodes += dwexpr_opcode_name(number) != NULL;
     }
     name = "names";
-    check(codes == 1 + 21 + 7, name, "of codes");
+    check(codes == 1 + 21 + 8, name, "of codes");
     check(opcodes == 178, name, "of opcodes");
     check(!strcmp(dwexpr_opcode_name(0x03), "DW_OP_addr"), name, "of the first opcode");
     check(!strcmp(dwexpr_opcode_name(0x4f), "DW_OP_lit31"), name, "of a literal");

@@ -61,3 +61,7 @@ misplaced_code = 68
 -- bytes that were asked about are in none of the texts
 abbrev pub lost_text_code : ℕ
 lost_text_code = 69
+
+-- the numbers say no value, no operation or no mask (70 is a code of the driver in C)
+abbrev pub bad_value_code : ℕ
+bad_value_code = 71

@@ -5,7 +5,7 @@ use Rattle.dwarf_value.specs.declared.types.Value.{Value}
 use Rattle.dwarf_value.specs.declared.types.Value.TheVariants as value
 use Rattle.dwarf_value.specs.declared.types.ValueType.{ValueType}
 use Rattle.dwarf_value.specs.declared.types.ValueType.TheVariants as value_type
-use Rattle.dwexpr_c.specs.declared.values.ValueNumbers.{ValueNumbers}
+use Rattle.dwexpr_c.specs.declared.values.DwexprValue.{DwexprValue}
 
 -- the type of a code
 abbrev pub type_coded : (code : ℕ) → Option ValueType
@@ -20,6 +20,19 @@ type_coded code =
     else if code == 8 then Some value_type.I64
     else if code == 9 then Some value_type.U64
     else None
+
+-- the code of a type, or 0
+abbrev pub type_code : Option ValueType → ℕ
+type_code None = 0
+type_code (Some value_type.Generic) = 1
+type_code (Some value_type.I8) = 2
+type_code (Some value_type.U8) = 3
+type_code (Some value_type.I16) = 4
+type_code (Some value_type.U16) = 5
+type_code (Some value_type.I32) = 6
+type_code (Some value_type.U32) = 7
+type_code (Some value_type.I64) = 8
+type_code (Some value_type.U64) = 9
 
 -- the value of a type that has these lowest bits
 abbrev pub value_at : ValueType → (content : ℕ) → Value
@@ -43,7 +56,7 @@ abbrev pub value_coded : (code content : ℕ) → Option Value
 value_coded code content = value_typed (type_coded code) content
 
 -- a value as a caller sees it; a signed content is extended to 64 bits
-abbrev pub shown_value : Value → ValueNumbers
+abbrev pub shown_value : Value → DwexprValue
 shown_value (value.Generic content) = record { value_type = 1; content = content }
 shown_value (value.I8 number) = record { value_type = 2; content = residue 64 number }
 shown_value (value.U8 number) = record { value_type = 3; content = number }

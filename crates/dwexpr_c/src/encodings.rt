@@ -38,7 +38,8 @@ fn format_of(offset_size: u8) -> Option<Format>
     }
 }
 
-fn order_of(big_endian: u8) -> Option<RunTimeEndian>
+/// The byte order of a number.
+pub(crate) fn order_of(big_endian: u8) -> Option<RunTimeEndian>
     ensures some { IfSome result
         (λ order. ((big_endian == 0 || big_endian == 1) ≡ true)
         × (is_big_of order ≡ (big_endian == 1))) }

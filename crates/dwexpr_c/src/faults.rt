@@ -25,6 +25,9 @@ pub(crate) const MISPLACED: u32 = 68;
 /// The code of bytes that are in none of the texts. Only an evaluation that is held and is given other texts answers it.
 pub(crate) const LOST_TEXT: u32 = 69;
 
+/// The code of numbers that say no value, no operation on values or no mask; 70 is a code of the driver in C.
+pub(crate) const BAD_VALUE: u32 = 71;
+
 /// A fault as callers see it.
 #[derive(Clone, Copy)]
 pub(crate) struct FaultNumbers {
@@ -48,7 +51,8 @@ fn carrying(code: u32, number: u64) -> FaultNumbers
 
 /// The code of a fault, and the number that it carries.
 pub(crate) fn numbers_of(error: Error) -> FaultNumbers
-    ensures { result
+    ensures code { result.code ≡ code_of_fault error }
+    ensures numbers { result
         ≡ record {
           code = code_of_fault (fault_of error);
           number = number_of_fault (fault_of error);

@@ -1,9 +1,10 @@
 //! DWARF expressions, decoded and evaluated, for callers in C. `include/dwexpr.h` declares what is exported.
 //!
-//! No call takes memory or calls anything back. `dwexpr_decode` and `dwexpr_evaluate` are given everything and keep nothing;
-//! the calls `dwexpr_evaluation_..` keep an evaluation in memory of the caller's.
+//! No call takes memory or calls anything back. `dwexpr_decode`, `dwexpr_evaluate` and the calls on values and types
+//! are given everything and keep nothing; the calls `dwexpr_evaluation_..` keep an evaluation in memory of the caller's.
 #![tactic(auto)]
 
+mod computing;
 mod decoding;
 mod encodings;
 mod evaluating;
@@ -24,6 +25,7 @@ use crate::operations::DwexprOperation;
 use crate::outcomes::DwexprOutcome;
 use crate::pieces::DwexprPiece;
 use crate::steps::{DwexprStep, DwexprText};
+use crate::values::DwexprValue;
 
 // The sizes that `include/dwexpr.h` asserts of the same structs, on a machine with words of 64 bits.
 const _: () = prove!(size_of::<DwexprEncoding>() == 4);
@@ -39,3 +41,5 @@ const _: () = prove!(size_of::<DwexprOutcome>() == 104);
 const _: () = prove!(size_of::<DwexprPiece>() == 72);
 
 const _: () = prove!(size_of::<DwexprEvaluation>() == 8);
+
+const _: () = prove!(size_of::<DwexprValue>() == 16);

@@ -1,5 +1,5 @@
 ghost use Rattle.std.specs.Prelude.{◌≡◌};
-ghost use Rattle.dwexpr_c.specs.Values.{shown_value, type_coded, value_coded};
+ghost use Rattle.dwexpr_c.specs.Values.{shown_value, type_code, type_coded, value_coded};
 
 use dwarf_value::{Value, ValueType};
 
@@ -21,17 +21,36 @@ pub(crate) fn type_of_code(code: u32) -> Option<ValueType>
     }
 }
 
-/// A value as callers see it.
+/// The code of a type; 0 where there is none.
+pub(crate) fn code_of_type(value_type: Option<ValueType>) -> u32
+    ensures { result ≡ type_code value_type }
+{
+    match value_type {
+        None => 0,
+        Some(ValueType::Generic) => 1,
+        Some(ValueType::I8) => 2,
+        Some(ValueType::U8) => 3,
+        Some(ValueType::I16) => 4,
+        Some(ValueType::U16) => 5,
+        Some(ValueType::I32) => 6,
+        Some(ValueType::U32) => 7,
+        Some(ValueType::I64) => 8,
+        Some(ValueType::U64) => 9,
+    }
+}
+
+/// A value as callers see it, in numbers of which any may be wrong.
+#[repr(C)]
 #[derive(Clone, Copy)]
-pub(crate) struct ValueNumbers {
-    /// The code of its type.
-    pub(crate) value_type: u32,
-    /// Its content; a signed one is extended to 64 bits.
-    pub(crate) content: u64,
+pub struct DwexprValue {
+    /// The code of its type; 0 where there is no value.
+    pub value_type: u32,
+    /// Its content. A signed one that is shown is extended to 64 bits; of one that is given the lowest bits count.
+    pub content: u64,
 }
 
 /// The type and the content of a value.
-pub(crate) fn numbers_of_value(value: Value) -> ValueNumbers
+pub(crate) fn numbers_of_value(value: Value) -> DwexprValue
     ensures { result ≡ shown_value value }
 {
     let (value_type, content) = match value {
@@ -45,7 +64,7 @@ pub(crate) fn numbers_of_value(value: Value) -> ValueNumbers
         Value::I64(number) => (8, number.cast_unsigned()),
         Value::U64(number) => (9, number),
     };
-    ValueNumbers {
+    DwexprValue {
         value_type,
         content,
     }

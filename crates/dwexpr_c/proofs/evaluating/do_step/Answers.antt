@@ -26,4 +26,4 @@ pub returns-in-Err-0₀ : goal.returns-in-Err-0₀
 returns-in-Err-0₀ g c =
     let step = step_of text_of_placed c.in-Ok.step in
     let called = subst (λ (r : Result (EvaluationResult _ _ _) Error). HasReplied text_of_placed (λ x. x) step c.args.evaluation.now c.take_step.new.eval r) c.in-Err-0₀.is c.in-Answered.ensures in
-    does_fail c.args.texts.now _ step c.args.evaluation.now c.take_step.new.eval c.args.outcome.now c.in-Ok.ensures.ok c.numbers_of.result c.in-Err-0₀.error called c.numbers_of.ensures
+    does_fail c.args.texts.now _ step c.args.evaluation.now c.take_step.new.eval c.args.outcome.now c.in-Ok.ensures.ok c.numbers_of.result c.in-Err-0₀.error called c.numbers_of.ensures.numbers

@@ -1,0 +1,95 @@
+-- What a call on values gives a caller in C (DWARF 5, sections 2.5.1.4, 2.5.1.6 and 5.1).
+use Rattle.std.specs.Prelude.{ℕ, ◌==◌, ◌||◌, ◌≡◌, List, Option, Some, None, Result, Ok, Err, if◌then◌else◌}
+use Rattle.dwarf_base.specs.Faults.{Fault}
+use Rattle.dwarf_value.specs.Values.{bit_size_of, parse_of, convert_of, reinterpret_of, add_of, sub_of, mul_of, div_of, rem_of, abs_of, neg_of, not_of, and_of, or_of, xor_of, shl_of, shr_of, shra_of, eq_of, ge_of, gt_of, le_of, lt_of, ne_of}
+use Rattle.dwarf_value.specs.declared.types.Value.{Value}
+use Rattle.dwarf_value.specs.declared.types.ValueType.{ValueType}
+use Rattle.dwexpr_c.specs.Codes.{bad_value_code, code_of_fault}
+use Rattle.dwexpr_c.specs.Values.{shown_value, value_coded}
+use Rattle.dwexpr_c.specs.declared.values.DwexprValue.{DwexprValue}
+
+-- what a call comes to; `None` where its numbers say no call
+abbrev pub Computed : Type 0
+Computed = Option (Result Value Fault)
+
+-- no value
+abbrev pub no_value : DwexprValue
+no_value = record { value_type = 0; content = 0 }
+
+-- the code that is answered, and the value that is written
+abbrev pub Answers : Computed → (code : ℕ) → DwexprValue → Type 0
+Answers None code shown = (code ≡ bad_value_code) × (shown ≡ no_value)
+Answers (Some (Err fault)) code shown = (code ≡ code_of_fault fault) × (shown ≡ no_value)
+Answers (Some (Ok value)) code shown = (code ≡ 0) × (shown ≡ shown_value value)
+
+-- the value that numbers say
+abbrev pub value_in : DwexprValue → Option Value
+value_in numbers = value_coded numbers.value_type numbers.content
+
+-- ---- operations, by the codes of their kinds
+
+-- an operation on one value
+abbrev pub unary_of : (operation w : ℕ) → Value → Computed
+unary_of operation w x =
+    if operation == 6 then Some (abs_of w x)
+    else if operation == 12 then Some (neg_of w x)
+    else if operation == 13 then Some (not_of w x)
+    else None
+
+-- the same, where there is a value
+abbrev pub unary_in : (operation w : ℕ) → Option Value → Computed
+unary_in operation w None = None
+unary_in operation w (Some x) = unary_of operation w x
+
+-- an operation on two values
+abbrev pub binary_of : (operation w : ℕ) → Value → Value → Computed
+binary_of operation w x y =
+    if operation == 7 then Some (and_of w x y)
+    else if operation == 8 then Some (div_of w x y)
+    else if operation == 9 then Some (sub_of w x y)
+    else if operation == 10 then Some (rem_of w x y)
+    else if operation == 11 then Some (mul_of w x y)
+    else if operation == 14 then Some (or_of w x y)
+    else if operation == 15 then Some (add_of w x y)
+    else if operation == 17 then Some (shl_of w x y)
+    else if operation == 18 then Some (shr_of w x y)
+    else if operation == 19 then Some (shra_of w x y)
+    else if operation == 20 then Some (xor_of w x y)
+    else if operation == 22 then Some (eq_of w x y)
+    else if operation == 23 then Some (ge_of w x y)
+    else if operation == 24 then Some (gt_of w x y)
+    else if operation == 25 then Some (le_of w x y)
+    else if operation == 26 then Some (lt_of w x y)
+    else if operation == 27 then Some (ne_of w x y)
+    else None
+
+-- the same, where there are values
+abbrev pub binary_in : (operation w : ℕ) → Option Value → Option Value → Computed
+binary_in operation w None right = None
+binary_in operation w (Some x) None = None
+binary_in operation w (Some x) (Some y) = binary_of operation w x y
+
+-- a value in another type, by its number or by its bits
+abbrev pub conversion_of : (operation w : ℕ) → ValueType → Value → Computed
+conversion_of operation w t x =
+    if operation == 49 then Some (convert_of w t x)
+    else if operation == 50 then Some (reinterpret_of w t x)
+    else None
+
+-- the same, where there are a type and a value
+abbrev pub conversion_in : (operation w : ℕ) → Option ValueType → Option Value → Computed
+conversion_in operation w None value = None
+conversion_in operation w (Some t) None = None
+conversion_in operation w (Some t) (Some x) = conversion_of operation w t x
+
+-- ---- types and bytes
+
+-- the value at the front of bytes, where there are a type and an order
+abbrev pub parsed_in : Option ValueType → (order : ℕ) → List ℕ → Computed
+parsed_in None order bytes = None
+parsed_in (Some t) order bytes = if order == 0 || order == 1 then Some (parse_of t (order == 1) bytes) else None
+
+-- how many bits a type's values have, or 0
+abbrev pub bit_size_in : (w : ℕ) → Option ValueType → ℕ
+bit_size_in w None = 0
+bit_size_in w (Some t) = bit_size_of w t

@@ -1,0 +1,251 @@
+ghost use Rattle.std.specs.Prelude.{◌≡◌, None, Some};
+ghost use Rattle.dwarf_base.specs.ByteOrder.{is_big_of};
+ghost use Rattle.dwarf_value.specs.Values.{IsAddressMask, from_encoding_of, parse_of, width_of};
+ghost use Rattle.dwexpr_c.specs.Calls as calls;
+ghost use Rattle.dwexpr_c.specs.Values.{type_code, type_coded};
+
+use crate::encodings::order_of;
+use crate::faults::{BAD_VALUE, OK, numbers_of};
+use crate::values::{DwexprValue, code_of_type, numbers_of_value, type_of_code, value_of};
+use dwarf_base::{DwAte, EndianSlice, Result, RunTimeEndian};
+use dwarf_value::{Value, ValueType, is_addr_mask};
+
+const NO_VALUE: DwexprValue = DwexprValue {
+    value_type: 0,
+    content: 0,
+};
+
+/// The value that numbers say.
+fn value_in(numbers: DwexprValue) -> Option<Value>
+    ensures { result ≡ calls.value_in numbers }
+{
+    value_of(numbers.value_type, numbers.content)
+}
+
+/// Shows what a call came to: the code, and the value.
+fn show(computed: Option<Result<Value>>, shown: &mut DwexprValue) -> u32
+    ensures { calls.Answers computed result shown.new }
+{
+    let (code, numbers) = match computed {
+        None => (BAD_VALUE, NO_VALUE),
+        Some(Err(error)) => (numbers_of(error).code, NO_VALUE),
+        Some(Ok(value)) => (OK, numbers_of_value(value)),
+    };
+    *shown = numbers;
+    code
+}
+
+fn unary(operation: u32, value: Value, addr_mask: u64) -> Option<Result<Value>>
+    requires { IsAddressMask addr_mask }
+    ensures { result ≡ calls.unary_of operation (width_of addr_mask) value }
+{
+    Some(match operation {
+        6 => value.abs(addr_mask),
+        12 => value.neg(addr_mask),
+        13 => value.not(addr_mask),
+        _ => return None,
+    })
+}
+
+fn binary(operation: u32, left: Value, right: Value, addr_mask: u64) -> Option<Result<Value>>
+    requires { IsAddressMask addr_mask }
+    ensures { result ≡ calls.binary_of operation (width_of addr_mask) left right }
+{
+    Some(match operation {
+        7 => left.and(right, addr_mask),
+        8 => left.div(right, addr_mask),
+        9 => left.sub(right, addr_mask),
+        10 => left.rem(right, addr_mask),
+        11 => left.mul(right, addr_mask),
+        14 => left.or(right, addr_mask),
+        15 => left.add(right, addr_mask),
+        17 => left.shl(right, addr_mask),
+        18 => left.shr(right, addr_mask),
+        19 => left.shra(right, addr_mask),
+        20 => left.xor(right, addr_mask),
+        22 => left.eq(right, addr_mask),
+        23 => left.ge(right, addr_mask),
+        24 => left.gt(right, addr_mask),
+        25 => left.le(right, addr_mask),
+        26 => left.lt(right, addr_mask),
+        27 => left.ne(right, addr_mask),
+        _ => return None,
+    })
+}
+
+fn conversion(
+    operation: u32,
+    value: Value,
+    value_type: ValueType,
+    addr_mask: u64,
+) -> Option<Result<Value>>
+    requires { IsAddressMask addr_mask }
+    ensures { result ≡ calls.conversion_of operation (width_of addr_mask) value_type value }
+{
+    Some(match operation {
+        49 => value.convert(value_type, addr_mask),
+        50 => value.reinterpret(value_type, addr_mask),
+        _ => return None,
+    })
+}
+
+fn unary_in(operation: u32, value: DwexprValue, addr_mask: u64) -> Option<Result<Value>>
+    ensures mask { (IsAddressMask addr_mask → ⊥) → result ≡ None }
+    ensures computes { IsAddressMask addr_mask
+        → result ≡ calls.unary_in operation (width_of addr_mask) (calls.value_in value) }
+{
+    if !is_addr_mask(addr_mask) {
+        return None;
+    }
+    unary(operation, value_in(value)?, addr_mask)
+}
+
+fn binary_in(
+    operation: u32,
+    left: DwexprValue,
+    right: DwexprValue,
+    addr_mask: u64,
+) -> Option<Result<Value>>
+    ensures mask { (IsAddressMask addr_mask → ⊥) → result ≡ None }
+    ensures computes { IsAddressMask addr_mask
+        → result ≡ calls.binary_in operation (width_of addr_mask) (calls.value_in left)
+        (calls.value_in right) }
+{
+    if !is_addr_mask(addr_mask) {
+        return None;
+    }
+    binary(operation, value_in(left)?, value_in(right)?, addr_mask)
+}
+
+fn conversion_in(
+    operation: u32,
+    value: DwexprValue,
+    value_type: u32,
+    addr_mask: u64,
+) -> Option<Result<Value>>
+    ensures mask { (IsAddressMask addr_mask → ⊥) → result ≡ None }
+    ensures computes { IsAddressMask addr_mask
+        → result ≡ calls.conversion_in operation (width_of addr_mask) (type_coded value_type)
+        (calls.value_in value) }
+{
+    if !is_addr_mask(addr_mask) {
+        return None;
+    }
+    let value_type = type_of_code(value_type)?;
+    conversion(operation, value_in(value)?, value_type, addr_mask)
+}
+
+fn parse(value_type: ValueType, bytes: &[u8], order: RunTimeEndian, shown: &mut DwexprValue) -> u32
+    ensures { calls.Answers (Some (parse_of value_type (is_big_of order) bytes.now)) result shown.new }
+{
+    let (code, numbers) = match Value::parse(value_type, EndianSlice::new(bytes, order)) {
+        Ok(value) => (OK, numbers_of_value(value)),
+        Err(error) => (numbers_of(error).code, NO_VALUE),
+    };
+    *shown = numbers;
+    code
+}
+
+/// An operation on one value: `Abs`, `Neg` or `Not`, by the code of its kind (DWARF 5, section 2.5.1.4).
+///
+/// It answers 0, the code of a fault, or 71 where the numbers say no operation, no value or no mask. `shown` is written
+/// in each case, and has the type 0 where the answer isn't 0.
+#[unsafe(no_mangle)]
+pub extern "C" fn dwexpr_value_unary(
+    operation: u32,
+    value: DwexprValue,
+    addr_mask: u64,
+    shown: &mut DwexprValue,
+) -> u32
+    ensures mask { (IsAddressMask addr_mask → ⊥) → calls.Answers None result shown.new }
+    ensures computes { IsAddressMask addr_mask
+        → calls.Answers
+        (calls.unary_in operation (width_of addr_mask) (calls.value_in value)) result shown.new }
+{
+    show(unary_in(operation, value, addr_mask), shown)
+}
+
+/// An operation on two values, by the code of its kind (DWARF 5, section 2.5.1.4). It answers as `dwexpr_value_unary`.
+#[unsafe(no_mangle)]
+pub extern "C" fn dwexpr_value_binary(
+    operation: u32,
+    left: DwexprValue,
+    right: DwexprValue,
+    addr_mask: u64,
+    shown: &mut DwexprValue,
+) -> u32
+    ensures mask { (IsAddressMask addr_mask → ⊥) → calls.Answers None result shown.new }
+    ensures computes { IsAddressMask addr_mask
+        → calls.Answers
+        (calls.binary_in operation (width_of addr_mask) (calls.value_in left)
+        (calls.value_in right)) result shown.new }
+{
+    show(binary_in(operation, left, right, addr_mask), shown)
+}
+
+/// A value in another type: `Convert` by its number, or `Reinterpret` by its bits (DWARF 5, section 2.5.1.6). It
+/// answers as `dwexpr_value_unary`.
+#[unsafe(no_mangle)]
+pub extern "C" fn dwexpr_value_convert(
+    operation: u32,
+    value: DwexprValue,
+    value_type: u32,
+    addr_mask: u64,
+    shown: &mut DwexprValue,
+) -> u32
+    ensures mask { (IsAddressMask addr_mask → ⊥) → calls.Answers None result shown.new }
+    ensures computes { IsAddressMask addr_mask
+        → calls.Answers
+        (calls.conversion_in operation (width_of addr_mask) (type_coded value_type)
+        (calls.value_in value)) result shown.new }
+{
+    show(
+        conversion_in(operation, value, value_type, addr_mask),
+        shown,
+    )
+}
+
+/// The value at the front of bytes, in an order as `DwexprEncoding` names it. It answers as `dwexpr_value_unary`.
+#[unsafe(no_mangle)]
+pub extern "C" fn dwexpr_value_parse(
+    value_type: u32,
+    bytes: &[u8],
+    big_endian: u8,
+    shown: &mut DwexprValue,
+) -> u32
+    ensures { calls.Answers (calls.parsed_in (type_coded value_type) big_endian bytes.now)
+        result shown.new }
+{
+    let Some(value_type) = type_of_code(value_type) else {
+        return show(None, shown);
+    };
+    let Some(order) = order_of(big_endian) else {
+        return show(None, shown);
+    };
+    parse(value_type, bytes, order, shown)
+}
+
+/// How many bits a type's values have; 0 where the numbers say no type or no mask.
+#[unsafe(no_mangle)]
+pub extern "C" fn dwexpr_type_bit_size(value_type: u32, addr_mask: u64) -> u32
+    ensures mask { (IsAddressMask addr_mask → ⊥) → result ≡ 0 }
+    ensures size { IsAddressMask addr_mask
+        → result ≡ calls.bit_size_in (width_of addr_mask) (type_coded value_type) }
+{
+    if !is_addr_mask(addr_mask) {
+        return 0;
+    }
+    match type_of_code(value_type) {
+        Some(value_type) => value_type.bit_size(addr_mask),
+        None => 0,
+    }
+}
+
+/// The type of a base type's values, by its `DW_AT_encoding` and its size in bytes; 0 where it is none (DWARF 5,
+/// section 5.1).
+#[unsafe(no_mangle)]
+pub extern "C" fn dwexpr_type_from_encoding(encoding: u8, byte_size: u64) -> u32
+    ensures { result ≡ type_code (from_encoding_of encoding byte_size) }
+{
+    code_of_type(ValueType::from_encoding(DwAte(encoding), byte_size))
+}

@@ -6,7 +6,7 @@
   tests/vectors/decode.json, and cut.c the expressions of tests/rows.
 - include: the headers, without a warning as C11, C17 and C++17. The structs of the crate and of rust/ have the fields
   of dwexpr.h, by name, type and order, and so the places that it asserts.
-- rust/: its tests, by rustc alone and by cargo.
+- rust/: it is built by rustc alone without a warning; its tests and the examples of its documentation, by cargo.
 - examples/: decode is compared with what it is to print. expressions and where need libdw, and are run where it is;
   what where prints is compared with gdb, where that is.
 
@@ -87,7 +87,7 @@ def headers():
             check(name, [compiler, *words, "-pedantic", *WARNINGS, "-fsyntax-only", file.name])
 
 
-STRUCTS = ["encoding", "operation", "text", "step", "outcome", "piece"]
+STRUCTS = ["encoding", "operation", "text", "step", "value", "outcome", "piece"]
 C_TYPES = {
     "u8": "uint8_t",
     "u32": "uint32_t",
@@ -125,7 +125,7 @@ def places_of(fields):
 def layout():
     header = (TOP / "include/dwexpr.h").read_text()
     crate = "\n".join(path.read_text() for path in sorted((CRATE / "src").glob("*.rt")))
-    wrapper = (TOP / "rust/src/raw.rs").read_text()
+    in_rust = (TOP / "rust/src/raw.rs").read_text()
     for name in STRUCTS:
         body = re.search(rf"typedef struct dwexpr_{name} {{\n(.*?)\n}} dwexpr_{name};", header, re.DOTALL)
         declared = re.findall(r"^    (const uint8_t \*|\w+)\s*(\w+);", body.group(1), re.MULTILINE)
@@ -135,12 +135,12 @@ def layout():
         in_crate = re.findall(rf"size_of::<Dwexpr{name.title()}>\(\) == (\d+)", crate)
         in_header = re.findall(rf"sizeof\(dwexpr_{name}\) == (\d+)", header)
         count_one(f"layout of {name}: the crate", fields_of(crate, f"Dwexpr{name.title()}"), wanted)
-        count_one(f"layout of {name}: the wrapper", fields_of(wrapper, f"Raw{name.title()}"), wanted)
+        count_one(f"layout of {name}: the Rust crate", fields_of(in_rust, f"Raw{name.title()}"), wanted)
         count_one(f"layout of {name}: places", [(field, int(place)) for field, place in asserted], places)
         count_one(f"layout of {name}: sizes", in_crate + in_header, [str(size)] * 2)
     version = re.search(r'DWEXPR_VERSION "(.*)"', header).group(1)
-    in_wrapper = re.search(r'^version = "(.*)"', (TOP / "rust/Cargo.toml").read_text(), re.MULTILINE).group(1)
-    count_one("the version", version, in_wrapper)
+    of_crate = re.search(r'^version = "(.*)"', (TOP / "rust/Cargo.toml").read_text(), re.MULTILINE).group(1)
+    count_one("the version", version, of_crate)
 
 
 def count_one(name, got, wanted):
@@ -199,22 +199,18 @@ def callers(folder):
                 count(int(said.group(1)), int(said.group(2)), f"{source.name}{kind}", done.stdout + done.stderr)
 
 
-def wrapper(folder):
+def rust(folder):
     if not shutil.which("rustc"):
-        return left_out("the wrapper's tests", "rustc")
-    library, tests = folder / "libdwexpr.rlib", folder / "calls"
-    words = ["rustc", "--edition", "2024", "-D", "warnings", "-L", ARCHIVE.parent]
-    build = [*words, "--crate-name", "dwexpr", "--crate-type", "lib", TOP / "rust/src/lib.rs", "-o", library]
-    build_tests = [*words, "--test", "--extern", f"dwexpr={library}", TOP / "rust/tests/calls.rs", "-o", tests]
-    if check("wrapper: build", build) and check("wrapper: tests build", build_tests):
-        done = run([tests])
-        said = re.search(r"(\d+) passed; (\d+) failed", done.stdout)
-        good, bad = map(int, said.groups()) if said else (0, 1)
-        count(good, bad, "wrapper: tests", done.stdout + done.stderr)
+        return left_out("the Rust crate", "rustc")
+    words = ["rustc", "--edition", "2024", "-D", "warnings", "-L", ARCHIVE.parent, "--crate-name", "dwexpr"]
+    check("rust: build", [*words, "--crate-type", "lib", TOP / "rust/src/lib.rs", "-o", folder / "libdwexpr.rlib"])
     if not shutil.which("cargo"):
-        return left_out("the wrapper's tests by cargo", "cargo")
-    words = ["cargo", "test", "--offline", "--quiet", "--manifest-path", TOP / "rust/Cargo.toml"]
-    check("wrapper: tests by cargo", words, env={**os.environ, "CARGO_TARGET_DIR": str(folder / "target")})
+        return left_out("the Rust crate's tests", "cargo")
+    words = ["cargo", "test", "--offline", "--manifest-path", TOP / "rust/Cargo.toml"]
+    done = run(words, env={"DWEXPR_C": str(ARCHIVE.parent), **os.environ, "CARGO_TARGET_DIR": str(folder / "target")})
+    said = [(int(good), int(bad)) for good, bad in re.findall(r"(\d+) passed; (\d+) failed", done.stdout)]
+    good, bad = (sum(numbers) for numbers in zip(*said)) if said else (0, 1)
+    count(good, bad or int(done.returncode != 0), "rust: tests", done.stdout + done.stderr)
 
 
 DECODED = """\
@@ -313,7 +309,7 @@ def main():
             headers()
             layout()
             callers(folder)
-            wrapper(folder)
+            rust(folder)
             decode(folder)
             with_libdw(folder)
     print(f"{passed} passed, {failed} failed")

@@ -1,18 +1,23 @@
-//! The archive's functions and structs, as `include/dwexpr.h` declares them, and what they say.
+//! The archive's functions and structs, as `include/dwexpr.h` declares them. All that is unsafe is here.
 
-use crate::{BaseType, Decoded, Encoding, Location, Operation, Outcome, Piece, Request, Step, Value, ValueType};
-use std::mem::{offset_of, size_of};
+use std::cell::Cell;
+use std::fmt;
+use std::mem::{MaybeUninit, offset_of, size_of};
 
+pub const OK: u32 = 0;
+pub const BAD_ENCODING: u32 = 64;
 pub const BAD_OFFSET: u32 = 65;
+pub const MISPLACED: u32 = 68;
+pub const BAD_VALUE: u32 = 71;
 pub const MAX_PIECES: usize = 32;
 
 #[repr(C)]
 #[derive(Clone, Copy)]
 pub struct RawEncoding {
-    address_size: u8,
-    offset_size: u8,
-    big_endian: u8,
-    version: u8,
+    pub address_size: u8,
+    pub offset_size: u8,
+    pub big_endian: u8,
+    pub version: u8,
 }
 
 #[repr(C)]
@@ -35,19 +40,31 @@ pub struct RawOperation {
 }
 
 #[repr(C)]
-#[derive(Clone, Copy)]
+#[derive(Clone, Copy, Debug)]
 pub struct RawText {
     bytes: *const u8,
     length: usize,
 }
 
+// SAFETY: it is what `&[u8]` is, but for a lifetime.
+unsafe impl Send for RawText {}
+// SAFETY: as above.
+unsafe impl Sync for RawText {}
+
 #[repr(C)]
 #[derive(Clone, Copy, Default)]
 pub struct RawStep {
-    kind: u32,
-    value_type: u32,
-    number: u64,
-    text: usize,
+    pub kind: u32,
+    pub value_type: u32,
+    pub number: u64,
+    pub text: usize,
+}
+
+#[repr(C)]
+#[derive(Clone, Copy, Default)]
+pub struct RawValue {
+    pub value_type: u32,
+    pub content: u64,
 }
 
 #[repr(C)]
@@ -90,6 +107,7 @@ pub struct RawPiece {
 // The archive was built for structs of just this layout.
 const _: () = assert!(size_of::<RawEncoding>() == 4 && size_of::<RawOperation>() == 88 && size_of::<RawText>() == 16);
 const _: () = assert!(size_of::<RawStep>() == 24 && size_of::<RawOutcome>() == 104 && size_of::<RawPiece>() == 72);
+const _: () = assert!(size_of::<RawValue>() == 16 && offset_of!(RawValue, content) == 8 && size_of::<usize>() == 8);
 const _: () = assert!(offset_of!(RawOperation, block_offset) == 64 && offset_of!(RawOperation, detail) == 80);
 const _: () = assert!(offset_of!(RawStep, number) == 8 && offset_of!(RawStep, text) == 16);
 const _: () = assert!(offset_of!(RawOutcome, value) == 64 && offset_of!(RawOutcome, pieces) == 96);
@@ -97,7 +115,7 @@ const _: () = assert!(offset_of!(RawPiece, number) == 32 && offset_of!(RawPiece,
 
 #[link(name = "dwexpr_c", kind = "static")]
 unsafe extern "C" {
-    pub fn dwexpr_decode(
+    fn dwexpr_decode(
         bytes: *const u8,
         length: usize,
         encoding: RawEncoding,
@@ -105,7 +123,12 @@ unsafe extern "C" {
         operation: *mut RawOperation,
     ) -> u32;
 
-    pub fn dwexpr_evaluate(
+    fn dwexpr_evaluation_size() -> usize;
+
+    fn dwexpr_evaluation_begin(evaluation: *mut RawEvaluation);
+
+    fn dwexpr_evaluation_start(
+        evaluation: *mut RawEvaluation,
         texts: *const RawText,
         texts_length: usize,
         encoding: RawEncoding,
@@ -115,216 +138,231 @@ unsafe extern "C" {
         pieces: *mut RawPiece,
         pieces_length: usize,
     ) -> u32;
-}
 
-impl From<Encoding> for RawEncoding {
-    fn from(encoding: Encoding) -> Self {
-        RawEncoding {
-            address_size: encoding.address_size,
-            offset_size: encoding.offset_size,
-            big_endian: u8::from(encoding.big_endian),
-            version: encoding.version,
-        }
-    }
+    fn dwexpr_evaluation_resume(
+        evaluation: *mut RawEvaluation,
+        texts: *const RawText,
+        texts_length: usize,
+        step: RawStep,
+        outcome: *mut RawOutcome,
+        pieces: *mut RawPiece,
+        pieces_length: usize,
+    ) -> u32;
+
+    fn dwexpr_value_unary(operation: u32, value: RawValue, addr_mask: u64, shown: *mut RawValue) -> u32;
+
+    fn dwexpr_value_binary(
+        operation: u32,
+        left: RawValue,
+        right: RawValue,
+        addr_mask: u64,
+        shown: *mut RawValue,
+    ) -> u32;
+
+    fn dwexpr_value_convert(
+        operation: u32,
+        value: RawValue,
+        value_type: u32,
+        addr_mask: u64,
+        shown: *mut RawValue,
+    ) -> u32;
+
+    fn dwexpr_value_parse(
+        value_type: u32,
+        bytes: *const u8,
+        length: usize,
+        big_endian: u8,
+        shown: *mut RawValue,
+    ) -> u32;
+
+    fn dwexpr_type_bit_size(value_type: u32, addr_mask: u64) -> u32;
+
+    fn dwexpr_type_from_encoding(encoding: u8, byte_size: u64) -> u32;
 }
 
 impl RawText {
+    #[inline]
     pub fn new(text: &[u8]) -> Self {
         RawText { bytes: text.as_ptr(), length: text.len() }
     }
-}
 
-fn type_code(value_type: ValueType) -> u32 {
-    match value_type {
-        ValueType::Generic => 1,
-        ValueType::I8 => 2,
-        ValueType::U8 => 3,
-        ValueType::I16 => 4,
-        ValueType::U16 => 5,
-        ValueType::I32 => 6,
-        ValueType::U32 => 7,
-        ValueType::I64 => 8,
-        ValueType::U64 => 9,
+    /// Whether it is the very same bytes, and not equal ones alone.
+    pub fn is(&self, text: &[u8]) -> bool {
+        self.bytes == text.as_ptr() && self.length == text.len()
     }
 }
 
-/// `None` for 0, the code of no type.
-fn type_of(code: u32) -> Option<ValueType> {
-    Some(match code {
-        0 => return None,
-        1 => ValueType::Generic,
-        2 => ValueType::I8,
-        3 => ValueType::U8,
-        4 => ValueType::I16,
-        5 => ValueType::U16,
-        6 => ValueType::I32,
-        7 => ValueType::U32,
-        8 => ValueType::I64,
-        9 => ValueType::U64,
-        code => unreachable!("type {code}"),
-    })
+/// The code, and what stands at the front of the bytes.
+#[inline]
+pub fn decode(bytes: &[u8], encoding: RawEncoding) -> (u32, RawOperation) {
+    let mut shown = MaybeUninit::uninit();
+    // SAFETY: the pointer and the length are those of one slice, and the call writes `shown` in each case.
+    unsafe {
+        let code = dwexpr_decode(bytes.as_ptr(), bytes.len(), encoding, 0, shown.as_mut_ptr());
+        (code, shown.assume_init())
+    }
 }
 
-fn value_of(code: u32, content: u64) -> Option<Value> {
-    Some(Value { value_type: type_of(code)?, content })
+/// The code, and the result of an operation on one value.
+pub fn unary(operation: u32, value: RawValue, addr_mask: u64) -> (u32, RawValue) {
+    let mut shown = RawValue::default();
+    // SAFETY: `shown` is a place that nothing else refers to.
+    let code = unsafe { dwexpr_value_unary(operation, value, addr_mask, &mut shown) };
+    (code, shown)
 }
 
-impl From<Step> for RawStep {
-    fn from(step: Step) -> Self {
-        let numbered = |kind, number| RawStep { kind, number, ..RawStep::default() };
-        let valued = |kind, value: Value| RawStep {
-            kind,
-            value_type: type_code(value.value_type),
-            number: value.content,
-            text: 0,
-        };
-        match step {
-            Step::InitialValue(number) => numbered(1, number),
-            Step::ObjectAddress(number) => numbered(2, number),
-            Step::MaxIterations(number) => numbered(3, u64::from(number)),
-            Step::Evaluate => numbered(4, 0),
-            Step::Memory(value) => valued(5, value),
-            Step::Register(value) => valued(6, value),
-            Step::Wasm(value) => valued(7, value),
-            Step::EntryValue(value) => valued(8, value),
-            Step::FrameBase(number) => numbered(9, number),
-            Step::Tls(number) => numbered(10, number),
-            Step::Cfa(number) => numbered(11, number),
-            Step::Parameter(number) => numbered(12, number),
-            Step::Relocated(number) => numbered(13, number),
-            Step::Indexed(number) => numbered(14, number),
-            Step::Location(text) => RawStep { kind: 15, text, ..RawStep::default() },
-            Step::BaseType(value_type) => RawStep { value_type: type_code(value_type), ..numbered(16, 0) },
+/// The code, and the result of an operation on two values.
+pub fn binary(operation: u32, left: RawValue, right: RawValue, addr_mask: u64) -> (u32, RawValue) {
+    let mut shown = RawValue::default();
+    // SAFETY: as in `unary`.
+    let code = unsafe { dwexpr_value_binary(operation, left, right, addr_mask, &mut shown) };
+    (code, shown)
+}
+
+/// The code, and the value in another type.
+pub fn convert(operation: u32, value: RawValue, value_type: u32, addr_mask: u64) -> (u32, RawValue) {
+    let mut shown = RawValue::default();
+    // SAFETY: as in `unary`.
+    let code = unsafe { dwexpr_value_convert(operation, value, value_type, addr_mask, &mut shown) };
+    (code, shown)
+}
+
+/// The code, and the value at the front of the bytes.
+pub fn parse(value_type: u32, bytes: &[u8], is_big_endian: bool) -> (u32, RawValue) {
+    let mut shown = RawValue::default();
+    // SAFETY: as in `unary`; the pointer and the length are those of one slice.
+    let code =
+        unsafe { dwexpr_value_parse(value_type, bytes.as_ptr(), bytes.len(), u8::from(is_big_endian), &mut shown) };
+    (code, shown)
+}
+
+/// The bits of a type's values; 0 if the mask is none.
+pub fn bit_size(value_type: u32, addr_mask: u64) -> u32 {
+    // SAFETY: any numbers are allowed.
+    unsafe { dwexpr_type_bit_size(value_type, addr_mask) }
+}
+
+/// The code of a type; 0 if there is none.
+pub fn type_from_encoding(encoding: u8, byte_size: u64) -> u32 {
+    // SAFETY: any numbers are allowed.
+    unsafe { dwexpr_type_from_encoding(encoding, byte_size) }
+}
+
+#[repr(C)]
+struct RawEvaluation {
+    memory: *mut MaybeUninit<u64>,
+}
+
+thread_local! {
+    /// The memory of the last evaluation of this thread that was dropped.
+    static SPARE: Cell<Option<Box<[MaybeUninit<u64>]>>> = const { Cell::new(None) };
+}
+
+/// Memory in which the archive holds an evaluation that was begun.
+pub struct Held {
+    memory: Box<[MaybeUninit<u64>]>,
+}
+
+/// What a call of an evaluation wrote: the outcome, and as many pieces as it counts.
+pub struct Written {
+    outcome: MaybeUninit<RawOutcome>,
+    pieces: [MaybeUninit<RawPiece>; MAX_PIECES],
+}
+
+impl Written {
+    #[inline]
+    fn nothing() -> Self {
+        Written { outcome: MaybeUninit::uninit(), pieces: [MaybeUninit::uninit(); MAX_PIECES] }
+    }
+
+    #[inline]
+    pub fn outcome(&self) -> &RawOutcome {
+        // SAFETY: the calls write it in each case.
+        unsafe { self.outcome.assume_init_ref() }
+    }
+
+    /// The pieces of a complete evaluation.
+    pub fn pieces(&self) -> &[RawPiece] {
+        let written = &self.pieces[..self.outcome().pieces];
+        // SAFETY: as many are written as there are, since there is room for as many as there may be.
+        unsafe { &*(std::ptr::from_ref(written) as *const [RawPiece]) }
+    }
+}
+
+impl Held {
+    pub fn new() -> Self {
+        if let Some(memory) = SPARE.take() {
+            return Held { memory };
         }
+        // SAFETY: the call takes nothing.
+        let size = unsafe { dwexpr_evaluation_size() };
+        let mut memory = Box::new_uninit_slice(size.div_ceil(8));
+        // SAFETY: the memory is as large as the archive asks, aligned to 8, and nothing else refers to it.
+        unsafe { dwexpr_evaluation_begin(&mut RawEvaluation { memory: memory.as_mut_ptr() }) };
+        Held { memory }
+    }
+
+    /// Starts the first of the texts.
+    ///
+    /// # Safety
+    ///
+    /// Until the next start, the bytes of the texts stay as they are.
+    pub unsafe fn start(&mut self, texts: &[RawText], encoding: RawEncoding, steps: &[RawStep]) -> Written {
+        let mut evaluation = RawEvaluation { memory: self.memory.as_mut_ptr() };
+        let mut written = Written::nothing();
+        // SAFETY: `new` has begun the evaluation, which lies in memory of its own; the pointers and lengths are those
+        // of slices; of the texts the caller says what the archive asks.
+        unsafe {
+            dwexpr_evaluation_start(
+                &mut evaluation,
+                texts.as_ptr(),
+                texts.len(),
+                encoding,
+                steps.as_ptr(),
+                steps.len(),
+                written.outcome.as_mut_ptr(),
+                written.pieces.as_mut_ptr().cast(),
+                MAX_PIECES,
+            )
+        };
+        written
+    }
+
+    /// Takes one more step.
+    ///
+    /// # Safety
+    ///
+    /// The texts are those of the start and of the steps since, in that order, and maybe one more; their bytes stay as
+    /// they are until the next start.
+    pub unsafe fn resume(&mut self, texts: &[RawText], step: RawStep) -> Written {
+        let mut evaluation = RawEvaluation { memory: self.memory.as_mut_ptr() };
+        let mut written = Written::nothing();
+        // SAFETY: as in `start`.
+        unsafe {
+            dwexpr_evaluation_resume(
+                &mut evaluation,
+                texts.as_ptr(),
+                texts.len(),
+                step,
+                written.outcome.as_mut_ptr(),
+                written.pieces.as_mut_ptr().cast(),
+                MAX_PIECES,
+            )
+        };
+        written
     }
 }
 
-fn base_type(offset: u64) -> BaseType {
-    (offset != 0).then_some(offset)
-}
-
-/// What a decoding without a fault shows.
-pub fn decoded<'a>(shown: &RawOperation, bytes: &'a [u8]) -> Decoded<'a> {
-    let block = &bytes[shown.block_offset..][..shown.block_length];
-    Decoded { operation: operation(shown, block), opcode: shown.opcode as u8, size: shown.size }
-}
-
-fn operation<'a>(shown: &RawOperation, block: &'a [u8]) -> Operation<'a> {
-    let base_type = base_type(shown.base_type);
-    let flag = shown.flag != 0;
-    match shown.kind {
-        1 => Operation::Deref { base_type, size: shown.deref_size, space: flag },
-        2 => Operation::Drop,
-        3 => Operation::Pick { index: shown.number },
-        4 => Operation::Swap,
-        5 => Operation::Rot,
-        6 => Operation::Abs,
-        7 => Operation::And,
-        8 => Operation::Div,
-        9 => Operation::Minus,
-        10 => Operation::Mod,
-        11 => Operation::Mul,
-        12 => Operation::Neg,
-        13 => Operation::Not,
-        14 => Operation::Or,
-        15 => Operation::Plus,
-        16 => Operation::PlusConstant { value: shown.number },
-        17 => Operation::Shl,
-        18 => Operation::Shr,
-        19 => Operation::Shra,
-        20 => Operation::Xor,
-        21 => Operation::Bra { target: shown.signed_number },
-        22 => Operation::Eq,
-        23 => Operation::Ge,
-        24 => Operation::Gt,
-        25 => Operation::Le,
-        26 => Operation::Lt,
-        27 => Operation::Ne,
-        28 => Operation::Skip { target: shown.signed_number },
-        29 => Operation::UnsignedConstant { value: shown.number },
-        30 => Operation::SignedConstant { value: shown.signed_number },
-        31 => Operation::Register { register: shown.register_number },
-        32 => Operation::RegisterOffset { register: shown.register_number, offset: shown.signed_number, base_type },
-        33 => Operation::FrameOffset { offset: shown.signed_number },
-        34 => Operation::Nop,
-        35 => Operation::PushObjectAddress,
-        36 => Operation::Call { offset: shown.number, in_debug_info: flag },
-        37 => Operation::Tls,
-        38 => Operation::CallFrameCfa,
-        39 => Operation::Piece { size_in_bits: shown.number, bit_offset: flag.then_some(shown.detail) },
-        40 => Operation::ImplicitValue { bytes: block },
-        41 => Operation::StackValue,
-        42 => Operation::ImplicitPointer { value: shown.number, byte_offset: shown.signed_number },
-        43 => Operation::EntryValue { expression: block },
-        44 => Operation::ParameterRef { offset: shown.number },
-        45 => Operation::Address { address: shown.number },
-        46 => Operation::AddressIndex { index: shown.number },
-        47 => Operation::ConstantIndex { index: shown.number },
-        48 => Operation::TypedLiteral { base_type, value: block },
-        49 => Operation::Convert { base_type },
-        50 => Operation::Reinterpret { base_type },
-        51 => Operation::Uninitialized,
-        52 => Operation::WasmLocal { index: shown.number },
-        53 => Operation::WasmGlobal { index: shown.number },
-        54 => Operation::WasmStack { index: shown.number },
-        55 => Operation::VariableValue { offset: shown.number },
-        kind => unreachable!("kind {kind}"),
+impl Drop for Held {
+    fn drop(&mut self) {
+        // The archive's evaluation owns nothing. Whoever takes the memory starts it before anything else.
+        let memory = std::mem::take(&mut self.memory);
+        let _ = SPARE.try_with(|spare| spare.set(Some(memory)));
     }
 }
 
-/// What an evaluation without a fault shows.
-pub fn outcome<'a>(shown: &RawOutcome, pieces: &[RawPiece], texts: &[&'a [u8]]) -> Outcome<'a> {
-    match shown.request {
-        0 => Outcome::Nothing,
-        1 => Outcome::Complete {
-            value: value_of(shown.value_type, shown.value),
-            pieces: pieces[..shown.pieces].iter().map(|shown| piece(shown, texts)).collect(),
-        },
-        _ => Outcome::Requires(request(shown, texts)),
-    }
-}
-
-fn request<'a>(shown: &RawOutcome, texts: &[&'a [u8]]) -> Request<'a> {
-    let base_type = base_type(shown.base_type);
-    let flag = shown.flag != 0;
-    let number = shown.number;
-    match shown.request {
-        2 => Request::Memory { address: number, size: shown.size, space: flag.then_some(shown.space), base_type },
-        3 => Request::Register { register: shown.register_number, base_type },
-        4 => Request::FrameBase,
-        5 => Request::Tls { offset: number },
-        6 => Request::Cfa,
-        7 => Request::Location { offset: number, in_debug_info: flag },
-        8 => Request::EntryValue {
-            expression: &texts[shown.block_text][shown.block_offset..][..shown.block_length],
-        },
-        9 => Request::Parameter { offset: number },
-        10 => Request::Relocated { address: number },
-        11 => Request::Indexed { index: number, relocate: flag },
-        12 => Request::BaseType { offset: shown.base_type },
-        13 => Request::WasmLocal { index: number },
-        14 => Request::WasmGlobal { index: number },
-        15 => Request::WasmStack { index: number },
-        request => unreachable!("request {request}"),
-    }
-}
-
-fn piece<'a>(shown: &RawPiece, texts: &[&'a [u8]]) -> Piece<'a> {
-    let location = match shown.kind {
-        1 => Location::Empty,
-        2 => Location::Register { register: shown.number },
-        3 => Location::Address { address: shown.number },
-        4 => match value_of(shown.value_type, shown.number) {
-            Some(value) => Location::Value { value },
-            None => unreachable!("a value without a type"),
-        },
-        5 => Location::Bytes { bytes: &texts[shown.block_text][shown.block_offset..][..shown.block_length] },
-        6 => Location::ImplicitPointer { value: shown.number, byte_offset: shown.byte_offset },
-        kind => unreachable!("kind of a piece {kind}"),
-    };
-    Piece {
-        size_in_bits: (shown.has_size != 0).then_some(shown.size_in_bits),
-        bit_offset: (shown.has_bit_offset != 0).then_some(shown.bit_offset),
-        location,
+impl fmt::Debug for Held {
+    fn fmt(&self, f: &mut fmt::Formatter<'_>) -> fmt::Result {
+        f.write_str("Held")
     }
 }

@@ -1,0 +1,223 @@
+#!/usr/bin/env python3
+"""Runs gimli's own tests of `op.rs` and `value.rs` on the crate in rust/.
+
+    tests/run_upstream.py FOLDER
+
+FOLDER holds the test modules of gimli 0.34.0, which are no part of this repository: of src/read/value.rs as
+`tests-part1.rs.txt`, and of src/read/op.rs as `tests-part2.rs.txt`. Their `use` lines are changed to name this crate,
+and nothing else but what is left out, by name below. A few lines stand in for the crate `test_assembler`, for
+`leb128::write`, and for a private function of gimli's.
+
+The last line is `N passed, M failed`.
+"""
+
+import os
+import pathlib
+import re
+import shutil
+import subprocess
+import sys
+import tempfile
+
+TOP = pathlib.Path(__file__).resolve().parent.parent
+sys.dont_write_bytecode = True
+sys.path.insert(0, str(TOP / "bin"))
+import archive  # noqa: E402
+
+PARTS = {"value": "tests-part1.rs.txt", "op": "tests-part2.rs.txt"}
+SECONDS = 600
+
+# Tests that aren't run, each with the reason.
+LEFT_OUT = {
+    "valuetype_from_encoding": "it reads an entry's attributes, which is the layer above",
+    "test_compute_pc": "it calls a private function",
+}
+# Rows that are left out: floating point.
+FLOATS = re.compile(r"^ *\(.*\bF(?:32|64)\b.*\),\n", re.MULTILINE)
+# A copy that ends within its last test is cut before this comment of that test.
+LAST = ("test_eval_context", "        // Test `evaluate_entry_value` callback.\n")
+
+# A `use` item of the modules, and what it becomes. All others stay.
+USES = [
+    (r"use super::\*;", "use dwexpr::*;\n    #[allow(unused_imports)]\n    use crate::generic_type;"),
+    (r"use crate::(?:common|endianity)::", "use dwexpr::"),
+    (r"use crate::constants", "use dwexpr::constants"),
+    (r"use crate::read::\{\s*Abbreviation,[^}]*\};", "use dwexpr::read::{EndianSlice, UnitOffset};"),
+    (r"use crate::read::", "use dwexpr::read::"),
+    (r"use alloc::vec::Vec;", ""),
+    (r"use test_assembler::", "use crate::test_assembler::"),
+]
+
+STAND_INS = """\
+#![allow(unused_imports, non_snake_case)]
+
+/// The type at offset 0.
+pub fn generic_type() -> dwexpr::UnitOffset {
+    dwexpr::UnitOffset(0)
+}
+
+pub mod leb128 {
+    pub mod write {
+        pub struct Leb128(Vec<u8>);
+
+        impl Leb128 {
+            pub fn unsigned(number: u64) -> Self {
+                Leb128::of(number.into(), |rest, _| rest == 0)
+            }
+
+            pub fn signed(number: i64) -> Self {
+                Leb128::of(number.into(), |rest, byte| rest == if byte & 0x40 == 0 { 0 } else { -1 })
+            }
+
+            fn of(number: i128, is_last: impl Fn(i128, u8) -> bool) -> Self {
+                let (mut rest, mut bytes) = (number, Vec::new());
+                loop {
+                    let byte = (rest & 0x7f) as u8;
+                    rest >>= 7;
+                    if is_last(rest, byte) {
+                        bytes.push(byte);
+                        return Leb128(bytes);
+                    }
+                    bytes.push(byte | 0x80);
+                }
+            }
+
+            pub fn bytes(&self) -> Vec<u8> {
+                self.0.clone()
+            }
+        }
+    }
+}
+
+pub mod test_assembler {
+    pub enum Endian {
+        Little,
+    }
+
+    pub struct Section(pub Vec<u8>);
+
+    impl Section {
+        pub fn with_endian(_: Endian) -> Self {
+            Section(Vec::new())
+        }
+
+        pub fn append_bytes(mut self, bytes: &[u8]) -> Self {
+            self.0.extend_from_slice(bytes);
+            self
+        }
+
+        pub fn D8(self, number: u8) -> Self {
+            self.append_bytes(&[number])
+        }
+
+        pub fn L16(self, number: u16) -> Self {
+            self.append_bytes(&number.to_le_bytes())
+        }
+
+        pub fn L32(self, number: u32) -> Self {
+            self.append_bytes(&number.to_le_bytes())
+        }
+
+        pub fn L64(self, number: u64) -> Self {
+            self.append_bytes(&number.to_le_bytes())
+        }
+
+        pub fn D32(self, number: u32) -> Self {
+            self.L32(number)
+        }
+
+        pub fn D64(self, number: u64) -> Self {
+            self.L64(number)
+        }
+
+        pub fn get_contents(self) -> Option<Vec<u8>> {
+            Some(self.0)
+        }
+    }
+}
+
+pub mod test_util {
+    use crate::leb128::write::Leb128;
+    use crate::test_assembler::Section;
+
+    pub trait GimliSectionMethods {
+        fn uleb(self, number: u64) -> Self;
+        fn sleb(self, number: i64) -> Self;
+    }
+
+    impl GimliSectionMethods for Section {
+        fn uleb(self, number: u64) -> Self {
+            self.append_bytes(&Leb128::unsigned(number).bytes())
+        }
+
+        fn sleb(self, number: i64) -> Self {
+            self.append_bytes(&Leb128::signed(number).bytes())
+        }
+    }
+}
+"""
+
+CARGO = """\
+[package]
+name = "upstream"
+version = "0.0.0"
+edition = "2024"
+
+[dependencies]
+dwexpr = {{ path = "{crate}" }}
+
+[workspace]
+"""
+
+
+def carried(text):
+    """A test module in the form in which it runs here, and the names of its tests."""
+    names = re.findall(r"#\[test\]\n(?: *#\[.*\]\n)* *fn (\w+)", text)
+    if text.count("{") != text.count("}") and names[-1] == LAST[0]:
+        text = text[: text.index(LAST[1])] + "    }\n}\n"
+    for name in LEFT_OUT.keys() & set(names):
+        text = re.sub(rf"^    #\[test\]\n(?:    #\[.*\]\n)*    fn {name}\(.*?^    \}}\n", "", text, flags=re.M | re.S)
+    text = FLOATS.sub("", text)
+    for before, after in USES:
+        text = re.sub(before, after, text)
+    return re.sub(r'^#\[cfg\(feature = "write"\)\]\n', "", text, flags=re.M), names
+
+
+def main():
+    if len(sys.argv) != 2:
+        print(__doc__, file=sys.stderr)
+        return 2
+    if not shutil.which("cargo"):
+        print("left out: gimli's own tests: there is no cargo\n0 passed, 0 failed")
+        return 0
+    failure = archive.build()
+    if failure:
+        print(f"FAILED the archive\n{failure}\n0 passed, 1 failed")
+        return 1
+    with tempfile.TemporaryDirectory() as name:
+        folder = pathlib.Path(name)
+        (folder / "src").mkdir()
+        (folder / "Cargo.toml").write_text(CARGO.format(crate=TOP / "rust"))
+        root, all_names = STAND_INS, []
+        for part, file in PARTS.items():
+            text, names = carried((pathlib.Path(sys.argv[1]) / file).read_text())
+            (folder / "src" / f"{part}.rs").write_text(text)
+            root += f"\n#[cfg(test)]\nmod {part};\n"
+            all_names += names
+        (folder / "src/lib.rs").write_text(root)
+        words = ["cargo", "test", "--offline", "--quiet", "--lib", "--manifest-path", folder / "Cargo.toml"]
+        env = {"DWEXPR_C": str(archive.path_of().parent), **os.environ, "CARGO_TARGET_DIR": str(folder / "target")}
+        done = subprocess.run(words, capture_output=True, text=True, timeout=SECONDS, check=False, env=env)
+    said = re.search(r"(\d+) passed; (\d+) failed", done.stdout)
+    good, bad = map(int, said.groups()) if said else (0, 1)
+    if bad:
+        print(done.stdout + done.stderr)
+    for name in filter(LEFT_OUT.get, all_names):
+        print(f"left out: {name}: {LEFT_OUT[name]}")
+    print(f"{good + bad} of gimli's {len(all_names)} tests ran")
+    print(f"{good} passed, {bad} failed")
+    return 1 if bad else 0
+
+
+if __name__ == "__main__":
+    sys.exit(main())

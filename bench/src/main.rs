@@ -10,6 +10,7 @@ mod theirs;
 mod works;
 
 use expressions::Numbers;
+use gimli as layer;
 use job::{Case, Job, Side, Work};
 use std::hint::black_box;
 use std::process::ExitCode;

@@ -1,0 +1,11 @@
+//! By gimli.
+
+pub use gimli as layer;
+
+#[path = "../../src/sums.rs"]
+mod sums;
+
+#[path = "work.rs"]
+mod work;
+
+pub use work::{decode, evaluate};

@@ -1,26 +1,22 @@
 -- What a call of an evaluation replies: the nested meaning, and what is left of it.
 pub use Rattle.dwarf_machine.specs.Inputs.{input_of, Keeps, with_status, first_of, IsFresh, with_object, with_maximum}
-use Rattle.std.specs.Prelude.{ℕ, ◌≡◌, ◌+◌, List, [], ◌∷◌, Option, Result, Ok, Err, length}
+use Rattle.std.specs.Prelude.{ℕ, ◌≡◌, ◌+◌, List, [], Option, Result, Ok, Err, length}
 use Rattle.dwarf_base.specs.declared.errors.Error.{Error}
 use Rattle.dwarf_base.specs.Faults.{fault_of}
 use Rattle.dwarf_base.specs.Reads.{Text}
 use Rattle.dwarf_value.specs.declared.types.Value.{Value}
+use Rattle.dwarf_meaning.specs.Kinds.{kind_of_request, kind_of_waiting}
 use Rattle.dwarf_meaning.specs.Requests as requests
 use Rattle.dwarf_meaning.specs.Requests.{Input}
-use Rattle.dwarf_meaning.specs.Refusals.{IsLater, MayPick, Refusal, before_input}
-use Rattle.dwarf_meaning.specs.Run.{Position}
-use Rattle.dwarf_meaning.specs.Meaning.{Outcome, course_of, meaning}
-use Rattle.dwarf_meaning.specs.Rest.{State, Status, Start, Running, RequestStatus, CompleteStatus, FaultStatus, rest}
+use Rattle.dwarf_meaning.specs.Refusals.{IsLater, MayPick, Refusal}
+use Rattle.dwarf_meaning.specs.Meaning.{course_of, meaning}
+use Rattle.dwarf_meaning.specs.Rest.{State, Status, Start, Running, RequestStatus, CompleteStatus, FaultStatus}
 use Rattle.dwarf_meaning.specs.Steps.{Reply, CompleteReply, RequestReply, FaultReply, reply}
 use Rattle.dwarf_op.specs.Views.{reference_of}
 use Rattle.dwarf_eval.specs.Bounds.{Spends}
-use Rattle.dwarf_eval.specs.Paths.{path}
+use Rattle.dwarf_eval.specs.Paths.{Total, total, total_after}
 use Rattle.dwarf_eval.specs.declared.op.results.EvaluationResult.{EvaluationResult}
 use Rattle.dwarf_eval.specs.declared.op.results.EvaluationResult.TheVariants as result
-
--- what comes of a state and its next input
-abbrev pub after_input : State → Input → Refusal → List Input → Outcome
-after_input x input r inputs = rest (before_input r) x (input ∷ inputs)
 
 -- it waits or is complete
 abbrev pub WaitsOrIsComplete : Status → Type 0
@@ -66,37 +62,37 @@ IsEndedBy replied (CompleteStatus value) = replied ≡ Ok result.Complete
 IsEndedBy replied (FaultStatus error) = replied ≡ Err error
 IsEndedBy replied _ = Unit {0}
 
--- A call replied what `outcomes` gives for some refusal, or for none; the setup and the settings stay; and as long as it
--- isn't over, what is left of the new state is what `outcomes` gives, for all inputs to come.
-pub record Follows (old : State) (outcomes : Refusal → List Input → Outcome) (replied : Reply) (new : State) : Type 0 where
+-- by the status: an evaluation at the start is fresh, an open request waits for an answer of the kind that it asks for,
+-- and none runs
+abbrev pub IsAtRestBy : State → Status → Type 0
+IsAtRestBy x (Start initial_value) = IsFresh x initial_value
+IsAtRestBy x (RequestStatus request waiting) = kind_of_waiting waiting ≡ kind_of_request request
+IsAtRestBy x Running = ⊥
+IsAtRestBy x _ = Unit {0}
+
+-- between calls nothing runs
+abbrev pub IsAtRest : State → Type 0
+IsAtRest x = IsAtRestBy x x.status
+
+-- For some refusal, or for none, a call replied as `totals` gives it and counted as many operations; the setup and the
+-- settings stay; and as long as it isn't over, the total of the new state is what `totals` gives, for all inputs to come.
+pub record Follows (old : State) (totals : Refusal → List Input → Total) (replied : Reply) (new : State) : Type 0 where
   pub refusal : Refusal
   pub may : MayPick old.setup.limits refusal
-  pub reply : replied ≡ reply (outcomes refusal [])
+  pub reply : replied ≡ reply (totals refusal []).outcome
+  pub count : new.store.count ≡ (totals refusal []).count
   pub status : IsReplied replied new.status
-  pub more : WaitsOrIsComplete new.status → (r : Refusal) (inputs : List Input) → IsLater r → outcomes r inputs ≡ rest r new inputs
+  pub rests : IsAtRest new
+  pub more : WaitsOrIsComplete new.status → (r : Refusal) (inputs : List Input) → IsLater r → totals r inputs ≡ total new r inputs
   pub kept : Keeps old new
   pub spends : Spends old new
 
--- The same call counts what `paths` gives: for some refusal, or for none, it replies what `outcomes` gives and
--- counts as many operations as there are on the path; and the inputs to come count what is left of the path.
-pub record Counts (old : State) (outcomes : Refusal → List Input → Outcome) (paths : Refusal → List Input → List Position) (replied : Reply) (new : State) : Type 0 where
-  pub refusal : Refusal
-  pub may : MayPick old.setup.limits refusal
-  pub reply : replied ≡ reply (outcomes refusal [])
-  pub count : new.store.count ≡ old.store.count + length (paths refusal [])
-  pub more : WaitsOrIsComplete new.status → (r : Refusal) (inputs : List Input) → IsLater r → old.store.count + length (paths r inputs) ≡ new.store.count + length (path r new inputs)
-
--- the meaning of a fresh evaluation, with this initial value
-abbrev pub means : State → Option ℕ → Refusal → List Input → Outcome
-means x initial_value r inputs = meaning x.setup r x.text (first_of x initial_value) inputs
-
--- the path of the meaning
-abbrev pub means_path : State → Option ℕ → Refusal → List Input → List Position
-means_path x initial_value r inputs = (course_of x.setup r x.text (first_of x initial_value) inputs).path
-
--- the path behind a state and its next input
-abbrev pub path_after : State → Input → Refusal → List Input → List Position
-path_after x input r inputs = path (before_input r) x (input ∷ inputs)
+-- a fresh evaluation, with this initial value: its meaning, and as many operations more as there are on its path
+abbrev pub means : State → Option ℕ → Refusal → List Input → Total
+means x initial_value r inputs = record {
+  outcome = meaning x.setup r x.text (first_of x initial_value) inputs;
+  count = x.store.count + length (course_of x.setup r x.text (first_of x initial_value) inputs).path;
+}
 
 -- `evaluate`: at the start it replies the meaning; after that it replies what it replied, and changes nothing; it isn't
 -- called in a request, nor does anything run between calls
@@ -106,34 +102,11 @@ Evaluates text number old new replied (CompleteStatus value) = (replied ≡ Ok r
 Evaluates text number old new replied (FaultStatus error) = (replied ≡ Err error) × (new ≡ old)
 Evaluates text number old new replied _ = ⊥
 
--- `evaluate` counts the operations on the path of the meaning, and after the start none
-abbrev pub EvaluatesPath : State → State → Reply → Status → Type 0
-EvaluatesPath old new replied (Start initial_value) = Counts old (means old initial_value) (means_path old initial_value) replied new
-EvaluatesPath old new replied (CompleteStatus value) = new ≡ old
-EvaluatesPath old new replied (FaultStatus error) = new ≡ old
-EvaluatesPath old new replied _ = Unit {0}
-
 -- a resume: it goes on with the input; after a fault it replies that, and changes nothing
 abbrev pub Resumes : {R O P : Type 0} → (R → Text) → (O → ℕ) → Input → State → State → Result (EvaluationResult R O P) Error → Status → Type 0
-Resumes text number input old new replied (RequestStatus request waiting) = Follows old (after_input old input) (reply_of text number replied) new
+Resumes text number input old new replied (RequestStatus request waiting) = Follows old (total_after old input) (reply_of text number replied) new
 Resumes text number input old new replied (FaultStatus error) = (replied ≡ Err error) × (new ≡ old)
 Resumes text number input old new replied _ = Unit {0}
-
--- a resume counts the operations on the path behind its input, and after a fault none
-abbrev pub ResumesPath : Input → State → State → Reply → Status → Type 0
-ResumesPath input old new replied (RequestStatus request waiting) = Counts old (after_input old input) (path_after old input) replied new
-ResumesPath input old new replied (FaultStatus error) = new ≡ old
-ResumesPath input old new replied _ = Unit {0}
-
--- by the status: an evaluation at the start is fresh, and none runs
-abbrev pub IsAtRestBy : State → Status → Type 0
-IsAtRestBy x (Start initial_value) = IsFresh x initial_value
-IsAtRestBy x Running = ⊥
-IsAtRestBy x _ = Unit {0}
-
--- between calls nothing runs
-abbrev pub IsAtRest : State → Type 0
-IsAtRest x = IsAtRestBy x x.status
 
 -- no request is open
 abbrev pub IsClosed : Status → Type 0

@@ -1,10 +1,14 @@
 -- What resumes are given, and where an evaluation stands as its caller sees it.
 pub use Rattle.dwarf_machine.specs.Answers.{answer_of, IsWaitingFor, IsWaitingTo}
-use Rattle.std.specs.Prelude.{◌≡◌, Bool, true, false, None, is_some}
+use Rattle.std.specs.Prelude.{ℕ, ◌≡◌, ◌<◌, Bool, true, false, None, Result, IfOk, is_some}
+use Rattle.dwarf_base.specs.declared.errors.Error.{Error}
+use Rattle.dwarf_base.specs.Reads.{Text}
 use Rattle.dwarf_meaning.specs.Kinds.{kind_of_request, kind_of_waiting}
+use Rattle.dwarf_meaning.specs.Requests.{Answer}
 use Rattle.dwarf_meaning.specs.Rest as rest
 use Rattle.dwarf_meaning.specs.Rest.{Start, Running, RequestStatus, CompleteStatus, FaultStatus}
-use Rattle.dwarf_eval.specs.Evaluation.{IsClosed, IsComplete}
+use Rattle.dwarf_eval.specs.Bounds.{calls_left}
+use Rattle.dwarf_eval.specs.Evaluation.{IsClosed, IsComplete, Resumes, input_of}
 use Rattle.dwarf_eval.specs.declared.op.results.EvaluationResult.{EvaluationResult}
 use Rattle.dwarf_eval.specs.declared.op.results.EvaluationResult.TheVariants as result
 use Rattle.dwarf_meaning.specs.declared.kinds.WaitingKind.{WaitingKind}
@@ -21,9 +25,9 @@ Shows (CompleteStatus value) shown = shown ≡ status.Complete
 Shows (FaultStatus error) shown = shown ≡ status.Failed error
 Shows Running shown = ⊥
 
--- what is open waits for an answer of this kind, or the evaluation met a fault
+-- a request is open that asks for an answer of this kind, or the evaluation met a fault
 abbrev pub IsOpenFor : WaitingKind → rest.Status → Type 0
-IsOpenFor kind (RequestStatus request waiting) = kind_of_waiting waiting ≡ kind
+IsOpenFor kind (RequestStatus request waiting) = kind_of_request request ≡ kind
 IsOpenFor kind (FaultStatus error) = Unit {0}
 IsOpenFor kind _ = ⊥
 
@@ -56,3 +60,10 @@ Admits (result.RequiresParameterRef offset) s = IsOpenFor kind.ParameterRef s
 Admits (result.RequiresRelocatedAddress address) s = IsOpenFor kind.RelocatedAddress s
 Admits (result.RequiresIndexedAddress index relocate) s = IsOpenFor kind.IndexedAddress s
 Admits (result.RequiresBaseType base_type) s = IsOpenFor kind.BaseType s
+
+-- A resume with this answer: it goes on by it, or gives the fault that was met; a reply permits the call that it asks
+-- for, and fewer resumes are left.
+pub record AnswersWith {R O P : Type 0} (text : R → Text) (number : O → ℕ) (answer : Answer) (old new : rest.State) (replied : Result (EvaluationResult R O P) Error) : Type 0 where
+  pub follows : Resumes text number (input_of old answer) old new replied old.status
+  pub admits : IfOk replied (λ reply. Admits reply new.status)
+  pub fewer : IfOk replied (λ reply. calls_left new < calls_left old)

@@ -1,12 +1,12 @@
 -- Where the operations stand that are counted by what is left to do of an evaluation (DWARF 5, sections 2.5 and 2.5.1.5).
-use Rattle.std.specs.Prelude.{List, [], ◌∷◌, ◌++◌, Result, Ok, Err, length}
+use Rattle.std.specs.Prelude.{ℕ, ◌+◌, List, [], ◌∷◌, ◌++◌, Result, Ok, Err, length}
 use Rattle.dwarf_base.specs.Faults.{Fault}
 use Rattle.dwarf_meaning.specs.Requests.{Input}
 use Rattle.dwarf_meaning.specs.Stores.{Setup, Store}
 use Rattle.dwarf_meaning.specs.Run.{Position, End, CompleteEnd, RequestEnd, FaultEnd, Course, run, await_answer}
-use Rattle.dwarf_meaning.specs.Meaning.{with_initial}
-use Rattle.dwarf_meaning.specs.Rest.{State, Status, Start, Running, RequestStatus, CompleteStatus, FaultStatus, with_refusal}
-use Rattle.dwarf_meaning.specs.Refusals.{Refusal}
+use Rattle.dwarf_meaning.specs.Meaning.{Outcome, with_initial}
+use Rattle.dwarf_meaning.specs.Rest.{State, Status, Start, Running, RequestStatus, CompleteStatus, FaultStatus, with_refusal, rest}
+use Rattle.dwarf_meaning.specs.Refusals.{Refusal, before_input}
 
 -- the path of the callers' rest, which follows a run, inside out
 abbrev pub path_behind : Setup → List Position → End → List Position
@@ -37,3 +37,18 @@ path_by x s inputs (FaultStatus error) = []
 -- where the operations stand that are still counted, with these inputs, where this push is refused
 unfoldable pub path : Refusal → State → List Input → List Position
 path refusal x inputs = path_by x (with_refusal refusal x.store) inputs x.status
+
+-- ---- with what comes of it
+
+-- the outcome of an evaluation, and how many operations are counted by then
+pub record Total : Type 0 where
+  pub outcome : Outcome
+  pub count : ℕ
+
+-- the total of a state, with these inputs
+abbrev pub total : State → Refusal → List Input → Total
+total x r inputs = record { outcome = rest r x inputs; count = x.store.count + length (path r x inputs) }
+
+-- the total of a state and its next input
+abbrev pub total_after : State → Input → Refusal → List Input → Total
+total_after x input r inputs = total x (before_input r) (input ∷ inputs)

@@ -13,14 +13,15 @@ use Rattle.dwarf_meaning.specs.Meaning.{Outcome, RequestOutcome, FaultOutcome, C
 use Rattle.dwarf_meaning.specs.Rest.{State, Status, Start, Running, RequestStatus, CompleteStatus, FaultStatus, with_refusal, rest_by, rest}
 use Rattle.dwarf_meaning.specs.Steps.{Step, InitialValue, ObjectAddress, MaxIterations, Evaluate, Resume, Told, Reply, CompleteReply, FaultReply, reply, replies, IsEvaluable, Awaits, Allows, begun, after, outcome_of, outcome_from, step_replies}
 use Rattle.dwarf_meaning.specs.Refusals.{Refusal, IsLater, before_inputs, MayPick, before_input}
-use Rattle.dwarf_eval.specs.Evaluation.{IsReplied, Follows, first_of, means, IsClosed, Evaluates, Resumes, reply_of, WaitsOrIsComplete, after_input, input_of}
-use Rattle.dwarf_replay.specs.Stepping.{IsInRequestFor, HasReplied}
+use Rattle.dwarf_eval.specs.Evaluation.{IsReplied, Follows, first_of, means, IsClosed, Evaluates, Resumes, reply_of, WaitsOrIsComplete, input_of}
+use Rattle.dwarf_eval.specs.Permits.{IsOpenFor}
+use Rattle.dwarf_eval.specs.Paths.{Total, total_after}
+use Rattle.dwarf_replay.specs.Stepping.{HasReplied}
 use Rattle.dwarf_replay.specs.Replays.{Tells}
 use Rattle.dwarf_eval.specs.declared.op.results.EvaluationResult.{EvaluationResult}
 use Rattle.dwarf_eval.specs.Bounds.{SpendsInAll, initial_items}
-use Rattle.dwarf_replay.proofs.Rests.{told_rest}
+use Rattle.dwarf_eval.proofs.Following.{told_rest, unwound_open}
 use Rattle.dwarf_eval.proofs.Spending.{spent_more}
-use Rattle.dwarf_replay.proofs.Rests.{unwound_open}
 use Rattle.dwarf_replay.proofs.Telling.{walked_more}
 use Rattle.dwarf_replay.proofs.Standings.{Holds, Unstarted, Going, Over, WentBy, Went, later_before, may_inputs}
 
@@ -43,29 +44,29 @@ module _ (first : State) where
       (ap (meaning first.setup (before_inputs w.taken r) first.text w.settings) (sym (append-nil w.told.inputs))
       ∙ w.rest_is r [] l)
 
-  -- a call that answered what `outcomes` gives leads on
-  module _ (steps : List Step) (given : List Reply) (step : Step) (x new : State) (told : Reply) (outcomes : Refusal → List Input → Outcome) (h : Follows x outcomes told new) (now : Told) (n : ℕ) (settings : First) (started : now.first ≡ Some settings) (counted : length now.inputs ≡ n) (means_is : (r : Refusal) (inputs : List Input) → outcomes r inputs ≡ meaning first.setup (before_inputs n r) first.text settings (now.inputs ++ inputs)) (answers_one : (o : Outcome) → step_replies step (Some o) ≡ reply o ∷ []) where
-    called_outcome : (r : Refusal) → outcome_of first.setup (before_inputs n r) first.text now ≡ Some (outcomes r [])
+  -- a call that answered what `totals` gives leads on
+  module _ (steps : List Step) (given : List Reply) (step : Step) (x new : State) (told : Reply) (totals : Refusal → List Input → Total) (h : Follows x totals told new) (now : Told) (n : ℕ) (settings : First) (started : now.first ≡ Some settings) (counted : length now.inputs ≡ n) (means_is : (r : Refusal) (inputs : List Input) → (totals r inputs).outcome ≡ meaning first.setup (before_inputs n r) first.text settings (now.inputs ++ inputs)) (answers_one : (o : Outcome) → step_replies step (Some o) ≡ reply o ∷ []) where
+    called_outcome : (r : Refusal) → outcome_of first.setup (before_inputs n r) first.text now ≡ Some (totals r []).outcome
     called_outcome r =
         ap (outcome_from first.setup (before_inputs n r) first.text now.inputs) started
         ∙ ap Some
         (ap (meaning first.setup (before_inputs n r) first.text settings) (sym (append-nil now.inputs))
         ∙ sym (means_is r []))
 
-    called_replies : (r : Refusal) → told ≡ reply (outcomes r []) → given ++ told ∷ [] ≡ given ++ step_replies step (outcome_of first.setup (before_inputs n r) first.text now)
+    called_replies : (r : Refusal) → told ≡ reply (totals r []).outcome → given ++ told ∷ [] ≡ given ++ step_replies step (outcome_of first.setup (before_inputs n r) first.text now)
     called_replies r e =
         ap (λ (t : Reply). given ++ t ∷ []) e
-        ∙ ap (λ (l : List Reply). given ++ l) (sym (answers_one (outcomes r [])) ∙ ap (step_replies step) (sym (called_outcome r)))
+        ∙ ap (λ (l : List Reply). given ++ l) (sym (answers_one (totals r []).outcome) ∙ ap (step_replies step) (sym (called_outcome r)))
 
-    called_going : WaitsOrIsComplete new.status → Holds first now new → SpendsInAll (initial_items now.settings.initial_value) first new → ((r : Refusal) → IsLater r → told ≡ reply (outcomes r []) → Tells first (steps ++ step ∷ []) (given ++ told ∷ []) now (before_inputs n r)) → Going first (steps ++ step ∷ []) (given ++ told ∷ []) new
+    called_going : WaitsOrIsComplete new.status → Holds first now new → SpendsInAll (initial_items now.settings.initial_value) first new → ((r : Refusal) → IsLater r → told ≡ reply (totals r []).outcome → Tells first (steps ++ step ∷ []) (given ++ told ∷ []) now (before_inputs n r)) → Going first (steps ++ step ∷ []) (given ++ told ∷ []) new
     called_going o holds spent walked = record {
       told = now;
       taken = n;
       counted = counted;
-      walked = λ r l. walked r l (told_rest r new told h.status ∙ ap reply (sym (h.more o r [] l)));
+      walked = λ r l. walked r l (told_rest r new told h.status ∙ ap (λ (t : Total). reply t.outcome) (sym (h.more o r [] l)));
       settings = settings;
       started = started;
-      rest_is = λ r inputs l. sym (means_is r inputs) ∙ h.more o r inputs l;
+      rest_is = λ r inputs l. sym (means_is r inputs) ∙ ap (λ (t : Total). t.outcome) (h.more o r inputs l);
       holds = holds;
       spent = spent;
     }
@@ -81,11 +82,11 @@ module _ (first : State) where
       fails =
           ap (meaning first.setup (before_inputs n h.refusal) first.text settings) (sym (append-nil now.inputs))
           ∙ (sym (means_is h.refusal [])
-          ∙ reply_fault (outcomes h.refusal []) (fault_of error) (sym h.reply ∙ subst (IsReplied told) e h.status));
+          ∙ reply_fault (totals h.refusal []).outcome (fault_of error) (sym h.reply ∙ subst (IsReplied told) e h.status));
       spent = spent;
     }
 
-    called_by : (status : Status) → new.status ≡ status → MayPick first.setup.limits (before_inputs n h.refusal) → Holds first now new → SpendsInAll (initial_items now.settings.initial_value) first new → ((r : Refusal) → (IsLater r ⊎ (r ≡ h.refusal)) → told ≡ reply (outcomes r []) → Tells first (steps ++ step ∷ []) (given ++ told ∷ []) now (before_inputs n r)) → WentBy first (steps ++ step ∷ []) (given ++ told ∷ []) new status
+    called_by : (status : Status) → new.status ≡ status → MayPick first.setup.limits (before_inputs n h.refusal) → Holds first now new → SpendsInAll (initial_items now.settings.initial_value) first new → ((r : Refusal) → (IsLater r ⊎ (r ≡ h.refusal)) → told ≡ reply (totals r []).outcome → Tells first (steps ++ step ∷ []) (given ++ told ∷ []) now (before_inputs n r)) → WentBy first (steps ++ step ∷ []) (given ++ told ∷ []) new status
     called_by (RequestStatus request waiting) e may holds spent walked =
         called_going (subst WaitsOrIsComplete (sym e) tt) holds spent (λ r l. walked r (inl l))
     called_by (CompleteStatus value) e may holds spent walked =
@@ -110,7 +111,7 @@ module _ (first : State) (steps : List Step) (given : List Reply) (x new : State
       ap (λ (v : Option ℕ). record { initial_value = v; object_address = x.store.object_address; maximum = x.store.maximum }) (sym w.initial)
       ∙ (ap (λ (a : Option ℕ). record { initial_value = settings.initial_value; object_address = a; maximum = x.store.maximum }) w.holds.object_address
       ∙ ap (λ (m : ℕ). record { initial_value = settings.initial_value; object_address = settings.object_address; maximum = m }) w.holds.maximum) in
-      let means_is : (r : Refusal) (inputs : List Input) → means x initial_value r inputs ≡ meaning first.setup (before_inputs 0 r) first.text settings (now.inputs ++ inputs) = λ r inputs.
+      let means_is : (r : Refusal) (inputs : List Input) → (means x initial_value r inputs).outcome ≡ meaning first.setup (before_inputs 0 r) first.text settings (now.inputs ++ inputs) = λ r inputs.
       ap (λ (s : Setup). meaning s r x.text (first_of x initial_value) inputs) w.holds.setup
       ∙ (ap (λ (t : Text). meaning first.setup r t (first_of x initial_value) inputs) w.text
       ∙ (ap (λ (f : First). meaning first.setup r first.text f inputs) settings_are
@@ -174,7 +175,7 @@ module _ (first : State) (steps : List Step) (given : List Reply) (x new : State
       }
 
   -- an answer to an open request
-  goes_on : (told : Reply) (answer : Answer) (request : Request) (waiting : Waiting) → x.status ≡ RequestStatus request waiting → kind_of_request request ≡ kind_of_answer answer → Going first steps given x → Follows x (after_input x (input_of x answer)) told new → Went first (steps ++ Resume answer ∷ []) (given ++ told ∷ []) new
+  goes_on : (told : Reply) (answer : Answer) (request : Request) (waiting : Waiting) → x.status ≡ RequestStatus request waiting → kind_of_request request ≡ kind_of_answer answer → Going first steps given x → Follows x (total_after x (input_of x answer)) told new → Went first (steps ++ Resume answer ∷ []) (given ++ told ∷ []) new
   goes_on told answer request waiting e kind w h =
       let input = input_of x answer in
       let settings = w.told.settings in
@@ -186,13 +187,13 @@ module _ (first : State) (steps : List Step) (given : List Reply) (x new : State
       let input_is : record { object_address = settings.object_address; maximum = settings.maximum; answer = answer } ≡ input =
       ap (λ (a : Option ℕ). record { object_address = a; maximum = settings.maximum; answer = answer }) (sym w.holds.object_address)
       ∙ ap (λ (m : ℕ). record { object_address = x.store.object_address; maximum = m; answer = answer }) (sym w.holds.maximum) in
-      let means_is : (r : Refusal) (inputs : List Input) → after_input x input r inputs ≡ meaning first.setup (before_inputs (suc w.taken) r) first.text w.settings (now.inputs ++ inputs) = λ r inputs.
+      let means_is : (r : Refusal) (inputs : List Input) → (total_after x input r inputs).outcome ≡ meaning first.setup (before_inputs (suc w.taken) r) first.text w.settings (now.inputs ++ inputs) = λ r inputs.
       sym (w.rest_is (before_input r) (input ∷ inputs) (later_before r))
       ∙ ap (meaning first.setup (before_inputs (suc w.taken) r) first.text w.settings) (sym (append_assoc w.told.inputs (input ∷ []) inputs)) in
       let lengths = length-append w.told.inputs (input ∷ []) in
       let was = w.counted in
       let counted : length now.inputs ≡ suc w.taken = omega (arith, lengths, was) in
-      called_by first steps given (Resume answer) x new told (after_input x input) h now (suc w.taken) w.settings w.started counted means_is (λ o. refl) new.status refl
+      called_by first steps given (Resume answer) x new told (total_after x input) h now (suc w.taken) w.settings w.started counted means_is (λ o. refl) new.status refl
       (may_inputs first.setup.limits (suc w.taken) h.refusal (subst (λ (s : Setup). MayPick s.limits h.refusal) w.holds.setup h.may))
       (record {
         setup = h.kept.setup ∙ w.holds.setup;
@@ -204,7 +205,7 @@ module _ (first : State) (steps : List Step) (given : List Reply) (x new : State
       (subst (Awaits answer) (sym (is r)) kind)
       (ap (λ (o : Option Outcome). after w.told o (Resume answer)) (is r)
       ∙ ap (λ (i : Input). record { settings = settings; first = w.told.first; inputs = w.told.inputs ++ i ∷ [] }) input_is)
-      (called_replies first steps given (Resume answer) x new told (after_input x input) h now (suc w.taken) w.settings w.started counted means_is (λ o. refl) r s))
+      (called_replies first steps given (Resume answer) x new told (total_after x input) h now (suc w.taken) w.settings w.started counted means_is (λ o. refl) r s))
 
 module _ {R O P : Type 0} (text : R → Text) (number : O → ℕ) (first : State) (steps : List Step) (given : List Reply) (x new : State) where
   evaluates : (status : Status) → x.status ≡ status → (told : Result (EvaluationResult R O P) Error) → WentBy first steps given x status → Evaluates text number x new told status → IsClosed status → Went first (steps ++ Evaluate ∷ []) (given ++ reply_of text number told ∷ []) new
@@ -225,7 +226,7 @@ module _ {R O P : Type 0} (text : R → Text) (number : O → ℕ) (first : Stat
   evaluates (RequestStatus request waiting) e told w h c = absurd c
   evaluates Running e told w h c = absurd w
 
-  resumes : (status : Status) → x.status ≡ status → (answer : Answer) (told : Result (EvaluationResult R O P) Error) → WentBy first steps given x status → Resumes text number (input_of x answer) x new told status → IsInRequestFor (kind_of_answer answer) status → Went first (steps ++ Resume answer ∷ []) (given ++ reply_of text number told ∷ []) new
+  resumes : (status : Status) → x.status ≡ status → (answer : Answer) (told : Result (EvaluationResult R O P) Error) → WentBy first steps given x status → Resumes text number (input_of x answer) x new told status → IsOpenFor (kind_of_answer answer) status → Went first (steps ++ Resume answer ∷ []) (given ++ reply_of text number told ∷ []) new
   resumes (RequestStatus request waiting) e answer told w h k = goes_on first steps given x new (reply_of text number told) answer request waiting e k w h
   resumes (FaultStatus error) e answer told w h k =
       let again : Went first (steps ++ Resume answer ∷ []) (given ++ FaultReply (fault_of error) ∷ []) x =

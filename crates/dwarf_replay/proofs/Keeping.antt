@@ -6,7 +6,7 @@ use Rattle.dwarf_meaning.specs.Steps.{Step, InitialValue, ObjectAddress, MaxIter
 use Rattle.dwarf_meaning.specs.declared.kinds.WaitingKind.{WaitingKind}
 use Rattle.dwarf_eval.specs.Permits.{IsOpenFor}
 use Rattle.dwarf_store.specs.Lists.{MayRefuse}
-use Rattle.dwarf_replay.specs.Stepping.{IsInRequestFor, IsStepped, MayTake}
+use Rattle.dwarf_replay.specs.Stepping.{IsStepped, MayTake}
 use Rattle.dwarf_replay.specs.declared.steps.Answer.{Answer}
 use Rattle.dwarf_replay.specs.declared.steps.Stepped.TheVariants as stepped
 use Rattle.dwarf_replay.specs.declared.replaying.NotKept.TheVariants as stop
@@ -23,17 +23,17 @@ opened (MaxIterations maximum) kind status e h = cc e
 opened Evaluate kind status e h = cc e
 
 pub answered : {R O P : Type 0} (text : R → Text) (number : O → ℕ) (step : Step) (kind : WaitingKind) (old new : State) (answer : Answer R O P)
-    → IsKindOf step (Some kind) → IsInRequestFor kind old.status → IsResumed text number step old new answer.0
+    → IsKindOf step (Some kind) → IsOpenFor kind old.status → IsResumed text number step old new answer.0
     → IsStepped text number step old new (stepped.Answered answer)
-answered text number (Resume input) kind old new answer e asked h = (subst (λ k. IsInRequestFor k old.status) e asked, h)
+answered text number (Resume input) kind old new answer e asked h = (subst (λ k. IsOpenFor k old.status) e asked, h)
 answered text number (InitialValue value) kind old new answer e asked h = cc e
 answered text number (ObjectAddress address) kind old new answer e asked h = cc e
 answered text number (MaxIterations maximum) kind old new answer e asked h = cc e
 answered text number Evaluate kind old new answer e asked h = cc e
 
-pub not_asked : (step : Step) (kind : WaitingKind) (status : Status) → IsKindOf step (Some kind) → (IsInRequestFor kind status → ⊥)
+pub not_asked : (step : Step) (kind : WaitingKind) (status : Status) → IsKindOf step (Some kind) → (IsOpenFor kind status → ⊥)
     → MayTake step status → ⊥
-not_asked (Resume input) kind status e not h = not (subst (λ k. IsInRequestFor k status) (sym e) h)
+not_asked (Resume input) kind status e not h = not (subst (λ k. IsOpenFor k status) (sym e) h)
 not_asked (InitialValue value) kind status e not h = cc e
 not_asked (ObjectAddress address) kind status e not h = cc e
 not_asked (MaxIterations maximum) kind status e not h = cc e

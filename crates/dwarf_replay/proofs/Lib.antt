@@ -2,7 +2,6 @@ pub mod EqualEnds
 pub mod Calling
 pub mod Keeping
 pub mod Leading
-pub mod Rests
 pub mod Settings
 pub mod Standings
 pub mod Telling

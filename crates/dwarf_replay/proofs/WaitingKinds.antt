@@ -2,19 +2,18 @@
 use Rattle.std.proofs.Common.{◌≡◌, ◌∙◌, sym}
 use Rattle.dwarf_meaning.specs.Rest as rest
 use Rattle.dwarf_meaning.specs.Rest.{Start, Running, RequestStatus, CompleteStatus, FaultStatus}
-use Rattle.dwarf_eval.specs.Permits.{Shows}
-use Rattle.dwarf_replay.specs.Stepping.{IsInRequestFor}
+use Rattle.dwarf_eval.specs.Permits.{IsOpenFor, Shows}
 use Rattle.dwarf_eval.specs.declared.eval.states.Status.TheVariants as status
 use Rattle.dwarf_meaning.specs.declared.kinds.WaitingKind.{WaitingKind}
 
-pub asks : (s : rest.Status) (k j : WaitingKind) → Shows s (status.Waiting k) → k ≡ j → IsInRequestFor j s
+pub asks : (s : rest.Status) (k j : WaitingKind) → Shows s (status.Waiting k) → k ≡ j → IsOpenFor j s
 asks (RequestStatus request waiting) k j h e = sym h.1 ∙ e
 asks (Start initial_value) k j h e = cc
 asks (CompleteStatus value) k j h e = cc
 asks (FaultStatus error) k j h e = cc
 asks Running k j h e = absurd h
 
-pub is_asked : (s : rest.Status) (k j : WaitingKind) → Shows s (status.Waiting k) → IsInRequestFor j s → k ≡ j
+pub is_asked : (s : rest.Status) (k j : WaitingKind) → Shows s (status.Waiting k) → IsOpenFor j s → k ≡ j
 is_asked (RequestStatus request waiting) k j h a = h.1 ∙ a
 is_asked (Start initial_value) k j h a = absurd a
 is_asked (CompleteStatus value) k j h a = absurd a

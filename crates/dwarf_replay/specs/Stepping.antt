@@ -2,13 +2,13 @@
 use Rattle.std.specs.Prelude.{ℕ, ◌≡◌, Some, None, Result}
 use Rattle.dwarf_base.specs.declared.errors.Error.{Error}
 use Rattle.dwarf_base.specs.Reads.{Text}
-use Rattle.dwarf_meaning.specs.Kinds.{kind_of_request, kind_of_answer}
-use Rattle.dwarf_meaning.specs.declared.kinds.WaitingKind.{WaitingKind}
+use Rattle.dwarf_meaning.specs.Kinds.{kind_of_answer}
 use Rattle.dwarf_meaning.specs.Requests as requests
-use Rattle.dwarf_meaning.specs.Rest.{State, Status, Start, RequestStatus, FaultStatus}
+use Rattle.dwarf_meaning.specs.Rest.{State, Status, Start}
 use Rattle.dwarf_meaning.specs.Steps as meaning
 use Rattle.dwarf_meaning.specs.Steps.{InitialValue, ObjectAddress, MaxIterations, Evaluate, Resume}
 use Rattle.dwarf_eval.specs.Evaluation.{Evaluates, Resumes, IsClosed, with_object, with_maximum, input_of, with_status}
+use Rattle.dwarf_eval.specs.Permits.{IsOpenFor}
 use Rattle.dwarf_eval.specs.declared.op.results.EvaluationResult.{EvaluationResult}
 use Rattle.dwarf_replay.specs.declared.steps.Step.{Step}
 use Rattle.dwarf_replay.specs.declared.steps.Step.TheVariants as step
@@ -34,19 +34,13 @@ step_of text (step.IndexedAddress number) = meaning.Resume (requests.IndexedAnsw
 step_of text (step.AtLocation expression) = meaning.Resume (requests.LocationAnswer (text expression))
 step_of text (step.BaseType value_type) = meaning.Resume (requests.BaseTypeAnswer value_type)
 
--- what was asked is answered by this kind, or the evaluation met a fault
-abbrev pub IsInRequestFor : WaitingKind → Status → Type 0
-IsInRequestFor kind (RequestStatus request waiting) = kind_of_request request ≡ kind
-IsInRequestFor kind (FaultStatus error) = Unit {0}
-IsInRequestFor kind _ = ⊥
-
 -- the status allows the step
 abbrev pub MayTake : meaning.Step → Status → Type 0
 MayTake (InitialValue number) status = status ≡ Start None
 MayTake (ObjectAddress address) status = Unit {0}
 MayTake (MaxIterations maximum) status = Unit {0}
 MayTake Evaluate status = IsClosed status
-MayTake (Resume answer) status = IsInRequestFor (kind_of_answer answer) status
+MayTake (Resume answer) status = IsOpenFor (kind_of_answer answer) status
 
 -- a setting
 abbrev pub IsSet : meaning.Step → State → State → Type 0
@@ -58,7 +52,7 @@ IsSet _ old new = ⊥
 -- the evaluation replied
 abbrev pub HasReplied : {R O P : Type 0} → (R → Text) → (O → ℕ) → meaning.Step → State → State → Result (EvaluationResult R O P) Error → Type 0
 HasReplied text number Evaluate old new replied = IsClosed old.status × Evaluates text number old new replied old.status
-HasReplied text number (Resume answer) old new replied = IsInRequestFor (kind_of_answer answer) old.status × Resumes text number (input_of old answer) old new replied old.status
+HasReplied text number (Resume answer) old new replied = IsOpenFor (kind_of_answer answer) old.status × Resumes text number (input_of old answer) old new replied old.status
 HasReplied text number _ old new replied = ⊥
 
 -- what came of the step

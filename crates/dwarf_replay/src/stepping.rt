@@ -1,7 +1,7 @@
 ghost use Rattle.std.specs.Prelude.{◌≡◌, ◌↔◌, true};
 ghost use Rattle.dwarf_eval.specs.Permits.{IsOpenFor};
 ghost use Rattle.dwarf_meaning.specs.Steps as meaning;
-ghost use Rattle.dwarf_replay.specs.Stepping.{IsInRequestFor, IsStepped, step_of};
+ghost use Rattle.dwarf_replay.specs.Stepping.{IsStepped, step_of};
 ghost use Rattle.dwarf_replay.specs.inner.Keeping.{IsKindOf, IsOpenAt, IsResumed};
 
 use crate::steps::{Answer, Step, Stepped};
@@ -45,8 +45,7 @@ fn awaits<R: Reader + Copy, S: EvaluationStorage<R>>(
     eval: &Evaluation<R, S>,
     kind: WaitingKind,
 ) -> bool
-    ensures asked { (result ≡ true) ↔ IsInRequestFor kind eval.now.status }
-    ensures open { result ≡ true → IsOpenFor kind eval.now.status }
+    ensures { (result ≡ true) ↔ IsOpenFor kind eval.now.status }
 {
     match eval.status() {
         Status::Start { initial: _ } => false,

@@ -6,8 +6,9 @@ use Rattle.dwarf_meaning.specs.Requests as requests
 use Rattle.dwarf_meaning.specs.Rest.{State, Status, Start, Running, RequestStatus, CompleteStatus, FaultStatus}
 use Rattle.dwarf_meaning.specs.Steps.{Step, InitialValue, ObjectAddress, MaxIterations, Evaluate, Resume}
 use Rattle.dwarf_eval.specs.Evaluation.{Evaluates, Resumes, input_of}
+use Rattle.dwarf_eval.specs.Permits.{IsOpenFor}
 use Rattle.dwarf_eval.specs.declared.op.results.EvaluationResult.{EvaluationResult}
-use Rattle.dwarf_replay.specs.Stepping.{HasReplied, IsInRequestFor, IsSet}
+use Rattle.dwarf_replay.specs.Stepping.{HasReplied, IsSet}
 use Rattle.dwexpr_c.specs.Stepping.{DoesStep, Stops, Takes}
 use Rattle.dwexpr_c.specs.Texts.{text_of_placed}
 use Rattle.dwexpr_c.specs.declared.faults.FaultNumbers.{FaultNumbers}
@@ -34,7 +35,7 @@ module _ (x new : State) where
     evaluate_keeps (RequestStatus request waiting) h = absurd h
     evaluate_keeps Running h = absurd h
 
-    resume_keeps : (answer : requests.Answer) (status : Status) → IsInRequestFor (kind_of_answer answer) status → Resumes text_of_placed (λ x. x) (input_of x answer) x new told status → new.setup ≡ x.setup
+    resume_keeps : (answer : requests.Answer) (status : Status) → IsOpenFor (kind_of_answer answer) status → Resumes text_of_placed (λ x. x) (input_of x answer) x new told status → new.setup ≡ x.setup
     resume_keeps answer (RequestStatus request waiting) asking h = h.kept.setup
     resume_keeps answer (FaultStatus error) asking h = same_keeps h.1
     resume_keeps answer (Start initial_value) asking h = absurd asking

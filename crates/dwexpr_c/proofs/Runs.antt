@@ -13,9 +13,10 @@ use Rattle.dwarf_meaning.specs.Steps.{Step, InitialValue, ObjectAddress, MaxIter
 use Rattle.dwarf_meaning.specs.Refusals.{Limits, Refusal, Never, After, MayPick}
 use Rattle.dwarf_meaning.specs.Kinds.{kind_of_answer}
 use Rattle.dwarf_eval.specs.Evaluation.{Evaluates, IsClosed, IsReplied, Resumes, input_of, reply_of, ok_reply}
+use Rattle.dwarf_eval.specs.Permits.{IsOpenFor}
 use Rattle.dwarf_eval.specs.declared.op.results.EvaluationResult.{EvaluationResult}
 use Rattle.dwarf_replay.specs.Replays.{StandsAt, IsInRequest, IsInFault, Tells, told_at}
-use Rattle.dwarf_replay.specs.Stepping.{IsInRequestFor, HasReplied, IsSet, MayTake}
+use Rattle.dwarf_replay.specs.Stepping.{HasReplied, IsSet, MayTake}
 use Rattle.dwarf_replay.proofs.Standings.{Went, went_at_first}
 use Rattle.dwarf_replay.proofs.Settings.{set_went_on}
 use Rattle.dwarf_replay.proofs.Calling.{called_went_on}
@@ -49,7 +50,7 @@ module _ (x new : State) (told : Result (EvaluationResult Placed ℕ ℕ) Error)
   told_evaluated (FaultStatus error) e s closed h = absurd s
   told_evaluated Running e s closed h = absurd s
 
-  told_resumed : (answer : requests.Answer) (status : Status) → ShowsStatus texts status out → IsInRequestFor (kind_of_answer answer) status → Resumes text_of_placed (λ x. x) (input_of x answer) x new told status → IsReplied (reply_of text_of_placed (λ x. x) told) new.status
+  told_resumed : (answer : requests.Answer) (status : Status) → ShowsStatus texts status out → IsOpenFor (kind_of_answer answer) status → Resumes text_of_placed (λ x. x) (input_of x answer) x new told status → IsReplied (reply_of text_of_placed (λ x. x) told) new.status
   told_resumed answer (RequestStatus request waiting) s asking h = h.status
   told_resumed answer (Start initial_value) s asking h = absurd asking
   told_resumed answer (CompleteStatus value) s asking h = absurd asking

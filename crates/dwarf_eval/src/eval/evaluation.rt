@@ -4,9 +4,9 @@ ghost use Rattle.dwarf_meaning.specs.Kinds.{kind_of_answer};
 ghost use Rattle.dwarf_meaning.specs.Requests as requests;
 ghost use Rattle.dwarf_meaning.specs.Rest.{Start, CompleteStatus};
 ghost use Rattle.dwarf_meaning.specs.Run.{most};
-ghost use Rattle.dwarf_eval.specs.Permits.{Admits, IsOpenFor, Permits, Shows, answer_of};
+ghost use Rattle.dwarf_eval.specs.Permits.{Admits, AnswersWith, IsOpenFor, Permits, Shows, answer_of};
 ghost use Rattle.dwarf_eval.specs.Bounds.{IsUnspent, calls_left};
-ghost use Rattle.dwarf_eval.specs.Evaluation.{Evaluates, EvaluatesPath, HasResult, IsClosed, IsComplete, Resumes, ResumesPath, reply_of, with_maximum, with_object, input_of, with_status};
+ghost use Rattle.dwarf_eval.specs.Evaluation.{Evaluates, HasResult, IsClosed, IsComplete, Resumes, with_maximum, with_object, input_of, with_status};
 ghost use Rattle.dwarf_eval.specs.Machine.{piece_of, setup_of};
 
 use crate::eval::requests::{kind_of_open, reply};
@@ -212,8 +212,6 @@ impl<R: Reader + Copy, S: EvaluationStorage<R>> Evaluation<R, S> {
         requires { IsClosed self.old.status }
         ensures follows { Evaluates R.text R.Offset.number self.old self.new
             result self.old.status }
-        ensures counts { EvaluatesPath self.old self.new
-            (reply_of R.text R.Offset.number result) self.old.status }
         ensures admits { IfOk result (λ replied. Admits replied self.new.status) }
     {
         match self.machine.state() {
@@ -235,8 +233,6 @@ impl<R: Reader + Copy, S: EvaluationStorage<R>> Evaluation<R, S> {
         ensures follows { Resumes R.text R.Offset.number
             (input_of self.old (answer_of R.text given))
             self.old self.new result self.old.status }
-        ensures counts { ResumesPath (input_of self.old (answer_of R.text given))
-            self.old self.new (reply_of R.text R.Offset.number result) self.old.status }
         ensures admits { IfOk result (λ replied. Admits replied self.new.status) }
         ensures fewer { IfOk result (λ reply. calls_left self.new < calls_left self.old) }
     {
@@ -254,13 +250,8 @@ impl<R: Reader + Copy, S: EvaluationStorage<R>> Evaluation<R, S> {
     /// fault too, and gives that fault.
     pub fn resume_with_memory(&mut self, value: Value) -> Result<EvaluationResult<R>>
         requires { IsOpenFor kind.Memory self.old.status }
-        ensures follows { Resumes R.text R.Offset.number
-            (input_of self.old (requests.MemoryAnswer value))
-            self.old self.new result self.old.status }
-        ensures counts { ResumesPath (input_of self.old (requests.MemoryAnswer value))
-            self.old self.new (reply_of R.text R.Offset.number result) self.old.status }
-        ensures admits { IfOk result (λ replied. Admits replied self.new.status) }
-        ensures fewer { IfOk result (λ reply. calls_left self.new < calls_left self.old) }
+        ensures { AnswersWith R.text R.Offset.number
+            (requests.MemoryAnswer value) self.old self.new result }
     {
         self.resume(Given::Memory(value))
     }
@@ -273,13 +264,8 @@ impl<R: Reader + Copy, S: EvaluationStorage<R>> Evaluation<R, S> {
     /// fault too, and gives that fault.
     pub fn resume_with_register(&mut self, value: Value) -> Result<EvaluationResult<R>>
         requires { IsOpenFor kind.Register self.old.status }
-        ensures follows { Resumes R.text R.Offset.number
-            (input_of self.old (requests.RegisterAnswer value))
-            self.old self.new result self.old.status }
-        ensures counts { ResumesPath (input_of self.old (requests.RegisterAnswer value))
-            self.old self.new (reply_of R.text R.Offset.number result) self.old.status }
-        ensures admits { IfOk result (λ replied. Admits replied self.new.status) }
-        ensures fewer { IfOk result (λ reply. calls_left self.new < calls_left self.old) }
+        ensures { AnswersWith R.text R.Offset.number
+            (requests.RegisterAnswer value) self.old self.new result }
     {
         self.resume(Given::Register(value))
     }
@@ -293,13 +279,8 @@ impl<R: Reader + Copy, S: EvaluationStorage<R>> Evaluation<R, S> {
     /// fault too, and gives that fault.
     pub fn resume_with_wasm_value(&mut self, value: Value) -> Result<EvaluationResult<R>>
         requires { IsOpenFor kind.WasmValue self.old.status }
-        ensures follows { Resumes R.text R.Offset.number
-            (input_of self.old (requests.WasmAnswer value))
-            self.old self.new result self.old.status }
-        ensures counts { ResumesPath (input_of self.old (requests.WasmAnswer value))
-            self.old self.new (reply_of R.text R.Offset.number result) self.old.status }
-        ensures admits { IfOk result (λ replied. Admits replied self.new.status) }
-        ensures fewer { IfOk result (λ reply. calls_left self.new < calls_left self.old) }
+        ensures { AnswersWith R.text R.Offset.number
+            (requests.WasmAnswer value) self.old self.new result }
     {
         self.resume(Given::WasmValue(value))
     }
@@ -312,13 +293,8 @@ impl<R: Reader + Copy, S: EvaluationStorage<R>> Evaluation<R, S> {
     /// fault too, and gives that fault.
     pub fn resume_with_entry_value(&mut self, value: Value) -> Result<EvaluationResult<R>>
         requires { IsOpenFor kind.EntryValue self.old.status }
-        ensures follows { Resumes R.text R.Offset.number
-            (input_of self.old (requests.EntryAnswer value))
-            self.old self.new result self.old.status }
-        ensures counts { ResumesPath (input_of self.old (requests.EntryAnswer value))
-            self.old self.new (reply_of R.text R.Offset.number result) self.old.status }
-        ensures admits { IfOk result (λ replied. Admits replied self.new.status) }
-        ensures fewer { IfOk result (λ reply. calls_left self.new < calls_left self.old) }
+        ensures { AnswersWith R.text R.Offset.number
+            (requests.EntryAnswer value) self.old self.new result }
     {
         self.resume(Given::EntryValue(value))
     }
@@ -331,13 +307,8 @@ impl<R: Reader + Copy, S: EvaluationStorage<R>> Evaluation<R, S> {
     /// fault too, and gives that fault.
     pub fn resume_with_frame_base(&mut self, frame_base: u64) -> Result<EvaluationResult<R>>
         requires { IsOpenFor kind.FrameBase self.old.status }
-        ensures follows { Resumes R.text R.Offset.number
-            (input_of self.old (requests.FrameBaseAnswer frame_base))
-            self.old self.new result self.old.status }
-        ensures counts { ResumesPath (input_of self.old (requests.FrameBaseAnswer frame_base))
-            self.old self.new (reply_of R.text R.Offset.number result) self.old.status }
-        ensures admits { IfOk result (λ replied. Admits replied self.new.status) }
-        ensures fewer { IfOk result (λ reply. calls_left self.new < calls_left self.old) }
+        ensures { AnswersWith R.text R.Offset.number
+            (requests.FrameBaseAnswer frame_base) self.old self.new result }
     {
         self.resume(Given::FrameBase(frame_base))
     }
@@ -350,13 +321,8 @@ impl<R: Reader + Copy, S: EvaluationStorage<R>> Evaluation<R, S> {
     /// fault too, and gives that fault.
     pub fn resume_with_tls(&mut self, value: u64) -> Result<EvaluationResult<R>>
         requires { IsOpenFor kind.Tls self.old.status }
-        ensures follows { Resumes R.text R.Offset.number
-            (input_of self.old (requests.TlsAnswer value))
-            self.old self.new result self.old.status }
-        ensures counts { ResumesPath (input_of self.old (requests.TlsAnswer value))
-            self.old self.new (reply_of R.text R.Offset.number result) self.old.status }
-        ensures admits { IfOk result (λ replied. Admits replied self.new.status) }
-        ensures fewer { IfOk result (λ reply. calls_left self.new < calls_left self.old) }
+        ensures { AnswersWith R.text R.Offset.number
+            (requests.TlsAnswer value) self.old self.new result }
     {
         self.resume(Given::Tls(value))
     }
@@ -369,13 +335,8 @@ impl<R: Reader + Copy, S: EvaluationStorage<R>> Evaluation<R, S> {
     /// fault too, and gives that fault.
     pub fn resume_with_call_frame_cfa(&mut self, cfa: u64) -> Result<EvaluationResult<R>>
         requires { IsOpenFor kind.CallFrameCfa self.old.status }
-        ensures follows { Resumes R.text R.Offset.number
-            (input_of self.old (requests.CfaAnswer cfa))
-            self.old self.new result self.old.status }
-        ensures counts { ResumesPath (input_of self.old (requests.CfaAnswer cfa))
-            self.old self.new (reply_of R.text R.Offset.number result) self.old.status }
-        ensures admits { IfOk result (λ replied. Admits replied self.new.status) }
-        ensures fewer { IfOk result (λ reply. calls_left self.new < calls_left self.old) }
+        ensures { AnswersWith R.text R.Offset.number
+            (requests.CfaAnswer cfa) self.old self.new result }
     {
         self.resume(Given::CallFrameCfa(cfa))
     }
@@ -389,13 +350,8 @@ impl<R: Reader + Copy, S: EvaluationStorage<R>> Evaluation<R, S> {
     /// fault too, and gives that fault.
     pub fn resume_with_at_location(&mut self, bytes: R) -> Result<EvaluationResult<R>>
         requires { IsOpenFor kind.AtLocation self.old.status }
-        ensures follows { Resumes R.text R.Offset.number
-            (input_of self.old (requests.LocationAnswer (R.text bytes)))
-            self.old self.new result self.old.status }
-        ensures counts { ResumesPath (input_of self.old (requests.LocationAnswer (R.text bytes)))
-            self.old self.new (reply_of R.text R.Offset.number result) self.old.status }
-        ensures admits { IfOk result (λ replied. Admits replied self.new.status) }
-        ensures fewer { IfOk result (λ reply. calls_left self.new < calls_left self.old) }
+        ensures { AnswersWith R.text R.Offset.number
+            (requests.LocationAnswer (R.text bytes)) self.old self.new result }
     {
         self.resume(Given::AtLocation(bytes))
     }
@@ -408,13 +364,8 @@ impl<R: Reader + Copy, S: EvaluationStorage<R>> Evaluation<R, S> {
     /// fault too, and gives that fault.
     pub fn resume_with_parameter_ref(&mut self, parameter_value: u64) -> Result<EvaluationResult<R>>
         requires { IsOpenFor kind.ParameterRef self.old.status }
-        ensures follows { Resumes R.text R.Offset.number
-            (input_of self.old (requests.ParameterAnswer parameter_value))
-            self.old self.new result self.old.status }
-        ensures counts { ResumesPath (input_of self.old (requests.ParameterAnswer parameter_value))
-            self.old self.new (reply_of R.text R.Offset.number result) self.old.status }
-        ensures admits { IfOk result (λ replied. Admits replied self.new.status) }
-        ensures fewer { IfOk result (λ reply. calls_left self.new < calls_left self.old) }
+        ensures { AnswersWith R.text R.Offset.number
+            (requests.ParameterAnswer parameter_value) self.old self.new result }
     {
         self.resume(Given::ParameterRef(parameter_value))
     }
@@ -427,13 +378,8 @@ impl<R: Reader + Copy, S: EvaluationStorage<R>> Evaluation<R, S> {
     /// fault too, and gives that fault.
     pub fn resume_with_relocated_address(&mut self, address: u64) -> Result<EvaluationResult<R>>
         requires { IsOpenFor kind.RelocatedAddress self.old.status }
-        ensures follows { Resumes R.text R.Offset.number
-            (input_of self.old (requests.RelocatedAnswer address))
-            self.old self.new result self.old.status }
-        ensures counts { ResumesPath (input_of self.old (requests.RelocatedAnswer address))
-            self.old self.new (reply_of R.text R.Offset.number result) self.old.status }
-        ensures admits { IfOk result (λ replied. Admits replied self.new.status) }
-        ensures fewer { IfOk result (λ reply. calls_left self.new < calls_left self.old) }
+        ensures { AnswersWith R.text R.Offset.number
+            (requests.RelocatedAnswer address) self.old self.new result }
     {
         self.resume(Given::RelocatedAddress(address))
     }
@@ -446,13 +392,8 @@ impl<R: Reader + Copy, S: EvaluationStorage<R>> Evaluation<R, S> {
     /// fault too, and gives that fault.
     pub fn resume_with_indexed_address(&mut self, address: u64) -> Result<EvaluationResult<R>>
         requires { IsOpenFor kind.IndexedAddress self.old.status }
-        ensures follows { Resumes R.text R.Offset.number
-            (input_of self.old (requests.IndexedAnswer address))
-            self.old self.new result self.old.status }
-        ensures counts { ResumesPath (input_of self.old (requests.IndexedAnswer address))
-            self.old self.new (reply_of R.text R.Offset.number result) self.old.status }
-        ensures admits { IfOk result (λ replied. Admits replied self.new.status) }
-        ensures fewer { IfOk result (λ reply. calls_left self.new < calls_left self.old) }
+        ensures { AnswersWith R.text R.Offset.number
+            (requests.IndexedAnswer address) self.old self.new result }
     {
         self.resume(Given::IndexedAddress(address))
     }
@@ -467,13 +408,8 @@ impl<R: Reader + Copy, S: EvaluationStorage<R>> Evaluation<R, S> {
     /// be called after a fault too, and gives that fault.
     pub fn resume_with_base_type(&mut self, base_type: ValueType) -> Result<EvaluationResult<R>>
         requires { IsOpenFor kind.BaseType self.old.status }
-        ensures follows { Resumes R.text R.Offset.number
-            (input_of self.old (requests.BaseTypeAnswer base_type))
-            self.old self.new result self.old.status }
-        ensures counts { ResumesPath (input_of self.old (requests.BaseTypeAnswer base_type))
-            self.old self.new (reply_of R.text R.Offset.number result) self.old.status }
-        ensures admits { IfOk result (λ replied. Admits replied self.new.status) }
-        ensures fewer { IfOk result (λ reply. calls_left self.new < calls_left self.old) }
+        ensures { AnswersWith R.text R.Offset.number
+            (requests.BaseTypeAnswer base_type) self.old self.new result }
     {
         self.resume(Given::BaseType(base_type))
     }

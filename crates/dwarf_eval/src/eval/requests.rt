@@ -5,7 +5,7 @@ ghost use Rattle.dwarf_meaning.specs.Steps.{RequestReply};
 ghost use Rattle.dwarf_machine.specs.Machine.{request_of, waiting_of};
 ghost use Rattle.dwarf_machine.specs.inner.Steps.{HasReply};
 ghost use Rattle.dwarf_eval.specs.Permits.{Admits};
-ghost use Rattle.dwarf_eval.specs.Evaluation.{IsEndedBy, IsReplied, reply_of, ok_reply};
+ghost use Rattle.dwarf_eval.specs.Evaluation.{IsAtRest, IsEndedBy, IsReplied, reply_of, ok_reply};
 
 use crate::op::{EvaluationResult, Expression};
 use dwarf_base::{Reader, Result};
@@ -20,6 +20,8 @@ pub(crate) fn result_of<R: Reader + Copy>(request: OpenRequest<R>) -> Evaluation
         ≡ RequestReply (request_of R.text R.Offset.number request) }
     ensures admits { Admits result
         (RequestStatus (request_of R.text R.Offset.number request) (waiting_of R.text request)) }
+    ensures agrees { kind_of_waiting (waiting_of R.text request)
+        ≡ kind_of_request (request_of R.text R.Offset.number request) }
 {
     match request {
         OpenRequest::Memory {
@@ -103,6 +105,7 @@ pub(crate) fn reply<R: Reader + Copy, S: EvaluationStorage<R>>(
     ensures reply { IsReplied (reply_of R.text R.Offset.number result)
         machine.now.status }
     ensures ends { IsEndedBy result machine.now.status }
+    ensures rests { IsAtRest machine.now }
     ensures admits { IfOk result (λ replied. Admits replied machine.now.status) }
 {
     match machine.state() {

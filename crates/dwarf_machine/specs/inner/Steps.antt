@@ -16,11 +16,11 @@ use Rattle.dwarf_meaning.specs.RunLaws.{waits_of}
 use Rattle.dwarf_meaning.specs.Stores.{address_bits, Store, Last, Pieced, Located, push_piece, push_caller, Next, Goes, RequestNext, FaultNext, done}
 use Rattle.dwarf_meaning.specs.Run.{Position, can_count, counted, read, most}
 use Rattle.dwarf_meaning.specs.Meaning.{Outcome, FaultOutcome, CompleteOutcome}
-use Rattle.dwarf_meaning.specs.Rest.{State, Status, Start, Running, RequestStatus, CompleteStatus, FaultStatus, with_refusal, rest}
-use Rattle.dwarf_meaning.specs.Refusals.{Limits, Refusal, MayPick, before_input, before_pushes}
+use Rattle.dwarf_meaning.specs.Rest.{State, Status, Start, Running, RequestStatus, CompleteStatus, FaultStatus, with_refusal}
+use Rattle.dwarf_meaning.specs.Refusals.{Limits, Refusal, MayPick, before_pushes}
 use Rattle.dwarf_machine.specs.Bounds.{Spends, calls_left}
 use Rattle.dwarf_machine.specs.Inputs.{input_of, Keeps, with_status}
-use Rattle.dwarf_machine.specs.Paths.{path}
+pub use Rattle.dwarf_machine.specs.Paths.{Total, total, total_after}
 
 -- ---- steps
 
@@ -177,18 +177,6 @@ EndsLocated location (Some size) old new =
 EndsLocated location None old new = new ≡ with_status (FaultStatus (InvalidExpressionTerminator (old.place - 1))) old
 
 -- ---- turns
-
--- what comes of an evaluation, and how many operations are counted by then
-pub record Total : Type 0 where
-  pub outcome : Outcome
-  pub count : ℕ
-
-abbrev pub total : State → Refusal → List Input → Total
-total x r inputs = record { outcome = rest r x inputs; count = x.store.count + length (path r x inputs) }
-
--- what comes of a state and its next input
-abbrev pub total_after : State → Input → Refusal → List Input → Total
-total_after x input r inputs = total x (before_input r) (input ∷ inputs)
 
 -- 1 where a call ends in a request or in completion
 abbrev pub replies_by : Status → ℕ

@@ -3,16 +3,16 @@ use Rattle.dwarf_replay.proofs.Keeping.{answered, not_asked, opened}
 use Rattle.dwarf_replay.proofs.stepping.take_step.Goals as goal
 
 pub resume-requires : goal.resume-requires
-resume-requires g c = opened _ _ _ c.in-Some.ensures (c.awaits.ensures.open c.if-awaits.true)
+resume-requires g c = opened _ _ _ c.in-Some.ensures (c.awaits.ensures.0 c.if-awaits.true)
 
 pub returns-then-awaits : goal.returns-then-awaits
 returns-then-awaits g c =
-    answered _ _ _ _ _ _ _ c.in-Some.ensures (c.awaits.ensures.asked.0 c.if-awaits.true) c.resume.ensures
+    answered _ _ _ _ _ _ _ c.in-Some.ensures (c.awaits.ensures.0 c.if-awaits.true) c.resume.ensures
 
 pub returns-in-Some : goal.returns-in-Some
 returns-in-Some g c = (
   refl,
-  not_asked _ _ _ c.in-Some.ensures (λ asked. absurd (true≢false (sym (c.awaits.ensures.asked.1 asked) ∙ c.if-awaits.false))),
+  not_asked _ _ _ c.in-Some.ensures (λ asked. absurd (true≢false (sym (c.awaits.ensures.1 asked) ∙ c.if-awaits.false))),
 )
 
 pub returns-in-InitialValue : goal.returns-in-InitialValue

@@ -1,8 +1,8 @@
 use Rattle.std.proofs.Common.{sym, subst}
 use Rattle.dwarf_meaning.specs.Rest.{State}
-use Rattle.dwarf_eval.specs.Evaluation.{Evaluates, EvaluatesPath, IsAtRestBy, reply_of}
-use Rattle.dwarf_machine.specs.inner.Steps.{total}
-use Rattle.dwarf_eval.proofs.Following.{start_follows, start_counts}
+use Rattle.dwarf_eval.specs.Evaluation.{Evaluates, IsAtRestBy, reply_of}
+use Rattle.dwarf_eval.specs.Paths.{total}
+use Rattle.dwarf_eval.proofs.Following.{start_follows}
 use Rattle.dwarf_machine.proofs.Reaching.{ends_over}
 use Rattle.dwarf_eval.proofs.eval.evaluation.Evaluation.evaluate.Goals as goal
 
@@ -17,17 +17,5 @@ returns-in-Start-clause-follows g c =
     let new : State = c.start.new.self in
     let starts = sym c.in-Start.ensures in
     let fresh = subst (IsAtRestBy x) starts c.self.invariant in
-    let follows = start_follows x new (reply_of text number c.reply.result) c.reply.ensures.reply c.in-Start.initial_value starts fresh c.start.ensures in
+    let follows = start_follows x new (reply_of text number c.reply.result) c.in-Start.initial_value starts fresh c.start.ensures c.reply.ensures.reply c.reply.ensures.rests in
     subst (λ (z : State). Evaluates text number z new c.reply.result z.status) c.self.view_is (subst (Evaluates text number x new c.reply.result) (sym starts) follows)
-
-pub returns-in-Start-clause-counts : goal.returns-in-Start-clause-counts
-returns-in-Start-clause-counts g c =
-    let text = g.R.Reader.text in
-    let number = g.R.Offset.ReaderOffset.number in
-    let x : State = c.self.inside.machine in
-    let new : State = c.start.new.self in
-    let starts = sym c.in-Start.ensures in
-    let fresh = subst (IsAtRestBy x) starts c.self.invariant in
-    let replied = reply_of text number c.reply.result in
-    let counts = start_counts x new replied c.reply.ensures.reply c.in-Start.initial_value starts fresh c.start.ensures in
-    subst (λ (z : State). EvaluatesPath z new replied z.status) c.self.view_is (subst (EvaluatesPath x new replied) (sym starts) counts)

@@ -2,11 +2,19 @@ use Rattle.std.proofs.Common.{◌≡◌, ap, subst, sym, ◌∙◌}
 use Rattle.dwarf_meaning.specs.Kinds.{kind_of_answer}
 use Rattle.dwarf_meaning.specs.Rest.{State}
 use Rattle.dwarf_eval.specs.Permits.{IsOpenFor, answer_of}
-use Rattle.dwarf_eval.specs.Evaluation.{IsEndedBy, Resumes, ResumesPath, reply_of, input_of}
-use Rattle.dwarf_machine.specs.inner.Steps.{Ends, total_after}
-use Rattle.dwarf_eval.proofs.Following.{failed_again, failed_path, resume_counts, resume_follows, resumed, resumed_path, waits}
+use Rattle.dwarf_eval.specs.Evaluation.{IsEndedBy, Resumes, reply_of, input_of}
+use Rattle.dwarf_eval.specs.Paths.{total_after}
+use Rattle.dwarf_machine.specs.inner.Steps.{Ends}
+use Rattle.dwarf_eval.proofs.Following.{ends_follow, failed_again, resumed, waits}
 use Rattle.dwarf_eval.proofs.eval.evaluation.Evaluation.resume.Goals as goal
 use Rattle.dwarf_eval.proofs.eval.evaluation.Evaluation.resume.Goals.{then-not-has_failed, else-not-has_failed}
+
+pub resume-requires : goal.resume-requires
+resume-requires g c =
+    let x : State = c.self.inside.machine in
+    let kind = kind_of_answer (answer_of g.R.Reader.text c.args.given) in
+    let is_open = subst (λ (z : State). IsOpenFor kind z.status) (sym c.self.view_is) c.requires in
+    waits x kind x.status (sym c.has_failed.ensures ∙ c.if-not-has_failed.true) c.self.invariant is_open
 
 pub returns-clause-follows : goal.returns-clause-follows
 returns-clause-follows g c =
@@ -22,8 +30,8 @@ returns-clause-follows g c =
     elim c.if-not-has_failed.branch [
       | then-not-has_failed w ↦
           let came = subst (λ (z : State). Ends x (total_after x input) z) (sym (ap (λ z. z.machine) w.self-inside-is)) w.resume.ensures in
-          let now = waits kind x.status (sym c.has_failed.ensures ∙ w.if-not-has_failed.true) is_open in
-          resumed text number input x new c.reply.result kind x.status now (resume_follows x new (reply_of text number c.reply.result) c.reply.ensures.reply input came)
+          let now = waits x kind x.status (sym c.has_failed.ensures ∙ w.if-not-has_failed.true) c.self.invariant is_open in
+          resumed text number input x new c.reply.result kind x.status now (ends_follow x (total_after x input) new (reply_of text number c.reply.result) came c.reply.ensures.reply c.reply.ensures.rests)
       | else-not-has_failed w ↦
           let stays : new ≡ x = ap (λ z. z.machine) w.self-inside-is in
           let ended = subst (λ (z : State). IsEndedBy c.reply.result z.status) stays c.reply.ensures.ends in
@@ -31,27 +39,3 @@ returns-clause-follows g c =
           (failed_again text number input x new c.reply.result x.status (sym c.has_failed.ensures ∙ w.if-not-has_failed.false) ended)
     ] in
     subst (λ (z : State). Resumes text number (input_of z answer) z new c.reply.result z.status) c.self.view_is there
-
-pub returns-clause-counts : goal.returns-clause-counts
-returns-clause-counts g c =
-    let text = g.R.Reader.text in
-    let number = g.R.Offset.ReaderOffset.number in
-    let x : State = c.self.inside.machine in
-    let new : State = c.if-not-has_failed.self-inside.machine in
-    let answer = answer_of text c.args.given in
-    let input = input_of x answer in
-    let kind = kind_of_answer answer in
-    let replied = reply_of text number c.reply.result in
-    let is_open = subst (λ (z : State). IsOpenFor kind z.status) (sym c.self.view_is) c.requires in
-    let there : ResumesPath input x new replied x.status =
-    elim c.if-not-has_failed.branch [
-      | then-not-has_failed w ↦
-          let came = subst (λ (z : State). Ends x (total_after x input) z) (sym (ap (λ z. z.machine) w.self-inside-is)) w.resume.ensures in
-          let now = waits kind x.status (sym c.has_failed.ensures ∙ w.if-not-has_failed.true) is_open in
-          resumed_path text number input x new c.reply.result kind x.status now (resume_counts x new replied c.reply.ensures.reply input came)
-      | else-not-has_failed w ↦
-          let stays : new ≡ x = ap (λ z. z.machine) w.self-inside-is in
-          subst (λ (z : State). ResumesPath input x z replied x.status) (sym stays)
-          (failed_path text number input x new c.reply.result x.status (sym c.has_failed.ensures ∙ w.if-not-has_failed.false))
-    ] in
-    subst (λ (z : State). ResumesPath (input_of z answer) z new replied z.status) c.self.view_is there

@@ -1,4 +1,4 @@
--- Pieces are equal exactly where they are seen as the same.
+-- Pieces are equal exactly if they are seen as the same.
 use Rattle.std.proofs.Common.{ℕ, ◌≡◌, ◌↔◌, Bool, true, false, Option, Some, None, IsTrue, refl, ap, ◌&&◌, nat_eq, rules}
 use Rattle.std.specs.Bool.{Decides}
 use Rattle.std.specs.Cmp.{unsigned_Decides}

@@ -46,7 +46,7 @@ open_path setup (caller ∷ callers) request positions inputs = refl
 -- ---- from where an evaluation came, or fell, to what its call answers
 
 module _ (old : State) (totals : Refusal → List Input → Total) (new : State) (told : Reply) where
-  -- what is left behind a refusal for later
+  -- what is left after a refusal for later
   later_total : (h : Reaches old totals new) (r : Refusal) (inputs : List Input) → IsLater r → totals r inputs ≡ total new r inputs
   later_total h r inputs l = ap (λ (q : Refusal). totals q inputs) (sym (later_before h.pushes r l)) ∙ h.same r inputs
 
@@ -99,7 +99,7 @@ module _ (old : State) (totals : Refusal → List Input → Total) (new : State)
   follows_by Running e h t rests = absurd h
   follows_by (Start initial_value) e h t rests = absurd h
 
-  -- a call that ends answers what comes of it
+  -- a call that ends answers its outcome
   pub ends_follow : Ends old totals new → IsReplied told new.status → IsAtRest new → Follows old totals told new
   ends_follow h t rests = follows_by new.status refl h t rests
 
@@ -133,7 +133,7 @@ meaning_total x initial_value starts is r inputs =
     ∙ (begun_started x inputs (with_initial x.setup initial_value (with_refusal r x.store)) is.place is.callers
     ∙ sym (total_start r x inputs initial_value starts))
 
--- the meaning is what comes of a fresh evaluation
+-- the meaning is the outcome of a fresh evaluation
 pub start_follows : (x new : State) (told : Reply) (initial_value : Option ℕ) → x.status ≡ Start initial_value → IsFresh x initial_value → Ends x (total x) new → IsReplied told new.status → IsAtRest new → Follows x (means x initial_value) told new
 start_follows x new told initial_value starts is h t rests =
     let follows = ends_follow x (total x) new told h t rests in

@@ -1,4 +1,4 @@
--- One item and the items behind it.
+-- One item and the items after it.
 use Rattle.std.proofs.Common.{ℕ, ◌≡◌, ◌≢◌, Bool, true, false, List, [], ◌∷◌, length, Ok, Err, ◌==◌, arith, refl, sym, ap, subst}
 use Rattle.std.proofs.lemmas.Bool.Decides.{nat_tests}
 use Rattle.dwarf_base.specs.declared.common.Encoding.{Encoding}

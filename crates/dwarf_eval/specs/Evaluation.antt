@@ -29,19 +29,26 @@ WaitsOrIsComplete _ = ⊥
 -- the reply of a result: the request that it names, or completion
 abbrev pub ok_reply : {R O P : Type 0} → (R → Text) → (O → ℕ) → EvaluationResult R O P → Reply
 ok_reply text number result.Complete = CompleteReply
-ok_reply text number (result.RequiresMemory address size space base_type) = RequestReply (requests.RequiresMemory address size space (number base_type.0))
-ok_reply text number (result.RequiresRegister register base_type) = RequestReply (requests.RequiresRegister register.0 (number base_type.0))
+ok_reply text number (result.RequiresMemory address size space base_type) =
+    RequestReply (requests.RequiresMemory address size space (number base_type.0))
+ok_reply text number (result.RequiresRegister register base_type) =
+    RequestReply (requests.RequiresRegister register.0 (number base_type.0))
 ok_reply text number (result.RequiresWasmLocal index) = RequestReply (requests.RequiresWasmLocal index)
 ok_reply text number (result.RequiresWasmGlobal index) = RequestReply (requests.RequiresWasmGlobal index)
 ok_reply text number (result.RequiresWasmStack index) = RequestReply (requests.RequiresWasmStack index)
 ok_reply text number result.RequiresFrameBase = RequestReply requests.RequiresFrameBase
 ok_reply text number (result.RequiresTls index) = RequestReply (requests.RequiresTls index)
 ok_reply text number result.RequiresCallFrameCfa = RequestReply requests.RequiresCallFrameCfa
-ok_reply text number (result.RequiresAtLocation offset) = RequestReply (requests.RequiresAtLocation (reference_of number offset))
-ok_reply text number (result.RequiresEntryValue expression) = RequestReply (requests.RequiresEntryValue (text expression.0))
-ok_reply text number (result.RequiresParameterRef offset) = RequestReply (requests.RequiresParameterRef (number offset.0))
-ok_reply text number (result.RequiresRelocatedAddress address) = RequestReply (requests.RequiresRelocatedAddress address)
-ok_reply text number (result.RequiresIndexedAddress index relocate) = RequestReply (requests.RequiresIndexedAddress (number index.0) relocate)
+ok_reply text number (result.RequiresAtLocation offset) =
+    RequestReply (requests.RequiresAtLocation (reference_of number offset))
+ok_reply text number (result.RequiresEntryValue expression) =
+    RequestReply (requests.RequiresEntryValue (text expression.0))
+ok_reply text number (result.RequiresParameterRef offset) =
+    RequestReply (requests.RequiresParameterRef (number offset.0))
+ok_reply text number (result.RequiresRelocatedAddress address) =
+    RequestReply (requests.RequiresRelocatedAddress address)
+ok_reply text number (result.RequiresIndexedAddress index relocate) =
+    RequestReply (requests.RequiresIndexedAddress (number index.0) relocate)
 ok_reply text number (result.RequiresBaseType base_type) = RequestReply (requests.RequiresBaseType (number base_type.0))
 
 -- the reply of a call: a result's, or a fault
@@ -75,7 +82,8 @@ abbrev pub IsAtRest : State → Type 0
 IsAtRest x = IsAtRestBy x x.status
 
 -- For some refusal, or for none, a call replied as `totals` gives it and counted as many operations; the setup and the
--- settings stay; and as long as it isn't over, the total of the new state is what `totals` gives, for all inputs to come.
+-- settings stay; and as long as it isn't over, the total of the new state is what `totals` gives, for all inputs to
+-- come.
 pub record Follows (old : State) (totals : Refusal → List Input → Total) (replied : Reply) (new : State) : Type 0 where
   pub refusal : Refusal
   pub may : MayPick old.setup.limits refusal
@@ -83,7 +91,8 @@ pub record Follows (old : State) (totals : Refusal → List Input → Total) (re
   pub count : new.store.count ≡ (totals refusal []).count
   pub status : IsReplied replied new.status
   pub rests : IsAtRest new
-  pub more : WaitsOrIsComplete new.status → (r : Refusal) (inputs : List Input) → IsLater r → totals r inputs ≡ total new r inputs
+  pub more : WaitsOrIsComplete new.status → (r : Refusal) (inputs : List Input) → IsLater r
+      → totals r inputs ≡ total new r inputs
   pub kept : Keeps old new
   pub spends : Spends old new
 
@@ -96,15 +105,19 @@ means x initial_value r inputs = record {
 
 -- `evaluate`: at the start it replies the meaning; after that it replies what it replied, and changes nothing; it isn't
 -- called in a request, nor does anything run between calls
-abbrev pub Evaluates : {R O P : Type 0} → (R → Text) → (O → ℕ) → State → State → Result (EvaluationResult R O P) Error → Status → Type 0
-Evaluates text number old new replied (Start initial_value) = Follows old (means old initial_value) (reply_of text number replied) new
+abbrev pub Evaluates : {R O P : Type 0} → (R → Text) → (O → ℕ) → State → State → Result (EvaluationResult R O P) Error
+    → Status → Type 0
+Evaluates text number old new replied (Start initial_value) =
+    Follows old (means old initial_value) (reply_of text number replied) new
 Evaluates text number old new replied (CompleteStatus value) = (replied ≡ Ok result.Complete) × (new ≡ old)
 Evaluates text number old new replied (FaultStatus error) = (replied ≡ Err error) × (new ≡ old)
 Evaluates text number old new replied _ = ⊥
 
 -- a resume: it goes on with the input; after a fault it replies that, and changes nothing
-abbrev pub Resumes : {R O P : Type 0} → (R → Text) → (O → ℕ) → Input → State → State → Result (EvaluationResult R O P) Error → Status → Type 0
-Resumes text number input old new replied (RequestStatus request waiting) = Follows old (total_after old input) (reply_of text number replied) new
+abbrev pub Resumes : {R O P : Type 0} → (R → Text) → (O → ℕ) → Input → State → State
+    → Result (EvaluationResult R O P) Error → Status → Type 0
+Resumes text number input old new replied (RequestStatus request waiting) =
+    Follows old (total_after old input) (reply_of text number replied) new
 Resumes text number input old new replied (FaultStatus error) = (replied ≡ Err error) × (new ≡ old)
 Resumes text number input old new replied _ = Unit {0}
 

@@ -20,13 +20,15 @@ abbrev pub encoding_of : {R P : Type 0} → OperationIter R P → Encoding
 encoding_of iterator = iterator.encoding
 
 -- nothing at the end, else what is read, with what is left: after a fault, nothing
-abbrev pub GivesNext : {X : Type 0} → (X → meaning.Operation) → Result (Option X) Error → (left bytes : List ℕ) → Result (meaning.Operation × List ℕ) Fault → Type 0
+abbrev pub GivesNext : {X : Type 0} → (X → meaning.Operation) → Result (Option X) Error → (left bytes : List ℕ)
+    → Result (meaning.Operation × List ℕ) Fault → Type 0
 GivesNext view (Ok None) left bytes read = (bytes ≡ []) × (left ≡ [])
 GivesNext view (Ok (Some x)) left bytes read = read ≡ Ok (view x, left)
 GivesNext view (Err e) left bytes read = (bytes ≢ []) × (read ≡ Err (fault_of e)) × (left ≡ [])
 
 -- the first of the items, with the items that are left
-abbrev pub GivesItem : {X : Type 0} → (X → meaning.Operation) → Result (Option X) Error → (left items : List (Result meaning.Operation Fault)) → Type 0
+abbrev pub GivesItem : {X : Type 0} → (X → meaning.Operation) → Result (Option X) Error
+    → (left items : List (Result meaning.Operation Fault)) → Type 0
 GivesItem view (Ok None) left items = (items ≡ []) × (left ≡ [])
 GivesItem view (Ok (Some x)) left items = items ≡ Ok (view x) ∷ left
 GivesItem view (Err e) left items = (items ≡ Err (fault_of e) ∷ []) × (left ≡ [])
@@ -37,12 +39,15 @@ item_of view (Ok x) = Ok (view x)
 item_of view (Err e) = Err (fault_of e)
 
 -- the items that are left: those of the splitting of the bytes that are left
-abbrev pub items_left : {R P : Type 0} → (R → Text) → (offset_bits : ℕ) → OperationIter R P → List (Result meaning.Operation Fault)
+abbrev pub items_left : {R P : Type 0} → (R → Text) → (offset_bits : ℕ) → OperationIter R P
+    → List (Result meaning.Operation Fault)
 items_left text offset_bits iterator = items_at (encoding_of iterator) offset_bits (text (unread_of iterator))
 
--- A step of an iterator: it gives the first of the items that are left, and is behind the bytes of that one.
-pub record GivesFirst {R P X : Type 0} (text : R → Text) (offset_bits : ℕ) (view : X → meaning.Operation) (old : OperationIter R P) (given : Option (Result X Error)) (new : OperationIter R P) : Type 0 where
+-- A step of an iterator: it gives the first of the items that are left, and stands after the bytes of that one.
+pub record GivesFirst {R P X : Type 0} (text : R → Text) (offset_bits : ℕ) (view : X → meaning.Operation)
+    (old : OperationIter R P) (given : Option (Result X Error)) (new : OperationIter R P) : Type 0 where
   pub items : YieldsFirstBy (item_of view) (items_left text offset_bits) old given new
-  pub value : GivesNext view (option_transpose given) (text (unread_of new)).bytes (text (unread_of old)).bytes (operation_at (encoding_of old) offset_bits (text (unread_of old)))
+  pub value : GivesNext view (option_transpose given) (text (unread_of new)).bytes (text (unread_of old)).bytes
+      (operation_at (encoding_of old) offset_bits (text (unread_of old)))
   pub left : IsLeftOf (text (unread_of new)) (text (unread_of old))
   pub encoding : encoding_of new ≡ encoding_of old

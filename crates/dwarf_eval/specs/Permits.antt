@@ -16,10 +16,11 @@ use Rattle.dwarf_meaning.specs.declared.kinds.WaitingKind.TheVariants as kind
 use Rattle.dwarf_eval.specs.declared.eval.states.Status.{Status}
 use Rattle.dwarf_eval.specs.declared.eval.states.Status.TheVariants as status
 
--- the status is that of the evaluation: where a request is open, its kind
+-- the status is that of the evaluation: if a request is open, its kind
 abbrev pub Shows : rest.Status → Status → Type 0
 Shows (Start initial_value) shown = shown ≡ status.Start (is_some initial_value)
-Shows (RequestStatus request waiting) (status.Waiting kind) = (kind ≡ kind_of_waiting waiting) × (kind ≡ kind_of_request request)
+Shows (RequestStatus request waiting) (status.Waiting kind) =
+    (kind ≡ kind_of_waiting waiting) × (kind ≡ kind_of_request request)
 Shows (RequestStatus request waiting) _ = ⊥
 Shows (CompleteStatus value) shown = shown ≡ status.Complete
 Shows (FaultStatus error) shown = shown ≡ status.Failed error
@@ -63,7 +64,8 @@ Admits (result.RequiresBaseType base_type) s = IsOpenFor kind.BaseType s
 
 -- A resume with this answer: it goes on by it, or gives the fault that was met; a reply permits the call that it asks
 -- for, and fewer resumes are left.
-pub record AnswersWith {R O P : Type 0} (text : R → Text) (number : O → ℕ) (answer : Answer) (old new : rest.State) (replied : Result (EvaluationResult R O P) Error) : Type 0 where
+pub record AnswersWith {R O P : Type 0} (text : R → Text) (number : O → ℕ) (answer : Answer) (old new : rest.State)
+    (replied : Result (EvaluationResult R O P) Error) : Type 0 where
   pub follows : Resumes text number (input_of old answer) old new replied old.status
   pub admits : IfOk replied (λ reply. Admits reply new.status)
   pub fewer : IfOk replied (λ reply. calls_left new < calls_left old)

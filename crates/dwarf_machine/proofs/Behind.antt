@@ -1,4 +1,4 @@
--- An operation that takes no branch does the same in front of any place, and none changes the text.
+-- An operation that takes no branch does the same before any place, and none changes the text.
 use Rattle.std.proofs.Common.{ℕ, ◌≡◌, ◌-◌, inl, inr, List, length, Result, Ok, Err, ap, ◌∙◌, sym, refl, subst}
 use Rattle.dwarf_base.specs.Faults.{Fault}
 use Rattle.dwarf_base.specs.Reads.{IsLeftOf, Text}
@@ -84,7 +84,7 @@ module _ (a : Act) (place : ℕ) (old new : State) (still : IsStill a) where
   behind_by (Start initial_value) h = absurd h
   behind_by (CompleteStatus value) h = absurd h
 
--- the same in front of what is left of the text
+-- the same before what is left of the text
 pub performs_at : (a : Act) (left : List ℕ) (old new : State) → IsStill a → Performs a old new → Performs a (at left old) (at left new)
 performs_at a left old new still h =
     let place = length old.text.bytes - length left in
@@ -98,9 +98,9 @@ still op (Branches rest target) (branches l (inl e)) h = subst IsNoBranch e h
 still op (Branches rest target) (branches l (inr e)) h = subst IsNoBranch e h
 still op _ d h = tt
 
--- ---- behind the bytes of an operation
+-- ---- after the bytes of an operation
 
--- what takes no branch is done in front of any place
+-- what takes no branch is done before any place
 pub performs_there : (op : Operation) (left : List ℕ) (old new : State) → IsNoBranch op → Performs (act_of old op) old new → Performs (act_of old op) (at left old) (at left new)
 performs_there op left old new none h =
     performs_at (act_of old op) left old new (still op (act_of old op) (act_is (address_bits old.setup) old.store.object_address op old.store.values) none) h

@@ -25,7 +25,7 @@ located_little (HoldsValue value) = omega arith
 located_little (HoldsBytes value) = omega arith
 located_little (PointsInto value byte_offset) = omega arith
 
--- where none waits none was given, and one at most
+-- if none waits none was given, and one at most
 pub located_waits : (last : Last) → located last ≤ waits_of last
 located_waits Nothing = omega arith
 located_waits Plain = omega arith
@@ -56,7 +56,7 @@ endings_more pieces piece =
 
 -- ---- pushes
 
--- so many pieces ended a location
+-- this many pieces ended a location
 abbrev pub Ending : ℕ → Store → Type 0
 Ending n t = endings t.pieces ≡ n
 
@@ -117,7 +117,7 @@ done_ends op setup place len (FaultAct fault) s h free = tt
 
 -- ---- the end
 
--- where it completes, as many pieces ended a location
+-- if it completes, as many pieces ended a location
 abbrev pub EndsAlike : ℕ → Outcome → Type 0
 EndsAlike n (RequestOutcome request positions) = Unit {0}
 EndsAlike n (FaultOutcome fault) = Unit {0}

@@ -30,7 +30,7 @@ use Rattle.dwarf_machine.proofs.Staying.{fewer_one, keeps_more, stays_here, stay
 use Rattle.dwarf_machine.proofs.Totals.{closed, through, going, total_running, total_complete, through_end}
 use Rattle.dwarf_machine.proofs.Turning.{effort_running, less_stopped, falls_turns}
 
--- where both are alike, one closes as the other
+-- if both are alike, one closes as the other
 module _ (f g : Store → Outcome) (m n : ℕ) (old low new : State) (fits : length low.store.values + length low.store.pieces + m ≤ length old.store.values + length old.store.pieces + n) (fewer : Stays 0 old low) (is : (r : Refusal) → g (with_refusal r old.store) ≡ f (with_refusal r low.store)) (alone : (s : Store) (status : Status) → with_store s (with_status status low) ≡ with_store s (with_status status old)) where
   finished_as : (status : Status) → ClosesBy m f low new status → ClosesBy n g old new status
   finished_as (CompleteStatus value) h = record {
@@ -135,7 +135,7 @@ finish_as last old new e h =
     closes_as (λ s. finish_by old.setup s old.store.last) (finish old.setup) more more old old new (omega arith) (stays_here old) (λ r. refl) (λ s status. refl)
     (subst (λ (l : Last). Closes (waits_of l) (λ s. finish_by old.setup s l) old new) (sym e) h)
 
--- with the value on top, without pieces, where no location waits
+-- with the value on top, without pieces, if no location waits
 pub finish_plain : (last : Last) (old new : State) → old.store.last ≡ last → IsFree last → has_pieces old.store.pieces ≡ false → Closes 0 (finish_value old.setup) old new → Closes (waits_of old.store.last) (finish old.setup) old new
 finish_plain Nothing old new e free none h = finish_as Nothing old new e (closes_else 0 (λ s. CompleteOutcome s.pieces None) (finish_value old.setup) old new none h)
 finish_plain Plain old new e free none h = finish_as Plain old new e (closes_else 0 (λ s. FaultOutcome InvalidPiece) (finish_value old.setup) old new none h)
@@ -201,7 +201,7 @@ module _ (x : State) (runs : x.status ≡ Running) (end : (x.place == length x.t
         less = omega (arith, was, is, callers, count, waits);
       }
 
-  -- what comes of the end of the outermost text
+  -- the outcome of the end of the outermost text
   outer_total : (r : Refusal) (inputs : List Input) (outcome : Outcome) → x.callers ≡ [] → finish x.setup (with_refusal r x.store) ≡ outcome → total x r inputs ≡ closed outcome x.store.count
   outer_total r inputs outcome none e =
       end_total r inputs

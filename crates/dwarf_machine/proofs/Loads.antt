@@ -59,7 +59,7 @@ pub frame_last : (setup : Setup) (depth : ℕ) (s : Store) → OnStore (HasLast 
 unfolding push_caller
 frame_last setup depth s = bound_store (HasLast s.last) (room setup.limits.callers depth s.refusal) (λ left. record s { refusal = left }) (λ left. refl)
 
--- so many values, so many pieces, and this count
+-- this many values, this many pieces, and this count
 pub record Extended (value_count piece_count operations : ℕ) (t : Store) : Type 0 where
   pub values : length t.values ≡ value_count
   pub pieces : length t.pieces ≡ piece_count
@@ -81,7 +81,7 @@ values_add setup (value ∷ values) s =
     on_bound (Keeping (kept_in s + 1)) (Keeping (kept_in s + length (value ∷ values))) (push_value setup value s) (push_values setup values) (value_adds setup value s)
     (λ t e. more_kept (kept_in t + length values) (kept_in s + length (value ∷ values)) (push_values setup values t) (omega (arith, e)) (values_add setup values t))
 
--- an operation leaves so many, and one more where it goes on
+-- an operation leaves this many, and one more if it goes on
 abbrev pub IsLighter : ℕ → Next → Type 0
 IsLighter n (Goes place t) = kept_in t ≤ n + 1
 IsLighter n (RequestNext request waiting t) = kept_in t ≤ n

@@ -29,7 +29,7 @@ performs_refuses a error old mid new e stays is =
       stays = stays_then (FaultStatus error) old mid new stays is;
     })
 
--- an act that goes on behind the operation, once f is done
+-- an act that goes on after the operation, once f is done
 module _ (a : Act) (f : Store → Result Store Fault) (old : State) (is : (s : Store) → done_at a old s ≡ goes old.place (f s)) where
   pub performs_goes : (new : State) (done : Bool) → old.status ≡ Running → Tries 0 f old new done → Performs a old new
   performs_goes new true runs d =
@@ -64,7 +64,7 @@ tries_from rest last f old mid new done fewer e h =
     tries_as 0 0 (f old.setup) (from rest last (f old.setup)) old (with_last last (with_values rest old)) new done (λ r. refl) (λ s. refl) refl
     (stays_from 0 0 rest last old.status old new (omega (arith, fewer))) h'
 
--- Values are pushed; where one is refused, no more are there than were popped.
+-- Values are pushed; if one is refused, no more are there than were popped.
 pub performs_pushes : (more : ℕ) (rest pushed : List Value) (old mid new : State) → old.status ≡ Running → length rest + more ≤ length old.store.values → mid ≡ with_values rest old → Tried more (λ s. push_values mid.setup pushed (record s { last = Plain })) mid new → Performs (Pushes rest pushed) old new
 performs_pushes more rest pushed old mid new runs fits e h =
     let h' = subst (λ (z : State). Tries more (λ s. push_values z.setup pushed (record s { last = Plain })) z new h.0) e h.1 in

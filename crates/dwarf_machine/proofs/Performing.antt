@@ -1,4 +1,4 @@
--- One operation that is counted, read and done in front of what is left of a text is one turn of the nested run.
+-- One operation that is counted, read and done before what is left of a text is one turn of the nested run.
 use Rattle.std.proofs.Common.{ℕ, ◌≡◌, ◌-◌, ◌<◌, ◌≤◌, ◌==◌, ◌&&◌, not, Bool, true, false, List, length, arith, ap, ◌∙◌, sym, refl, subst}
 use Rattle.std.proofs.lemmas.Bool.Decides.{nat_tests}
 use Rattle.dwarf_base.specs.Reads.{IsSuffix}
@@ -36,7 +36,7 @@ ready_on x h =
     let parts = on_parts (is_running x.status) (is_free x.store.last) (x.place == length x.text.bytes) h in
     record { runs = running_on x.status parts.0; inside = parts.2; free = free_on x.store.last parts.1 }
 
--- in front of nothing is the end
+-- with nothing left it is the end
 pub none_left : (left bytes : List ℕ) → IsSuffix left bytes → (length bytes - length left == length bytes) ≡ (length left == 0)
 none_left left bytes h = let fewer = h.no_longer in grind (arith, nat_tests, fewer)
 
@@ -46,13 +46,13 @@ none_left left bytes h = let fewer = h.no_longer in grind (arith, nat_tests, few
 pub none_turns : (left : List ℕ) (x new : State) → IsReady (at left x) → CountsOne x new false → Turns (at left x) (at left new)
 none_turns left x new ready h = ready_none (at left x) ready (at left new) (h.0, ap (at left) h.1)
 
--- the operation in front of what is left, counted
+-- the operation before what is left, counted
 pub counted_there : (left : List ℕ) (x counted_x : State) → CountsOne x counted_x true → CountsOne (at left x) (at left counted_x) true
 counted_there left x counted_x can = (can.0, ap (at left) can.1)
 
 -- ---- the loop
 
--- The state was come to, and is ready where the loop goes on; less is left to do than at the start, once it was gone through.
+-- The state was come to, and is ready if the loop goes on; less is left to do than at the start, once it was gone through.
 pub record StillRuns (start x : State) (on : Bool) : Type 0 where
   pub comes : Comes start (total start) x
   pub ready : on ≡ true → IsReady x

@@ -32,7 +32,7 @@ pub may_before : (limits : Limits) (p : ℕ) (r : Refusal) → MayPick limits r 
 may_before limits zero r h = h
 may_before limits (suc p) r h = may_before_push limits _ (may_before limits p r h)
 
--- where both are alike, one is tried as the other
+-- if both are alike, one is tried as the other
 pub tries_as : (n m : ℕ) (f g : Store → Result Store Fault) (old mid new : State) (done : Bool) → ((r : Refusal) → g (with_refusal r old.store) ≡ f (with_refusal r mid.store)) → ((s : Store) → with_store s mid ≡ with_store s old) → mid.setup ≡ old.setup → (Stays n mid new → Stays m old new) → Tries n f mid new done → Tries m g old new done
 tries_as n m f g old mid new true is alone setup stays d = record {
   steps = record { pushes = d.steps.pushes; same = λ r. is (before_pushes d.steps.pushes r) ∙ d.steps.same r };

@@ -1,4 +1,4 @@
--- What comes of an answer.
+-- The outcome of an answer.
 use Rattle.std.proofs.Common.{ℕ, suc, ◌≡◌, ◌+◌, ◌≤◌, arith, Bool, true, false, List, [], ◌∷◌, length, Result, Ok, Err, ap, ◌∙◌, sym, refl, subst}
 use Rattle.dwarf_base.specs.declared.errors.Error.{Error}
 use Rattle.dwarf_base.specs.Faults.{Fault, fault_of}
@@ -113,7 +113,7 @@ module _ (x : State) (request : Request) (waiting : Waiting) (open_now : x.statu
     takes_by new true d = value_taken new d
     takes_by new false h = value_refused new h
 
-    -- where the machine popped what the answer takes
+    -- if the machine popped what the answer takes
     pub value_takes : (mid new : State) → mid ≡ with_values values x → Tried 0 (push_value mid.setup value) (with_status Running (with_last Pushed mid)) new → Takes answer x new
     value_takes mid new e h =
         takes_by new h.0 (subst (λ (z : State). Tries 0 (push_value z.setup value) (with_status Running (with_last Pushed z)) new h.0) e h.1)

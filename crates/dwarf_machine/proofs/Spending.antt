@@ -31,7 +31,7 @@ spends_more a b c h i =
     let decodings_then = i.decodings in
     record { items = omega (arith, items, items_then); callers = omega (arith, callers, callers_then); decodings = omega (arith, decodings, decodings_then); once = λ d. i.once (h.once d) }
 
--- so many operations more were counted and pieces ended, and so many decoded, from where no fault was met
+-- this many operations more were counted and pieces ended, and this many decoded, from where no fault was met
 once_by : (old new : State) → faults_in old.status ≡ 0 → new.decodings + old.store.count + endings old.store.pieces ≡ old.decodings + new.store.count + endings new.store.pieces → piece_due new.store.last new.status ≤ located new.store.last → DecodesOnce old → DecodesOnce new
 once_by old new sound same waits d =
     let each = d.each in
@@ -62,7 +62,7 @@ module _ (old new : State) where
       let little = waits_little new.store.last in
       record { items = omega (arith, p, i, a, q, j, b, callers, count, kept); callers = omega (arith, a, b, callers, count); decodings = omega (arith, p, q, count, decodings, little); once = once_by old new (ap faults_in was) (omega (arith, count, decodings, ended)) (omega (arith, q, waits)) }
 
-  -- the piece behind a location: it isn't counted
+  -- the piece after a location: it isn't counted
   pub held_spends : old.status ≡ Running → new.status ≡ Running → length new.callers ≡ length old.callers → new.store.count ≡ old.store.count → new.decodings ≡ old.decodings + 1 → waits_of old.store.last ≡ 1 → waits_of new.store.last ≡ 0 → kept_in new.store ≡ kept_in old.store → endings new.store.pieces ≡ endings old.store.pieces + located old.store.last → Spends old new
   held_spends was is callers count decodings waited waits kept ended =
       let p = ap (piece_due old.store.last) was in

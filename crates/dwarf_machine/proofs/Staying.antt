@@ -1,4 +1,4 @@
--- What stays where a part of the machine meets a fault.
+-- What stays if a part of the machine meets a fault.
 use Rattle.std.proofs.Common.{ℕ, ◌≡◌, ◌+◌, ◌≤◌, List, ◌∷◌, length, Option, Some, None, arith, ap, ◌∙◌, sym, refl, subst}
 use Rattle.dwarf_value.specs.declared.types.Value.{Value}
 use Rattle.dwarf_meaning.specs.RunLaws.{waits_of}

@@ -1,4 +1,4 @@
--- What comes of a state, and how many operations are counted by then, by where the evaluation stands.
+-- The outcome of a state, and how many operations are counted by then, by where the evaluation stands.
 use Rattle.std.proofs.Common.{ℕ, suc, ◌≡◌, ◌+◌, arith, length, List, [], ◌∷◌, ◌++◌, Result, Err, Option, ap, ◌∙◌, sym, refl, append_assoc}
 use Rattle.dwarf_base.specs.Faults.{Fault}
 use Rattle.dwarf_value.specs.declared.types.Value.{Value}

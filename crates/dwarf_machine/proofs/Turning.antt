@@ -71,7 +71,7 @@ falls_turns x new error runs failed falls = record {
   less = less_stopped x new (FaultStatus error) runs failed refl;
 }
 
--- where the operation was read
+-- if the operation was read
 abbrev pub behind_op : State → ℕ → State
 behind_op x place = read_to place (with_store (counted x.store) x)
 

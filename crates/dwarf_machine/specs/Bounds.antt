@@ -1,4 +1,5 @@
--- How much an evaluation keeps, and how often it decodes, against the operations that it counted (DWARF 5, section 2.5).
+-- How much an evaluation keeps, and how often it decodes, against the operations that it counted (DWARF 5, section
+-- 2.5).
 use Rattle.std.specs.Prelude.{ℕ, ◌+◌, ◌-◌, ◌*◌, ◌≤◌, ◌≡◌, List, [], ◌∷◌, Option, Some, None, length}
 use Rattle.dwarf_meaning.specs.Locations.{Location, Empty, AtAddress, Piece}
 use Rattle.dwarf_meaning.specs.Run.{most}
@@ -6,18 +7,18 @@ use Rattle.dwarf_meaning.specs.RunLaws.{waits_of}
 use Rattle.dwarf_meaning.specs.Stores.{Last, Located}
 use Rattle.dwarf_meaning.specs.Rest.{State, Status, Start, RequestStatus, CompleteStatus, FaultStatus}
 
--- 1 where a location waits for its piece, until the evaluation is over
+-- 1 if a location waits for its piece, until the evaluation is over
 abbrev pub piece_due : Last → Status → ℕ
 piece_due last (CompleteStatus value) = 0
 piece_due last (FaultStatus error) = 0
 piece_due last _ = waits_of last
 
--- 1 where an initial value is still to be pushed
+-- 1 if an initial value is still to be pushed
 abbrev pub initial_due : Status → ℕ
 initial_due (Start (Some number)) = 1
 initial_due _ = 0
 
--- 1 where an answer is still to come: a value, or a called text and its caller
+-- 1 if an answer is still to come: a value, or a called text and its caller
 abbrev pub answer_due : Status → ℕ
 answer_due (RequestStatus request waiting) = 1
 answer_due _ = 0
@@ -52,25 +53,25 @@ abbrev pub endings : List Piece → ℕ
 endings [] = 0
 endings (piece ∷ pieces) = ending_by piece.size_in_bits piece.location + endings pieces
 
--- 1 where an operation gave the location that waits
+-- 1 if an operation gave the location that waits
 abbrev pub located : Last → ℕ
 located (Located location) = located_by location
 located _ = 0
 
--- 1 where a fault was met
+-- 1 if a fault was met
 abbrev pub faults_in : Status → ℕ
 faults_in (FaultStatus error) = 1
 faults_in _ = 0
 
 -- Each operation that was counted was decoded once, and so was each piece that ended a location; nothing else
--- was, but for what stands in the piece's place where that is a fault.
+-- was, but for what stands in the piece's place if that is a fault.
 pub record DecodesOnce (x : State) : Type 0 where
   pub each : x.store.count + endings x.store.pieces ≤ x.decodings
   pub no_other : x.decodings ≤ x.store.count + endings x.store.pieces + faults_in x.status
   pub waits : piece_due x.store.last x.status ≤ located x.store.last
 
 -- From the one state to the other each operation that was counted added one item at most, one caller at most, and two
--- decodings at most, beside so many items more; and what was decoded once still is.
+-- decodings at most, beside this many items more; and what was decoded once still is.
 pub record SpendsInAll (more : ℕ) (old new : State) : Type 0 where
   pub items : item_count new + old.store.count ≤ item_count old + new.store.count + more
   pub callers : caller_count new + old.store.count ≤ caller_count old + new.store.count
@@ -89,7 +90,7 @@ pub record IsUnspent (x : State) : Type 0 where
   pub count : x.store.count ≡ 0
   pub once : DecodesOnce x
 
--- 1 where an initial value was set
+-- 1 if an initial value was set
 abbrev pub initial_items : Option ℕ → ℕ
 initial_items (Some number) = 1
 initial_items None = 0

@@ -21,7 +21,8 @@ with_status status x = record x { status = status }
 
 -- the settings as they stand when the evaluation starts
 abbrev pub first_of : State → Option ℕ → First
-first_of x initial_value = record { initial_value = initial_value; object_address = x.store.object_address; maximum = x.store.maximum }
+first_of x initial_value =
+    record { initial_value = initial_value; object_address = x.store.object_address; maximum = x.store.maximum }
 
 -- nothing is done yet
 pub record IsFresh (x : State) (initial_value : Option ℕ) : Type 0 where

@@ -34,7 +34,8 @@ location_of text number (location.ImplicitPointer value byte_offset) = meaning.P
 -- a piece of the code, as the definitions have it
 abbrev pub piece_of : {R O P : Type 0} → (R → Text) → (O → ℕ) → Piece R O P → meaning.Piece
 piece_of text number piece =
-    record { size_in_bits = piece.size_in_bits; bit_offset = piece.bit_offset; location = location_of text number piece.location }
+    record { size_in_bits = piece.size_in_bits; bit_offset = piece.bit_offset;
+        location = location_of text number piece.location }
 
 -- of what sort the last operation was, as the definitions have it
 abbrev pub last_of : {R O P : Type 0} → (R → Text) → (O → ℕ) → LastOperation R O P → Last
@@ -47,8 +48,10 @@ last_of text number (last.Located location) = Located (location_of text number l
 
 -- what an open request asks
 abbrev pub request_of : {R O P : Type 0} → (R → Text) → (O → ℕ) → OpenRequest R O P → requests.Request
-request_of text number (request.Memory address size space base_type) = requests.RequiresMemory address size space (number base_type.0)
-request_of text number (request.Register register offset base_type) = requests.RequiresRegister register.0 (number base_type.0)
+request_of text number (request.Memory address size space base_type) =
+    requests.RequiresMemory address size space (number base_type.0)
+request_of text number (request.Register register offset base_type) =
+    requests.RequiresRegister register.0 (number base_type.0)
 request_of text number (request.WasmLocal index) = requests.RequiresWasmLocal index
 request_of text number (request.WasmGlobal index) = requests.RequiresWasmGlobal index
 request_of text number (request.WasmStack index) = requests.RequiresWasmStack index
@@ -59,7 +62,8 @@ request_of text number (request.AtLocation offset) = requests.RequiresAtLocation
 request_of text number (request.EntryValue expression) = requests.RequiresEntryValue (text expression)
 request_of text number (request.ParameterRef offset) = requests.RequiresParameterRef (number offset.0)
 request_of text number (request.RelocatedAddress address) = requests.RequiresRelocatedAddress address
-request_of text number (request.IndexedAddress index relocate) = requests.RequiresIndexedAddress (number index.0) relocate
+request_of text number (request.IndexedAddress index relocate) =
+    requests.RequiresIndexedAddress (number index.0) relocate
 request_of text number (request.TypedLiteral base_type value) = requests.RequiresBaseType (number base_type.0)
 request_of text number (request.Convert base_type) = requests.RequiresBaseType (number base_type.0)
 request_of text number (request.Reinterpret base_type) = requests.RequiresBaseType (number base_type.0)
@@ -106,10 +110,12 @@ callers_of text readers = reverse (map (caller_of text) readers)
 -- the setup: an encoding, the bits of an offset, and a limit for each list
 abbrev pub setup_of : Encoding → ℕ → Option ℕ → Option ℕ → Option ℕ → Setup
 setup_of encoding offset_bits values callers pieces =
-    record { encoding = encoding; offset_bits = offset_bits; limits = record { values = values; callers = callers; pieces = pieces } }
+    record { encoding = encoding; offset_bits = offset_bits;
+        limits = record { values = values; callers = callers; pieces = pieces } }
 
 -- what is kept: the code's lists, with the top of the stack first
-abbrev pub store_of : {R O P : Type 0} → (R → Text) → (O → ℕ) → List Value → List (Piece R O P) → ℕ → Option ℕ → ℕ → LastOperation R O P → Store
+abbrev pub store_of : {R O P : Type 0} → (R → Text) → (O → ℕ) → List Value → List (Piece R O P) → ℕ → Option ℕ → ℕ
+    → LastOperation R O P → Store
 store_of text number values pieces count object_address maximum last = record {
   values = reverse values;
   pieces = map (piece_of text number) pieces;
@@ -121,7 +127,8 @@ store_of text number values pieces count object_address maximum last = record {
 }
 
 -- the mask is that of the encoding's addresses, and all that is left belongs to its text
-pub record IsSound {R : Type 0} (text : R → Text) (encoding : Encoding) (addr_mask : ℕ) (whole left : R) (readers : List (R × R)) : Type 0 where
+pub record IsSound {R : Type 0} (text : R → Text) (encoding : Encoding) (addr_mask : ℕ) (whole left : R)
+    (readers : List (R × R)) : Type 0 where
   pub mask : IsAddressMask addr_mask
   pub width : width_of addr_mask ≡ 8 * encoding.address_size
   pub here : IsLeftOf (text left) (text whole)

@@ -1,4 +1,5 @@
--- Where the operations stand that are counted by what is left to do of an evaluation (DWARF 5, sections 2.5 and 2.5.1.5).
+-- Where the operations stand that are counted by what is left to do of an evaluation (DWARF 5, sections 2.5 and
+-- 2.5.1.5).
 use Rattle.std.specs.Prelude.{ℕ, ◌+◌, List, [], ◌∷◌, ◌++◌, Result, Ok, Err, length}
 use Rattle.dwarf_base.specs.Faults.{Fault}
 use Rattle.dwarf_meaning.specs.Requests.{Input}
@@ -12,15 +13,16 @@ use Rattle.dwarf_meaning.specs.Refusals.{Refusal, before_input}
 abbrev pub path_behind : Setup → List Position → End → List Position
 path_behind setup [] (CompleteEnd s inputs) = []
 path_behind setup (caller ∷ callers) (CompleteEnd s inputs) =
-    let course = run setup caller.text caller.place (length callers) s inputs in course.path ++ path_behind setup callers course.end
+    let course = run setup caller.text caller.place (length callers) s inputs
+        in course.path ++ path_behind setup callers course.end
 path_behind setup callers (RequestEnd request positions inputs) = []
 path_behind setup callers (FaultEnd fault) = []
 
--- the path of a run, and of the callers' rest behind it
+-- the path of a run, and of the callers' rest after it
 abbrev pub path_through : Setup → List Position → Course → List Position
 path_through setup callers course = course.path ++ path_behind setup callers course.end
 
--- the path from the start, where the initial value found room
+-- the path from the start, if the initial value found room
 abbrev pub path_started : State → List Input → Result Store Fault → List Position
 path_started x inputs (Ok s) = path_through x.setup x.callers (run x.setup x.text x.place (length x.callers) s inputs)
 path_started x inputs (Err fault) = []
@@ -30,15 +32,16 @@ abbrev pub path_by : State → Store → List Input → Status → List Position
 path_by x s inputs (Start initial_value) = path_started x inputs (with_initial x.setup initial_value s)
 path_by x s inputs Running = path_through x.setup x.callers (run x.setup x.text x.place (length x.callers) s inputs)
 path_by x s inputs (RequestStatus request waiting) =
-    path_through x.setup x.callers (await_answer (run x.setup) x.setup (record { text = x.text; place = x.place }) (length x.callers) request waiting s inputs)
+    path_through x.setup x.callers (await_answer (run x.setup) x.setup (record { text = x.text; place = x.place })
+        (length x.callers) request waiting s inputs)
 path_by x s inputs (CompleteStatus value) = []
 path_by x s inputs (FaultStatus error) = []
 
--- where the operations stand that are still counted, with these inputs, where this push is refused
+-- where the operations stand that are still counted, with these inputs, if this push is refused
 unfoldable pub path : Refusal → State → List Input → List Position
 path refusal x inputs = path_by x (with_refusal refusal x.store) inputs x.status
 
--- ---- with what comes of it
+-- ---- with its outcome
 
 -- the outcome of an evaluation, and how many operations are counted by then
 pub record Total : Type 0 where

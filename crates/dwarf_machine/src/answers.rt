@@ -142,7 +142,7 @@ impl<R: Reader + Copy, S: EvaluationStorage<R>> Machine<R, S> {
         }
     }
 
-    /// Runs the called text in the call's place; goes on at once where it is empty.
+    /// Runs the called text in the call's place; goes on at once if it is empty.
     #[inline(never)]
     fn take_location(&mut self, callee: R)
         requires { IsWaitingFor kind.AtLocation self.old.status }

@@ -11,7 +11,7 @@ use dwarf_value::Value;
 
 /// A call on two values.
 pub(crate) trait BinaryOperator {
-    // What it gives where addresses have so many bits.
+    // What it gives if addresses have this many bits.
     ghost meaning: { (bits : ℕ) → Value → Value → Result Value Error };
 
     /// What the call gives.

@@ -111,7 +111,7 @@ impl<R: Reader + Copy, S: EvaluationStorage<R>> Machine<R, S> {
         self.stack.pop()
     }
 
-    /// Pops the two on top where both are generic: the second, and the top.
+    /// Pops the two on top if both are generic: the second, and the top.
     #[inline(always)]
     pub(crate) fn pop_generics(&mut self) -> Option<(u64, u64)>
         ensures { PopsGenerics result self.old self.new }
@@ -282,7 +282,7 @@ impl<R: Reader + Copy, S: EvaluationStorage<R>> Machine<R, S> {
         self.encoding.address_size
     }
 
-    /// The address of the object that is described, where it is set.
+    /// The address of the object that is described, if it is set.
     #[inline(always)]
     pub(crate) fn object_address(&self) -> Option<u64>
         ensures { result ≡ self.now.store.object_address }
@@ -298,7 +298,7 @@ impl<R: Reader + Copy, S: EvaluationStorage<R>> Machine<R, S> {
         self.pc.offset_from(&self.bytecode)
     }
 
-    /// The place that is in front of what is left of the running text.
+    /// The place that is before what is left of the running text.
     #[inline(always)]
     pub(crate) fn place_of(&self, left: R) -> R::Offset
         requires { IsLeftOf (R.text left) self.now.text }
@@ -326,7 +326,7 @@ impl<R: Reader + Copy, S: EvaluationStorage<R>> Machine<R, S> {
         self.pc = left;
     }
 
-    /// Reads the operation in front of what is left of the running text, and counts that. Nothing else of an evaluation
+    /// Reads the operation before what is left of the running text, and counts that. Nothing else of an evaluation
     /// decodes, and nothing else raises the count.
     #[inline(always)]
     pub(crate) fn decode(&mut self, left: &mut R) -> Result<Operation<R>>

@@ -319,7 +319,7 @@ impl<R: Reader + Copy, S: EvaluationStorage<R>> Machine<R, S> {
         self.push_plain(Value::Generic(address))
     }
 
-    /// Goes on so many bytes behind the operation.
+    /// Goes on this many bytes after the operation.
     #[inline(always)]
     pub(crate) fn take_branch(&mut self, target: i16, left: &mut R)
         requires runs { self.old.status ≡ Running }
@@ -333,7 +333,7 @@ impl<R: Reader + Copy, S: EvaluationStorage<R>> Machine<R, S> {
         self.jump(place.wrapping_add(R::Offset::from_i16(target)), left);
     }
 
-    /// Branches where the top isn't zero.
+    /// Branches if the top isn't zero.
     #[inline(always)]
     pub(crate) fn branch_if(&mut self, target: i16, left: &mut R)
         requires runs { self.old.status ≡ Running }
@@ -377,7 +377,7 @@ impl<R: Reader + Copy, S: EvaluationStorage<R>> Machine<R, S> {
         self.locate(Location::Value { value })
     }
 
-    /// Ends a piece at the address on top, or nowhere where the stack is empty.
+    /// Ends a piece at the address on top, or nowhere if the stack is empty.
     #[inline(never)]
     pub(crate) fn end_piece(&mut self, size_in_bits: u64, bit_offset: Option<u64>)
         requires { self.old.status ≡ Running }
@@ -410,7 +410,7 @@ impl<R: Reader + Copy, S: EvaluationStorage<R>> Machine<R, S> {
         self.enter(EvaluationState::Waiting(request));
     }
 
-    /// Asks for what memory holds at the address on top, in the space below it where one is named.
+    /// Asks for what memory holds at the address on top, in the space below it if one is named.
     #[inline(never)]
     pub(crate) fn dereference(&mut self, base_type: UnitOffset<R::Offset>, size: u8, space: bool)
         ensures { Performs

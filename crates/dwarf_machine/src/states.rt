@@ -29,7 +29,7 @@ pub enum OpenRequest<R: Reader, O = <R as Reader>::Offset> {
         address: u64,
         /// How many bytes.
         size: u8,
-        /// The address space, where one is named.
+        /// The address space, if one is named.
         space: Option<u64>,
         /// The type of the value; offset 0 is the generic type.
         base_type: UnitOffset<O>,
@@ -106,13 +106,13 @@ impl<R: Reader + Copy, O: Copy> Clone for OpenRequest<R, O> {
 /// Where an evaluation stands.
 #[derive(Copy)]
 pub enum EvaluationState<R: Reader, O = <R as Reader>::Offset> {
-    /// Nothing was evaluated yet; the initial value, where one is set.
+    /// Nothing was evaluated yet; the initial value, if one is set.
     Start(Option<u64>),
     /// It runs. Between calls it never does.
     Running,
     /// A request is open.
     Waiting(OpenRequest<R, O>),
-    /// It is complete; its value, where it ended with the value on top of the stack.
+    /// It is complete; its value, if it ended with the value on top of the stack.
     Complete(Option<Value>),
     /// It met a fault.
     Failed(Error),

@@ -30,7 +30,7 @@ fn whole<R: Reader + Copy>(location: Location<R>) -> Piece<R>
 }
 
 impl<R: Reader + Copy, S: EvaluationStorage<R>> Machine<R, S> {
-    /// Counts the operation in front of what is left, and does it.
+    /// Counts the operation before what is left, and does it.
     fn perform(&mut self, left: &mut R)
         requires ready { IsReady (at (R.text left.old).bytes self.old) }
         requires rest { IsLeftOf (R.text left.old) self.old.text }
@@ -47,7 +47,7 @@ impl<R: Reader + Copy, S: EvaluationStorage<R>> Machine<R, S> {
         }
     }
 
-    /// Whether the operation in front of what is left comes next.
+    /// Whether the operation before what is left comes next.
     #[inline(always)]
     fn goes_on(&self, left: R) -> bool
         requires { IsLeftOf (R.text left) self.now.text }

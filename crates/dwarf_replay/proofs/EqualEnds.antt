@@ -1,4 +1,4 @@
--- Ends of replays are equal exactly where they are seen as the same.
+-- Ends of replays are equal exactly if they are seen as the same.
 use Rattle.std.proofs.Common.{ℕ, ◌≡◌, Bool, true, false, refl, ◌&&◌, nat_eq, rules}
 use Rattle.std.specs.Bool.{Decides}
 use Rattle.std.specs.Cmp.{unsigned_Decides}

@@ -1,4 +1,4 @@
--- One step and its reply, by what came of each part.
+-- One step and its reply, by the outcome of each part.
 use Rattle.std.proofs.Common.{◌≡◌, inl, inr, ℕ, List, [], ◌∷◌, ◌++◌, Option, Some, Ok, Err, length, refl, sym, subst}
 use Rattle.dwarf_base.specs.Reads.{Text}
 use Rattle.dwarf_meaning.specs.Rest.{State, Status}

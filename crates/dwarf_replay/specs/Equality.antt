@@ -1,4 +1,5 @@
--- What equality sees of steps and of what they gave: all of an error, and of readers and offsets what `text` and `number` see.
+-- What equality sees of steps and of what they gave: all of an error, and of readers and offsets what `text` and
+-- `number` see.
 use Rattle.std.specs.Prelude.{ℕ, Result, Ok, Err}
 use Rattle.dwarf_base.specs.declared.errors.Error.{Error}
 use Rattle.dwarf_base.specs.Reads.{Text}
@@ -11,11 +12,12 @@ use Rattle.dwarf_replay.specs.declared.steps.Stepped.TheVariants as stepped
 use Rattle.dwarf_eval.specs.declared.op.results.EvaluationResult.{EvaluationResult}
 
 -- what a call gave
-abbrev pub given_of : {R O P : Type 0} → (R → Text) → (O → ℕ) → Result (EvaluationResult R O P) Error → Result Reply Error
+abbrev pub given_of : {R O P : Type 0} → (R → Text) → (O → ℕ) → Result (EvaluationResult R O P) Error
+    → Result Reply Error
 given_of text number (Ok told) = Ok (ok_reply text number told)
 given_of text number (Err error) = Err error
 
--- what came of a step
+-- the outcome of a step
 pub data Came : Type 0 where
   Misplaced : Came
   Set : Came

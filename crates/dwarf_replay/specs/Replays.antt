@@ -38,7 +38,8 @@ told_at x = record { settings = first_of x None; first = None; inputs = [] }
 
 -- it waits in this request, with these texts open
 abbrev pub IsInRequest : Request → List Position → State → Status → Type 0
-IsInRequest request positions x (RequestStatus open_request waiting) = (open_request ≡ request) × (positions ≡ record { text = x.text; place = x.place } ∷ x.callers)
+IsInRequest request positions x (RequestStatus open_request waiting) =
+    (open_request ≡ request) × (positions ≡ record { text = x.text; place = x.place } ∷ x.callers)
 IsInRequest request positions x (Start initial_value) = ⊥
 IsInRequest request positions x (CompleteStatus value) = ⊥
 IsInRequest request positions x (FaultStatus error) = ⊥
@@ -65,7 +66,8 @@ StandsAt told x (Some (FaultOutcome fault)) = IsInFault fault x.status
 StandsAt told x (Some (CompleteOutcome pieces value)) = (x.status ≡ CompleteStatus value) × (x.store.pieces ≡ pieces)
 
 -- With this refusal each step is allowed when it comes, the replies are theirs, and this is what they told.
-pub record Tells (old : State) (steps : List meaning.Step) (replies : List Reply) (told : Told) (refusal : Refusal) : Type 0 where
+pub record Tells (old : State) (steps : List meaning.Step) (replies : List Reply) (told : Told)
+    (refusal : Refusal) : Type 0 where
   pub allowed : AllAllowed old.setup refusal old.text (told_at old) steps
   pub replies_are : replies ≡ replies_of old.setup refusal old.text (told_at old) steps
   pub told_is : after_steps old.setup refusal old.text (told_at old) steps ≡ told
@@ -73,18 +75,21 @@ pub record Tells (old : State) (steps : List meaning.Step) (replies : List Reply
 -- ---- what is left, for a caller who goes on
 
 -- It wasn't started: the setup and the text stay, and no refusal changed anything.
-pub record IsUnbegun (old : State) (steps : List meaning.Step) (replies : List Reply) (told : Told) (new : State) : Type 0 where
+pub record IsUnbegun (old : State) (steps : List meaning.Step) (replies : List Reply) (told : Told)
+    (new : State) : Type 0 where
   pub setup : new.setup ≡ old.setup
   pub text : new.text ≡ old.text
   pub alike : (r : Refusal) → Tells old steps replies told r
 
--- It isn't over: the setup stays, no refusal behind the inputs so far changed anything, and what is left gives what the
+-- It isn't over: the setup stays, no refusal after the inputs so far changed anything, and what is left gives what the
 -- meaning gives for the inputs so far and all that are to come.
-pub record IsLeft (old : State) (steps : List meaning.Step) (replies : List Reply) (told : Told) (new : State) : Type 0 where
+pub record IsLeft (old : State) (steps : List meaning.Step) (replies : List Reply) (told : Told)
+    (new : State) : Type 0 where
   pub setup : new.setup ≡ old.setup
   pub alike : (r : Refusal) → IsLater r → Tells old steps replies told (before_inputs (length told.inputs) r)
   pub more : (r : Refusal) (inputs : List Input) → IsLater r →
-      outcome_from old.setup (before_inputs (length told.inputs) r) old.text (told.inputs ++ inputs) told.first ≡ Some (rest r new inputs)
+      outcome_from old.setup (before_inputs (length told.inputs) r) old.text (told.inputs ++ inputs) told.first
+          ≡ Some (rest r new inputs)
 
 -- what is left, by the status
 abbrev pub Leaves : State → List meaning.Step → List Reply → Told → State → Status → Type 0
@@ -109,21 +114,27 @@ pub record Walks (old : State) (steps : List meaning.Step) (replies : List Reply
   pub leaves : Leaves old steps replies told new new.status
 
 -- the steps before this one were done, and it isn't allowed
-pub record WalksTo (index : ℕ) (old : State) (steps : List meaning.Step) (replies : List Reply) (new : State) : Type 0 where
+pub record WalksTo (index : ℕ) (old : State) (steps : List meaning.Step) (replies : List Reply)
+    (new : State) : Type 0 where
   pub walks : Walks old (take index steps) replies new
   pub step : meaning.Step
   pub is_next : slice_get steps index ≡ Some step
   pub misplaced : Allows walks.told (outcome_of old.setup walks.refusal old.text walks.told) step → ⊥
 
 -- the steps up to this one were done, and its reply found no room
-pub record WalksOver (index : ℕ) (answer : Reply) (limit : Option ℕ) (old : State) (steps : List meaning.Step) (replies : List Reply) (new : State) : Type 0 where
+pub record WalksOver (index : ℕ) (answer : Reply) (limit : Option ℕ) (old : State) (steps : List meaning.Step)
+    (replies : List Reply) (new : State) : Type 0 where
   pub walks : Walks old (take (suc index) steps) (replies ++ answer ∷ []) new
   pub before : replies ≡ replies_of old.setup walks.refusal old.text (told_at old) (take index steps)
   pub inside : (step : meaning.Step) × (slice_get steps index ≡ Some step)
   pub full : MayRefuse limit (length replies)
 
 -- by how it ended: all steps were done, one isn't allowed, or a reply found no room
-abbrev pub Replays : {R O P : Type 0} → (R → Text) → (O → ℕ) → Option ℕ → State → List (Step R) → List (Answer R O P) → State → Replayed R O P → Type 0
-Replays text number limit old steps given new replayed.Done = Walks old (steps_of text steps) (replies_in text number given) new
-Replays text number limit old steps given new (replayed.Misplaced index) = WalksTo index old (steps_of text steps) (replies_in text number given) new
-Replays text number limit old steps given new (replayed.NoRoom index answer) = WalksOver index (reply_in text number answer) limit old (steps_of text steps) (replies_in text number given) new
+abbrev pub Replays : {R O P : Type 0} → (R → Text) → (O → ℕ) → Option ℕ → State → List (Step R) → List (Answer R O P)
+    → State → Replayed R O P → Type 0
+Replays text number limit old steps given new replayed.Done =
+    Walks old (steps_of text steps) (replies_in text number given) new
+Replays text number limit old steps given new (replayed.Misplaced index) =
+    WalksTo index old (steps_of text steps) (replies_in text number given) new
+Replays text number limit old steps given new (replayed.NoRoom index answer) =
+    WalksOver index (reply_in text number answer) limit old (steps_of text steps) (replies_in text number given) new

@@ -50,12 +50,14 @@ IsSet (MaxIterations maximum) old new = new ≡ with_maximum maximum old
 IsSet _ old new = ⊥
 
 -- the evaluation replied
-abbrev pub HasReplied : {R O P : Type 0} → (R → Text) → (O → ℕ) → meaning.Step → State → State → Result (EvaluationResult R O P) Error → Type 0
+abbrev pub HasReplied : {R O P : Type 0} → (R → Text) → (O → ℕ) → meaning.Step → State → State
+    → Result (EvaluationResult R O P) Error → Type 0
 HasReplied text number Evaluate old new replied = IsClosed old.status × Evaluates text number old new replied old.status
-HasReplied text number (Resume answer) old new replied = IsOpenFor (kind_of_answer answer) old.status × Resumes text number (input_of old answer) old new replied old.status
+HasReplied text number (Resume answer) old new replied =
+    IsOpenFor (kind_of_answer answer) old.status × Resumes text number (input_of old answer) old new replied old.status
 HasReplied text number _ old new replied = ⊥
 
--- what came of the step
+-- the outcome of the step
 abbrev pub IsStepped : {R O P : Type 0} → (R → Text) → (O → ℕ) → meaning.Step → State → State → Stepped R O P → Type 0
 IsStepped text number step old new stepped.Misplaced = (new ≡ old) × (MayTake step old.status → ⊥)
 IsStepped text number step old new stepped.Set = IsSet step old new

@@ -8,7 +8,7 @@ ghost use Rattle.dwarf_replay.specs.Stepping.{step_of};
 use crate::steps::{Answer, Replayed, Step, Stepped};
 use dwarf_base::Reader;
 
-/// Steps are equal exactly where they are seen as the same, as far as readers are. It does nothing; its contract is
+/// Steps are equal exactly if they are seen as the same, as far as readers are. It does nothing; its contract is
 /// the law.
 pub fn step_equality_laws<R: Reader + Eq>()
     ensures { (text : R → Text) → IsEqualityOf text R.PartialEq.eq

@@ -19,7 +19,7 @@ enum NotKept<R: Reader, O = <R as Reader>::Offset> {
     NoRoom(Answer<R, O>),
 }
 
-/// Does a step, where it is allowed, and keeps its answer.
+/// Does a step, if it is allowed, and keeps its answer.
 fn keep_step<R: Reader + Copy, S: EvaluationStorage<R>, L: ArrayLike<Item = Answer<R>>>(
     eval: &mut Evaluation<R, S>,
     step: Step<R>,

@@ -10,7 +10,7 @@ use dwarf_eval::eval::{Evaluation, Status, WaitingKind};
 use dwarf_eval::op::EvaluationResult;
 use dwarf_store::EvaluationStorage;
 
-/// Sets the initial value, where that is allowed.
+/// Sets the initial value, if that is allowed.
 fn try_initial_value<R: Reader + Copy, S: EvaluationStorage<R>>(
     eval: &mut Evaluation<R, S>,
     value: u64,
@@ -27,7 +27,7 @@ fn try_initial_value<R: Reader + Copy, S: EvaluationStorage<R>>(
     }
 }
 
-/// Evaluates, where that is allowed.
+/// Evaluates, if that is allowed.
 fn try_evaluate<R: Reader + Copy, S: EvaluationStorage<R>>(
     eval: &mut Evaluation<R, S>,
 ) -> Stepped<R>
@@ -55,7 +55,7 @@ fn awaits<R: Reader + Copy, S: EvaluationStorage<R>>(
     }
 }
 
-/// The kind of a step's answer, where it is one.
+/// The kind of a step's answer, if it is one.
 fn kind_of_step<R: Reader + Copy>(step: Step<R>) -> Option<WaitingKind>
     ensures { IsKindOf (step_of R.text step) result }
 {
@@ -104,7 +104,7 @@ fn resume<R: Reader + Copy, S: EvaluationStorage<R>>(
     }
 }
 
-/// Takes one step of an evaluation, where it is allowed (DWARF 5, section 2.5).
+/// Takes one step of an evaluation, if it is allowed (DWARF 5, section 2.5).
 ///
 /// `Misplaced`: it isn't allowed where the evaluation stands, and nothing is changed. `Set`: the setting holds from now
 /// on. `Answered`: what `evaluate` or the resume of its kind gave, a fault too.

@@ -13,9 +13,9 @@ pub enum Step<R> {
     ObjectAddress(u64),
     /// `set_max_iterations`, always allowed.
     MaxIterations(u32),
-    /// `evaluate`, allowed where no request is open.
+    /// `evaluate`, allowed if no request is open.
     Evaluate,
-    /// `resume_with_memory`. It and every answer below is allowed where a request of its kind is open, and after a fault.
+    /// `resume_with_memory`. It and every answer below is allowed if a request of its kind is open, and after a fault.
     Memory(Value),
     /// `resume_with_register`.
     Register(Value),
@@ -54,7 +54,7 @@ impl<R: Reader, O> Default for Answer<R, O> {
     }
 }
 
-/// What came of a step.
+/// The outcome of a step.
 #[derive(Clone, Copy, Debug, PartialEq, Eq)]
 pub enum Stepped<R: Reader, O = <R as Reader>::Offset> {
     /// It isn't allowed, and nothing was done.

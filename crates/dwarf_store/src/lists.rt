@@ -13,7 +13,7 @@ pub trait ArrayLike: Drop {
     // The items in order.
     ghost items: { Self → List Self.Item };
 
-    // The most items that it can hold, where there is such a number.
+    // The most items that it can hold, if there is such a number.
     ghost limit: { Self → Option ℕ };
 
     /// How many items there are, never more than the limit.
@@ -21,7 +21,7 @@ pub trait ArrayLike: Drop {
         ensures value { result ≡ length (items self.now) }
         ensures within { IsWithin (limit self.now) (length (items self.now)) };
 
-    /// The item at an index, or `None` behind the last one.
+    /// The item at an index, or `None` after the last one.
     fn get(&self, index: usize) -> Option<Self::Item>
         ensures { result ≡ slice_get (items self.now) index };
 
@@ -29,14 +29,14 @@ pub trait ArrayLike: Drop {
     fn as_slice(&self) -> &[Self::Item]
         ensures { result.now ≡ items self.now };
 
-    /// Takes the last item, or gives `None` where there is none.
+    /// Takes the last item, or gives `None` if there is none.
     fn pop(&mut self) -> Option<Self::Item>
         ensures items { items self.old ≡ items self.new ++ option_to_list result }
         ensures empty { IfNone result (items self.old ≡ []) }
         ensures limit { limit self.new ≡ limit self.old };
 
-    /// Adds an item at the end, or hands it back and leaves the list as it was: with a limit exactly where
-    /// the list is at it, without one only where memory was refused.
+    /// Adds an item at the end, or hands it back and leaves the list as it was: with a limit exactly if
+    /// the list is at it, without one only if memory was refused.
     fn push(&mut self, item: Self::Item) -> Result<(), Self::Item>
         ensures ok { OnOk result (items self.new ≡ items self.old ++ item ∷ []) }
         ensures err { OnErr result (items self.new ≡ items self.old) }

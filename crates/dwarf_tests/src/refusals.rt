@@ -65,7 +65,7 @@ impl<R: Reader + Copy> EvaluationStorage<R> for ListsOfTests {
     type Result = RefusesOne<Piece<R>>;
 }
 
-// A new list, which takes so many pushes before the refused one.
+// A new list, which takes this many pushes before the refused one.
 fn list<T>(alloc: Global, before: u64) -> RefusesOne<T>
     ensures { result.items.items ≡ [] }
 {
@@ -115,7 +115,7 @@ fn expect_refused(rt: &impl Abort, answers: &[Answer<Slice<'_>>], told: &[Answer
     assert!(rt; failed && answers.len() == told.len() + later_steps().len());
 }
 
-// Replays the case, and then every call that a fault allows, over lists that take so many pushes before the refused
+// Replays the case, and then every call that a fault allows, over lists that take this many pushes before the refused
 // one: values, callers and pieces. The refused push is met, or there is none.
 fn expect_push(
     rt: &impl Abort,
@@ -206,7 +206,7 @@ fn expect_refused_growths(rt: &impl Abort, alloc: Global, case: &Refusal<'_>) {
     }
 }
 
-// Each push is refused in turn, of each list, from the first until a run meets none: so many of each.
+// Each push is refused in turn, of each list, from the first until a run meets none: this many of each.
 fn expect_refusals(
     rt: &impl Abort,
     alloc: Global,

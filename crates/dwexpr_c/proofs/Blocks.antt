@@ -151,7 +151,7 @@ last_in_row encoding opcode = last_among opcode (lines encoding) (last_in_lines 
 
 -- ---- what is spelled
 
--- the bytes end in the block, where there is one
+-- the bytes end in the block, if there is one
 abbrev pub EndIn : List ℕ → Option (List ℕ) → Type 0
 EndIn bytes None = Unit {0}
 EndIn bytes (Some block) = (front : List ℕ) × (front ++ block ≡ bytes)

@@ -1,4 +1,4 @@
--- What came of a step, by its cases.
+-- The outcome of a step, by its cases.
 use Rattle.std.proofs.Common.{ℕ, ◌≡◌, inl, inr, List, Result, Ok, Err, sym, subst}
 use Rattle.dwarf_base.specs.declared.errors.Error.{Error}
 use Rattle.dwarf_base.specs.Faults.{fault_of}

@@ -190,7 +190,7 @@ module _ (texts : List DwexprText) where
   on_told setup refusal text told (step ∷ steps) h a =
       on_told setup refusal text (after_step setup refusal text told step) steps (on_after told (outcome_of setup refusal text told) step h a.0) a.1
 
-  -- ---- what comes of them
+  -- ---- their outcome
 
   abbrev OnComes : Option Outcome → Type 0
   OnComes None = Unit {0}

@@ -37,9 +37,9 @@ use Rattle.dwexpr_c.specs.declared.steps.DwexprText.{DwexprText}
 use Rattle.dwexpr_c.proofs.Given.{asks_somewhere}
 use Rattle.dwexpr_c.proofs.Keeping.{reply_keeps, set_keeps, stop_keeps}
 
--- ---- what a call answered, and where the evaluation stands behind it
+-- ---- what a call answered, and where the evaluation stands after it
 
--- the status is what was answered, where no fault was met before
+-- the status is what was answered, if no fault was met before
 module _ (x new : State) (told : Result (EvaluationResult Placed ℕ ℕ) Error) (texts : List DwexprText) (out : DwexprOutcome) where
   told_evaluated : (status : Status) → x.status ≡ status → ShowsStatus texts status out → IsClosed status → Evaluates text_of_placed (λ x. x) x new told status → IsReplied (reply_of text_of_placed (λ x. x) told) new.status
   told_evaluated (Start initial_value) e s closed h = h.status
@@ -166,7 +166,7 @@ at_seam (s ∷ steps) step = at_seam steps step
 some_same : (a b : Step) → Some a ≡ Some b → a ≡ b
 some_same a b e = cc
 
--- a step that isn't allowed behind these steps
+-- a step that isn't allowed after these steps
 abbrev Refuses : State → Refusal → Step → List Step → Type 0
 Refuses first refusal step steps =
     let told = after_steps first.setup refusal first.text (told_at first) steps in

@@ -8,7 +8,7 @@ use Rattle.dwexpr_c.specs.Codes.{bad_value_code, code_of_fault}
 use Rattle.dwexpr_c.specs.Values.{shown_value, value_coded}
 use Rattle.dwexpr_c.specs.declared.values.DwexprValue.{DwexprValue}
 
--- what a call comes to; `None` where its numbers say no call
+-- what a call comes to; `None` if its numbers say no call
 abbrev pub Computed : Type 0
 Computed = Option (Result Value Fault)
 
@@ -36,7 +36,7 @@ unary_of operation w x =
     else if operation == 13 then Some (not_of w x)
     else None
 
--- the same, where there is a value
+-- the same, if there is a value
 abbrev pub unary_in : (operation w : ℕ) → Option Value → Computed
 unary_in operation w None = None
 unary_in operation w (Some x) = unary_of operation w x
@@ -63,7 +63,7 @@ binary_of operation w x y =
     else if operation == 27 then Some (ne_of w x y)
     else None
 
--- the same, where there are values
+-- the same, if there are values
 abbrev pub binary_in : (operation w : ℕ) → Option Value → Option Value → Computed
 binary_in operation w None right = None
 binary_in operation w (Some x) None = None
@@ -76,7 +76,7 @@ conversion_of operation w t x =
     else if operation == 50 then Some (reinterpret_of w t x)
     else None
 
--- the same, where there are a type and a value
+-- the same, if there are a type and a value
 abbrev pub conversion_in : (operation w : ℕ) → Option ValueType → Option Value → Computed
 conversion_in operation w None value = None
 conversion_in operation w (Some t) None = None
@@ -84,7 +84,7 @@ conversion_in operation w (Some t) (Some x) = conversion_of operation w t x
 
 -- ---- types and bytes
 
--- the value at the front of bytes, where there are a type and an order
+-- the value at the front of bytes, if there are a type and an order
 abbrev pub parsed_in : Option ValueType → (order : ℕ) → List ℕ → Computed
 parsed_in None order bytes = None
 parsed_in (Some t) order bytes = if order == 0 || order == 1 then Some (parse_of t (order == 1) bytes) else None

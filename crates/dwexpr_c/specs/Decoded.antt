@@ -10,22 +10,23 @@ use Rattle.dwexpr_c.specs.Operations.{blank_operation, operands_of, block_in}
 abbrev pub disallowed : (offset code : ℕ) → DwexprOperation
 disallowed offset code = record blank_operation { offset = offset; fault = code }
 
--- a fault was met behind this opcode
+-- a fault was met after this opcode
 abbrev pub faulted : (offset opcode : ℕ) → Fault → DwexprOperation
 faulted offset opcode fault =
-    record blank_operation { offset = offset; opcode = opcode; fault = code_of_fault fault; detail = number_of_fault fault }
+    record blank_operation { offset = offset; opcode = opcode; fault = code_of_fault fault;
+        detail = number_of_fault fault }
 
 -- a block is the last part of its operation, which ends here
 abbrev pub with_block : (end : ℕ) → Option (List ℕ) → DwexprOperation → DwexprOperation
 with_block end None shown = shown
 with_block end (Some block) shown = record shown { block_offset = end - length block; block_length = length block }
 
--- an operation at this offset, with its opcode and so many bytes
+-- an operation at this offset, with its opcode and this many bytes
 abbrev pub decoded : (offset opcode size : ℕ) → Operation → DwexprOperation
 decoded offset opcode size op =
     record (with_block (offset + size) (block_in op) (operands_of op)) { offset = offset; opcode = opcode; size = size }
 
--- what is shown of what is read from the offset on, where so many bytes are left
+-- what is shown of what is read from the offset on, if this many bytes are left
 abbrev pub Decodes : (offset opcode left : ℕ) → Result (Operation × List ℕ) Fault → DwexprOperation → Type 0
 Decodes offset opcode left (Ok read) shown = shown ≡ decoded offset opcode (left - length read.1) read.0
 Decodes offset opcode left (Err fault) shown = shown ≡ faulted offset opcode fault

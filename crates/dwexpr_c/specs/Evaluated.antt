@@ -34,13 +34,14 @@ pub record Beginning : Type 0 where
 
 -- the first of a caller's texts, before any step
 abbrev pub beginning : Encoding → (big : Bool) → (first : DwexprText) → (texts : List DwexprText) → Beginning
-beginning encoding big first texts = record { setup = limited_setup encoding; text = text_in big first; told = untold; texts = texts }
+beginning encoding big first texts =
+    record { setup = limited_setup encoding; text = text_in big first; told = untold; texts = texts }
 
 -- what was told once the steps are done
 abbrev pub told_by : Beginning → List Step → Told
 told_by given steps = after_steps given.setup Never given.text given.told steps
 
--- what comes of the steps
+-- the outcome of the steps
 abbrev pub comes_of : Beginning → List Step → Option Outcome
 comes_of given steps = outcome_of given.setup Never given.text (told_by given steps)
 
@@ -66,8 +67,9 @@ ShowsOutcome texts (Some (CompleteOutcome pieces value)) out old new =
     (out ≡ complete_outcome (length pieces) value) × AreWritten texts pieces old new
 ShowsOutcome texts (Some (FaultOutcome fault)) out old new = ⊥
 
--- all steps were done, and what came of them is shown
-pub record IsDone (given : Beginning) (numbers : List DwexprStep) (out : DwexprOutcome) (old new : List DwexprPiece) : Type 0 where
+-- all steps were done, and their outcome is shown
+pub record IsDone (given : Beginning) (numbers : List DwexprStep) (out : DwexprOutcome)
+    (old new : List DwexprPiece) : Type 0 where
   pub steps : List Step
   pub taken : AreTaken given numbers steps
   pub shown : ShowsOutcome given.texts (comes_of given steps) out old new
@@ -106,7 +108,8 @@ EvaluatesGiven given numbers out old new =
     IsDone given numbers out old new ⊎ (IsCutShort given numbers out × (new ≡ old))
 
 -- the first of the texts is evaluated
-abbrev pub EvaluatesFirst : Encoding → (big : Bool) → List DwexprText → List DwexprStep → DwexprOutcome → (old new : List DwexprPiece) → Type 0
+abbrev pub EvaluatesFirst : Encoding → (big : Bool) → List DwexprText → List DwexprStep → DwexprOutcome
+    → (old new : List DwexprPiece) → Type 0
 EvaluatesFirst encoding big [] numbers out old new = (out ≡ ended_outcome bad_text_code 0 0) × (new ≡ old)
 EvaluatesFirst encoding big (text ∷ texts) numbers out old new =
     EvaluatesGiven (beginning encoding big text (text ∷ texts)) numbers out old new

@@ -48,32 +48,40 @@ abbrev pub StandsAfter : Beginning → List DwexprStep → (new : State) → Dwe
 StandsAfter given numbers new out = HasTaken given numbers new ⊎ HasStopped given numbers new out
 
 -- it stands where the steps of the first of the texts lead; without a text it is as it was
-abbrev pub StandsAfterFirst : Encoding → (big : Bool) → List DwexprText → List DwexprStep → (before after : Held) → DwexprOutcome → Type 0
+abbrev pub StandsAfterFirst : Encoding → (big : Bool) → List DwexprText → List DwexprStep → (before after : Held)
+    → DwexprOutcome → Type 0
 StandsAfterFirst encoding big [] numbers before after out = after ≡ before
 StandsAfterFirst encoding big (text ∷ texts) numbers before after out =
-    (is_big_of after.order ≡ big) × StandsAfter (beginning encoding big text (text ∷ texts)) numbers after.evaluation out
+    (is_big_of after.order ≡ big) × StandsAfter (beginning encoding big text (text ∷ texts)) numbers after.evaluation
+        out
 
 -- the same of a handle
-abbrev pub Starts : Encoding → (big : Bool) → List DwexprText → List DwexprStep → (before after : Option Held) → DwexprOutcome → Type 0
-Starts encoding big texts numbers (Some before) (Some after) out = StandsAfterFirst encoding big texts numbers before after out
+abbrev pub Starts : Encoding → (big : Bool) → List DwexprText → List DwexprStep → (before after : Option Held)
+    → DwexprOutcome → Type 0
+Starts encoding big texts numbers (Some before) (Some after) out =
+    StandsAfterFirst encoding big texts numbers before after out
 Starts encoding big texts numbers _ _ out = ⊥
 
 -- ---- after a resume
 
 -- what is shown of the step, by how it ended
-abbrev pub Shows : List DwexprText → State → (told : DwexprOutcome) → Result (Unit {0}) FaultNumbers → (out : DwexprOutcome) → (old new : List DwexprPiece) → Type 0
+abbrev pub Shows : List DwexprText → State → (told : DwexprOutcome) → Result (Unit {0}) FaultNumbers
+    → (out : DwexprOutcome) → (old new : List DwexprPiece) → Type 0
 Shows texts x told (Ok _) out old new = FinishesOutcome texts 0 x.store.pieces told out old new x.status
 Shows texts x told (Err end) out old new = (out ≡ ended_outcome end.code end.number 0) × (new ≡ old)
 
 -- the step that the numbers say was taken, or ended the evaluation, and that is shown
-pub record HasResumed (texts : List DwexprText) (number : DwexprStep) (before after : Held) (out : DwexprOutcome) (old new : List DwexprPiece) : Type 0 where
+pub record HasResumed (texts : List DwexprText) (number : DwexprStep) (before after : Held) (out : DwexprOutcome)
+    (old new : List DwexprPiece) : Type 0 where
   pub order : after.order ≡ before.order
   pub ended : Result (Unit {0}) FaultNumbers
   pub told : DwexprOutcome
-  pub does : DoesStep texts (step_coded (is_big_of before.order) texts number) before.evaluation after.evaluation blank_outcome told ended
+  pub does : DoesStep texts (step_coded (is_big_of before.order) texts number) before.evaluation after.evaluation
+      blank_outcome told ended
   pub shown : Shows texts after.evaluation told ended out old new
 
 -- the same of a handle
-abbrev pub Resumes : List DwexprText → DwexprStep → (before after : Option Held) → DwexprOutcome → (old new : List DwexprPiece) → Type 0
+abbrev pub Resumes : List DwexprText → DwexprStep → (before after : Option Held) → DwexprOutcome
+    → (old new : List DwexprPiece) → Type 0
 Resumes texts number (Some before) (Some after) out old new = HasResumed texts number before after out old new
 Resumes texts number _ _ out old new = ⊥

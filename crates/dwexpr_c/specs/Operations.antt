@@ -6,7 +6,8 @@ use Rattle.dwexpr_c.specs.declared.operations.DwexprOperation.{DwexprOperation}
 -- all numbers are 0
 abbrev pub blank_operation : DwexprOperation
 blank_operation =
-    record { offset = 0; size = 0; opcode = 0; kind = 0; number = 0; signed_number = pos 0; base_type = 0; register_number = 0; deref_size = 0; flag = 0; fault = 0; block_offset = 0; block_length = 0; detail = 0 }
+    record { offset = 0; size = 0; opcode = 0; kind = 0; number = 0; signed_number = pos 0; base_type = 0;
+        register_number = 0; deref_size = 0; flag = 0; fault = 0; block_offset = 0; block_length = 0; detail = 0 }
 
 -- a kind alone
 abbrev pub of_kind : (kind : ℕ) → DwexprOperation
@@ -24,7 +25,7 @@ signed_operand kind number = record (of_kind kind) { signed_number = number }
 abbrev pub typed : (kind base_type : ℕ) → DwexprOperation
 typed kind base_type = record (of_kind kind) { base_type = base_type }
 
--- 1 where it is so
+-- 1 if it is so
 abbrev pub flag_of : Bool → ℕ
 flag_of true = 1
 flag_of false = 0
@@ -92,7 +93,7 @@ operands_of (meaning.WasmGlobal index) = numbered 53 index
 operands_of (meaning.WasmStack index) = numbered 54 index
 operands_of (meaning.VariableValue offset) = numbered 55 offset
 
--- the block, where the operation has one
+-- the block, if the operation has one
 abbrev pub block_in : meaning.Operation → Option (List ℕ)
 block_in (meaning.ImplicitValue bytes) = Some bytes.bytes
 block_in (meaning.EntryValue expression) = Some expression.bytes

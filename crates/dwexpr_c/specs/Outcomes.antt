@@ -16,7 +16,8 @@ use Rattle.dwexpr_c.specs.declared.steps.DwexprText.{DwexprText}
 -- all numbers are 0: nothing was evaluated
 abbrev pub blank_outcome : DwexprOutcome
 blank_outcome =
-    record { code = 0; request = 0; detail = 0; step = 0; number = 0; base_type = 0; space = 0; register_number = 0; size = 0; flag = 0; value_type = 0; value = 0; block_text = 0; block_offset = 0; block_length = 0; pieces = 0 }
+    record { code = 0; request = 0; detail = 0; step = 0; number = 0; base_type = 0; space = 0; register_number = 0;
+        size = 0; flag = 0; value_type = 0; value = 0; block_text = 0; block_offset = 0; block_length = 0; pieces = 0 }
 
 -- a request of this code, and a number
 abbrev pub request_outcome : (request number : ℕ) → DwexprOutcome
@@ -42,11 +43,13 @@ request_shown requests.RequiresFrameBase = request_outcome 4 0
 request_shown (requests.RequiresTls index) = request_outcome 5 index
 request_shown requests.RequiresCallFrameCfa = request_outcome 6 0
 request_shown (requests.RequiresAtLocation (operations.UnitRef offset)) = request_outcome 7 offset
-request_shown (requests.RequiresAtLocation (operations.DebugInfoRef offset)) = record (request_outcome 7 offset) { flag = 1 }
+request_shown (requests.RequiresAtLocation (operations.DebugInfoRef offset)) =
+    record (request_outcome 7 offset) { flag = 1 }
 request_shown (requests.RequiresEntryValue expression) = request_outcome 8 0
 request_shown (requests.RequiresParameterRef offset) = request_outcome 9 offset
 request_shown (requests.RequiresRelocatedAddress address) = request_outcome 10 address
-request_shown (requests.RequiresIndexedAddress index relocate) = record (request_outcome 11 index) { flag = flag_of relocate }
+request_shown (requests.RequiresIndexedAddress index relocate) =
+    record (request_outcome 11 index) { flag = flag_of relocate }
 request_shown (requests.RequiresBaseType offset) = record (request_outcome 12 0) { base_type = offset }
 request_shown (requests.RequiresWasmLocal index) = request_outcome 13 index
 request_shown (requests.RequiresWasmGlobal index) = request_outcome 14 index
@@ -60,7 +63,8 @@ ShowsBlock texts block shown out =
 
 -- the outcome shows a request, with the place of its block
 abbrev pub ShowsRequest : List DwexprText → Request → DwexprOutcome → Type 0
-ShowsRequest texts (requests.RequiresEntryValue expression) out = ShowsBlock texts expression.bytes (request_outcome 8 0) out
+ShowsRequest texts (requests.RequiresEntryValue expression) out =
+    ShowsBlock texts expression.bytes (request_outcome 8 0) out
 ShowsRequest texts request out = out ≡ request_shown request
 
 -- a call replied
@@ -73,4 +77,5 @@ ShowsReply texts (FaultReply fault) out = ⊥
 abbrev pub complete_outcome : (pieces : ℕ) → Option Value → DwexprOutcome
 complete_outcome pieces None = record (request_outcome 1 0) { pieces = pieces }
 complete_outcome pieces (Some value) =
-    record (request_outcome 1 0) { value_type = (shown_value value).value_type; value = (shown_value value).content; pieces = pieces }
+    record (request_outcome 1 0) { value_type = (shown_value value).value_type; value = (shown_value value).content;
+        pieces = pieces }

@@ -55,11 +55,13 @@ Takes texts (Err code) old new before after = ⊥
 
 -- it ended the evaluation, or the numbers say none
 abbrev pub Stops : List DwexprText → Result Step ℕ → (old new : State) → FaultNumbers → Type 0
-Stops texts (Ok step) old new end = NotTaken step old new end ⊎ (Failed step old new end ⊎ Unplaced texts step old new end)
+Stops texts (Ok step) old new end =
+    NotTaken step old new end ⊎ (Failed step old new end ⊎ Unplaced texts step old new end)
 Stops texts (Err code) old new end = (end ≡ plain_end code) × (new ≡ old)
 
--- what came of it
-abbrev pub DoesStep : List DwexprText → Result Step ℕ → (old new : State) → (before after : DwexprOutcome) → Result (Unit {0}) FaultNumbers → Type 0
+-- its outcome
+abbrev pub DoesStep : List DwexprText → Result Step ℕ → (old new : State) → (before after : DwexprOutcome)
+    → Result (Unit {0}) FaultNumbers → Type 0
 DoesStep texts said old new before after (Ok _) = Takes texts said old new before after
 DoesStep texts said old new before after (Err end) = Stops texts said old new end
 
@@ -72,15 +74,19 @@ ShowsStatus texts (FaultStatus error) out = ⊥
 ShowsStatus texts Running out = ⊥
 
 -- the outcome gets the pieces and the value of a complete evaluation
-abbrev pub FinishesOutcome : List DwexprText → (count : ℕ) → List Piece → (before after : DwexprOutcome) → (old new : List DwexprPiece) → Status → Type 0
+abbrev pub FinishesOutcome : List DwexprText → (count : ℕ) → List Piece → (before after : DwexprOutcome)
+    → (old new : List DwexprPiece) → Status → Type 0
 FinishesOutcome texts count pieces before after old new (CompleteStatus value) =
-    ((after ≡ complete_outcome (length pieces) value) × AreWritten texts pieces old new) ⊎ ((after ≡ ended_outcome lost_text_code 0 count) × SomeNowhere texts pieces)
+    ((after ≡ complete_outcome (length pieces) value) × AreWritten texts pieces old new)
+        ⊎ ((after ≡ ended_outcome lost_text_code 0 count) × SomeNowhere texts pieces)
 FinishesOutcome texts count pieces before after old new (Start initial_value) = (after ≡ before) × (new ≡ old)
 FinishesOutcome texts count pieces before after old new (RequestStatus request waiting) = (after ≡ before) × (new ≡ old)
 FinishesOutcome texts count pieces before after old new (FaultStatus error) = (after ≡ before) × (new ≡ old)
 FinishesOutcome texts count pieces before after old new Running = Unit {0}
 
 -- after a step that ended it the outcome is that end, and the pieces stay; after any other, by where it stands
-abbrev pub EndsOutcome : List DwexprText → (count : ℕ) → List Piece → Result DwexprOutcome DwexprOutcome → (after : DwexprOutcome) → (old new : List DwexprPiece) → Status → Type 0
-EndsOutcome texts count pieces (Ok before) after old new status = FinishesOutcome texts count pieces before after old new status
+abbrev pub EndsOutcome : List DwexprText → (count : ℕ) → List Piece → Result DwexprOutcome DwexprOutcome
+    → (after : DwexprOutcome) → (old new : List DwexprPiece) → Status → Type 0
+EndsOutcome texts count pieces (Ok before) after old new status =
+    FinishesOutcome texts count pieces before after old new status
 EndsOutcome texts count pieces (Err end) after old new status = (after ≡ end) × (new ≡ old)

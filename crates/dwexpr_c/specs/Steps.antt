@@ -10,27 +10,28 @@ use Rattle.dwexpr_c.specs.Values.{type_coded, value_coded}
 use Rattle.dwexpr_c.specs.declared.steps.DwexprText.{DwexprText}
 use Rattle.dwexpr_c.specs.declared.steps.DwexprStep.{DwexprStep}
 
--- an answer with a value, where the numbers say one
+-- an answer with a value, if the numbers say one
 abbrev pub with_value : (Value → requests.Answer) → Option Value → Result meaning.Step ℕ
 with_value answer None = Err bad_step_code
 with_value answer (Some value) = Ok (meaning.Resume (answer value))
 
--- an answer with a type, where the code is one
+-- an answer with a type, if the code is one
 abbrev pub with_type : Option ValueType → Result meaning.Step ℕ
 with_type None = Err bad_step_code
 with_type (Some t) = Ok (meaning.Resume (requests.BaseTypeAnswer t))
 
--- an answer with a text, where the index has one
+-- an answer with a text, if the index has one
 abbrev pub with_text : (big : Bool) → Option DwexprText → Result meaning.Step ℕ
 with_text big None = Err bad_text_code
 with_text big (Some text) = Ok (meaning.Resume (requests.LocationAnswer (text_in big text)))
 
--- the step that the numbers say, or the code where they say none
+-- the step that the numbers say, or the code if they say none
 abbrev pub step_coded : (big : Bool) → List DwexprText → DwexprStep → Result meaning.Step ℕ
 step_coded big texts step =
     if step.kind == 1 then Ok (meaning.InitialValue step.number)
     else if step.kind == 2 then Ok (meaning.ObjectAddress step.number)
-    else if step.kind == 3 then (if nat_lt step.number (2 ^ 32) then Ok (meaning.MaxIterations step.number) else Err bad_step_code)
+    else if step.kind == 3 then (if nat_lt step.number (2 ^ 32) then Ok (meaning.MaxIterations step.number)
+        else Err bad_step_code)
     else if step.kind == 4 then Ok meaning.Evaluate
     else if step.kind == 5 then with_value requests.MemoryAnswer (value_coded step.value_type step.number)
     else if step.kind == 6 then with_value requests.RegisterAnswer (value_coded step.value_type step.number)

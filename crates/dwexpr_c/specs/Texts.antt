@@ -13,10 +13,11 @@ text_of_placed placed = record { bytes = placed.bytes.now; is_big = is_big_of pl
 abbrev pub text_in : (big : Bool) → DwexprText → Text
 text_in big text = record { bytes = text.bytes.now; is_big = big }
 
--- the text was found exactly where there is one
+-- the text was found exactly if there is one
 abbrev pub TextAt : (big : Bool) → Option DwexprText → Option Placed → Type 0
 TextAt big None found = found ≡ None
-TextAt big (Some text) found = IfSome found (λ placed. text_of_placed placed ≡ text_in big text) × (is_some found ≡ true)
+TextAt big (Some text) found =
+    IfSome found (λ placed. text_of_placed placed ≡ text_in big text) × (is_some found ≡ true)
 
 -- the bytes at this place of that text are the block
 pub record IsPlaced (texts : List DwexprText) (text offset size : ℕ) (block : List ℕ) : Type 0 where

@@ -46,7 +46,7 @@ value_at value_type.U32 content = value.U32 (content % 2 ^ 32)
 value_at value_type.I64 content = value.I64 (signed_of 64 content)
 value_at value_type.U64 content = value.U64 content
 
--- the value, where there is a type
+-- the value, if there is a type
 abbrev pub value_typed : Option ValueType → (content : ℕ) → Option Value
 value_typed None content = None
 value_typed (Some t) content = Some (value_at t content)

@@ -148,8 +148,8 @@ fn parse(value_type: ValueType, bytes: &[u8], order: RunTimeEndian, shown: &mut 
 
 /// An operation on one value: `Abs`, `Neg` or `Not`, by the code of its kind (DWARF 5, section 2.5.1.4).
 ///
-/// It answers 0, the code of a fault, or 71 where the numbers say no operation, no value or no mask. `shown` is written
-/// in each case, and has the type 0 where the answer isn't 0.
+/// It answers 0, the code of a fault, or 71 if the numbers say no operation, no value or no mask. `shown` is written
+/// in each case, and has the type 0 if the answer isn't 0.
 #[unsafe(no_mangle)]
 pub extern "C" fn dwexpr_value_unary(
     operation: u32,
@@ -225,7 +225,7 @@ pub extern "C" fn dwexpr_value_parse(
     parse(value_type, bytes, order, shown)
 }
 
-/// How many bits a type's values have; 0 where the numbers say no type or no mask.
+/// How many bits a type's values have; 0 if the numbers say no type or no mask.
 #[unsafe(no_mangle)]
 pub extern "C" fn dwexpr_type_bit_size(value_type: u32, addr_mask: u64) -> u32
     ensures mask { (IsAddressMask addr_mask → ⊥) → result ≡ 0 }

@@ -11,7 +11,7 @@ use crate::operations::{DwexprOperation, disallow, show, show_fault};
 use dwarf_base::{EndianSlice, Reader};
 use dwarf_op::Operation;
 
-/// What stands at an offset, where there is a byte.
+/// What stands at an offset, if there is a byte.
 fn decode_at(bytes: &[u8], reading: Reading, offset: usize) -> DwexprOperation
     requires { offset < length bytes.now }
     ensures { Decodes offset (slice_index bytes.now offset) (length (drop offset bytes.now))
@@ -46,8 +46,8 @@ fn decode(bytes: &[u8], numbers: DwexprEncoding, offset: usize) -> DwexprOperati
 
 /// Decodes the operation that begins at an offset of the bytes (DWARF 5, sections 2.5 and 7.7.1).
 ///
-/// It answers 0, the code of a fault of the bytes, 1 to 21, or of an argument: 64 where the encoding's numbers say none,
-/// then 65 where there is no byte at the offset. `operation` is written in each case; its `fault` is the code.
+/// It answers 0, the code of a fault of the bytes, 1 to 21, or of an argument: 64 if the encoding's numbers say none,
+/// then 65 if there is no byte at the offset. `operation` is written in each case; its `fault` is the code.
 #[unsafe(no_mangle)]
 pub extern "C" fn dwexpr_decode(
     bytes: &[u8],

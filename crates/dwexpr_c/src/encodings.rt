@@ -12,7 +12,7 @@ pub struct DwexprEncoding {
     pub address_size: u8,
     /// The size of an offset in bytes, 4 or 8.
     pub offset_size: u8,
-    /// 0 where the lowest byte of a number comes first, 1 where the highest does.
+    /// 0 if the lowest byte of a number comes first, 1 if the highest does.
     pub big_endian: u8,
     /// The version of DWARF, 2 to 5.
     pub version: u8,
@@ -52,7 +52,7 @@ pub(crate) fn order_of(big_endian: u8) -> Option<RunTimeEndian>
     }
 }
 
-/// How bytes are to be read, where the numbers say that.
+/// How bytes are to be read, if the numbers say that.
 pub(crate) fn reading_of(numbers: DwexprEncoding) -> Option<Reading>
     ensures some { IfSome result
         (λ reading. (is_encoding numbers ≡ true) × (reading.encoding ≡ encoding_in numbers)

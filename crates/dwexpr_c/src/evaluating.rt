@@ -53,7 +53,7 @@ pub(crate) fn do_step<'a, S: EvaluationStorage<Placed<'a>>>(
     }
 }
 
-/// The step at an index, where there is one.
+/// The step at an index, if there is one.
 fn step_at(steps: &[DwexprStep], index: usize) -> Option<DwexprStep>
     ensures { result ≡ slice_get steps.now index }
 {

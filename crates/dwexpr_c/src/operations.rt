@@ -18,15 +18,15 @@ pub(crate) type Bytes<'a> = EndianSlice<'a, RunTimeEndian>;
 pub struct DwexprOperation {
     /// Where in the bytes it begins.
     pub offset: usize,
-    /// How many bytes it has; 0 where there is none.
+    /// How many bytes it has; 0 if there is none.
     pub size: usize,
-    /// Its first byte; 0 where none was read.
+    /// Its first byte; 0 if none was read.
     pub opcode: u32,
-    /// Its kind; 0 where there is none.
+    /// Its kind; 0 if there is none.
     pub kind: u32,
     /// A constant, an address, an index, a size in bits or an offset of an entry.
     pub number: u64,
-    /// A constant, an offset in bytes, or how far a branch goes from behind the operation.
+    /// A constant, an offset in bytes, or how far a branch goes from after the operation.
     pub signed_number: i64,
     /// The offset of the base type in the unit; 0 for the generic type.
     pub base_type: u64,
@@ -34,7 +34,7 @@ pub struct DwexprOperation {
     pub register_number: u32,
     /// How many bytes are read from memory.
     pub deref_size: u32,
-    /// 1 where an address space is popped too, a bit offset is given, or a call is into `.debug_info`.
+    /// 1 if an address space is popped too, a bit offset is given, or a call is into `.debug_info`.
     pub flag: u32,
     /// The code that the call answers.
     pub fault: u32,
@@ -63,7 +63,7 @@ const NOTHING: DwexprOperation = DwexprOperation {
     detail: 0,
 };
 
-/// What is shown where an argument isn't allowed.
+/// What is shown if an argument isn't allowed.
 pub(crate) fn disallow(offset: usize, code: u32) -> DwexprOperation
     ensures { result ≡ disallowed offset code }
 {
@@ -254,7 +254,7 @@ fn placed(shown: DwexprOperation, offset: usize, opcode: u8, size: usize) -> Dwe
     }
 }
 
-/// What is shown of an operation of so many bytes.
+/// What is shown of an operation of this many bytes.
 pub(crate) fn show(
     operation: Operation<Bytes<'_>>,
     offset: usize,

@@ -19,11 +19,11 @@ use dwarf_value::Value;
 pub struct DwexprOutcome {
     /// The code that the call answers.
     pub code: u32,
-    /// What is asked for, or that the evaluation is complete; 0 where nothing was evaluated, or the code isn't 0.
+    /// What is asked for, or that the evaluation is complete; 0 if nothing was evaluated, or the code isn't 0.
     pub request: u32,
     /// The number that a fault carries.
     pub detail: u64,
-    /// The index of the step that ended the evaluation, where the code isn't 0.
+    /// The index of the step that ended the evaluation, if the code isn't 0.
     pub step: usize,
     /// An address, an index or an offset of an entry.
     pub number: u64,
@@ -35,9 +35,9 @@ pub struct DwexprOutcome {
     pub register_number: u32,
     /// How many bytes are read from memory.
     pub size: u32,
-    /// 1 where there is an address space, an offset is in `.debug_info`, or an address is to be relocated.
+    /// 1 if there is an address space, an offset is in `.debug_info`, or an address is to be relocated.
     pub flag: u32,
-    /// The type of the value of a complete evaluation; 0 where it has none.
+    /// The type of the value of a complete evaluation; 0 if it has none.
     pub value_type: u32,
     /// The value of a complete evaluation.
     pub value: u64,
@@ -70,7 +70,7 @@ pub(crate) const UNTOLD: DwexprOutcome = DwexprOutcome {
     pieces: 0,
 };
 
-/// What is shown where a step ended the evaluation.
+/// What is shown if a step ended the evaluation.
 pub(crate) fn show_end(fault: FaultNumbers, step: usize) -> DwexprOutcome
     ensures { result ≡ ended_outcome fault.code fault.number step }
 {
@@ -120,7 +120,7 @@ fn with_block(shown: DwexprOutcome, place: Place, size: usize) -> DwexprOutcome
     }
 }
 
-/// What a call answered; `None` where it asks of a block that is nowhere.
+/// What a call answered; `None` if it asks of a block that is nowhere.
 pub(crate) fn show_reply(
     texts: &[DwexprText<'_>],
     reply: EvaluationResult<Placed<'_>>,

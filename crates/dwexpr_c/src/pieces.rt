@@ -16,13 +16,13 @@ use dwarf_op::{Location, Piece};
 pub struct DwexprPiece {
     /// Where it is, or what it holds.
     pub kind: u32,
-    /// 1 where it has a size; without one it is the whole variable.
+    /// 1 if it has a size; without one it is the whole variable.
     pub has_size: u32,
     /// Its size in bits.
     pub size_in_bits: u64,
     /// Where it begins in its location, in bits.
     pub bit_offset: u64,
-    /// 1 where that is said.
+    /// 1 if that is said.
     pub has_bit_offset: u32,
     /// The type of its value.
     pub value_type: u32,
@@ -91,7 +91,7 @@ fn with_bytes(shown: DwexprPiece, place: Place, size: usize) -> DwexprPiece
     }
 }
 
-/// A piece; `None` where its bytes are nowhere.
+/// A piece; `None` if its bytes are nowhere.
 fn show_location(
     texts: &[DwexprText<'_>],
     size: Option<u64>,
@@ -134,7 +134,7 @@ fn show_location(
     })
 }
 
-/// A piece; `None` where its bytes are nowhere.
+/// A piece; `None` if its bytes are nowhere.
 fn show_piece(texts: &[DwexprText<'_>], piece: Piece<Placed<'_>>) -> Option<DwexprPiece>
     ensures some { IfSome result
         (λ out. ShowsPiece texts.now (piece_of text_of_placed (λ x. x) piece.entry) out) }
@@ -144,14 +144,14 @@ fn show_piece(texts: &[DwexprText<'_>], piece: Piece<Placed<'_>>) -> Option<Dwex
     show_location(texts, piece.size_in_bits, piece.bit_offset, piece.location)
 }
 
-/// The piece at an index, where there is one.
+/// The piece at an index, if there is one.
 fn piece_at<'a>(pieces: &[Piece<Placed<'a>>], index: usize) -> Option<Piece<Placed<'a>>>
     ensures { result ≡ slice_get pieces.now index }
 {
     pieces.get(index).copied()
 }
 
-/// Writes as many pieces as there is room for; `false` where the bytes of one are nowhere.
+/// Writes as many pieces as there is room for; `false` if the bytes of one are nowhere.
 pub(crate) fn write_pieces(
     texts: &[DwexprText<'_>],
     pieces: &[Piece<Placed<'_>>],

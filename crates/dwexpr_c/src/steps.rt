@@ -42,7 +42,7 @@ pub(crate) struct Place {
     pub(crate) offset: usize,
 }
 
-/// The bytes of a text. A caller in C may give a null pointer where there are none, which a slice never has.
+/// The bytes of a text. A caller in C may give a null pointer if there are none, which a slice never has.
 fn bytes_of<'a>(text: &DwexprText<'a>) -> &'a [u8]
     ensures { result.now ≡ text.now.bytes.now }
 {
@@ -53,7 +53,7 @@ fn bytes_of<'a>(text: &DwexprText<'a>) -> &'a [u8]
     }
 }
 
-/// The text at an index, where there is one.
+/// The text at an index, if there is one.
 pub(crate) fn text_at<'a>(
     texts: &[DwexprText<'a>],
     order: RunTimeEndian,
@@ -144,7 +144,7 @@ pub(crate) fn place_of(texts: &[DwexprText<'_>], block: Placed<'_>) -> Option<Pl
     find(texts, block.bytes())
 }
 
-/// The step that the numbers say, or the code where they say none.
+/// The step that the numbers say, or the code if they say none.
 pub(crate) fn step_of<'a>(
     texts: &[DwexprText<'a>],
     order: RunTimeEndian,

@@ -21,7 +21,7 @@ pub(crate) fn type_of_code(code: u32) -> Option<ValueType>
     }
 }
 
-/// The code of a type; 0 where there is none.
+/// The code of a type; 0 if there is none.
 pub(crate) fn code_of_type(value_type: Option<ValueType>) -> u32
     ensures { result ≡ type_code value_type }
 {
@@ -43,7 +43,7 @@ pub(crate) fn code_of_type(value_type: Option<ValueType>) -> u32
 #[repr(C)]
 #[derive(Clone, Copy)]
 pub struct DwexprValue {
-    /// The code of its type; 0 where there is no value.
+    /// The code of its type; 0 if there is no value.
     pub value_type: u32,
     /// Its content. A signed one that is shown is extended to 64 bits; of one that is given the lowest bits count.
     pub content: u64,

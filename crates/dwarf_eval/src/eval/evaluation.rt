@@ -182,7 +182,7 @@ impl<R: Reader + Copy, S: EvaluationStorage<R>> Evaluation<R, S> {
     }
 
     /// Sets how many operations may be evaluated in all. It holds from now on, and can't be unset. While it isn't
-    /// set, there may be 4294967295. A location and the piece behind it count as one. It bounds what broken or hostile
+    /// set, there may be 4294967295. A location and the piece after it count as one. It bounds what broken or hostile
     /// bytes can cost; one operation more is `TooManyIterations`.
     pub fn set_max_iterations(&mut self, value: u32)
         ensures { self.new ≡ with_maximum value self.old }
@@ -414,7 +414,7 @@ impl<R: Reader + Copy, S: EvaluationStorage<R>> Evaluation<R, S> {
         self.resume(Given::BaseType(base_type))
     }
 
-    /// The value of a complete evaluation, as it stands; `None` where it has pieces or a location instead.
+    /// The value of a complete evaluation, as it stands; `None` if it has pieces or a location instead.
     pub fn value_result(&self) -> Option<Value>
         requires { IsComplete self.now.status }
         ensures { HasResult result self.now.status }

@@ -13,7 +13,7 @@ pub enum EvaluationResult<R: Reader, O = <R as Reader>::Offset> {
         address: u64,
         /// How many bytes, never more than an address has.
         size: u8,
-        /// The address space, where one is named.
+        /// The address space, if one is named.
         space: Option<u64>,
         /// The type of the value; offset 0 is the generic type.
         base_type: UnitOffset<O>,

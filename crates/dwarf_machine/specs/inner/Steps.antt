@@ -1,4 +1,5 @@
--- What the parts of an evaluation do to its state. Contracts of this crate alone cite this file, and private ones above it.
+-- What the parts of an evaluation do to its state. Contracts of this crate alone cite this file, and private ones above
+-- it.
 use Rattle.std.specs.Prelude.{ℕ, ◌+◌, ◌-◌, ◌*◌, ◌<◌, ◌≤◌, ◌≡◌, ◌==◌, ◌&&◌, not, Bool, true, false, List, [], ◌∷◌, Option, Some, None, Result, Ok, Err, length}
 use Rattle.dwarf_base.specs.declared.errors.Error.{Error}
 use Rattle.dwarf_base.specs.declared.errors.Error.TheVariants.{BadBranchTarget, InvalidExpressionTerminator, TooManyIterations}
@@ -47,7 +48,8 @@ with_last last x = record x { store = record x.store { last = last } }
 abbrev pub with_place : ℕ → State → State
 with_place place x = record x { place = place }
 
--- The setup, the settings, the text, the callers and the pieces stay, nothing is counted or decoded, and of values there are so many more at most.
+-- The setup, the settings, the text, the callers and the pieces stay, nothing is counted or decoded, and of values
+-- there are this many more at most.
 pub record Stays (more : ℕ) (old new : State) : Type 0 where
   pub kept : Keeps old new
   pub text : new.text ≡ old.text
@@ -55,7 +57,8 @@ pub record Stays (more : ℕ) (old new : State) : Type 0 where
   pub count : new.store.count ≡ old.store.count
   pub decodings : new.decodings ≡ old.decodings
   pub pieces : new.store.pieces ≡ old.store.pieces
-  pub items : length new.store.values + length new.store.pieces ≤ length old.store.values + length old.store.pieces + more
+  pub items : length new.store.values + length new.store.pieces
+      ≤ length old.store.values + length old.store.pieces + more
 
 -- f was done to what is kept, and to nothing else
 pub record Does (f : Store → Result Store Fault) (old new : State) : Type 0 where
@@ -108,9 +111,10 @@ CountsOne old new false = (can_count old.store ≡ false) × (new ≡ with_statu
 -- went to a place of the text, or there is no such place
 abbrev pub Jumps : ℕ → State → State → Bool → Type 0
 Jumps place old new true = (place ≤ length old.text.bytes) × (new ≡ with_place place old)
-Jumps place old new false = (length old.text.bytes < place) × (new ≡ with_status (FaultStatus (BadBranchTarget place)) old)
+Jumps place old new false =
+    (length old.text.bytes < place) × (new ≡ with_status (FaultStatus (BadBranchTarget place)) old)
 
--- the state in front of what is left of its text
+-- the state before what is left of its text
 abbrev pub at : (left : List ℕ) → State → State
 at left x = with_place (length x.text.bytes - length left) x
 
@@ -170,25 +174,26 @@ Leads f old new = LeadsBy f old new new.status
 abbrev pub Performs : Act → State → State → Type 0
 Performs a old new = Leads (done_at a old) old new
 
--- a piece behind a location: it is ended, or the state keeps the fault
+-- a piece after a location: it is ended, or the state keeps the fault
 abbrev pub EndsLocated : Location → Option (ℕ × Option ℕ) → State → State → Type 0
 EndsLocated location (Some size) old new =
-    Tried 0 (push_piece old.setup (record { size_in_bits = Some size.0; bit_offset = size.1; location = location })) (with_last Pieced old) new
+    Tried 0 (push_piece old.setup (record { size_in_bits = Some size.0; bit_offset = size.1; location = location }))
+        (with_last Pieced old) new
 EndsLocated location None old new = new ≡ with_status (FaultStatus (InvalidExpressionTerminator (old.place - 1))) old
 
 -- ---- turns
 
--- 1 where a call ends in a request or in completion
+-- 1 if a call ends in a request or in completion
 abbrev pub replies_by : Status → ℕ
 replies_by (RequestStatus request waiting) = 1
 replies_by (CompleteStatus value) = 1
 replies_by _ = 0
 
--- where the call so ends, fewer calls are left
+-- if the call so ends, fewer calls are left
 abbrev pub Nears : State → State → Type 0
 Nears old new = calls_left new + replies_by new.status ≤ calls_left old
 
--- what comes of the old state is what comes of the new one, to which it came by so many pushes
+-- the outcome of the old state is the outcome of the new one, to which it came by this many pushes
 pub record Reaches (old : State) (totals : Refusal → List Input → Total) (new : State) : Type 0 where
   pub pushes : ℕ
   pub same : (r : Refusal) (inputs : List Input) → totals (before_pushes pushes r) inputs ≡ total new r inputs
@@ -200,7 +205,8 @@ pub record Reaches (old : State) (totals : Refusal → List Input → Total) (ne
 pub record Falls (old : State) (totals : Refusal → List Input → Total) (fault : Fault) (new : State) : Type 0 where
   pub refusal : Refusal
   pub may : MayPick old.setup.limits refusal
-  pub same : (inputs : List Input) → totals refusal inputs ≡ record { outcome = FaultOutcome fault; count = new.store.count }
+  pub same : (inputs : List Input) → totals refusal inputs
+      ≡ record { outcome = FaultOutcome fault; count = new.store.count }
   pub kept : Keeps old new
   pub spends : Spends old new
 
@@ -222,7 +228,7 @@ RunsOnBy old totals new (RequestStatus request waiting) = ⊥
 RunsOnBy old totals new (CompleteStatus value) = ⊥
 RunsOnBy old totals new (Start initial_value) = ⊥
 
--- the run begins, or goes on behind an answer
+-- the run begins, or goes on after an answer
 abbrev pub RunsOn : State → (Refusal → List Input → Total) → State → Type 0
 RunsOn old totals new = RunsOnBy old totals new new.status
 
@@ -248,17 +254,20 @@ pub record IsReady (x : State) : Type 0 where
   pub inside : (x.place == length x.text.bytes) ≡ false
   pub free : IsFree x.store.last
 
--- back in the innermost caller, where there is one
+-- back in the innermost caller, if there is one
 abbrev pub GoesBack : Bool → State → State → Type 0
-GoesBack true old new = (f : Position) × (fs : List Position) × (old.callers ≡ f ∷ fs) × (new ≡ record old { text = f.text; place = f.place; callers = fs })
+GoesBack true old new =
+    (f : Position) × (fs : List Position) × (old.callers ≡ f ∷ fs)
+    × (new ≡ record old { text = f.text; place = f.place; callers = fs })
 GoesBack false old new = (old.callers ≡ []) × (new ≡ old)
 
--- Nothing is counted, and of values and pieces there are so many more at most.
+-- Nothing is counted, and of values and pieces there are this many more at most.
 pub record Adds (more : ℕ) (old new : State) : Type 0 where
-  pub items : length new.store.values + length new.store.pieces ≤ length old.store.values + length old.store.pieces + more
+  pub items : length new.store.values + length new.store.pieces
+      ≤ length old.store.values + length old.store.pieces + more
   pub count : new.store.count ≡ old.store.count
 
--- the run is over, as f says, with this value, and so many more items at most
+-- the run is over, as f says, with this value, and this many more items at most
 pub record ClosesComplete (more : ℕ) (f : Store → Outcome) (value : Option Value) (old new : State) : Type 0 where
   pub steps : Steps f old.store (λ s. CompleteOutcome s.pieces value) new.store
   pub alone : new ≡ with_store new.store (with_status (CompleteStatus value) old)
@@ -277,7 +286,7 @@ ClosesBy more f old new Running = ⊥
 ClosesBy more f old new (Start initial_value) = ⊥
 ClosesBy more f old new (RequestStatus request waiting) = ⊥
 
--- the run is over, as f says, with so many more items at most, or for some refusal in a fault, which the state keeps
+-- the run is over, as f says, with this many more items at most, or for some refusal in a fault, which the state keeps
 abbrev pub Closes : ℕ → (Store → Outcome) → State → State → Type 0
 Closes more f old new = ClosesBy more f old new new.status
 
@@ -323,7 +332,8 @@ HasReply (Start initial_value) = ⊥
 -- a called text runs, and there is one caller more
 pub record Enters (callee : Text) (old new : State) : Type 0 where
   pub steps : Steps (push_caller old.setup (length old.callers)) old.store Ok new.store
-  pub alone : new ≡ record old { text = callee; place = 0; callers = record { text = old.text; place = old.place } ∷ old.callers; store = new.store }
+  pub alone : new ≡ record old { text = callee; place = 0;
+      callers = record { text = old.text; place = old.place } ∷ old.callers; store = new.store }
 
 abbrev pub TriesToEnter : Text → State → State → Bool → Type 0
 TriesToEnter callee old new true = Enters callee old new

@@ -16,18 +16,23 @@ use Rattle.dwarf_replay.specs.declared.replaying.NotKept.{NotKept}
 use Rattle.dwarf_replay.specs.declared.replaying.NotKept.TheVariants as stop
 
 -- a call's reply was kept
-pub record IsKept {R O P : Type 0} (text : R → Text) (number : O → ℕ) (step : Step) (old : State) (given : List (Answer R O P)) (new : State) (all : List (Answer R O P)) : Type 0 where
+pub record IsKept {R O P : Type 0} (text : R → Text) (number : O → ℕ) (step : Step) (old : State)
+    (given : List (Answer R O P)) (new : State) (all : List (Answer R O P)) : Type 0 where
   pub answer : Answer R O P
   pub called : HasReplied text number step old new answer.0
   pub kept : all ≡ given ++ answer ∷ []
 
 -- a setting was set, or a call's reply was kept; or the step isn't allowed, or its reply found no room
-abbrev pub TakesStep : {R O P : Type 0} → (R → Text) → (O → ℕ) → Step → Option ℕ → State → List (Answer R O P) → State → List (Answer R O P) → Result (Unit {0}) (NotKept R O P) → Type 0
-TakesStep text number step limit old given new all (Ok u) = (IsSet step old new × (all ≡ given)) ⊎ IsKept text number step old given new all
-TakesStep text number step limit old given new all (Err stop.Misplaced) = (new ≡ old) × (MayTake step old.status → ⊥) × (all ≡ given)
-TakesStep text number step limit old given new all (Err (stop.NoRoom answer)) = HasReplied text number step old new answer.0 × (all ≡ given) × MayRefuse limit (length given)
+abbrev pub TakesStep : {R O P : Type 0} → (R → Text) → (O → ℕ) → Step → Option ℕ → State → List (Answer R O P) → State
+    → List (Answer R O P) → Result (Unit {0}) (NotKept R O P) → Type 0
+TakesStep text number step limit old given new all (Ok u) =
+    (IsSet step old new × (all ≡ given)) ⊎ IsKept text number step old given new all
+TakesStep text number step limit old given new all (Err stop.Misplaced) =
+    (new ≡ old) × (MayTake step old.status → ⊥) × (all ≡ given)
+TakesStep text number step limit old given new all (Err (stop.NoRoom answer)) =
+    HasReplied text number step old new answer.0 × (all ≡ given) × MayRefuse limit (length given)
 
--- the kind of the step's answer, or none where it is a setting or the start
+-- the kind of the step's answer, or none if it is a setting or the start
 abbrev pub IsKindOf : Step → Option WaitingKind → Type 0
 IsKindOf (Resume answer) (Some kind) = kind ≡ kind_of_answer answer
 IsKindOf (Resume answer) None = ⊥
@@ -45,8 +50,10 @@ IsOpenAt (MaxIterations maximum) status = ⊥
 IsOpenAt Evaluate status = ⊥
 
 -- the evaluation went on with the step's answer
-abbrev pub IsResumed : {R O P : Type 0} → (R → Text) → (O → ℕ) → Step → State → State → Result (EvaluationResult R O P) Error → Type 0
-IsResumed text number (Resume answer) old new replied = Resumes text number (input_of old answer) old new replied old.status
+abbrev pub IsResumed : {R O P : Type 0} → (R → Text) → (O → ℕ) → Step → State → State
+    → Result (EvaluationResult R O P) Error → Type 0
+IsResumed text number (Resume answer) old new replied =
+    Resumes text number (input_of old answer) old new replied old.status
 IsResumed text number (InitialValue value) old new replied = ⊥
 IsResumed text number (ObjectAddress address) old new replied = ⊥
 IsResumed text number (MaxIterations maximum) old new replied = ⊥

@@ -29,15 +29,20 @@ Runs texts numbers first new (Err out) = HasStopped (given_at first texts) numbe
 
 -- a text as a reader has it, before any step
 abbrev pub beginning_at : Encoding → Placed → List DwexprText → Beginning
-beginning_at encoding text texts = record { setup = limited_setup encoding; text = text_of_placed text; told = untold; texts = texts }
+beginning_at encoding text texts =
+    record { setup = limited_setup encoding; text = text_of_placed text; told = untold; texts = texts }
 
--- a text is evaluated, where there is one
-abbrev pub EvaluatesFound : Encoding → List DwexprText → List DwexprStep → DwexprOutcome → (old new : List DwexprPiece) → Option Placed → Type 0
+-- a text is evaluated, if there is one
+abbrev pub EvaluatesFound : Encoding → List DwexprText → List DwexprStep → DwexprOutcome → (old new : List DwexprPiece)
+    → Option Placed → Type 0
 EvaluatesFound encoding texts numbers out old new None = (out ≡ ended_outcome bad_text_code 0 0) × (new ≡ old)
-EvaluatesFound encoding texts numbers out old new (Some text) = EvaluatesGiven (beginning_at encoding text texts) numbers out old new
+EvaluatesFound encoding texts numbers out old new (Some text) =
+    EvaluatesGiven (beginning_at encoding text texts) numbers out old new
 
 -- the evaluation stands where its steps lead, or as it did
-abbrev pub StandsAfterFound : Encoding → List DwexprText → List DwexprStep → (before after : Held) → DwexprOutcome → Option Placed → Type 0
+abbrev pub StandsAfterFound : Encoding → List DwexprText → List DwexprStep → (before after : Held) → DwexprOutcome
+    → Option Placed → Type 0
 StandsAfterFound encoding texts numbers before after out None = after ≡ before
 StandsAfterFound encoding texts numbers before after out (Some text) =
-    (is_big_of after.order ≡ (text_of_placed text).is_big) × StandsAfter (beginning_at encoding text texts) numbers after.evaluation out
+    (is_big_of after.order ≡ (text_of_placed text).is_big)
+        × StandsAfter (beginning_at encoding text texts) numbers after.evaluation out

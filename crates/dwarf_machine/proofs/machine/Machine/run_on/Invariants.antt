@@ -1,7 +1,7 @@
 use Rattle.dwarf_machine.specs.inner.Steps.{Comes, effort, total}
 use Rattle.dwarf_machine.proofs.machine.Machine.run_on.Given as goal
 
--- what comes of the state at the call is what comes of the state now
+-- the outcome of the state at the call is the outcome of the state now
 abbrev pub invariant-loop-self : goal.invariant-loop-self
 invariant-loop-self g l = Comes l.fn.self (total l.fn.self) l.self
 

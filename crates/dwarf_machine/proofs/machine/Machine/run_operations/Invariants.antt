@@ -3,7 +3,7 @@ use Rattle.dwarf_machine.specs.inner.Steps.{at, effort}
 use Rattle.dwarf_machine.proofs.Performing.{StillRuns}
 use Rattle.dwarf_machine.proofs.machine.Machine.run_operations.Given as goal
 
--- what comes of the state at the call is what comes of the state in front of what is left
+-- the outcome of the state at the call is the outcome of the state before what is left
 abbrev pub invariant-loop-goes_on : goal.invariant-loop-goes_on
 invariant-loop-goes_on g l =
     StillRuns l.fn.self (at (g.R.Reader.text l.left).bytes l.self) l.goes_on × IsLeftOf (g.R.Reader.text l.left) l.self.text

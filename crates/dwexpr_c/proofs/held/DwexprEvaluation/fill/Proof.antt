@@ -1,4 +1,4 @@
--- `fill` writes a value into the room behind the pointer.
+-- `fill` writes a value into the room after the pointer.
 use Rattle.std.proofs.Common.{◌≡◌, List, [], ◌∷◌, ◌++◌, refl, sym, ap, ◌∙◌, subst, Option, None, Some}
 use Rattle.std.proofs.raw_atomic.Walks.{proved_at}
 use Rattle.std.proofs.alloc.Calls.{Al, handle_tells, Goes-blank}

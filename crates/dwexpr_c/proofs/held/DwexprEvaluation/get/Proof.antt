@@ -1,4 +1,4 @@
--- `get` lends the value behind the pointer, and the handle follows it.
+-- `get` lends the value after the pointer, and the handle follows it.
 use Rattle.std.proofs.Common.{◌≡◌, ℕ, List, [], ◌∷◌, refl, sym, ap, ◌∙◌}
 use Rattle.std.proofs.raw_atomic.Walks.{proved}
 use seplogic.Ra.Ura.{Ura}

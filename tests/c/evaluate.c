@@ -284,9 +284,11 @@ static void all_pieces(void)
     step(DWEXPR_ANSWER_ENTRY_VALUE, DWEXPR_GENERIC, 1, 0), step(DWEXPR_ANSWER_LOCATION, 0, 0, 2);
     texts[2].bytes = (const uint8_t *)"\x96\x96\xa3\x01\x55\xa3\x01\x55", texts[2].length = 8;
     run(LE8, 3);
-    want.request = DWEXPR_WANTS_ENTRY_VALUE, want.block_text = 2, want.block_offset = 4, want.block_length = 1, expect();
+    want.request = DWEXPR_WANTS_ENTRY_VALUE, want.block_text = 2, want.block_offset = 4, want.block_length = 1;
+    expect();
     step(DWEXPR_ANSWER_ENTRY_VALUE, DWEXPR_GENERIC, 1, 0), run(LE8, 3);
-    want.request = DWEXPR_WANTS_ENTRY_VALUE, want.block_text = 2, want.block_offset = 7, want.block_length = 1, expect();
+    want.request = DWEXPR_WANTS_ENTRY_VALUE, want.block_text = 2, want.block_offset = 7, want.block_length = 1;
+    expect();
 
     begin("the same bytes in the called text", "9e 01 55 93 01 98 0500"), start(), step(DWEXPR_ANSWER_LOCATION, 0, 0, 2);
     texts[2].bytes = (const uint8_t *)"\x96\x9e\x01\x55\x93\x01\x9e\x01\x55\x93\x01", texts[2].length = 11;

@@ -186,8 +186,8 @@ fn reads_one_operation_for_each_item(rt: HostRuntime) {
     }
 }
 
-// A register with its piece; a frame address, its piece, and a call; there a register, whose piece follows the call; and
-// another frame address. Then a branch for ever, of which the maximum of ten operations allows three turns.
+// A register with its piece; a frame address, its piece, and a call; there a register, whose piece follows the call;
+// and another frame address. Then a branch for ever, of which the maximum of ten operations allows three turns.
 #[test]
 fn reads_what_an_evaluation_counts(rt: HostRuntime) {
     let reads = Cell::new(0);

@@ -265,33 +265,32 @@ pub struct Held {
 
 /// What a call of an evaluation wrote: the outcome, and as many pieces as it counts.
 pub struct Written {
-    outcome: MaybeUninit<RawOutcome>,
+    outcome: RawOutcome,
     pieces: [MaybeUninit<RawPiece>; MAX_PIECES],
 }
 
 impl Written {
     #[inline]
-    fn nothing() -> Self {
-        Written { outcome: MaybeUninit::uninit(), pieces: [MaybeUninit::uninit(); MAX_PIECES] }
+    pub fn nothing() -> Self {
+        Written { outcome: RawOutcome::default(), pieces: [MaybeUninit::uninit(); MAX_PIECES] }
     }
 
     #[inline]
     pub fn outcome(&self) -> &RawOutcome {
-        // SAFETY: the calls write it in each case.
-        unsafe { self.outcome.assume_init_ref() }
+        &self.outcome
     }
 
     /// The pieces of a complete evaluation.
     pub fn pieces(&self) -> &[RawPiece] {
-        let written = &self.pieces[..self.outcome().pieces];
-        // SAFETY: as many are written as there are, since there is room for as many as there may be.
+        let written = &self.pieces[..self.outcome.pieces];
+        // SAFETY: the calls alone write `outcome`, and as many pieces as it counts, if there is room for them.
         unsafe { &*(std::ptr::from_ref(written) as *const [RawPiece]) }
     }
 }
 
 impl Held {
     pub fn new() -> Self {
-        if let Some(memory) = SPARE.take() {
+        if let Ok(Some(memory)) = SPARE.try_with(Cell::take) {
             return Held { memory };
         }
         // SAFETY: the call takes nothing.
@@ -307,9 +306,8 @@ impl Held {
     /// # Safety
     ///
     /// Until the next start, the bytes of the texts stay as they are.
-    pub unsafe fn start(&mut self, texts: &[RawText], encoding: RawEncoding, steps: &[RawStep]) -> Written {
+    pub unsafe fn start(&mut self, texts: &[RawText], encoding: RawEncoding, steps: &[RawStep], written: &mut Written) {
         let mut evaluation = RawEvaluation { memory: self.memory.as_mut_ptr() };
-        let mut written = Written::nothing();
         // SAFETY: `new` has begun the evaluation, which lies in memory of its own; the pointers and lengths are those
         // of slices; of the texts the caller says what the archive asks.
         unsafe {
@@ -320,12 +318,11 @@ impl Held {
                 encoding,
                 steps.as_ptr(),
                 steps.len(),
-                written.outcome.as_mut_ptr(),
+                &mut written.outcome,
                 written.pieces.as_mut_ptr().cast(),
                 MAX_PIECES,
             )
         };
-        written
     }
 
     /// Takes one more step.
@@ -334,9 +331,8 @@ impl Held {
     ///
     /// The texts are those of the start and of the steps since, in that order, and maybe one more; their bytes stay as
     /// they are until the next start.
-    pub unsafe fn resume(&mut self, texts: &[RawText], step: RawStep) -> Written {
+    pub unsafe fn resume(&mut self, texts: &[RawText], step: RawStep, written: &mut Written) {
         let mut evaluation = RawEvaluation { memory: self.memory.as_mut_ptr() };
-        let mut written = Written::nothing();
         // SAFETY: as in `start`.
         unsafe {
             dwexpr_evaluation_resume(
@@ -344,12 +340,11 @@ impl Held {
                 texts.as_ptr(),
                 texts.len(),
                 step,
-                written.outcome.as_mut_ptr(),
+                &mut written.outcome,
                 written.pieces.as_mut_ptr().cast(),
                 MAX_PIECES,
             )
         };
-        written
     }
 }
 

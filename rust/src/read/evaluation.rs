@@ -138,7 +138,12 @@ impl<R: Reader> Evaluation<R> {
     /// If an answer is wanted: a resume comes next.
     #[track_caller]
     pub fn evaluate(&mut self) -> Result<EvaluationResult<R>> {
-        let written = if self.is_started { self.step(raw_step(4, 0)) } else { self.start(true) };
+        let mut written = Written::nothing();
+        if self.is_started {
+            self.step(raw_step(4, 0), &mut written);
+        } else {
+            self.start(true, &mut written);
+        }
         self.reply(&written, "evaluate")
     }
 
@@ -315,12 +320,12 @@ impl<R: Reader> Evaluation<R> {
     /// Tells a setting to an evaluation that was started. It has no answer, also after a fault.
     fn set(&mut self, kind: u32, number: u64) {
         if self.is_started {
-            self.step(raw_step(kind, number));
+            self.step(raw_step(kind, number), &mut Written::nothing());
         }
     }
 
     /// Starts it, in the settings so far.
-    fn start(&mut self, evaluates: bool) -> Written {
+    fn start(&mut self, evaluates: bool, written: &mut Written) {
         let mut steps = [RawStep::default(); 4];
         let settings = [
             self.initial_value.map(|value| raw_step(1, value)),
@@ -336,31 +341,30 @@ impl<R: Reader> Evaluation<R> {
         let texts = [RawText::new(self.bytecode.bytes())];
         let encoding = raw_encoding(self.encoding, self.bytecode.endian());
         // SAFETY: the text is borrowed, and stays in `bytecode` until the next start.
-        let written = unsafe { self.held.start(&texts, encoding, &steps[..count]) };
+        unsafe { self.held.start(&texts, encoding, &steps[..count], written) };
         self.is_started = written.outcome().code != raw::BAD_ENCODING;
-        written
     }
 
     /// Takes one more step of an evaluation that was started.
-    fn step(&mut self, step: RawStep) -> Written {
+    fn step(&mut self, step: RawStep, written: &mut Written) {
         let first = [RawText::new(self.bytecode.bytes())];
         let texts = if self.table.is_empty() { &first } else { self.table.as_slice() };
         // SAFETY: the table grows at its end alone until the next start; its texts are borrowed, and stay in `bytecode`
         // and
         // `called` until then.
-        unsafe { self.held.resume(texts, step) }
+        unsafe { self.held.resume(texts, step, written) };
     }
 
     /// Takes an answer.
     #[track_caller]
     fn resume(&mut self, step: RawStep, call: &str) -> Result<EvaluationResult<R>> {
+        let mut written = Written::nothing();
         if !self.is_started {
-            let written = self.start(false);
-            if !self.is_started {
-                return self.reply(&written, "");
-            }
+            self.start(false, &mut written);
         }
-        let written = self.step(step);
+        if self.is_started {
+            self.step(step, &mut written);
+        }
         self.reply(&written, call)
     }
 

@@ -85,7 +85,7 @@ abbrev pub leb_from : {A : Type 0} → LebForm A → (place sum : ℕ) → List 
 leb_from form place sum [] = Err past_the_end
 leb_from form place sum (byte ∷ rest) =
     if place == 9 then (if form.allows_tenth byte then Ok (form.number (sum + byte * 128 ^ 9) 10 byte, rest)
-        else Err form.too_long)
+    else Err form.too_long)
     else (if nat_lt byte 128 then Ok (form.number (sum + byte * 128 ^ place) (place + 1) byte, rest)
     else leb_from form (place + 1) (sum + byte % 128 * 128 ^ place) rest)
 

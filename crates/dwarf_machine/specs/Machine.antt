@@ -34,8 +34,11 @@ location_of text number (location.ImplicitPointer value byte_offset) = meaning.P
 -- a piece of the code, as the definitions have it
 abbrev pub piece_of : {R O P : Type 0} → (R → Text) → (O → ℕ) → Piece R O P → meaning.Piece
 piece_of text number piece =
-    record { size_in_bits = piece.size_in_bits; bit_offset = piece.bit_offset;
-        location = location_of text number piece.location }
+    record {
+      size_in_bits = piece.size_in_bits;
+      bit_offset = piece.bit_offset;
+      location = location_of text number piece.location;
+    }
 
 -- of what sort the last operation was, as the definitions have it
 abbrev pub last_of : {R O P : Type 0} → (R → Text) → (O → ℕ) → LastOperation R O P → Last
@@ -110,8 +113,11 @@ callers_of text readers = reverse (map (caller_of text) readers)
 -- the setup: an encoding, the bits of an offset, and a limit for each list
 abbrev pub setup_of : Encoding → ℕ → Option ℕ → Option ℕ → Option ℕ → Setup
 setup_of encoding offset_bits values callers pieces =
-    record { encoding = encoding; offset_bits = offset_bits;
-        limits = record { values = values; callers = callers; pieces = pieces } }
+    record {
+      encoding = encoding;
+      offset_bits = offset_bits;
+      limits = record { values = values; callers = callers; pieces = pieces };
+    }
 
 -- what is kept: the code's lists, with the top of the stack first
 abbrev pub store_of : {R O P : Type 0} → (R → Text) → (O → ℕ) → List Value → List (Piece R O P) → ℕ → Option ℕ → ℕ

@@ -14,7 +14,7 @@ abbrev pub path_behind : Setup → List Position → End → List Position
 path_behind setup [] (CompleteEnd s inputs) = []
 path_behind setup (caller ∷ callers) (CompleteEnd s inputs) =
     let course = run setup caller.text caller.place (length callers) s inputs
-        in course.path ++ path_behind setup callers course.end
+    in course.path ++ path_behind setup callers course.end
 path_behind setup callers (RequestEnd request positions inputs) = []
 path_behind setup callers (FaultEnd fault) = []
 
@@ -33,7 +33,7 @@ path_by x s inputs (Start initial_value) = path_started x inputs (with_initial x
 path_by x s inputs Running = path_through x.setup x.callers (run x.setup x.text x.place (length x.callers) s inputs)
 path_by x s inputs (RequestStatus request waiting) =
     path_through x.setup x.callers (await_answer (run x.setup) x.setup (record { text = x.text; place = x.place })
-        (length x.callers) request waiting s inputs)
+    (length x.callers) request waiting s inputs)
 path_by x s inputs (CompleteStatus value) = []
 path_by x s inputs (FaultStatus error) = []
 

@@ -121,8 +121,8 @@ act bits object (operation.Deref base_type size false) values =
 act bits object (operation.Deref base_type size true) values =
     choose (nat_lt bits (8 * size)) (FaultAct (InvalidDerefSize size))
     (on_top values short (λ x below. on_top below short
-        (λ y rest. RequestAct rest (RequiresMemory (to_u64_of bits x) size (Some (to_u64_of bits y)) base_type)
-        Memory)))
+    (λ y rest. RequestAct rest (RequiresMemory (to_u64_of bits x) size (Some (to_u64_of bits y)) base_type)
+    Memory)))
 act bits object (operation.RegisterOffset register offset base_type) values =
     RequestAct values (RequiresRegister register base_type) (Register offset)
 act bits object (operation.FrameOffset offset) values = RequestAct values RequiresFrameBase (FrameBase offset)
@@ -150,10 +150,16 @@ act bits object (operation.ImplicitValue bytes) values = Locates values (HoldsBy
 act bits object operation.StackValue values = on_top values short (λ x rest. Locates rest (HoldsValue x))
 act bits object (operation.ImplicitPointer value byte_offset) values = Locates values (PointsInto value byte_offset)
 act bits object (operation.Piece size_in_bits bit_offset) values =
-    on_top values (EndsPiece [] (record { size_in_bits = Some size_in_bits; bit_offset = bit_offset;
-        location = Empty }))
-    (λ x rest. EndsPiece rest (record { size_in_bits = Some size_in_bits; bit_offset = bit_offset;
-        location = AtAddress (to_u64_of bits x) }))
+    on_top values (EndsPiece [] (record {
+      size_in_bits = Some size_in_bits;
+      bit_offset = bit_offset;
+      location = Empty;
+    }))
+    (λ x rest. EndsPiece rest (record {
+      size_in_bits = Some size_in_bits;
+      bit_offset = bit_offset;
+      location = AtAddress (to_u64_of bits x);
+    }))
 
 -- ---- what is done with an answer
 
@@ -187,8 +193,8 @@ use_of bits (TypedLiteral literal) (BaseTypeAnswer value_type) values =
     on_result (parse_of value_type literal.is_big literal.bytes) FaultUse (PushesAnswer values)
 use_of bits Convert (BaseTypeAnswer value_type) values =
     on_top values (FaultUse NotEnoughStackItems)
-        (λ x rest. on_result (result_of (convert_of bits value_type x)) FaultUse (PushesAnswer rest))
+    (λ x rest. on_result (result_of (convert_of bits value_type x)) FaultUse (PushesAnswer rest))
 use_of bits Reinterpret (BaseTypeAnswer value_type) values =
     on_top values (FaultUse NotEnoughStackItems)
-        (λ x rest. on_result (result_of (reinterpret_of bits value_type x)) FaultUse (PushesAnswer rest))
+    (λ x rest. on_result (result_of (reinterpret_of bits value_type x)) FaultUse (PushesAnswer rest))
 use_of bits _ _ values = WrongKind

@@ -18,7 +18,7 @@ number_at big InLeb128 bytes = uleb_at bytes
 abbrev pub unsigned_at : Context → Form → List ℕ → Result (ℕ × List ℕ) Fault
 unsigned_at context form bytes =
     number_at context.is_big (layout_of context.encoding form) bytes
-        >>= λ number. operand_value context.offset_bits form number.0 >>= λ value. Ok (value, number.1)
+    >>= λ number. operand_value context.offset_bits form number.0 >>= λ value. Ok (value, number.1)
 
 -- a signed operand
 abbrev pub integer_at : (big : Bool) → SignedForm → List ℕ → Result (ℤ × List ℕ) Fault
@@ -40,4 +40,4 @@ operands_at context (Invalid opcode) bytes = Err (invalid_expression opcode)
 unfoldable pub operation_at : Encoding → (offset_bits : ℕ) → Text → Result (Operation × List ℕ) Fault
 operation_at encoding offset_bits text =
     u8_at text.bytes >>= λ opcode. operands_at (context_of encoding offset_bits text.is_big) (row_of encoding opcode.0)
-        opcode.1
+    opcode.1

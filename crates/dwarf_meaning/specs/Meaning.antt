@@ -47,7 +47,7 @@ abbrev pub finish_value : Setup → Store → Outcome
 finish_value setup s =
     on_top s.values (FaultOutcome NotEnoughStackItems)
     (λ x rest. completion_of (Some x) (push_piece setup (whole (AtAddress (to_u64_of (address_bits setup) x)))
-        (record s { values = rest })))
+    (record s { values = rest })))
 
 -- after an operation that may not follow pieces
 abbrev pub finish_judged : Setup → Store → Outcome
@@ -87,8 +87,15 @@ pub record First : Type 0 where
 -- what is kept at the start: nothing but the settings
 abbrev pub fresh : First → Refusal → Store
 fresh first refusal =
-    record { values = []; pieces = []; count = 0; object_address = first.object_address; maximum = first.maximum;
-        last = Nothing; refusal = refusal }
+    record {
+      values = [];
+      pieces = [];
+      count = 0;
+      object_address = first.object_address;
+      maximum = first.maximum;
+      last = Nothing;
+      refusal = refusal;
+    }
 
 -- the initial value is pushed, if there is one
 abbrev pub with_initial : Setup → Option ℕ → Store → Result Store Fault

@@ -48,7 +48,7 @@ rest_from_start x inputs (Err fault) = FaultOutcome fault
 abbrev pub rest_of_request : State → Request → Waiting → Store → List Input → Outcome
 rest_of_request x request waiting s inputs =
     unwound x.setup x.callers (await_answer (run x.setup) x.setup (record { text = x.text; place = x.place })
-        (length x.callers) request waiting s inputs).end
+    (length x.callers) request waiting s inputs).end
 
 -- the same by the status
 abbrev pub rest_by : State → Store → List Input → Status → Outcome

@@ -96,7 +96,7 @@ abbrev pub await_answer : Continues → Setup → Position → (depth : ℕ) →
 await_answer go setup position depth request waiting s [] = only_end (RequestEnd request (position ∷ []) [])
 await_answer go setup position depth request waiting s (input ∷ inputs) =
     after_answer go setup position depth (use_of (address_bits setup) waiting input.answer s.values)
-        (with_input input s) inputs
+    (with_input input s) inputs
     (only_end (RequestEnd request (position ∷ []) (input ∷ inputs)))
 
 -- on at the place that an operation led to, or by the answer to its request
@@ -131,7 +131,7 @@ abbrev pub do_operation : Continues → Setup → Text → (depth : ℕ) → Sto
 do_operation go setup text depth s inputs (Ok x) =
     let place = length text.bytes - length x.1 in
     after_operation go setup text depth place inputs
-        (done setup place (length text.bytes) (act (address_bits setup) s.object_address x.0 s.values) s)
+    (done setup place (length text.bytes) (act (address_bits setup) s.object_address x.0 s.values) s)
 do_operation go setup text depth s inputs (Err fault) = only_end (FaultEnd fault)
 
 -- one more operation is counted, and done
@@ -139,7 +139,7 @@ abbrev pub turn_counted : Continues → Setup → Text → (place depth : ℕ) �
 turn_counted go setup text place depth s inputs =
     choose (can_count s)
     (add_to_path (record { text = text; place = place })
-        (do_operation go setup text depth (counted s) inputs (read setup text place)))
+    (do_operation go setup text depth (counted s) inputs (read setup text place)))
     (only_end (FaultEnd TooManyIterations))
 
 -- ---- a turn after a location, which is not counted
@@ -153,7 +153,7 @@ piece_ended_by _ = None
 abbrev pub end_located : Setup → Location → (place : ℕ) → Store → Option (ℕ × Option ℕ) → Next
 end_located setup location place s (Some piece) =
     goes place (push_piece setup (record { size_in_bits = Some piece.0; bit_offset = piece.1; location = location })
-        (record s { last = Pieced }))
+    (record s { last = Pieced }))
 end_located setup location place s None = FaultNext (InvalidExpressionTerminator (place - 1))
 
 -- the operation that was read ends the location's piece

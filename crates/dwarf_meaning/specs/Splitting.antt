@@ -42,7 +42,7 @@ items_within zero encoding offset_bits is_big bytes = []
 items_within (suc most) encoding offset_bits is_big [] = []
 items_within (suc most) encoding offset_bits is_big (byte ∷ bytes) =
     item_then (operation_at encoding offset_bits (record { bytes = byte ∷ bytes; is_big = is_big }))
-        (items_within most encoding offset_bits is_big)
+    (items_within most encoding offset_bits is_big)
 
 -- all of them: no more than there are bytes
 unfoldable pub items_at : Encoding → (offset_bits : ℕ) → Text → List (Result Operation Fault)

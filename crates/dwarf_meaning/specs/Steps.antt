@@ -140,4 +140,4 @@ module _ (setup : Setup) (refusal : Refusal) (text : Text) where
   replies_of told [] = []
   replies_of told (step ∷ steps) =
       let told_now = after_step told step
-          in step_replies step (outcome_of setup refusal text told_now) ++ replies_of told_now steps
+      in step_replies step (outcome_of setup refusal text told_now) ++ replies_of told_now steps

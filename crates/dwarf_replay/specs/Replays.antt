@@ -89,7 +89,7 @@ pub record IsLeft (old : State) (steps : List meaning.Step) (replies : List Repl
   pub alike : (r : Refusal) → IsLater r → Tells old steps replies told (before_inputs (length told.inputs) r)
   pub more : (r : Refusal) (inputs : List Input) → IsLater r →
       outcome_from old.setup (before_inputs (length told.inputs) r) old.text (told.inputs ++ inputs) told.first
-          ≡ Some (rest r new inputs)
+      ≡ Some (rest r new inputs)
 
 -- what is left, by the status
 abbrev pub Leaves : State → List meaning.Step → List Reply → Told → State → Status → Type 0

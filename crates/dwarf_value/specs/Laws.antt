@@ -61,7 +61,7 @@ Opposites =
 abbrev pub QuotientAndRemainder : Type 0
 QuotientAndRemainder =
     (w : ℕ) (x y : Value) → IsWidth w → InRange x → type_of x ≢ kind.Generic → type_of x ≡ type_of y
-        → unsigned_integer w y ≢ pos 0
+    → unsigned_integer w y ≢ pos 0
     → (quotient remainder product : Value) × (div_of w x y ≡ Ok quotient) × (rem_of w x y ≡ Ok remainder)
     × (mul_of w quotient y ≡ Ok product) × (add_of w product remainder ≡ Ok x)
 

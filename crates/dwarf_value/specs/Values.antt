@@ -233,7 +233,7 @@ floor_quotient (negsuc n) m = negsuc (n / m)
 abbrev pub shl_of : (w : ℕ) → Value → Value → Result Value Error
 shl_of w x y = shifted w y λ n.
     Ok (value_of 64 (type_of x) (if nat_le (bit_size_of w (type_of x)) n then pos 0
-        else unsigned_integer w x *ℤ pos (2 ^ n)))
+    else unsigned_integer w x *ℤ pos (2 ^ n)))
 
 -- the quotient by 2 ^ n, rounded down; signed types have none
 abbrev pub shr_of : (w : ℕ) → Value → Value → Result Value Error

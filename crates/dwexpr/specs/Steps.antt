@@ -28,9 +28,9 @@ plain_step_in name word =
     else if bytes_eq name (codes "tls") then option_map (λ n. Resume (requests.TlsAnswer n)) (number_in word)
     else if bytes_eq name (codes "cfa") then option_map (λ n. Resume (requests.CfaAnswer n)) (number_in word)
     else if bytes_eq name (codes "parameter")
-        then option_map (λ n. Resume (requests.ParameterAnswer n)) (number_in word)
+    then option_map (λ n. Resume (requests.ParameterAnswer n)) (number_in word)
     else if bytes_eq name (codes "relocated")
-        then option_map (λ n. Resume (requests.RelocatedAnswer n)) (number_in word)
+    then option_map (λ n. Resume (requests.RelocatedAnswer n)) (number_in word)
     else if bytes_eq name (codes "indexed") then option_map (λ n. Resume (requests.IndexedAnswer n)) (number_in word)
     else if bytes_eq name (codes "type") then option_map (λ t. Resume (requests.BaseTypeAnswer t)) (type_in word)
     else None

@@ -8,13 +8,16 @@ use Rattle.dwexpr_c.specs.declared.encodings.DwexprEncoding.{DwexprEncoding}
 abbrev pub is_encoding : DwexprEncoding → Bool
 is_encoding e =
     nat_lt 0 e.address_size && nat_lt e.address_size 9 && nat_lt 1 e.version && nat_lt e.version 6
-        && (e.offset_size == 4 || e.offset_size == 8) && (e.big_endian == 0 || e.big_endian == 1)
+    && (e.offset_size == 4 || e.offset_size == 8) && (e.big_endian == 0 || e.big_endian == 1)
 
 -- the one that they say
 abbrev pub encoding_in : DwexprEncoding → Encoding
 encoding_in e =
-    record { address_size = e.address_size; format = if e.offset_size == 8 then Dwarf64 else Dwarf32;
-        version = e.version }
+    record {
+      address_size = e.address_size;
+      format = if e.offset_size == 8 then Dwarf64 else Dwarf32;
+      version = e.version;
+    }
 
 -- whether the first byte of a number is its highest
 abbrev pub is_big_in : DwexprEncoding → Bool

@@ -53,7 +53,7 @@ abbrev pub StandsAfterFirst : Encoding → (big : Bool) → List DwexprText → 
 StandsAfterFirst encoding big [] numbers before after out = after ≡ before
 StandsAfterFirst encoding big (text ∷ texts) numbers before after out =
     (is_big_of after.order ≡ big) × StandsAfter (beginning encoding big text (text ∷ texts)) numbers after.evaluation
-        out
+    out
 
 -- the same of a handle
 abbrev pub Starts : Encoding → (big : Bool) → List DwexprText → List DwexprStep → (before after : Option Held)

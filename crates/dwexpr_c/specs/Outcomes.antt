@@ -16,8 +16,24 @@ use Rattle.dwexpr_c.specs.declared.steps.DwexprText.{DwexprText}
 -- all numbers are 0: nothing was evaluated
 abbrev pub blank_outcome : DwexprOutcome
 blank_outcome =
-    record { code = 0; request = 0; detail = 0; step = 0; number = 0; base_type = 0; space = 0; register_number = 0;
-        size = 0; flag = 0; value_type = 0; value = 0; block_text = 0; block_offset = 0; block_length = 0; pieces = 0 }
+    record {
+      code = 0;
+      request = 0;
+      detail = 0;
+      step = 0;
+      number = 0;
+      base_type = 0;
+      space = 0;
+      register_number = 0;
+      size = 0;
+      flag = 0;
+      value_type = 0;
+      value = 0;
+      block_text = 0;
+      block_offset = 0;
+      block_length = 0;
+      pieces = 0;
+    }
 
 -- a request of this code, and a number
 abbrev pub request_outcome : (request number : ℕ) → DwexprOutcome
@@ -77,5 +93,8 @@ ShowsReply texts (FaultReply fault) out = ⊥
 abbrev pub complete_outcome : (pieces : ℕ) → Option Value → DwexprOutcome
 complete_outcome pieces None = record (request_outcome 1 0) { pieces = pieces }
 complete_outcome pieces (Some value) =
-    record (request_outcome 1 0) { value_type = (shown_value value).value_type; value = (shown_value value).content;
-        pieces = pieces }
+    record (request_outcome 1 0) {
+      value_type = (shown_value value).value_type;
+      value = (shown_value value).content;
+      pieces = pieces;
+    }

@@ -19,11 +19,22 @@ or_zero (Some number) = number
 -- the kind and the sizes; all else is 0
 abbrev pub sized : (kind : ℕ) → (size_in_bits bit_offset : Option ℕ) → DwexprPiece
 sized kind size_in_bits bit_offset =
-    record { kind = kind; has_size = has size_in_bits; size_in_bits = or_zero size_in_bits;
-        bit_offset =
-        or_zero bit_offset; has_bit_offset =
-        has bit_offset; value_type =
-        0; number = 0; byte_offset = pos 0; block_text = 0; block_offset = 0; block_length = 0 }
+    record {
+      kind = kind;
+      has_size = has size_in_bits;
+      size_in_bits = or_zero size_in_bits;
+      bit_offset =
+          or_zero bit_offset;
+      has_bit_offset =
+          has bit_offset;
+      value_type =
+          0;
+      number = 0;
+      byte_offset = pos 0;
+      block_text = 0;
+      block_offset = 0;
+      block_length = 0;
+    }
 
 -- the piece names the place of these bytes, and nothing else differs
 abbrev pub ShowsBytes : List DwexprText → List ℕ → (shown out : DwexprPiece) → Type 0
@@ -37,8 +48,10 @@ ShowsLocation texts size offset Empty out = out ≡ sized 1 size offset
 ShowsLocation texts size offset (InRegister register) out = out ≡ record (sized 2 size offset) { number = register }
 ShowsLocation texts size offset (AtAddress address) out = out ≡ record (sized 3 size offset) { number = address }
 ShowsLocation texts size offset (HoldsValue value) out =
-    out ≡ record (sized 4 size offset) { value_type = (shown_value value).value_type;
-        number = (shown_value value).content }
+    out ≡ record (sized 4 size offset) {
+      value_type = (shown_value value).value_type;
+      number = (shown_value value).content;
+    }
 ShowsLocation texts size offset (HoldsBytes value) out = ShowsBytes texts value.bytes (sized 5 size offset) out
 ShowsLocation texts size offset (PointsInto value byte_offset) out =
     out ≡ record (sized 6 size offset) { number = value; byte_offset = byte_offset }

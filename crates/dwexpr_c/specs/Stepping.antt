@@ -78,7 +78,7 @@ abbrev pub FinishesOutcome : List DwexprText → (count : ℕ) → List Piece �
     → (old new : List DwexprPiece) → Status → Type 0
 FinishesOutcome texts count pieces before after old new (CompleteStatus value) =
     ((after ≡ complete_outcome (length pieces) value) × AreWritten texts pieces old new)
-        ⊎ ((after ≡ ended_outcome lost_text_code 0 count) × SomeNowhere texts pieces)
+    ⊎ ((after ≡ ended_outcome lost_text_code 0 count) × SomeNowhere texts pieces)
 FinishesOutcome texts count pieces before after old new (Start initial_value) = (after ≡ before) × (new ≡ old)
 FinishesOutcome texts count pieces before after old new (RequestStatus request waiting) = (after ≡ before) × (new ≡ old)
 FinishesOutcome texts count pieces before after old new (FaultStatus error) = (after ≡ before) × (new ≡ old)

@@ -31,7 +31,7 @@ step_coded big texts step =
     if step.kind == 1 then Ok (meaning.InitialValue step.number)
     else if step.kind == 2 then Ok (meaning.ObjectAddress step.number)
     else if step.kind == 3 then (if nat_lt step.number (2 ^ 32) then Ok (meaning.MaxIterations step.number)
-        else Err bad_step_code)
+    else Err bad_step_code)
     else if step.kind == 4 then Ok meaning.Evaluate
     else if step.kind == 5 then with_value requests.MemoryAnswer (value_coded step.value_type step.number)
     else if step.kind == 6 then with_value requests.RegisterAnswer (value_coded step.value_type step.number)

@@ -104,7 +104,7 @@ location_words (PointsInto value byte_offset) = codes "pointer" ∷ decimal valu
 abbrev pub piece_line : Piece → List ℕ
 piece_line piece =
     line (codes "piece") (number_or_none piece.size_in_bits ∷ number_or_none piece.bit_offset
-        ∷ location_words piece.location)
+    ∷ location_words piece.location)
 
 -- the line after the pieces
 abbrev pub value_line : Option Value → List ℕ
@@ -196,7 +196,7 @@ behind first listing = record listing { text = first ++ listing.text }
 abbrev pub listing_then : (place : ℕ) → List ℕ → Result (Operation × List ℕ) Fault → (ℕ → List ℕ → Listing) → Listing
 listing_then place bytes (Ok x) next =
     let size = length bytes - length x.1 in behind (operation_line place (take size bytes) x.0)
-        (next (place + size) x.1)
+    (next (place + size) x.1)
 listing_then place bytes (Err fault) next =
     record { text = line (decimal place) (codes "fault" ∷ fault_words fault); is_whole = false }
 

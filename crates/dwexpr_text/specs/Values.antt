@@ -29,7 +29,7 @@ below bits number = if nat_lt number (2 ^ bits) then Some number else None
 abbrev pub number_in : List ℕ → Option ℕ
 number_in word =
     option_and_then (below 64) (if starts_with nat_eq word (codes "0x") then numeral_in 16 (drop 2 word)
-        else numeral_in 10 word)
+    else numeral_in 10 word)
 
 -- an integer of this many bits, one of them the sign's
 abbrev pub within : (bits : ℕ) → ℤ → Option ℤ

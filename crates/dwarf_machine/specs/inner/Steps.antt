@@ -178,7 +178,7 @@ Performs a old new = Leads (done_at a old) old new
 abbrev pub EndsLocated : Location → Option (ℕ × Option ℕ) → State → State → Type 0
 EndsLocated location (Some size) old new =
     Tried 0 (push_piece old.setup (record { size_in_bits = Some size.0; bit_offset = size.1; location = location }))
-        (with_last Pieced old) new
+    (with_last Pieced old) new
 EndsLocated location None old new = new ≡ with_status (FaultStatus (InvalidExpressionTerminator (old.place - 1))) old
 
 -- ---- turns
@@ -332,8 +332,12 @@ HasReply (Start initial_value) = ⊥
 -- a called text runs, and there is one caller more
 pub record Enters (callee : Text) (old new : State) : Type 0 where
   pub steps : Steps (push_caller old.setup (length old.callers)) old.store Ok new.store
-  pub alone : new ≡ record old { text = callee; place = 0;
-      callers = record { text = old.text; place = old.place } ∷ old.callers; store = new.store }
+  pub alone : new ≡ record old {
+    text = callee;
+    place = 0;
+    callers = record { text = old.text; place = old.place } ∷ old.callers;
+    store = new.store;
+  }
 
 abbrev pub TriesToEnter : Text → State → State → Bool → Type 0
 TriesToEnter callee old new true = Enters callee old new

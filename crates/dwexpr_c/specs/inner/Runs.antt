@@ -45,4 +45,4 @@ abbrev pub StandsAfterFound : Encoding → List DwexprText → List DwexprStep �
 StandsAfterFound encoding texts numbers before after out None = after ≡ before
 StandsAfterFound encoding texts numbers before after out (Some text) =
     (is_big_of after.order ≡ (text_of_placed text).is_big)
-        × StandsAfter (beginning_at encoding text texts) numbers after.evaluation out
+    × StandsAfter (beginning_at encoding text texts) numbers after.evaluation out

@@ -350,8 +350,7 @@ impl<R: Reader> Evaluation<R> {
         let first = [RawText::new(self.bytecode.bytes())];
         let texts = if self.table.is_empty() { &first } else { self.table.as_slice() };
         // SAFETY: the table grows at its end alone until the next start; its texts are borrowed, and stay in `bytecode`
-        // and
-        // `called` until then.
+        // and `called` until then.
         unsafe { self.held.resume(texts, step, written) };
     }
 

@@ -39,7 +39,7 @@ pub enum Error {
     InvalidPushObjectAddress,
     /// The operation is decoded, and can't be evaluated.
     UnsupportedEvaluation,
-    /// A branch leads to this place, which is behind the end of its expression.
+    /// A branch leads to this place, which is after the end of its expression.
     BadBranchTarget(u64),
     /// The maximum of operations is reached.
     TooManyIterations,

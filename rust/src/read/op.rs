@@ -79,7 +79,7 @@ where
     Xor,
     /// Pop a value and branch if it isn't zero: `DW_OP_bra`.
     Bra {
-        /// How many bytes, from behind the operation.
+        /// How many bytes, from the end of the operation.
         target: i16,
     },
     /// Whether the second equals the top: `DW_OP_eq`.
@@ -96,7 +96,7 @@ where
     Ne,
     /// Branch: `DW_OP_skip`.
     Skip {
-        /// How many bytes, from behind the operation.
+        /// How many bytes, from the end of the operation.
         target: i16,
     },
     /// Push an unsigned constant: `DW_OP_lit0` to `DW_OP_lit31`, `DW_OP_const1u` to `DW_OP_const8u`, `DW_OP_constu`.

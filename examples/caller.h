@@ -5,7 +5,7 @@
 #include "place.h"
 
 /* Reads the registers of each frame up to the wanted one. A called function leaves rbx as it was or saves it; libdw takes
- * rax for rbx where nothing is said of it (elfutils 0.188). */
+ * rax for rbx if the frame doesn't say where it is (elfutils 0.188). */
 static int read_frame(Dwfl_Frame *frame, void *given)
 {
     struct place *caller = (struct place *)given;

@@ -4,7 +4,7 @@
  *     cc -Iinclude examples/expressions.c crates/dwexpr_c/out/libdwexpr_c.a -ldw -lelf -o build/expressions
  *     build/expressions FILE..
  *
- * The last line counts. The status is 1 where an operation that both decode differs. */
+ * The last line counts. The status is 1 if an operation that both decode differs. */
 #include <dwarf.h>
 #include <elfutils/libdw.h>
 #include <fcntl.h>
@@ -156,7 +156,7 @@ static void differ(const uint8_t *bytes, size_t length, size_t at, const char *w
     printf("\n");
 }
 
-/* libdw's operations, or none where it refuses the expression */
+/* libdw's operations, or none if it refuses the expression */
 static void compare(const uint8_t *bytes, size_t length, const Dwarf_Op *theirs, size_t count, int refused)
 {
     size_t at, i = 0;

@@ -148,7 +148,7 @@ static inline int list_offset(Dwarf_Attribute *attribute, struct section lists, 
     return 0;
 }
 
-/* the bytes of an attribute's expression at an address; 0 where there is none */
+/* the bytes of an attribute's expression at an address; 0 if there is none */
 static inline int find_expression(Dwarf_Attribute *attribute, struct section lists, dwexpr_encoding encoding,
                                   Dwarf_Addr address, dwexpr_text *text)
 {

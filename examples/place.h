@@ -98,7 +98,7 @@ static inline int find_place(pid_t process, struct place *place)
     return find_unit(place);
 }
 
-/* the canonical frame address, where the frame's description says it by a register and an offset */
+/* the canonical frame address, if the frame's description says it by a register and an offset */
 static inline int find_cfa(const struct place *place, uint64_t *address)
 {
     Dwarf_Addr bias;

@@ -51,7 +51,7 @@ static int read_bytes(pid_t process, uint64_t address, uint8_t *bytes, size_t le
     return 0;
 }
 
-/* runs a program up to its first signal; -1 where it ended before */
+/* runs a program up to its first signal; -1 if it ended before */
 static pid_t run_to_signal(char **words, int *status)
 {
     pid_t process = fork();

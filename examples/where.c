@@ -122,7 +122,7 @@ static int read_entry_value(void *context, const uint8_t *bytes, size_t length, 
     return 0;
 }
 
-/* the bytes of a piece; -1 where it has none */
+/* the bytes of a piece; -1 if it has none */
 static int read_piece(struct place *place, dwexpr_text text, const dwexpr_piece *piece, uint8_t *bytes, size_t length)
 {
     uint64_t word = piece->number;
@@ -168,7 +168,7 @@ static void print_bytes(const uint8_t *bytes, size_t length, Dwarf_Word sign)
         printf("%" PRIu64 " (0x%" PRIx64 ")\n", number, number);
 }
 
-/* the content of a variable; -1, and why, where there is none */
+/* the content of a variable; -1, and why, if there is none */
 static int read_value(struct place *place, dwexpr_text text, uint8_t *bytes, size_t size)
 {
     static dwexpr_piece pieces[DWEXPR_MAX_PIECES];

@@ -15,7 +15,7 @@
  *
  * What a caller owes, as no call can test it:
  *   - a pointer that is given with a count points to that many items, aligned, which nothing else writes during the
- *     call; where the count is 0 it may be NULL;
+ *     call; if the count is 0 it may be NULL;
  *   - each other pointer is not NULL and points to one item;
  *   - what a call writes overlaps nothing else that it is given.
  * All else is tested, and answered by a code: any bits may stand in any struct.
@@ -73,7 +73,7 @@ enum dwexpr_code {
 typedef struct dwexpr_encoding {
     uint8_t address_size; /* bytes of an address: 1 to 8 */
     uint8_t offset_size;  /* bytes of an offset: 4 in the 32-bit format of DWARF, 8 in the 64-bit one */
-    uint8_t big_endian;   /* 1 where the highest byte of a number comes first, else 0 */
+    uint8_t big_endian;   /* 1 if the highest byte of a number comes first, else 0 */
     uint8_t version;      /* of DWARF: 2 to 5 */
 } dwexpr_encoding;
 
@@ -102,14 +102,14 @@ enum dwexpr_operation_kind {
     DWEXPR_OP_SHR = 18,
     DWEXPR_OP_SHRA = 19,
     DWEXPR_OP_XOR = 20,
-    DWEXPR_OP_BRA = 21,                /* signed_number: bytes from behind the operation */
+    DWEXPR_OP_BRA = 21,                /* signed_number: bytes from the operation's end */
     DWEXPR_OP_EQ = 22,
     DWEXPR_OP_GE = 23,
     DWEXPR_OP_GT = 24,
     DWEXPR_OP_LE = 25,
     DWEXPR_OP_LT = 26,
     DWEXPR_OP_NE = 27,
-    DWEXPR_OP_SKIP = 28,               /* signed_number: bytes from behind the operation */
+    DWEXPR_OP_SKIP = 28,               /* signed_number: bytes from the operation's end */
     DWEXPR_OP_UNSIGNED_CONSTANT = 29,  /* number */
     DWEXPR_OP_SIGNED_CONSTANT = 30,    /* signed_number */
     DWEXPR_OP_REGISTER = 31,           /* register_number */
@@ -142,9 +142,9 @@ enum dwexpr_operation_kind {
 /* An operation. What its kind doesn't name is 0. */
 typedef struct dwexpr_operation {
     size_t offset;            /* where it begins: the offset that was given */
-    size_t size;              /* its bytes: the next one begins at offset + size; 0 where the code isn't 0 */
-    uint32_t opcode;          /* its first byte, DW_OP_*; 0 where none was read */
-    uint32_t kind;            /* DWEXPR_OP_*; 0 where the code isn't 0 */
+    size_t size;              /* its bytes: the next one begins at offset + size; 0 if the code isn't 0 */
+    uint32_t opcode;          /* its first byte, DW_OP_*; 0 if none was read */
+    uint32_t kind;            /* DWEXPR_OP_*; 0 if the code isn't 0 */
     uint64_t number;
     int64_t signed_number;
     uint64_t base_type;       /* offset of the type's entry in the unit, 0 for the generic type */
@@ -154,7 +154,7 @@ typedef struct dwexpr_operation {
     uint32_t fault;           /* the code that the call answered */
     size_t block_offset;      /* where its block begins, from the start of the bytes */
     size_t block_length;
-    uint64_t detail;          /* the bit offset of a piece; where the code isn't 0, the number that it carries */
+    uint64_t detail;          /* the bit offset of a piece; if the code isn't 0, the number that it carries */
 } dwexpr_operation;
 
 /* Decodes the operation that begins at `offset` of `length` bytes. All operations of an expression:
@@ -163,7 +163,7 @@ typedef struct dwexpr_operation {
  *         if (dwexpr_decode(bytes, length, encoding, at, &operation) != DWEXPR_OK)
  *             break;
  *
- * Answers 0; a fault of the bytes; DWEXPR_BAD_ENCODING; or DWEXPR_BAD_OFFSET where offset >= length. `operation` is
+ * Answers 0; a fault of the bytes; DWEXPR_BAD_ENCODING; or DWEXPR_BAD_OFFSET if offset >= length. `operation` is
  * written in each case. */
 uint32_t dwexpr_decode(const uint8_t *bytes, size_t length, dwexpr_encoding encoding, size_t offset,
                        dwexpr_operation *operation);
@@ -198,7 +198,7 @@ enum dwexpr_type {
 
 /* The bytes of an expression. */
 typedef struct dwexpr_text {
-    const uint8_t *bytes; /* NULL only where the length is 0 */
+    const uint8_t *bytes; /* NULL only if the length is 0 */
     size_t length;
 } dwexpr_text;
 
@@ -217,13 +217,13 @@ enum dwexpr_step_kind {
     DWEXPR_ANSWER_PARAMETER = 12,   /* number: the parameter's value */
     DWEXPR_ANSWER_RELOCATED = 13,   /* number: an address */
     DWEXPR_ANSWER_INDEXED = 14,     /* number: an address or a constant */
-    DWEXPR_ANSWER_LOCATION = 15,    /* text: index of the text that is called; length 0 where there is none */
+    DWEXPR_ANSWER_LOCATION = 15,    /* text: index of the text that is called; length 0 if there is none */
     DWEXPR_ANSWER_BASE_TYPE = 16    /* value_type: the type */
 };
 
 typedef struct dwexpr_step {
     uint32_t kind;       /* DWEXPR_SET_*, DWEXPR_EVALUATE or DWEXPR_ANSWER_* */
-    uint32_t value_type; /* DWEXPR_GENERIC to DWEXPR_U64, where the kind names it */
+    uint32_t value_type; /* DWEXPR_GENERIC to DWEXPR_U64, if the kind names it */
     uint64_t number;     /* of a value the lowest bits, as many as its type has */
     size_t text;
 } dwexpr_step;
@@ -252,14 +252,14 @@ typedef struct dwexpr_outcome {
     uint32_t code;            /* what the call answered */
     uint32_t request;         /* DWEXPR_NOTHING, DWEXPR_COMPLETE or DWEXPR_WANTS_* */
     uint64_t detail;          /* the number that a fault carries */
-    size_t step;              /* where the code isn't 0, the step that ended the evaluation; later ones weren't read */
+    size_t step;              /* if the code isn't 0, the step that ended the evaluation; later ones weren't read */
     uint64_t number;
     uint64_t base_type;       /* the type that the answer is to have: offset of its entry in the unit, 0 for generic */
     uint64_t space;
     uint32_t register_number;
     uint32_t size;            /* bytes */
     uint32_t flag;            /* 0 or 1 */
-    uint32_t value_type;      /* of the value of a complete evaluation, DWEXPR_NO_TYPE where it has none */
+    uint32_t value_type;      /* of the value of a complete evaluation, DWEXPR_NO_TYPE if it has none */
     uint64_t value;           /* a signed one is extended to 64 bits; a generic one may have bits above its size */
     size_t block_text;        /* the index of the text in which the block is */
     size_t block_offset;
@@ -350,17 +350,17 @@ uint32_t dwexpr_evaluation_resume(dwexpr_evaluation *evaluation, const dwexpr_te
 /* What an evaluation does with values, each operation as a call: for who converts or compares values that an evaluation
  * gave. No evaluation needs it. */
 typedef struct dwexpr_value {
-    uint32_t value_type; /* DWEXPR_GENERIC to DWEXPR_U64; DWEXPR_NO_TYPE where a call gives no value */
+    uint32_t value_type; /* DWEXPR_GENERIC to DWEXPR_U64; DWEXPR_NO_TYPE if a call gives no value */
     uint64_t content;    /* of a value that is given the lowest bits, as many as its type has; one that is written is
                             extended to 64 bits by its sign */
 } dwexpr_value;
 
 /* An operation, by its kind: DWEXPR_OP_ABS, _NEG or _NOT of one value; of two, whose second was on top of the stack,
  * DWEXPR_OP_AND to _MUL, _OR, _PLUS, _SHL to _XOR or _EQ to _NE; DWEXPR_OP_CONVERT by the number or _REINTERPRET by the
- * bits in another type. `addr_mask` has a one for each bit of an address: 0xffffffff where it has 4 bytes.
+ * bits in another type. `addr_mask` has a one for each bit of an address: 0xffffffff if it has 4 bytes.
  *
- * Answers 0, a fault, or DWEXPR_BAD_VALUE where a number is none that is allowed. `result` is written in each case, and
- * has the type DWEXPR_NO_TYPE and the content 0 where the answer isn't 0. */
+ * Answers 0, a fault, or DWEXPR_BAD_VALUE if a number isn't allowed. `result` is written in each case, and
+ * has the type DWEXPR_NO_TYPE and the content 0 if the answer isn't 0. */
 uint32_t dwexpr_value_unary(uint32_t operation, dwexpr_value value, uint64_t addr_mask, dwexpr_value *result);
 
 uint32_t dwexpr_value_binary(uint32_t operation, dwexpr_value left, dwexpr_value right, uint64_t addr_mask,
@@ -374,11 +374,11 @@ uint32_t dwexpr_value_convert(uint32_t operation, dwexpr_value value, uint32_t v
 uint32_t dwexpr_value_parse(uint32_t value_type, const uint8_t *bytes, size_t length, uint8_t big_endian,
                             dwexpr_value *result);
 
-/* How many bits the values of a type have; 0 where there is no such type or mask. */
+/* How many bits the values of a type have; 0 if there is no such type or mask. */
 uint32_t dwexpr_type_bit_size(uint32_t value_type, uint64_t addr_mask);
 
 /* The type of an integer by DW_AT_encoding of its base type, 5 for signed and 7 for unsigned ones, and its size in
- * bytes; DWEXPR_NO_TYPE where it is none. */
+ * bytes; DWEXPR_NO_TYPE if it is none. */
 uint32_t dwexpr_type_from_encoding(uint8_t encoding, uint64_t byte_size);
 
 /* ---------------------------------------------------------------- blocks and names */

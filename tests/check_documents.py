@@ -10,7 +10,7 @@
   for byte. docs/GUIDE.md has the loop over requests and its proof.
 
 What fails is printed, a line each. The last line is `N passed, M failed`, of the names, paths and blocks; the status
-is 1 where one failed.
+is 1 if one failed.
 """
 
 import fnmatch
@@ -46,7 +46,7 @@ LINK = re.compile(r"\]\(([^)#]+)")
 WORD = re.compile(r"[A-Za-z_][A-Za-z0-9_]*")
 # A path has a slash, or the ending of a file of the repository.
 PATH = re.compile(r"[\w.*/-]*(?:/[\w.*-]*|\.(?:rt|antt|edit|md|py|json|txt|rs|c|h))")
-# A block whose fence names a file behind its language.
+# A block whose fence names a file after its language.
 BLOCK = re.compile(r"^```\w+ (\S+)\n(.*?)^```$", re.MULTILINE | re.DOTALL)
 
 # A definition that other files see: `abbrev pub NAME`, `unfoldable pub NAME`, `pub data NAME`, `pub NAME : ..`; those
@@ -161,7 +161,7 @@ def astray():
 
 
 def shows(path, block):
-    """Whether a block is what stands in the file: whole lines of it, and all of them where it is a proof."""
+    """Whether a block is what stands in the file: whole lines of it, and all of them if it is a proof."""
     if path not in files():
         return False
     return block == read(path) if "/proofs/" in path else "\n" + block in "\n" + read(path)

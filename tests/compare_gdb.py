@@ -5,8 +5,8 @@ It wants cc, gdb with Python and libdw, and gcc or clang. Each program of tests/
 versions 4 and 5 of DWARF, and stopped at each of its places; words choose compilers and levels, as gcc -O0 -O2.
 Numbers, characters, enumerations and pointers are compared by value, structs and arrays by their first 32 bytes but for
 padding.
-Each variable that differs, or is an entry value, is a line. The status is 1 where one differs, and 2 where nothing was
-compared. The gate compares gcc's at -O0 and -O2 where gdb and libdw are there.
+Each variable that differs, or is an entry value, is a line. The status is 1 if one differs, and 2 if nothing was
+compared. The gate compares gcc's at -O0 and -O2 if gdb and libdw are there.
 """
 
 import collections
@@ -114,7 +114,7 @@ SAME = {"equal", "optimized away on both sides", "refused by both"}
 
 
 def kind_of(theirs, ours, size):
-    """What is said of a variable, in words; gdb also names those of an inlined function that nothing is said of."""
+    """What the two say of a variable, in words. gdb also names variables of an inlined function that have no value."""
     word = str(ours)
     if theirs is None and word.startswith(("optimized away", "nothing", "not whole", ENTRY_VALUE)):
         return "optimized away on both sides"

@@ -2,12 +2,12 @@
 """Refuses each allocation, each read and each write of the built program in turn, by `tests/refuse.c`.
 
 - Allocations: a run whose Nth is refused has to print the answers that it gives with ample memory, up to one of them,
-  and then `fault StackFull` for that call and each later one, or `no memory`; and it has to end with status 1. The last
-  N is one behind which no run meets a refusal: there each prints what it prints with ample memory.
-- Reads, of a byte each: where one is refused, nothing is printed, and the status is 1.
-- Writes, of a byte each: where one is refused, nothing is printed behind the bytes before it, and the status is 1.
+  and then `fault StackFull` for that call and each later one, or `no memory`; and it has to end with status 1. N
+  grows until no run meets a refusal: then each prints what it prints with ample memory.
+- Reads, of a byte each: if one is refused, nothing is printed, and the status is 1.
+- Writes, of a byte each: if one is refused, nothing is printed after the bytes before it, and the status is 1.
 
-The last line is `N passed, M failed`, of the runs; the status is 1 where a run failed. It wants cc.
+The last line is `N passed, M failed`, of the runs; the status is 1 if a run failed. It wants cc.
 """
 
 import os
@@ -72,7 +72,7 @@ def count(good, said):
 
 
 def run(library, kind, number, digits, text):
-    """What is printed and the status, where this call of a kind is refused."""
+    """What is printed and the status, if this call of a kind is refused."""
     ran = subprocess.run(
         [str(PROGRAM), "eval", "4", "4", "4", "le", digits],
         input=text,

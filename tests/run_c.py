@@ -7,8 +7,8 @@
 - include: the headers, without a warning as C11, C17 and C++17. The structs of the crate and of rust/ have the fields
   of dwexpr.h, by name, type and order, and so the places that it asserts.
 - rust/: it is built by rustc alone without a warning; its tests and the examples of its documentation, by cargo.
-- examples/: decode is compared with what it is to print. expressions and where need libdw, and are run where it is;
-  what where prints is compared with gdb, where that is.
+- examples/: decode is compared with what it is to print. expressions and where need libdw, and are run if it is there;
+  what where prints is compared with gdb, if that is there.
 
 It wants cc; what else is missing is left out, and said so. The last line is `N passed, M failed`.
 """

@@ -1,5 +1,5 @@
 #!/usr/bin/env python3
-"""Packs the archive as bin/package does, and uses the package where no `rt` is on PATH and HOME is empty.
+"""Packs the archive as bin/package does, and uses the package with no `rt` on PATH and HOME is empty.
 
 - Two packages are the same, byte for byte.
 - examples/decode.c is built by cc, with the words of pkg-config, and by a CMake project; a caller in C++ by c++.

@@ -12,7 +12,7 @@ of parts, each a text or a pair of a text and how often it stands. A row may say
 - `megabytes`: how much memory the program may have;
 - `output_pattern`: a regular expression for all of the output, in place of it.
 
-The last line is `N passed, M failed`; the status is 1 where a row failed.
+The last line is `N passed, M failed`; the status is 1 if a row failed.
 
     tests/run_rows.py [WORD]    only the rows whose file and name have the word
 """
@@ -102,7 +102,7 @@ def output_of(row):
 
 
 def limit_of(row):
-    """What limits the program's memory, where the row says so."""
+    """What limits the program's memory, if the row says so."""
     if "megabytes" not in row:
         return None
     size = row["megabytes"] << 20
@@ -132,7 +132,7 @@ def is_wanted(row, printed):
 
 
 def complaints_of(row):
-    """What is wrong with the program's answer to a row: nothing, where it passes."""
+    """What is wrong with the program's answer to a row: nothing, if it passes."""
     try:
         ran = run(row)
     except subprocess.TimeoutExpired:

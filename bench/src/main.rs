@@ -92,10 +92,10 @@ fn compare(cases: &[Case], lists: bool) {
         };
         let of_these: Vec<&Case> = cases.iter().filter(differs).collect();
         let of_any: Vec<&Case> = any.iter().filter(differs).collect();
-        let is_named = |case: &&&Case| theirs::ends_with_an_answer_behind_pieces(&case.bytes, &case.job);
+        let is_named = |case: &&&Case| theirs::ends_with_an_answer_after_pieces(&case.bytes, &case.job);
         let named = of_these.iter().chain(&of_any).filter(is_named).count();
         println!(
-            "checksums that differ, {name}: {} of {}, and {} of {} of any bytes; an answer behind pieces ends {named}",
+            "checksums that differ, {name}: {} of {}, and {} of {} of any bytes; an answer after pieces ends {named}",
             of_these.len(),
             cases.len(),
             of_any.len(),
@@ -120,7 +120,7 @@ fn time(cases: &[Case], wishes: &Wishes) {
 }
 
 fn time_one(work: &Timed, rounds: usize) {
-    // So many passes that a round takes some milliseconds: short enough that most rounds aren't interrupted.
+    // Passes, enough for a round of some milliseconds: short enough that most rounds aren't interrupted.
     let passes = (200_000 / work.items).max(1);
     let answers = [work.way.theirs, work.way.ours].map(|side| run(side, work, 1).0);
     let mut ratios = Vec::new();
@@ -145,7 +145,7 @@ fn time_one(work: &Timed, rounds: usize) {
     );
 }
 
-/// Does a work so many times: the sum of its answers, and the nanoseconds.
+/// Does a work this many times: the sum of its answers, and the nanoseconds.
 fn run(side: Side, work: &Timed, passes: u64) -> (u64, f64) {
     let start = clock::now();
     let mut total = 0u64;

@@ -153,9 +153,9 @@ fn mix_end<'a, S: EvaluationStorage<Text<'a>>>(mut sum: u64, evaluation: &Evalua
     }
 }
 
-/// Whether gimli's evaluation is complete, with pieces, by the call that took the last answer, which was pushed. Where
+/// Whether gimli's evaluation is complete, with pieces, by the call that took the last answer, which was pushed. If
 /// the answered operation is the last one, this repository's library answers `InvalidPiece` (docs/DIFFERENCES.md).
-pub fn ends_with_an_answer_behind_pieces(bytes: &[u8], job: &Job) -> bool {
+pub fn ends_with_an_answer_after_pieces(bytes: &[u8], job: &Job) -> bool {
     let text = text_of(bytes, job);
     let mut evaluation = Evaluation::new(text, encoding_of(job));
     evaluation.set_max_iterations(job.maximum);

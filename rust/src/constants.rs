@@ -120,7 +120,7 @@ numbers! {
         DW_OP_shra = 0x26,
         /// Bitwise exclusive or.
         DW_OP_xor = 0x27,
-        /// A branch where the top isn't zero.
+        /// A branch if the top isn't zero.
         DW_OP_bra = 0x28,
         /// Whether the two values are equal.
         DW_OP_eq = 0x29,
@@ -334,11 +334,11 @@ numbers! {
         DW_OP_fbreg = 0x91,
         /// A register, by its number, plus a signed LEB128 number.
         DW_OP_bregx = 0x92,
-        /// A piece of so many bytes.
+        /// A piece, with its size in bytes.
         DW_OP_piece = 0x93,
-        /// So many bytes of the memory at an address.
+        /// The memory at an address, of the size that the operand gives.
         DW_OP_deref_size = 0x94,
-        /// So many bytes of the memory at an address of an address space.
+        /// The memory at an address of an address space, of the size that the operand gives.
         DW_OP_xderef_size = 0x95,
         /// Nothing.
         DW_OP_nop = 0x96,
@@ -354,7 +354,7 @@ numbers! {
         DW_OP_form_tls_address = 0x9b,
         /// The canonical frame address.
         DW_OP_call_frame_cfa = 0x9c,
-        /// A piece of so many bits, from a bit on.
+        /// A piece, with its size and its offset in bits.
         DW_OP_bit_piece = 0x9d,
         /// The location is a block of bytes that has no place in memory.
         DW_OP_implicit_value = 0x9e,

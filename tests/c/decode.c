@@ -18,7 +18,7 @@ static int same(const dwexpr_operation *a, const dwexpr_operation *b)
            a->detail == b->detail;
 }
 
-/* the operation at the start, and behind three bytes and before two others */
+/* the operation at the start, and after three bytes and before two others */
 static void run(const struct row *row)
 {
     uint8_t bytes[64];
@@ -27,7 +27,7 @@ static void run(const struct row *row)
         uint8_t whole[80];
         dwexpr_operation want = row->want, got;
         /* what is cut off has to stand at the end */
-        size_t behind = offset && want.fault != DWEXPR_UNEXPECTED_EOF ? 2 : 0;
+        size_t after = offset && want.fault != DWEXPR_UNEXPECTED_EOF ? 2 : 0;
         uint32_t code;
         memset(whole, 0x96, sizeof whole);
         memset(&got, 0xa5, sizeof got);
@@ -37,7 +37,7 @@ static void run(const struct row *row)
         want.opcode = bytes[0];
         if (want.block_offset)
             want.block_offset += offset;
-        code = dwexpr_decode(whole, offset + length + behind, row->encoding, offset, &got);
+        code = dwexpr_decode(whole, offset + length + after, row->encoding, offset, &got);
         check(code == want.fault, row->bytes, "the code");
         check(same(&want, &got), row->bytes, offset ? "the fields, further on" : "the fields");
     }

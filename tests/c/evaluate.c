@@ -206,7 +206,7 @@ static void answers(void)
     want.request = DWEXPR_COMPLETE, want.value_type = DWEXPR_GENERIC, want.value = 9, want.pieces = 1, expect();
     begin("object address", "97"), step(DWEXPR_SET_OBJECT_ADDRESS, 0, 4, 0), start(), run(LE8, 1);
     want.request = DWEXPR_COMPLETE, want.value_type = DWEXPR_GENERIC, want.value = 4, want.pieces = 1, expect();
-    begin("a setting behind the end", "35"), start(), step(DWEXPR_SET_OBJECT_ADDRESS, 0, 4, 0), run(LE8, 1);
+    begin("a setting after the end", "35"), start(), step(DWEXPR_SET_OBJECT_ADDRESS, 0, 4, 0), run(LE8, 1);
     want.request = DWEXPR_COMPLETE, want.value_type = DWEXPR_GENERIC, want.value = 5, want.pieces = 1, expect();
 }
 
@@ -256,7 +256,7 @@ static void all_pieces(void)
     }
     expect_pieces(6, wanted);
 
-    /* with less room the others are counted, and nothing behind is written */
+    /* with less room the others are counted, and nothing after them is written */
     name = "room for two pieces";
     memset(pieces, 0xa5, sizeof pieces);
     dwexpr_evaluate(texts, 1, LE8, steps, steps_length, &outcome, pieces, 2);
@@ -328,13 +328,13 @@ static void faults(void)
     begin("wide deref", "35 94 09"), start(), run(LE8, 1), end(DWEXPR_INVALID_DEREF_SIZE, 9, 0), expect();
     begin("no object", "97"), start(), run(LE8, 1), end(DWEXPR_INVALID_PUSH_OBJECT_ADDRESS, 0, 0), expect();
     begin("not evaluated", "fd 04030201"), start(), run(LE8, 1), end(DWEXPR_UNSUPPORTED_EVALUATION, 0, 0), expect();
-    begin("branch behind the end", "2f 0500"), start(), run(LE8, 1), end(DWEXPR_BAD_BRANCH_TARGET, 8, 0), expect();
+    begin("branch past the end", "2f 0500"), start(), run(LE8, 1), end(DWEXPR_BAD_BRANCH_TARGET, 8, 0), expect();
     begin("branch for ever", "2f fdff"), step(DWEXPR_SET_MAX_ITERATIONS, 0, 9, 0), start(), run(LE8, 1);
     end(DWEXPR_TOO_MANY_ITERATIONS, 0, 1), expect();
-    begin("a value behind pieces", "9304 35"), start(), run(LE8, 1), end(DWEXPR_INVALID_PIECE, 0, 0), expect();
+    begin("a value after pieces", "9304 35"), start(), run(LE8, 1), end(DWEXPR_INVALID_PIECE, 0, 0), expect();
     begin("a location and no piece", "50 96"), start(), run(LE8, 1);
     end(DWEXPR_INVALID_EXPRESSION_TERMINATOR, 1, 0), expect();
-    begin("a fault behind an answer", "91 00 01"), start(), step(DWEXPR_ANSWER_FRAME_BASE, 0, 1, 0);
+    begin("a fault after an answer", "91 00 01"), start(), step(DWEXPR_ANSWER_FRAME_BASE, 0, 1, 0);
     step(99, 99, 99, 99), run(LE8, 1), end(DWEXPR_INVALID_EXPRESSION, 1, 1), expect();
 
     for (i = 0; i < DWEXPR_MAX_VALUES + 1; i++)
@@ -388,10 +388,10 @@ static void arguments(void)
         end(DWEXPR_MISPLACED, 0, 0), expect();
         begin("an answer of another kind", kind == DWEXPR_ANSWER_REGISTER ? "9c" : "70 00"), start();
         step(kind, DWEXPR_GENERIC, 0, 0), run(LE8, 1), end(DWEXPR_MISPLACED, 0, 1), expect();
-        begin("an answer behind the end", "35"), start(), step(kind, DWEXPR_GENERIC, 0, 0), run(LE8, 1);
+        begin("an answer after the end", "35"), start(), step(kind, DWEXPR_GENERIC, 0, 0), run(LE8, 1);
         end(DWEXPR_MISPLACED, 0, 1), expect();
     }
-    begin("evaluate behind the end", "35"), start(), start(), run(LE8, 1);
+    begin("evaluate after the end", "35"), start(), start(), run(LE8, 1);
     want.request = DWEXPR_COMPLETE, want.value_type = DWEXPR_GENERIC, want.value = 5, want.pieces = 1, expect();
 }
 

@@ -4,7 +4,7 @@ ghost use Rattle.dwarf_base.specs.Numbers.{register_of};
 use crate::errors::{Error, Result};
 
 /// Whether an object is in the 32-bit or the 64-bit DWARF format (DWARF 5, section 7.4).
-#[derive(Clone, Copy, Debug, PartialEq, Eq, Hash)]
+#[derive(Clone, Copy, Debug, PartialEq, Eq)]
 pub enum Format {
     /// Offsets have 4 bytes.
     Dwarf32,
@@ -13,7 +13,7 @@ pub enum Format {
 }
 
 /// What the reading of an expression takes from its unit (DWARF 5, section 7.5.1).
-#[derive(Clone, Copy, Debug, PartialEq, Eq, Hash)]
+#[derive(Clone, Copy, Debug, PartialEq, Eq)]
 pub struct Encoding {
     /// The size of an address, in bytes.
     pub address_size: u8,
@@ -24,7 +24,7 @@ pub struct Encoding {
 }
 
 /// The number of a register, as the architecture assigns it (DWARF 5, section 2.6.1.1.3).
-#[derive(Clone, Copy, Debug, PartialEq, Eq, PartialOrd, Ord, Hash)]
+#[derive(Clone, Copy, Debug, PartialEq, Eq)]
 pub struct Register(pub u16);
 
 impl Register {
@@ -41,11 +41,11 @@ impl Register {
 }
 
 /// An offset in bytes from the start of a unit.
-#[derive(Clone, Copy, Debug, PartialEq, Eq, PartialOrd, Ord, Hash)]
+#[derive(Clone, Copy, Debug, PartialEq, Eq)]
 pub struct UnitOffset<T = usize>(pub T);
 
 /// An offset in bytes from the start of the section `.debug_info`.
-#[derive(Clone, Copy, Debug, PartialEq, Eq, PartialOrd, Ord, Hash)]
+#[derive(Clone, Copy, Debug, PartialEq, Eq)]
 pub struct DebugInfoOffset<T = usize>(pub T);
 
 /// An index into a unit's addresses in the section `.debug_addr`.

@@ -2,11 +2,11 @@
 #![allow(non_upper_case_globals)]
 
 /// The opcode of an operation (DWARF 5, section 7.7.1).
-#[derive(Clone, Copy, Debug, PartialEq, Eq, PartialOrd, Ord, Hash)]
+#[derive(Clone, Copy, Debug, PartialEq, Eq)]
 pub struct DwOp(pub u8);
 
 /// The encoding of a base type (DWARF 5, section 7.8).
-#[derive(Clone, Copy, Debug, PartialEq, Eq, PartialOrd, Ord, Hash)]
+#[derive(Clone, Copy, Debug, PartialEq, Eq)]
 pub struct DwAte(pub u8);
 
 /// A binary floating-point number.

@@ -1,4 +1,3 @@
-ghost use Rattle.std.specs.Borrow.{ffalse};
 ghost use Rattle.std.specs.Prelude.{◌≡◌, ◌≤◌, [], None};
 ghost use Rattle.dwarf_meaning.specs.Rest.{Start};
 
@@ -13,7 +12,7 @@ use dwarf_replay::{Answer, Replayed, Step, replay};
 use dwarf_store::{ArrayLike, EvaluationStorage, StoreOnHeap};
 use dwarf_value::Value::{self, Generic};
 use dwarf_value::ValueType;
-use std::alloc::{AllocError, Allocator, Global};
+use std::alloc::{Allocator, Global};
 use std::process::Abort;
 
 pub(crate) type Slice<'a> = EndianSlice<'a, RunTimeEndian>;
@@ -39,20 +38,6 @@ impl<
     type ExpressionStack = ArrayVec<(R, R), CALLERS>;
 
     type Result = ArrayVec<Piece<R>, PIECES>;
-}
-
-/// An allocator that refuses every growth.
-#[derive(Clone, Copy)]
-pub(crate) struct Refusing;
-
-unsafe impl Allocator for Refusing {
-    ghost dealloc_token = { λ _ _ _. ffalse };
-
-    fn allocate(&self, _size: usize, _align: usize) -> std::result::Result<*mut u8, AllocError> {
-        Err(AllocError)
-    }
-
-    unsafe fn deallocate(&self, _ptr: *mut u8, _size: usize, _align: usize) {}
 }
 
 /// The bytes, the lowest of a number first.

@@ -2,16 +2,16 @@ ghost use Rattle.std.specs.Prelude.{◌≡◌, None};
 ghost use Rattle.dwarf_meaning.specs.Rest.{Start};
 
 use crate::evaluation::{
-    COMPLETE, Case, Refusing, SMALL, Slice, expect, expect_of, expect_over_lists, expect_with_room,
-    little, replayed, whole, with_result, without_result,
+    COMPLETE, Case, SMALL, Slice, expect, expect_of, expect_over_lists, expect_with_room, little,
+    replayed, whole, with_result, without_result,
 };
 use dwarf_base::{Error, Register, UnitOffset};
 use dwarf_eval::eval::{Evaluation, Status, WaitingKind};
 use dwarf_eval::op::{DieReference, EvaluationResult, Location, Piece};
 use dwarf_replay::{Answer, Replayed, Step};
-use dwarf_store::{EvaluationStorage, StoreOnHeap};
+use dwarf_store::EvaluationStorage;
 use dwarf_value::Value::Generic;
-use std::alloc::{AllocError, Allocator, Global};
+use std::alloc::{AllocError, Global};
 use std::process::Abort;
 
 // The expression at offset 5 of the unit is wanted.
@@ -98,51 +98,6 @@ fn ends_of_replays(rt: HostRuntime) {
     let misplaced = without_result(&[0x9c, 0x97], &steps, &[CFA], Replayed::Misplaced(1), waits);
     let eval = Evaluation::new(alloc, little(misplaced.text), SMALL);
     expect_misplaced(&rt, alloc, eval, &misplaced);
-}
-
-// With no memory a push is refused.
-fn expect_refused_push<A: Allocator + Copy>(rt: &impl Abort, alloc: Global, none: A) {
-    let callee = little(&[0x50]);
-    let steps = [
-        Step::Evaluate,
-        Step::Evaluate,
-        Step::Memory(Generic(0)),
-        Step::AtLocation(callee),
-    ];
-    let failed = Status::Failed(Error::StackFull);
-    let case = without_result(&[0x31], &steps, &[FULL; 4], Replayed::Done, failed);
-    expect_of(
-        rt,
-        alloc,
-        Evaluation::new(none, little(case.text), SMALL),
-        &case,
-    );
-}
-
-// An evaluation takes no memory before it has to keep something. Here its answer takes some, and is refused.
-fn expect_refused_answer<A: Allocator + Copy>(rt: &impl Abort, alloc: Global, none: A) {
-    let no_room = Replayed::NoRoom {
-        index: 0,
-        answer: ASKED,
-    };
-    let waits = Status::Waiting(WaitingKind::AtLocation);
-    let case = without_result(&[0x98, 0x05, 0x00], &[Step::Evaluate], &[], no_room, waits);
-    let mut eval: Evaluation<Slice<'_>, StoreOnHeap<A>> = Evaluation::new_in(
-        little(case.text),
-        SMALL,
-        Vec::new(none),
-        Vec::new(none),
-        Vec::new(none),
-    );
-    let mut answers = Vec::new(none);
-    let outcome = replayed(rt, alloc, &mut eval, case.steps, &mut answers);
-    expect(rt, &outcome, answers.as_slice(), &case);
-}
-
-#[test]
-fn replays_without_memory(rt: HostRuntime) {
-    expect_refused_push(&rt, rt.alloc(), Refusing);
-    expect_refused_answer(&rt, rt.alloc(), Refusing);
 }
 
 // Capacities of the stack, the callers and the pieces, an expression, steps, and what each call gives.

@@ -1,0 +1,7 @@
+//! Tests of decoding, and of evaluation over readers of their own.
+#![tactic(auto)]
+
+#[cfg(test)]
+mod operations;
+#[cfg(test)]
+mod readers;

@@ -1,0 +1,195 @@
+ghost use Rattle.std.specs.Prelude.{◌≡◌, None, false};
+ghost use Rattle.dwarf_base.specs.EndianSlice.{text_of};
+ghost use Rattle.dwarf_meaning.specs.Rest.{Start};
+
+use crate::operations::SMALL;
+use dwarf_base::{EndianSlice, Error, LittleEndian, Reader, Result};
+use dwarf_eval::eval::{Evaluation, Status, WaitingKind};
+use dwarf_eval::op::{EvaluationResult, Expression, Operation};
+use dwarf_store::EvaluationStorage;
+use dwarf_value::Value;
+use std::cell::Cell;
+use std::process::Abort;
+
+// Bytes whose reads are counted, and of which none is left once one was refused.
+#[derive(Clone, Copy, Debug)]
+struct Watched<'a> {
+    slice: EndianSlice<'a, LittleEndian>,
+    reads: &'a Cell<u64>,
+}
+
+impl<'a> Watched<'a> {
+    fn new(bytes: &'a [u8], reads: &'a Cell<u64>) -> Self {
+        Watched {
+            slice: EndianSlice::new(bytes, LittleEndian),
+            reads,
+        }
+    }
+}
+
+impl<'a> Reader for Watched<'a> {
+    type Offset = usize;
+
+    ghost text = { λ reader. text_of (λ _. false) reader.slice };
+
+    fn len(&self) -> usize {
+        self.slice.len()
+    }
+
+    fn is_empty(&self) -> bool {
+        self.slice.is_empty()
+    }
+
+    fn empty(&mut self) {
+        self.slice.empty();
+    }
+
+    fn offset_from(&self, base: &Self) -> usize {
+        self.slice.offset_from(&base.slice)
+    }
+
+    #[tactic(auto, using(dwarf_base::proofs::Suffixes::suffix_none))]
+    fn skip(&mut self, len: usize) -> Result<()> {
+        let skipped = self.slice.skip(len);
+        if skipped.is_err() {
+            self.empty();
+        }
+        skipped
+    }
+
+    #[tactic(auto, using(dwarf_base::proofs::Suffixes::suffix_none))]
+    fn split(&mut self, len: usize) -> Result<Self> {
+        let front = self.slice.split(len);
+        if front.is_err() {
+            self.empty();
+        }
+        Ok(Watched {
+            slice: front?,
+            reads: self.reads,
+        })
+    }
+
+    #[tactic(auto, using(dwarf_base::proofs::Suffixes::suffix_none))]
+    fn read_fixed(&mut self, n: u8) -> Result<u64> {
+        self.reads.set(self.reads.get().wrapping_add(1));
+        let number = self.slice.read_fixed(n);
+        if number.is_err() {
+            self.empty();
+        }
+        number
+    }
+}
+
+// Evaluates. What this gives has no contract, and neither has what the next three give, since the tests look at it.
+fn evaluate<R: Reader + Copy, S: EvaluationStorage<R>>(
+    eval: &mut Evaluation<R, S>,
+) -> Result<EvaluationResult<R>>
+    requires { eval.old.status ≡ Start None }
+{
+    eval.evaluate()
+}
+
+// Goes on with the canonical frame address, which has to be wanted.
+fn answer_cfa<R: Reader + Copy, S: EvaluationStorage<R>>(
+    rt: &impl Abort,
+    eval: &mut Evaluation<R, S>,
+    address: u64,
+) -> Result<EvaluationResult<R>> {
+    assert!(rt; eval.status() == Status::Waiting(WaitingKind::CallFrameCfa));
+    eval.resume_with_call_frame_cfa(address)
+}
+
+// Goes on with an expression, which has to be wanted.
+fn answer_location<R: Reader + Copy, S: EvaluationStorage<R>>(
+    rt: &impl Abort,
+    eval: &mut Evaluation<R, S>,
+    callee: R,
+) -> Result<EvaluationResult<R>> {
+    assert!(rt; eval.status() == Status::Waiting(WaitingKind::AtLocation));
+    eval.resume_with_at_location(callee)
+}
+
+// The value of an evaluation that has to be complete.
+fn value_of<R: Reader + Copy, S: EvaluationStorage<R>>(
+    rt: &impl Abort,
+    eval: &Evaluation<R, S>,
+) -> Option<Value> {
+    assert!(rt; eval.status() == Status::Complete);
+    eval.value_result()
+}
+
+#[test]
+fn parses_until_a_read_is_refused(rt: HostRuntime) {
+    let reads = Cell::new(0);
+    let mut bytes = Watched::new(&[0x08, 0x05, 0x9e, 0x01, 0x0a, 0x0c, 0x01, 0x02], &reads);
+    let five = Operation::parse(&mut bytes, SMALL);
+    assert!(rt; matches!(five, Ok(Operation::UnsignedConstant { value: 5 })));
+    let block = Operation::parse(&mut bytes, SMALL);
+    let wanted = EndianSlice::new(&[0x0a], LittleEndian);
+    assert!(rt; matches!(block, Ok(Operation::ImplicitValue { bytes }) if bytes.slice == wanted));
+    let refused = Operation::parse(&mut bytes, SMALL);
+    assert!(rt; matches!(refused, Err(Error::UnexpectedEof(_))));
+    assert!(rt; bytes.is_empty());
+}
+
+#[test]
+fn evaluates_through_a_request(rt: HostRuntime) {
+    let reads = Cell::new(0);
+    let text = Watched::new(&[0x9c, 0x23, 0x02], &reads);
+    let mut eval = Evaluation::new(rt.alloc(), text, SMALL);
+    let asked = evaluate(&mut eval);
+    assert!(rt; matches!(asked, Ok(EvaluationResult::RequiresCallFrameCfa)));
+    let done = answer_cfa(&rt, &mut eval, 8);
+    assert!(rt; matches!(done, Ok(EvaluationResult::Complete)));
+    assert!(rt; value_of(&rt, &eval) == Some(Value::Generic(10)));
+}
+
+#[test]
+fn meets_faults_in_an_evaluation(rt: HostRuntime) {
+    let reads = Cell::new(0);
+    let text = Watched::new(&[0x50, 0x31, 0x93], &reads);
+    let mut eval = Evaluation::new(rt.alloc(), text, SMALL);
+    let terminator = Error::InvalidExpressionTerminator(1);
+    assert!(rt; evaluate(&mut eval).err() == Some(terminator));
+    let text = Watched::new(&[0x31, 0x0c, 0x01, 0x02], &reads);
+    let mut eval = Evaluation::new(rt.alloc(), text, SMALL);
+    assert!(rt; matches!(evaluate(&mut eval), Err(Error::UnexpectedEof(_))));
+}
+
+// The code of an operation is a read, and so is a number of fixed size and each byte of a LEB128 number.
+#[test]
+fn reads_one_operation_for_each_item(rt: HostRuntime) {
+    let reads = Cell::new(0);
+    let text = Watched::new(&[0x31, 0x0a, 0x01, 0x02, 0x96, 0x9c], &reads);
+    let mut operations = Expression(text).operations(SMALL);
+    for wanted in [1, 3, 4, 5, 5] {
+        assert!(rt; operations.next().is_ok());
+        assert!(rt; reads.get() == wanted);
+    }
+}
+
+// A register with its piece; a frame address, its piece, and a call; there a register, whose piece follows the call;
+// and another frame address. Then a branch for ever, of which the maximum of ten operations allows three turns.
+#[test]
+fn reads_what_an_evaluation_counts(rt: HostRuntime) {
+    let reads = Cell::new(0);
+    let text = Watched::new(
+        &[
+            0x50, 0x93, 0x04, 0x9c, 0x93, 0x04, 0x98, 0x05, 0x00, 0x93, 0x04, 0x9c, 0x2f, 0xfd,
+            0xff,
+        ],
+        &reads,
+    );
+    let callee = Watched::new(&[0x96, 0x50], &reads);
+    let mut eval = Evaluation::new(rt.alloc(), text, SMALL);
+    eval.set_max_iterations(10);
+    assert!(rt; reads.get() == 0);
+    assert!(rt; evaluate(&mut eval).is_ok());
+    assert!(rt; reads.get() == 4);
+    assert!(rt; answer_cfa(&rt, &mut eval, 1).is_ok());
+    assert!(rt; reads.get() == 8);
+    assert!(rt; answer_location(&rt, &mut eval, callee).is_ok());
+    assert!(rt; reads.get() == 13);
+    assert!(rt; answer_cfa(&rt, &mut eval, 1).is_err());
+    assert!(rt; reads.get() == 19);
+}

@@ -16,7 +16,7 @@ use Rattle.dwarf_op.specs.contracts.locations.LocationPartialEq.TheImpl as locat
 use Rattle.dwarf_op.specs.contracts.locations.PiecePartialEq.TheImpl as pieces
 use Rattle.dwarf_op.specs.declared.locations.Location.{Location}
 use Rattle.dwarf_op.specs.declared.locations.Piece.{Piece}
-use Rattle.dwarf_eval.specs.Machine.{location_of, piece_of}
+use Rattle.dwarf_op.specs.Views.{location_of, piece_of}
 use denote.RattleType.{RattleType}
 use mir.Syntax.{Dict}
 

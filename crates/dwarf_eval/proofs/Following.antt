@@ -16,7 +16,7 @@ use Rattle.dwarf_eval.specs.Evaluation.{Follows, IsAtRest, IsAtRestBy, IsEndedBy
 use Rattle.dwarf_eval.specs.Permits.{IsOpenFor, IsWaitingFor}
 use Rattle.dwarf_eval.specs.declared.op.results.EvaluationResult.{EvaluationResult}
 use Rattle.dwarf_meaning.specs.declared.kinds.WaitingKind.{WaitingKind}
-use Rattle.dwarf_eval.specs.Paths.{Total, path, path_behind, path_by, total, total_after}
+use Rattle.dwarf_meaning.specs.Paths.{Total, path, path_behind, path_by, total, total_after}
 use Rattle.dwarf_machine.specs.inner.Steps.{has_failed, Reaches, Falls, EndsBy, Ends}
 use Rattle.dwarf_machine.proofs.Refusals.{before_never, before_later}
 use Rattle.dwarf_machine.proofs.Totals.{closed, started_total, through, total_start}

@@ -1,7 +1,7 @@
 -- What is spent by calls in a row.
 use Rattle.std.proofs.Common.{ℕ, ◌≡◌, ◌+◌, length, Option, Some, None, arith, ap, refl}
 use Rattle.dwarf_meaning.specs.Rest.{State, Start}
-use Rattle.dwarf_eval.specs.Bounds.{piece_due, initial_due, answer_due, endings, located, faults_in, DecodesOnce, Spends, SpendsInAll}
+use Rattle.dwarf_meaning.specs.Bounds.{piece_due, initial_due, answer_due, endings, located, faults_in, DecodesOnce, Spends, SpendsInAll}
 
 pub spent_here : (x : State) → SpendsInAll 0 x x
 spent_here x = record { items = omega arith; callers = omega arith; decodings = omega arith; once = λ d. d }

@@ -1,5 +1,5 @@
 -- What a call of an evaluation replies: the nested meaning, and what is left of it.
-pub use Rattle.dwarf_machine.specs.Inputs.{input_of, Keeps, with_status, first_of, IsFresh, with_object, with_maximum}
+pub use Rattle.dwarf_meaning.specs.Inputs.{input_of, Keeps, with_status, first_of, IsFresh, with_object, with_maximum}
 use Rattle.std.specs.Prelude.{ℕ, ◌≡◌, ◌+◌, List, [], Option, Result, Ok, Err, length}
 use Rattle.dwarf_base.specs.declared.errors.Error.{Error}
 use Rattle.dwarf_base.specs.Faults.{fault_of}
@@ -13,8 +13,8 @@ use Rattle.dwarf_meaning.specs.Meaning.{course_of, meaning}
 use Rattle.dwarf_meaning.specs.Rest.{State, Status, Start, Running, RequestStatus, CompleteStatus, FaultStatus}
 use Rattle.dwarf_meaning.specs.Steps.{Reply, CompleteReply, RequestReply, FaultReply, reply}
 use Rattle.dwarf_op.specs.Views.{reference_of}
-use Rattle.dwarf_eval.specs.Bounds.{Spends}
-use Rattle.dwarf_eval.specs.Paths.{Total, total, total_after}
+use Rattle.dwarf_meaning.specs.Bounds.{Spends}
+use Rattle.dwarf_meaning.specs.Paths.{Total, total, total_after}
 use Rattle.dwarf_eval.specs.declared.op.results.EvaluationResult.{EvaluationResult}
 use Rattle.dwarf_eval.specs.declared.op.results.EvaluationResult.TheVariants as result
 

@@ -7,7 +7,7 @@ use Rattle.dwarf_meaning.specs.Kinds.{kind_of_request, kind_of_waiting}
 use Rattle.dwarf_meaning.specs.Requests.{Answer}
 use Rattle.dwarf_meaning.specs.Rest as rest
 use Rattle.dwarf_meaning.specs.Rest.{Start, Running, RequestStatus, CompleteStatus, FaultStatus}
-use Rattle.dwarf_eval.specs.Bounds.{calls_left}
+use Rattle.dwarf_meaning.specs.Bounds.{calls_left}
 use Rattle.dwarf_eval.specs.Evaluation.{IsClosed, IsComplete, Resumes, input_of}
 use Rattle.dwarf_eval.specs.declared.op.results.EvaluationResult.{EvaluationResult}
 use Rattle.dwarf_eval.specs.declared.op.results.EvaluationResult.TheVariants as result

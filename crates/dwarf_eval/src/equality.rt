@@ -3,7 +3,7 @@ ghost use Rattle.std.specs.Prelude.{ℕ};
 ghost use Rattle.dwarf_base.specs.Equality.{IsEquality, IsEqualityBy, IsEqualityOf};
 ghost use Rattle.dwarf_base.specs.Reads.{Text};
 ghost use Rattle.dwarf_eval.specs.Evaluation.{ok_reply};
-ghost use Rattle.dwarf_eval.specs.Machine.{location_of, piece_of};
+ghost use Rattle.dwarf_op.specs.Views.{location_of, piece_of};
 
 use crate::eval::{Status, WaitingKind};
 use crate::op::{EvaluationResult, Expression, Location, Piece};

@@ -1,7 +1,7 @@
 //! An evaluation that answers every request: the loop of a debugger.
 
 ghost use Rattle.std.specs.Prelude.{◌≢◌, ◌<◌, IfOk, OnOk};
-ghost use Rattle.dwarf_eval.specs.Bounds.{calls_left};
+ghost use Rattle.dwarf_meaning.specs.Bounds.{calls_left};
 ghost use Rattle.dwarf_eval.specs.Evaluation.{IsClosed, IsComplete};
 ghost use Rattle.dwarf_eval.specs.Permits.{Admits};
 ghost use Rattle.dwarf_eval.specs.declared.op.results.EvaluationResult.TheVariants as reply;

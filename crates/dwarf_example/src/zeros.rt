@@ -1,7 +1,7 @@
 //! An evaluation that is driven by its status.
 
 ghost use Rattle.std.specs.Prelude.{◌<◌, OnOk};
-ghost use Rattle.dwarf_eval.specs.Bounds.{calls_left};
+ghost use Rattle.dwarf_meaning.specs.Bounds.{calls_left};
 ghost use Rattle.dwarf_eval.specs.Evaluation.{IsClosed};
 ghost use Rattle.dwarf_eval.specs.Permits.{IsOpenFor};
 

@@ -9,7 +9,7 @@ use Rattle.dwarf_meaning.specs.Requests.{RequiresMemory, Memory}
 use Rattle.dwarf_meaning.specs.Acts.{Act, RequestAct}
 use Rattle.dwarf_meaning.specs.Stores.{address_bits}
 use Rattle.dwarf_meaning.specs.Rest.{State, FaultStatus}
-use Rattle.dwarf_machine.specs.Inputs.{with_status}
+use Rattle.dwarf_meaning.specs.Inputs.{with_status}
 use Rattle.dwarf_machine.specs.inner.Steps.{PopsTo, PopsNumber, Performs, act_of, with_values}
 use Rattle.dwarf_machine.proofs.ActCases.{wide_deref, none_deref, some_deref, one_deref, two_deref}
 use Rattle.dwarf_machine.proofs.Performances.{performs_as, performs_low, performs_refuses, fewer_two}

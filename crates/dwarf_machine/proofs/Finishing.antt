@@ -18,8 +18,8 @@ use Rattle.dwarf_meaning.specs.Refusals.{Refusal, Never, before_pushes}
 use Rattle.dwarf_meaning.proofs.Choices.{choose_true, choose_false, top_none, top_some}
 use Rattle.dwarf_meaning.proofs.Counts.{HasTally, OnStore, Tally, tally_of, tally-push_piece}
 use Rattle.dwarf_meaning.proofs.Turns.{run_turn}
-use Rattle.dwarf_machine.specs.Bounds.{endings, faults_in}
-use Rattle.dwarf_machine.specs.Inputs.{Keeps, with_status}
+use Rattle.dwarf_meaning.specs.Bounds.{endings, faults_in}
+use Rattle.dwarf_meaning.specs.Inputs.{Keeps, with_status}
 use Rattle.dwarf_machine.specs.inner.Steps.{Does, Refused, Stays, Pops, total, ComesBy, GoesBack, Adds, ClosesBy, Closes, IsFree, Turns, with_store, with_values}
 use Rattle.dwarf_machine.proofs.Reaching.{may_along}
 use Rattle.dwarf_machine.proofs.Endings.{EndsAlike, finish_alike}

@@ -18,8 +18,8 @@ use Rattle.dwarf_base.specs.Reads.{Text}
 use Rattle.dwarf_op.specs.Views.{operation_of}
 use Rattle.dwarf_op.specs.declared.operations.Operation as code
 use Rattle.dwarf_op.specs.declared.operations.Operation.TheVariants as variant
-use Rattle.dwarf_machine.specs.Bounds.{piece_due, located_by, endings, located, faults_in}
-use Rattle.dwarf_machine.specs.Inputs.{with_status}
+use Rattle.dwarf_meaning.specs.Bounds.{piece_due, located_by, endings, located, faults_in}
+use Rattle.dwarf_meaning.specs.Inputs.{with_status}
 use Rattle.dwarf_machine.specs.inner.Steps.{Does, Refused, Tries, ReadsOperation, EndsLocated, total, ComesBy, Turns, read_to, with_last}
 use Rattle.dwarf_machine.proofs.Endings.{Ending, piece_ends}
 use Rattle.dwarf_machine.proofs.Loads.{Keeping, kept_in, piece_adds}

@@ -4,7 +4,7 @@ use Rattle.dwarf_base.specs.declared.errors.Error.{Error}
 use Rattle.dwarf_meaning.specs.Requests.{Input, Request, Waiting}
 use Rattle.dwarf_meaning.specs.Refusals.{Refusal}
 use Rattle.dwarf_meaning.specs.Rest.{State, Status, Start, Running, RequestStatus, CompleteStatus, FaultStatus}
-use Rattle.dwarf_machine.specs.Bounds.{calls_left, calls_left_by}
+use Rattle.dwarf_meaning.specs.Bounds.{calls_left, calls_left_by}
 use Rattle.dwarf_machine.specs.inner.Steps.{EndsBy, Ends, Nears, Total, replies_by}
 
 pub nears_by : (old new : State) (was is : Status) → old.status ≡ was → new.status ≡ is → calls_left_by new is + replies_by is ≤ calls_left_by old was → Nears old new

@@ -13,7 +13,7 @@ use Rattle.dwarf_meaning.specs.Stores.{Setup, Store, Last, Plain, Pieced, Locate
 use Rattle.dwarf_meaning.specs.Rest.{State, Status, Start, Running, RequestStatus, CompleteStatus, FaultStatus, with_refusal}
 use Rattle.dwarf_meaning.specs.Refusals.{Refusal, Never, before_pushes}
 use Rattle.dwarf_meaning.proofs.Choices.{choose_true, choose_false}
-use Rattle.dwarf_machine.specs.Inputs.{with_status}
+use Rattle.dwarf_meaning.specs.Inputs.{with_status}
 use Rattle.dwarf_machine.specs.inner.Steps.{Stays, Tries, Tried, Pops, Jumps, done_at, LeadsToFault, LeadsBy, Performs, with_store, with_values, with_last, with_place}
 use Rattle.dwarf_machine.proofs.Refusals.{tries_as, bind_ok}
 use Rattle.dwarf_machine.proofs.Staying.{stays_from, stays_low, stays_then}

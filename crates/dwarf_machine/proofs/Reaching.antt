@@ -9,8 +9,8 @@ use Rattle.dwarf_meaning.specs.Meaning.{FaultOutcome}
 use Rattle.dwarf_meaning.specs.Rest.{State, Status, Start, Running, RequestStatus, CompleteStatus, FaultStatus, with_refusal}
 use Rattle.dwarf_meaning.specs.Refusals.{Refusal, Never, MayPick, before_pushes}
 use Rattle.dwarf_meaning.proofs.Counts.{HasTally, OnStore, Tally, tally_of, tally-push_value}
-use Rattle.dwarf_machine.specs.Bounds.{faults_in}
-use Rattle.dwarf_machine.specs.Inputs.{Keeps, with_status}
+use Rattle.dwarf_meaning.specs.Bounds.{faults_in}
+use Rattle.dwarf_meaning.specs.Inputs.{Keeps, with_status}
 use Rattle.dwarf_machine.specs.inner.Steps.{Total, total, Tries, Reaches, Falls, ComesBy, Comes, RunsOnBy, RunsOn, EndsBy, Ends, HasReply, is_running}
 use Rattle.dwarf_machine.proofs.Refusals.{before_more, may_before}
 use Rattle.dwarf_machine.proofs.Loads.{HasLast, HasPieces, Keeping, kept_in, value_adds, value_last, value_pieces}

@@ -14,8 +14,8 @@ use Rattle.dwarf_meaning.specs.Rest.{State, Running, RequestStatus, FaultStatus,
 use Rattle.dwarf_meaning.specs.Refusals.{Refusal, Never, After, taken, MayPick, before_input, before_pushes}
 use Rattle.dwarf_meaning.proofs.Counts.{HasTally, OnStore, Tally, tally_of, tally-push_caller}
 use Rattle.dwarf_meaning.proofs.Effects.{IsUseOf, use_is}
-use Rattle.dwarf_machine.specs.Bounds.{located, faults_in}
-use Rattle.dwarf_machine.specs.Inputs.{input_of, with_status}
+use Rattle.dwarf_meaning.specs.Bounds.{located, faults_in}
+use Rattle.dwarf_meaning.specs.Inputs.{input_of, with_status}
 use Rattle.dwarf_machine.specs.inner.Steps.{Total, total_after, Does, Refused, Stays, Tries, Tried, Enters, TriesToEnter, RunsOnBy, Takes, with_last, with_values}
 use Rattle.dwarf_machine.proofs.Loads.{HasLast, HasPieces, Keeping, kept_in, value_adds, value_last, value_pieces, frame_adds, frame_last, frame_pieces}
 use Rattle.dwarf_machine.proofs.Nearing.{nears_by}

@@ -6,7 +6,7 @@ use Rattle.dwarf_meaning.specs.Requests.{Request, Waiting}
 use Rattle.dwarf_meaning.specs.RunLaws.{waits_of}
 use Rattle.dwarf_meaning.specs.Stores.{Last, Nothing, Plain, Pieced, Pushed, Called, Located}
 use Rattle.dwarf_meaning.specs.Rest.{State, Start, Running, RequestStatus, CompleteStatus, FaultStatus}
-use Rattle.dwarf_machine.specs.Bounds.{piece_due, initial_due, answer_due, endings, located, faults_in, DecodesOnce, Spends}
+use Rattle.dwarf_meaning.specs.Bounds.{piece_due, initial_due, answer_due, endings, located, faults_in, DecodesOnce, Spends}
 use Rattle.dwarf_machine.proofs.Endings.{located_waits}
 use Rattle.dwarf_machine.proofs.Loads.{kept_in}
 

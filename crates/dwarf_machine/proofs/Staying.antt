@@ -6,7 +6,7 @@ use Rattle.dwarf_meaning.specs.Stores.{Setup, Store, Last, push_value}
 use Rattle.dwarf_meaning.specs.Rest.{State, Status, with_refusal}
 use Rattle.dwarf_meaning.specs.Refusals.{Never, before_pushes}
 use Rattle.dwarf_meaning.proofs.Counts.{HasTally, OnStore, Tally, tally_of, tally-push_value}
-use Rattle.dwarf_machine.specs.Inputs.{Keeps, with_status}
+use Rattle.dwarf_meaning.specs.Inputs.{Keeps, with_status}
 use Rattle.dwarf_machine.specs.inner.Steps.{Does, Pops, PopsNumber, Stays, with_last, with_values}
 use Rattle.dwarf_machine.proofs.Loads.{HasLast, HasPieces, Keeping, kept_in, value_adds, value_last, value_pieces}
 

@@ -8,7 +8,7 @@ use Rattle.dwarf_meaning.specs.Run.{Position, Course, End, CompleteEnd, RequestE
 use Rattle.dwarf_meaning.specs.Meaning.{Outcome, RequestOutcome, FaultOutcome, CompleteOutcome, unwound, with_initial}
 use Rattle.dwarf_meaning.specs.Rest.{State, Status, Start, Running, RequestStatus, CompleteStatus, with_refusal, rest_from_start, rest_by, rest}
 use Rattle.dwarf_meaning.specs.Refusals.{Refusal}
-use Rattle.dwarf_machine.specs.Paths.{path, path_behind, path_by, path_through, path_started}
+use Rattle.dwarf_meaning.specs.Paths.{path, path_behind, path_by, path_through, path_started}
 use Rattle.dwarf_machine.specs.inner.Steps.{Total, total}
 
 abbrev pub closed : Outcome → ℕ → Total

@@ -17,8 +17,8 @@ use Rattle.dwarf_meaning.proofs.Choices.{choose_true, choose_false}
 use Rattle.dwarf_meaning.proofs.Counts.{HasTally, OnNext, Tally, tally_of, tally-done}
 use Rattle.dwarf_meaning.proofs.Effects.{act_is}
 use Rattle.dwarf_meaning.proofs.Turns.{run_turn, below_most}
-use Rattle.dwarf_machine.specs.Bounds.{endings, faults_in}
-use Rattle.dwarf_machine.specs.Inputs.{Keeps, with_status}
+use Rattle.dwarf_meaning.specs.Bounds.{endings, faults_in}
+use Rattle.dwarf_meaning.specs.Inputs.{Keeps, with_status}
 use Rattle.dwarf_machine.specs.inner.Steps.{total, CountsOne, ReadsOperation, act_of, done_at, LeadsToPlace, LeadsToRequest, LeadsToFault, LeadsBy, Performs, read_to, with_store, Falls, ComesBy, IsFree, IsReady, Turns, effort, effort_by}
 use Rattle.dwarf_machine.proofs.Endings.{EndsNoMore, done_ends, free_waits}
 use Rattle.dwarf_machine.proofs.Loads.{IsLighter, kept_in, done_lighter}

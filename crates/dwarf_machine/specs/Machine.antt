@@ -5,15 +5,13 @@ use Rattle.dwarf_base.specs.declared.common.Encoding.{Encoding}
 use Rattle.dwarf_base.specs.Reads.{IsLeftOf, Text}
 use Rattle.dwarf_value.specs.declared.types.Value.{Value}
 use Rattle.dwarf_value.specs.Values.{IsAddressMask, width_of}
-use Rattle.dwarf_meaning.specs.Locations as meaning
 use Rattle.dwarf_meaning.specs.Requests as requests
-use Rattle.dwarf_meaning.specs.Stores.{Setup, Store, Last, Nothing, Plain, Pieced, Pushed, Called, Located}
+use Rattle.dwarf_meaning.specs.Stores.{Store, Last, Nothing, Plain, Pieced, Pushed, Called, Located}
 use Rattle.dwarf_meaning.specs.Run.{Position}
 use Rattle.dwarf_meaning.specs.Rest.{Status, Start, Running, RequestStatus, CompleteStatus, FaultStatus}
 use Rattle.dwarf_meaning.specs.Refusals.{Never}
-use Rattle.dwarf_op.specs.Views.{reference_of}
+use Rattle.dwarf_op.specs.Views.{reference_of, location_of, piece_of}
 use Rattle.dwarf_op.specs.declared.locations.Location.{Location}
-use Rattle.dwarf_op.specs.declared.locations.Location.TheVariants as location
 use Rattle.dwarf_op.specs.declared.locations.Piece.{Piece}
 use Rattle.dwarf_machine.specs.declared.states.LastOperation.{LastOperation}
 use Rattle.dwarf_machine.specs.declared.states.LastOperation.TheVariants as last
@@ -21,24 +19,6 @@ use Rattle.dwarf_machine.specs.declared.states.OpenRequest.{OpenRequest}
 use Rattle.dwarf_machine.specs.declared.states.OpenRequest.TheVariants as request
 use Rattle.dwarf_machine.specs.declared.states.EvaluationState.{EvaluationState}
 use Rattle.dwarf_machine.specs.declared.states.EvaluationState.TheVariants as state
-
--- a location of the code, as the definitions have it
-abbrev pub location_of : {R O P : Type 0} → (R → Text) → (O → ℕ) → Location R O P → meaning.Location
-location_of text number location.Empty = meaning.Empty
-location_of text number (location.Register register) = meaning.InRegister register.0
-location_of text number (location.Address address) = meaning.AtAddress address
-location_of text number (location.Value value) = meaning.HoldsValue value
-location_of text number (location.Bytes value) = meaning.HoldsBytes (text value)
-location_of text number (location.ImplicitPointer value byte_offset) = meaning.PointsInto (number value.0) byte_offset
-
--- a piece of the code, as the definitions have it
-abbrev pub piece_of : {R O P : Type 0} → (R → Text) → (O → ℕ) → Piece R O P → meaning.Piece
-piece_of text number piece =
-    record {
-      size_in_bits = piece.size_in_bits;
-      bit_offset = piece.bit_offset;
-      location = location_of text number piece.location;
-    }
 
 -- of what sort the last operation was, as the definitions have it
 abbrev pub last_of : {R O P : Type 0} → (R → Text) → (O → ℕ) → LastOperation R O P → Last
@@ -109,15 +89,6 @@ caller_of text f = record { text = text f.1; place = place_of (text f.1) (text f
 -- the innermost caller first
 abbrev pub callers_of : {R : Type 0} → (R → Text) → List (R × R) → List Position
 callers_of text readers = reverse (map (caller_of text) readers)
-
--- the setup: an encoding, the bits of an offset, and a limit for each list
-abbrev pub setup_of : Encoding → ℕ → Option ℕ → Option ℕ → Option ℕ → Setup
-setup_of encoding offset_bits values callers pieces =
-    record {
-      encoding = encoding;
-      offset_bits = offset_bits;
-      limits = record { values = values; callers = callers; pieces = pieces };
-    }
 
 -- what is kept: the code's lists, with the top of the stack first
 abbrev pub store_of : {R O P : Type 0} → (R → Text) → (O → ℕ) → List Value → List (Piece R O P) → ℕ → Option ℕ → ℕ

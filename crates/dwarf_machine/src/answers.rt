@@ -4,7 +4,7 @@ ghost use Rattle.dwarf_meaning.specs.Requests as requests;
 ghost use Rattle.dwarf_meaning.specs.Rest.{Running};
 ghost use Rattle.dwarf_meaning.specs.Stores.{Pushed, push_value};
 ghost use Rattle.dwarf_machine.specs.Answers.{IsWaitingFor, IsWaitingTo, answer_of};
-ghost use Rattle.dwarf_machine.specs.Inputs.{input_of, with_status};
+ghost use Rattle.dwarf_meaning.specs.Inputs.{input_of, with_status};
 ghost use Rattle.dwarf_machine.specs.inner.Steps.{Ends, Takes, Tried, total_after, with_last};
 
 use crate::machine::Machine;

@@ -6,11 +6,11 @@ ghost use Rattle.dwarf_value.specs.Values.{IsAddressMask, width_of};
 ghost use Rattle.dwarf_meaning.specs.Meaning.{has_pieces};
 ghost use Rattle.dwarf_meaning.specs.Rest.{Start, FaultStatus};
 ghost use Rattle.dwarf_meaning.specs.Run.{most, read};
-ghost use Rattle.dwarf_meaning.specs.Stores.{Located, Plain, address_bits, push_value, push_piece};
-ghost use Rattle.dwarf_op.specs.Views.{operation_of};
-ghost use Rattle.dwarf_machine.specs.Bounds.{IsUnspent};
-ghost use Rattle.dwarf_machine.specs.Inputs.{IsFresh, with_maximum, with_object, with_status};
-ghost use Rattle.dwarf_machine.specs.Machine.{last_of, location_of, piece_of, setup_of, status_of};
+ghost use Rattle.dwarf_meaning.specs.Stores.{Located, Plain, address_bits, push_value, push_piece, setup_of};
+ghost use Rattle.dwarf_op.specs.Views.{operation_of, location_of, piece_of};
+ghost use Rattle.dwarf_meaning.specs.Bounds.{IsUnspent};
+ghost use Rattle.dwarf_meaning.specs.Inputs.{IsFresh, with_maximum, with_object, with_status};
+ghost use Rattle.dwarf_machine.specs.Machine.{last_of, status_of};
 ghost use Rattle.dwarf_machine.specs.inner.Steps.{CountsOne, GoesBack, IsFree, Jumps, Pops, PopsGenerics, ReadsOperation, Tries, TriesToEnter, at, has_failed, is_free, is_running, read_to, with_last};
 
 use crate::states::{EvaluationState, LastOperation};
@@ -46,7 +46,8 @@ impl<R: Reader + Copy, S: EvaluationStorage<R>> Model for Machine<R, S> {
 
     ghost Value = { State };
 
-    ghost use Rattle.dwarf_machine.specs.Machine.{setup_of, status_of, store_of, place_of, callers_of, IsSound};
+    ghost use Rattle.dwarf_meaning.specs.Stores.{setup_of};
+    ghost use Rattle.dwarf_machine.specs.Machine.{status_of, store_of, place_of, callers_of, IsSound};
 
     ghost view = { λ e. record {
       status = status_of R.text R.Offset.number e.state;

@@ -6,8 +6,9 @@ ghost use Rattle.dwarf_meaning.specs.Rest.{Running, FaultStatus};
 ghost use Rattle.dwarf_meaning.specs.Stores.{Plain, address_bits, push_value, push_values};
 ghost use Rattle.dwarf_base.specs.declared.errors.Error.TheVariants.{NotEnoughStackItems, UnsupportedEvaluation};
 ghost use Rattle.dwarf_value.specs.Values.{add_of, from_u64_of, to_u64_of, type_of};
-ghost use Rattle.dwarf_machine.specs.Inputs.{with_status};
-ghost use Rattle.dwarf_machine.specs.Machine.{location_of, request_of, waiting_of};
+ghost use Rattle.dwarf_meaning.specs.Inputs.{with_status};
+ghost use Rattle.dwarf_machine.specs.Machine.{request_of, waiting_of};
+ghost use Rattle.dwarf_op.specs.Views.{location_of};
 ghost use Rattle.dwarf_machine.specs.inner.Operators.{unary_of};
 ghost use Rattle.dwarf_machine.specs.inner.Steps.{Performs, PopsNumber, Tried, Tries, act_of, at};
 

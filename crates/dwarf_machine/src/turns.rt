@@ -5,8 +5,7 @@ ghost use Rattle.dwarf_meaning.specs.Rest.{Running, Start};
 ghost use Rattle.dwarf_meaning.specs.Run.{piece_ended_by};
 ghost use Rattle.dwarf_meaning.specs.RunLaws.{waits_of};
 ghost use Rattle.dwarf_meaning.specs.Stores.{Located, push_piece};
-ghost use Rattle.dwarf_op.specs.Views.{operation_of};
-ghost use Rattle.dwarf_machine.specs.Machine.{location_of, piece_of};
+ghost use Rattle.dwarf_op.specs.Views.{operation_of, location_of, piece_of};
 ghost use Rattle.dwarf_machine.specs.inner.Steps.{RunsOn, Closes, Ends, EndsLocated, IsReady, Turns, at, goes_on, total};
 
 use crate::machine::Machine;

@@ -15,6 +15,9 @@ pub mod Stores
 pub mod Run
 pub mod Meaning
 pub mod Rest
+pub mod Inputs
+pub mod Paths
+pub mod Bounds
 pub mod Steps
 pub mod Rows
 pub mod RunLaws

@@ -22,6 +22,15 @@ pub record Setup : Type 0 where
   pub offset_bits : ℕ
   pub limits : Limits
 
+-- the setup: an encoding, the bits of an offset, and a limit for each list
+abbrev pub setup_of : Encoding → ℕ → Option ℕ → Option ℕ → Option ℕ → Setup
+setup_of encoding offset_bits values callers pieces =
+    record {
+      encoding = encoding;
+      offset_bits = offset_bits;
+      limits = record { values = values; callers = callers; pieces = pieces };
+    }
+
 -- how many bits an address has
 abbrev pub address_bits : Setup → ℕ
 address_bits setup = 8 * setup.encoding.address_size

@@ -1,7 +1,11 @@
 -- What operations and their operands stand for, once a reader is seen as a text and an offset as a number.
 use Rattle.std.specs.Prelude.{ℕ}
 use Rattle.dwarf_base.specs.Reads.{Text}
+use Rattle.dwarf_meaning.specs.Locations as locations
 use Rattle.dwarf_meaning.specs.Operations as meaning
+use Rattle.dwarf_op.specs.declared.locations.Location.{Location}
+use Rattle.dwarf_op.specs.declared.locations.Location.TheVariants as location
+use Rattle.dwarf_op.specs.declared.locations.Piece.{Piece}
 use Rattle.dwarf_op.specs.declared.operations.Operation.{Operation}
 use Rattle.dwarf_op.specs.declared.operations.Operation.TheVariants as operation
 use Rattle.dwarf_op.specs.declared.operations.DieReference.{DieReference}
@@ -72,3 +76,21 @@ operation_of text number (operation.WasmLocal index) = meaning.WasmLocal index
 operation_of text number (operation.WasmGlobal index) = meaning.WasmGlobal index
 operation_of text number (operation.WasmStack index) = meaning.WasmStack index
 operation_of text number (operation.VariableValue offset) = meaning.VariableValue (number offset.0)
+
+-- a location of the code, as the definitions have it
+abbrev pub location_of : {R O P : Type 0} → (R → Text) → (O → ℕ) → Location R O P → locations.Location
+location_of text number location.Empty = locations.Empty
+location_of text number (location.Register register) = locations.InRegister register.0
+location_of text number (location.Address address) = locations.AtAddress address
+location_of text number (location.Value value) = locations.HoldsValue value
+location_of text number (location.Bytes value) = locations.HoldsBytes (text value)
+location_of text number (location.ImplicitPointer value byte_offset) = locations.PointsInto (number value.0) byte_offset
+
+-- a piece of the code, as the definitions have it
+abbrev pub piece_of : {R O P : Type 0} → (R → Text) → (O → ℕ) → Piece R O P → locations.Piece
+piece_of text number piece =
+    record {
+      size_in_bits = piece.size_in_bits;
+      bit_offset = piece.bit_offset;
+      location = location_of text number piece.location;
+    }

@@ -15,11 +15,11 @@ use Rattle.dwarf_meaning.specs.Steps.{Step, InitialValue, ObjectAddress, MaxIter
 use Rattle.dwarf_meaning.specs.Refusals.{Refusal, IsLater, before_inputs, MayPick, before_input}
 use Rattle.dwarf_eval.specs.Evaluation.{IsReplied, Follows, first_of, means, IsClosed, Evaluates, Resumes, reply_of, WaitsOrIsComplete, input_of}
 use Rattle.dwarf_eval.specs.Permits.{IsOpenFor}
-use Rattle.dwarf_eval.specs.Paths.{Total, total_after}
+use Rattle.dwarf_meaning.specs.Paths.{Total, total_after}
 use Rattle.dwarf_replay.specs.Stepping.{HasReplied}
 use Rattle.dwarf_replay.specs.Replays.{Tells}
 use Rattle.dwarf_eval.specs.declared.op.results.EvaluationResult.{EvaluationResult}
-use Rattle.dwarf_eval.specs.Bounds.{SpendsInAll, initial_items}
+use Rattle.dwarf_meaning.specs.Bounds.{SpendsInAll, initial_items}
 use Rattle.dwarf_eval.proofs.Following.{told_rest, unwound_open}
 use Rattle.dwarf_eval.proofs.Spending.{spent_more}
 use Rattle.dwarf_replay.proofs.Telling.{walked_more}

@@ -8,7 +8,7 @@ use Rattle.dwarf_meaning.specs.Rest.{State, Status, Start, Running, RequestStatu
 use Rattle.dwarf_meaning.specs.Steps.{Step, InitialValue, ObjectAddress, MaxIterations, Evaluate, Resume, Told, Reply, Allows, outcome_of, outcome_from}
 use Rattle.dwarf_replay.specs.Stepping.{MayTake}
 use Rattle.dwarf_replay.specs.Replays.{IsInRequest, IsInFault, AreSet, StandsAt, Tells, IsUnbegun, IsLeft, Leaves, Walks, WalksTo}
-use Rattle.dwarf_eval.specs.Bounds.{SpendsInAll, initial_items}
+use Rattle.dwarf_meaning.specs.Bounds.{SpendsInAll, initial_items}
 use Rattle.dwarf_eval.proofs.Following.{unwound_open}
 use Rattle.dwarf_replay.proofs.Standings.{Holds, Unstarted, Going, WentBy, Went, may_inputs}
 use Rattle.dwarf_replay.proofs.Calling.{some_not_none, going_outcome, rest_by_status}

@@ -8,7 +8,7 @@ use Rattle.dwarf_meaning.specs.Meaning.{FaultOutcome, First, meaning}
 use Rattle.dwarf_meaning.specs.Rest.{State, Status, Start, Running, RequestStatus, CompleteStatus, FaultStatus, rest}
 use Rattle.dwarf_meaning.specs.Steps.{Step, Told, Reply}
 use Rattle.dwarf_replay.specs.Replays.{told_at, Tells}
-use Rattle.dwarf_eval.specs.Bounds.{SpendsInAll, initial_items}
+use Rattle.dwarf_meaning.specs.Bounds.{SpendsInAll, initial_items}
 use Rattle.dwarf_eval.proofs.Spending.{spent_here}
 
 -- ---- what some steps came to

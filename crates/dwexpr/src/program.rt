@@ -2,7 +2,7 @@ ghost use Rattle.std.specs.IoError.{error_kind};
 ghost use Rattle.std.specs.Prelude.{◌<◌, ◌≤◌, ◌-◌, ◌^◌, length, map, string_bytes};
 ghost use Rattle.dwarf_base.specs.EndianSlice.{slice_text};
 ghost use Rattle.dwarf_base.specs.ByteOrder.{is_big_of};
-ghost use Rattle.dwarf_eval.specs.Machine.{piece_of};
+ghost use Rattle.dwarf_op.specs.Views.{piece_of};
 ghost use Rattle.dwarf_replay.specs.Replays.{replies_in, steps_of};
 ghost use Rattle.dwarf_meaning.specs.Steps.{untold};
 ghost use Rattle.dwexpr.specs.Evaluates.{EvaluatesSteps, EvaluatesLines, behind_replies, bad_steps, unlimited_setup};

@@ -1,6 +1,6 @@
 ghost use Rattle.dwarf_base.specs.EndianSlice.{slice_text};
 ghost use Rattle.dwarf_eval.specs.Evaluation.{reply_of, ok_reply};
-ghost use Rattle.dwarf_eval.specs.Machine.{piece_of};
+ghost use Rattle.dwarf_op.specs.Views.{piece_of};
 ghost use Rattle.dwexpr_text.specs.Lines.{piece_line, reply_line};
 ghost use Rattle.dwexpr_text.specs.Writing.{Prints};
 

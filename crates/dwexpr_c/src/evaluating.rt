@@ -1,6 +1,6 @@
 ghost use Rattle.std.specs.Prelude.{◌≡◌, None, map, slice_get};
 ghost use Rattle.dwarf_base.specs.ByteOrder.{is_big_of};
-ghost use Rattle.dwarf_eval.specs.Machine.{piece_of};
+ghost use Rattle.dwarf_op.specs.Views.{piece_of};
 ghost use Rattle.dwarf_meaning.specs.Rest.{CompleteStatus, Start};
 ghost use Rattle.dwexpr_c.specs.Evaluated.{EvaluatesGiven};
 ghost use Rattle.dwexpr_c.specs.Held.{HasCapacities, StandsAfter};

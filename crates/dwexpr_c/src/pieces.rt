@@ -1,5 +1,5 @@
 ghost use Rattle.std.specs.Prelude.{◌≡◌, IfSome, IfNone, true, false, map, slice_get};
-ghost use Rattle.dwarf_eval.specs.Machine.{location_of, piece_of};
+ghost use Rattle.dwarf_op.specs.Views.{location_of, piece_of};
 ghost use Rattle.dwexpr_c.specs.Pieces.{AreWritten, ShowsLocation, ShowsPiece, has, or_zero, sized};
 ghost use Rattle.dwexpr_c.specs.Texts.{text_of_placed};
 ghost use Rattle.dwexpr_c.specs.Places.{HoldsNowhere, SomeNowhere};

@@ -5,9 +5,10 @@ ghost use Rattle.dwarf_meaning.specs.Requests as requests;
 ghost use Rattle.dwarf_meaning.specs.Rest.{Start, CompleteStatus};
 ghost use Rattle.dwarf_meaning.specs.Run.{most};
 ghost use Rattle.dwarf_eval.specs.Permits.{Admits, AnswersWith, IsOpenFor, Permits, Shows, answer_of};
-ghost use Rattle.dwarf_eval.specs.Bounds.{IsUnspent, calls_left};
+ghost use Rattle.dwarf_meaning.specs.Bounds.{IsUnspent, calls_left};
 ghost use Rattle.dwarf_eval.specs.Evaluation.{Evaluates, HasResult, IsClosed, IsComplete, Resumes, with_maximum, with_object, input_of, with_status};
-ghost use Rattle.dwarf_eval.specs.Machine.{piece_of, setup_of};
+ghost use Rattle.dwarf_meaning.specs.Stores.{setup_of};
+ghost use Rattle.dwarf_op.specs.Views.{piece_of};
 
 use crate::eval::requests::{kind_of_open, reply};
 use crate::eval::states::Status;

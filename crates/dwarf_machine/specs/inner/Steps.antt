@@ -19,9 +19,9 @@ use Rattle.dwarf_meaning.specs.Run.{Position, can_count, counted, read, most}
 use Rattle.dwarf_meaning.specs.Meaning.{Outcome, FaultOutcome, CompleteOutcome}
 use Rattle.dwarf_meaning.specs.Rest.{State, Status, Start, Running, RequestStatus, CompleteStatus, FaultStatus, with_refusal}
 use Rattle.dwarf_meaning.specs.Refusals.{Limits, Refusal, MayPick, before_pushes}
-use Rattle.dwarf_machine.specs.Bounds.{Spends, calls_left}
-use Rattle.dwarf_machine.specs.Inputs.{input_of, Keeps, with_status}
-pub use Rattle.dwarf_machine.specs.Paths.{Total, total, total_after}
+use Rattle.dwarf_meaning.specs.Bounds.{Spends, calls_left}
+use Rattle.dwarf_meaning.specs.Inputs.{input_of, Keeps, with_status}
+pub use Rattle.dwarf_meaning.specs.Paths.{Total, total, total_after}
 
 -- ---- steps
 

@@ -1,6 +1,6 @@
 use Rattle.std.proofs.Common.{[], append-nil, map, refl, sym}
 use Rattle.dwarf_base.specs.EndianSlice.{slice_text}
-use Rattle.dwarf_eval.specs.Machine.{piece_of}
+use Rattle.dwarf_op.specs.Views.{piece_of}
 use Rattle.dwexpr_text.specs.Lines.{piece_lines, value_line}
 use Rattle.dwexpr_text.proofs.Fronts.{appends_both, as_rest, begun, more_of}
 use Rattle.dwexpr_text.proofs.ListingLemmas.{ends_refused}

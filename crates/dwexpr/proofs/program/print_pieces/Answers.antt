@@ -1,6 +1,6 @@
 use Rattle.std.proofs.Common.{◌+◌, ap, map, drop, drop_of_length-le}
 use Rattle.dwarf_base.specs.EndianSlice.{slice_text}
-use Rattle.dwarf_eval.specs.Machine.{piece_of}
+use Rattle.dwarf_op.specs.Views.{piece_of}
 use Rattle.dwexpr_text.specs.Lines.{piece_line, piece_lines}
 use Rattle.dwexpr_text.proofs.Fronts.{all_of, as_rest, begun, more_of, refused_in}
 use Rattle.dwexpr_text.proofs.ListingLemmas.{lines_at}

@@ -1,6 +1,6 @@
 use Rattle.std.proofs.Common.{◌<◌, ◌≡◌, length, slice_get, Some, arith, ◌∙◌, sym}
 use Rattle.std.proofs.lemmas.Option.{slice_get_within}
-use Rattle.dwarf_eval.specs.Machine.{piece_of}
+use Rattle.dwarf_op.specs.Views.{piece_of}
 use Rattle.dwexpr_c.specs.Texts.{text_of_placed}
 use Rattle.dwexpr_c.proofs.Shown.{kept_next, same_length, seen_at, shown_next}
 use Rattle.dwexpr_c.proofs.pieces.write_pieces.Goals as goal

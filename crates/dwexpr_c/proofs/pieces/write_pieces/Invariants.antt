@@ -1,5 +1,5 @@
 use Rattle.std.proofs.Common.{◌≡◌, ◌<◌, ◌≤◌, ℕ, length, map, slice_get}
-use Rattle.dwarf_eval.specs.Machine.{piece_of}
+use Rattle.dwarf_op.specs.Views.{piece_of}
 use Rattle.dwexpr_c.specs.Pieces.{ShownAt}
 use Rattle.dwexpr_c.specs.Texts.{text_of_placed}
 use Rattle.dwexpr_c.proofs.pieces.write_pieces.Given as goal

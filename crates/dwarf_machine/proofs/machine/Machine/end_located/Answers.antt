@@ -4,9 +4,8 @@ use Rattle.dwarf_meaning.specs.Locations.{Piece}
 use Rattle.dwarf_meaning.specs.Rest.{State, FaultStatus}
 use Rattle.dwarf_meaning.specs.Run.{piece_ended_by}
 use Rattle.dwarf_meaning.specs.Stores.{push_piece}
-use Rattle.dwarf_op.specs.Views.{operation_of}
-use Rattle.dwarf_machine.specs.Inputs.{with_status}
-use Rattle.dwarf_machine.specs.Machine.{location_of}
+use Rattle.dwarf_op.specs.Views.{operation_of, location_of}
+use Rattle.dwarf_meaning.specs.Inputs.{with_status}
 use Rattle.dwarf_machine.specs.inner.Steps.{EndsLocated, Tries}
 use Rattle.dwarf_machine.proofs.Holding.{no_piece}
 use Rattle.dwarf_machine.proofs.machine.Machine.end_located.Goals as goal

@@ -2,7 +2,7 @@ use Rattle.std.proofs.Common.{refl, sym, ◌∙◌, None}
 use Rattle.dwarf_base.specs.declared.errors.Error.TheVariants.{InvalidPiece}
 use Rattle.dwarf_meaning.specs.Meaning.{FaultOutcome, completion_of, finish_value, whole}
 use Rattle.dwarf_meaning.specs.Stores.{Nothing, Plain, Pieced, Pushed, Called, Located, push_piece}
-use Rattle.dwarf_machine.specs.Machine.{location_of}
+use Rattle.dwarf_op.specs.Views.{location_of}
 use Rattle.dwarf_machine.proofs.Finishing.{closes_else, closes_with, finish_as, finish_plain, mixed, stands}
 use Rattle.dwarf_machine.proofs.machine.Machine.finish.Goals as goal
 

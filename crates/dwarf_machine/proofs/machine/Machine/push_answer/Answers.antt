@@ -1,7 +1,7 @@
 use Rattle.std.proofs.Common.{ap, ◌∙◌, subst}
 use Rattle.dwarf_meaning.specs.Rest.{State, Running}
 use Rattle.dwarf_meaning.specs.Stores.{push_value}
-use Rattle.dwarf_machine.specs.Inputs.{with_status}
+use Rattle.dwarf_meaning.specs.Inputs.{with_status}
 use Rattle.dwarf_machine.specs.inner.Steps.{Tries}
 use Rattle.dwarf_machine.proofs.machine.Machine.push_answer.Goals as goal
 

@@ -1,6 +1,6 @@
 use Rattle.std.proofs.Common.{sym, ◌∙◌}
 use Rattle.dwarf_machine.specs.Answers.{answer_of}
-use Rattle.dwarf_machine.specs.Inputs.{input_of}
+use Rattle.dwarf_meaning.specs.Inputs.{input_of}
 use Rattle.dwarf_machine.specs.inner.Steps.{total_after}
 use Rattle.dwarf_machine.proofs.Reaching.{begins_more, begins_end, runs_on}
 use Rattle.dwarf_machine.proofs.machine.Machine.resume.Goals as goal

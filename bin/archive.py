@@ -35,16 +35,16 @@ def libraries_below(named):
     return {name: TOP / "crates" / name / "out" / "rlib" / f"{name}.rlib" for name in below[1:]}
 
 
-def newest():
-    """When the newest file of code, definitions and proofs was written."""
-    files = (path for part in ("src", "specs", "proofs") for path in TOP.glob(f"crates/*/{part}/**/*"))
-    return max(path.stat().st_mtime for path in files if path.is_file())
+def newest(names):
+    """When the newest file of code, definitions and proofs of these crates was written."""
+    folders = (TOP / "crates" / name / part for name in names for part in ("src", "specs", "proofs"))
+    return max(path.stat().st_mtime for folder in folders for path in folder.rglob("*") if path.is_file())
 
 
 def built_by_the_gate(libraries):
-    """Whether `rt ci` has just built these libraries. None may be missing, or older than a source, or be one of `rt lib`,
-    which builds its own: the gate's hold the statements of each crate alone."""
-    last = newest()
+    """Whether `rt ci` has just built these libraries. None may be missing, older than a source, or one of `rt lib`, which
+    builds its own: the gate's hold the statements of each crate alone."""
+    last = newest(libraries)
     return all(
         library.exists() and library.stat().st_mtime >= last and not (library.parent / "stamp").exists()
         for library in libraries.values()
@@ -66,13 +66,13 @@ def build_words(target, named, libraries):
 
 
 def build(target=HERE):
-    """Proves and builds the archive for a target, unless it is there and newer than all sources. What went wrong, or ""."""
+    """Proves and builds the archive for a target, unless it is newer than its sources. What went wrong, or ""."""
     archive = path_of(target)
-    if archive.exists() and archive.stat().st_mtime >= newest():
-        return ""
-    archive.parent.mkdir(parents=True, exist_ok=True)
     named = libraries_of_crates()
     libraries = libraries_below(named)
+    if archive.exists() and archive.stat().st_mtime >= newest([CRATE.name, *libraries]):
+        return ""
+    archive.parent.mkdir(parents=True, exist_ok=True)
     calls = [["rt", "lib"]]
     if built_by_the_gate(libraries):
         calls = [build_words(target, named, libraries)]

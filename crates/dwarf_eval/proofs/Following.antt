@@ -1,47 +1,42 @@
 -- A call answers what the meaning gives, and what is left is what the meaning gives for the inputs to come.
-use Rattle.std.proofs.Common.{ℕ, zero, suc, ◌≡◌, ◌+◌, arith, List, [], ◌∷◌, ◌++◌, length, Result, Ok, Err, Option, true, false, ap, ◌∙◌, sym, refl, subst}
+use Rattle.std.proofs.Common.{ℕ, zero, suc, ◌≡◌, List, [], ◌∷◌, length, Result, Option, true, false, ap, ◌∙◌, sym, refl, subst}
 use Rattle.std.proofs.lemmas.Bool.{false≢true, true≢false}
-use Rattle.std.proofs.lemmas.List.{append-nil}
 use Rattle.dwarf_base.specs.declared.errors.Error.{Error}
 use Rattle.dwarf_base.specs.Faults.{Fault, fault_of}
 use Rattle.dwarf_base.specs.Reads.{Text}
-use Rattle.dwarf_meaning.specs.Requests.{Request, Input}
-use Rattle.dwarf_meaning.specs.Stores.{Setup, Store}
-use Rattle.dwarf_meaning.specs.Run.{Position, Course, End, CompleteEnd, RequestEnd, FaultEnd, run}
-use Rattle.dwarf_meaning.specs.Meaning.{unwound, with_initial, course_from, meaning}
-use Rattle.dwarf_meaning.specs.Rest.{State, Status, Start, Running, RequestStatus, CompleteStatus, FaultStatus, with_refusal, rest_by, rest}
+use Rattle.dwarf_meaning.specs.Requests.{Input}
+use Rattle.dwarf_meaning.specs.Stores.{Store}
+use Rattle.dwarf_meaning.specs.Run.{Position, after_push, run}
+use Rattle.dwarf_meaning.specs.Meaning.{with_initial, meaning}
+use Rattle.dwarf_meaning.specs.Rest.{State, Status, Start, Running, RequestStatus, CompleteStatus, FaultStatus, with_refusal, Total, total_of_course, total_by, total, total_after}
 use Rattle.dwarf_meaning.specs.Steps.{Reply, reply}
 use Rattle.dwarf_meaning.specs.Refusals.{Refusal, Never, After, before_pushes, IsLater}
 use Rattle.dwarf_eval.specs.Evaluation.{Follows, IsAtRest, IsAtRestBy, IsEndedBy, IsFresh, WaitsOrIsComplete, IsReplied, Resumes, means, reply_of}
 use Rattle.dwarf_eval.specs.Permits.{IsOpenFor, IsWaitingFor}
 use Rattle.dwarf_eval.specs.declared.op.results.EvaluationResult.{EvaluationResult}
 use Rattle.dwarf_meaning.specs.declared.kinds.WaitingKind.{WaitingKind}
-use Rattle.dwarf_meaning.specs.Paths.{Total, path, path_behind, path_by, total, total_after}
 use Rattle.dwarf_machine.specs.inner.Steps.{has_failed, Reaches, Falls, EndsBy, Ends}
 use Rattle.dwarf_machine.proofs.Refusals.{before_never, before_later}
-use Rattle.dwarf_machine.proofs.Totals.{closed, started_total, through, total_start}
-pub use Rattle.dwarf_machine.proofs.Totals.{unwound_open}
+use Rattle.dwarf_machine.proofs.Totals.{started_total, course_open, total_start}
+pub use Rattle.dwarf_machine.proofs.Totals.{total_open, total_complete}
 
-told_by : (r : Refusal) (x : State) (told : Reply) (status : Status) → IsReplied told status → told ≡ reply (rest_by x (with_refusal r x.store) [] status)
-told_by r x told (RequestStatus request waiting) h = h ∙ sym (ap reply (unwound_open x.setup x.callers request (record { text = x.text; place = x.place } ∷ []) []))
+told_by : (r : Refusal) (x : State) (told : Reply) (status : Status) → IsReplied told status → told ≡ reply (total_by x (with_refusal r x.store) [] status).outcome
+told_by r x told (RequestStatus request waiting) h =
+    h ∙ sym (ap (λ (z : Total). reply z.outcome) (course_open x.store.count x.setup x.callers request (record { text = x.text; place = x.place } ∷ []) []))
 told_by r x told (CompleteStatus value) h = h
 told_by r x told (FaultStatus error) h = h
 told_by r x told (Start initial_value) h = absurd h
 told_by r x told Running h = absurd h
 
-pub told_rest : (r : Refusal) (x : State) (told : Reply) → IsReplied told x.status → told ≡ reply (rest r x [])
-unfolding rest
-told_rest r x told h = told_by r x told x.status h
+pub told_total : (r : Refusal) (x : State) (told : Reply) → IsReplied told x.status → told ≡ reply (total x r []).outcome
+unfolding total
+told_total r x told h = told_by r x told x.status h
 
 -- a refusal for later is the same before any pushes
 later_before : (p : ℕ) (r : Refusal) → IsLater r → before_pushes p r ≡ r
 later_before p Never h = before_never p
 later_before p (After zero pushes) h = absurd h
 later_before p (After (suc inputs) pushes) h = before_later p inputs pushes
-
-open_path : (setup : Setup) (callers : List Position) (request : Request) (positions : List Position) (inputs : List Input) → path_behind setup callers (RequestEnd request positions inputs) ≡ []
-open_path setup [] request positions inputs = refl
-open_path setup (caller ∷ callers) request positions inputs = refl
 
 -- ---- from where an evaluation came, or fell, to what its call answers
 
@@ -50,19 +45,13 @@ module _ (old : State) (totals : Refusal → List Input → Total) (new : State)
   later_total : (h : Reaches old totals new) (r : Refusal) (inputs : List Input) → IsLater r → totals r inputs ≡ total new r inputs
   later_total h r inputs l = ap (λ (q : Refusal). totals q inputs) (sym (later_before h.pushes r l)) ∙ h.same r inputs
 
-  -- nothing is left of the path of a request that waits for an input, or of the end
-  ended_path : (status : Status) → WaitsOrIsComplete status → path_by new (with_refusal Never new.store) [] status ≡ []
-  ended_path (RequestStatus request waiting) o = open_path new.setup new.callers request (record { text = new.text; place = new.place } ∷ []) []
-  ended_path (CompleteStatus value) o = refl
-  ended_path Running o = absurd o
-  ended_path (Start initial_value) o = absurd o
-  ended_path (FaultStatus error) o = absurd o
-
-  open_count : WaitsOrIsComplete new.status → (total new Never []).count ≡ new.store.count
-  unfolding path
-  open_count o =
-      let none : length (path_by new (with_refusal Never new.store) [] new.status) ≡ 0 = ap length (ended_path new.status o) in
-      omega (arith, none)
+  -- nothing more is counted in a request that waits for an input, or at the end
+  open_count : (status : Status) → new.status ≡ status → WaitsOrIsComplete status → (total new Never []).count ≡ new.store.count
+  open_count (RequestStatus request waiting) e o = ap (λ (z : Total). z.count) (total_open Never new request waiting e)
+  open_count (CompleteStatus value) e o = ap (λ (z : Total). z.count) (total_complete Never new [] value e)
+  open_count Running e o = absurd o
+  open_count (Start initial_value) e o = absurd o
+  open_count (FaultStatus error) e o = absurd o
 
   came_follows : WaitsOrIsComplete new.status → Reaches old totals new → IsReplied told new.status → IsAtRest new → Follows old totals told new
   came_follows o h t rests =
@@ -70,8 +59,8 @@ module _ (old : State) (totals : Refusal → List Input → Total) (new : State)
       record {
         refusal = Never;
         may = tt;
-        reply = told_rest Never new told t ∙ ap (λ (z : Total). reply z.outcome) here;
-        count = sym (open_count o) ∙ ap (λ (z : Total). z.count) here;
+        reply = told_total Never new told t ∙ ap (λ (z : Total). reply z.outcome) here;
+        count = sym (open_count new.status refl o) ∙ ap (λ (z : Total). z.count) here;
         status = t;
         rests = rests;
         more = λ open_now r inputs l. later_total h r inputs l;
@@ -105,26 +94,14 @@ module _ (old : State) (totals : Refusal → List Input → Total) (new : State)
 
 -- ---- `evaluate` from the start
 
--- the course of a text from its beginning
+-- the total of a text from its beginning
 abbrev begun : State → List Input → Result Store Fault → Total
-begun x inputs z = let course = course_from x.setup x.text inputs z in closed (unwound x.setup [] course.end) (x.store.count + length course.path)
-
-outer_path : (setup : Setup) (end : End) → path_behind setup [] end ≡ []
-outer_path setup (CompleteEnd s inputs) = refl
-outer_path setup (RequestEnd request positions inputs) = refl
-outer_path setup (FaultEnd fault) = refl
-
-outermost : (n : ℕ) (setup : Setup) (course : Course) → closed (unwound setup [] course.end) (n + length course.path) ≡ through n setup [] course
-outermost n setup course =
-    ap (λ (p : List Position). closed (unwound setup [] course.end) (n + length p))
-    (sym (append-nil course.path) ∙ ap (λ (p : List Position). course.path ++ p) (sym (outer_path setup course.end)))
+begun x inputs z = total_of_course x.store.count x.setup [] (after_push (run x.setup) (record { text = x.text; place = 0 }) 0 inputs z)
 
 begun_started : (x : State) (inputs : List Input) (z : Result Store Fault) → x.place ≡ 0 → x.callers ≡ [] → begun x inputs z ≡ started_total x inputs z
-begun_started x inputs (Ok s) place callers =
-    outermost x.store.count x.setup (run x.setup x.text 0 0 s inputs)
-    ∙ (ap (λ (p : ℕ). through x.store.count x.setup [] (run x.setup x.text p 0 s inputs)) (sym place)
-    ∙ ap (λ (fs : List Position). through x.store.count x.setup fs (run x.setup x.text x.place (length fs) s inputs)) (sym callers))
-begun_started x inputs (Err fault) place callers = refl
+begun_started x inputs z place callers =
+    ap (λ (p : ℕ). total_of_course x.store.count x.setup [] (after_push (run x.setup) (record { text = x.text; place = p }) 0 inputs z)) (sym place)
+    ∙ ap (λ (fs : List Position). total_of_course x.store.count x.setup fs (after_push (run x.setup) (record { text = x.text; place = x.place }) (length fs) inputs z)) (sym callers)
 
 meaning_total : (x : State) (initial_value : Option ℕ) → x.status ≡ Start initial_value → IsFresh x initial_value → (r : Refusal) (inputs : List Input) → means x initial_value r inputs ≡ total x r inputs
 unfolding meaning

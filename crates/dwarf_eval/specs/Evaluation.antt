@@ -10,11 +10,10 @@ use Rattle.dwarf_meaning.specs.Requests as requests
 use Rattle.dwarf_meaning.specs.Requests.{Input}
 use Rattle.dwarf_meaning.specs.Refusals.{IsLater, MayPick, Refusal}
 use Rattle.dwarf_meaning.specs.Meaning.{course_of, meaning}
-use Rattle.dwarf_meaning.specs.Rest.{State, Status, Start, Running, RequestStatus, CompleteStatus, FaultStatus}
+use Rattle.dwarf_meaning.specs.Rest.{State, Status, Start, Running, RequestStatus, CompleteStatus, FaultStatus, Total, total, total_after}
 use Rattle.dwarf_meaning.specs.Steps.{Reply, CompleteReply, RequestReply, FaultReply, reply}
 use Rattle.dwarf_op.specs.Views.{reference_of}
 use Rattle.dwarf_meaning.specs.Bounds.{Spends}
-use Rattle.dwarf_meaning.specs.Paths.{Total, total, total_after}
 use Rattle.dwarf_eval.specs.declared.op.results.EvaluationResult.{EvaluationResult}
 use Rattle.dwarf_eval.specs.declared.op.results.EvaluationResult.TheVariants as result
 

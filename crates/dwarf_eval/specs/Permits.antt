@@ -1,6 +1,6 @@
 -- What resumes are given, and where an evaluation stands as its caller sees it.
 pub use Rattle.dwarf_machine.specs.Answers.{answer_of, IsWaitingFor, IsWaitingTo}
-use Rattle.std.specs.Prelude.{ℕ, ◌≡◌, ◌<◌, Bool, true, false, None, Result, IfOk, is_some}
+use Rattle.std.specs.Prelude.{ℕ, ◌≡◌, ◌<◌, Bool, true, false, [], None, Result, IfOk, is_some}
 use Rattle.dwarf_base.specs.declared.errors.Error.{Error}
 use Rattle.dwarf_base.specs.Reads.{Text}
 use Rattle.dwarf_meaning.specs.Kinds.{kind_of_request, kind_of_waiting}
@@ -8,11 +8,10 @@ use Rattle.dwarf_meaning.specs.Requests.{Answer}
 use Rattle.dwarf_meaning.specs.Rest as rest
 use Rattle.dwarf_meaning.specs.Rest.{Start, Running, RequestStatus, CompleteStatus, FaultStatus}
 use Rattle.dwarf_meaning.specs.Bounds.{calls_left}
-use Rattle.dwarf_eval.specs.Evaluation.{IsClosed, IsComplete, Resumes, input_of}
+use Rattle.dwarf_meaning.specs.Steps.{Reply, CompleteReply, RequestReply, FaultReply}
+use Rattle.dwarf_eval.specs.Evaluation.{IsClosed, IsComplete, Resumes, input_of, ok_reply}
 use Rattle.dwarf_eval.specs.declared.op.results.EvaluationResult.{EvaluationResult}
-use Rattle.dwarf_eval.specs.declared.op.results.EvaluationResult.TheVariants as result
 use Rattle.dwarf_meaning.specs.declared.kinds.WaitingKind.{WaitingKind}
-use Rattle.dwarf_meaning.specs.declared.kinds.WaitingKind.TheVariants as kind
 use Rattle.dwarf_eval.specs.declared.eval.states.Status.{Status}
 use Rattle.dwarf_eval.specs.declared.eval.states.Status.TheVariants as status
 
@@ -44,23 +43,15 @@ Permits s (status.Waiting kind) = IsOpenFor kind s
 Permits s status.Complete = IsComplete s
 Permits s (status.Failed error) = (kind : WaitingKind) → IsOpenFor kind s
 
--- which call a result permits, as its condition asks: the resume of its kind, or the results
+-- which call a reply permits, as its condition asks: the results, or the resume of the kind that is asked for
+abbrev pub AdmitsReply : Reply → rest.Status → Type 0
+AdmitsReply CompleteReply s = IsComplete s
+AdmitsReply (RequestReply request) s = IsOpenFor (kind_of_request request) s
+AdmitsReply (FaultReply fault) s = Unit {0}
+
+-- the same of a result, whatever its texts and offsets are
 abbrev pub Admits : {R O P : Type 0} → EvaluationResult R O P → rest.Status → Type 0
-Admits result.Complete s = IsComplete s
-Admits (result.RequiresMemory address size space base_type) s = IsOpenFor kind.Memory s
-Admits (result.RequiresRegister register base_type) s = IsOpenFor kind.Register s
-Admits (result.RequiresWasmLocal index) s = IsOpenFor kind.WasmValue s
-Admits (result.RequiresWasmGlobal index) s = IsOpenFor kind.WasmValue s
-Admits (result.RequiresWasmStack index) s = IsOpenFor kind.WasmValue s
-Admits result.RequiresFrameBase s = IsOpenFor kind.FrameBase s
-Admits (result.RequiresTls index) s = IsOpenFor kind.Tls s
-Admits result.RequiresCallFrameCfa s = IsOpenFor kind.CallFrameCfa s
-Admits (result.RequiresAtLocation offset) s = IsOpenFor kind.AtLocation s
-Admits (result.RequiresEntryValue expression) s = IsOpenFor kind.EntryValue s
-Admits (result.RequiresParameterRef offset) s = IsOpenFor kind.ParameterRef s
-Admits (result.RequiresRelocatedAddress address) s = IsOpenFor kind.RelocatedAddress s
-Admits (result.RequiresIndexedAddress index relocate) s = IsOpenFor kind.IndexedAddress s
-Admits (result.RequiresBaseType base_type) s = IsOpenFor kind.BaseType s
+Admits replied s = AdmitsReply (ok_reply (λ reader. record { bytes = []; is_big = false }) (λ offset. 0) replied) s
 
 -- A resume with this answer: it goes on by it, or gives the fault that was met; a reply permits the call that it asks
 -- for, and fewer resumes are left.

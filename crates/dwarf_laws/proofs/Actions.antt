@@ -86,13 +86,13 @@ module _ (w : ℕ) where
   act_both object object' (operation.Pick index) values others o h =
       some_pair (AgreeingActs w) (Agree w) _ _ _ _ _ _ (get_both (Agree w) index h) refuses
       (λ x x' a. pushes_one values others x x' h a)
-  act_both object object' operation.Swap values others o h =
-      top_acts values others _ _ h (λ y y' below below' a b. top_acts below below' _ _ b
-      (λ x x' rest rest' c d. pushes d (more a (more c none))))
-  act_both object object' operation.Rot values others o h =
-      top_acts values others _ _ h (λ z z' below below' a b. top_acts below below' _ _ b
-      (λ y y' lower lower' c d. top_acts lower lower' _ _ d
-      (λ x x' rest rest' e f. pushes f (more a (more e (more c none))))))
+  act_both object object' operation.Swap values others o none = refuses
+  act_both object object' operation.Swap values others o (more a none) = refuses
+  act_both object object' operation.Swap values others o (more a (more c d)) = pushes d (more a (more c none))
+  act_both object object' operation.Rot values others o none = refuses
+  act_both object object' operation.Rot values others o (more a none) = refuses
+  act_both object object' operation.Rot values others o (more a (more c none)) = refuses
+  act_both object object' operation.Rot values others o (more a (more c (more e f))) = pushes f (more a (more e (more c none)))
   act_both object object' operation.Abs values others o h = unary_acts (abs_of w) values others (abs_of-Agree w) h
   act_both object object' operation.Neg values others o h = unary_acts (neg_of w) values others (neg_of-Agree w) h
   act_both object object' operation.Not values others o h = unary_acts (not_of w) values others (not_of-Agree w) h

@@ -11,8 +11,8 @@ use Rattle.dwarf_meaning.specs.Splitting as splitting
 use Rattle.dwarf_meaning.specs.Requests.{Request, RequiresAtLocation, AtLocation, Input}
 use Rattle.dwarf_meaning.specs.Acts.{use_of}
 use Rattle.dwarf_meaning.specs.Stores.{Setup, Store, Last, Nothing, Plain, Pieced, Pushed, Called, Located, push_caller, push_value, push_piece}
-use Rattle.dwarf_meaning.specs.Run.{Position, End, CompleteEnd, RequestEnd, FaultEnd, Course, add_to_path, add_request, return_to_caller, run_callee, await_answer, counted, run}
-use Rattle.dwarf_meaning.specs.Meaning.{Outcome, RequestOutcome, FaultOutcome, CompleteOutcome, First, finish, finish_by, unwound, fresh, with_initial, course_from, course_of, meaning}
+use Rattle.dwarf_meaning.specs.Run.{Position, End, CompleteEnd, RequestEnd, FaultEnd, Course, add_to_path, add_request, return_to_caller, after_push, run_callee, await_answer, counted, run}
+use Rattle.dwarf_meaning.specs.Meaning.{Outcome, RequestOutcome, FaultOutcome, CompleteOutcome, First, finish, finish_by, fresh, with_initial, outcome_of_end, course_of, meaning}
 use Rattle.dwarf_meaning.specs.Refusals.{Never}
 use Rattle.dwarf_laws.specs.Inlining as inlining
 use Rattle.dwarf_laws.specs.Inlining.{CallSite, in_force, answered, with_answer, HasNoLimits, StandsIn, IsInlinable, LeadsToCall, EndAlike, LacksOne, IsInlined, Inlining}
@@ -112,18 +112,18 @@ module _ (encoding : Encoding) (bits : ℕ) where
   alike (CompleteOutcome pieces value) h = inlining.completions
 
   outcomes : (front : List Request) (end : End) (requests : List Request) (end' : End)
-      → EndsAt front end requests end' → ((fault : Fault) → unwound S [] end ≢ FaultOutcome fault)
-      → EndAlike (unwound S [] end) (unwound S [] end')
+      → EndsAt front end requests end' → ((fault : Fault) → outcome_of_end S end ≢ FaultOutcome fault)
+      → EndAlike (outcome_of_end S end) (outcome_of_end S end')
   outcomes front (CompleteEnd s inputs) requests end' h clean =
-      let e : unwound S [] (CompleteEnd s inputs) ≡ unwound S [] end' = ap (finish S) h.is
-      ∙ (same_finish h.store h.store.last ∙ sym (ap (unwound S []) h.last)) in
-      subst (λ (o : Outcome). EndAlike (unwound S [] (CompleteEnd s inputs)) o) e (alike _ clean)
+      let e : outcome_of_end S (CompleteEnd s inputs) ≡ outcome_of_end S end' = ap (finish S) h.is
+      ∙ (same_finish h.store h.store.last ∙ sym (ap (outcome_of_end S) h.last)) in
+      subst (λ (o : Outcome). EndAlike (outcome_of_end S (CompleteEnd s inputs)) o) e (alike _ clean)
   outcomes front (RequestEnd request positions inputs) requests end' h clean =
-      subst (λ (x : End). EndAlike (unwound S [] (RequestEnd request positions inputs)) (unwound S [] x)) (sym h.is) inlining.requests
+      subst (λ (x : End). EndAlike (outcome_of_end S (RequestEnd request positions inputs)) (outcome_of_end S x)) (sym h.is) inlining.requests
   outcomes front (FaultEnd fault) requests end' h clean = absurd (clean fault refl)
 
   same_requests : (front : List Request) (end : End) (requests : List Request) (end' : End)
-      → EndsAt front end requests end' → ((fault : Fault) → unwound S [] end ≢ FaultOutcome fault) → requests ≡ front
+      → EndsAt front end requests end' → ((fault : Fault) → outcome_of_end S end ≢ FaultOutcome fault) → requests ≡ front
   same_requests front (CompleteEnd s inputs) requests end' h clean = h.same
   same_requests front (RequestEnd request positions inputs) requests end' h clean = h.same
   same_requests front (FaultEnd fault) requests end' h clean = absurd (clean fault refl)
@@ -226,7 +226,8 @@ module _ (encoding : Encoding) (bits : ℕ) where
     started (Some number) first = record (fresh first Never) { values = Generic number ∷ [] }
 
     starts : (o : Option ℕ) (first : First) (text : Text) (inputs : List Input)
-        → course_from S text inputs (with_initial S o (fresh first Never)) ≡ run S text 0 0 (calm (started o first)) inputs
+        → after_push (run S) (record { text = text; place = 0 }) 0 inputs (with_initial S o (fresh first Never))
+        ≡ run S text 0 0 (calm (started o first)) inputs
     unfolding started push_value
     starts None first text inputs = refl
     starts (Some number) first text inputs = refl
@@ -340,13 +341,13 @@ module _ (encoding : Encoding) (bits : ℕ) where
               fault) → IsInlined S site offset first earlier later requests
           unfolding meaning
           is_inlined faultless =
-              let clean : (fault : Fault) → unwound S [] first_rest.end ≢ FaultOutcome fault = subst
-              (λ (e : End). (fault : Fault) → unwound S [] e ≢ FaultOutcome fault) whole_end faultless in
+              let clean : (fault : Fault) → outcome_of_end S first_rest.end ≢ FaultOutcome fault = subst
+              (λ (e : End). (fault : Fault) → outcome_of_end S e ≢ FaultOutcome fault) whole_end faultless in
               let alike_ends = outcomes first_rest.requests first_rest.end second_rest.requests second_rest.end rests clean in
               record {
                 ends =
-                    subst (λ (e : End). EndAlike (unwound S [] e) (unwound S [] short.end)) (sym whole_end)
-                    (subst (λ (e : End). EndAlike (unwound S [] first_rest.end) (unwound S [] e)) (sym short_end) alike_ends);
+                    subst (λ (e : End). EndAlike (outcome_of_end S e) (outcome_of_end S short.end)) (sym whole_end)
+                    (subst (λ (e : End). EndAlike (outcome_of_end S first_rest.end) (outcome_of_end S e)) (sym short_end) alike_ends);
                 asks = record {
                   later = first_rest.requests;
                   with_it = whole_requests;

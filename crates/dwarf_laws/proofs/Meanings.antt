@@ -1,5 +1,5 @@
 -- The outcome of two runs of one text.
-use Rattle.std.proofs.Common.{ℕ, ◌≡◌, ◌≢◌, ap, refl, ◌⊎◌, List, [], Option, Some, None, Result}
+use Rattle.std.proofs.Common.{ℕ, ◌≡◌, ◌≢◌, ap, refl, ◌⊎◌, List, Option, Some, None, Result}
 use Rattle.dwarf_base.specs.Faults.{Fault}
 use Rattle.dwarf_base.specs.declared.errors.Error.TheVariants.{StackFull}
 use Rattle.dwarf_base.specs.Reads.{Text}
@@ -9,9 +9,9 @@ use Rattle.dwarf_value.specs.Laws.{IsWidth}
 use Rattle.dwarf_value.proofs.Agreements.{Agree-Generic}
 use Rattle.dwarf_meaning.specs.Locations.{Location, Piece}
 use Rattle.dwarf_meaning.specs.Requests.{Input}
-use Rattle.dwarf_meaning.specs.Stores.{Setup, address_bits, Store, Last}
-use Rattle.dwarf_meaning.specs.Run.{End, Course}
-use Rattle.dwarf_meaning.specs.Meaning.{Outcome, FaultOutcome, completion_of, has_pieces, finish_located, finish_value, finish_judged, finish_free, finish_by, unwound, First, fresh, with_initial, course_from, course_of, meaning}
+use Rattle.dwarf_meaning.specs.Stores.{Setup, address_bits, Store, Last, Nothing, Plain, Located}
+use Rattle.dwarf_meaning.specs.Run.{End, Course, after_push, run}
+use Rattle.dwarf_meaning.specs.Meaning.{Outcome, FaultOutcome, completion_of, has_pieces, finish_value, finish_by, First, fresh, with_initial, outcome_of_end, course_of, meaning}
 use Rattle.dwarf_meaning.specs.Refusals.{Limits, Refusal}
 use Rattle.dwarf_laws.specs.Agreement.{Pairwise, none, more, Both, nothing, something, AgreeingNumbers, AgreeingFirsts, AgreeingInputs, AgreeingLocations, AgreeingPieces, AgreeingOutcomes, requests, faults, completions}
 use Rattle.dwarf_laws.proofs.Pairs.{choose_pair, top_pair}
@@ -57,7 +57,7 @@ module _ (Free : Type 0) (setup : Setup) (limits : Limits) (premise : Free ⊎ (
   completed_both value value' r r' a (result_second free) = full_second free refl
 
   located_both : (location location' : Location) (s t : Store) → AgreeingLocations w location location'
-      → AgreeingStores Free w s t → AgreeUnlessFull Free w (finish_located setup location s) (finish_located other location' t)
+      → AgreeingStores Free w s t → AgreeUnlessFull Free w (finish_by setup s (Located location)) (finish_by other t (Located location'))
   located_both location location' s t l h =
       choose_pair (AgreeUnlessFull Free w) _ _ _ _ _ _ (same_has w _ _ h.pieces) (agree faults)
       (completed_both None None _ _ nothing (push_piece_both Free setup limits premise _ _ s t
@@ -70,10 +70,10 @@ module _ (Free : Type 0) (setup : Setup) (limits : Limits) (premise : Free ⊎ (
       (push_piece_both Free setup limits premise _ _ (record s { values = rest }) (record t { values = rest' })
       (record { sizes = refl; offsets = refl; locations = same_addresses w x x' a }) (changed h b h.last)))
 
-  judged_both : (s t : Store) → AgreeingStores Free w s t → AgreeUnlessFull Free w (finish_judged setup s) (finish_judged other t)
+  judged_both : (s t : Store) → AgreeingStores Free w s t → AgreeUnlessFull Free w (finish_by setup s Plain) (finish_by other t Plain)
   judged_both s t h = choose_pair (AgreeUnlessFull Free w) _ _ _ _ _ _ (same_has w _ _ h.pieces) (agree faults) (value_both s t h)
 
-  free_both : (s t : Store) → AgreeingStores Free w s t → AgreeUnlessFull Free w (finish_free setup s) (finish_free other t)
+  free_both : (s t : Store) → AgreeingStores Free w s t → AgreeUnlessFull Free w (finish_by setup s Nothing) (finish_by other t Nothing)
   free_both s t h =
       choose_pair (AgreeUnlessFull Free w) _ _ _ _ _ _ (same_has w _ _ h.pieces)
       (agree (completions h.pieces nothing)) (value_both s t h)
@@ -87,22 +87,22 @@ module _ (Free : Type 0) (setup : Setup) (limits : Limits) (premise : Free ⊎ (
   by_both s t l m h both_pieced = free_both s t h
   by_both s t l m h both_called = free_both s t h
 
-  ends_both : (e e' : End) → AgreeingEnds Free w e e' → AgreeUnlessFull Free w (unwound setup [] e) (unwound other [] e')
+  ends_both : (e e' : End) → AgreeingEnds Free w e e' → AgreeUnlessFull Free w (outcome_of_end setup e) (outcome_of_end other e')
   ends_both e e' (finish_both {s = s} {t = t} h i) = by_both s t s.last t.last h h.last
   ends_both e e' ask_both = agree requests
   ends_both e e' fail_both = agree faults
 
   courses_both : (c c' : Course) → AgreeingCourses Free w c c'
-      → AgreeUnlessFull Free w (unwound setup [] c.end) (unwound other [] c'.end)
+      → AgreeUnlessFull Free w (outcome_of_end setup c.end) (outcome_of_end other c'.end)
   courses_both c c' (courses p q h) = ends_both c.end c'.end h
-  courses_both c c' (course_first free e) = full_first free (ap (λ (end : End). unwound setup [] end) e)
-  courses_both c c' (course_second free e) = full_second free (ap (λ (end : End). unwound other [] end) e)
+  courses_both c c' (course_first free e) = full_first free (ap (λ (end : End). outcome_of_end setup end) e)
+  courses_both c c' (course_second free e) = full_second free (ap (λ (end : End). outcome_of_end other end) e)
 
-  same_paths : (c c' : Course) → AgreeingCourses Free w c c' → IsClear Free (unwound setup [] c.end)
-      → IsClear Free (unwound other [] c'.end) → c.path ≡ c'.path
+  same_paths : (c c' : Course) → AgreeingCourses Free w c c' → IsClear Free (outcome_of_end setup c.end)
+      → IsClear Free (outcome_of_end other c'.end) → c.path ≡ c'.path
   same_paths c c' (courses p q h) i j = p
-  same_paths c c' (course_first free e) i j = absurd (i free (ap (λ (end : End). unwound setup [] end) e))
-  same_paths c c' (course_second free e) i j = absurd (j free (ap (λ (end : End). unwound other [] end) e))
+  same_paths c c' (course_first free e) i j = absurd (i free (ap (λ (end : End). outcome_of_end setup end) e))
+  same_paths c c' (course_second free e) i j = absurd (j free (ap (λ (end : End). outcome_of_end other end) e))
 
   -- ---- the start
 
@@ -125,8 +125,9 @@ module _ (Free : Type 0) (setup : Setup) (limits : Limits) (premise : Free ⊎ (
         }
 
     from_both : (inputs inputs' : List Input) (r r' : Result Store Fault) → Pairwise (AgreeingInputs w) inputs inputs'
-        → AgreeingResults Free w r r' → AgreeingCourses Free w (course_from setup text inputs r)
-        (course_from other text inputs' r')
+        → AgreeingResults Free w r r' → AgreeingCourses Free w
+        (after_push (run setup) (record { text = text; place = 0 }) 0 inputs r)
+        (after_push (run other) (record { text = text; place = 0 }) 0 inputs' r')
     from_both inputs inputs' r r' i (stores h) = run_both Free setup limits premise width text 0 0 _ _ inputs inputs' h i
     from_both inputs inputs' r r' i refusals = courses refl refl fail_both
     from_both inputs inputs' r r' i (result_first free) = course_first free refl

@@ -11,7 +11,7 @@ use Rattle.dwarf_meaning.specs.Requests.{Request, Waiting, Input}
 use Rattle.dwarf_meaning.specs.Acts.{on_top, Act, Pushes, Branches, Locates, EndsPiece, RequestAct, FaultAct, Use, PushesAnswer, Calls, FaultUse, WrongKind, use_of}
 use Rattle.dwarf_meaning.specs.Stores.{Setup, address_bits, Store, Last, Nothing, Plain, Pieced, Pushed, Called, Located, push_value, push_piece, push_caller, push_values, Next, Goes, RequestNext, FaultNext, goes, done}
 use Rattle.dwarf_meaning.specs.Run.{Position, End, CompleteEnd, RequestEnd, FaultEnd, Course, only_end, add_to_path, add_request, append_course, Continues, return_to_caller, after_push, enter_callee, run_callee, after_answer, with_input, await_answer, after_operation, read, can_count, counted, do_operation, turn_counted, piece_ended_by, end_located, turn_located, turn_by, turn, out_of_turns, run_for, enough}
-use Rattle.dwarf_meaning.specs.Meaning.{Outcome, FaultOutcome, completion_of, finish_located, finish_value, finish_judged, finish_free, finish_by, unwound, First, fresh, with_initial, course_from, meaning}
+use Rattle.dwarf_meaning.specs.Meaning.{Outcome, FaultOutcome, completion_of, finish_value, finish_by, First, fresh, with_initial, outcome_of_end, meaning}
 use Rattle.dwarf_meaning.specs.Refusals.{Refusal, Never}
 use Rattle.dwarf_laws.proofs.Pairs.{choose_pair}
 use Rattle.dwarf_laws.proofs.Holdings.{IsRoom, is_left, is_full, spent_is}
@@ -219,8 +219,8 @@ module _ (encoding : Encoding) (bits : ℕ) where
   completed_calm value r r' stores = inr refl
   completed_calm value r r' no_stores = inl refl
 
-  located_calm : (location : Location) (s : Store) → CalmOutcomes (finish_located S location s)
-      (finish_located S location (calm s))
+  located_calm : (location : Location) (s : Store) → CalmOutcomes (finish_by S s (Located location))
+      (finish_by S (calm s) (Located location))
   located_calm location s = choose_pair CalmOutcomes _ _ _ _ _ _ refl (inr refl) (completed_calm None _ _ (piece_calm _ s))
 
   top_calm : (s : Store) (values : List Value) → s.values ≡ values → CalmOutcomes (finish_value S s) (finish_value S (calm s))
@@ -234,10 +234,10 @@ module _ (encoding : Encoding) (bits : ℕ) where
       at [] = inr refl
       at (x ∷ rest) = completed_calm (Some x) _ _ (piece_calm _ (record s { values = rest }))
 
-  judged_calm : (s : Store) → CalmOutcomes (finish_judged S s) (finish_judged S (calm s))
+  judged_calm : (s : Store) → CalmOutcomes (finish_by S s Plain) (finish_by S (calm s) Plain)
   judged_calm s = choose_pair CalmOutcomes _ _ _ _ _ _ refl (inr refl) (top_calm s s.values refl)
 
-  free_calm : (s : Store) → CalmOutcomes (finish_free S s) (finish_free S (calm s))
+  free_calm : (s : Store) → CalmOutcomes (finish_by S s Nothing) (finish_by S (calm s) Nothing)
   free_calm s = choose_pair CalmOutcomes _ _ _ _ _ _ refl (inr refl) (top_calm s s.values refl)
 
   finished_calm : (s : Store) (l : Last) → CalmOutcomes (finish_by S s l) (finish_by S (calm s) l)
@@ -248,23 +248,18 @@ module _ (encoding : Encoding) (bits : ℕ) where
   finished_calm s Pieced = free_calm s
   finished_calm s Called = free_calm s
 
-  ends_calm : (e e' : End) → CalmEnds e e' → CalmOutcomes (unwound S [] e) (unwound S [] e')
+  ends_calm : (e e' : End) → CalmEnds e e' → CalmOutcomes (outcome_of_end S e) (outcome_of_end S e')
   ends_calm e e' (finish_calm {s = s}) = finished_calm s s.last
   ends_calm e e' ask_calm = inr refl
   ends_calm e e' fail_calm = inr refl
 
-  courses_calm : (c c' : Course) → Calms c c' → CalmOutcomes (unwound S [] c.end) (unwound S [] c'.end)
+  courses_calm : (c c' : Course) → Calms c c' → CalmOutcomes (outcome_of_end S c.end) (outcome_of_end S c'.end)
   courses_calm c c' (calms p q h) = ends_calm c.end c'.end h
-  courses_calm c c' (full e) = inl (ap (λ (end : End). unwound S [] end) e)
+  courses_calm c c' (full e) = inl (ap (λ (end : End). outcome_of_end S end) e)
 
   initial_calm : (m : Option ℕ) (s : Store) → CalmResults (with_initial S m s) (with_initial S m (calm s))
   initial_calm None s = stores
   initial_calm (Some number) s = value_calm _ s
-
-  from_calm : (text : Text) (inputs : List Input) (r r' : Result Store Fault) → CalmResults r r'
-      → Calms (course_from S text inputs r) (course_from S text inputs r')
-  from_calm text inputs r r' (stores {s = s}) = run_for_calm enough text 0 0 s inputs
-  from_calm text inputs r r' no_stores = full refl
 
   -- a push was refused, or it is its outcome without a refusal
   pub meaning_calm : (refusal : Refusal) (text : Text) (first : First) (inputs : List Input)
@@ -272,4 +267,6 @@ module _ (encoding : Encoding) (bits : ℕ) where
       Never text first inputs)
   unfolding meaning
   meaning_calm refusal text first inputs =
-      courses_calm _ _ (from_calm text inputs _ _ (initial_calm first.initial_value (fresh first refusal)))
+      courses_calm _ _
+      (resumed_calm (run_for enough S) (run_for enough S) (run_for_calm enough) (record { text = text; place = 0 }) 0 inputs _ _
+      (initial_calm first.initial_value (fresh first refusal)))

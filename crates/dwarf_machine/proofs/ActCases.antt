@@ -7,7 +7,7 @@ use Rattle.dwarf_value.specs.declared.types.Value.{Value}
 use Rattle.dwarf_value.specs.declared.types.Value.TheVariants.{Generic}
 use Rattle.dwarf_value.specs.Values.{to_u64_of}
 use Rattle.dwarf_meaning.specs.Operations as operation
-use Rattle.dwarf_meaning.specs.Locations.{Empty, AtAddress, HoldsValue, Piece}
+use Rattle.dwarf_meaning.specs.Locations.{Empty, AtAddress, HoldsValue, Piece, sized}
 use Rattle.dwarf_meaning.specs.Requests.{RequiresMemory, RequiresTls, Memory, Tls}
 use Rattle.dwarf_meaning.specs.Acts.{Act, Pushes, Branches, Locates, EndsPiece, RequestAct, FaultAct, choose, on_top, short, push, act}
 use Rattle.dwarf_meaning.proofs.Choices.{choose_true, choose_false, top_none, top_some, some_none, some_some}
@@ -32,46 +32,35 @@ module _ (bits : ℕ) (object : Option ℕ) (values : List Value) where
 
   pub none_swap : values ≡ [] → act bits object operation.Swap values ≡ FaultAct NotEnoughStackItems
   unfolding act
-  none_swap e = top_none values short (λ y below. on_top below short (λ x rest. Pushes rest (y ∷ x ∷ []))) e
+  none_swap e = ap (act bits object operation.Swap) e
 
   pub one_swap : (y : Value) → values ≡ y ∷ [] → act bits object operation.Swap values ≡ FaultAct NotEnoughStackItems
   unfolding act
-  one_swap y e =
-      top_some values short (λ y below. on_top below short (λ x rest. Pushes rest (y ∷ x ∷ []))) y [] e
-      ∙ top_none [] short (λ x rest. Pushes rest (y ∷ x ∷ [])) refl
+  one_swap y e = ap (act bits object operation.Swap) e
 
   pub two_swap : (y x : Value) (rest : List Value) → values ≡ y ∷ x ∷ rest → act bits object operation.Swap values ≡ Pushes rest (y ∷ x ∷ [])
   unfolding act
-  two_swap y x rest e =
-      top_some values short (λ y below. on_top below short (λ x rest. Pushes rest (y ∷ x ∷ []))) y (x ∷ rest) e
-      ∙ top_some (x ∷ rest) short (λ x rest. Pushes rest (y ∷ x ∷ [])) x rest refl
+  two_swap y x rest e = ap (act bits object operation.Swap) e
 
   pub signed_constant : (value : ℤ) (number : ℕ) → number ≡ residue 64 value → act bits object (operation.SignedConstant value) values ≡ push values (Generic number)
   unfolding act
   signed_constant value number e = ap (λ (n : ℕ). push values (Generic n)) (sym e)
 
-  abbrev third : Value → Value → List Value → Act
-  third z y lower = on_top lower short (λ x rest. Pushes rest (z ∷ x ∷ y ∷ []))
-
   pub none_rot : values ≡ [] → act bits object operation.Rot values ≡ FaultAct NotEnoughStackItems
   unfolding act
-  none_rot e = top_none values short (λ z below. on_top below short (third z)) e
+  none_rot e = ap (act bits object operation.Rot) e
 
   pub one_rot : (z : Value) → values ≡ z ∷ [] → act bits object operation.Rot values ≡ FaultAct NotEnoughStackItems
   unfolding act
-  one_rot z e = top_some values short (λ z below. on_top below short (third z)) z [] e ∙ top_none [] short (third z) refl
+  one_rot z e = ap (act bits object operation.Rot) e
 
   pub two_rot : (z y : Value) → values ≡ z ∷ y ∷ [] → act bits object operation.Rot values ≡ FaultAct NotEnoughStackItems
   unfolding act
-  two_rot z y e =
-      top_some values short (λ z below. on_top below short (third z)) z (y ∷ []) e
-      ∙ (top_some (y ∷ []) short (third z) y [] refl ∙ top_none [] short (λ x rest. Pushes rest (z ∷ x ∷ y ∷ [])) refl)
+  two_rot z y e = ap (act bits object operation.Rot) e
 
   pub three_rot : (z y x : Value) (rest : List Value) → values ≡ z ∷ y ∷ x ∷ rest → act bits object operation.Rot values ≡ Pushes rest (z ∷ x ∷ y ∷ [])
   unfolding act
-  three_rot z y x rest e =
-      top_some values short (λ z below. on_top below short (third z)) z (y ∷ x ∷ rest) e
-      ∙ (top_some (y ∷ x ∷ rest) short (third z) y (x ∷ rest) refl ∙ top_some (x ∷ rest) short (λ x rest. Pushes rest (z ∷ x ∷ y ∷ [])) x rest refl)
+  three_rot z y x rest e = ap (act bits object operation.Rot) e
 
   pub none_object : object ≡ None → act bits object operation.PushObjectAddress values ≡ FaultAct InvalidPushObjectAddress
   unfolding act
@@ -114,10 +103,10 @@ module _ (bits : ℕ) (object : Option ℕ) (values : List Value) where
 
   module _ (size : ℕ) (offset : Option ℕ) where
     abbrev piece_nowhere : Piece
-    piece_nowhere = record { size_in_bits = Some size; bit_offset = offset; location = Empty }
+    piece_nowhere = sized size offset Empty
 
     abbrev piece_at : ℕ → Piece
-    piece_at address = record { size_in_bits = Some size; bit_offset = offset; location = AtAddress address }
+    piece_at address = sized size offset (AtAddress address)
 
     pub none_piece : values ≡ [] → act bits object (operation.Piece size offset) values ≡ EndsPiece [] piece_nowhere
     unfolding act

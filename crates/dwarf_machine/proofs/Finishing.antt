@@ -13,7 +13,7 @@ use Rattle.dwarf_meaning.specs.RunLaws.{waits_of}
 use Rattle.dwarf_meaning.specs.Stores.{Setup, address_bits, Store, Last, Nothing, Plain, Pieced, Pushed, Called, Located, push_piece}
 use Rattle.dwarf_meaning.specs.Run.{Position, CompleteEnd, only_end, turn_by, run}
 use Rattle.dwarf_meaning.specs.Meaning.{Outcome, FaultOutcome, CompleteOutcome, completion_of, has_pieces, whole, finish_value, finish_by, finish}
-use Rattle.dwarf_meaning.specs.Rest.{State, Status, Start, Running, RequestStatus, CompleteStatus, FaultStatus, with_refusal}
+use Rattle.dwarf_meaning.specs.Rest.{State, Status, Start, Running, RequestStatus, CompleteStatus, FaultStatus, with_refusal, total_of_course}
 use Rattle.dwarf_meaning.specs.Refusals.{Refusal, Never, before_pushes}
 use Rattle.dwarf_meaning.proofs.Choices.{choose_true, choose_false, top_none, top_some}
 use Rattle.dwarf_meaning.proofs.Counts.{HasTally, OnStore, Tally, tally_of, tally-push_piece}
@@ -27,7 +27,7 @@ use Rattle.dwarf_machine.proofs.Loads.{Extended, piece_extends}
 use Rattle.dwarf_machine.proofs.Nearing.{nears_by}
 use Rattle.dwarf_machine.proofs.Spending.{back_spends, fallen_spends, over_spends}
 use Rattle.dwarf_machine.proofs.Staying.{fewer_one, keeps_more, stays_here, stays_low, stays_more, stays_popped, stays_then}
-use Rattle.dwarf_machine.proofs.Totals.{closed, through, going, total_running, total_complete, through_end}
+use Rattle.dwarf_machine.proofs.Totals.{closed, going, total_running, total_complete, course_ended}
 use Rattle.dwarf_machine.proofs.Turning.{effort_running, less_stopped, falls_turns}
 
 -- if both are alike, one closes as the other
@@ -166,11 +166,11 @@ value_none old low new h is =
 -- ---- the end of a text
 
 module _ (x : State) (runs : x.status ≡ Running) (end : (x.place == length x.text.bytes) ≡ true) where
-  end_total : (r : Refusal) (inputs : List Input) → total x r inputs ≡ through x.store.count x.setup x.callers (only_end (CompleteEnd (with_refusal r x.store) inputs))
+  end_total : (r : Refusal) (inputs : List Input) → total x r inputs ≡ total_of_course x.store.count x.setup x.callers (only_end (CompleteEnd (with_refusal r x.store) inputs))
   end_total r inputs =
       let s : Store = with_refusal r x.store in
       total_running r x inputs runs
-      ∙ ap (through x.store.count x.setup x.callers)
+      ∙ ap (total_of_course x.store.count x.setup x.callers)
       (run_turn x.setup x.text x.place (length x.callers) s inputs
       ∙ choose_true (x.place == length x.text.bytes) (only_end (CompleteEnd s inputs)) (turn_by (run x.setup) x.setup x.text x.place (length x.callers) s inputs s.last) end)
 
@@ -188,7 +188,7 @@ module _ (x : State) (runs : x.status ≡ Running) (end : (x.place == length x.t
           pushes = 0;
           same = λ r inputs.
               end_total r inputs
-              ∙ (ap (λ (fs : List Position). through x.store.count x.setup fs (only_end (CompleteEnd (with_refusal r x.store) inputs))) h.2
+              ∙ (ap (λ (fs : List Position). total_of_course x.store.count x.setup fs (only_end (CompleteEnd (with_refusal r x.store) inputs))) h.2
               ∙ sym (total_running r new inputs still ∙ ap (λ (z : State). going z (with_refusal r z.store) inputs) h.3));
           kept = record {
             setup = ap (λ (z : State). z.setup) h.3;
@@ -205,8 +205,8 @@ module _ (x : State) (runs : x.status ≡ Running) (end : (x.place == length x.t
   outer_total : (r : Refusal) (inputs : List Input) (outcome : Outcome) → x.callers ≡ [] → finish x.setup (with_refusal r x.store) ≡ outcome → total x r inputs ≡ closed outcome x.store.count
   outer_total r inputs outcome none e =
       end_total r inputs
-      ∙ (ap (λ (fs : List Position). through x.store.count x.setup fs (only_end (CompleteEnd (with_refusal r x.store) inputs))) none
-      ∙ through_end x.store.count x.setup (with_refusal r x.store) inputs outcome e)
+      ∙ (ap (λ (fs : List Position). total_of_course x.store.count x.setup fs (only_end (CompleteEnd (with_refusal r x.store) inputs))) none
+      ∙ course_ended x.store.count x.setup (with_refusal r x.store) inputs outcome e)
 
   finish_turned : (new : State) (status : Status) → x.callers ≡ [] → new.status ≡ status → ClosesBy (waits_of x.store.last) (finish x.setup) x new status → Turns x new
   finish_turned new (CompleteStatus value) none e h = record {

@@ -5,13 +5,13 @@ use Rattle.dwarf_base.specs.declared.errors.Error.TheVariants as error
 use Rattle.dwarf_base.specs.Faults.{Fault, fault_of}
 use Rattle.dwarf_base.specs.declared.errors.Error.TheVariants.{InvalidExpressionTerminator}
 use Rattle.dwarf_meaning.specs.Operations.{Operation}
-use Rattle.dwarf_meaning.specs.Locations.{Location, Piece}
+use Rattle.dwarf_meaning.specs.Locations.{Location, Piece, sized}
 use Rattle.dwarf_meaning.specs.Requests.{Input}
 use Rattle.dwarf_meaning.specs.RunLaws.{waits_of}
 use Rattle.dwarf_meaning.specs.Stores.{Store, Last, Pieced, Located, push_piece, Next, Goes, FaultNext, goes}
 use Rattle.dwarf_meaning.specs.Run.{after_operation, end_located, turn_located, piece_ended_by, read, run, turn_by}
 use Rattle.dwarf_meaning.specs.Meaning.{FaultOutcome}
-use Rattle.dwarf_meaning.specs.Rest.{State, Running, FaultStatus, with_refusal}
+use Rattle.dwarf_meaning.specs.Rest.{State, Running, FaultStatus, with_refusal, total_of_course}
 use Rattle.dwarf_meaning.specs.Refusals.{Refusal, Never, before_pushes}
 use Rattle.dwarf_meaning.proofs.Counts.{OnStore, KeepsBoth, Tally, tally_of, both-push_piece}
 use Rattle.dwarf_base.specs.Reads.{Text}
@@ -25,7 +25,7 @@ use Rattle.dwarf_machine.proofs.Endings.{Ending, piece_ends}
 use Rattle.dwarf_machine.proofs.Loads.{Keeping, kept_in, piece_adds}
 use Rattle.dwarf_machine.proofs.Nearing.{nears_by}
 use Rattle.dwarf_machine.proofs.Spending.{fallen_spends, held_spends}
-use Rattle.dwarf_machine.proofs.Totals.{closed, through, going, total_running, through_failed}
+use Rattle.dwarf_machine.proofs.Totals.{closed, going, total_running, course_failed}
 use Rattle.dwarf_machine.proofs.Turning.{total_inside, effort_running, falls_turns}
 
 -- an operation that is no piece ends none
@@ -36,12 +36,12 @@ no_piece text number (variant.Piece size_in_bits bit_offset) other = absurd (oth
 no_piece text number op other = refl
 
 module _ (x : State) (location : Location) (runs : x.status ≡ Running) (inside : (x.place == length x.text.bytes) ≡ false) (waits : x.store.last ≡ Located location) where
-  held_total : (r : Refusal) (inputs : List Input) (z : Result (Operation × List ℕ) Fault) → read x.setup x.text x.place ≡ z → total x r inputs ≡ through x.store.count x.setup x.callers (turn_located (run x.setup) x.setup x.text (length x.callers) location (with_refusal r x.store) inputs z)
+  held_total : (r : Refusal) (inputs : List Input) (z : Result (Operation × List ℕ) Fault) → read x.setup x.text x.place ≡ z → total x r inputs ≡ total_of_course x.store.count x.setup x.callers (turn_located (run x.setup) x.setup x.text (length x.callers) location (with_refusal r x.store) inputs z)
   held_total r inputs z e =
       let s : Store = with_refusal r x.store in
       total_inside x r inputs runs inside
-      ∙ (ap (λ (last : Last). through x.store.count x.setup x.callers (turn_by (run x.setup) x.setup x.text x.place (length x.callers) s inputs last)) waits
-      ∙ ap (λ (y : Result (Operation × List ℕ) Fault). through x.store.count x.setup x.callers (turn_located (run x.setup) x.setup x.text (length x.callers) location s inputs y)) e)
+      ∙ (ap (λ (last : Last). total_of_course x.store.count x.setup x.callers (turn_by (run x.setup) x.setup x.text x.place (length x.callers) s inputs last)) waits
+      ∙ ap (λ (y : Result (Operation × List ℕ) Fault). total_of_course x.store.count x.setup x.callers (turn_located (run x.setup) x.setup x.text (length x.callers) location s inputs y)) e)
 
   waited : waits_of x.store.last ≡ 1
   waited = ap waits_of waits
@@ -65,26 +65,26 @@ module _ (x : State) (location : Location) (runs : x.status ≡ Running) (inside
         })
 
     pub held_unread : read x.setup x.text x.place ≡ Err (fault_of error) → Turns x new
-    held_unread e = read_falls (λ inputs. held_total Never inputs (Err (fault_of error)) e ∙ through_failed x.store.count x.setup x.callers (fault_of error))
+    held_unread e = read_falls (λ inputs. held_total Never inputs (Err (fault_of error)) e ∙ course_failed x.store.count x.setup x.callers (fault_of error))
 
   module _ (op : Operation) (behind : List ℕ) (was : read x.setup x.text x.place ≡ Ok (op, behind)) where
     abbrev place_then : ℕ
     place_then = length x.text.bytes - length behind
 
-    held_after_operation : (r : Refusal) (inputs : List Input) (o : Option (ℕ × Option ℕ)) (next : Next) → piece_ended_by op ≡ o → end_located x.setup location place_then (with_refusal r x.store) o ≡ next → total x r inputs ≡ through x.store.count x.setup x.callers (after_operation (run x.setup) x.setup x.text (length x.callers) place_then inputs next)
+    held_after_operation : (r : Refusal) (inputs : List Input) (o : Option (ℕ × Option ℕ)) (next : Next) → piece_ended_by op ≡ o → end_located x.setup location place_then (with_refusal r x.store) o ≡ next → total x r inputs ≡ total_of_course x.store.count x.setup x.callers (after_operation (run x.setup) x.setup x.text (length x.callers) place_then inputs next)
     held_after_operation r inputs o next e f =
         held_total r inputs (Ok (op, behind)) was
-        ∙ (ap (λ (p : Option (ℕ × Option ℕ)). through x.store.count x.setup x.callers (after_operation (run x.setup) x.setup x.text (length x.callers) place_then inputs (end_located x.setup location place_then (with_refusal r x.store) p))) e
-        ∙ ap (λ (n : Next). through x.store.count x.setup x.callers (after_operation (run x.setup) x.setup x.text (length x.callers) place_then inputs n)) f)
+        ∙ (ap (λ (p : Option (ℕ × Option ℕ)). total_of_course x.store.count x.setup x.callers (after_operation (run x.setup) x.setup x.text (length x.callers) place_then inputs (end_located x.setup location place_then (with_refusal r x.store) p))) e
+        ∙ ap (λ (n : Next). total_of_course x.store.count x.setup x.callers (after_operation (run x.setup) x.setup x.text (length x.callers) place_then inputs n)) f)
 
     held_other : (new : State) → piece_ended_by op ≡ None → new ≡ with_status (FaultStatus (error.InvalidExpressionTerminator (place_then - 1))) (read_to place_then x) → Turns x new
     held_other new none is =
         read_falls place_then new (error.InvalidExpressionTerminator (place_then - 1)) is
-        (λ inputs. held_after_operation Never inputs None (FaultNext (InvalidExpressionTerminator (place_then - 1))) none refl ∙ through_failed x.store.count x.setup x.callers (InvalidExpressionTerminator (place_then - 1)))
+        (λ inputs. held_after_operation Never inputs None (FaultNext (InvalidExpressionTerminator (place_then - 1))) none refl ∙ course_failed x.store.count x.setup x.callers (InvalidExpressionTerminator (place_then - 1)))
 
     module _ (size : ℕ × Option ℕ) (some : piece_ended_by op ≡ Some size) where
       abbrev piece : Piece
-      piece = record { size_in_bits = Some size.0; bit_offset = size.1; location = location }
+      piece = sized size.0 size.1 location
 
       abbrev mid : State
       mid = with_last Pieced (read_to place_then x)
@@ -134,7 +134,7 @@ module _ (x : State) (location : Location) (runs : x.status ≡ Running) (inside
             may = h.gets.may;
             same = λ inputs.
                 held_after_operation h.gets.refusal inputs (Some size) (FaultNext (fault_of h.error)) some (ap (goes place_then) h.gets.same)
-                ∙ (through_failed x.store.count x.setup x.callers (fault_of h.error) ∙ ap (closed (FaultOutcome (fault_of h.error))) (sym count));
+                ∙ (course_failed x.store.count x.setup x.callers (fault_of h.error) ∙ ap (closed (FaultOutcome (fault_of h.error))) (sym count));
             kept = record { setup = h.stays.kept.setup; object_address = h.stays.kept.object_address; maximum = h.stays.kept.maximum };
             spends = fallen_spends x new h.error (ap faults_in runs) h.failed (omega (arith, callers)) (omega (arith, count)) (omega (arith, items)) (omega (arith, decodings, count, due, waited)) h.stays.pieces (omega (arith, decodings, count)) (omega (arith, decodings, count));
           })

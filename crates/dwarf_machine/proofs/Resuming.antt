@@ -10,7 +10,7 @@ use Rattle.dwarf_meaning.specs.RunLaws.{waits_of}
 use Rattle.dwarf_meaning.specs.Stores.{address_bits, Store, Pushed, Called, push_value, push_caller}
 use Rattle.dwarf_meaning.specs.Run.{Position, Course, RequestEnd, only_end, run_callee, enter_callee, after_push, after_answer, run}
 use Rattle.dwarf_meaning.specs.Meaning.{FaultOutcome}
-use Rattle.dwarf_meaning.specs.Rest.{State, Running, RequestStatus, FaultStatus, with_refusal}
+use Rattle.dwarf_meaning.specs.Rest.{State, Running, RequestStatus, FaultStatus, with_refusal, total_of_course}
 use Rattle.dwarf_meaning.specs.Refusals.{Refusal, Never, After, taken, MayPick, before_input, before_pushes}
 use Rattle.dwarf_meaning.proofs.Counts.{HasTally, OnStore, Tally, tally_of, tally-push_caller}
 use Rattle.dwarf_meaning.proofs.Effects.{IsUseOf, use_is}
@@ -22,7 +22,7 @@ use Rattle.dwarf_machine.proofs.Nearing.{nears_by}
 use Rattle.dwarf_machine.proofs.Spending.{answered_spends, fallen_spends}
 use Rattle.dwarf_machine.proofs.Reaching.{value_tally}
 use Rattle.dwarf_machine.proofs.Staying.{stays_from, stays_then}
-use Rattle.dwarf_machine.proofs.Totals.{closed, through, going, total_running, total_waits, through_failed, through_back}
+use Rattle.dwarf_machine.proofs.Totals.{closed, going, total_running, total_waits, course_failed}
 
 taken_before : (r : Refusal) → taken (before_input r) ≡ r
 taken_before Never = refl
@@ -37,7 +37,7 @@ module _ (x : State) (request : Request) (waiting : Waiting) (open_now : x.statu
 
   -- what is kept once the answer is taken; the settings are those of the state
   abbrev use_total : (r : Refusal) → List Input → Refusal → Use → Total
-  use_total r inputs q u = through x.store.count x.setup x.callers (after_answer (run x.setup) x.setup position (length x.callers) u (with_refusal q x.store) inputs (only_end (RequestEnd request (position ∷ []) (input_of x answer ∷ inputs))))
+  use_total r inputs q u = total_of_course x.store.count x.setup x.callers (after_answer (run x.setup) x.setup position (length x.callers) u (with_refusal q x.store) inputs (only_end (RequestEnd request (position ∷ []) (input_of x answer ∷ inputs))))
 
   answer_rest : (r : Refusal) (inputs : List Input) (u : Use) → use_of (address_bits x.setup) waiting answer x.store.values ≡ u → totals r inputs ≡ use_total r inputs r u
   answer_rest r inputs u e =
@@ -63,7 +63,7 @@ module _ (x : State) (request : Request) (waiting : Waiting) (open_now : x.statu
   pub denies : (error : Error) (mid new : State) → use_of (address_bits x.setup) waiting answer x.store.values ≡ FaultUse (fault_of error) → Stays 0 x mid → new ≡ with_status (FaultStatus error) mid → Takes answer x new
   denies error mid new e stays is =
       takes_fault new error Never (ap (λ (z : State). z.status) is) (stays_then (FaultStatus error) x mid new stays is) tt
-      (λ inputs. answer_rest Never inputs (FaultUse (fault_of error)) e ∙ through_failed x.store.count x.setup x.callers (fault_of error))
+      (λ inputs. answer_rest Never inputs (FaultUse (fault_of error)) e ∙ course_failed x.store.count x.setup x.callers (fault_of error))
 
   -- a value is pushed on what the answer leaves of the stack
   module _ (values : List Value) (value : Value) (gives : use_of (address_bits x.setup) waiting answer x.store.values ≡ PushesAnswer values value) where
@@ -87,8 +87,8 @@ module _ (x : State) (request : Request) (waiting : Waiting) (open_now : x.statu
           pushes = d.steps.pushes;
           same = λ r inputs.
               answer_rest (before_pushes d.steps.pushes r) inputs (PushesAnswer values value) gives
-              ∙ (ap (λ (z : Result Store Fault). through x.store.count x.setup x.callers (after_push (run x.setup) position (length x.callers) inputs z)) (d.steps.same r)
-              ∙ (ap (λ (n : ℕ). through n x.setup x.callers (run x.setup x.text x.place (length x.callers) (with_refusal r new.store) inputs)) (sym count)
+              ∙ (ap (λ (z : Result Store Fault). total_of_course x.store.count x.setup x.callers (after_push (run x.setup) position (length x.callers) inputs z)) (d.steps.same r)
+              ∙ (ap (λ (n : ℕ). total_of_course n x.setup x.callers (run x.setup x.text x.place (length x.callers) (with_refusal r new.store) inputs)) (sym count)
               ∙ sym (total_running r new inputs runs ∙ ap (λ (z : State). going z (with_refusal r new.store) inputs) d.alone)));
           kept = record {
             setup = ap (λ (z : State). z.setup) d.alone;
@@ -106,8 +106,8 @@ module _ (x : State) (request : Request) (waiting : Waiting) (open_now : x.statu
         takes_fault new h.error h.gets.refusal h.failed (stays_from 0 0 values Pushed Running x new (omega (arith, low)) h.stays) h.gets.may
         (λ inputs.
         answer_rest h.gets.refusal inputs (PushesAnswer values value) gives
-        ∙ (ap (λ (z : Result Store Fault). through x.store.count x.setup x.callers (after_push (run x.setup) position (length x.callers) inputs z)) h.gets.same
-        ∙ through_failed x.store.count x.setup x.callers (fault_of h.error)))
+        ∙ (ap (λ (z : Result Store Fault). total_of_course x.store.count x.setup x.callers (after_push (run x.setup) position (length x.callers) inputs z)) h.gets.same
+        ∙ course_failed x.store.count x.setup x.callers (fault_of h.error)))
 
     takes_by : (new : State) (done : Bool) → Tries 0 (push_value x.setup value) answered new done → Takes answer x new
     takes_by new true d = value_taken new d
@@ -131,7 +131,7 @@ module _ (x : State) (request : Request) (waiting : Waiting) (open_now : x.statu
         pushes = 0;
         same = λ r inputs.
             answer_rest r inputs (Calls callee) calls
-            ∙ (ap (λ (bytes : List ℕ). through x.store.count x.setup x.callers (run_callee (run x.setup) x.setup position (length x.callers) callee bytes (with_refusal r x.store) inputs)) none
+            ∙ (ap (λ (bytes : List ℕ). total_of_course x.store.count x.setup x.callers (run_callee (run x.setup) x.setup position (length x.callers) callee bytes (with_refusal r x.store) inputs)) none
             ∙ sym (total_running r new inputs runs ∙ ap (λ (z : State). going z (with_refusal r z.store) inputs) e));
         kept = record { setup = ap (λ (z : State). z.setup) e; object_address = ap (λ (z : State). z.store.object_address) e; maximum = ap (λ (z : State). z.store.maximum) e };
         spends = answered_spends x new request waiting open_now runs (omega (arith, callers)) (omega (arith, callers, kept)) count (ap (λ (z : State). z.decodings) e) (omega (arith, last)) (ap (λ (z : State). z.store.pieces) e) (λ given. omega (arith, last));
@@ -139,11 +139,11 @@ module _ (x : State) (request : Request) (waiting : Waiting) (open_now : x.statu
       })
 
   module _ (callee : Text) (byte : ℕ) (bytes : List ℕ) (calls : use_of (address_bits x.setup) waiting answer x.store.values ≡ Calls callee) (some : callee.bytes ≡ byte ∷ bytes) where
-    call_rest : (r : Refusal) (inputs : List Input) (z : Result Store Fault) → push_caller x.setup (length x.callers) (with_refusal r x.store) ≡ z → totals r inputs ≡ through x.store.count x.setup x.callers (enter_callee (run x.setup) position (length x.callers) callee inputs z)
+    call_rest : (r : Refusal) (inputs : List Input) (z : Result Store Fault) → push_caller x.setup (length x.callers) (with_refusal r x.store) ≡ z → totals r inputs ≡ total_of_course x.store.count x.setup x.callers (enter_callee (run x.setup) position (length x.callers) callee inputs z)
     call_rest r inputs z e =
         answer_rest r inputs (Calls callee) calls
-        ∙ (ap (λ (bs : List ℕ). through x.store.count x.setup x.callers (run_callee (run x.setup) x.setup position (length x.callers) callee bs (with_refusal r x.store) inputs)) some
-        ∙ ap (λ (y : Result Store Fault). through x.store.count x.setup x.callers (enter_callee (run x.setup) position (length x.callers) callee inputs y)) e)
+        ∙ (ap (λ (bs : List ℕ). total_of_course x.store.count x.setup x.callers (run_callee (run x.setup) x.setup position (length x.callers) callee bs (with_refusal r x.store) inputs)) some
+        ∙ ap (λ (y : Result Store Fault). total_of_course x.store.count x.setup x.callers (enter_callee (run x.setup) position (length x.callers) callee inputs y)) e)
 
     text_taken : (new : State) → Enters callee (with_status Running x) new → Takes answer x new
     text_taken new d =
@@ -162,9 +162,8 @@ module _ (x : State) (request : Request) (waiting : Waiting) (open_now : x.statu
               let t : Store = with_refusal r new.store in
               let course : Course = run x.setup callee 0 (suc (length x.callers)) t inputs in
               call_rest (before_pushes d.steps.pushes r) inputs (Ok t) (d.steps.same r)
-              ∙ (through_back x.store.count x.setup x.callers position course
-              ∙ (ap (λ (n : ℕ). through n x.setup (position ∷ x.callers) course) (sym count)
-              ∙ sym (total_running r new inputs runs ∙ ap (λ (z : State). going z t inputs) d.alone)));
+              ∙ (ap (λ (n : ℕ). total_of_course n x.setup (position ∷ x.callers) course) (sym count)
+              ∙ sym (total_running r new inputs runs ∙ ap (λ (z : State). going z t inputs) d.alone));
           kept = record {
             setup = ap (λ (z : State). z.setup) d.alone;
             object_address = ap (λ (m : Tally). m.object_address) tally;
@@ -178,7 +177,7 @@ module _ (x : State) (request : Request) (waiting : Waiting) (open_now : x.statu
     text_refused : (new : State) → Refused 0 (push_caller x.setup (length x.callers)) (with_status Running x) new → Takes answer x new
     text_refused new h =
         takes_fault new h.error h.gets.refusal h.failed (stays_from 0 0 x.store.values x.store.last Running x new (omega arith) h.stays) h.gets.may
-        (λ inputs. call_rest h.gets.refusal inputs (Err (fault_of h.error)) h.gets.same ∙ through_failed x.store.count x.setup x.callers (fault_of h.error))
+        (λ inputs. call_rest h.gets.refusal inputs (Err (fault_of h.error)) h.gets.same ∙ course_failed x.store.count x.setup x.callers (fault_of h.error))
 
     text_takes_by : (new : State) (done : Bool) → TriesToEnter callee (with_status Running x) new done → Takes answer x new
     text_takes_by new true d = text_taken new d

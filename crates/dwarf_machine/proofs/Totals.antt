@@ -1,35 +1,46 @@
 -- The outcome of a state, and how many operations are counted by then, by where the evaluation stands.
 use Rattle.std.proofs.Common.{ℕ, suc, ◌≡◌, ◌+◌, arith, length, List, [], ◌∷◌, ◌++◌, Result, Err, Option, ap, ◌∙◌, sym, refl, append_assoc}
+use Rattle.std.proofs.lemmas.List.{append-nil}
 use Rattle.dwarf_base.specs.Faults.{Fault}
 use Rattle.dwarf_value.specs.declared.types.Value.{Value}
 use Rattle.dwarf_meaning.specs.Requests.{Request, Waiting, Input}
 use Rattle.dwarf_meaning.specs.Stores.{Setup, Store}
-use Rattle.dwarf_meaning.specs.Run.{Position, Course, End, CompleteEnd, RequestEnd, FaultEnd, only_end, add_to_path, return_to_caller, run, await_answer}
-use Rattle.dwarf_meaning.specs.Meaning.{Outcome, RequestOutcome, FaultOutcome, CompleteOutcome, unwound, with_initial}
-use Rattle.dwarf_meaning.specs.Rest.{State, Status, Start, Running, RequestStatus, CompleteStatus, with_refusal, rest_from_start, rest_by, rest}
+use Rattle.dwarf_meaning.specs.Run.{Position, Course, End, CompleteEnd, RequestEnd, FaultEnd, only_end, add_to_path, add_request, return_to_caller, after_push, run, await_answer, return_to_callers}
+use Rattle.dwarf_meaning.specs.Meaning.{Outcome, RequestOutcome, FaultOutcome, CompleteOutcome, outcome_of_end, finish, with_initial}
+use Rattle.dwarf_meaning.specs.Rest.{State, Status, Start, Running, RequestStatus, CompleteStatus, with_refusal, Total, total_of_course, total_by, total}
 use Rattle.dwarf_meaning.specs.Refusals.{Refusal}
-use Rattle.dwarf_meaning.specs.Paths.{path, path_behind, path_by, path_through, path_started}
-use Rattle.dwarf_machine.specs.inner.Steps.{Total, total}
 
 abbrev pub closed : Outcome → ℕ → Total
 closed outcome n = record { outcome = outcome; count = n }
 
--- a course, and then the callers' rest, once n operations are counted
-abbrev pub through : ℕ → Setup → List Position → Course → Total
-through n setup callers course = record { outcome = unwound setup callers course.end; count = n + length (path_through setup callers course) }
-
 abbrev pub going : State → Store → List Input → Total
-going x s inputs = through x.store.count x.setup x.callers (run x.setup x.text x.place (length x.callers) s inputs)
+going x s inputs = total_of_course x.store.count x.setup x.callers (run x.setup x.text x.place (length x.callers) s inputs)
 
 abbrev pub waiting_total : State → Request → Waiting → Store → List Input → Total
 waiting_total x request waiting s inputs =
-    through x.store.count x.setup x.callers (await_answer (run x.setup) x.setup (record { text = x.text; place = x.place }) (length x.callers) request waiting s inputs)
+    total_of_course x.store.count x.setup x.callers (await_answer (run x.setup) x.setup (record { text = x.text; place = x.place }) (length x.callers) request waiting s inputs)
 
 abbrev pub started_total : State → List Input → Result Store Fault → Total
-started_total x inputs z = record { outcome = rest_from_start x inputs z; count = x.store.count + length (path_started x inputs z) }
+started_total x inputs z =
+    total_of_course x.store.count x.setup x.callers (after_push (run x.setup) (record { text = x.text; place = x.place }) (length x.callers) inputs z)
 
-abbrev total_by : State → Store → List Input → Status → Total
-total_by x s inputs status = record { outcome = rest_by x s inputs status; count = x.store.count + length (path_by x s inputs status) }
+pub total_by_status : (r : Refusal) (x : State) (inputs : List Input) (status : Status) → x.status ≡ status → total x r inputs ≡ total_by x (with_refusal r x.store) inputs status
+unfolding total
+total_by_status r x inputs status e = ap (total_by x (with_refusal r x.store) inputs) e
+
+pub total_running : (r : Refusal) (x : State) (inputs : List Input) → x.status ≡ Running → total x r inputs ≡ going x (with_refusal r x.store) inputs
+total_running r x inputs = total_by_status r x inputs Running
+
+pub total_waits : (r : Refusal) (x : State) (inputs : List Input) (request : Request) (waiting : Waiting) → x.status ≡ RequestStatus request waiting → total x r inputs ≡ waiting_total x request waiting (with_refusal r x.store) inputs
+total_waits r x inputs request waiting = total_by_status r x inputs (RequestStatus request waiting)
+
+pub total_complete : (r : Refusal) (x : State) (inputs : List Input) (value : Option Value) → x.status ≡ CompleteStatus value → total x r inputs ≡ closed (CompleteOutcome x.store.pieces value) x.store.count
+total_complete r x inputs value = total_by_status r x inputs (CompleteStatus value)
+
+pub total_start : (r : Refusal) (x : State) (inputs : List Input) (initial_value : Option ℕ) → x.status ≡ Start initial_value → total x r inputs ≡ started_total x inputs (with_initial x.setup initial_value (with_refusal r x.store))
+total_start r x inputs initial_value = total_by_status r x inputs (Start initial_value)
+
+-- ---- a course and its callers
 
 -- nothing more is counted
 no_more : (outcome : Outcome) (n : ℕ) → closed outcome (n + 0) ≡ closed outcome n
@@ -37,65 +48,68 @@ no_more outcome n =
     let e : n + 0 ≡ n = omega arith in
     ap (closed outcome) e
 
-pub total_running : (r : Refusal) (x : State) (inputs : List Input) → x.status ≡ Running → total x r inputs ≡ going x (with_refusal r x.store) inputs
-unfolding rest path
-total_running r x inputs e = ap (total_by x (with_refusal r x.store) inputs) e
+-- the total of a course without callers
+abbrev alone : ℕ → Setup → Course → Total
+alone n setup course = total_of_course n setup [] course
 
-pub total_waits : (r : Refusal) (x : State) (inputs : List Input) (request : Request) (waiting : Waiting) → x.status ≡ RequestStatus request waiting → total x r inputs ≡ waiting_total x request waiting (with_refusal r x.store) inputs
-unfolding rest path
-total_waits r x inputs request waiting e = ap (total_by x (with_refusal r x.store) inputs) e
+fault_returned : (setup : Setup) (callers : List Position) (fault : Fault) → return_to_callers setup callers (only_end (FaultEnd fault)) ≡ only_end (FaultEnd fault)
+fault_returned setup [] fault = refl
+fault_returned setup (caller ∷ callers) fault = fault_returned setup callers fault
 
-pub total_complete : (r : Refusal) (x : State) (inputs : List Input) (value : Option Value) → x.status ≡ CompleteStatus value → total x r inputs ≡ closed (CompleteOutcome x.store.pieces value) x.store.count
-unfolding rest path
-total_complete r x inputs value e = ap (total_by x (with_refusal r x.store) inputs) e ∙ no_more (CompleteOutcome x.store.pieces value) x.store.count
-
-pub total_start : (r : Refusal) (x : State) (inputs : List Input) (initial_value : Option ℕ) → x.status ≡ Start initial_value → total x r inputs ≡ started_total x inputs (with_initial x.setup initial_value (with_refusal r x.store))
-unfolding rest path
-total_start r x inputs initial_value e = ap (total_by x (with_refusal r x.store) inputs) e
+pub course_failed : (n : ℕ) (setup : Setup) (callers : List Position) (fault : Fault) → total_of_course n setup callers (only_end (FaultEnd fault)) ≡ closed (FaultOutcome fault) n
+course_failed n setup callers fault = ap (alone n setup) (fault_returned setup callers fault) ∙ no_more (FaultOutcome fault) n
 
 pub started_fails : (x : State) (inputs : List Input) (fault : Fault) → started_total x inputs (Err fault) ≡ closed (FaultOutcome fault) x.store.count
-started_fails x inputs fault = no_more (FaultOutcome fault) x.store.count
+started_fails x inputs fault = course_failed x.store.count x.setup x.callers fault
 
-pub through_failed : (n : ℕ) (setup : Setup) (callers : List Position) (fault : Fault) → through n setup callers (only_end (FaultEnd fault)) ≡ closed (FaultOutcome fault) n
-through_failed n setup [] fault = no_more (FaultOutcome fault) n
-through_failed n setup (caller ∷ callers) fault = no_more (FaultOutcome fault) n
+pub course_ended : (n : ℕ) (setup : Setup) (s : Store) (inputs : List Input) (outcome : Outcome) → finish setup s ≡ outcome → total_of_course n setup [] (only_end (CompleteEnd s inputs)) ≡ closed outcome n
+course_ended n setup s inputs outcome e = no_more (finish setup s) n ∙ ap (λ (o : Outcome). closed o n) e
 
-pub through_end : (n : ℕ) (setup : Setup) (s : Store) (inputs : List Input) (outcome : Outcome) → unwound setup [] (CompleteEnd s inputs) ≡ outcome → through n setup [] (only_end (CompleteEnd s inputs)) ≡ closed outcome n
-through_end n setup s inputs outcome e = no_more (unwound setup [] (CompleteEnd s inputs)) n ∙ ap (λ (o : Outcome). closed o n) e
+request_returned : (setup : Setup) (callers : List Position) (request : Request) (positions : List Position) (inputs : List Input) → return_to_callers setup callers (only_end (RequestEnd request positions inputs)) ≡ only_end (RequestEnd request (positions ++ callers) inputs)
+request_returned setup [] request positions inputs = ap (λ (fs : List Position). only_end (RequestEnd request fs inputs)) (sym (append-nil positions))
+request_returned setup (caller ∷ callers) request positions inputs =
+    request_returned setup callers request (positions ++ caller ∷ []) inputs
+    ∙ ap (λ (fs : List Position). only_end (RequestEnd request fs inputs)) (append_assoc positions (caller ∷ []) callers)
+
+pub course_open : (n : ℕ) (setup : Setup) (callers : List Position) (request : Request) (positions : List Position) (inputs : List Input) → total_of_course n setup callers (only_end (RequestEnd request positions inputs)) ≡ closed (RequestOutcome request (positions ++ callers)) n
+course_open n setup callers request positions inputs =
+    ap (alone n setup) (request_returned setup callers request positions inputs) ∙ no_more (RequestOutcome request (positions ++ callers)) n
+
+-- a request that waits for an input
+pub total_open : (r : Refusal) (x : State) (request : Request) (waiting : Waiting) → x.status ≡ RequestStatus request waiting → total x r [] ≡ closed (RequestOutcome request (record { text = x.text; place = x.place } ∷ x.callers)) x.store.count
+total_open r x request waiting e =
+    total_waits r x [] request waiting e ∙ course_open x.store.count x.setup x.callers request (record { text = x.text; place = x.place } ∷ []) []
 
 -- an operation is counted
-pub through_passing : (n : ℕ) (setup : Setup) (callers : List Position) (position : Position) (course : Course) → through n setup callers (add_to_path position course) ≡ through (n + 1) setup callers course
-through_passing n setup callers position course =
-    let k : ℕ = length (path_through setup callers course) in
+counted_back : (setup : Setup) (caller position : Position) (depth : ℕ) (course : Course) (end : End) → return_to_caller (run setup) caller depth (add_to_path position course) end ≡ add_to_path position (return_to_caller (run setup) caller depth course end)
+counted_back setup caller position depth course (CompleteEnd s inputs) = refl
+counted_back setup caller position depth course (RequestEnd request positions inputs) = refl
+counted_back setup caller position depth course (FaultEnd fault) = refl
+
+counted_returned : (setup : Setup) (callers : List Position) (position : Position) (course : Course) → return_to_callers setup callers (add_to_path position course) ≡ add_to_path position (return_to_callers setup callers course)
+counted_returned setup [] position course = refl
+counted_returned setup (caller ∷ callers) position course =
+    ap (return_to_callers setup callers) (counted_back setup caller position (length callers) course course.end)
+    ∙ counted_returned setup callers position (return_to_caller (run setup) caller (length callers) course course.end)
+
+pub course_counted : (n : ℕ) (setup : Setup) (callers : List Position) (position : Position) (course : Course) → total_of_course n setup callers (add_to_path position course) ≡ total_of_course (n + 1) setup callers course
+course_counted n setup callers position course =
+    let whole : Course = return_to_callers setup callers course in
+    let k : ℕ = length whole.path in
     let e : n + suc k ≡ n + 1 + k = omega arith in
-    ap (closed (unwound setup callers course.end)) e
+    ap (alone n setup) (counted_returned setup callers position course) ∙ ap (closed (outcome_of_end setup whole.end)) e
 
-pub unwound_open : (setup : Setup) (callers : List Position) (request : Request) (positions : List Position) (inputs : List Input) → unwound setup callers (RequestEnd request positions inputs) ≡ RequestOutcome request (positions ++ callers)
-unwound_open setup [] request positions inputs = refl
-unwound_open setup (caller ∷ callers) request positions inputs = refl
+-- a request is no part of a total
+asked_back : (setup : Setup) (caller : Position) (request : Request) (depth : ℕ) (course : Course) (end : End) → return_to_caller (run setup) caller depth (add_request request course) end ≡ add_request request (return_to_caller (run setup) caller depth course end)
+asked_back setup caller request depth course (CompleteEnd s inputs) = refl
+asked_back setup caller request depth course (RequestEnd other positions inputs) = refl
+asked_back setup caller request depth course (FaultEnd fault) = refl
 
--- the same course, with another end
-abbrev with_end : End → Course → Course
-with_end end course = record course { end = end }
+asked_returned : (setup : Setup) (callers : List Position) (request : Request) (course : Course) → return_to_callers setup callers (add_request request course) ≡ add_request request (return_to_callers setup callers course)
+asked_returned setup [] request course = refl
+asked_returned setup (caller ∷ callers) request course =
+    ap (return_to_callers setup callers) (asked_back setup caller request (length callers) course course.end)
+    ∙ asked_returned setup callers request (return_to_caller (run setup) caller (length callers) course course.end)
 
-asking_open : (n : ℕ) (setup : Setup) (callers : List Position) (course : Course) (request : Request) (positions : List Position) (inputs : List Input) → through n setup callers (with_end (RequestEnd request positions inputs) course) ≡ closed (RequestOutcome request (positions ++ callers)) (n + length (course.path ++ []))
-asking_open n setup [] course request positions inputs = refl
-asking_open n setup (caller ∷ callers) course request positions inputs = refl
-
-failed_open : (n : ℕ) (setup : Setup) (callers : List Position) (course : Course) (fault : Fault) → through n setup callers (with_end (FaultEnd fault) course) ≡ closed (FaultOutcome fault) (n + length (course.path ++ []))
-failed_open n setup [] course fault = refl
-failed_open n setup (caller ∷ callers) course fault = refl
-
--- a callee that runs in its place, or as one more frame
-through_by : (n : ℕ) (setup : Setup) (callers : List Position) (position : Position) (course : Course) (end : End) → through n setup callers (return_to_caller (run setup) position (length callers) (with_end end course) end) ≡ through n setup (position ∷ callers) (with_end end course)
-through_by n setup callers position course (CompleteEnd s inputs) =
-    let after : Course = run setup position.text position.place (length callers) s inputs in
-    ap (λ (p : List Position). closed (unwound setup callers after.end) (n + length p)) (append_assoc course.path after.path (path_behind setup callers after.end))
-through_by n setup callers position course (RequestEnd request positions inputs) =
-    asking_open n setup callers course request (positions ++ position ∷ []) inputs
-    ∙ (ap (λ (fs : List Position). closed (RequestOutcome request fs) (n + length (course.path ++ []))) (append_assoc positions (position ∷ []) callers)
-    ∙ sym (asking_open n setup (position ∷ callers) course request positions inputs))
-through_by n setup callers position course (FaultEnd fault) = failed_open n setup callers course fault ∙ sym (failed_open n setup (position ∷ callers) course fault)
-
-pub through_back : (n : ℕ) (setup : Setup) (callers : List Position) (position : Position) (course : Course) → through n setup callers (return_to_caller (run setup) position (length callers) course course.end) ≡ through n setup (position ∷ callers) course
-through_back n setup callers position course = through_by n setup callers position course course.end
+pub course_asked : (n : ℕ) (setup : Setup) (callers : List Position) (request : Request) (course : Course) → total_of_course n setup callers (add_request request course) ≡ total_of_course n setup callers course
+course_asked n setup callers request course = ap (alone n setup) (asked_returned setup callers request course)

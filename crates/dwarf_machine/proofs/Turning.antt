@@ -9,9 +9,9 @@ use Rattle.dwarf_meaning.specs.Operations.{Operation}
 use Rattle.dwarf_meaning.specs.Requests.{Request, Waiting, Input}
 use Rattle.dwarf_meaning.specs.RunLaws.{waits_of}
 use Rattle.dwarf_meaning.specs.Stores.{Setup, address_bits, Store, Last, Nothing, Plain, Pieced, Pushed, Called, Located, Next, Goes, RequestNext, FaultNext}
-use Rattle.dwarf_meaning.specs.Run.{Position, CompleteEnd, FaultEnd, Course, only_end, add_to_path, read, most, can_count, counted, do_operation, turn_counted, after_operation, turn_by, run}
+use Rattle.dwarf_meaning.specs.Run.{Position, CompleteEnd, FaultEnd, Course, only_end, add_to_path, read, most, can_count, counted, do_operation, turn_counted, after_operation, await_answer, turn_by, run}
 use Rattle.dwarf_meaning.specs.Meaning.{FaultOutcome}
-use Rattle.dwarf_meaning.specs.Rest.{State, Status, Start, Running, RequestStatus, CompleteStatus, FaultStatus, with_refusal}
+use Rattle.dwarf_meaning.specs.Rest.{State, Status, Start, Running, RequestStatus, CompleteStatus, FaultStatus, with_refusal, total_of_course}
 use Rattle.dwarf_meaning.specs.Refusals.{Refusal, Never, before_pushes}
 use Rattle.dwarf_meaning.proofs.Choices.{choose_true, choose_false}
 use Rattle.dwarf_meaning.proofs.Counts.{HasTally, OnNext, Tally, tally_of, tally-done}
@@ -24,7 +24,7 @@ use Rattle.dwarf_machine.proofs.Endings.{EndsNoMore, done_ends, free_waits}
 use Rattle.dwarf_machine.proofs.Loads.{IsLighter, kept_in, done_lighter}
 use Rattle.dwarf_machine.proofs.Nearing.{nears_by}
 use Rattle.dwarf_machine.proofs.Spending.{asked_spends, counted_spends, fallen_spends, waits_little}
-use Rattle.dwarf_machine.proofs.Totals.{closed, through, going, waiting_total, total_running, total_waits, through_failed, through_passing}
+use Rattle.dwarf_machine.proofs.Totals.{closed, going, waiting_total, total_running, total_waits, course_failed, course_counted, course_asked}
 
 -- ---- what there is still to do
 
@@ -56,11 +56,11 @@ free_turn setup text place depth s inputs Called h = refl
 free_turn setup text place depth s inputs (Located location) h = absurd h
 
 -- what is left inside a text, by its next turn
-pub total_inside : (x : State) (r : Refusal) (inputs : List Input) → x.status ≡ Running → (x.place == length x.text.bytes) ≡ false → total x r inputs ≡ through x.store.count x.setup x.callers (turn_by (run x.setup) x.setup x.text x.place (length x.callers) (with_refusal r x.store) inputs x.store.last)
+pub total_inside : (x : State) (r : Refusal) (inputs : List Input) → x.status ≡ Running → (x.place == length x.text.bytes) ≡ false → total x r inputs ≡ total_of_course x.store.count x.setup x.callers (turn_by (run x.setup) x.setup x.text x.place (length x.callers) (with_refusal r x.store) inputs x.store.last)
 total_inside x r inputs runs inside =
     let s : Store = with_refusal r x.store in
     total_running r x inputs runs
-    ∙ ap (through x.store.count x.setup x.callers)
+    ∙ ap (total_of_course x.store.count x.setup x.callers)
     (run_turn x.setup x.text x.place (length x.callers) s inputs
     ∙ choose_false (x.place == length x.text.bytes) (only_end (CompleteEnd s inputs)) (turn_by (run x.setup) x.setup x.text x.place (length x.callers) s inputs s.last) inside)
 
@@ -76,10 +76,10 @@ abbrev pub behind_op : State → ℕ → State
 behind_op x place = read_to place (with_store (counted x.store) x)
 
 module _ (x : State) (ready : IsReady x) where
-  ready_total : (r : Refusal) (inputs : List Input) → total x r inputs ≡ through x.store.count x.setup x.callers (turn_counted (run x.setup) x.setup x.text x.place (length x.callers) (with_refusal r x.store) inputs)
+  ready_total : (r : Refusal) (inputs : List Input) → total x r inputs ≡ total_of_course x.store.count x.setup x.callers (turn_counted (run x.setup) x.setup x.text x.place (length x.callers) (with_refusal r x.store) inputs)
   ready_total r inputs =
       total_inside x r inputs ready.runs ready.inside
-      ∙ ap (through x.store.count x.setup x.callers) (free_turn x.setup x.text x.place (length x.callers) (with_refusal r x.store) inputs x.store.last ready.free)
+      ∙ ap (total_of_course x.store.count x.setup x.callers) (free_turn x.setup x.text x.place (length x.callers) (with_refusal r x.store) inputs x.store.last ready.free)
 
   pub ready_none : (new : State) → CountsOne x new false → Turns x new
   ready_none new h =
@@ -93,21 +93,21 @@ module _ (x : State) (ready : IsReady x) where
         may = tt;
         same = λ inputs.
             ready_total Never inputs
-            ∙ (ap (through x.store.count x.setup x.callers) (choose_false (can_count x.store) _ (only_end (FaultEnd TooManyIterations)) h.0)
-            ∙ (through_failed x.store.count x.setup x.callers TooManyIterations ∙ ap (closed (FaultOutcome TooManyIterations)) (sym count)));
+            ∙ (ap (total_of_course x.store.count x.setup x.callers) (choose_false (can_count x.store) _ (only_end (FaultEnd TooManyIterations)) h.0)
+            ∙ (course_failed x.store.count x.setup x.callers TooManyIterations ∙ ap (closed (FaultOutcome TooManyIterations)) (sym count)));
         kept = record { setup = ap (λ (z : State). z.setup) h.1; object_address = ap (λ (z : State). z.store.object_address) h.1; maximum = ap (λ (z : State). z.store.maximum) h.1 };
         spends = fallen_spends x new error.TooManyIterations (ap faults_in ready.runs) failed (omega (arith, callers)) (omega (arith, count)) (omega (arith, lists)) (omega (arith, decodings, count)) (ap (λ (z : State). z.store.pieces) h.1) (omega (arith, decodings, count)) (omega (arith, decodings, count));
       })
 
   module _ (can : can_count x.store ≡ true) where
-    ready_read : (r : Refusal) (inputs : List Input) (z : Result (Operation × List ℕ) Fault) → read x.setup x.text x.place ≡ z → total x r inputs ≡ through (x.store.count + 1) x.setup x.callers (do_operation (run x.setup) x.setup x.text (length x.callers) (counted (with_refusal r x.store)) inputs z)
+    ready_read : (r : Refusal) (inputs : List Input) (z : Result (Operation × List ℕ) Fault) → read x.setup x.text x.place ≡ z → total x r inputs ≡ total_of_course (x.store.count + 1) x.setup x.callers (do_operation (run x.setup) x.setup x.text (length x.callers) (counted (with_refusal r x.store)) inputs z)
     ready_read r inputs z e =
         let position : Position = record { text = x.text; place = x.place } in
         let course : Course = do_operation (run x.setup) x.setup x.text (length x.callers) (counted (with_refusal r x.store)) inputs (read x.setup x.text x.place) in
         ready_total r inputs
-        ∙ (ap (through x.store.count x.setup x.callers) (choose_true (can_count x.store) (add_to_path position course) (only_end (FaultEnd TooManyIterations)) can)
-        ∙ (through_passing x.store.count x.setup x.callers position course
-        ∙ ap (λ (y : Result (Operation × List ℕ) Fault). through (x.store.count + 1) x.setup x.callers (do_operation (run x.setup) x.setup x.text (length x.callers) (counted (with_refusal r x.store)) inputs y)) e))
+        ∙ (ap (total_of_course x.store.count x.setup x.callers) (choose_true (can_count x.store) (add_to_path position course) (only_end (FaultEnd TooManyIterations)) can)
+        ∙ (course_counted x.store.count x.setup x.callers position course
+        ∙ ap (λ (y : Result (Operation × List ℕ) Fault). total_of_course (x.store.count + 1) x.setup x.callers (do_operation (run x.setup) x.setup x.text (length x.callers) (counted (with_refusal r x.store)) inputs y)) e))
 
     pub ready_unread : (new : State) (error : Error) (place : ℕ) → read x.setup x.text x.place ≡ Err (fault_of error) → new ≡ with_status (FaultStatus error) (behind_op x place) → Turns x new
     ready_unread new error place e is =
@@ -121,7 +121,7 @@ module _ (x : State) (ready : IsReady x) where
           may = tt;
           same = λ inputs.
               ready_read Never inputs (Err (fault_of error)) e
-              ∙ (through_failed (x.store.count + 1) x.setup x.callers (fault_of error) ∙ ap (closed (FaultOutcome (fault_of error))) (sym count));
+              ∙ (course_failed (x.store.count + 1) x.setup x.callers (fault_of error) ∙ ap (closed (FaultOutcome (fault_of error))) (sym count));
           kept = record { setup = ap (λ (z : State). z.setup) is; object_address = ap (λ (z : State). z.store.object_address) is; maximum = ap (λ (z : State). z.store.maximum) is };
           spends = fallen_spends x new error (ap faults_in ready.runs) failed (omega (arith, callers)) (omega (arith, count)) (omega (arith, lists)) (omega (arith, decodings, count)) (ap (λ (z : State). z.store.pieces) is) (omega (arith, decodings, count)) (omega (arith, decodings, count));
         })
@@ -133,10 +133,10 @@ module _ (x : State) (ready : IsReady x) where
       abbrev there : State
       there = behind_op x place_then
 
-      ready_after_operation : (r : Refusal) (inputs : List Input) (next : Next) → done_at (act_of there op) there (with_refusal r there.store) ≡ next → total x r inputs ≡ through (x.store.count + 1) x.setup x.callers (after_operation (run x.setup) x.setup x.text (length x.callers) place_then inputs next)
+      ready_after_operation : (r : Refusal) (inputs : List Input) (next : Next) → done_at (act_of there op) there (with_refusal r there.store) ≡ next → total x r inputs ≡ total_of_course (x.store.count + 1) x.setup x.callers (after_operation (run x.setup) x.setup x.text (length x.callers) place_then inputs next)
       ready_after_operation r inputs next e =
           ready_read r inputs (Ok (op, behind)) was
-          ∙ ap (λ (n : Next). through (x.store.count + 1) x.setup x.callers (after_operation (run x.setup) x.setup x.text (length x.callers) place_then inputs n)) e
+          ∙ ap (λ (n : Next). total_of_course (x.store.count + 1) x.setup x.callers (after_operation (run x.setup) x.setup x.text (length x.callers) place_then inputs n)) e
 
       ready_fails : (new : State) (error : Error) → new.status ≡ FaultStatus error → LeadsToFault (done_at (act_of there op) there) error there new → Turns x new
       ready_fails new error failed h =
@@ -149,7 +149,7 @@ module _ (x : State) (ready : IsReady x) where
             may = h.gets.may;
             same = λ inputs.
                 ready_after_operation h.gets.refusal inputs (FaultNext (fault_of error)) h.gets.same
-                ∙ (through_failed (x.store.count + 1) x.setup x.callers (fault_of error) ∙ ap (closed (FaultOutcome (fault_of error))) (sym count));
+                ∙ (course_failed (x.store.count + 1) x.setup x.callers (fault_of error) ∙ ap (closed (FaultOutcome (fault_of error))) (sym count));
             kept = record { setup = h.stays.kept.setup; object_address = h.stays.kept.object_address; maximum = h.stays.kept.maximum };
             spends = fallen_spends x new error (ap faults_in ready.runs) failed (omega (arith, callers)) (omega (arith, count)) (omega (arith, items)) (omega (arith, decodings, count)) h.stays.pieces (omega (arith, decodings, count)) (omega (arith, decodings, count));
           })
@@ -191,7 +191,7 @@ module _ (x : State) (ready : IsReady x) where
               same = λ r inputs.
                   let course = run x.setup x.text new.place (length x.callers) (with_refusal r new.store) inputs in
                   ready_after_operation (before_pushes goes.steps.pushes r) inputs (Goes new.place (with_refusal r new.store)) (goes.steps.same r)
-                  ∙ (ap (λ (n : ℕ). through n x.setup x.callers course) (sym count)
+                  ∙ (ap (λ (n : ℕ). total_of_course n x.setup x.callers course) (sym count)
                   ∙ sym (total_running r new inputs runs ∙ ap (λ (y : State). going y (with_refusal r new.store) inputs) goes.alone));
               kept = keeps_by new (ap (λ (z : State). z.setup) goes.alone) tally;
               spends = counted_spends x new ready.runs runs (ap (λ (z : State). length z.callers) goes.alone) count (ap (λ (z : State). z.decodings) goes.alone)
@@ -211,8 +211,9 @@ module _ (x : State) (ready : IsReady x) where
               pushes = asks.steps.pushes;
               same = λ r inputs.
                   ready_after_operation (before_pushes asks.steps.pushes r) inputs (RequestNext request waiting (with_refusal r new.store)) (asks.steps.same r)
+                  ∙ (course_asked (x.store.count + 1) x.setup x.callers request (await_answer (run x.setup) x.setup (record { text = x.text; place = place_then }) (length x.callers) request waiting (with_refusal r new.store) inputs)
                   ∙ (ap (λ (n : ℕ). waiting_total (record there { store = record there.store { count = n } }) request waiting (with_refusal r new.store) inputs) (sym count)
-                  ∙ sym (total_waits r new inputs request waiting open_now ∙ ap (λ (y : State). waiting_total y request waiting (with_refusal r new.store) inputs) asks.alone));
+                  ∙ sym (total_waits r new inputs request waiting open_now ∙ ap (λ (y : State). waiting_total y request waiting (with_refusal r new.store) inputs) asks.alone)));
               kept = keeps_by new (ap (λ (z : State). z.setup) asks.alone) tally;
               spends = asked_spends x new request waiting ready.runs open_now (ap (λ (z : State). length z.callers) asks.alone) count (ap (λ (z : State). z.decodings) asks.alone)
                   (next_lighter (before_pushes asks.steps.pushes Never) (RequestNext request waiting (with_refusal Never new.store)) (asks.steps.same Never)) ends.pieces ends.waits;

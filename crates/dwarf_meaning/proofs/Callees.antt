@@ -1,5 +1,5 @@
 -- The texts that are open in a request are the text that is run and callees, which were answered.
-use Rattle.std.proofs.Common.{ℕ, zero, suc, ◌≡◌, ◌<◌, inl, inr, List, [], ◌∷◌, length, Option, Some, None, Result, Ok, Err, arith, refl, sym, subst, ◌==◌, append-nil}
+use Rattle.std.proofs.Common.{ℕ, zero, suc, ◌≡◌, ◌<◌, inl, inr, List, [], ◌∷◌, length, Option, Some, None, Result, Ok, Err, arith, refl, sym, subst, ◌==◌}
 use Rattle.dwarf_base.specs.Faults.{Fault}
 use Rattle.dwarf_base.specs.Reads.{Text}
 use Rattle.dwarf_value.specs.declared.types.Value.{Value}
@@ -9,7 +9,7 @@ use Rattle.dwarf_meaning.specs.Requests.{Request, Waiting, LocationAnswer, Input
 use Rattle.dwarf_meaning.specs.Acts.{Use, PushesAnswer, Calls, FaultUse, WrongKind, use_of}
 use Rattle.dwarf_meaning.specs.Stores.{Setup, address_bits, Store, Last, Nothing, Plain, Pieced, Pushed, Called, Located, push_value, push_caller, Next, Goes, RequestNext, FaultNext}
 use Rattle.dwarf_meaning.specs.Run.{Position, End, CompleteEnd, RequestEnd, FaultEnd, Course, only_end, Continues, return_to_caller, after_push, enter_callee, run_callee, after_answer, with_input, await_answer, after_operation, read, can_count, counted, do_operation, turn_counted, turn_located, turn_by, turn, out_of_turns, run_for, enough, run}
-use Rattle.dwarf_meaning.specs.Meaning.{completion_of, has_pieces, finish_value, finish_by, unwound, First, course_from, meaning}
+use Rattle.dwarf_meaning.specs.Meaning.{completion_of, has_pieces, finish_value, finish_by, First, fresh, with_initial, outcome_of_end, course_of, meaning}
 use Rattle.dwarf_meaning.specs.RunLaws.{IsAnswered, IsCallee, Open, alone, calling, EndOpen, OutcomeOpen}
 use Rattle.dwarf_meaning.specs.Refusals.{Refusal}
 use Rattle.dwarf_meaning.proofs.Choices.{choose_both, top_both}
@@ -127,18 +127,16 @@ module _ (inputs : List Input) (text : Text) where
   finish_open setup s Pieced = choose_both (OutcomeOpen inputs text) (has_pieces s.pieces) _ _ (λ e. tt) (λ e. value_open setup s)
   finish_open setup s Called = choose_both (OutcomeOpen inputs text) (has_pieces s.pieces) _ _ (λ e. tt) (λ e. value_open setup s)
 
-  unwound_open : (setup : Setup) (end : End) → EndOpen inputs text end → OutcomeOpen inputs text (unwound setup [] end)
-  unwound_open setup (CompleteEnd s left) h = finish_open setup s s.last
-  unwound_open setup (RequestEnd request positions left) h = subst (λ (fs : List Position). Open inputs text fs) (sym (append-nil positions)) h
-  unwound_open setup (FaultEnd fault) h = tt
+  ended_open : (setup : Setup) (end : End) → Ends inputs text end → OutcomeOpen inputs text (outcome_of_end setup end)
+  ended_open setup (CompleteEnd s left) h = finish_open setup s s.last
+  ended_open setup (RequestEnd request positions left) h = h
+  ended_open setup (FaultEnd fault) h = tt
 
 pub run_open : (setup : Setup) (text : Text) (place depth : ℕ) (s : Store) (inputs : List Input) → EndOpen inputs text (run setup text place depth s inputs).end
 run_open setup text place depth s inputs = end_open inputs text _ (opens_run_for inputs enough setup text place depth s inputs (known_all inputs))
 
-from_open : (setup : Setup) (text : Text) (inputs : List Input) (r : Result Store Fault) → EndOpen inputs text (course_from setup text inputs r).end
-from_open setup text inputs (Ok s) = run_open setup text 0 0 s inputs
-from_open setup text inputs (Err fault) = tt
-
 pub meaning_open : (setup : Setup) (refusal : Refusal) (text : Text) (first : First) (inputs : List Input) → OutcomeOpen inputs text (meaning setup refusal text first inputs)
 unfolding meaning
-meaning_open setup refusal text first inputs = unwound_open inputs text setup _ (from_open setup text inputs _)
+meaning_open setup refusal text first inputs =
+    ended_open inputs text setup (course_of setup refusal text first inputs).end
+    (opens_resumed inputs (run setup) (opens_run_for inputs enough setup) (record { text = text; place = 0 }) 0 inputs (with_initial setup first.initial_value (fresh first refusal)) (known_all inputs))

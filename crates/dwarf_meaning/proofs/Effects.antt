@@ -67,9 +67,13 @@ pub act_is : (bits : ℕ) (object : Option ℕ) (op : Operation) (values : List 
 unfolding act
 act_is bits object operation.Drop values = top_is values _ (λ x rest e. pushes (omega (arith, e)) (omega (arith, e)))
 act_is bits object (operation.Pick index) values = some_both (IsActOf (operation.Pick index) (length values)) _ short (push values) refuses (λ x. push_is values x)
-act_is bits object operation.Swap values = top_is values _ (λ y below e. top_is below _ (λ x rest f. pushes (omega (arith, e, f)) (omega (arith, e, f))))
-act_is bits object operation.Rot values =
-    top_is values _ (λ z below e. top_is below _ (λ y lower f. top_is lower _ (λ x rest g. pushes (omega (arith, e, f, g)) (omega (arith, e, f, g)))))
+act_is bits object operation.Swap [] = refuses
+act_is bits object operation.Swap (y ∷ []) = refuses
+act_is bits object operation.Swap (y ∷ x ∷ rest) = pushes (omega arith) (omega arith)
+act_is bits object operation.Rot [] = refuses
+act_is bits object operation.Rot (z ∷ []) = refuses
+act_is bits object operation.Rot (z ∷ y ∷ []) = refuses
+act_is bits object operation.Rot (z ∷ y ∷ x ∷ rest) = pushes (omega arith) (omega arith)
 act_is bits object operation.Abs values = unary_is _ values
 act_is bits object operation.Neg values = unary_is _ values
 act_is bits object operation.Not values = unary_is _ values

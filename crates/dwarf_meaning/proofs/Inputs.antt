@@ -8,7 +8,7 @@ use Rattle.dwarf_meaning.specs.Requests.{Request, Waiting, Input}
 use Rattle.dwarf_meaning.specs.Acts.{choose, Use, PushesAnswer, Calls, FaultUse, WrongKind, use_of}
 use Rattle.dwarf_meaning.specs.Stores.{Setup, address_bits, Store, Last, Nothing, Plain, Pieced, Pushed, Called, Located, push_value, push_caller, Next, Goes, RequestNext, FaultNext}
 use Rattle.dwarf_meaning.specs.Run.{Position, End, CompleteEnd, RequestEnd, FaultEnd, Course, only_end, add_to_path, add_request, append_course, Continues, return_to_caller, after_push, enter_callee, run_callee, after_answer, with_input, await_answer, after_operation, read, can_count, counted, do_operation, turn_counted, turn_located, turn_by, turn, out_of_turns, run_for, enough, run}
-use Rattle.dwarf_meaning.specs.Meaning.{unwound, First, fresh, with_initial, course_from, course_of, meaning}
+use Rattle.dwarf_meaning.specs.Meaning.{First, fresh, with_initial, outcome_of_end, course_of, meaning}
 use Rattle.dwarf_meaning.specs.RunLaws.{IsSettled, end_before, course_before, IsOver}
 use Rattle.dwarf_meaning.specs.Refusals.{Refusal}
 
@@ -106,34 +106,23 @@ extends_run setup text place depth s inputs more = extends_run_for enough setup 
 
 -- ---- the whole
 
-settled_unwound : (setup : Setup) (callers : List Position) (end : End) → IsOver (unwound setup callers end) → IsSettled end
-settled_unwound setup callers (CompleteEnd s left) h = tt
-settled_unwound setup [] (RequestEnd request positions []) h = h
-settled_unwound setup (caller ∷ callers) (RequestEnd request positions []) h = h
-settled_unwound setup callers (RequestEnd request positions (input ∷ left)) h = tt
-settled_unwound setup callers (FaultEnd fault) h = tt
+settled_end : (setup : Setup) (end : End) → IsOver (outcome_of_end setup end) → IsSettled end
+settled_end setup (CompleteEnd s left) h = tt
+settled_end setup (RequestEnd request positions left) h = absurd h
+settled_end setup (FaultEnd fault) h = tt
 
-pub over_unwound : (setup : Setup) (more : List Input) (callers : List Position) (end : End) → IsOver (unwound setup callers end) → unwound setup callers (end_before more end) ≡ unwound setup callers end
-over_unwound setup more [] (CompleteEnd s left) h = refl
-over_unwound setup more [] (RequestEnd request positions left) h = refl
-over_unwound setup more [] (FaultEnd fault) h = refl
-over_unwound setup more (caller ∷ callers) (CompleteEnd s left) h =
-    let end = (run setup caller.text caller.place (length callers) s left).end in
-    ap (λ (c : Course). unwound setup callers c.end) (extends_run setup caller.text caller.place (length callers) s left more (settled_unwound setup callers end h))
-    ∙ over_unwound setup more callers end h
-over_unwound setup more (caller ∷ callers) (RequestEnd request positions left) h = refl
-over_unwound setup more (caller ∷ callers) (FaultEnd fault) h = refl
+over_end : (setup : Setup) (more : List Input) (end : End) → outcome_of_end setup (end_before more end) ≡ outcome_of_end setup end
+over_end setup more (CompleteEnd s left) = refl
+over_end setup more (RequestEnd request positions left) = refl
+over_end setup more (FaultEnd fault) = refl
 
-extends_from : (setup : Setup) (text : Text) (inputs more : List Input) (r : Result Store Fault) → IsSettled (course_from setup text inputs r).end → course_from setup text (inputs ++ more) r ≡ course_before more (course_from setup text inputs r)
-extends_from setup text inputs more (Ok s) = extends_run setup text 0 0 s inputs more
-extends_from setup text inputs more (Err fault) = λ settled. refl
-
-pub extends_course : (setup : Setup) (refusal : Refusal) (text : Text) (first : First) (inputs more : List Input) → IsSettled (course_of setup refusal text first inputs).end → course_of setup refusal text first (inputs ++ more) ≡ course_before more (course_of setup refusal text first inputs)
-extends_course setup refusal text first inputs more = extends_from setup text inputs more (with_initial setup first.initial_value (fresh first refusal))
+extends_course : (setup : Setup) (refusal : Refusal) (text : Text) (first : First) (inputs more : List Input) → IsSettled (course_of setup refusal text first inputs).end → course_of setup refusal text first (inputs ++ more) ≡ course_before more (course_of setup refusal text first inputs)
+extends_course setup refusal text first inputs more =
+    extends_resumed more (run setup) (extends_run_for enough setup more) (record { text = text; place = 0 }) 0 inputs (with_initial setup first.initial_value (fresh first refusal))
 
 pub over_meaning : (setup : Setup) (refusal : Refusal) (text : Text) (first : First) (inputs more : List Input) → IsOver (meaning setup refusal text first inputs) → meaning setup refusal text first (inputs ++ more) ≡ meaning setup refusal text first inputs
 unfolding meaning
 over_meaning setup refusal text first inputs more h =
     let end = (course_of setup refusal text first inputs).end in
-    ap (λ (c : Course). unwound setup [] c.end) (extends_course setup refusal text first inputs more (settled_unwound setup [] end h))
-    ∙ over_unwound setup more [] end h
+    ap (λ (c : Course). outcome_of_end setup c.end) (extends_course setup refusal text first inputs more (settled_end setup end h))
+    ∙ over_end setup more end

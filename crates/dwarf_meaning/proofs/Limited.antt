@@ -1,5 +1,5 @@
 -- Each list stays within its limit, and so do the texts that are open.
-use Rattle.std.proofs.Common.{ℕ, zero, suc, ◌≡◌, ◌≤◌, ◌<◌, List, [], ◌∷◌, ◌++◌, length, Option, Some, None, Result, Ok, Err, arith, refl, sym, subst, ◌==◌, length-append, append-nil, append_assoc}
+use Rattle.std.proofs.Common.{ℕ, zero, suc, ◌≡◌, ◌≤◌, ◌<◌, List, [], ◌∷◌, ◌++◌, length, Option, Some, None, Result, Ok, Err, arith, refl, subst, ◌==◌, length-append}
 use Rattle.std.specs.Prelude.{nat_lt}
 use Rattle.std.proofs.lemmas.Bool.Decides.{nat_tests}
 use Rattle.dwarf_base.specs.Faults.{Fault, ◌>>=◌}
@@ -11,8 +11,8 @@ use Rattle.dwarf_meaning.specs.Locations.{Location, Piece}
 use Rattle.dwarf_meaning.specs.Requests.{Request, Waiting, Answer, Input}
 use Rattle.dwarf_meaning.specs.Acts.{on_top, Act, Pushes, Branches, Locates, EndsPiece, RequestAct, FaultAct, Use, PushesAnswer, Calls, FaultUse, WrongKind, use_of}
 use Rattle.dwarf_meaning.specs.Stores.{IsWithin, Setup, address_bits, Store, Last, Nothing, Plain, Pieced, Pushed, Called, Located, push_value, push_piece, push_caller, push_values, Next, Goes, RequestNext, FaultNext, done}
-use Rattle.dwarf_meaning.specs.Run.{Position, End, CompleteEnd, RequestEnd, FaultEnd, Course, only_end, Continues, return_to_caller, after_push, enter_callee, run_callee, after_answer, with_input, await_answer, after_operation, read, can_count, counted, do_operation, turn_counted, piece_ended_by, end_located, turn_located, turn_by, turn, out_of_turns, run_for, enough, run}
-use Rattle.dwarf_meaning.specs.Meaning.{completion_of, has_pieces, whole, finish_located, finish_value, finish_judged, finish_free, finish_by, unwound, First, fresh, with_initial, course_from, meaning}
+use Rattle.dwarf_meaning.specs.Run.{Position, End, CompleteEnd, RequestEnd, FaultEnd, Course, only_end, Continues, return_to_caller, after_push, enter_callee, run_callee, after_answer, with_input, await_answer, after_operation, read, can_count, counted, do_operation, turn_counted, piece_ended_by, end_located, turn_located, turn_by, turn, out_of_turns, run_for, enough, run, return_to_callers}
+use Rattle.dwarf_meaning.specs.Meaning.{completion_of, has_pieces, whole, finish_value, finish_by, First, fresh, with_initial, outcome_of_end, course_of, meaning}
 use Rattle.dwarf_meaning.specs.RunLaws.{ListsWithin, OpenTexts, EndWithin, OutcomeWithin, outermost}
 use Rattle.dwarf_meaning.specs.Refusals.{Refusal, spent, room}
 use Rattle.dwarf_meaning.proofs.Choices.{choose_both}
@@ -181,13 +181,13 @@ module _ (setup : Setup) where
   value_within text s (x ∷ rest) l h =
       completed_within text (Some x) _ (kept_piece _ (record s { values = rest }) (record { values = within_less setup.limits.values _ _ (omega (arith, l)) h.values; pieces = h.pieces }))
 
-  located_within : (text : Text) (location : Location) (s : Store) → Kept s → OutcomeWithin setup.limits text (finish_located setup location s)
+  located_within : (text : Text) (location : Location) (s : Store) → Kept s → OutcomeWithin setup.limits text (finish_by setup s (Located location))
   located_within text location s h = choose_both (OutcomeWithin setup.limits text) (has_pieces s.pieces) _ _ (λ e. tt) (λ e. completed_within text None _ (kept_piece (whole location) s h))
 
-  judged_within : (text : Text) (s : Store) → Kept s → OutcomeWithin setup.limits text (finish_judged setup s)
+  judged_within : (text : Text) (s : Store) → Kept s → OutcomeWithin setup.limits text (finish_by setup s Plain)
   judged_within text s h = choose_both (OutcomeWithin setup.limits text) (has_pieces s.pieces) _ _ (λ e. tt) (λ e. value_within text s s.values (omega arith) h)
 
-  free_within : (text : Text) (s : Store) → Kept s → OutcomeWithin setup.limits text (finish_free setup s)
+  free_within : (text : Text) (s : Store) → Kept s → OutcomeWithin setup.limits text (finish_by setup s Nothing)
   free_within text s h = choose_both (OutcomeWithin setup.limits text) (has_pieces s.pieces) _ _ (λ e. h.pieces) (λ e. value_within text s s.values (omega arith) h)
 
   finish_within : (text : Text) (s : Store) (last : Last) → Kept s → OutcomeWithin setup.limits text (finish_by setup s last)
@@ -198,23 +198,18 @@ module _ (setup : Setup) where
   finish_within text s Pieced h = free_within text s h
   finish_within text s Called h = free_within text s h
 
-  -- a text's callers are open as long as it is
-  callers_open : (text : Text) (positions callers : List Position) → OpenTexts setup.limits.callers text (length callers) positions → OpenTexts setup.limits.callers (outermost text callers) 0 (positions ++ callers)
-  callers_open text positions [] h = subst (λ (fs : List Position). OpenTexts setup.limits.callers text 0 fs) (sym (append-nil positions)) h
-  callers_open text positions (caller ∷ callers) h =
-      subst (λ (fs : List Position). OpenTexts setup.limits.callers (outermost caller.text callers) 0 fs) (append_assoc positions (caller ∷ []) callers)
-      (callers_open caller.text (positions ++ caller ∷ []) callers (caller_open caller text (length callers) positions h))
-
-  unwound_limited : (text : Text) (callers : List Position) (end : End) → IsWithin setup.limits.callers (length callers) → EndWithin setup.limits text (length callers) end → OutcomeWithin setup.limits (outermost text callers) (unwound setup callers end)
-  unwound_limited text [] (CompleteEnd s left) d h = finish_within text s s.last h
-  unwound_limited text [] (RequestEnd request positions left) d h = callers_open text positions [] h
-  unwound_limited text [] (FaultEnd fault) d h = tt
-  unwound_limited text (caller ∷ callers) (CompleteEnd s left) d h =
+  -- a text's callers are within the limits if it is
+  returned_within : (text : Text) (callers : List Position) (course : Course) → IsWithin setup.limits.callers (length callers) → EndWithin setup.limits text (length callers) course.end → EndWithin setup.limits (outermost text callers) 0 (return_to_callers setup callers course).end
+  returned_within text [] course d h = h
+  returned_within text (caller ∷ callers) course d h =
       let above = within_less setup.limits.callers (suc (length callers)) (length callers) (omega arith) d in
-      unwound_limited caller.text callers (run setup caller.text caller.place (length callers) s left).end above
-      (limited_run_for enough caller.text caller.place (length callers) s left above h)
-  unwound_limited text (caller ∷ callers) (RequestEnd request positions left) d h = callers_open text positions (caller ∷ callers) h
-  unwound_limited text (caller ∷ callers) (FaultEnd fault) d h = tt
+      returned_within caller.text callers (return_to_caller (run setup) caller (length callers) course course.end) above
+      (limited_back (run setup) (limited_run_for enough) caller text (length callers) course course.end above h)
+
+  ended_within : (text : Text) (end : End) → EndWithin setup.limits text 0 end → OutcomeWithin setup.limits text (outcome_of_end setup end)
+  ended_within text (CompleteEnd s left) h = finish_within text s s.last h
+  ended_within text (RequestEnd request positions left) h = h
+  ended_within text (FaultEnd fault) h = tt
 
   none_within : (limit : Option ℕ) → IsWithin limit 0
   none_within None = tt
@@ -224,19 +219,15 @@ module _ (setup : Setup) where
   initial_kept None s h = h
   initial_kept (Some number) s h = kept_value _ s h
 
-  from_within : (text : Text) (inputs : List Input) (r : Result Store Fault) → OnStore Kept r → EndWithin setup.limits text 0 (course_from setup text inputs r).end
-  from_within text inputs (Ok s) h = limited_run_for enough text 0 0 s inputs (none_within setup.limits.callers) h
-  from_within text inputs (Err fault) h = tt
-
 pub run_within : (setup : Setup) (text : Text) (place depth : ℕ) (s : Store) (inputs : List Input) → IsWithin setup.limits.callers depth → ListsWithin setup.limits s → EndWithin setup.limits text depth (run setup text place depth s inputs).end
 run_within setup = limited_run_for setup enough
 
-pub unwound_within : (setup : Setup) (text : Text) (callers : List Position) (end : End) → IsWithin setup.limits.callers (length callers) → EndWithin setup.limits text (length callers) end → OutcomeWithin setup.limits (outermost text callers) (unwound setup callers end)
-unwound_within setup = unwound_limited setup
+pub callers_within : (setup : Setup) (text : Text) (callers : List Position) (course : Course) → IsWithin setup.limits.callers (length callers) → EndWithin setup.limits text (length callers) course.end → OutcomeWithin setup.limits (outermost text callers) (outcome_of_end setup (return_to_callers setup callers course).end)
+callers_within setup text callers course d h = ended_within setup (outermost text callers) (return_to_callers setup callers course).end (returned_within setup text callers course d h)
 
 pub meaning_within : (setup : Setup) (refusal : Refusal) (text : Text) (first : First) (inputs : List Input) → OutcomeWithin setup.limits text (meaning setup refusal text first inputs)
 unfolding meaning
 meaning_within setup refusal text first inputs =
-    unwound_within setup text [] _ (none_within setup setup.limits.callers)
-    (from_within setup text inputs _
+    ended_within setup text (course_of setup refusal text first inputs).end
+    (limited_resumed setup (run setup) (limited_run_for setup enough) (record { text = text; place = 0 }) 0 inputs (with_initial setup first.initial_value (fresh first refusal)) (none_within setup setup.limits.callers)
     (initial_kept setup first.initial_value (fresh first refusal) (record { values = none_within setup setup.limits.values; pieces = none_within setup setup.limits.pieces })))

@@ -10,7 +10,7 @@ use Rattle.dwarf_value.specs.declared.types.Value.TheVariants.{Generic}
 use Rattle.dwarf_value.specs.Values.{type_of, to_u64_of, from_u64_of, abs_of, neg_of, not_of, add_of, sub_of, mul_of, div_of, rem_of, and_of, or_of, xor_of, shl_of, shr_of, shra_of, eq_of, ge_of, gt_of, le_of, lt_of, ne_of, convert_of, reinterpret_of, parse_of}
 use Rattle.dwarf_meaning.specs.Operations as operation
 use Rattle.dwarf_meaning.specs.Operations.{Operation}
-use Rattle.dwarf_meaning.specs.Locations.{Location, Empty, InRegister, AtAddress, HoldsValue, HoldsBytes, PointsInto, Piece}
+use Rattle.dwarf_meaning.specs.Locations.{Location, Empty, InRegister, AtAddress, HoldsValue, HoldsBytes, PointsInto, Piece, sized}
 use Rattle.dwarf_meaning.specs.Requests.{Request, RequiresMemory, RequiresRegister, RequiresWasmLocal, RequiresWasmGlobal, RequiresWasmStack, RequiresFrameBase, RequiresTls, RequiresCallFrameCfa, RequiresAtLocation, RequiresEntryValue, RequiresParameterRef, RequiresRelocatedAddress, RequiresIndexedAddress, RequiresBaseType, Waiting, Memory, Register, WasmValue, EntryValue, FrameBase, Tls, CallFrameCfa, ParameterRef, RelocatedAddress, IndexedAddress, AtLocation, TypedLiteral, Convert, Reinterpret, Answer, MemoryAnswer, RegisterAnswer, WasmAnswer, EntryAnswer, FrameBaseAnswer, TlsAnswer, CfaAnswer, ParameterAnswer, RelocatedAnswer, IndexedAnswer, LocationAnswer, BaseTypeAnswer}
 
 -- What an operation does: `rest` are the values that it leaves of the stack, the top first.
@@ -78,11 +78,10 @@ binary call values =
 unfoldable pub act : (bits : ℕ) (object : Option ℕ) → Operation → List Value → Act
 act bits object operation.Drop values = on_top values short (λ x rest. Pushes rest [])
 act bits object (operation.Pick index) values = on_some (slice_get values index) short (push values)
-act bits object operation.Swap values =
-    on_top values short (λ y below. on_top below short (λ x rest. Pushes rest (y ∷ x ∷ [])))
-act bits object operation.Rot values =
-    on_top values short (λ z below. on_top below short
-    (λ y lower. on_top lower short (λ x rest. Pushes rest (z ∷ x ∷ y ∷ []))))
+act bits object operation.Swap (y ∷ x ∷ rest) = Pushes rest (y ∷ x ∷ [])
+act bits object operation.Swap _ = short
+act bits object operation.Rot (z ∷ y ∷ x ∷ rest) = Pushes rest (z ∷ x ∷ y ∷ [])
+act bits object operation.Rot _ = short
 act bits object operation.Abs values = unary (abs_of bits) values
 act bits object operation.Neg values = unary (neg_of bits) values
 act bits object operation.Not values = unary (not_of bits) values
@@ -150,16 +149,8 @@ act bits object (operation.ImplicitValue bytes) values = Locates values (HoldsBy
 act bits object operation.StackValue values = on_top values short (λ x rest. Locates rest (HoldsValue x))
 act bits object (operation.ImplicitPointer value byte_offset) values = Locates values (PointsInto value byte_offset)
 act bits object (operation.Piece size_in_bits bit_offset) values =
-    on_top values (EndsPiece [] (record {
-      size_in_bits = Some size_in_bits;
-      bit_offset = bit_offset;
-      location = Empty;
-    }))
-    (λ x rest. EndsPiece rest (record {
-      size_in_bits = Some size_in_bits;
-      bit_offset = bit_offset;
-      location = AtAddress (to_u64_of bits x);
-    }))
+    on_top values (EndsPiece [] (sized size_in_bits bit_offset Empty))
+    (λ x rest. EndsPiece rest (sized size_in_bits bit_offset (AtAddress (to_u64_of bits x))))
 
 -- ---- what is done with an answer
 

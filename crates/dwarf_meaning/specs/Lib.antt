@@ -16,7 +16,6 @@ pub mod Run
 pub mod Meaning
 pub mod Rest
 pub mod Inputs
-pub mod Paths
 pub mod Bounds
 pub mod Steps
 pub mod Rows

@@ -1,5 +1,5 @@
 -- Locations and the pieces of a variable (DWARF 5, section 2.6.1).
-use Rattle.std.specs.Prelude.{ℕ, ℤ, Option}
+use Rattle.std.specs.Prelude.{ℕ, ℤ, Option, Some}
 use Rattle.dwarf_base.specs.Reads.{Text}
 use Rattle.dwarf_value.specs.declared.types.Value.{Value}
 
@@ -17,3 +17,8 @@ pub record Piece : Type 0 where
   pub size_in_bits : Option ℕ
   pub bit_offset : Option ℕ
   pub location : Location
+
+-- a piece of this size, at this offset
+abbrev pub sized : (size_in_bits : ℕ) → (bit_offset : Option ℕ) → Location → Piece
+sized size_in_bits bit_offset location =
+    record { size_in_bits = Some size_in_bits; bit_offset = bit_offset; location = location }

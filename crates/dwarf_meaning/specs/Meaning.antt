@@ -1,6 +1,6 @@
 -- The meaning of an expression, for the settings and the answers of its caller (DWARF 5, sections 2.5, 2.6.1.1 and
 -- 2.6.1.2).
-use Rattle.std.specs.Prelude.{Bool, true, false, ℕ, List, [], ◌∷◌, ◌++◌, Option, Some, None, Result, Ok, Err, length}
+use Rattle.std.specs.Prelude.{Bool, true, false, ℕ, List, [], ◌∷◌, Option, Some, None, Result, Ok, Err}
 use Rattle.dwarf_base.specs.Faults.{Fault}
 use Rattle.dwarf_base.specs.declared.errors.Error.TheVariants.{InvalidPiece, NotEnoughStackItems}
 use Rattle.dwarf_base.specs.Reads.{Text}
@@ -11,7 +11,7 @@ use Rattle.dwarf_meaning.specs.Locations.{Location, AtAddress, Piece}
 use Rattle.dwarf_meaning.specs.Requests.{Request, Input}
 use Rattle.dwarf_meaning.specs.Acts.{choose, on_top}
 use Rattle.dwarf_meaning.specs.Stores.{Setup, address_bits, Store, Last, Nothing, Plain, Pushed, Located, push_value, push_piece}
-use Rattle.dwarf_meaning.specs.Run.{Position, End, CompleteEnd, RequestEnd, FaultEnd, Course, only_end, run}
+use Rattle.dwarf_meaning.specs.Run.{Position, End, CompleteEnd, RequestEnd, FaultEnd, Course, after_push, run}
 use Rattle.dwarf_meaning.specs.Refusals.{Refusal}
 
 -- the outcome of an evaluation
@@ -37,11 +37,6 @@ has_pieces (piece ∷ pieces) = true
 abbrev pub whole : Location → Piece
 whole location = record { size_in_bits = None; bit_offset = None; location = location }
 
--- after a location, which is the whole variable
-abbrev pub finish_located : Setup → Location → Store → Outcome
-finish_located setup location s =
-    choose (has_pieces s.pieces) (FaultOutcome InvalidPiece) (completion_of None (push_piece setup (whole location) s))
-
 -- the top is the value, and the address of the whole variable
 abbrev pub finish_value : Setup → Store → Outcome
 finish_value setup s =
@@ -49,20 +44,13 @@ finish_value setup s =
     (λ x rest. completion_of (Some x) (push_piece setup (whole (AtAddress (to_u64_of (address_bits setup) x)))
     (record s { values = rest })))
 
--- after an operation that may not follow pieces
-abbrev pub finish_judged : Setup → Store → Outcome
-finish_judged setup s = choose (has_pieces s.pieces) (FaultOutcome InvalidPiece) (finish_value setup s)
-
--- after an operation that may follow pieces
-abbrev pub finish_free : Setup → Store → Outcome
-finish_free setup s = choose (has_pieces s.pieces) (CompleteOutcome s.pieces None) (finish_value setup s)
-
--- the end, by the last operation
+-- the end, by the last operation: a location is the whole variable; neither it nor a value may follow pieces
 abbrev pub finish_by : Setup → Store → Last → Outcome
-finish_by setup s (Located location) = finish_located setup location s
-finish_by setup s Plain = finish_judged setup s
-finish_by setup s Pushed = finish_judged setup s
-finish_by setup s _ = finish_free setup s
+finish_by setup s (Located location) =
+    choose (has_pieces s.pieces) (FaultOutcome InvalidPiece) (completion_of None (push_piece setup (whole location) s))
+finish_by setup s Plain = choose (has_pieces s.pieces) (FaultOutcome InvalidPiece) (finish_value setup s)
+finish_by setup s Pushed = choose (has_pieces s.pieces) (FaultOutcome InvalidPiece) (finish_value setup s)
+finish_by setup s _ = choose (has_pieces s.pieces) (CompleteOutcome s.pieces None) (finish_value setup s)
 
 -- the end of the outermost text
 abbrev pub finish : Setup → Store → Outcome
@@ -70,13 +58,11 @@ finish setup s = finish_by setup s s.last
 
 -- ---- the whole
 
--- The rest of the callers follows a run, inside out, and then the end.
-abbrev pub unwound : Setup → List Position → End → Outcome
-unwound setup [] (CompleteEnd s inputs) = finish setup s
-unwound setup (caller ∷ callers) (CompleteEnd s inputs) =
-    unwound setup callers (run setup caller.text caller.place (length callers) s inputs).end
-unwound setup callers (RequestEnd request positions inputs) = RequestOutcome request (positions ++ callers)
-unwound setup callers (FaultEnd fault) = FaultOutcome fault
+-- the outcome, by how the outermost text ends
+abbrev pub outcome_of_end : Setup → End → Outcome
+outcome_of_end setup (CompleteEnd s inputs) = finish setup s
+outcome_of_end setup (RequestEnd request positions inputs) = RequestOutcome request positions
+outcome_of_end setup (FaultEnd fault) = FaultOutcome fault
 
 -- the settings when an evaluation starts
 pub record First : Type 0 where
@@ -102,16 +88,12 @@ abbrev pub with_initial : Setup → Option ℕ → Store → Result Store Fault
 with_initial setup None s = Ok s
 with_initial setup (Some number) s = push_value setup (Generic number) s
 
--- the run of a text from its beginning, if the initial value found room
-abbrev pub course_from : Setup → Text → List Input → Result Store Fault → Course
-course_from setup text inputs (Ok s) = run setup text 0 0 s inputs
-course_from setup text inputs (Err fault) = only_end (FaultEnd fault)
-
--- the run of a text, from its settings and the inputs after them
+-- the run of a text from its beginning, by its settings and the inputs after them, if the initial value found room
 abbrev pub course_of : Setup → Refusal → Text → First → List Input → Course
 course_of setup refusal text first inputs =
-    course_from setup text inputs (with_initial setup first.initial_value (fresh first refusal))
+    after_push (run setup) (record { text = text; place = 0 }) 0 inputs
+    (with_initial setup first.initial_value (fresh first refusal))
 
 -- the outcome of a text; its path and its requests are those of the course
 unfoldable pub meaning : Setup → Refusal → Text → First → List Input → Outcome
-meaning setup refusal text first inputs = unwound setup [] (course_of setup refusal text first inputs).end
+meaning setup refusal text first inputs = outcome_of_end setup (course_of setup refusal text first inputs).end

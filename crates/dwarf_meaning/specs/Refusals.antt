@@ -70,6 +70,5 @@ before_inputs (suc n) refusal = before_inputs n (before_input refusal)
 
 -- no push is refused before the next input is taken
 abbrev pub IsLater : Refusal → Type 0
-IsLater Never = Unit {0}
 IsLater (After zero pushes) = ⊥
-IsLater (After (suc inputs) pushes) = Unit {0}
+IsLater _ = Unit {0}

@@ -1,14 +1,14 @@
 -- What is left to do of an evaluation that has come to some state (DWARF 5, sections 2.5 and 2.5.1.5).
-use Rattle.std.specs.Prelude.{ℕ, List, Option, Result, Ok, Err, length}
+use Rattle.std.specs.Prelude.{ℕ, ◌+◌, List, ◌∷◌, Option, length}
 use Rattle.dwarf_base.specs.declared.errors.Error.{Error}
-use Rattle.dwarf_base.specs.Faults.{Fault, fault_of}
+use Rattle.dwarf_base.specs.Faults.{fault_of}
 use Rattle.dwarf_base.specs.Reads.{Text}
 use Rattle.dwarf_value.specs.declared.types.Value.{Value}
 use Rattle.dwarf_meaning.specs.Requests.{Request, Waiting, Input}
 use Rattle.dwarf_meaning.specs.Stores.{Setup, Store}
-use Rattle.dwarf_meaning.specs.Run.{Position, run, await_answer}
-use Rattle.dwarf_meaning.specs.Meaning.{Outcome, FaultOutcome, CompleteOutcome, unwound, with_initial}
-use Rattle.dwarf_meaning.specs.Refusals.{Refusal}
+use Rattle.dwarf_meaning.specs.Run.{Position, Course, after_push, await_answer, run, return_to_callers}
+use Rattle.dwarf_meaning.specs.Meaning.{Outcome, FaultOutcome, CompleteOutcome, outcome_of_end, with_initial}
+use Rattle.dwarf_meaning.specs.Refusals.{Refusal, before_input}
 
 -- where an evaluation stands
 pub data Status : Type 0 where
@@ -35,29 +35,36 @@ pub record State : Type 0 where
 abbrev pub with_refusal : Refusal → Store → Store
 with_refusal refusal s = record s { refusal = refusal }
 
--- the run goes on, and then the callers' rest
-abbrev pub rest_of_run : State → Store → List Input → Outcome
-rest_of_run x s inputs = unwound x.setup x.callers (run x.setup x.text x.place (length x.callers) s inputs).end
+-- the outcome of an evaluation, and how many operations are counted by then
+pub record Total : Type 0 where
+  pub outcome : Outcome
+  pub count : ℕ
 
--- the run begins, if the initial value found room
-abbrev pub rest_from_start : State → List Input → Result Store Fault → Outcome
-rest_from_start x inputs (Ok s) = rest_of_run x s inputs
-rest_from_start x inputs (Err fault) = FaultOutcome fault
+-- the total of a course and of the rest of its callers, if n operations were counted before
+abbrev pub total_of_course : (n : ℕ) → Setup → (callers : List Position) → Course → Total
+total_of_course n setup callers course =
+    let whole = return_to_callers setup callers course in
+    record { outcome = outcome_of_end setup whole.end; count = n + length whole.path }
 
--- the open request takes the first input
-abbrev pub rest_of_request : State → Request → Waiting → Store → List Input → Outcome
-rest_of_request x request waiting s inputs =
-    unwound x.setup x.callers (await_answer (run x.setup) x.setup (record { text = x.text; place = x.place })
-    (length x.callers) request waiting s inputs).end
+-- the total, by the status: the run begins, if the initial value found room, or goes on, or takes the first input
+abbrev pub total_by : State → Store → List Input → Status → Total
+total_by x s inputs (Start initial_value) =
+    total_of_course x.store.count x.setup x.callers
+    (after_push (run x.setup) (record { text = x.text; place = x.place }) (length x.callers) inputs
+    (with_initial x.setup initial_value s))
+total_by x s inputs Running =
+    total_of_course x.store.count x.setup x.callers (run x.setup x.text x.place (length x.callers) s inputs)
+total_by x s inputs (RequestStatus request waiting) =
+    total_of_course x.store.count x.setup x.callers
+    (await_answer (run x.setup) x.setup (record { text = x.text; place = x.place }) (length x.callers) request waiting s
+    inputs)
+total_by x s inputs (CompleteStatus value) = record { outcome = CompleteOutcome s.pieces value; count = x.store.count }
+total_by x s inputs (FaultStatus error) = record { outcome = FaultOutcome (fault_of error); count = x.store.count }
 
--- the same by the status
-abbrev pub rest_by : State → Store → List Input → Status → Outcome
-rest_by x s inputs (Start initial_value) = rest_from_start x inputs (with_initial x.setup initial_value s)
-rest_by x s inputs Running = rest_of_run x s inputs
-rest_by x s inputs (RequestStatus request waiting) = rest_of_request x request waiting s inputs
-rest_by x s inputs (CompleteStatus value) = CompleteOutcome s.pieces value
-rest_by x s inputs (FaultStatus error) = FaultOutcome (fault_of error)
+-- the total of a state with these inputs, if this push is refused
+unfoldable pub total : State → Refusal → List Input → Total
+total x refusal inputs = total_by x (with_refusal refusal x.store) inputs x.status
 
--- the outcome of a state with these inputs, if this push is refused
-unfoldable pub rest : Refusal → State → List Input → Outcome
-rest refusal x inputs = rest_by x (with_refusal refusal x.store) inputs x.status
+-- the total of a state and its next input
+abbrev pub total_after : State → Input → Refusal → List Input → Total
+total_after x input refusal inputs = total x (before_input refusal) (input ∷ inputs)

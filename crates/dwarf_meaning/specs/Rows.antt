@@ -3,7 +3,7 @@ use Rattle.std.specs.Prelude.{ℕ, false, List, [], ◌∷◌, Some, None}
 use Rattle.dwarf_base.specs.declared.common.Format.TheVariants.{Dwarf32}
 use Rattle.dwarf_base.specs.Reads.{Text}
 use Rattle.dwarf_value.specs.declared.types.Value.TheVariants.{Generic}
-use Rattle.dwarf_meaning.specs.Locations.{Location, AtAddress, Piece}
+use Rattle.dwarf_meaning.specs.Locations.{Location, AtAddress, Piece, sized}
 use Rattle.dwarf_meaning.specs.Requests.{Answer, LocationAnswer, Input}
 use Rattle.dwarf_meaning.specs.Stores.{Setup}
 use Rattle.dwarf_meaning.specs.Run.{Position}
@@ -51,7 +51,7 @@ open_at bytes place = record { text = text bytes; place = place }
 
 -- a piece of 32 bits
 abbrev pub word_at : Location → Piece
-word_at location = record { size_in_bits = Some 32; bit_offset = None; location = location }
+word_at location = sized 32 None location
 
 -- a generic value, and the whole variable at this address
 abbrev pub valued : (number address : ℕ) → Outcome

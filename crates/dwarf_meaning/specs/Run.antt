@@ -5,7 +5,7 @@ use Rattle.dwarf_base.specs.declared.errors.Error.TheVariants.{InvalidExpression
 use Rattle.dwarf_base.specs.Reads.{Text}
 use Rattle.dwarf_meaning.specs.Operations as operation
 use Rattle.dwarf_meaning.specs.Operations.{Operation}
-use Rattle.dwarf_meaning.specs.Locations.{Location}
+use Rattle.dwarf_meaning.specs.Locations.{Location, sized}
 use Rattle.dwarf_meaning.specs.Decoding.{operation_at}
 use Rattle.dwarf_meaning.specs.Requests.{Request, Waiting, Input}
 use Rattle.dwarf_meaning.specs.Acts.{choose, act, Use, PushesAnswer, Calls, FaultUse, WrongKind, use_of}
@@ -51,67 +51,15 @@ append_course first second =
 abbrev pub Continues : Type 0
 Continues = (text : Text) (place depth : ℕ) → Store → List Input → Course
 
--- the caller's rest, after its callee's course
-abbrev pub return_to_caller : Continues → Position → (depth : ℕ) → Course → End → Course
-return_to_caller go position depth course (CompleteEnd s inputs) =
-    append_course course (go position.text position.place depth s inputs)
-return_to_caller go position depth course (RequestEnd request positions inputs) =
-    record course { end = RequestEnd request (positions ++ position ∷ []) inputs }
-return_to_caller go position depth course (FaultEnd fault) = record course { end = FaultEnd fault }
-
--- on from a position, if the push found room
-abbrev pub after_push : Continues → Position → (depth : ℕ) → List Input → Result Store Fault → Course
-after_push go position depth inputs (Ok s) = go position.text position.place depth s inputs
-after_push go position depth inputs (Err fault) = only_end (FaultEnd fault)
-
--- a callee is run from its beginning, if its caller found room, and then the caller's rest
-abbrev pub enter_callee : Continues → Position → (depth : ℕ) → Text → List Input → Result Store Fault → Course
-enter_callee go position depth callee inputs (Ok s) =
-    let course = go callee 0 (suc depth) s inputs in return_to_caller go position depth course course.end
-enter_callee go position depth callee inputs (Err fault) = only_end (FaultEnd fault)
-
--- a call goes on at once if it was answered by no bytes
-abbrev pub run_callee : Continues → Setup → Position → (depth : ℕ) → Text → List ℕ → Store → List Input → Course
-run_callee go setup position depth callee [] s inputs =
-    go position.text position.place depth (record s { last = Called }) inputs
-run_callee go setup position depth callee (byte ∷ bytes) s inputs =
-    enter_callee go position depth callee inputs (push_caller setup depth s)
-
--- what an answer is used for
-abbrev pub after_answer : Continues → Setup → Position → (depth : ℕ) → Use → Store → List Input → Course → Course
-after_answer go setup position depth (PushesAnswer rest value) s inputs unanswered =
-    after_push go position depth inputs (push_value setup value (record s { values = rest; last = Pushed }))
-after_answer go setup position depth (Calls callee) s inputs unanswered =
-    run_callee go setup position depth callee callee.bytes s inputs
-after_answer go setup position depth (FaultUse fault) s inputs unanswered = only_end (FaultEnd fault)
-after_answer go setup position depth WrongKind s inputs unanswered = unanswered
-
 -- what is kept once an input is taken
 abbrev pub with_input : Input → Store → Store
 with_input input s =
     record s { object_address = input.object_address; maximum = input.maximum; refusal = taken s.refusal }
 
--- a request takes the next input; it stays open if there is none, or none of its kind
-abbrev pub await_answer : Continues → Setup → Position → (depth : ℕ) → Request → Waiting → Store → List Input → Course
-await_answer go setup position depth request waiting s [] = only_end (RequestEnd request (position ∷ []) [])
-await_answer go setup position depth request waiting s (input ∷ inputs) =
-    after_answer go setup position depth (use_of (address_bits setup) waiting input.answer s.values)
-    (with_input input s) inputs
-    (only_end (RequestEnd request (position ∷ []) (input ∷ inputs)))
-
--- on at the place that an operation led to, or by the answer to its request
-abbrev pub after_operation : Continues → Setup → Text → (depth place : ℕ) → List Input → Next → Course
-after_operation go setup text depth place inputs (Goes to s) = go text to depth s inputs
-after_operation go setup text depth place inputs (RequestNext request waiting s) =
-    add_request request (await_answer go setup (record { text = text; place = place }) depth request waiting s inputs)
-after_operation go setup text depth place inputs (FaultNext fault) = only_end (FaultEnd fault)
-
 -- the operation at a place, and the bytes after it
 abbrev pub read : Setup → Text → (place : ℕ) → Result (Operation × List ℕ) Fault
 read setup text place =
     operation_at setup.encoding setup.offset_bits (record { bytes = drop place text.bytes; is_big = text.is_big })
-
--- ---- a turn at an operation that is counted
 
 -- the maximum that holds if none is set; no run counts more
 unfoldable pub most : ℕ
@@ -125,25 +73,6 @@ can_count s = nat_lt s.count s.maximum && nat_lt s.count most
 abbrev pub counted : Store → Store
 counted s = record s { count = s.count + 1 }
 
--- the operation that was read is done
-abbrev pub do_operation : Continues → Setup → Text → (depth : ℕ) → Store → List Input
-    → Result (Operation × List ℕ) Fault → Course
-do_operation go setup text depth s inputs (Ok x) =
-    let place = length text.bytes - length x.1 in
-    after_operation go setup text depth place inputs
-    (done setup place (length text.bytes) (act (address_bits setup) s.object_address x.0 s.values) s)
-do_operation go setup text depth s inputs (Err fault) = only_end (FaultEnd fault)
-
--- one more operation is counted, and done
-abbrev pub turn_counted : Continues → Setup → Text → (place depth : ℕ) → Store → List Input → Course
-turn_counted go setup text place depth s inputs =
-    choose (can_count s)
-    (add_to_path (record { text = text; place = place })
-    (do_operation go setup text depth (counted s) inputs (read setup text place)))
-    (only_end (FaultEnd TooManyIterations))
-
--- ---- a turn after a location, which is not counted
-
 -- the size and the offset of a piece, in bits, if the operation ends one
 abbrev pub piece_ended_by : Operation → Option (ℕ × Option ℕ)
 piece_ended_by (operation.Piece size_in_bits bit_offset) = Some (size_in_bits, bit_offset)
@@ -152,31 +81,95 @@ piece_ended_by _ = None
 -- After a location comes its piece, and nothing else; `place` is the one after the operation.
 abbrev pub end_located : Setup → Location → (place : ℕ) → Store → Option (ℕ × Option ℕ) → Next
 end_located setup location place s (Some piece) =
-    goes place (push_piece setup (record { size_in_bits = Some piece.0; bit_offset = piece.1; location = location })
-    (record s { last = Pieced }))
+    goes place (push_piece setup (sized piece.0 piece.1 location) (record s { last = Pieced }))
 end_located setup location place s None = FaultNext (InvalidExpressionTerminator (place - 1))
 
--- the operation that was read ends the location's piece
-abbrev pub turn_located : Continues → Setup → Text → (depth : ℕ) → Location → Store → List Input
-    → Result (Operation × List ℕ) Fault → Course
-turn_located go setup text depth location s inputs (Ok x) =
-    let place = length text.bytes - length x.1 in
-    after_operation go setup text depth place inputs (end_located setup location place s (piece_ended_by x.0))
-turn_located go setup text depth location s inputs (Err fault) = only_end (FaultEnd fault)
+module _ (go : Continues) where
+  -- the caller's rest, after its callee's course
+  abbrev pub return_to_caller : Position → (depth : ℕ) → Course → End → Course
+  return_to_caller position depth course (CompleteEnd s inputs) =
+      append_course course (go position.text position.place depth s inputs)
+  return_to_caller position depth course (RequestEnd request positions inputs) =
+      record course { end = RequestEnd request (positions ++ position ∷ []) inputs }
+  return_to_caller position depth course (FaultEnd fault) = record course { end = FaultEnd fault }
 
--- ---- runs
+  -- on from a position, if the push found room
+  abbrev pub after_push : Position → (depth : ℕ) → List Input → Result Store Fault → Course
+  after_push position depth inputs (Ok s) = go position.text position.place depth s inputs
+  after_push position depth inputs (Err fault) = only_end (FaultEnd fault)
 
--- a turn by the last operation: after a location, or one that is counted
-abbrev pub turn_by : Continues → Setup → Text → (place depth : ℕ) → Store → List Input → Last → Course
-turn_by go setup text place depth s inputs (Located location) =
-    turn_located go setup text depth location s inputs (read setup text place)
-turn_by go setup text place depth s inputs _ = turn_counted go setup text place depth s inputs
+  -- a callee is run from its beginning, if its caller found room, and then the caller's rest
+  abbrev pub enter_callee : Position → (depth : ℕ) → Text → List Input → Result Store Fault → Course
+  enter_callee position depth callee inputs (Ok s) =
+      let course = go callee 0 (suc depth) s inputs in return_to_caller position depth course course.end
+  enter_callee position depth callee inputs (Err fault) = only_end (FaultEnd fault)
 
--- the next operation, or the end of the text
-abbrev pub turn : Continues → Setup → Continues
-turn go setup text place depth s inputs =
-    choose (place == length text.bytes) (only_end (CompleteEnd s inputs))
-    (turn_by go setup text place depth s inputs s.last)
+  module _ (setup : Setup) where
+    -- a call goes on at once if it was answered by no bytes
+    abbrev pub run_callee : Position → (depth : ℕ) → Text → List ℕ → Store → List Input → Course
+    run_callee position depth callee [] s inputs =
+        go position.text position.place depth (record s { last = Called }) inputs
+    run_callee position depth callee (byte ∷ bytes) s inputs =
+        enter_callee position depth callee inputs (push_caller setup depth s)
+
+    -- what an answer is used for
+    abbrev pub after_answer : Position → (depth : ℕ) → Use → Store → List Input → Course → Course
+    after_answer position depth (PushesAnswer rest value) s inputs unanswered =
+        after_push position depth inputs (push_value setup value (record s { values = rest; last = Pushed }))
+    after_answer position depth (Calls callee) s inputs unanswered =
+        run_callee position depth callee callee.bytes s inputs
+    after_answer position depth (FaultUse fault) s inputs unanswered = only_end (FaultEnd fault)
+    after_answer position depth WrongKind s inputs unanswered = unanswered
+
+    -- a request takes the next input; it stays open if there is none, or none of its kind
+    abbrev pub await_answer : Position → (depth : ℕ) → Request → Waiting → Store → List Input → Course
+    await_answer position depth request waiting s [] = only_end (RequestEnd request (position ∷ []) [])
+    await_answer position depth request waiting s (input ∷ inputs) =
+        after_answer position depth (use_of (address_bits setup) waiting input.answer s.values) (with_input input s)
+        inputs (only_end (RequestEnd request (position ∷ []) (input ∷ inputs)))
+
+    -- on at the place that an operation led to, or by the answer to its request
+    abbrev pub after_operation : Text → (depth place : ℕ) → List Input → Next → Course
+    after_operation text depth place inputs (Goes to s) = go text to depth s inputs
+    after_operation text depth place inputs (RequestNext request waiting s) =
+        add_request request (await_answer (record { text = text; place = place }) depth request waiting s inputs)
+    after_operation text depth place inputs (FaultNext fault) = only_end (FaultEnd fault)
+
+    -- the operation that was read is done
+    abbrev pub do_operation : Text → (depth : ℕ) → Store → List Input → Result (Operation × List ℕ) Fault → Course
+    do_operation text depth s inputs (Ok x) =
+        let place = length text.bytes - length x.1 in
+        after_operation text depth place inputs
+        (done setup place (length text.bytes) (act (address_bits setup) s.object_address x.0 s.values) s)
+    do_operation text depth s inputs (Err fault) = only_end (FaultEnd fault)
+
+    -- one more operation is counted, and done
+    abbrev pub turn_counted : Text → (place depth : ℕ) → Store → List Input → Course
+    turn_counted text place depth s inputs =
+        choose (can_count s)
+        (add_to_path (record { text = text; place = place })
+        (do_operation text depth (counted s) inputs (read setup text place)))
+        (only_end (FaultEnd TooManyIterations))
+
+    -- the operation that was read ends the location's piece, and isn't counted
+    abbrev pub turn_located : Text → (depth : ℕ) → Location → Store → List Input
+        → Result (Operation × List ℕ) Fault → Course
+    turn_located text depth location s inputs (Ok x) =
+        let place = length text.bytes - length x.1 in
+        after_operation text depth place inputs (end_located setup location place s (piece_ended_by x.0))
+    turn_located text depth location s inputs (Err fault) = only_end (FaultEnd fault)
+
+    -- a turn by the last operation: after a location, or one that is counted
+    abbrev pub turn_by : Text → (place depth : ℕ) → Store → List Input → Last → Course
+    turn_by text place depth s inputs (Located location) =
+        turn_located text depth location s inputs (read setup text place)
+    turn_by text place depth s inputs _ = turn_counted text place depth s inputs
+
+    -- the next operation, or the end of the text
+    abbrev pub turn : Continues
+    turn text place depth s inputs =
+        choose (place == length text.bytes) (only_end (CompleteEnd s inputs))
+        (turn_by text place depth s inputs s.last)
 
 -- no turn is left
 abbrev pub out_of_turns : Continues
@@ -194,3 +187,9 @@ enough = 2 * most + 1
 -- a run from a place of a text
 abbrev pub run : Setup → Continues
 run setup = run_for enough setup
+
+-- a course, and then the rest of its callers, inside out
+abbrev pub return_to_callers : Setup → (callers : List Position) → Course → Course
+return_to_callers setup [] course = course
+return_to_callers setup (caller ∷ callers) course =
+    return_to_callers setup callers (return_to_caller (run setup) caller (length callers) course course.end)

@@ -22,10 +22,8 @@ turns_left s = 2 * (most - s.count) + waits_of s.last
 
 -- it doesn't wait for an input that is still to come
 abbrev pub IsSettled : End → Type 0
-IsSettled (CompleteEnd s left) = Unit {0}
 IsSettled (RequestEnd request positions []) = ⊥
-IsSettled (RequestEnd request positions (input ∷ inputs)) = Unit {0}
-IsSettled (FaultEnd fault) = Unit {0}
+IsSettled _ = Unit {0}
 
 -- the same end, with more inputs left
 abbrev pub end_before : List Input → End → End
@@ -58,8 +56,7 @@ EndTook inputs requests (FaultEnd fault) = length requests ≤ length inputs
 -- it asks nothing more
 abbrev pub IsOver : Outcome → Type 0
 IsOver (RequestOutcome request positions) = ⊥
-IsOver (FaultOutcome fault) = Unit {0}
-IsOver (CompleteOutcome pieces value) = Unit {0}
+IsOver _ = Unit {0}
 
 -- ---- counts
 
@@ -75,20 +72,17 @@ MaximaWithin bound inputs = AllMaxima (λ m. m ≤ bound) inputs
 -- at the end of the text this many operations are counted
 abbrev pub EndCounts : (total : ℕ) → End → Type 0
 EndCounts total (CompleteEnd s left) = s.count ≡ total
-EndCounts total (RequestEnd request positions left) = Unit {0}
-EndCounts total (FaultEnd fault) = Unit {0}
+EndCounts total _ = Unit {0}
 
 -- at the end of the text the count is within the bound
 abbrev pub EndCountWithin : (bound : ℕ) → End → Type 0
 EndCountWithin bound (CompleteEnd s left) = s.count ≤ bound
-EndCountWithin bound (RequestEnd request positions left) = Unit {0}
-EndCountWithin bound (FaultEnd fault) = Unit {0}
+EndCountWithin bound _ = Unit {0}
 
 -- at the end of the text the maximum in force is within the bound
 abbrev pub EndMaximumWithin : (bound : ℕ) → End → Type 0
 EndMaximumWithin bound (CompleteEnd s left) = s.maximum ≤ bound
-EndMaximumWithin bound (RequestEnd request positions left) = Unit {0}
-EndMaximumWithin bound (FaultEnd fault) = Unit {0}
+EndMaximumWithin bound _ = Unit {0}
 
 -- If `start` operations were counted before, no more are counted in all than the bound.
 pub record CountsWithin (bound start : ℕ) (course : Course) : Type 0 where
@@ -149,12 +143,10 @@ pub data Open (inputs : List Input) : Text → List Position → Type 0 where
 
 -- at a request the open texts are the text and callees
 abbrev pub EndOpen : List Input → Text → End → Type 0
-EndOpen inputs text (CompleteEnd s left) = Unit {0}
 EndOpen inputs text (RequestEnd request positions left) = Open inputs text positions
-EndOpen inputs text (FaultEnd fault) = Unit {0}
+EndOpen inputs text _ = Unit {0}
 
 -- in a request that comes of a text the open texts are the text and callees
 abbrev pub OutcomeOpen : List Input → Text → Outcome → Type 0
 OutcomeOpen inputs text (RequestOutcome request positions) = Open inputs text positions
-OutcomeOpen inputs text (FaultOutcome fault) = Unit {0}
-OutcomeOpen inputs text (CompleteOutcome pieces value) = Unit {0}
+OutcomeOpen inputs text _ = Unit {0}

@@ -76,11 +76,9 @@ begun settings (Some first) = first
 
 -- an answer, with the settings that hold now; after a fault it says nothing
 abbrev pub heard : First → List Input → Answer → Option Outcome → List Input
-heard settings inputs answer None = inputs
 heard settings inputs answer (Some (RequestOutcome request positions)) =
     inputs ++ record { object_address = settings.object_address; maximum = settings.maximum; answer = answer } ∷ []
-heard settings inputs answer (Some (FaultOutcome fault)) = inputs
-heard settings inputs answer (Some (CompleteOutcome pieces value)) = inputs
+heard settings inputs answer _ = inputs
 
 -- what was told once a step is done
 abbrev pub after : Told → Option Outcome → Step → Told
@@ -113,11 +111,9 @@ replies (Some outcome) = reply outcome ∷ []
 
 -- a setting has no reply; `outcome` is the outcome of what was told, the step included
 abbrev pub step_replies : Step → Option Outcome → List Reply
-step_replies (InitialValue number) outcome = []
-step_replies (ObjectAddress address) outcome = []
-step_replies (MaxIterations maximum) outcome = []
 step_replies Evaluate outcome = replies outcome
 step_replies (Resume answer) outcome = replies outcome
+step_replies _ outcome = []
 
 module _ (setup : Setup) (refusal : Refusal) (text : Text) where
   -- what was told once a step is done, by the outcome of the steps before

@@ -9,8 +9,8 @@ ghost use Rattle.dwarf_meaning.specs.Splitting.{Splitting};
 ghost use Rattle.dwarf_meaning.specs.Branches.{AreBytes, BranchesNear};
 ghost use Rattle.dwarf_meaning.specs.Requests.{Input};
 ghost use Rattle.dwarf_meaning.specs.Stores.{Setup, IsWithin, Store};
-ghost use Rattle.dwarf_meaning.specs.Run.{Position, End, most, turn, run_for, enough, run};
-ghost use Rattle.dwarf_meaning.specs.Meaning.{First, unwound, meaning};
+ghost use Rattle.dwarf_meaning.specs.Run.{Position, Course, most, turn, run_for, enough, run, return_to_callers};
+ghost use Rattle.dwarf_meaning.specs.Meaning.{First, outcome_of_end, meaning};
 ghost use Rattle.dwarf_meaning.specs.DecodeLaws.{ReadsExactlyTheSpelled, IsDecided, IsWhole, SplitsOnce, IsSplitting, IsDecodingFault};
 ghost use Rattle.dwarf_meaning.specs.RunLaws.{turns_left, IsSettled, course_before, IsOver, EndTook, MaximaWithin, EndCounts, EndMaximumWithin, CountsWithin, ListsWithin, EndWithin, OutcomeWithin, outermost, EndOpen, OutcomeOpen};
 ghost use Rattle.dwarf_meaning.specs.Refusals.{Refusal};
@@ -84,10 +84,11 @@ pub fn run_laws()
     ensures within { (setup : Setup) (text : Text) (place depth : ℕ) (s : Store)
         (inputs : List Input) → IsWithin setup.limits.callers depth → ListsWithin setup.limits s
         → EndWithin setup.limits text depth (run setup text place depth s inputs).end }
-    ensures within_callers { (setup : Setup) (text : Text) (callers : List Position) (end : End)
-        → IsWithin setup.limits.callers (length callers)
-        → EndWithin setup.limits text (length callers) end
-        → OutcomeWithin setup.limits (outermost text callers) (unwound setup callers end) }
+    ensures within_callers { (setup : Setup) (text : Text) (callers : List Position)
+        (course : Course) → IsWithin setup.limits.callers (length callers)
+        → EndWithin setup.limits text (length callers) course.end
+        → OutcomeWithin setup.limits (outermost text callers)
+        (outcome_of_end setup (return_to_callers setup callers course).end) }
     ensures within_meaning { (setup : Setup) (refusal : Refusal) (text : Text) (first : First)
         (inputs : List Input)
         → OutcomeWithin setup.limits text (meaning setup refusal text first inputs) }

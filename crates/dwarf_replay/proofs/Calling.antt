@@ -10,17 +10,16 @@ use Rattle.dwarf_meaning.specs.Kinds.{kind_of_request, kind_of_answer}
 use Rattle.dwarf_meaning.specs.Stores.{Setup}
 use Rattle.dwarf_meaning.specs.Run.{Position}
 use Rattle.dwarf_meaning.specs.Meaning.{Outcome, RequestOutcome, FaultOutcome, CompleteOutcome, First, meaning}
-use Rattle.dwarf_meaning.specs.Rest.{State, Status, Start, Running, RequestStatus, CompleteStatus, FaultStatus, with_refusal, rest_by, rest}
+use Rattle.dwarf_meaning.specs.Rest.{State, Status, Start, Running, RequestStatus, CompleteStatus, FaultStatus, Total, total, total_after}
 use Rattle.dwarf_meaning.specs.Steps.{Step, InitialValue, ObjectAddress, MaxIterations, Evaluate, Resume, Told, Reply, CompleteReply, FaultReply, reply, replies, IsEvaluable, Awaits, Allows, begun, after, outcome_of, outcome_from, step_replies}
 use Rattle.dwarf_meaning.specs.Refusals.{Refusal, IsLater, before_inputs, MayPick, before_input}
 use Rattle.dwarf_eval.specs.Evaluation.{IsReplied, Follows, first_of, means, IsClosed, Evaluates, Resumes, reply_of, WaitsOrIsComplete, input_of}
 use Rattle.dwarf_eval.specs.Permits.{IsOpenFor}
-use Rattle.dwarf_meaning.specs.Paths.{Total, total_after}
 use Rattle.dwarf_replay.specs.Stepping.{HasReplied}
 use Rattle.dwarf_replay.specs.Replays.{Tells}
 use Rattle.dwarf_eval.specs.declared.op.results.EvaluationResult.{EvaluationResult}
 use Rattle.dwarf_meaning.specs.Bounds.{SpendsInAll, initial_items}
-use Rattle.dwarf_eval.proofs.Following.{told_rest, unwound_open}
+use Rattle.dwarf_eval.proofs.Following.{told_total, total_open, total_complete}
 use Rattle.dwarf_eval.proofs.Spending.{spent_more}
 use Rattle.dwarf_replay.proofs.Telling.{walked_more}
 use Rattle.dwarf_replay.proofs.Standings.{Holds, Unstarted, Going, Over, WentBy, Went, later_before, may_inputs}
@@ -37,7 +36,7 @@ reply_fault (FaultOutcome other) fault e = cc
 
 module _ (first : State) where
   -- what the steps come to, in a state that goes on
-  pub going_outcome : (steps : List Step) (given : List Reply) (x : State) (w : Going first steps given x) (r : Refusal) → IsLater r → outcome_of first.setup (before_inputs w.taken r) first.text w.told ≡ Some (rest r x [])
+  pub going_outcome : (steps : List Step) (given : List Reply) (x : State) (w : Going first steps given x) (r : Refusal) → IsLater r → outcome_of first.setup (before_inputs w.taken r) first.text w.told ≡ Some (total x r []).outcome
   going_outcome steps given x w r l =
       ap (outcome_from first.setup (before_inputs w.taken r) first.text w.told.inputs) w.started
       ∙ ap Some
@@ -63,7 +62,7 @@ module _ (first : State) where
       told = now;
       taken = n;
       counted = counted;
-      walked = λ r l. walked r l (told_rest r new told h.status ∙ ap (λ (t : Total). reply t.outcome) (sym (h.more o r [] l)));
+      walked = λ r l. walked r l (told_total r new told h.status ∙ ap (λ (t : Total). reply t.outcome) (sym (h.more o r [] l)));
       settings = settings;
       started = started;
       rest_is = λ r inputs l. sym (means_is r inputs) ∙ ap (λ (t : Total). t.outcome) (h.more o r inputs l);
@@ -96,10 +95,6 @@ module _ (first : State) where
     called_by Running e may holds spent walked = absurd (subst (IsReplied told) e h.status)
 
 -- ---- each call
-
-pub rest_by_status : (r : Refusal) (x : State) (inputs : List Input) (status : Status) → x.status ≡ status → rest r x inputs ≡ rest_by x (with_refusal r x.store) inputs status
-unfolding rest
-rest_by_status r x inputs status e = ap (rest_by x (with_refusal r x.store) inputs) e
 
 module _ (first : State) (steps : List Step) (given : List Reply) (x new : State) where
   -- `evaluate` at the start
@@ -139,7 +134,7 @@ module _ (first : State) (steps : List Step) (given : List Reply) (x new : State
   completes_again : (value : Option Value) → x.status ≡ CompleteStatus value → Going first steps given x → Going first (steps ++ Evaluate ∷ []) (given ++ CompleteReply ∷ []) x
   completes_again value e w =
       let is : (r : Refusal) → IsLater r → outcome_of first.setup (before_inputs w.taken r) first.text w.told ≡ Some (CompleteOutcome x.store.pieces value) = λ r l.
-      going_outcome first steps given x w r l ∙ ap Some (rest_by_status r x [] (CompleteStatus value) e) in
+      going_outcome first steps given x w r l ∙ ap (λ (t : Total). Some t.outcome) (total_complete r x [] value e) in
       record {
         told = w.told;
         taken = w.taken;
@@ -183,7 +178,7 @@ module _ (first : State) (steps : List Step) (given : List Reply) (x new : State
       let position : Position = record { text = x.text; place = x.place } in
       let is : (r : Refusal) → outcome_of first.setup (before_inputs w.taken (before_input r)) first.text w.told ≡ Some (RequestOutcome request (position ∷ x.callers)) = λ r.
       going_outcome first steps given x w (before_input r) (later_before r)
-      ∙ ap Some (rest_by_status (before_input r) x [] (RequestStatus request waiting) e ∙ unwound_open x.setup x.callers request (position ∷ []) []) in
+      ∙ ap (λ (t : Total). Some t.outcome) (total_open (before_input r) x request waiting e) in
       let input_is : record { object_address = settings.object_address; maximum = settings.maximum; answer = answer } ≡ input =
       ap (λ (a : Option ℕ). record { object_address = a; maximum = settings.maximum; answer = answer }) (sym w.holds.object_address)
       ∙ ap (λ (m : ℕ). record { object_address = x.store.object_address; maximum = m; answer = answer }) (sym w.holds.maximum) in

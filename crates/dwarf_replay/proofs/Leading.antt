@@ -4,14 +4,14 @@ use Rattle.dwarf_base.specs.Faults.{fault_of}
 use Rattle.dwarf_meaning.specs.Refusals.{Refusal, Never, before_inputs, MayPick}
 use Rattle.dwarf_meaning.specs.Run.{Position}
 use Rattle.dwarf_meaning.specs.Meaning.{Outcome, RequestOutcome, FaultOutcome, CompleteOutcome, First, meaning}
-use Rattle.dwarf_meaning.specs.Rest.{State, Status, Start, Running, RequestStatus, CompleteStatus, FaultStatus}
+use Rattle.dwarf_meaning.specs.Rest.{State, Status, Start, Running, RequestStatus, CompleteStatus, FaultStatus, Total}
 use Rattle.dwarf_meaning.specs.Steps.{Step, InitialValue, ObjectAddress, MaxIterations, Evaluate, Resume, Told, Reply, Allows, outcome_of, outcome_from}
 use Rattle.dwarf_replay.specs.Stepping.{MayTake}
 use Rattle.dwarf_replay.specs.Replays.{IsInRequest, IsInFault, AreSet, StandsAt, Tells, IsUnbegun, IsLeft, Leaves, Walks, WalksTo}
 use Rattle.dwarf_meaning.specs.Bounds.{SpendsInAll, initial_items}
-use Rattle.dwarf_eval.proofs.Following.{unwound_open}
+use Rattle.dwarf_eval.proofs.Following.{total_open, total_complete}
 use Rattle.dwarf_replay.proofs.Standings.{Holds, Unstarted, Going, WentBy, Went, may_inputs}
-use Rattle.dwarf_replay.proofs.Calling.{some_not_none, going_outcome, rest_by_status}
+use Rattle.dwarf_replay.proofs.Calling.{some_not_none, going_outcome}
 
 -- ---- where the steps lead
 
@@ -69,14 +69,14 @@ module _ (first : State) (steps : List Step) (given : List Reply) (x : State) (P
       let position : Position = record { text = x.text; place = x.place } in
       led w.told (before_inputs w.taken Never) (Some (RequestOutcome request (position ∷ x.callers))) (w.walked Never tt) (may_inputs first.setup.limits w.taken Never tt)
       (going_outcome first steps given x w Never tt
-      ∙ ap Some (rest_by_status Never x [] (RequestStatus request waiting) e ∙ unwound_open x.setup x.callers request (position ∷ []) []))
+      ∙ ap (λ (t : Total). Some t.outcome) (total_open Never x request waiting e))
       (subst (IsInRequest request (position ∷ x.callers) x) (sym e) (refl, refl), are_set w.told w.holds)
       w.spent
       (subst (Leaves first steps given w.told x) (sym e) (going_leaves first steps given x w))
       (wanted w.told w.settings (position ∷ x.callers) w.started)
   led_by (CompleteStatus value) e w wanted =
       led w.told (before_inputs w.taken Never) (Some (CompleteOutcome x.store.pieces value)) (w.walked Never tt) (may_inputs first.setup.limits w.taken Never tt)
-      (going_outcome first steps given x w Never tt ∙ ap Some (rest_by_status Never x [] (CompleteStatus value) e))
+      (going_outcome first steps given x w Never tt ∙ ap (λ (t : Total). Some t.outcome) (total_complete Never x [] value e))
       (e, refl)
       w.spent
       (subst (Leaves first steps given w.told x) (sym e) (going_leaves first steps given x w))

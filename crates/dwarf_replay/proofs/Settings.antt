@@ -4,7 +4,7 @@ use Rattle.std.proofs.lemmas.List.{append-nil}
 use Rattle.dwarf_meaning.specs.Requests.{Request, Waiting, Input}
 use Rattle.dwarf_meaning.specs.Refusals.{Refusal, before_inputs}
 use Rattle.dwarf_meaning.specs.Meaning.{Outcome, meaning}
-use Rattle.dwarf_meaning.specs.Rest.{State, Status, Start, Running, RequestStatus, CompleteStatus, FaultStatus, with_refusal, rest_by, rest}
+use Rattle.dwarf_meaning.specs.Rest.{State, Status, Start, Running, RequestStatus, CompleteStatus, FaultStatus, with_refusal, Total, total_by, total}
 use Rattle.dwarf_meaning.specs.Steps.{Step, InitialValue, ObjectAddress, MaxIterations, Evaluate, Resume, Told, Reply, Allows, after, step_replies}
 use Rattle.dwarf_eval.specs.Evaluation.{with_object, with_maximum, WaitsOrIsComplete, with_status}
 use Rattle.dwarf_replay.specs.Stepping.{IsSet}
@@ -21,20 +21,20 @@ module _ (first : State) where
   abbrev set_to : Option ℕ → ℕ → State → State
   set_to object maximum x = record x { store = record x.store { object_address = object; maximum = maximum } }
 
-  waits_set : (object : Option ℕ) (maximum : ℕ) (r : Refusal) (x : State) (inputs : List Input) (request : Request) (waiting : Waiting) → rest_by (set_to object maximum x) (with_refusal r (set_to object maximum x).store) inputs (RequestStatus request waiting) ≡ rest_by x (with_refusal r x.store) inputs (RequestStatus request waiting)
+  waits_set : (object : Option ℕ) (maximum : ℕ) (r : Refusal) (x : State) (inputs : List Input) (request : Request) (waiting : Waiting) → total_by (set_to object maximum x) (with_refusal r (set_to object maximum x).store) inputs (RequestStatus request waiting) ≡ total_by x (with_refusal r x.store) inputs (RequestStatus request waiting)
   waits_set object maximum r x [] request waiting = refl
   waits_set object maximum r x (input ∷ inputs) request waiting = refl
 
-  rest_set_by : (object : Option ℕ) (maximum : ℕ) (r : Refusal) (x : State) (inputs : List Input) (status : Status) → WaitsOrIsComplete status → rest_by (set_to object maximum x) (with_refusal r (set_to object maximum x).store) inputs status ≡ rest_by x (with_refusal r x.store) inputs status
-  rest_set_by object maximum r x inputs (RequestStatus request waiting) h = waits_set object maximum r x inputs request waiting
-  rest_set_by object maximum r x inputs (CompleteStatus value) h = refl
-  rest_set_by object maximum r x inputs (Start initial_value) h = absurd h
-  rest_set_by object maximum r x inputs (FaultStatus error) h = absurd h
-  rest_set_by object maximum r x inputs Running h = absurd h
+  total_set_by : (object : Option ℕ) (maximum : ℕ) (r : Refusal) (x : State) (inputs : List Input) (status : Status) → WaitsOrIsComplete status → total_by (set_to object maximum x) (with_refusal r (set_to object maximum x).store) inputs status ≡ total_by x (with_refusal r x.store) inputs status
+  total_set_by object maximum r x inputs (RequestStatus request waiting) h = waits_set object maximum r x inputs request waiting
+  total_set_by object maximum r x inputs (CompleteStatus value) h = refl
+  total_set_by object maximum r x inputs (Start initial_value) h = absurd h
+  total_set_by object maximum r x inputs (FaultStatus error) h = absurd h
+  total_set_by object maximum r x inputs Running h = absurd h
 
-  rest_set : (object : Option ℕ) (maximum : ℕ) (r : Refusal) (x : State) (inputs : List Input) → WaitsOrIsComplete x.status → rest r (set_to object maximum x) inputs ≡ rest r x inputs
-  unfolding rest
-  rest_set object maximum r x inputs h = rest_set_by object maximum r x inputs x.status h
+  total_set : (object : Option ℕ) (maximum : ℕ) (r : Refusal) (x : State) (inputs : List Input) → WaitsOrIsComplete x.status → total (set_to object maximum x) r inputs ≡ total x r inputs
+  unfolding total
+  total_set object maximum r x inputs h = total_set_by object maximum r x inputs x.status h
 
   -- a step that is always allowed, and sets one of the two settings
   record IsSetting (step : Step) (x new : State) : Type 0 where
@@ -73,7 +73,7 @@ module _ (first : State) where
       rest_is = λ r inputs l.
           ap (λ (is : List Input). meaning first.setup (before_inputs w.taken r) first.text w.settings (is ++ inputs)) (s.inputs_are w.told)
           ∙ (w.rest_is r inputs l
-          ∙ (sym (rest_set s.object s.maximum r x inputs o) ∙ ap (λ (z : State). rest r z inputs) (sym s.new_is)));
+          ∙ ap (λ (t : Total). t.outcome) (sym (total_set s.object s.maximum r x inputs o) ∙ ap (λ (z : State). total z r inputs) (sym s.new_is)));
       holds = s.holds w.told w.holds;
       spent = set_spent w.told w.spent;
     }

@@ -5,7 +5,7 @@ use Rattle.dwarf_base.specs.Faults.{fault_of}
 use Rattle.dwarf_meaning.specs.Requests.{Input}
 use Rattle.dwarf_meaning.specs.Refusals.{Refusal, Never, After, Limits, IsLater, before_inputs, MayPick, before_input}
 use Rattle.dwarf_meaning.specs.Meaning.{FaultOutcome, First, meaning}
-use Rattle.dwarf_meaning.specs.Rest.{State, Status, Start, Running, RequestStatus, CompleteStatus, FaultStatus, rest}
+use Rattle.dwarf_meaning.specs.Rest.{State, Status, Start, Running, RequestStatus, CompleteStatus, FaultStatus, total}
 use Rattle.dwarf_meaning.specs.Steps.{Step, Told, Reply}
 use Rattle.dwarf_replay.specs.Replays.{told_at, Tells}
 use Rattle.dwarf_meaning.specs.Bounds.{SpendsInAll, initial_items}
@@ -38,7 +38,7 @@ pub record Going (first : State) (steps : List Step) (given : List Reply) (x : S
   pub walked : (r : Refusal) → IsLater r → Tells first steps given told (before_inputs taken r)
   pub settings : First
   pub started : told.first ≡ Some settings
-  pub rest_is : (r : Refusal) (inputs : List Input) → IsLater r → meaning first.setup (before_inputs taken r) first.text settings (told.inputs ++ inputs) ≡ rest r x inputs
+  pub rest_is : (r : Refusal) (inputs : List Input) → IsLater r → meaning first.setup (before_inputs taken r) first.text settings (told.inputs ++ inputs) ≡ (total x r inputs).outcome
   pub holds : Holds first told x
   pub spent : SpendsInAll (initial_items told.settings.initial_value) first x
 

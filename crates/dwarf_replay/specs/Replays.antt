@@ -6,7 +6,7 @@ use Rattle.dwarf_meaning.specs.Requests.{Request, Input}
 use Rattle.dwarf_meaning.specs.Refusals.{Refusal, IsLater, before_inputs, MayPick}
 use Rattle.dwarf_meaning.specs.Run.{Position}
 use Rattle.dwarf_meaning.specs.Meaning.{Outcome, RequestOutcome, FaultOutcome, CompleteOutcome}
-use Rattle.dwarf_meaning.specs.Rest.{State, Status, Start, Running, RequestStatus, CompleteStatus, FaultStatus, rest}
+use Rattle.dwarf_meaning.specs.Rest.{State, Status, Start, Running, RequestStatus, CompleteStatus, FaultStatus, total}
 use Rattle.dwarf_meaning.specs.Steps as meaning
 use Rattle.dwarf_meaning.specs.Steps.{Told, Reply, Allows, AllAllowed, replies_of, after_steps, outcome_of, outcome_from}
 use Rattle.dwarf_meaning.specs.Bounds.{initial_items, SpendsInAll}
@@ -40,18 +40,12 @@ told_at x = record { settings = first_of x None; first = None; inputs = [] }
 abbrev pub IsInRequest : Request → List Position → State → Status → Type 0
 IsInRequest request positions x (RequestStatus open_request waiting) =
     (open_request ≡ request) × (positions ≡ record { text = x.text; place = x.place } ∷ x.callers)
-IsInRequest request positions x (Start initial_value) = ⊥
-IsInRequest request positions x (CompleteStatus value) = ⊥
-IsInRequest request positions x (FaultStatus error) = ⊥
-IsInRequest request positions x Running = ⊥
+IsInRequest request positions x _ = ⊥
 
 -- it met this fault
 abbrev pub IsInFault : Fault → Status → Type 0
 IsInFault fault (FaultStatus error) = fault_of error ≡ fault
-IsInFault fault (Start initial_value) = ⊥
-IsInFault fault (RequestStatus request waiting) = ⊥
-IsInFault fault (CompleteStatus value) = ⊥
-IsInFault fault Running = ⊥
+IsInFault fault _ = ⊥
 
 -- the settings that were told last hold
 pub record AreSet (told : Told) (x : State) : Type 0 where
@@ -89,7 +83,7 @@ pub record IsLeft (old : State) (steps : List meaning.Step) (replies : List Repl
   pub alike : (r : Refusal) → IsLater r → Tells old steps replies told (before_inputs (length told.inputs) r)
   pub more : (r : Refusal) (inputs : List Input) → IsLater r →
       outcome_from old.setup (before_inputs (length told.inputs) r) old.text (told.inputs ++ inputs) told.first
-      ≡ Some (rest r new inputs)
+      ≡ Some (total new r inputs).outcome
 
 -- what is left, by the status
 abbrev pub Leaves : State → List meaning.Step → List Reply → Told → State → Status → Type 0

@@ -10,7 +10,7 @@ use Rattle.dwarf_meaning.specs.Requests.{Request, Waiting, Answer, LocationAnswe
 use Rattle.dwarf_meaning.specs.Acts.{Act, Pushes, Branches, Locates, EndsPiece, RequestAct, FaultAct, Use, PushesAnswer, Calls, FaultUse, WrongKind, use_of}
 use Rattle.dwarf_meaning.specs.Stores.{Setup, address_bits, Store, Last, Nothing, Plain, Pieced, Pushed, Called, Located, push_value, push_piece, push_caller, push_values, Next, Goes, RequestNext, FaultNext, goes, done}
 use Rattle.dwarf_meaning.specs.Run.{Position, End, CompleteEnd, RequestEnd, FaultEnd, Course, only_end, Continues, return_to_caller, after_push, enter_callee, run_callee, after_answer, with_input, await_answer, after_operation, read, can_count, counted, do_operation, turn_counted, piece_ended_by, end_located, turn_located, turn_by, turn, out_of_turns, run_for, enough}
-use Rattle.dwarf_meaning.specs.Meaning.{Outcome, RequestOutcome, FaultOutcome, CompleteOutcome, completion_of, has_pieces, whole, finish_value, finish_judged, finish_free, finish_by, First, fresh, with_initial, course_from, unwound, meaning}
+use Rattle.dwarf_meaning.specs.Meaning.{Outcome, RequestOutcome, FaultOutcome, CompleteOutcome, completion_of, has_pieces, whole, finish_value, finish_by, First, fresh, with_initial, outcome_of_end, meaning}
 use Rattle.dwarf_meaning.specs.Refusals.{Refusal, room}
 use Rattle.dwarf_meaning.proofs.Choices.{choose_both, top_both}
 use Rattle.dwarf_meaning.proofs.Counts.{OnStore, bound_store, on_bound}
@@ -246,10 +246,10 @@ module _ (P : Text → Type 0) (Q : List ℕ → Type 0) where
       top_both (OnOutcome Q) s.values _ _ tt
       (λ x rest e. completed_holds (Some x) _ (piece_holds Q setup _ (record s { values = rest }) (record { pieces = h.pieces; last = h.last }) tt))
 
-  judged_ends : (setup : Setup) (s : Store) → Holds Q s → OnOutcome Q (finish_judged setup s)
+  judged_ends : (setup : Setup) (s : Store) → Holds Q s → OnOutcome Q (finish_by setup s Plain)
   judged_ends setup s h = choose_both (OnOutcome Q) (has_pieces s.pieces) _ _ (λ e. tt) (λ e. value_ends setup s h)
 
-  free_ends : (setup : Setup) (s : Store) → Holds Q s → OnOutcome Q (finish_free setup s)
+  free_ends : (setup : Setup) (s : Store) → Holds Q s → OnOutcome Q (finish_by setup s Nothing)
   free_ends setup s h = choose_both (OnOutcome Q) (has_pieces s.pieces) _ _ (λ e. h.pieces) (λ e. value_ends setup s h)
 
   finish_holds : (setup : Setup) (s : Store) (last : Last) → Holds Q s → OnLast Q last → OnOutcome Q (finish_by setup s last)
@@ -261,7 +261,7 @@ module _ (P : Text → Type 0) (Q : List ℕ → Type 0) where
   finish_holds setup s Pieced h l = free_ends setup s h
   finish_holds setup s Called h l = free_ends setup s h
 
-  ends_holds : (setup : Setup) (end : End) → OnEnd end → OnOutcome Q (unwound setup [] end)
+  ends_holds : (setup : Setup) (end : End) → OnEnd end → OnOutcome Q (outcome_of_end setup end)
   ends_holds setup (CompleteEnd s inputs) h = finish_holds setup s s.last h.0 h.0.last
   ends_holds setup (RequestEnd request positions inputs) h = h
   ends_holds setup (FaultEnd fault) h = tt
@@ -270,11 +270,9 @@ module _ (P : Text → Type 0) (Q : List ℕ → Type 0) where
   begins setup first refusal None = record { pieces = tt; last = tt }
   begins setup first refusal (Some number) = value_holds Q setup (Generic number) (fresh first refusal) (record { pieces = tt; last = tt })
 
-  course_carries : (setup : Setup) (text : Text) (inputs : List Input) (r : Result Store Fault) → Reads setup → P text → OnInputs P inputs → OnStore (Holds Q) r → OnEnd (course_from setup text inputs r).end
-  course_carries setup text inputs (Ok s) reads p i h = run_for_carries enough setup reads text 0 0 s inputs p h i
-  course_carries setup text inputs (Err fault) reads p i h = tt
-
   pub meaning_holds : (setup : Setup) (refusal : Refusal) (text : Text) (first : First) (inputs : List Input) → Reads setup → P text → OnInputs P inputs → OnOutcome Q (meaning setup refusal text first inputs)
   unfolding meaning
   meaning_holds setup refusal text first inputs reads p i =
-      ends_holds setup _ (course_carries setup text inputs _ reads p i (begins setup first refusal first.initial_value))
+      ends_holds setup _
+      (resumed_carries setup reads (run_for enough setup) (run_for_carries enough setup reads) (record { text = text; place = 0 }) 0 inputs _ p
+      (begins setup first refusal first.initial_value) i)

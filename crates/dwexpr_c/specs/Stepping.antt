@@ -3,7 +3,7 @@ use Rattle.std.specs.Prelude.{ℕ, ◌≡◌, ◌⊎◌, List, Result, Ok, Err, 
 use Rattle.dwarf_base.specs.declared.errors.Error.{Error}
 use Rattle.dwarf_base.specs.Faults.{fault_of}
 use Rattle.dwarf_meaning.specs.Locations.{Piece}
-use Rattle.dwarf_meaning.specs.Rest.{State, Status, Start, Running, RequestStatus, CompleteStatus, FaultStatus}
+use Rattle.dwarf_meaning.specs.Rest.{State, Status, Start, RequestStatus, CompleteStatus}
 use Rattle.dwarf_meaning.specs.Steps.{Step}
 use Rattle.dwarf_eval.specs.Evaluation.{ok_reply}
 use Rattle.dwarf_eval.specs.declared.op.results.EvaluationResult.{EvaluationResult}
@@ -70,8 +70,7 @@ abbrev pub ShowsStatus : List DwexprText → Status → DwexprOutcome → Type 0
 ShowsStatus texts (Start initial_value) out = out ≡ blank_outcome
 ShowsStatus texts (RequestStatus request waiting) out = ShowsRequest texts request out
 ShowsStatus texts (CompleteStatus value) out = out ≡ request_outcome 1 0
-ShowsStatus texts (FaultStatus error) out = ⊥
-ShowsStatus texts Running out = ⊥
+ShowsStatus texts _ out = ⊥
 
 -- the outcome gets the pieces and the value of a complete evaluation
 abbrev pub FinishesOutcome : List DwexprText → (count : ℕ) → List Piece → (before after : DwexprOutcome)
@@ -79,10 +78,7 @@ abbrev pub FinishesOutcome : List DwexprText → (count : ℕ) → List Piece �
 FinishesOutcome texts count pieces before after old new (CompleteStatus value) =
     ((after ≡ complete_outcome (length pieces) value) × AreWritten texts pieces old new)
     ⊎ ((after ≡ ended_outcome lost_text_code 0 count) × SomeNowhere texts pieces)
-FinishesOutcome texts count pieces before after old new (Start initial_value) = (after ≡ before) × (new ≡ old)
-FinishesOutcome texts count pieces before after old new (RequestStatus request waiting) = (after ≡ before) × (new ≡ old)
-FinishesOutcome texts count pieces before after old new (FaultStatus error) = (after ≡ before) × (new ≡ old)
-FinishesOutcome texts count pieces before after old new Running = Unit {0}
+FinishesOutcome texts count pieces before after old new _ = (after ≡ before) × (new ≡ old)
 
 -- after a step that ended it the outcome is that end, and the pieces stay; after any other, by where it stands
 abbrev pub EndsOutcome : List DwexprText → (count : ℕ) → List Piece → Result DwexprOutcome DwexprOutcome

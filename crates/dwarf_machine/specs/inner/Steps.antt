@@ -10,7 +10,7 @@ use Rattle.dwarf_value.specs.declared.types.Value.TheVariants.{Generic}
 use Rattle.dwarf_value.specs.Values.{to_u64_of}
 use Rattle.dwarf_meaning.specs.Operations.{Operation}
 use Rattle.dwarf_meaning.specs.Operations as operation
-use Rattle.dwarf_meaning.specs.Locations.{Location}
+use Rattle.dwarf_meaning.specs.Locations.{Location, sized}
 use Rattle.dwarf_meaning.specs.Requests.{Request, Waiting, Answer, Input}
 use Rattle.dwarf_meaning.specs.Acts.{Act, act}
 use Rattle.dwarf_meaning.specs.RunLaws.{waits_of}
@@ -18,10 +18,10 @@ use Rattle.dwarf_meaning.specs.Stores.{address_bits, Store, Last, Pieced, Locate
 use Rattle.dwarf_meaning.specs.Run.{Position, can_count, counted, read, most}
 use Rattle.dwarf_meaning.specs.Meaning.{Outcome, FaultOutcome, CompleteOutcome}
 use Rattle.dwarf_meaning.specs.Rest.{State, Status, Start, Running, RequestStatus, CompleteStatus, FaultStatus, with_refusal}
+pub use Rattle.dwarf_meaning.specs.Rest.{Total, total, total_after}
 use Rattle.dwarf_meaning.specs.Refusals.{Limits, Refusal, MayPick, before_pushes}
 use Rattle.dwarf_meaning.specs.Bounds.{Spends, calls_left}
 use Rattle.dwarf_meaning.specs.Inputs.{input_of, Keeps, with_status}
-pub use Rattle.dwarf_meaning.specs.Paths.{Total, total, total_after}
 
 -- ---- steps
 
@@ -163,8 +163,7 @@ abbrev pub LeadsBy : (Store → Next) → State → State → Status → Type 0
 LeadsBy f old new Running = LeadsToPlace f old new
 LeadsBy f old new (RequestStatus request waiting) = LeadsToRequest f request waiting old new
 LeadsBy f old new (FaultStatus error) = LeadsToFault f error old new
-LeadsBy f old new (Start initial_value) = ⊥
-LeadsBy f old new (CompleteStatus value) = ⊥
+LeadsBy f old new _ = ⊥
 
 -- f leads on, or to a request, or for some refusal to a fault, which the state keeps
 abbrev pub Leads : (Store → Next) → State → State → Type 0
@@ -177,7 +176,7 @@ Performs a old new = Leads (done_at a old) old new
 -- a piece after a location: it is ended, or the state keeps the fault
 abbrev pub EndsLocated : Location → Option (ℕ × Option ℕ) → State → State → Type 0
 EndsLocated location (Some size) old new =
-    Tried 0 (push_piece old.setup (record { size_in_bits = Some size.0; bit_offset = size.1; location = location }))
+    Tried 0 (push_piece old.setup (sized size.0 size.1 location))
     (with_last Pieced old) new
 EndsLocated location None old new = new ≡ with_status (FaultStatus (InvalidExpressionTerminator (old.place - 1))) old
 
@@ -211,11 +210,9 @@ pub record Falls (old : State) (totals : Refusal → List Input → Total) (faul
   pub spends : Spends old new
 
 abbrev pub ComesBy : State → (Refusal → List Input → Total) → State → Status → Type 0
-ComesBy old totals new Running = Reaches old totals new
-ComesBy old totals new (RequestStatus request waiting) = Reaches old totals new
-ComesBy old totals new (CompleteStatus value) = Reaches old totals new
 ComesBy old totals new (FaultStatus error) = Falls old totals (fault_of error) new
 ComesBy old totals new (Start initial_value) = ⊥
+ComesBy old totals new _ = Reaches old totals new
 
 -- it came to the new state, or to a fault, which the new state keeps
 abbrev pub Comes : State → (Refusal → List Input → Total) → State → Type 0
@@ -224,9 +221,7 @@ Comes old totals new = ComesBy old totals new new.status
 abbrev pub RunsOnBy : State → (Refusal → List Input → Total) → State → Status → Type 0
 RunsOnBy old totals new Running = Reaches old totals new
 RunsOnBy old totals new (FaultStatus error) = Falls old totals (fault_of error) new
-RunsOnBy old totals new (RequestStatus request waiting) = ⊥
-RunsOnBy old totals new (CompleteStatus value) = ⊥
-RunsOnBy old totals new (Start initial_value) = ⊥
+RunsOnBy old totals new _ = ⊥
 
 -- the run begins, or goes on after an answer
 abbrev pub RunsOn : State → (Refusal → List Input → Total) → State → Type 0
@@ -236,8 +231,7 @@ abbrev pub EndsBy : State → (Refusal → List Input → Total) → State → S
 EndsBy old totals new (RequestStatus request waiting) = Reaches old totals new
 EndsBy old totals new (CompleteStatus value) = Reaches old totals new
 EndsBy old totals new (FaultStatus error) = Falls old totals (fault_of error) new
-EndsBy old totals new Running = ⊥
-EndsBy old totals new (Start initial_value) = ⊥
+EndsBy old totals new _ = ⊥
 
 -- the call ends in a request, at the end, or in a fault
 abbrev pub Ends : State → (Refusal → List Input → Total) → State → Type 0
@@ -282,9 +276,7 @@ pub record ClosesInFault (f : Store → Outcome) (error : Error) (old new : Stat
 abbrev pub ClosesBy : ℕ → (Store → Outcome) → State → State → Status → Type 0
 ClosesBy more f old new (CompleteStatus value) = ClosesComplete more f value old new
 ClosesBy more f old new (FaultStatus error) = ClosesInFault f error old new
-ClosesBy more f old new Running = ⊥
-ClosesBy more f old new (Start initial_value) = ⊥
-ClosesBy more f old new (RequestStatus request waiting) = ⊥
+ClosesBy more f old new _ = ⊥
 
 -- the run is over, as f says, with this many more items at most, or for some refusal in a fault, which the state keeps
 abbrev pub Closes : ℕ → (Store → Outcome) → State → State → Type 0
@@ -321,11 +313,9 @@ goes_on x = is_running x.status && is_free x.store.last && not (x.place == lengt
 
 -- it waits, is complete, or a fault was met
 abbrev pub HasReply : Status → Type 0
-HasReply (RequestStatus request waiting) = Unit {0}
-HasReply (CompleteStatus value) = Unit {0}
-HasReply (FaultStatus error) = Unit {0}
 HasReply Running = ⊥
 HasReply (Start initial_value) = ⊥
+HasReply _ = Unit {0}
 
 -- ---- answers
 

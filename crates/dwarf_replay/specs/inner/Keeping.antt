@@ -4,7 +4,7 @@ use Rattle.dwarf_base.specs.declared.errors.Error.{Error}
 use Rattle.dwarf_base.specs.Reads.{Text}
 use Rattle.dwarf_meaning.specs.Kinds.{kind_of_answer}
 use Rattle.dwarf_meaning.specs.Rest.{State, Status}
-use Rattle.dwarf_meaning.specs.Steps.{Step, InitialValue, ObjectAddress, MaxIterations, Evaluate, Resume}
+use Rattle.dwarf_meaning.specs.Steps.{Step, Resume}
 use Rattle.dwarf_eval.specs.Permits.{IsOpenFor}
 use Rattle.dwarf_eval.specs.Evaluation.{Resumes, input_of}
 use Rattle.dwarf_meaning.specs.declared.kinds.WaitingKind.{WaitingKind}
@@ -36,25 +36,16 @@ TakesStep text number step limit old given new all (Err (stop.NoRoom answer)) =
 abbrev pub IsKindOf : Step → Option WaitingKind → Type 0
 IsKindOf (Resume answer) (Some kind) = kind ≡ kind_of_answer answer
 IsKindOf (Resume answer) None = ⊥
-IsKindOf (InitialValue number) kind = kind ≡ None
-IsKindOf (ObjectAddress address) kind = kind ≡ None
-IsKindOf (MaxIterations maximum) kind = kind ≡ None
-IsKindOf Evaluate kind = kind ≡ None
+IsKindOf _ kind = kind ≡ None
 
 -- the step is an answer that may come now
 abbrev pub IsOpenAt : Step → Status → Type 0
 IsOpenAt (Resume answer) status = IsOpenFor (kind_of_answer answer) status
-IsOpenAt (InitialValue number) status = ⊥
-IsOpenAt (ObjectAddress address) status = ⊥
-IsOpenAt (MaxIterations maximum) status = ⊥
-IsOpenAt Evaluate status = ⊥
+IsOpenAt _ status = ⊥
 
 -- the evaluation went on with the step's answer
 abbrev pub IsResumed : {R O P : Type 0} → (R → Text) → (O → ℕ) → Step → State → State
     → Result (EvaluationResult R O P) Error → Type 0
 IsResumed text number (Resume answer) old new replied =
     Resumes text number (input_of old answer) old new replied old.status
-IsResumed text number (InitialValue value) old new replied = ⊥
-IsResumed text number (ObjectAddress address) old new replied = ⊥
-IsResumed text number (MaxIterations maximum) old new replied = ⊥
-IsResumed text number Evaluate old new replied = ⊥
+IsResumed text number _ old new replied = ⊥

@@ -2,7 +2,7 @@ use Rattle.dwarf_meaning.proofs.Turns.{run_turn, run_for-enough, all_left}
 use Rattle.dwarf_meaning.proofs.Inputs.{extends_run, over_meaning}
 use Rattle.dwarf_meaning.proofs.Taken.{run_takes}
 use Rattle.dwarf_meaning.proofs.Counting.{counts_path, count_within, maximum_within, count_at_most}
-use Rattle.dwarf_meaning.proofs.Limited.{run_within, unwound_within, meaning_within}
+use Rattle.dwarf_meaning.proofs.Limited.{run_within, callers_within, meaning_within}
 use Rattle.dwarf_meaning.proofs.Callees.{run_open, meaning_open}
 use Rattle.dwarf_meaning.proofs.laws.run_laws.Goals as goal
 
@@ -19,7 +19,7 @@ returns c = record {
   maximum_kept = maximum_within;
   most_of_all = count_at_most;
   within = run_within;
-  within_callers = unwound_within;
+  within_callers = callers_within;
   within_meaning = meaning_within;
   callees = run_open;
   callees_of_meaning = meaning_open;

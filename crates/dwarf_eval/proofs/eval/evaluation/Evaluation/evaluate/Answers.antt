@@ -1,7 +1,6 @@
 use Rattle.std.proofs.Common.{sym, subst}
-use Rattle.dwarf_meaning.specs.Rest.{State}
+use Rattle.dwarf_meaning.specs.Rest.{State, total}
 use Rattle.dwarf_eval.specs.Evaluation.{Evaluates, IsAtRestBy, reply_of}
-use Rattle.dwarf_meaning.specs.Paths.{total}
 use Rattle.dwarf_eval.proofs.Following.{start_follows}
 use Rattle.dwarf_machine.proofs.Reaching.{ends_over}
 use Rattle.dwarf_eval.proofs.eval.evaluation.Evaluation.evaluate.Goals as goal

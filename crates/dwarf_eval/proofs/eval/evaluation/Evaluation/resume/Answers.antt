@@ -1,9 +1,8 @@
 use Rattle.std.proofs.Common.{◌≡◌, ap, subst, sym, ◌∙◌}
 use Rattle.dwarf_meaning.specs.Kinds.{kind_of_answer}
-use Rattle.dwarf_meaning.specs.Rest.{State}
+use Rattle.dwarf_meaning.specs.Rest.{State, total_after}
 use Rattle.dwarf_eval.specs.Permits.{IsOpenFor, answer_of}
 use Rattle.dwarf_eval.specs.Evaluation.{IsEndedBy, Resumes, reply_of, input_of}
-use Rattle.dwarf_meaning.specs.Paths.{total_after}
 use Rattle.dwarf_machine.specs.inner.Steps.{Ends}
 use Rattle.dwarf_eval.proofs.Following.{ends_follow, failed_again, resumed, waits}
 use Rattle.dwarf_eval.proofs.eval.evaluation.Evaluation.resume.Goals as goal

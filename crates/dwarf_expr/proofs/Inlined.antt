@@ -14,12 +14,12 @@ use Rattle.dwarf_meaning.specs.Refusals.{Never}
 use Rattle.dwarf_laws.specs.Rows.{IsWorked}
 use Rattle.dwarf_laws.specs.TwoRuns.{NoneIsFull}
 use Rattle.dwarf_laws.specs.Inlining as inlining
-use Rattle.dwarf_laws.specs.Inlining.{CallSite, outer, called, inlined, in_force, answered, with_answer, HasNoLimits, completions, requests}
+use Rattle.dwarf_laws.specs.Inlining.{CallSite, outer, called, inlined, in_force, answered, with_answer, HasNoLimits, LeadsToCall, completions, requests}
 use Rattle.dwarf_laws.proofs.Inlined.{inlines}
 use Rattle.dwarf_replay.specs.Replays.{told_at, StandsAt, Walks}
 use Rattle.dwarf_expr.specs.Twins.{fresh_at}
-use Rattle.dwarf_expr.specs.Inlined.{tells, MayInline, StatesEndAlike, in_request, in_completion, InlinedReplay}
-use Rattle.dwarf_expr.proofs.Telling.{tells_more, added, tells_inputs, tells_first, told_is, told_comes, unrefused}
+use Rattle.dwarf_expr.specs.Inlined.{MayInline, StatesEndAlike, in_request, in_completion, InlinedReplay}
+use Rattle.dwarf_expr.proofs.Telling.{tells, tells_more, added, tells_inputs, tells_first, told_is, told_before, told_comes, unrefused}
 use Rattle.dwarf_expr.proofs.Twins.{asking_of, stopped_of, did}
 
 -- ---- where they stand
@@ -181,9 +181,19 @@ inlined_replays x y new other site offset start behind replies given h k n sound
     (subst (λ (t : Told). Done y.setup y.text t (start ++ behind) other) same_told
     (done y (start ++ behind) given other y_free l m)))
     in
-    ends x.setup site offset (told_at x) start behind h.first h.is_started h.object_in_force h.maximum_in_force new other
+    let at_call : h.told ≡ tells (told_at x) start =
+    sym h.told_is
+    ∙ (ap (λ (t : Text). after_steps x.setup Never t (told_at x) start) h.outer_text
+    ∙ told_before x.setup Never (outer site) (told_at x) start (Resume (LocationAnswer (called site)) ∷ behind)
+    first_done.allowed (sound_outcome new _ _ first_done.stands sound))
+    in
+    ends x.setup site offset (told_at x) start behind h.first
+    (subst (λ (t : Told). t.first ≡ Some h.first) at_call h.is_started)
+    (subst (λ (t : Told). t.settings.object_address ≡ (in_force h.first t.inputs).object_address) at_call h.object_in_force)
+    (subst (λ (t : Told). t.settings.maximum ≡ (in_force h.first t.inputs).maximum) at_call h.maximum_in_force) new other
     (λ faultless. (inlines x.setup site offset h.first (tells (told_at x) start).inputs
-    (added (tells (told_at x) start).settings behind) h.requests h.no_limits h.stands h.inlinable h.leads faultless).ends)
+    (added (tells (told_at x) start).settings behind) h.requests h.no_limits h.stands h.inlinable
+    (subst (λ (t : Told). LeadsToCall x.setup site offset h.first t.inputs h.requests) at_call h.leads) faultless).ends)
     first_done sound second_done
 
 -- ---- the premises, of fresh evaluations
@@ -200,6 +210,8 @@ may_inline site inputs behind outcome h =
       maximum = refl;
       stands = h.stands;
       inlinable = h.inlinable;
+      told = record { settings = unset; first = Some unset; inputs = [] };
+      told_is = refl;
       first = unset;
       is_started = refl;
       requests = [];

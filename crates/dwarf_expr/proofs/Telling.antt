@@ -16,9 +16,30 @@ use Rattle.dwarf_laws.specs.Inlining.{HasNoLimits}
 use Rattle.dwarf_laws.proofs.Unrefused.{meaning_calm}
 use Rattle.dwarf_laws.proofs.Inlined.{no_limits}
 use Rattle.dwarf_laws.proofs.Evaluations.{none_full_behind, clear_after}
-use Rattle.dwarf_expr.specs.Inlined.{tell, tells}
 
 -- ---- what steps tell
+
+-- what a step tells, if every answer is awaited
+abbrev tell : Told → Step → Told
+tell told (InitialValue number) = record told { settings = record told.settings { initial_value = Some number } }
+tell told (ObjectAddress address) = record told { settings = record told.settings { object_address = Some address } }
+tell told (MaxIterations maximum) = record told { settings = record told.settings { maximum = maximum } }
+tell told Evaluate = record told { first = Some (begun told.settings told.first) }
+tell told (Resume answer) =
+    record told {
+      inputs =
+          told.inputs
+          ++ record {
+            object_address = told.settings.object_address;
+            maximum = told.settings.maximum;
+            answer = answer;
+          } ∷ [];
+    }
+
+-- what steps tell
+abbrev pub tells : Told → List Step → Told
+tells told [] = told
+tells told (step ∷ steps) = tells (tell told step) steps
 
 pub tells_more : (told : Told) (steps more : List Step) → tells told (steps ++ more) ≡ tells (tells told steps) more
 tells_more told [] more = refl
@@ -136,6 +157,15 @@ module _ (setup : Setup) (refusal : Refusal) (text : Text) where
   told_is told (step ∷ steps) a h =
       let now = told_by told step a.0 (λ fault e. h fault (steps_keep told (step ∷ steps) fault e)) in
       told_is (after_step setup refusal text told step) steps a.1 h ∙ ap (λ (t : Told). tells t steps) now
+
+  -- the same of the first steps
+  pub told_before : (told : Told) (steps more : List Step) → AllAllowed setup refusal text told (steps ++ more)
+      → ((fault : Fault) → comes (after_steps setup refusal text told (steps ++ more)) ≢ Some (FaultOutcome fault))
+      → after_steps setup refusal text told steps ≡ tells told steps
+  told_before told [] more a h = refl
+  told_before told (step ∷ steps) more a h =
+      let now = told_by told step a.0 (λ fault e. h fault (steps_keep told (step ∷ (steps ++ more)) fault e)) in
+      told_before (after_step setup refusal text told step) steps more a.1 h ∙ ap (λ (t : Told). tells t steps) now
 
   -- if what the steps tell comes to no fault
   pub told_comes : (told : Told) (steps : List Step) → AllAllowed setup refusal text told steps

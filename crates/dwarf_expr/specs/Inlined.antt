@@ -1,36 +1,16 @@
 -- Two evaluations, of a text with a call and of the text with the called bytes in its place (DWARF 5, section 2.5.1.5).
-use Rattle.std.specs.Prelude.{◌≡◌, ◌≢◌, List, [], ◌∷◌, ◌++◌, Option, Some}
+use Rattle.std.specs.Prelude.{◌≡◌, ◌≢◌, List, ◌∷◌, ◌++◌, Option, Some}
 use Rattle.dwarf_base.specs.declared.errors.Error.{Error}
 use Rattle.dwarf_value.specs.declared.types.Value.{Value}
 use Rattle.dwarf_meaning.specs.Operations.{DieReference}
-use Rattle.dwarf_meaning.specs.Requests.{Request, Waiting, Answer, LocationAnswer, Input}
+use Rattle.dwarf_meaning.specs.Requests.{Request, Waiting, LocationAnswer}
 use Rattle.dwarf_meaning.specs.Meaning.{First}
 use Rattle.dwarf_meaning.specs.Rest.{State, RequestStatus, CompleteStatus, FaultStatus}
-use Rattle.dwarf_meaning.specs.Steps.{Step, InitialValue, ObjectAddress, MaxIterations, Evaluate, Resume, Told, begun, Reply}
+use Rattle.dwarf_meaning.specs.Steps.{Step, Resume, Told, Reply, after_steps}
+use Rattle.dwarf_meaning.specs.Refusals.{Never}
 use Rattle.dwarf_laws.specs.TwoRuns.{NoneIsFull}
 use Rattle.dwarf_laws.specs.Inlining.{CallSite, outer, called, inlined, in_force, HasNoLimits, StandsIn, IsInlinable, LeadsToCall}
 use Rattle.dwarf_replay.specs.Replays.{told_at, Walks}
-
--- an answer, with these settings
-abbrev pub input_by : First → Answer → Input
-input_by settings answer =
-    record { object_address = settings.object_address; maximum = settings.maximum; answer = answer }
-
--- what a step tells, if every answer is awaited
-abbrev pub tell : Told → Step → Told
-tell told (InitialValue number) = record told { settings = record told.settings { initial_value = Some number } }
-tell told (ObjectAddress address) = record told { settings = record told.settings { object_address = Some address } }
-tell told (MaxIterations maximum) = record told { settings = record told.settings { maximum = maximum } }
-tell told Evaluate = record told { first = Some (begun told.settings told.first) }
-tell told (Resume answer) =
-    record told {
-      inputs = told.inputs ++ input_by told.settings answer ∷ [];
-    }
-
--- what steps tell
-abbrev pub tells : Told → List Step → Told
-tells told [] = told
-tells told (step ∷ steps) = tells (tell told step) steps
 
 -- Two evaluations without limits, of the outer text and of the inlined one, with the same settings. The steps in
 -- `start` lead the first one to the call, and no setting was changed since its last answer, or since it was started.
@@ -43,14 +23,14 @@ pub record MayInline (x y : State) (site : CallSite) (offset : DieReference) (st
   pub maximum : x.store.maximum ≡ y.store.maximum
   pub stands : StandsIn x.setup site offset
   pub inlinable : IsInlinable x.setup site
+  pub told : Told
+  pub told_is : after_steps x.setup Never x.text (told_at x) start ≡ told
   pub first : First
-  pub is_started : (tells (told_at x) start).first ≡ Some first
+  pub is_started : told.first ≡ Some first
   pub requests : List Request
-  pub leads : LeadsToCall x.setup site offset first (tells (told_at x) start).inputs requests
-  pub object_in_force : (tells (told_at x) start).settings.object_address
-      ≡ (in_force first (tells (told_at x) start).inputs).object_address
-  pub maximum_in_force : (tells (told_at x) start).settings.maximum
-      ≡ (in_force first (tells (told_at x) start).inputs).maximum
+  pub leads : LeadsToCall x.setup site offset first told.inputs requests
+  pub object_in_force : told.settings.object_address ≡ (in_force first told.inputs).object_address
+  pub maximum_in_force : told.settings.maximum ≡ (in_force first told.inputs).maximum
 
 -- both wait in the same request, or are complete with the same pieces and value
 pub data StatesEndAlike (x y : State) : Type 0 where

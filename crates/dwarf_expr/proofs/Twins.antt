@@ -19,7 +19,7 @@ use Rattle.dwarf_laws.specs.TwoRuns.{NoneIsFull, AreAlike}
 use Rattle.dwarf_laws.proofs.Pairs.{same_length, get_both}
 use Rattle.dwarf_laws.proofs.Evaluations.{two_runs}
 use Rattle.dwarf_replay.specs.Replays.{told_at, IsInRequest, IsInFault, StandsAt, Walks, WalksTo, WalksOver}
-use Rattle.dwarf_expr.specs.Twins.{fresh_at, MayReplay, AreComparableReplays, open_texts, StatesStandAlike, unstarted, in_request, in_fault, in_completion, IsFront, BothDone, BothMisplaced, NoneMisplacedAlone, NoRoomThere}
+use Rattle.dwarf_expr.specs.Twins.{fresh_at, MayReplay, AreComparableReplays, open_texts, StatesStandAlike, unstarted, in_request, in_fault, in_completion, IsFront, BothDone, BothMisplaced, NoneMisplacedAlone, NoRoomBeforeTheEnd, NoRoomBeforeMisplaced, NoRoomOnBoth}
 
 -- ---- fronts of lists
 
@@ -432,12 +432,17 @@ pub none_misplaced_alone : NoneMisplacedAlone
 none_misplaced_alone index x y new other steps others replies given h c =
     (to_done x y steps others h index new other replies given c, done_to x y steps others h index new other replies given c)
 
-pub no_room_there : NoRoomThere
-no_room_there index second answer told limit free x y new other steps others replies given h l = (
-  done_over x y steps others h second told free other given l new replies,
-  to_over x y steps others h second told free other given l index new replies,
-  over_over x y steps others h second told free other given l index answer limit new replies,
-)
+pub no_room_before_the_end : NoRoomBeforeTheEnd
+no_room_before_the_end second told free x y new other steps others replies given h k l =
+    done_over x y steps others h second told free other given l new replies k
+
+pub no_room_before_misplaced : NoRoomBeforeMisplaced
+no_room_before_misplaced index second told free x y new other steps others replies given h k l =
+    to_over x y steps others h second told free other given l index new replies k
+
+pub no_room_on_both : NoRoomOnBoth
+no_room_on_both index second answer told limit free x y new other steps others replies given h k l =
+    over_over x y steps others h second told free other given l index answer limit new replies k
 
 -- ---- the premises, of fresh evaluations
 

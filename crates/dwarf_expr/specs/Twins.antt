@@ -100,18 +100,31 @@ NoneMisplacedAlone =
     → ((WalksTo index x steps replies new → Walks y others given other → ⊥)
     × (Walks x steps replies new → WalksTo index y others given other → ⊥))
 
--- A reply found no room on the second side. Its replies, with that one, are the first of the other side's: if
--- that one did all its steps, came to a misplaced one, which then comes later, or found no room either, at that step
--- or later.
-abbrev pub NoRoomThere : Type 0
-NoRoomThere =
+-- A reply found no room on the second side, and all steps were done on the first: the replies of the second, with that
+-- one, are a front of the first's.
+abbrev pub NoRoomBeforeTheEnd : Type 0
+NoRoomBeforeTheEnd =
+    (second : ℕ) (told : Reply) (free : Option ℕ) (x y new other : State) (steps others : List Step)
+    (replies given : List Reply)
+    → MayReplay x y steps others → Walks x steps replies new → WalksOver second told free y others given other
+    → AreComparableReplays x y replies (given ++ told ∷ [])
+    → IsFront (given ++ told ∷ []) replies
+
+-- The same if a step was misplaced on the first, which then comes later.
+abbrev pub NoRoomBeforeMisplaced : Type 0
+NoRoomBeforeMisplaced =
+    (index second : ℕ) (told : Reply) (free : Option ℕ) (x y new other : State) (steps others : List Step)
+    (replies given : List Reply)
+    → MayReplay x y steps others → WalksTo index x steps replies new → WalksOver second told free y others given other
+    → AreComparableReplays x y replies (given ++ told ∷ [])
+    → (second < index) × IsFront (given ++ told ∷ []) replies
+
+-- The same if a reply found no room on the first either, at that step or later.
+abbrev pub NoRoomOnBoth : Type 0
+NoRoomOnBoth =
     (index second : ℕ) (answer told : Reply) (limit free : Option ℕ) (x y new other : State)
     (steps others : List Step) (replies given : List Reply)
-    → MayReplay x y steps others → WalksOver second told free y others given other
-    → ((Walks x steps replies new → AreComparableReplays x y replies (given ++ told ∷ [])
-    → IsFront (given ++ told ∷ []) replies)
-    × (WalksTo index x steps replies new → AreComparableReplays x y replies (given ++ told ∷ [])
-    → (second < index) × IsFront (given ++ told ∷ []) replies)
-    × (WalksOver index answer limit x steps replies new → second ≤ index
+    → MayReplay x y steps others → WalksOver index answer limit x steps replies new
+    → WalksOver second told free y others given other → second ≤ index
     → AreComparableReplays x y (replies ++ answer ∷ []) (given ++ told ∷ [])
-    → IsFront (given ++ told ∷ []) (replies ++ answer ∷ [])))
+    → IsFront (given ++ told ∷ []) (replies ++ answer ∷ [])

@@ -40,12 +40,46 @@ macro_rules! numbers {
 numbers! {
     /// The encoding of a base type (DWARF 5, section 7.8).
     DwAte {
+        /// An address.
+        DW_ATE_address = 0x01,
+        /// A truth value.
+        DW_ATE_boolean = 0x02,
+        /// A complex binary floating-point number.
+        DW_ATE_complex_float = 0x03,
         /// A binary floating-point number.
         DW_ATE_float = 0x04,
         /// A signed binary integer.
         DW_ATE_signed = 0x05,
+        /// A signed character.
+        DW_ATE_signed_char = 0x06,
         /// An unsigned binary integer.
         DW_ATE_unsigned = 0x07,
+        /// An unsigned character.
+        DW_ATE_unsigned_char = 0x08,
+        /// An imaginary binary floating-point number.
+        DW_ATE_imaginary_float = 0x09,
+        /// A packed decimal.
+        DW_ATE_packed_decimal = 0x0a,
+        /// A string of digits.
+        DW_ATE_numeric_string = 0x0b,
+        /// An edited string.
+        DW_ATE_edited = 0x0c,
+        /// A signed fixed-point number.
+        DW_ATE_signed_fixed = 0x0d,
+        /// An unsigned fixed-point number.
+        DW_ATE_unsigned_fixed = 0x0e,
+        /// A decimal floating-point number.
+        DW_ATE_decimal_float = 0x0f,
+        /// A character of Unicode.
+        DW_ATE_UTF = 0x10,
+        /// A character of ISO/IEC 10646-1:1993.
+        DW_ATE_UCS = 0x11,
+        /// A character of ISO/IEC 646:1991.
+        DW_ATE_ASCII = 0x12,
+        /// The first of those that producers define.
+        DW_ATE_lo_user = 0x80,
+        /// The last of them.
+        DW_ATE_hi_user = 0xff,
     }
 }
 

@@ -3,8 +3,10 @@
 use dwexpr::constants::*;
 use dwexpr::{
     BigEndian, DebugInfoOffset, DieReference, Encoding, EndianSlice, Error, Evaluation, EvaluationResult, Expression,
-    Format, LittleEndian, Location, Operation, Piece, Reader, Register, RunTimeEndian, UnitOffset, Value, ValueType,
+    Format, LittleEndian, Location, Operation, Piece, Reader, ReaderOffsetId, Register, RunTimeEndian, UnitOffset,
+    Value, ValueType,
 };
+use std::borrow::Cow;
 use std::panic::{AssertUnwindSafe, catch_unwind};
 
 const ENCODING: Encoding = Encoding { address_size: 8, format: Format::Dwarf32, version: 5 };
@@ -168,7 +170,10 @@ fn bytes_are_parts_of_the_text_that_names_them() {
     let whole = Piece { size_in_bits: None, bit_offset: None, location: Location::Bytes { value: little(b"abc") } };
     assert_eq!(pieces, [whole]);
     match pieces[0].location {
-        Location::Bytes { value } => assert_eq!(value.slice().as_ptr(), called[3..].as_ptr()),
+        Location::Bytes { value } => {
+            assert_eq!(value.slice().as_ptr(), called[3..].as_ptr());
+            assert_eq!(value.to_slice().unwrap(), Cow::Borrowed(b"abc"));
+        }
         other => panic!("{other:?}"),
     }
     let mut evaluation = Evaluation::new(little(&[0xa3, 1, 0x55]), ENCODING);
@@ -247,8 +252,12 @@ fn many_evaluations_stand_side_by_side() {
 
 #[test]
 fn errors_are_shown() {
+    assert_eq!(Error::InvalidExpression(DwOp(0xff)).description(), "no operation has this opcode");
     let error: Box<dyn std::error::Error> = Box::new(Error::InvalidExpression(DwOp(0xff)));
-    assert_eq!(error.to_string(), "no operation has the opcode 0xff");
+    assert_eq!(error.to_string(), "no operation has this opcode: 0xff");
+    for error in [Error::DivisionByZero, Error::UnexpectedEof(ReaderOffsetId(5))] {
+        assert_eq!(error.to_string(), error.description());
+    }
     assert_eq!(DW_OP_deref.to_string(), "DW_OP_deref");
     assert_eq!(DwOp(0xff).to_string(), "Unknown DwOp: 255");
 }

@@ -1,6 +1,7 @@
 use crate::endianity::Endianity;
 use crate::read::reader::sealed::Bytes;
 use crate::read::{Error, Reader, ReaderOffsetId, Result};
+use std::borrow::Cow;
 use std::ops::{Deref, Index, Range, RangeFrom, RangeTo};
 
 /// The bytes of a slice, in a byte order.
@@ -161,6 +162,11 @@ impl<Endian: Endianity> Reader for EndianSlice<'_, Endian> {
     fn lookup_offset_id(&self, id: ReaderOffsetId) -> Option<usize> {
         let offset = id.0.checked_sub(self.offset_id().0)? as usize;
         (offset <= self.slice.len()).then_some(offset)
+    }
+
+    #[inline]
+    fn to_slice(&self) -> Result<Cow<'_, [u8]>> {
+        Ok(Cow::Borrowed(self.slice))
     }
 
     #[inline]

@@ -82,32 +82,44 @@ pub(crate) fn error_of(code: u32, detail: u64, id: ReaderOffsetId) -> Error {
     }
 }
 
+impl Error {
+    /// What went wrong, in a few words. `Display` adds the number that the fault carries.
+    pub fn description(&self) -> &str {
+        match self {
+            Error::UnexpectedEof(_) => "an operation or a value is cut off",
+            Error::BadUnsignedLeb128 => "an unsigned LEB128 number is too large",
+            Error::BadSignedLeb128 => "a signed LEB128 number is too large",
+            Error::UnsupportedAddressSize(_) => "no address has this size in bytes",
+            Error::UnsupportedOffset => "an offset is too large",
+            Error::UnsupportedRegister(_) => "no register has this number",
+            Error::InvalidExpression(_) => "no operation has this opcode",
+            Error::InvalidPieceSize(_) => "a piece of this size in bytes is too large",
+            Error::UnsupportedTypeOperation => "the operation isn't defined at values of this type",
+            Error::TypeMismatch => "two values have different types",
+            Error::DivisionByZero => "a division by zero",
+            Error::InvalidShiftExpression => "a shift by a negative number",
+            Error::NotEnoughStackItems => "a value is missing on the stack",
+            Error::InvalidDerefSize(_) => "more bytes are read than an address has",
+            Error::InvalidPushObjectAddress => "no object's address was set",
+            Error::UnsupportedEvaluation => "the operation can't be evaluated",
+            Error::BadBranchTarget(_) => "a branch leaves the expression",
+            Error::TooManyIterations => "too many operations",
+            Error::InvalidPiece => "the last piece is missing",
+            Error::InvalidExpressionTerminator(_) => "a location is followed by another operation than a piece",
+            Error::StackFull => "a list of the evaluation is full",
+        }
+    }
+}
+
 impl fmt::Display for Error {
     fn fmt(&self, f: &mut fmt::Formatter<'_>) -> fmt::Result {
+        f.write_str(self.description())?;
         match *self {
-            Error::UnexpectedEof(_) => f.write_str("an operation or a value is cut off"),
-            Error::BadUnsignedLeb128 => f.write_str("an unsigned LEB128 number is too large"),
-            Error::BadSignedLeb128 => f.write_str("a signed LEB128 number is too large"),
-            Error::UnsupportedAddressSize(size) => write!(f, "no address has {size} bytes"),
-            Error::UnsupportedOffset => f.write_str("an offset is too large"),
-            Error::UnsupportedRegister(number) => write!(f, "no register has the number {number}"),
-            Error::InvalidExpression(opcode) => write!(f, "no operation has the opcode {:#04x}", opcode.0),
-            Error::InvalidPieceSize(size) => write!(f, "a piece of {size} bytes is too large"),
-            Error::UnsupportedTypeOperation => f.write_str("the operation isn't defined at values of this type"),
-            Error::TypeMismatch => f.write_str("two values have different types"),
-            Error::DivisionByZero => f.write_str("a division by zero"),
-            Error::InvalidShiftExpression => f.write_str("a shift by a negative number"),
-            Error::NotEnoughStackItems => f.write_str("a value is missing on the stack"),
-            Error::InvalidDerefSize(size) => write!(f, "{size} bytes are read, more than an address has"),
-            Error::InvalidPushObjectAddress => f.write_str("no object's address was set"),
-            Error::UnsupportedEvaluation => f.write_str("the operation can't be evaluated"),
-            Error::BadBranchTarget(target) => write!(f, "a branch leaves the expression, to {target:#x}"),
-            Error::TooManyIterations => f.write_str("too many operations"),
-            Error::InvalidPiece => f.write_str("the last piece is missing"),
-            Error::InvalidExpressionTerminator(place) => {
-                write!(f, "a location is followed by another operation than a piece, which ends at {place:#x}")
-            }
-            Error::StackFull => f.write_str("a list of the evaluation is full"),
+            Error::UnsupportedAddressSize(size) | Error::InvalidDerefSize(size) => write!(f, ": {size}"),
+            Error::UnsupportedRegister(number) | Error::InvalidPieceSize(number) => write!(f, ": {number}"),
+            Error::InvalidExpression(opcode) => write!(f, ": {:#04x}", opcode.0),
+            Error::BadBranchTarget(place) | Error::InvalidExpressionTerminator(place) => write!(f, ": {place:#x}"),
+            _ => Ok(()),
         }
     }
 }

@@ -1,5 +1,6 @@
 use crate::endianity::Endianity;
 use crate::read::Result;
+use std::borrow::Cow;
 use std::fmt::Debug;
 use std::hash::Hash;
 
@@ -65,6 +66,13 @@ pub trait Reader: Debug + Clone + sealed::Bytes {
 
     /// How far this place is behind the start of the bytes; `None` if it is outside of them.
     fn lookup_offset_id(&self, id: ReaderOffsetId) -> Option<Self::Offset>;
+
+    /// The bytes that are left, which are borrowed.
+    ///
+    /// # Errors
+    ///
+    /// None.
+    fn to_slice(&self) -> Result<Cow<'_, [u8]>>;
 
     /// Drops this many bytes of the front.
     ///

@@ -9,6 +9,8 @@ pub const BAD_ENCODING: u32 = 64;
 pub const BAD_OFFSET: u32 = 65;
 pub const MISPLACED: u32 = 68;
 pub const BAD_VALUE: u32 = 71;
+/// The request of an evaluation that is complete.
+pub const COMPLETE: u32 = 1;
 pub const MAX_PIECES: usize = 32;
 
 #[repr(C)]
@@ -192,14 +194,13 @@ impl RawText {
     }
 }
 
-/// The code, and what stands at the front of the bytes.
+/// What stands at the front of the bytes; it is written to this place.
 #[inline]
-pub fn decode(bytes: &[u8], encoding: RawEncoding) -> (u32, RawOperation) {
-    let mut shown = MaybeUninit::uninit();
-    // SAFETY: the pointer and the length are those of one slice, and the call writes `shown` in each case.
+pub fn decode<'a>(bytes: &[u8], encoding: RawEncoding, place: &'a mut MaybeUninit<RawOperation>) -> &'a RawOperation {
+    // SAFETY: the pointer and the length are those of one slice, and the call writes the place in each case.
     unsafe {
-        let code = dwexpr_decode(bytes.as_ptr(), bytes.len(), encoding, 0, shown.as_mut_ptr());
-        (code, shown.assume_init())
+        dwexpr_decode(bytes.as_ptr(), bytes.len(), encoding, 0, place.as_mut_ptr());
+        place.assume_init_ref()
     }
 }
 
@@ -263,27 +264,35 @@ pub struct Held {
     memory: Box<[MaybeUninit<u64>]>,
 }
 
-/// What a call of an evaluation wrote: the outcome, and as many pieces as it counts.
-pub struct Written {
-    outcome: RawOutcome,
+/// Room for what a call of an evaluation writes.
+pub struct Room {
+    outcome: MaybeUninit<RawOutcome>,
     pieces: [MaybeUninit<RawPiece>; MAX_PIECES],
 }
 
-impl Written {
-    #[inline]
-    pub fn nothing() -> Self {
-        Written { outcome: RawOutcome::default(), pieces: [MaybeUninit::uninit(); MAX_PIECES] }
-    }
+/// Room in which a call of an evaluation has written.
+#[derive(Clone, Copy)]
+pub struct Written<'a>(&'a Room);
 
+impl Room {
     #[inline]
-    pub fn outcome(&self) -> &RawOutcome {
-        &self.outcome
+    pub fn new() -> Self {
+        Room { outcome: MaybeUninit::uninit(), pieces: [MaybeUninit::uninit(); MAX_PIECES] }
+    }
+}
+
+impl<'a> Written<'a> {
+    #[inline]
+    pub fn outcome(self) -> &'a RawOutcome {
+        // SAFETY: each call writes the outcome.
+        unsafe { self.0.outcome.assume_init_ref() }
     }
 
     /// The pieces of a complete evaluation.
-    pub fn pieces(&self) -> &[RawPiece] {
-        let written = &self.pieces[..self.outcome.pieces];
-        // SAFETY: the calls alone write `outcome`, and as many pieces as it counts, if there is room for them.
+    #[inline]
+    pub fn pieces(self) -> &'a [RawPiece] {
+        let written = &self.0.pieces[..self.outcome().pieces];
+        // SAFETY: each call writes as many pieces as the outcome counts, if there is room for them.
         unsafe { &*(std::ptr::from_ref(written) as *const [RawPiece]) }
     }
 }
@@ -306,7 +315,14 @@ impl Held {
     /// # Safety
     ///
     /// Until the next start, the bytes of the texts stay as they are.
-    pub unsafe fn start(&mut self, texts: &[RawText], encoding: RawEncoding, steps: &[RawStep], written: &mut Written) {
+    #[inline]
+    pub unsafe fn start<'a>(
+        &mut self,
+        texts: &[RawText],
+        encoding: RawEncoding,
+        steps: &[RawStep],
+        room: &'a mut Room,
+    ) -> Written<'a> {
         let mut evaluation = RawEvaluation { memory: self.memory.as_mut_ptr() };
         // SAFETY: `new` has begun the evaluation, which lies in memory of its own; the pointers and lengths are those
         // of slices; of the texts the caller says what the archive asks.
@@ -318,11 +334,12 @@ impl Held {
                 encoding,
                 steps.as_ptr(),
                 steps.len(),
-                &mut written.outcome,
-                written.pieces.as_mut_ptr().cast(),
+                room.outcome.as_mut_ptr(),
+                room.pieces.as_mut_ptr().cast(),
                 MAX_PIECES,
             )
         };
+        Written(room)
     }
 
     /// Takes one more step.
@@ -331,7 +348,8 @@ impl Held {
     ///
     /// The texts are those of the start and of the steps since, in that order, and maybe one more; their bytes stay as
     /// they are until the next start.
-    pub unsafe fn resume(&mut self, texts: &[RawText], step: RawStep, written: &mut Written) {
+    #[inline]
+    pub unsafe fn resume<'a>(&mut self, texts: &[RawText], step: RawStep, room: &'a mut Room) -> Written<'a> {
         let mut evaluation = RawEvaluation { memory: self.memory.as_mut_ptr() };
         // SAFETY: as in `start`.
         unsafe {
@@ -340,11 +358,12 @@ impl Held {
                 texts.as_ptr(),
                 texts.len(),
                 step,
-                &mut written.outcome,
-                written.pieces.as_mut_ptr().cast(),
+                room.outcome.as_mut_ptr(),
+                room.pieces.as_mut_ptr().cast(),
                 MAX_PIECES,
             )
         };
+        Written(room)
     }
 }
 

@@ -1,5 +1,5 @@
 use crate::common::Encoding;
-use crate::raw::{self, Held, RawStep, RawText, RawValue, Written};
+use crate::raw::{self, Held, RawOutcome, RawStep, RawText, RawValue, Room, Written};
 use crate::read::errors::error_of;
 use crate::read::op::{piece_of, raw_encoding, result_of};
 use crate::read::{Error, EvaluationResult, Piece, Reader, Result, Value, ValueType};
@@ -138,13 +138,9 @@ impl<R: Reader> Evaluation<R> {
     /// If an answer is wanted: a resume comes next.
     #[track_caller]
     pub fn evaluate(&mut self) -> Result<EvaluationResult<R>> {
-        let mut written = Written::nothing();
-        if self.is_started {
-            self.step(raw_step(4, 0), &mut written);
-        } else {
-            self.start(true, &mut written);
-        }
-        self.reply(&written, "evaluate")
+        let mut room = Room::new();
+        let written = if self.is_started { self.step(raw_step(4, 0), &mut room) } else { self.start(true, &mut room) };
+        self.reply(written, "evaluate")
     }
 
     /// Goes on with what memory holds, after `RequiresMemory`.
@@ -320,51 +316,60 @@ impl<R: Reader> Evaluation<R> {
     /// Tells a setting to an evaluation that was started. It has no answer, also after a fault.
     fn set(&mut self, kind: u32, number: u64) {
         if self.is_started {
-            self.step(raw_step(kind, number), &mut Written::nothing());
+            self.step(raw_step(kind, number), &mut Room::new());
         }
     }
 
     /// Starts it, in the settings so far.
-    fn start(&mut self, evaluates: bool, written: &mut Written) {
+    fn start<'a>(&mut self, evaluates: bool, room: &'a mut Room) -> Written<'a> {
         let mut steps = [RawStep::default(); 4];
-        let settings = [
-            self.initial_value.map(|value| raw_step(1, value)),
-            self.object_address.map(|address| raw_step(2, address)),
-            self.max_iterations.map(|maximum| raw_step(3, maximum.into())),
-            evaluates.then(|| raw_step(4, 0)),
-        ];
         let mut count = 0;
-        for step in settings.into_iter().flatten() {
+        let mut add = |step| {
             steps[count] = step;
             count += 1;
+        };
+        if let Some(value) = self.initial_value {
+            add(raw_step(1, value));
+        }
+        if let Some(address) = self.object_address {
+            add(raw_step(2, address));
+        }
+        if let Some(maximum) = self.max_iterations {
+            add(raw_step(3, maximum.into()));
+        }
+        if evaluates {
+            add(raw_step(4, 0));
         }
         let texts = [RawText::new(self.bytecode.bytes())];
         let encoding = raw_encoding(self.encoding, self.bytecode.endian());
         // SAFETY: the text is borrowed, and stays in `bytecode` until the next start.
-        unsafe { self.held.start(&texts, encoding, &steps[..count], written) };
+        let written = unsafe { self.held.start(&texts, encoding, &steps[..count], room) };
         self.is_started = written.outcome().code != raw::BAD_ENCODING;
+        written
     }
 
     /// Takes one more step of an evaluation that was started.
-    fn step(&mut self, step: RawStep, written: &mut Written) {
+    fn step<'a>(&mut self, step: RawStep, room: &'a mut Room) -> Written<'a> {
         let first = [RawText::new(self.bytecode.bytes())];
         let texts = if self.table.is_empty() { &first } else { self.table.as_slice() };
         // SAFETY: the table grows at its end alone until the next start; its texts are borrowed, and stay in `bytecode`
         // and `called` until then.
-        unsafe { self.held.resume(texts, step, written) };
+        unsafe { self.held.resume(texts, step, room) }
     }
 
     /// Takes an answer.
     #[track_caller]
     fn resume(&mut self, step: RawStep, call: &str) -> Result<EvaluationResult<R>> {
-        let mut written = Written::nothing();
+        let mut room = Room::new();
         if !self.is_started {
-            self.start(false, &mut written);
+            // Nothing is wanted yet, which the archive says.
+            let written = self.start(false, &mut room);
+            if written.outcome().code != raw::OK {
+                return self.reply(written, call);
+            }
         }
-        if self.is_started {
-            self.step(step, &mut written);
-        }
-        self.reply(&written, call)
+        let written = self.step(step, &mut room);
+        self.reply(written, call)
     }
 
     /// The index of a text, which is added to the table unless it is there.
@@ -382,27 +387,42 @@ impl<R: Reader> Evaluation<R> {
 
     /// What a call gave; a panic if it was out of turn.
     #[track_caller]
-    fn reply(&mut self, written: &Written, call: &str) -> Result<EvaluationResult<R>> {
+    fn reply(&mut self, written: Written<'_>, call: &str) -> Result<EvaluationResult<R>> {
         let outcome = written.outcome();
+        if outcome.code != raw::OK {
+            assert!(outcome.code != raw::MISPLACED, "Called `Evaluation::{call}`, which isn't what is wanted");
+            return Err(self.error_of(outcome));
+        }
+        if outcome.request == raw::COMPLETE {
+            self.complete(written);
+        }
+        Ok(result_of(outcome, |text, offset, length| self.block(text, offset, length)))
+    }
+
+    #[cold]
+    fn error_of(&self, outcome: &RawOutcome) -> Error {
         match outcome.code {
-            raw::OK => {}
-            raw::MISPLACED => panic!("Called `Evaluation::{call}`, which isn't what is wanted"),
-            raw::BAD_ENCODING => return Err(Error::UnsupportedAddressSize(self.encoding.address_size)),
-            code => return Err(error_of(code, outcome.detail, self.bytecode.offset_id())),
+            raw::BAD_ENCODING => Error::UnsupportedAddressSize(self.encoding.address_size),
+            code => error_of(code, outcome.detail, self.bytecode.offset_id()),
         }
-        let texts = (&self.bytecode, &self.called);
-        let block = |text: usize, offset, length| match text {
-            0 => texts.0.part(offset, length),
-            _ => texts.1[text - 1].part(offset, length),
-        };
-        let result = result_of(outcome, block);
-        if matches!(result, EvaluationResult::Complete) {
-            self.is_complete = true;
-            self.value_result = Value::of_raw(RawValue { value_type: outcome.value_type, content: outcome.value });
-            self.result.clear();
-            self.result.extend(written.pieces().iter().map(|piece| piece_of(piece, block)));
+    }
+
+    /// Keeps what a complete evaluation gave.
+    fn complete(&mut self, written: Written<'_>) {
+        self.is_complete = true;
+        let RawOutcome { value_type, value, .. } = *written.outcome();
+        self.value_result = Value::of_raw(RawValue { value_type, content: value });
+        let block = |text, offset, length| self.block(text, offset, length);
+        self.result = written.pieces().iter().map(|piece| piece_of(piece, block)).collect();
+    }
+
+    /// A part of a text.
+    #[inline]
+    fn block(&self, text: usize, offset: usize, length: usize) -> R {
+        match text.checked_sub(1) {
+            None => self.bytecode.part(offset, length),
+            Some(index) => self.called[index].part(offset, length),
         }
-        Ok(result)
     }
 }
 

@@ -4,6 +4,7 @@ use crate::raw::{self, RawEncoding, RawOperation, RawOutcome, RawPiece, RawValue
 use crate::read::errors::error_of;
 use crate::read::reader::offset;
 use crate::read::{Error, Evaluation, Reader, ReaderOffset, Result, UnitOffset, Value};
+use std::mem::MaybeUninit;
 
 /// Where a called expression stands (DWARF 5, section 2.5.1.5).
 #[derive(Debug, Clone, Copy, PartialEq, Eq)]
@@ -17,7 +18,10 @@ pub enum DieReference<T = usize> {
 /// One operation of an expression, with its operands (DWARF 5, sections 2.5 and 2.6).
 ///
 /// The base type at offset 0 is the generic type.
+// Small fields stand beside the tag, and so no word of one operation shares its place with a small field of another:
+// else the compiler takes words apart into bytes.
 #[derive(Debug, Clone, Copy, PartialEq, Eq)]
+#[repr(u8)]
 pub enum Operation<R, Offset = <R as Reader>::Offset>
 where
     R: Reader<Offset = Offset>,
@@ -28,10 +32,10 @@ where
     Deref {
         /// How many bytes are read.
         size: u8,
-        /// The type of what is pushed; 0 is the generic type.
-        base_type: UnitOffset<Offset>,
         /// Whether an address space is popped too, from below the address.
         space: bool,
+        /// The type of what is pushed; 0 is the generic type.
+        base_type: UnitOffset<Offset>,
     },
     /// Drop the top: `DW_OP_drop`.
     Drop,
@@ -409,10 +413,11 @@ where
     ///   none of 1 to 8.
     #[inline]
     pub fn parse(bytes: &mut R, encoding: Encoding) -> Result<Operation<R, Offset>> {
-        let (code, shown) = raw::decode(bytes.bytes(), raw_encoding(encoding, bytes.endian()));
-        match code {
+        let mut place = MaybeUninit::uninit();
+        let shown = raw::decode(bytes.bytes(), raw_encoding(encoding, bytes.endian()), &mut place);
+        match shown.fault {
             raw::OK => {
-                let operation = operation_of(&shown, bytes);
+                let operation = operation_of(shown, bytes);
                 bytes.skip(offset(shown.size as u64))?;
                 Ok(operation)
             }

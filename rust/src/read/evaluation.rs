@@ -36,7 +36,6 @@ pub struct Evaluation<R: Reader> {
     held: Held,
     bytecode: R,
     encoding: Encoding,
-    initial_value: Option<u64>,
     object_address: Option<u64>,
     max_iterations: Option<u32>,
     is_started: bool,
@@ -44,7 +43,8 @@ pub struct Evaluation<R: Reader> {
     called: Vec<R>,
     /// The expression and those texts, as the archive sees them; empty as long as no call was answered.
     table: Vec<RawText>,
-    is_complete: bool,
+    /// What the archive answered last: a request, or completion; 0 before the first answer and after a fault.
+    answered: u32,
     value_result: Option<Value>,
     result: Vec<Piece<R>>,
 }
@@ -56,13 +56,12 @@ impl<R: Reader> Evaluation<R> {
             held: Held::new(),
             bytecode,
             encoding,
-            initial_value: None,
             object_address: None,
             max_iterations: None,
             is_started: false,
             called: Vec::new(),
             table: Vec::new(),
-            is_complete: false,
+            answered: 0,
             value_result: None,
             result: Vec::new(),
         }
@@ -75,13 +74,12 @@ impl<R: Reader> Evaluation<R> {
     pub fn restart(&mut self, bytecode: R, encoding: Encoding) {
         self.bytecode = bytecode;
         self.encoding = encoding;
-        self.initial_value = None;
         self.object_address = None;
         self.max_iterations = None;
         self.is_started = false;
         self.called.clear();
         self.table.clear();
-        self.is_complete = false;
+        self.answered = 0;
         self.value_result = None;
         self.result.clear();
     }
@@ -95,9 +93,12 @@ impl<R: Reader> Evaluation<R> {
     /// If it was set before, or `evaluate` was called.
     #[track_caller]
     pub fn set_initial_value(&mut self, value: u64) {
-        let is_first = !self.is_started && self.initial_value.is_none();
-        assert!(is_first, "`Evaluation::set_initial_value` was called twice, or after `evaluate`");
-        self.initial_value = Some(value);
+        let mut room = Room::new();
+        if !self.is_started {
+            self.start(false, &mut room);
+        }
+        let is_set = !self.is_started || self.step(raw_step(1, value), &mut room).outcome().code != raw::MISPLACED;
+        assert!(is_set, "`Evaluation::set_initial_value` was called twice, or after `evaluate`");
     }
 
     /// Sets the address of the object that is described, for `DW_OP_push_object_address`. It holds from now on. Without
@@ -310,7 +311,7 @@ impl<R: Reader> Evaluation<R> {
 
     #[track_caller]
     fn assert_complete(&self, call: &str) {
-        assert!(self.is_complete, "Called `Evaluation::{call}` before the evaluation was complete");
+        assert!(self.answered == raw::COMPLETE, "Called `Evaluation::{call}` before the evaluation was complete");
     }
 
     /// Tells a setting to an evaluation that was started. It has no answer, also after a fault.
@@ -322,15 +323,12 @@ impl<R: Reader> Evaluation<R> {
 
     /// Starts it, in the settings so far.
     fn start<'a>(&mut self, evaluates: bool, room: &'a mut Room) -> Written<'a> {
-        let mut steps = [RawStep::default(); 4];
+        let mut steps = [RawStep::default(); 3];
         let mut count = 0;
         let mut add = |step| {
             steps[count] = step;
             count += 1;
         };
-        if let Some(value) = self.initial_value {
-            add(raw_step(1, value));
-        }
         if let Some(address) = self.object_address {
             add(raw_step(2, address));
         }
@@ -391,8 +389,10 @@ impl<R: Reader> Evaluation<R> {
         let outcome = written.outcome();
         if outcome.code != raw::OK {
             assert!(outcome.code != raw::MISPLACED, "Called `Evaluation::{call}`, which isn't what is wanted");
+            self.answered = outcome.request;
             return Err(self.error_of(outcome));
         }
+        self.answered = outcome.request;
         if outcome.request == raw::COMPLETE {
             self.complete(written);
         }
@@ -409,7 +409,6 @@ impl<R: Reader> Evaluation<R> {
 
     /// Keeps what a complete evaluation gave.
     fn complete(&mut self, written: Written<'_>) {
-        self.is_complete = true;
         let RawOutcome { value_type, value, .. } = *written.outcome();
         self.value_result = Value::of_raw(RawValue { value_type, content: value });
         let block = |text, offset, length| self.block(text, offset, length);

@@ -1,5 +1,5 @@
 -- What is shown at the end, from where the evaluation stands.
-use Rattle.std.proofs.Common.{ℕ, ◌≡◌, ◌∙◌, inl, inr, Bool, List, [], ◌∷◌, Option, Some, None, Result, Ok, Err, length, slice_get, refl, sym, ap, subst}
+use Rattle.std.proofs.Common.{ℕ, ◌≡◌, ◌∙◌, inl, inr, Bool, List, [], ◌∷◌, Option, Some, None, length, slice_get, refl, sym, ap, subst}
 use Rattle.dwarf_base.specs.declared.common.Encoding.{Encoding}
 use Rattle.dwarf_base.specs.Reads.{Text}
 use Rattle.dwarf_meaning.specs.Steps.{untold}
@@ -10,13 +10,13 @@ use Rattle.dwarf_meaning.specs.Rest.{State, Status, Start, Running, RequestStatu
 use Rattle.dwarf_meaning.specs.Stores.{Setup}
 use Rattle.dwarf_meaning.specs.Run.{most}
 use Rattle.dwarf_replay.specs.Replays.{StandsAt, IsInRequest, told_at}
-use Rattle.dwexpr_c.specs.Evaluated.{EvaluatesGiven, EvaluatesFirst, Beginning, IsCutShort, ShowsOutcome, comes_of, limited_setup, told_by}
+use Rattle.dwexpr_c.specs.Evaluated.{EvaluatesGiven, EvaluatesFirst, Beginning, ShowsOutcome, comes_of, limited_setup, told_by}
 use Rattle.dwexpr_c.specs.Outcomes.{ShowsRequest}
 use Rattle.dwexpr_c.specs.Texts.{TextAt}
 use Rattle.dwexpr_c.specs.Places.{IsGiven}
-use Rattle.dwexpr_c.specs.Held.{HasStopped, HasTaken, StandsAfter, StandsAfterFirst}
-use Rattle.dwexpr_c.specs.inner.Runs.{EvaluatesFound, Runs, StandsAfterFound, given_at}
-use Rattle.dwexpr_c.specs.Stepping.{EndsOutcome, FinishesOutcome, ShowsStatus}
+use Rattle.dwexpr_c.specs.Held.{HasTaken, StandsAfter, StandsAfterFirst}
+use Rattle.dwexpr_c.specs.inner.Runs.{EvaluatesFound, StandsAfterFound, given_at}
+use Rattle.dwexpr_c.specs.Stepping.{FinishesOutcome, ShowsStatus}
 use Rattle.dwexpr_c.specs.declared.held.Held.{Held}
 use Rattle.dwexpr_c.specs.declared.outcomes.DwexprOutcome.{DwexprOutcome}
 use Rattle.dwexpr_c.specs.declared.pieces.DwexprPiece.{DwexprPiece}
@@ -66,18 +66,6 @@ module _ (texts : List DwexprText) (numbers : List DwexprStep) (first new : Stat
   -- the steps were all done
   pub all_done : FinishesOutcome texts (length numbers) new.store.pieces out after old places new.status → EvaluatesGiven given numbers after old places
   all_done f = finished (comes_of given ran.steps) refl ran.stands f
-
--- they were done, or one ended it
-pub all_ends : (texts : List DwexprText) (numbers : List DwexprStep) (first new : State) (done : Result DwexprOutcome DwexprOutcome) (after : DwexprOutcome) (old places : List DwexprPiece) → IsGiven texts first.text.bytes → Runs texts numbers first new done → EndsOutcome texts (length numbers) new.store.pieces done after old places new.status → EvaluatesGiven (given_at first texts) numbers after old places
-all_ends texts numbers first new (Ok out) after old places is_given ran f = all_done texts numbers first new out after old places ran.0 ran.1 is_given f
-all_ends texts numbers first new (Err end) after old places is_given ran f =
-    inr (subst (λ (o : DwexprOutcome). IsCutShort (given_at first texts) numbers o) (sym f.0) ran.cut, f.1)
-
--- the evaluation stands where they lead
-pub stands_there : (texts : List DwexprText) (numbers : List DwexprStep) (first new : State) (done : Result DwexprOutcome DwexprOutcome) (after : DwexprOutcome) (old places : List DwexprPiece) → Runs texts numbers first new done → EndsOutcome texts (length numbers) new.store.pieces done after old places new.status → StandsAfter (given_at first texts) numbers new after
-stands_there texts numbers first new (Ok out) after old places ran f = inl ran.0
-stands_there texts numbers first new (Err end) after old places ran f =
-    inr (subst (λ (o : DwexprOutcome). HasStopped (given_at first texts) numbers new o) (sym f.0) ran)
 
 -- a fresh evaluation
 pub given_is : (first : State) (texts : List DwexprText) (encoding : Encoding) (text : Text) → first.setup ≡ limited_setup encoding → first.text ≡ text → first.store.object_address ≡ None → first.store.maximum ≡ most → given_at first texts ≡ record { setup = limited_setup encoding; text = text; told = untold; texts = texts }

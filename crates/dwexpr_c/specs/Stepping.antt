@@ -79,10 +79,3 @@ FinishesOutcome texts count pieces before after old new (CompleteStatus value) =
     ((after ≡ complete_outcome (length pieces) value) × AreWritten texts pieces old new)
     ⊎ ((after ≡ ended_outcome lost_text_code 0 count) × SomeNowhere texts pieces)
 FinishesOutcome texts count pieces before after old new _ = (after ≡ before) × (new ≡ old)
-
--- after a step that ended it the outcome is that end, and the pieces stay; after any other, by where it stands
-abbrev pub EndsOutcome : List DwexprText → (count : ℕ) → List Piece → Result DwexprOutcome DwexprOutcome
-    → (after : DwexprOutcome) → (old new : List DwexprPiece) → Status → Type 0
-EndsOutcome texts count pieces (Ok before) after old new status =
-    FinishesOutcome texts count pieces before after old new status
-EndsOutcome texts count pieces (Err end) after old new status = (after ≡ end) × (new ≡ old)

@@ -6,7 +6,7 @@ ghost use Rattle.dwexpr_c.specs.Evaluated.{EvaluatesGiven};
 ghost use Rattle.dwexpr_c.specs.Held.{HasCapacities, StandsAfter};
 ghost use Rattle.dwexpr_c.specs.Places.{IsGiven};
 ghost use Rattle.dwexpr_c.specs.Steps.{step_coded};
-ghost use Rattle.dwexpr_c.specs.Stepping.{DoesStep, EndsOutcome, FinishesOutcome};
+ghost use Rattle.dwexpr_c.specs.Stepping.{DoesStep, FinishesOutcome};
 ghost use Rattle.dwexpr_c.specs.Texts.{text_of_placed};
 ghost use Rattle.dwexpr_c.specs.inner.Runs.{Runs, given_at};
 
@@ -41,13 +41,13 @@ pub(crate) fn do_step<'a, S: EvaluationStorage<Placed<'a>>>(
         Stepped::Misplaced => Err(plain(MISPLACED)),
         Stepped::Set => Ok(()),
         Stepped::Answered(answer) => match answer.0 {
-            Ok(reply) => match show_reply(texts, reply) {
-                Some(shown) => {
-                    *outcome = shown;
+            Ok(reply) => {
+                if show_reply(texts, reply, outcome) {
                     Ok(())
+                } else {
+                    Err(plain(LOST_TEXT))
                 }
-                None => Err(plain(LOST_TEXT)),
-            },
+            }
             Err(error) => Err(numbers_of(error)),
         },
     }
@@ -60,62 +60,67 @@ fn step_at(steps: &[DwexprStep], index: usize) -> Option<DwexprStep>
     steps.get(index).copied()
 }
 
-/// Does the steps, and shows what the last of them answered; or how one ended the evaluation.
+/// Does the steps, and shows what the last of them answered; `false` if one ended the evaluation, which is shown then.
 fn do_steps<'a, S: EvaluationStorage<Placed<'a>>>(
     evaluation: &mut Evaluation<Placed<'a>, S>,
     texts: &[DwexprText<'a>],
     order: RunTimeEndian,
     steps: &[DwexprStep],
-) -> Result<DwexprOutcome, DwexprOutcome>
+    outcome: &mut DwexprOutcome,
+) -> bool
     requires fresh { evaluation.old.status ≡ Start None }
     requires capacities { HasCapacities evaluation.old }
     requires order { evaluation.old.text.is_big ≡ is_big_of order }
     requires given { IsGiven texts.now evaluation.old.text.bytes }
-    ensures { Runs texts.now steps.now evaluation.old evaluation.new result }
+    ensures { Runs texts.now steps.now evaluation.old evaluation.new result outcome.new }
 {
-    let mut outcome = UNTOLD;
+    *outcome = UNTOLD;
     let mut index = 0;
     while index < steps.len() {
         let Some(step) = step_at(steps, index) else {
-            return Ok(outcome);
+            return true;
         };
-        match do_step(evaluation, texts, order, step, &mut outcome) {
+        match do_step(evaluation, texts, order, step, outcome) {
             Ok(()) => {}
-            Err(end) => return Err(show_end(end, index)),
+            Err(end) => {
+                *outcome = show_end(end, index);
+                return false;
+            }
         }
         index += 1;
     }
-    Ok(outcome)
+    true
 }
 
-/// What is shown of a complete evaluation, or that some bytes are nowhere, which never comes.
+/// Shows a complete evaluation, or that some bytes are nowhere, which never comes.
 fn show_result(
     texts: &[DwexprText<'_>],
     count: usize,
     value: Option<Value>,
     pieces: &[Piece<Placed<'_>>],
+    outcome: &mut DwexprOutcome,
     places: &mut [DwexprPiece],
-) -> DwexprOutcome
+)
     ensures { FinishesOutcome texts.now count (map (piece_of text_of_placed (λ x. x)) pieces.now)
-        result result places.old places.new (CompleteStatus value) }
+        outcome.old outcome.new places.old places.new (CompleteStatus value) }
 {
-    if write_pieces(texts, pieces, places) {
+    *outcome = if write_pieces(texts, pieces, places) {
         show_complete(pieces.len(), value)
     } else {
         show_end(plain(LOST_TEXT), count)
-    }
+    };
 }
 
-/// The outcome with the value and the pieces of an evaluation that is complete.
+/// Shows the value and the pieces of an evaluation that is complete.
 pub(crate) fn show_status<'a, S: EvaluationStorage<Placed<'a>>>(
     evaluation: &Evaluation<Placed<'a>, S>,
     texts: &[DwexprText<'a>],
     count: usize,
-    outcome: DwexprOutcome,
+    outcome: &mut DwexprOutcome,
     places: &mut [DwexprPiece],
-) -> DwexprOutcome
-    ensures { FinishesOutcome texts.now count evaluation.now.store.pieces outcome result places.old
-        places.new evaluation.now.status }
+)
+    ensures { FinishesOutcome texts.now count evaluation.now.store.pieces outcome.old outcome.new
+        places.old places.new evaluation.now.status }
 {
     match evaluation.status() {
         Status::Complete => show_result(
@@ -123,45 +128,32 @@ pub(crate) fn show_status<'a, S: EvaluationStorage<Placed<'a>>>(
             count,
             evaluation.value_result(),
             evaluation.as_result(),
+            outcome,
             places,
         ),
-        _ => outcome,
+        _ => {}
     }
 }
 
-/// What is shown once the steps were done, or one ended the evaluation.
-fn finish<'a, S: EvaluationStorage<Placed<'a>>>(
-    evaluation: &Evaluation<Placed<'a>, S>,
-    texts: &[DwexprText<'a>],
-    count: usize,
-    done: Result<DwexprOutcome, DwexprOutcome>,
-    places: &mut [DwexprPiece],
-) -> DwexprOutcome
-    ensures { EndsOutcome texts.now count evaluation.now.store.pieces done result places.old
-        places.new evaluation.now.status }
-{
-    match done {
-        Ok(outcome) => show_status(evaluation, texts, count, outcome, places),
-        Err(end) => end,
-    }
-}
-
-/// What the steps of a fresh evaluation come to.
+/// Shows what the steps of a fresh evaluation come to.
 pub(crate) fn evaluate_steps<'a, S: EvaluationStorage<Placed<'a>>>(
     evaluation: &mut Evaluation<Placed<'a>, S>,
     texts: &[DwexprText<'a>],
     order: RunTimeEndian,
     steps: &[DwexprStep],
+    outcome: &mut DwexprOutcome,
     places: &mut [DwexprPiece],
-) -> DwexprOutcome
+)
     requires fresh { evaluation.old.status ≡ Start None }
     requires capacities { HasCapacities evaluation.old }
     requires order { evaluation.old.text.is_big ≡ is_big_of order }
     requires given { IsGiven texts.now evaluation.old.text.bytes }
-    ensures evaluates { EvaluatesGiven (given_at evaluation.old texts.now) steps.now result places.old
-        places.new }
-    ensures stands { StandsAfter (given_at evaluation.old texts.now) steps.now evaluation.new result }
+    ensures evaluates { EvaluatesGiven (given_at evaluation.old texts.now) steps.now outcome.new
+        places.old places.new }
+    ensures stands { StandsAfter (given_at evaluation.old texts.now) steps.now evaluation.new
+        outcome.new }
 {
-    let done = do_steps(evaluation, texts, order, steps);
-    finish(evaluation, texts, steps.len(), done, places)
+    if do_steps(evaluation, texts, order, steps, outcome) {
+        show_status(evaluation, texts, steps.len(), outcome, places);
+    }
 }

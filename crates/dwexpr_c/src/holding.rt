@@ -21,16 +21,17 @@ fn resume(
     held: &mut Held<'static>,
     texts: &[DwexprText<'static>],
     step: DwexprStep,
+    outcome: &mut DwexprOutcome,
     places: &mut [DwexprPiece],
-) -> DwexprOutcome
+)
     requires { HasCapacities held.old.evaluation }
-    ensures resumes { HasResumed texts.now step held.old held.new result places.old places.new }
+    ensures resumes { HasResumed texts.now step held.old held.new outcome.new places.old places.new }
     ensures capacities { HasCapacities held.new.evaluation }
 {
-    let mut outcome = UNTOLD;
-    match do_step(&mut held.evaluation, texts, held.order, step, &mut outcome) {
+    *outcome = UNTOLD;
+    match do_step(&mut held.evaluation, texts, held.order, step, outcome) {
         Ok(()) => show_status(&held.evaluation, texts, 0, outcome, places),
-        Err(end) => show_end(end, 0),
+        Err(end) => *outcome = show_end(end, 0),
     }
 }
 
@@ -75,7 +76,7 @@ pub extern "C" fn dwexpr_evaluation_start(
         → Starts (encoding_in encoding) (is_big_in encoding) texts.now steps.now evaluation.old.held
         evaluation.new.held outcome.new }
 {
-    *outcome = start(evaluation.get(), texts, encoding, steps, pieces);
+    start(evaluation.get(), texts, encoding, steps, outcome, pieces);
     outcome.code
 }
 
@@ -98,6 +99,6 @@ pub extern "C" fn dwexpr_evaluation_resume(
     ensures resumes { Resumes texts.now step evaluation.old.held evaluation.new.held outcome.new
         pieces.old pieces.new }
 {
-    *outcome = resume(evaluation.get(), texts, step, pieces);
+    resume(evaluation.get(), texts, step, outcome, pieces);
     outcome.code
 }

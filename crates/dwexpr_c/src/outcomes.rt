@@ -1,4 +1,4 @@
-ghost use Rattle.std.specs.Prelude.{◌≡◌, IfSome, IfNone};
+ghost use Rattle.std.specs.Prelude.{◌≡◌, true, false};
 ghost use Rattle.dwarf_eval.specs.Evaluation.{ok_reply};
 ghost use Rattle.dwexpr_c.specs.Outcomes.{ShowsReply, request_outcome, complete_outcome, ended_outcome, blank_outcome};
 ghost use Rattle.dwexpr_c.specs.Texts.{text_of_placed};
@@ -120,17 +120,18 @@ fn with_block(shown: DwexprOutcome, place: Place, size: usize) -> DwexprOutcome
     }
 }
 
-/// What a call answered; `None` if it asks of a block that is nowhere.
+/// Shows what a call answered; `false` if it asks of a block that is nowhere.
 pub(crate) fn show_reply(
     texts: &[DwexprText<'_>],
     reply: EvaluationResult<Placed<'_>>,
-) -> Option<DwexprOutcome>
-    ensures some { IfSome result
-        (λ out. ShowsReply texts.now (ok_reply text_of_placed (λ x. x) reply.entry) out) }
-    ensures none { IfNone result
-        (AsksNowhere texts.now (ok_reply text_of_placed (λ x. x) reply.entry)) }
+    outcome: &mut DwexprOutcome,
+) -> bool
+    ensures shown { result ≡ true
+        → ShowsReply texts.now (ok_reply text_of_placed (λ x. x) reply.entry) outcome.new }
+    ensures unplaced { result ≡ false
+        → AsksNowhere texts.now (ok_reply text_of_placed (λ x. x) reply.entry) }
 {
-    Some(match reply {
+    *outcome = match reply {
         EvaluationResult::Complete => asking(1, 0),
         EvaluationResult::RequiresMemory {
             address,
@@ -168,7 +169,9 @@ pub(crate) fn show_reply(
             ..asking(7, offset.0 as u64)
         },
         EvaluationResult::RequiresEntryValue(expression) => {
-            let place = place_of(texts, expression.0)?;
+            let Some(place) = place_of(texts, expression.0) else {
+                return false;
+            };
             with_block(asking(8, 0), place, expression.0.len())
         }
         EvaluationResult::RequiresParameterRef(offset) => asking(9, offset.0 as u64),
@@ -184,7 +187,8 @@ pub(crate) fn show_reply(
         EvaluationResult::RequiresWasmLocal { index } => asking(13, u64::from(index)),
         EvaluationResult::RequiresWasmGlobal { index } => asking(14, u64::from(index)),
         EvaluationResult::RequiresWasmStack { index } => asking(15, u64::from(index)),
-    })
+    };
+    true
 }
 
 /// What is shown of a complete evaluation.

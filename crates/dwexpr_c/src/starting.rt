@@ -18,15 +18,16 @@ use crate::pieces::DwexprPiece;
 use crate::places::Placed;
 use crate::steps::{DwexprStep, DwexprText, text_at};
 
-/// What the steps of a text come to.
+/// Shows what the steps of a text come to.
 fn start_text<'a>(
     held: &mut Held<'a>,
     texts: &[DwexprText<'a>],
     text: Placed<'a>,
     reading: Reading,
     steps: &[DwexprStep],
+    outcome: &mut DwexprOutcome,
     places: &mut [DwexprPiece],
-) -> DwexprOutcome
+)
     requires capacities { HasCapacities held.old.evaluation }
     requires some { 0 < reading.encoding.address_size }
     requires fits { reading.encoding.address_size ≤ 8 }
@@ -34,86 +35,96 @@ fn start_text<'a>(
     requires given { IsGiven texts.now (text_of_placed text).bytes }
     ensures capacities { HasCapacities held.new.evaluation }
     ensures evaluates { EvaluatesGiven (beginning_at reading.encoding text.entry texts.now) steps.now
-        result places.old places.new }
+        outcome.new places.old places.new }
     ensures order { is_big_of held.new.order ≡ (text_of_placed text.entry).is_big }
     ensures stands { StandsAfter (beginning_at reading.encoding text.entry texts.now) steps.now
-        held.new.evaluation result }
+        held.new.evaluation outcome.new }
 {
     held.order = reading.order;
     held.evaluation.restart(text, reading.encoding);
-    evaluate_steps(&mut held.evaluation, texts, reading.order, steps, places)
+    evaluate_steps(
+        &mut held.evaluation,
+        texts,
+        reading.order,
+        steps,
+        outcome,
+        places,
+    );
 }
 
-/// What the steps of a text come to, if there is one.
+/// Shows what the steps of a text come to, if there is one.
 fn start_found<'a>(
     held: &mut Held<'a>,
     texts: &[DwexprText<'a>],
     found: Option<Placed<'a>>,
     reading: Reading,
     steps: &[DwexprStep],
+    outcome: &mut DwexprOutcome,
     places: &mut [DwexprPiece],
-) -> DwexprOutcome
+)
     requires capacities { HasCapacities held.old.evaluation }
     requires some { 0 < reading.encoding.address_size }
     requires fits { reading.encoding.address_size ≤ 8 }
     requires order { IfSome found (λ text. (text_of_placed text).is_big ≡ is_big_of reading.order) }
     requires given { IfSome found (λ text. IsGiven texts.now (text_of_placed text).bytes) }
     ensures capacities { HasCapacities held.new.evaluation }
-    ensures evaluates { EvaluatesFound reading.encoding texts.now steps.now result places.old
+    ensures evaluates { EvaluatesFound reading.encoding texts.now steps.now outcome.new places.old
         places.new found.entry }
-    ensures stands { StandsAfterFound reading.encoding texts.now steps.now held.old held.new result
-        found.entry }
+    ensures stands { StandsAfterFound reading.encoding texts.now steps.now held.old held.new
+        outcome.new found.entry }
 {
     match found {
-        None => show_end(plain(BAD_TEXT), 0),
-        Some(text) => start_text(held, texts, text, reading, steps, places),
+        None => *outcome = show_end(plain(BAD_TEXT), 0),
+        Some(text) => start_text(held, texts, text, reading, steps, outcome, places),
     }
 }
 
-/// What the steps of the first of the texts come to.
+/// Shows what the steps of the first of the texts come to.
 fn start_first<'a>(
     held: &mut Held<'a>,
     texts: &[DwexprText<'a>],
     reading: Reading,
     steps: &[DwexprStep],
+    outcome: &mut DwexprOutcome,
     places: &mut [DwexprPiece],
-) -> DwexprOutcome
+)
     requires capacities { HasCapacities held.old.evaluation }
     requires some { 0 < reading.encoding.address_size }
     requires fits { reading.encoding.address_size ≤ 8 }
     ensures capacities { HasCapacities held.new.evaluation }
     ensures evaluates { EvaluatesFirst reading.encoding (is_big_of reading.order) texts.now steps.now
-        result places.old places.new }
+        outcome.new places.old places.new }
     ensures stands { StandsAfterFirst reading.encoding (is_big_of reading.order) texts.now steps.now
-        held.old held.new result }
+        held.old held.new outcome.new }
 {
     let found = text_at(texts, reading.order, 0);
-    start_found(held, texts, found, reading, steps, places)
+    start_found(held, texts, found, reading, steps, outcome, places);
 }
 
-/// What the steps of the first of the texts come to, and where the evaluation then stands.
+/// Shows what the steps of the first of the texts come to; the evaluation then stands where they lead.
 pub(crate) fn start<'a>(
     held: &mut Held<'a>,
     texts: &[DwexprText<'a>],
     numbers: DwexprEncoding,
     steps: &[DwexprStep],
+    outcome: &mut DwexprOutcome,
     places: &mut [DwexprPiece],
-) -> DwexprOutcome
+)
     requires { HasCapacities held.old.evaluation }
     ensures capacities { HasCapacities held.new.evaluation }
     ensures encoding { is_encoding numbers ≡ false
-        → (result ≡ ended_outcome bad_encoding_code 0 0) × (places.new ≡ places.old)
+        → (outcome.new ≡ ended_outcome bad_encoding_code 0 0) × (places.new ≡ places.old)
         × (held.new ≡ held.old) }
     ensures evaluates { is_encoding numbers ≡ true
-        → EvaluatesFirst (encoding_in numbers) (is_big_in numbers) texts.now steps.now result
+        → EvaluatesFirst (encoding_in numbers) (is_big_in numbers) texts.now steps.now outcome.new
         places.old places.new }
     ensures stands { is_encoding numbers ≡ true
         → StandsAfterFirst (encoding_in numbers) (is_big_in numbers) texts.now steps.now held.old
-        held.new result }
+        held.new outcome.new }
 {
     match reading_of(numbers) {
-        None => show_end(plain(BAD_ENCODING), 0),
-        Some(reading) => start_first(held, texts, reading, steps, places),
+        None => *outcome = show_end(plain(BAD_ENCODING), 0),
+        Some(reading) => start_first(held, texts, reading, steps, outcome, places),
     }
 }
 
@@ -138,6 +149,6 @@ pub extern "C" fn dwexpr_evaluate(
         → EvaluatesFirst (encoding_in encoding) (is_big_in encoding) texts.now steps.now outcome.new
         pieces.old pieces.new }
 {
-    *outcome = start(&mut unstarted(), texts, encoding, steps, pieces);
+    start(&mut unstarted(), texts, encoding, steps, outcome, pieces);
     outcome.code
 }

@@ -1,5 +1,5 @@
 -- What the steps of a caller come to, before pieces and a value are shown.
-use Rattle.std.specs.Prelude.{◌≡◌, List, Option, Some, None, Result, Ok, Err}
+use Rattle.std.specs.Prelude.{◌≡◌, Bool, true, false, List, Option, Some, None}
 use Rattle.dwarf_base.specs.declared.common.Encoding.{Encoding}
 use Rattle.dwarf_base.specs.ByteOrder.{is_big_of}
 use Rattle.dwarf_meaning.specs.Rest.{State}
@@ -23,9 +23,9 @@ abbrev pub given_at : State → List DwexprText → Beginning
 given_at first texts = record { setup = first.setup; text = first.text; told = told_at first; texts = texts }
 
 -- all steps were done, and where the evaluation stands is shown; or one ended it
-abbrev pub Runs : List DwexprText → List DwexprStep → State → State → Result DwexprOutcome DwexprOutcome → Type 0
-Runs texts numbers first new (Ok out) = HasTaken (given_at first texts) numbers new × ShowsStatus texts new.status out
-Runs texts numbers first new (Err out) = HasStopped (given_at first texts) numbers new out
+abbrev pub Runs : List DwexprText → List DwexprStep → State → State → (all_done : Bool) → DwexprOutcome → Type 0
+Runs texts numbers first new true out = HasTaken (given_at first texts) numbers new × ShowsStatus texts new.status out
+Runs texts numbers first new false out = HasStopped (given_at first texts) numbers new out
 
 -- a text as a reader has it, before any step
 abbrev pub beginning_at : Encoding → Placed → List DwexprText → Beginning

@@ -111,7 +111,10 @@ fn is_evaluated(job: Job) -> bool
 
 /// Evaluates to the end, to a fault or until no more answers are given: the number of answers that were given, and a
 /// checksum of the requests that aren't only counted and, if none is, of the pieces and of the value.
-#[inline(always)]
+///
+/// It is a function of its own for each storage, so that `respond`, which is too large to be marked, has one caller and
+/// is in line.
+#[inline(never)]
 fn complete<'a, S: EvaluationStorage<Text<'a>>>(
     evaluation: &mut Evaluation<Text<'a>, S>,
     text: Text<'a>,

@@ -209,6 +209,7 @@ impl<R: Reader + Copy, S: EvaluationStorage<R>> Evaluation<R, S> {
     /// - `InvalidPiece`, if the expression ends after pieces with a value or a location that has no piece.
     /// - `InvalidExpressionTerminator`, if a location is followed by another operation than a piece.
     /// - `StackFull`, if a list has no room or there is no memory.
+    #[inline(always)]
     pub fn evaluate(&mut self) -> Result<EvaluationResult<R>>
         requires { IsClosed self.old.status }
         ensures follows { Evaluates R.text R.Offset.number self.old self.new
@@ -249,6 +250,7 @@ impl<R: Reader + Copy, S: EvaluationStorage<R>> Evaluation<R, S> {
     ///
     /// `StackFull`, if there is no room for the value; then those of [`evaluate`](Self::evaluate). It may be called after a
     /// fault too, and gives that fault.
+    #[inline(always)]
     pub fn resume_with_memory(&mut self, value: Value) -> Result<EvaluationResult<R>>
         requires { IsOpenFor kind.Memory self.old.status }
         ensures { AnswersWith R.text R.Offset.number
@@ -263,6 +265,7 @@ impl<R: Reader + Copy, S: EvaluationStorage<R>> Evaluation<R, S> {
     ///
     /// `StackFull`, if there is no room for the sum; then those of [`evaluate`](Self::evaluate). It may be called after a
     /// fault too, and gives that fault.
+    #[inline(always)]
     pub fn resume_with_register(&mut self, value: Value) -> Result<EvaluationResult<R>>
         requires { IsOpenFor kind.Register self.old.status }
         ensures { AnswersWith R.text R.Offset.number
@@ -278,6 +281,7 @@ impl<R: Reader + Copy, S: EvaluationStorage<R>> Evaluation<R, S> {
     ///
     /// `StackFull`, if there is no room for the value; then those of [`evaluate`](Self::evaluate). It may be called after a
     /// fault too, and gives that fault.
+    #[inline(always)]
     pub fn resume_with_wasm_value(&mut self, value: Value) -> Result<EvaluationResult<R>>
         requires { IsOpenFor kind.WasmValue self.old.status }
         ensures { AnswersWith R.text R.Offset.number
@@ -292,6 +296,7 @@ impl<R: Reader + Copy, S: EvaluationStorage<R>> Evaluation<R, S> {
     ///
     /// `StackFull`, if there is no room for the value; then those of [`evaluate`](Self::evaluate). It may be called after a
     /// fault too, and gives that fault.
+    #[inline(always)]
     pub fn resume_with_entry_value(&mut self, value: Value) -> Result<EvaluationResult<R>>
         requires { IsOpenFor kind.EntryValue self.old.status }
         ensures { AnswersWith R.text R.Offset.number
@@ -306,6 +311,7 @@ impl<R: Reader + Copy, S: EvaluationStorage<R>> Evaluation<R, S> {
     ///
     /// `StackFull`, if there is no room for the sum; then those of [`evaluate`](Self::evaluate). It may be called after a
     /// fault too, and gives that fault.
+    #[inline(always)]
     pub fn resume_with_frame_base(&mut self, frame_base: u64) -> Result<EvaluationResult<R>>
         requires { IsOpenFor kind.FrameBase self.old.status }
         ensures { AnswersWith R.text R.Offset.number
@@ -320,6 +326,7 @@ impl<R: Reader + Copy, S: EvaluationStorage<R>> Evaluation<R, S> {
     ///
     /// `StackFull`, if there is no room for the value; then those of [`evaluate`](Self::evaluate). It may be called after a
     /// fault too, and gives that fault.
+    #[inline(always)]
     pub fn resume_with_tls(&mut self, value: u64) -> Result<EvaluationResult<R>>
         requires { IsOpenFor kind.Tls self.old.status }
         ensures { AnswersWith R.text R.Offset.number
@@ -334,6 +341,7 @@ impl<R: Reader + Copy, S: EvaluationStorage<R>> Evaluation<R, S> {
     ///
     /// `StackFull`, if there is no room for the value; then those of [`evaluate`](Self::evaluate). It may be called after a
     /// fault too, and gives that fault.
+    #[inline(always)]
     pub fn resume_with_call_frame_cfa(&mut self, cfa: u64) -> Result<EvaluationResult<R>>
         requires { IsOpenFor kind.CallFrameCfa self.old.status }
         ensures { AnswersWith R.text R.Offset.number
@@ -349,6 +357,7 @@ impl<R: Reader + Copy, S: EvaluationStorage<R>> Evaluation<R, S> {
     ///
     /// `StackFull`, if there is no room for the caller; then those of [`evaluate`](Self::evaluate). It may be called after a
     /// fault too, and gives that fault.
+    #[inline(always)]
     pub fn resume_with_at_location(&mut self, bytes: R) -> Result<EvaluationResult<R>>
         requires { IsOpenFor kind.AtLocation self.old.status }
         ensures { AnswersWith R.text R.Offset.number
@@ -363,6 +372,7 @@ impl<R: Reader + Copy, S: EvaluationStorage<R>> Evaluation<R, S> {
     ///
     /// `StackFull`, if there is no room for the value; then those of [`evaluate`](Self::evaluate). It may be called after a
     /// fault too, and gives that fault.
+    #[inline(always)]
     pub fn resume_with_parameter_ref(&mut self, parameter_value: u64) -> Result<EvaluationResult<R>>
         requires { IsOpenFor kind.ParameterRef self.old.status }
         ensures { AnswersWith R.text R.Offset.number
@@ -377,6 +387,7 @@ impl<R: Reader + Copy, S: EvaluationStorage<R>> Evaluation<R, S> {
     ///
     /// `StackFull`, if there is no room for the value; then those of [`evaluate`](Self::evaluate). It may be called after a
     /// fault too, and gives that fault.
+    #[inline(always)]
     pub fn resume_with_relocated_address(&mut self, address: u64) -> Result<EvaluationResult<R>>
         requires { IsOpenFor kind.RelocatedAddress self.old.status }
         ensures { AnswersWith R.text R.Offset.number
@@ -391,6 +402,7 @@ impl<R: Reader + Copy, S: EvaluationStorage<R>> Evaluation<R, S> {
     ///
     /// `StackFull`, if there is no room for the value; then those of [`evaluate`](Self::evaluate). It may be called after a
     /// fault too, and gives that fault.
+    #[inline(always)]
     pub fn resume_with_indexed_address(&mut self, address: u64) -> Result<EvaluationResult<R>>
         requires { IsOpenFor kind.IndexedAddress self.old.status }
         ensures { AnswersWith R.text R.Offset.number
@@ -407,6 +419,7 @@ impl<R: Reader + Copy, S: EvaluationStorage<R>> Evaluation<R, S> {
     /// `NotEnoughStackItems`, if there is no value to convert; `TypeMismatch`, if a value of another size is to be
     /// reinterpreted; `StackFull`, if there is no room for the value; then those of [`evaluate`](Self::evaluate). It may
     /// be called after a fault too, and gives that fault.
+    #[inline(always)]
     pub fn resume_with_base_type(&mut self, base_type: ValueType) -> Result<EvaluationResult<R>>
         requires { IsOpenFor kind.BaseType self.old.status }
         ensures { AnswersWith R.text R.Offset.number

@@ -5,6 +5,7 @@ pub mod Gives
 pub mod Pops
 pub mod Pushes
 pub mod Refusals
+pub mod Sorts
 pub mod Staying
 pub mod Sequences
 pub mod Performances

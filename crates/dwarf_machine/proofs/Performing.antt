@@ -2,6 +2,7 @@
 use Rattle.std.proofs.Common.{ℕ, ◌≡◌, ◌-◌, ◌<◌, ◌≤◌, ◌==◌, ◌&&◌, not, Bool, true, false, List, length, arith, ap, ◌∙◌, sym, refl, subst}
 use Rattle.std.proofs.lemmas.Bool.Decides.{nat_tests}
 use Rattle.dwarf_base.specs.Reads.{IsSuffix}
+use Rattle.dwarf_meaning.specs.Locations.{Location}
 use Rattle.dwarf_meaning.specs.Stores.{Last, Nothing, Plain, Pieced, Pushed, Called, Located}
 use Rattle.dwarf_meaning.specs.Rest.{State, Status, Start, Running, RequestStatus, CompleteStatus, FaultStatus}
 use Rattle.dwarf_machine.specs.inner.Steps.{Comes, CountsOne, IsFree, IsReady, Turns, at, effort, goes_on, is_free, is_running, total}
@@ -17,13 +18,22 @@ running_on (CompleteStatus value) h = cc
 running_on (FaultStatus error) h = cc
 running_on (Start initial_value) h = cc
 
-free_on : (last : Last) → is_free last ≡ true → IsFree last
+pub free_on : (last : Last) → is_free last ≡ true → IsFree last
 free_on Nothing h = tt
 free_on Plain h = tt
 free_on Pieced h = tt
 free_on Pushed h = tt
 free_on Called h = tt
 free_on (Located location) h = cc
+
+-- a location waits, if it isn't free of one
+pub located_on : (last : Last) → is_free last ≡ false → (location : Location) × (last ≡ Located location)
+located_on (Located location) h = (location, refl)
+located_on Nothing h = cc
+located_on Plain h = cc
+located_on Pieced h = cc
+located_on Pushed h = cc
+located_on Called h = cc
 
 on_parts : (runs free ends : Bool) → runs && free && not ends ≡ true → (runs ≡ true) × (free ≡ true) × (ends ≡ false)
 on_parts true true false h = (refl, refl, refl)

@@ -5,6 +5,7 @@ use Rattle.dwarf_base.specs.declared.common.Encoding.{Encoding}
 use Rattle.dwarf_base.specs.Reads.{IsLeftOf, Text}
 use Rattle.dwarf_value.specs.declared.types.Value.{Value}
 use Rattle.dwarf_value.specs.Values.{IsAddressMask, width_of}
+use Rattle.dwarf_meaning.specs.Locations as meant
 use Rattle.dwarf_meaning.specs.Requests as requests
 use Rattle.dwarf_meaning.specs.Stores.{Store, Last, Nothing, Plain, Pieced, Pushed, Called, Located}
 use Rattle.dwarf_meaning.specs.Run.{Position}
@@ -20,14 +21,23 @@ use Rattle.dwarf_machine.specs.declared.states.OpenRequest.TheVariants as reques
 use Rattle.dwarf_machine.specs.declared.states.EvaluationState.{EvaluationState}
 use Rattle.dwarf_machine.specs.declared.states.EvaluationState.TheVariants as state
 
--- of what sort the last operation was, as the definitions have it
-abbrev pub last_of : {R O P : Type 0} → (R → Text) → (O → ℕ) → LastOperation R O P → Last
-last_of text number last.Nothing = Nothing
-last_of text number last.Plain = Plain
-last_of text number last.Pieced = Pieced
-last_of text number last.Pushed = Pushed
-last_of text number last.Called = Called
-last_of text number (last.Located location) = Located (location_of text number location)
+-- of what sort the last operation was, as the definitions have it, with the location if one waits
+abbrev pub last_of : {R O P : Type 0} → (R → Text) → (O → ℕ) → LastOperation → Location R O P → Last
+last_of text number last.Nothing location = Nothing
+last_of text number last.Plain location = Plain
+last_of text number last.Pieced location = Pieced
+last_of text number last.Pushed location = Pushed
+last_of text number last.Called location = Called
+last_of text number last.Located location = Located (location_of text number location)
+
+-- the last operation was of this sort
+abbrev pub IsOfSort : LastOperation → Last → Type 0
+IsOfSort last.Nothing x = x ≡ Nothing
+IsOfSort last.Plain x = x ≡ Plain
+IsOfSort last.Pieced x = x ≡ Pieced
+IsOfSort last.Pushed x = x ≡ Pushed
+IsOfSort last.Called x = x ≡ Called
+IsOfSort last.Located x = (location : meant.Location) × (x ≡ Located location)
 
 -- what an open request asks
 abbrev pub request_of : {R O P : Type 0} → (R → Text) → (O → ℕ) → OpenRequest R O P → requests.Request
@@ -92,14 +102,14 @@ callers_of text readers = reverse (map (caller_of text) readers)
 
 -- what is kept: the code's lists, with the top of the stack first
 abbrev pub store_of : {R O P : Type 0} → (R → Text) → (O → ℕ) → List Value → List (Piece R O P) → ℕ → Option ℕ → ℕ
-    → LastOperation R O P → Store
-store_of text number values pieces count object_address maximum last = record {
+    → LastOperation → Location R O P → Store
+store_of text number values pieces count object_address maximum last location = record {
   values = reverse values;
   pieces = map (piece_of text number) pieces;
   count = count;
   object_address = object_address;
   maximum = maximum;
-  last = last_of text number last;
+  last = last_of text number last location;
   refusal = Never;
 }
 

@@ -8,7 +8,7 @@ ghost use Rattle.dwarf_meaning.specs.Inputs.{input_of, with_status};
 ghost use Rattle.dwarf_machine.specs.inner.Steps.{Ends, Takes, Tried, total_after, with_last};
 
 use crate::machine::Machine;
-use crate::states::{EvaluationState, Given, LastOperation, OpenRequest};
+use crate::states::{EvaluationState, Given, OpenRequest};
 use dwarf_base::Reader;
 use dwarf_store::EvaluationStorage;
 use dwarf_value::{Value, ValueType};
@@ -20,7 +20,7 @@ impl<R: Reader + Copy, S: EvaluationStorage<R>> Machine<R, S> {
         ensures { Tried 0 (push_value self.old.setup value)
             (with_status Running (with_last Pushed self.old)) self.new }
     {
-        self.mark(LastOperation::Pushed);
+        self.mark_pushed();
         self.enter(EvaluationState::Running);
         self.push(value);
     }
@@ -150,7 +150,7 @@ impl<R: Reader + Copy, S: EvaluationStorage<R>> Machine<R, S> {
     {
         self.enter(EvaluationState::Running);
         if callee.is_empty() {
-            self.mark(LastOperation::Called);
+            self.mark_called();
             return;
         }
         self.push_caller(callee);

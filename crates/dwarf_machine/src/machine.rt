@@ -1,17 +1,18 @@
-ghost use Rattle.std.specs.Prelude.{◌≡◌, ◌==◌, ◌<◌, ◌≤◌, ◌*◌, ℕ, [], None, Some, Err, map, length, slice_get, OnOk, IfOk, IfErr, IfSome, IfNone};
-ghost use Rattle.dwarf_base.specs.Reads.{IsLeftOf};
+ghost use Rattle.std.specs.Prelude.{◌≡◌, ◌==◌, ◌<◌, ◌≤◌, ◌+◌, ◌*◌, ℕ, [], None, Some, Err, map, length, slice_get, false, OnOk, IfOk, IfErr};
+ghost use Rattle.dwarf_base.specs.Reads.{IsLeftOf, Reads};
 ghost use Rattle.dwarf_base.specs.Faults.{fault_of};
 ghost use Rattle.dwarf_base.specs.declared.errors.Error.TheVariants.{StackFull, TooManyIterations};
 ghost use Rattle.dwarf_value.specs.Values.{IsAddressMask, width_of};
+ghost use Rattle.dwarf_meaning.specs.Decoding.{operation_at};
 ghost use Rattle.dwarf_meaning.specs.Meaning.{has_pieces};
 ghost use Rattle.dwarf_meaning.specs.Rest.{Start, FaultStatus};
 ghost use Rattle.dwarf_meaning.specs.Run.{most, read};
-ghost use Rattle.dwarf_meaning.specs.Stores.{Located, Plain, address_bits, push_value, push_piece, setup_of};
+ghost use Rattle.dwarf_meaning.specs.Stores.{Called, Located, Pieced, Plain, Pushed, address_bits, push_value, push_piece, setup_of};
 ghost use Rattle.dwarf_op.specs.Views.{operation_of, location_of, piece_of};
 ghost use Rattle.dwarf_meaning.specs.Bounds.{IsUnspent};
 ghost use Rattle.dwarf_meaning.specs.Inputs.{IsFresh, with_maximum, with_object, with_status};
-ghost use Rattle.dwarf_machine.specs.Machine.{last_of, status_of};
-ghost use Rattle.dwarf_machine.specs.inner.Steps.{CountsOne, GoesBack, IsFree, Jumps, Pops, PopsGenerics, ReadsOperation, Tries, TriesToEnter, at, has_failed, is_free, is_running, read_to, with_last};
+ghost use Rattle.dwarf_machine.specs.Machine.{IsOfSort, status_of};
+ghost use Rattle.dwarf_machine.specs.inner.Steps.{CountsOne, GoesBack, Jumps, Pops, PopsGenerics, ReadsOperation, Tries, TriesToEnter, at, has_failed, is_free, is_running, read_to, with_last};
 
 use crate::states::{EvaluationState, LastOperation};
 use crate::ticks::Ticks;
@@ -33,7 +34,9 @@ pub struct Machine<R: Reader + Copy, S: EvaluationStorage<R>> {
     // The running text, and what is left of it.
     bytecode: R,
     pc: R,
-    last: LastOperation<R>,
+    last: LastOperation,
+    // The location that waits for its piece, if the last operation gave one.
+    location: Location<R>,
     stack: S::Stack,
     expression_stack: S::ExpressionStack,
     pieces: S::Result,
@@ -57,7 +60,7 @@ impl<R: Reader + Copy, S: EvaluationStorage<R>> Model for Machine<R, S> {
       place = place_of (R.text e.bytecode) (R.text e.pc);
       callers = callers_of R.text (S.ExpressionStack.items e.expression_stack);
       store = store_of R.text R.Offset.number (S.Stack.items e.stack) (S.Result.items e.pieces)
-          e.iteration e.object_address e.max_iterations e.last;
+          e.iteration e.object_address e.max_iterations e.last e.location;
       decodings = e.decodings.count;
     } };
 
@@ -166,14 +169,6 @@ impl<R: Reader + Copy, S: EvaluationStorage<R>> Machine<R, S> {
         true
     }
 
-    /// Notes of what sort the last operation was.
-    #[inline(always)]
-    pub(crate) fn mark(&mut self, last: LastOperation<R>)
-        ensures { self.new ≡ with_last (last_of R.text R.Offset.number last) self.old }
-    {
-        self.last = last;
-    }
-
     /// Notes that the last operation was a plain one. Most are, so it is seldom written.
     #[inline(always)]
     pub(crate) fn mark_plain(&mut self)
@@ -184,30 +179,55 @@ impl<R: Reader + Copy, S: EvaluationStorage<R>> Machine<R, S> {
         }
     }
 
+    /// Notes that the last operation ended a piece.
+    #[inline(always)]
+    pub(crate) fn mark_pieced(&mut self)
+        ensures { self.new ≡ with_last Pieced self.old }
+    {
+        self.last = LastOperation::Pieced;
+    }
+
+    /// Notes that an answer is pushed.
+    #[inline(always)]
+    pub(crate) fn mark_pushed(&mut self)
+        ensures { self.new ≡ with_last Pushed self.old }
+    {
+        self.last = LastOperation::Pushed;
+    }
+
+    /// Notes that a call was answered by an empty text.
+    #[inline(always)]
+    pub(crate) fn mark_called(&mut self)
+        ensures { self.new ≡ with_last Called self.old }
+    {
+        self.last = LastOperation::Called;
+    }
+
+    /// Notes that a location waits for its piece.
+    #[inline(always)]
+    pub(crate) fn mark_located(&mut self, location: Location<R>)
+        ensures { self.new
+            ≡ with_last (Located (location_of R.text R.Offset.number location)) self.old }
+    {
+        self.last = LastOperation::Located;
+        self.location = location;
+    }
+
     /// Of what sort the last operation was.
     #[inline(always)]
-    pub(crate) fn last(&self) -> LastOperation<R>
-        ensures { last_of R.text R.Offset.number result ≡ self.now.store.last }
+    pub(crate) fn last(&self) -> LastOperation
+        ensures { IsOfSort result self.now.store.last }
     {
         self.last
     }
 
     /// The location that waits for its piece.
     #[inline(always)]
-    pub(crate) fn located(&self) -> Option<Location<R>>
-        ensures some { IfSome result
-            (λ location. self.now.store.last
-            ≡ Located (location_of R.text R.Offset.number location)) }
-        ensures none { IfNone result (IsFree self.now.store.last) }
+    pub(crate) fn location(&self) -> Location<R>
+        requires { is_free self.now.store.last ≡ false }
+        ensures { self.now.store.last ≡ Located (location_of R.text R.Offset.number result) }
     {
-        match self.last {
-            LastOperation::Located(location) => Some(location),
-            LastOperation::Nothing
-            | LastOperation::Plain
-            | LastOperation::Pieced
-            | LastOperation::Pushed
-            | LastOperation::Called => None,
-        }
+        self.location
     }
 
     /// Goes over to another state.
@@ -247,7 +267,7 @@ impl<R: Reader + Copy, S: EvaluationStorage<R>> Machine<R, S> {
     pub(crate) fn is_free(&self) -> bool
         ensures { result ≡ is_free self.now.store.last }
     {
-        !matches!(self.last, LastOperation::Located(_))
+        !matches!(self.last, LastOperation::Located)
     }
 
     /// Whether the running text is at its end.
@@ -327,8 +347,24 @@ impl<R: Reader + Copy, S: EvaluationStorage<R>> Machine<R, S> {
         self.pc = left;
     }
 
-    /// Reads the operation before what is left of the running text, and counts that. Nothing else of an evaluation
-    /// decodes, and nothing else raises the count.
+    /// Reads an operation, and counts that. Nothing else of an evaluation decodes, and nothing else raises the count.
+    #[inline(always)]
+    fn read_operation(
+        left: &mut R,
+        decodings: &mut Ticks,
+        encoding: Encoding,
+    ) -> Result<Operation<R>>
+        ensures reads { Reads (operation_of R.text R.Offset.number) (R.text left.old)
+            (R.text left.new) result (operation_at encoding R.Offset.BITS (R.text left.old)) }
+        ensures less { OnOk result
+            (length (R.text left.new).bytes < length (R.text left.old).bytes) }
+        ensures counted { decodings.new.count ≡ decodings.old.count + 1 }
+    {
+        decodings.tick();
+        Operation::parse(left, encoding)
+    }
+
+    /// Reads the operation before what is left of the running text.
     #[inline(always)]
     pub(crate) fn decode(&mut self, left: &mut R) -> Result<Operation<R>>
         requires { IsLeftOf (R.text left.old) self.old.text }
@@ -342,8 +378,22 @@ impl<R: Reader + Copy, S: EvaluationStorage<R>> Machine<R, S> {
         ensures alone { self.new ≡ read_to self.old.place self.old }
         ensures rest { IsLeftOf (R.text left.new) self.new.text }
     {
-        self.decodings.tick();
-        Operation::parse(left, self.encoding)
+        Self::read_operation(left, &mut self.decodings, self.encoding)
+    }
+
+    /// Reads the operation at the place, and goes after it. The reader moves where it is kept: a copy of it would be
+    /// written back in parts, and then read as a whole.
+    #[inline(always)]
+    pub(crate) fn decode_here(&mut self) -> Result<Operation<R>>
+        ensures ok { IfOk result
+            (λ operation. ReadsOperation (operation_of R.text R.Offset.number operation)
+            self.old self.new) }
+        ensures behind { OnOk result (0 < self.new.place) }
+        ensures err { IfErr result
+            (λ e. read self.old.setup self.old.text self.old.place ≡ Err (fault_of e)) }
+        ensures alone { self.new ≡ read_to self.new.place self.old }
+    {
+        Self::read_operation(&mut self.pc, &mut self.decodings, self.encoding)
     }
 
     /// Goes to a place of the running text, or keeps the fault of a place that it doesn't have.
@@ -483,6 +533,7 @@ impl<R: Reader + Copy, S: EvaluationStorage<R>> Machine<R, S> {
             bytecode,
             pc: bytecode,
             last: LastOperation::Nothing,
+            location: Location::Empty,
             stack,
             expression_stack,
             pieces,

@@ -15,7 +15,7 @@ ghost use Rattle.dwarf_machine.specs.inner.Steps.{Performs, PopsNumber, Tried, T
 use crate::binary::BinaryOperator;
 use crate::machine::Machine;
 use crate::operators::UnaryOperator;
-use crate::states::{EvaluationState, LastOperation, OpenRequest};
+use crate::states::{EvaluationState, OpenRequest};
 use dwarf_base::{Error, Reader, ReaderOffset, Result, UnitOffset};
 use dwarf_op::{Location, Piece};
 use dwarf_store::EvaluationStorage;
@@ -362,7 +362,7 @@ impl<R: Reader + Copy, S: EvaluationStorage<R>> Machine<R, S> {
             (Locates self.old.store.values (location_of R.text R.Offset.number location))
             self.old self.new }
     {
-        self.mark(LastOperation::Located(location));
+        self.mark_located(location);
     }
 
     /// Lets the top wait for its piece, as a value that has no place.
@@ -385,7 +385,7 @@ impl<R: Reader + Copy, S: EvaluationStorage<R>> Machine<R, S> {
         ensures { Performs (act_of self.old (meaning.Piece size_in_bits bit_offset))
             self.old self.new }
     {
-        self.mark(LastOperation::Pieced);
+        self.mark_pieced();
         let Some(address) = self.pop_number() else {
             self.push_piece(Piece {
                 size_in_bits: Some(size_in_bits),

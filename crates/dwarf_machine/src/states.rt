@@ -1,13 +1,13 @@
 ghost use Rattle.std.specs.Prelude.{◌≡◌, ⊤};
 
 use dwarf_base::{DebugAddrIndex, Error, Reader, Register, UnitOffset};
-use dwarf_op::{DieReference, Location};
+use dwarf_op::DieReference;
 use dwarf_value::{Value, ValueType};
 use std::alloc::AllocError;
 
 /// Of what sort the last operation was.
 #[derive(Clone, Copy)]
-pub(crate) enum LastOperation<R: Reader, O = <R as Reader>::Offset> {
+pub(crate) enum LastOperation {
     Nothing,
     // It asked nothing, gave no location and ended no piece.
     Plain,
@@ -17,7 +17,7 @@ pub(crate) enum LastOperation<R: Reader, O = <R as Reader>::Offset> {
     // A call was answered by an empty text.
     Called,
     // Its location waits for a piece.
-    Located(Location<R, O>),
+    Located,
 }
 
 /// An open request, with what is to be done with the answer.

@@ -4,9 +4,9 @@ ghost use Rattle.dwarf_meaning.specs.Meaning.{whole as meant_whole, completion_o
 ghost use Rattle.dwarf_meaning.specs.Rest.{Running, Start};
 ghost use Rattle.dwarf_meaning.specs.Run.{piece_ended_by};
 ghost use Rattle.dwarf_meaning.specs.RunLaws.{waits_of};
-ghost use Rattle.dwarf_meaning.specs.Stores.{Located, push_piece};
+ghost use Rattle.dwarf_meaning.specs.Stores.{push_piece};
 ghost use Rattle.dwarf_op.specs.Views.{operation_of, location_of, piece_of};
-ghost use Rattle.dwarf_machine.specs.inner.Steps.{RunsOn, Closes, Ends, EndsLocated, IsReady, Turns, at, goes_on, total};
+ghost use Rattle.dwarf_machine.specs.inner.Steps.{RunsOn, Closes, Ends, EndsLocated, IsReady, Turns, at, goes_on, is_free, total};
 
 use crate::machine::Machine;
 use crate::states::{EvaluationState, LastOperation};
@@ -86,7 +86,7 @@ impl<R: Reader + Copy, S: EvaluationStorage<R>> Machine<R, S> {
             self.fail(Error::InvalidExpressionTerminator(place - 1));
             return;
         };
-        self.mark(LastOperation::Pieced);
+        self.mark_pieced();
         self.push_piece(Piece {
             size_in_bits: Some(size_in_bits),
             bit_offset,
@@ -96,17 +96,15 @@ impl<R: Reader + Copy, S: EvaluationStorage<R>> Machine<R, S> {
 
     /// Reads the piece of a location that waits for it.
     #[inline(never)]
-    fn hold(&mut self, location: Location<R>)
+    fn hold(&mut self)
         requires runs { self.old.status ≡ Running }
         requires inside { (self.old.place == length self.old.text.bytes) ≡ false }
-        requires waits { self.old.store.last
-            ≡ Located (location_of R.text R.Offset.number location) }
+        requires waits { is_free self.old.store.last ≡ false }
         ensures { Turns self.old self.new }
     {
-        let mut rest = self.left();
-        match self.decode(&mut rest) {
+        match self.decode_here() {
             Ok(operation) => {
-                self.go_to(rest);
+                let location = self.location();
                 self.end_located(location, operation);
             }
             Err(error) => self.fail(error),
@@ -151,15 +149,15 @@ impl<R: Reader + Copy, S: EvaluationStorage<R>> Machine<R, S> {
                 LastOperation::Pieced => self.enter(EvaluationState::Complete(None)),
                 LastOperation::Pushed => self.fail(Error::InvalidPiece),
                 LastOperation::Called => self.enter(EvaluationState::Complete(None)),
-                LastOperation::Located(_) => self.fail(Error::InvalidPiece),
+                LastOperation::Located => self.fail(Error::InvalidPiece),
             }
             return;
         }
-        let Some(location) = self.located() else {
+        if self.is_free() {
             self.finish_value();
             return;
-        };
-        self.complete(whole(location), None);
+        }
+        self.complete(whole(self.location()), None);
     }
 
     /// Leaves the running text at its end.
@@ -184,11 +182,11 @@ impl<R: Reader + Copy, S: EvaluationStorage<R>> Machine<R, S> {
             self.leave();
             return;
         }
-        let Some(location) = self.located() else {
+        if self.is_free() {
             self.run_operations();
             return;
-        };
-        self.hold(location);
+        }
+        self.hold();
     }
 
     /// Runs on to a request, to the end, or to a fault, which it keeps.

@@ -108,10 +108,13 @@ pub(crate) fn reply<R: Reader + Copy, S: EvaluationStorage<R>>(
     ensures rests { IsAtRest machine.now }
     ensures admits { IfOk result (λ replied. Admits replied machine.now.status) }
 {
-    match machine.state() {
-        EvaluationState::Complete(_) => Ok(EvaluationResult::Complete),
-        EvaluationState::Waiting(request) => Ok(result_of(request)),
-        EvaluationState::Failed(error) => Err(error),
-        _ => unreachable!(),
+    // Most replies are requests. A test of that first costs less than a jump by a table.
+    let state = machine.state();
+    if let EvaluationState::Waiting(request) = state {
+        return Ok(result_of(request));
     }
+    if let EvaluationState::Failed(error) = state {
+        return Err(error);
+    }
+    Ok(EvaluationResult::Complete)
 }

@@ -24,4 +24,4 @@ returns g c =
     let piece : Piece = record { size_in_bits = Some c.in-Piece.size_in_bits; bit_offset = c.in-Piece.bit_offset; location = location } in
     subst (λ (o : Option (ℕ × Option ℕ)). EndsLocated location o c.args.self.now c.push_piece.new.self)
     (sym (ap (λ op. piece_ended_by (operation_of g.R.Reader.text g.R.Offset.ReaderOffset.number op)) c.in-Piece.is))
-    (c.push_piece.result, subst (λ (z : State). Tries 0 (push_piece z.setup piece) z c.push_piece.new.self c.push_piece.result) c.mark.ensures c.push_piece.ensures)
+    (c.push_piece.result, subst (λ (z : State). Tries 0 (push_piece z.setup piece) z c.push_piece.new.self c.push_piece.result) c.mark_pieced.ensures c.push_piece.ensures)

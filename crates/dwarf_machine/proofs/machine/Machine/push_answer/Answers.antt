@@ -7,4 +7,4 @@ use Rattle.dwarf_machine.proofs.machine.Machine.push_answer.Goals as goal
 
 pub returns : goal.returns
 returns g c =
-    (c.push.result, subst (λ (z : State). Tries 0 (push_value z.setup c.args.value) z c.push.new.self c.push.result) (c.enter.ensures ∙ ap (with_status Running) c.mark.ensures) c.push.ensures)
+    (c.push.result, subst (λ (z : State). Tries 0 (push_value z.setup c.args.value) z c.push.new.self c.push.result) (c.enter.ensures ∙ ap (with_status Running) c.mark_pushed.ensures) c.push.ensures)

@@ -12,8 +12,8 @@ pub returns-then-is_empty : goal.returns-then-is_empty
 returns-then-is_empty g c =
     let now = open_for kind.AtLocation c.args.self.now.status c.requires in
     let text = g.R.Reader.text c.args.callee in
-    empty_takes c.args.self.now now.request now.waiting now.is (LocationAnswer text) text c.mark.new.self (location_calls _ c.args.self.now.store.values now.waiting text now.fits)
-    (no_bytes text.bytes (sym c.is_empty.ensures ∙ c.if-is_empty.true)) (c.mark.ensures ∙ ap (with_last Called) c.enter.ensures)
+    empty_takes c.args.self.now now.request now.waiting now.is (LocationAnswer text) text c.mark_called.new.self (location_calls _ c.args.self.now.store.values now.waiting text now.fits)
+    (no_bytes text.bytes (sym c.is_empty.ensures ∙ c.if-is_empty.true)) (c.mark_called.ensures ∙ ap (with_last Called) c.enter.ensures)
 
 pub returns : goal.returns
 returns g c =

@@ -42,8 +42,8 @@ def newest(names):
 
 
 def built_by_the_gate(libraries):
-    """Whether `rt ci` has just built these libraries. None may be missing, older than a source, or one of `rt lib`, which
-    builds its own: the gate's hold the statements of each crate alone."""
+    """Whether `rt ci` has just built these libraries. None may be missing, older than a source, or one of `rt lib`,
+    which builds its own: the gate's hold the statements of each crate alone."""
     last = newest(libraries)
     return all(
         library.exists() and library.stat().st_mtime >= last and not (library.parent / "stamp").exists()

@@ -1,13 +1,12 @@
 -- The texts that a caller gives, and where in them bytes are.
-use Rattle.std.specs.Prelude.{ℕ, ◌+◌, ◌≡◌, ◌≤◌, Bool, true, List, Option, Some, None, IfSome, is_some, length, slice_get, slice_range}
-use Rattle.dwarf_base.specs.ByteOrder.{is_big_of}
+use Rattle.std.specs.Prelude.{ℕ, ◌+◌, ◌≡◌, ◌==◌, ◌≤◌, Bool, true, List, Option, Some, None, IfSome, is_some, length, slice_get, slice_range}
 use Rattle.dwarf_base.specs.Reads.{Text}
 use Rattle.dwexpr_c.specs.declared.places.Placed.{Placed}
 use Rattle.dwexpr_c.specs.declared.steps.DwexprText.{DwexprText}
 
 -- a reader as a text
 abbrev pub text_of_placed : Placed → Text
-text_of_placed placed = record { bytes = placed.bytes.now; is_big = is_big_of placed.order }
+text_of_placed placed = record { bytes = placed.bytes.now; is_big = placed.big == 1 }
 
 -- a text of the caller's, in a byte order
 abbrev pub text_in : (big : Bool) → DwexprText → Text

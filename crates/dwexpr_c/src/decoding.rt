@@ -11,36 +11,19 @@ use crate::operations::{DwexprOperation, disallow, show, show_fault};
 use dwarf_base::{EndianSlice, Reader};
 use dwarf_op::Operation;
 
-/// What stands at an offset, if there is a byte.
-fn decode_at(bytes: &[u8], reading: Reading, offset: usize) -> DwexprOperation
+/// Shows what stands at an offset, where there is a byte.
+fn decode_at(bytes: &[u8], reading: Reading, offset: usize, shown: &mut DwexprOperation)
     requires { offset < length bytes.now }
     ensures { Decodes offset (slice_index bytes.now offset) (length (drop offset bytes.now))
         (operation_at reading.encoding 64
-        (record { bytes = drop offset bytes.now; is_big = is_big_of reading.order })) result }
+        (record { bytes = drop offset bytes.now; is_big = is_big_of reading.order })) shown.new }
 {
     let opcode = bytes[offset];
     let front = EndianSlice::new(&bytes[offset..], reading.order);
     let mut left = front;
     match Operation::parse(&mut left, reading.encoding) {
-        Ok(operation) => show(operation, offset, opcode, left.offset_from(&front)),
-        Err(error) => show_fault(offset, opcode, numbers_of(error)),
-    }
-}
-
-/// What is shown of the operation at an offset.
-fn decode(bytes: &[u8], numbers: DwexprEncoding, offset: usize) -> DwexprOperation
-    ensures encoding { is_encoding numbers ≡ false → result ≡ disallowed offset bad_encoding_code }
-    ensures offset { is_encoding numbers ≡ true → length bytes.now ≤ offset
-        → result ≡ disallowed offset bad_offset_code }
-    ensures decodes { is_encoding numbers ≡ true → offset < length bytes.now
-        → Decodes offset (slice_index bytes.now offset) (length (drop offset bytes.now))
-        (operation_at (encoding_in numbers) 64
-        (record { bytes = drop offset bytes.now; is_big = is_big_in numbers })) result }
-{
-    match reading_of(numbers) {
-        None => disallow(offset, BAD_ENCODING),
-        Some(_) if offset >= bytes.len() => disallow(offset, BAD_OFFSET),
-        Some(reading) => decode_at(bytes, reading, offset),
+        Ok(operation) => show(operation, offset, opcode, left.offset_from(&front), shown),
+        Err(error) => *shown = show_fault(offset, opcode, numbers_of(error)),
     }
 }
 
@@ -48,6 +31,7 @@ fn decode(bytes: &[u8], numbers: DwexprEncoding, offset: usize) -> DwexprOperati
 ///
 /// It answers 0, the code of a fault of the bytes, 1 to 21, or of an argument: 64 if the encoding's numbers say none,
 /// then 65 if there is no byte at the offset. `operation` is written in each case; its `fault` is the code.
+#[tactic(auto, using(crate::proofs::Blocks::block_shown))]
 #[unsafe(no_mangle)]
 pub extern "C" fn dwexpr_decode(
     bytes: &[u8],
@@ -69,6 +53,10 @@ pub extern "C" fn dwexpr_decode(
         (operation_at (encoding_in encoding) 64
         (record { bytes = drop offset bytes.now; is_big = is_big_in encoding })) }
 {
-    *operation = decode(bytes, encoding, offset);
+    match reading_of(encoding) {
+        None => *operation = disallow(offset, BAD_ENCODING),
+        Some(_) if offset >= bytes.len() => *operation = disallow(offset, BAD_OFFSET),
+        Some(reading) => decode_at(bytes, reading, offset, operation),
+    }
     operation.fault
 }

@@ -1,4 +1,4 @@
-ghost use Rattle.std.specs.Prelude.{◌≡◌, None, map, slice_get};
+ghost use Rattle.std.specs.Prelude.{◌≡◌, None, map, option_map, slice_get};
 ghost use Rattle.dwarf_base.specs.ByteOrder.{is_big_of};
 ghost use Rattle.dwarf_op.specs.Views.{piece_of};
 ghost use Rattle.dwarf_meaning.specs.Rest.{CompleteStatus, Start};
@@ -27,13 +27,13 @@ pub(crate) fn do_step<'a, S: EvaluationStorage<Placed<'a>>>(
     evaluation: &mut Evaluation<Placed<'a>, S>,
     texts: &[DwexprText<'a>],
     order: RunTimeEndian,
-    numbers: DwexprStep,
+    numbers: &DwexprStep,
     outcome: &mut DwexprOutcome,
 ) -> Result<(), FaultNumbers>
-    ensures { DoesStep texts.now (step_coded (is_big_of order) texts.now numbers) evaluation.old
+    ensures { DoesStep texts.now (step_coded (is_big_of order) texts.now numbers.now) evaluation.old
         evaluation.new outcome.old outcome.new result }
 {
-    let step = match step_of(texts, order, numbers) {
+    let step = match step_of(texts, order, *numbers) {
         Ok(step) => step,
         Err(code) => return Err(plain(code)),
     };
@@ -54,10 +54,10 @@ pub(crate) fn do_step<'a, S: EvaluationStorage<Placed<'a>>>(
 }
 
 /// The step at an index, if there is one.
-fn step_at(steps: &[DwexprStep], index: usize) -> Option<DwexprStep>
-    ensures { result ≡ slice_get steps.now index }
+fn step_at(steps: &[DwexprStep], index: usize) -> Option<&DwexprStep>
+    ensures { option_map (λ step. step.now) result ≡ slice_get steps.now index }
 {
-    steps.get(index).copied()
+    steps.get(index)
 }
 
 /// Does the steps, and shows what the last of them answered; `false` if one ended the evaluation, which is shown then.
@@ -104,11 +104,11 @@ fn show_result(
     ensures { FinishesOutcome texts.now count (map (piece_of text_of_placed (λ x. x)) pieces.now)
         outcome.old outcome.new places.old places.new (CompleteStatus value) }
 {
-    *outcome = if write_pieces(texts, pieces, places) {
-        show_complete(pieces.len(), value)
+    if write_pieces(texts, pieces, places) {
+        *outcome = show_complete(pieces.len(), value);
     } else {
-        show_end(plain(LOST_TEXT), count)
-    };
+        *outcome = show_end(plain(LOST_TEXT), count);
+    }
 }
 
 /// Shows the value and the pieces of an evaluation that is complete.

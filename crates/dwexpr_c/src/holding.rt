@@ -29,7 +29,7 @@ fn resume(
     ensures capacities { HasCapacities held.new.evaluation }
 {
     *outcome = UNTOLD;
-    match do_step(&mut held.evaluation, texts, held.order, step, outcome) {
+    match do_step(&mut held.evaluation, texts, held.order, &step, outcome) {
         Ok(()) => show_status(&held.evaluation, texts, 0, outcome, places),
         Err(end) => *outcome = show_end(end, 0),
     }

@@ -133,9 +133,10 @@ fn blocked(shown: DwexprOperation, length: usize, end: usize) -> DwexprOperation
     }
 }
 
-/// The kind and the operands of an operation that ends here.
-fn show_operands(operation: Operation<Bytes<'_>>, end: usize) -> DwexprOperation
-    ensures { let op = operation_of slice_text (λ x. x) operation.entry in result
+/// Shows the kind and the operands of an operation that ends here.
+// Each arm writes where the caller wants it: a value that all of them give would be copied there field by field.
+fn show_operands(operation: Operation<Bytes<'_>>, end: usize, shown: &mut DwexprOperation)
+    ensures { let op = operation_of slice_text (λ x. x) operation.entry in shown.new
         ≡ with_block end (block_in op) (operands_of op) }
 {
     match operation {
@@ -143,41 +144,41 @@ fn show_operands(operation: Operation<Bytes<'_>>, end: usize) -> DwexprOperation
             base_type,
             size,
             space,
-        } => DwexprOperation {
+        } => *shown = DwexprOperation {
             deref_size: u32::from(size),
             flag: u32::from(space),
             ..typed(1, base_type.0)
         },
-        Operation::Drop => plain(2),
-        Operation::Pick { index } => numbered(3, u64::from(index)),
-        Operation::Swap => plain(4),
-        Operation::Rot => plain(5),
-        Operation::Abs => plain(6),
-        Operation::And => plain(7),
-        Operation::Div => plain(8),
-        Operation::Minus => plain(9),
-        Operation::Mod => plain(10),
-        Operation::Mul => plain(11),
-        Operation::Neg => plain(12),
-        Operation::Not => plain(13),
-        Operation::Or => plain(14),
-        Operation::Plus => plain(15),
-        Operation::PlusConstant { value } => numbered(16, value),
-        Operation::Shl => plain(17),
-        Operation::Shr => plain(18),
-        Operation::Shra => plain(19),
-        Operation::Xor => plain(20),
-        Operation::Bra { target } => signed(21, i64::from(target)),
-        Operation::Eq => plain(22),
-        Operation::Ge => plain(23),
-        Operation::Gt => plain(24),
-        Operation::Le => plain(25),
-        Operation::Lt => plain(26),
-        Operation::Ne => plain(27),
-        Operation::Skip { target } => signed(28, i64::from(target)),
-        Operation::UnsignedConstant { value } => numbered(29, value),
-        Operation::SignedConstant { value } => signed(30, value),
-        Operation::Register { register } => DwexprOperation {
+        Operation::Drop => *shown = plain(2),
+        Operation::Pick { index } => *shown = numbered(3, u64::from(index)),
+        Operation::Swap => *shown = plain(4),
+        Operation::Rot => *shown = plain(5),
+        Operation::Abs => *shown = plain(6),
+        Operation::And => *shown = plain(7),
+        Operation::Div => *shown = plain(8),
+        Operation::Minus => *shown = plain(9),
+        Operation::Mod => *shown = plain(10),
+        Operation::Mul => *shown = plain(11),
+        Operation::Neg => *shown = plain(12),
+        Operation::Not => *shown = plain(13),
+        Operation::Or => *shown = plain(14),
+        Operation::Plus => *shown = plain(15),
+        Operation::PlusConstant { value } => *shown = numbered(16, value),
+        Operation::Shl => *shown = plain(17),
+        Operation::Shr => *shown = plain(18),
+        Operation::Shra => *shown = plain(19),
+        Operation::Xor => *shown = plain(20),
+        Operation::Bra { target } => *shown = signed(21, i64::from(target)),
+        Operation::Eq => *shown = plain(22),
+        Operation::Ge => *shown = plain(23),
+        Operation::Gt => *shown = plain(24),
+        Operation::Le => *shown = plain(25),
+        Operation::Lt => *shown = plain(26),
+        Operation::Ne => *shown = plain(27),
+        Operation::Skip { target } => *shown = signed(28, i64::from(target)),
+        Operation::UnsignedConstant { value } => *shown = numbered(29, value),
+        Operation::SignedConstant { value } => *shown = signed(30, value),
+        Operation::Register { register } => *shown = DwexprOperation {
             register_number: u32::from(register.0),
             ..plain(31)
         },
@@ -185,90 +186,77 @@ fn show_operands(operation: Operation<Bytes<'_>>, end: usize) -> DwexprOperation
             register,
             offset,
             base_type,
-        } => DwexprOperation {
+        } => *shown = DwexprOperation {
             register_number: u32::from(register.0),
             signed_number: offset,
             ..typed(32, base_type.0)
         },
-        Operation::FrameOffset { offset } => signed(33, offset),
-        Operation::Nop => plain(34),
-        Operation::PushObjectAddress => plain(35),
+        Operation::FrameOffset { offset } => *shown = signed(33, offset),
+        Operation::Nop => *shown = plain(34),
+        Operation::PushObjectAddress => *shown = plain(35),
         Operation::Call {
             offset: DieReference::UnitRef(offset),
-        } => numbered(36, offset.0 as u64),
+        } => *shown = numbered(36, offset.0 as u64),
         Operation::Call {
             offset: DieReference::DebugInfoRef(offset),
-        } => DwexprOperation {
+        } => *shown = DwexprOperation {
             flag: 1,
             ..numbered(36, offset.0 as u64)
         },
-        Operation::TLS => plain(37),
-        Operation::CallFrameCFA => plain(38),
+        Operation::TLS => *shown = plain(37),
+        Operation::CallFrameCFA => *shown = plain(38),
         Operation::Piece {
             size_in_bits,
             bit_offset: None,
-        } => numbered(39, size_in_bits),
+        } => *shown = numbered(39, size_in_bits),
         Operation::Piece {
             size_in_bits,
             bit_offset: Some(bit_offset),
-        } => DwexprOperation {
+        } => *shown = DwexprOperation {
             flag: 1,
             detail: bit_offset,
             ..numbered(39, size_in_bits)
         },
-        Operation::ImplicitValue { bytes } => blocked(plain(40), bytes.len(), end),
-        Operation::StackValue => plain(41),
-        Operation::ImplicitPointer { value, byte_offset } => DwexprOperation {
+        Operation::ImplicitValue { bytes } => *shown = blocked(plain(40), bytes.len(), end),
+        Operation::StackValue => *shown = plain(41),
+        Operation::ImplicitPointer { value, byte_offset } => *shown = DwexprOperation {
             signed_number: byte_offset,
             ..numbered(42, value.0 as u64)
         },
-        Operation::EntryValue { expression } => blocked(plain(43), expression.len(), end),
-        Operation::ParameterRef { offset } => numbered(44, offset.0 as u64),
-        Operation::Address { address } => numbered(45, address),
-        Operation::AddressIndex { index } => numbered(46, index.0 as u64),
-        Operation::ConstantIndex { index } => numbered(47, index.0 as u64),
-        Operation::TypedLiteral { base_type, value } => blocked(
+        Operation::EntryValue { expression } => *shown = blocked(plain(43), expression.len(), end),
+        Operation::ParameterRef { offset } => *shown = numbered(44, offset.0 as u64),
+        Operation::Address { address } => *shown = numbered(45, address),
+        Operation::AddressIndex { index } => *shown = numbered(46, index.0 as u64),
+        Operation::ConstantIndex { index } => *shown = numbered(47, index.0 as u64),
+        Operation::TypedLiteral { base_type, value } => *shown = blocked(
             typed(48, base_type.0),
             value.len(),
             end,
         ),
-        Operation::Convert { base_type } => typed(49, base_type.0),
-        Operation::Reinterpret { base_type } => typed(50, base_type.0),
-        Operation::Uninitialized => plain(51),
-        Operation::WasmLocal { index } => numbered(52, u64::from(index)),
-        Operation::WasmGlobal { index } => numbered(53, u64::from(index)),
-        Operation::WasmStack { index } => numbered(54, u64::from(index)),
-        Operation::VariableValue { offset } => numbered(55, offset.0 as u64),
+        Operation::Convert { base_type } => *shown = typed(49, base_type.0),
+        Operation::Reinterpret { base_type } => *shown = typed(50, base_type.0),
+        Operation::Uninitialized => *shown = plain(51),
+        Operation::WasmLocal { index } => *shown = numbered(52, u64::from(index)),
+        Operation::WasmGlobal { index } => *shown = numbered(53, u64::from(index)),
+        Operation::WasmStack { index } => *shown = numbered(54, u64::from(index)),
+        Operation::VariableValue { offset } => *shown = numbered(55, offset.0 as u64),
     }
 }
 
-/// An operation with its place.
-fn placed(shown: DwexprOperation, offset: usize, opcode: u8, size: usize) -> DwexprOperation
-    ensures { result ≡ record shown { offset = offset; opcode = opcode; size = size } }
-{
-    DwexprOperation {
-        offset,
-        opcode: u32::from(opcode),
-        size,
-        ..shown
-    }
-}
-
-/// What is shown of an operation of this many bytes.
+/// Shows an operation of this many bytes.
 pub(crate) fn show(
     operation: Operation<Bytes<'_>>,
     offset: usize,
     opcode: u8,
     size: usize,
-) -> DwexprOperation
+    shown: &mut DwexprOperation,
+)
     requires { offset + size < 2 ^ 64 }
-    ensures { result
+    ensures { shown.new
         ≡ decoded offset opcode size (operation_of slice_text (λ x. x) operation.entry) }
 {
-    placed(
-        show_operands(operation, offset + size),
-        offset,
-        opcode,
-        size,
-    )
+    show_operands(operation, offset + size, shown);
+    shown.offset = offset;
+    shown.opcode = u32::from(opcode);
+    shown.size = size;
 }

@@ -131,20 +131,20 @@ pub(crate) fn show_reply(
     ensures unplaced { result ≡ false
         → AsksNowhere texts.now (ok_reply text_of_placed (λ x. x) reply.entry) }
 {
-    *outcome = match reply {
-        EvaluationResult::Complete => asking(1, 0),
+    match reply {
+        EvaluationResult::Complete => *outcome = asking(1, 0),
         EvaluationResult::RequiresMemory {
             address,
             size,
             space: None,
             base_type,
-        } => asking_memory(address, size, base_type.0),
+        } => *outcome = asking_memory(address, size, base_type.0),
         EvaluationResult::RequiresMemory {
             address,
             size,
             space: Some(space),
             base_type,
-        } => DwexprOutcome {
+        } => *outcome = DwexprOutcome {
             flag: 1,
             space,
             ..asking_memory(address, size, base_type.0)
@@ -152,42 +152,43 @@ pub(crate) fn show_reply(
         EvaluationResult::RequiresRegister {
             register,
             base_type,
-        } => DwexprOutcome {
+        } => *outcome = DwexprOutcome {
             register_number: u32::from(register.0),
             base_type: base_type.0 as u64,
             ..asking(3, 0)
         },
-        EvaluationResult::RequiresFrameBase => asking(4, 0),
-        EvaluationResult::RequiresTls(index) => asking(5, index),
-        EvaluationResult::RequiresCallFrameCfa => asking(6, 0),
-        EvaluationResult::RequiresAtLocation(DieReference::UnitRef(offset)) => asking(
+        EvaluationResult::RequiresFrameBase => *outcome = asking(4, 0),
+        EvaluationResult::RequiresTls(index) => *outcome = asking(5, index),
+        EvaluationResult::RequiresCallFrameCfa => *outcome = asking(6, 0),
+        EvaluationResult::RequiresAtLocation(DieReference::UnitRef(offset)) => *outcome = asking(
             7,
             offset.0 as u64,
         ),
-        EvaluationResult::RequiresAtLocation(DieReference::DebugInfoRef(offset)) => DwexprOutcome {
-            flag: 1,
-            ..asking(7, offset.0 as u64)
-        },
+        EvaluationResult::RequiresAtLocation(DieReference::DebugInfoRef(offset)) => *outcome =
+            DwexprOutcome {
+                flag: 1,
+                ..asking(7, offset.0 as u64)
+            },
         EvaluationResult::RequiresEntryValue(expression) => {
             let Some(place) = place_of(texts, expression.0) else {
                 return false;
             };
-            with_block(asking(8, 0), place, expression.0.len())
+            *outcome = with_block(asking(8, 0), place, expression.0.len());
         }
-        EvaluationResult::RequiresParameterRef(offset) => asking(9, offset.0 as u64),
-        EvaluationResult::RequiresRelocatedAddress(address) => asking(10, address),
-        EvaluationResult::RequiresIndexedAddress { index, relocate } => DwexprOutcome {
+        EvaluationResult::RequiresParameterRef(offset) => *outcome = asking(9, offset.0 as u64),
+        EvaluationResult::RequiresRelocatedAddress(address) => *outcome = asking(10, address),
+        EvaluationResult::RequiresIndexedAddress { index, relocate } => *outcome = DwexprOutcome {
             flag: u32::from(relocate),
             ..asking(11, index.0 as u64)
         },
-        EvaluationResult::RequiresBaseType(offset) => DwexprOutcome {
+        EvaluationResult::RequiresBaseType(offset) => *outcome = DwexprOutcome {
             base_type: offset.0 as u64,
             ..asking(12, 0)
         },
-        EvaluationResult::RequiresWasmLocal { index } => asking(13, u64::from(index)),
-        EvaluationResult::RequiresWasmGlobal { index } => asking(14, u64::from(index)),
-        EvaluationResult::RequiresWasmStack { index } => asking(15, u64::from(index)),
-    };
+        EvaluationResult::RequiresWasmLocal { index } => *outcome = asking(13, u64::from(index)),
+        EvaluationResult::RequiresWasmGlobal { index } => *outcome = asking(14, u64::from(index)),
+        EvaluationResult::RequiresWasmStack { index } => *outcome = asking(15, u64::from(index)),
+    }
     true
 }
 

@@ -1,18 +1,23 @@
-ghost use Rattle.std.specs.Prelude.{◌≡◌, ◌≤◌, length, drop};
+ghost use Rattle.std.specs.Prelude.{◌≡◌, ◌==◌, ◌≤◌, length, drop};
 ghost use Rattle.dwarf_base.specs.ByteOrder.{is_big_of};
 ghost use Rattle.dwarf_base.specs.EndianSlice.{slice_bytes, slice_order};
 ghost use Rattle.dwexpr_c.specs.Texts.{text_of_placed};
 
 use dwarf_base::{EndianSlice, Reader, Result, RunTimeEndian};
 
-/// Bytes of one of a caller's texts, with the place in it where they should begin.
+/// Bytes of one of a caller's texts, and where in the texts they should end.
+// Each field is whole words: the compiler keeps those in registers, but not a small field and the room after it.
 #[derive(Clone, Copy, Debug, Default)]
 pub(crate) struct Placed<'a> {
     bytes: &'a [u8],
-    order: RunTimeEndian,
-    text: usize,
-    place: usize,
+    /// 1 if the byte order is big.
+    big: usize,
+    /// The index of the text times 2^32, plus where in it they should end. Above that it is another place, which is
+    /// looked at and not taken.
+    end: usize,
 }
+
+const PLACES: usize = 0x1_0000_0000;
 
 impl<'a> Placed<'a> {
     /// All bytes of the text at this index.
@@ -21,9 +26,11 @@ impl<'a> Placed<'a> {
     {
         Placed {
             bytes,
-            order,
-            text,
-            place: 0,
+            big: match order {
+                RunTimeEndian::Little => 0,
+                RunTimeEndian::Big => 1,
+            },
+            end: text.wrapping_mul(PLACES).wrapping_add(bytes.len()),
         }
     }
 
@@ -35,25 +42,26 @@ impl<'a> Placed<'a> {
     }
 
     /// The index of the text that they should be in. No contract says that they are.
-    pub(crate) fn text(&self) -> usize
-        ensures { result ≡ self.now.text }
-    {
-        self.text
+    pub(crate) fn text(&self) -> usize {
+        self.end / PLACES
     }
 
     /// Where in that text they should begin.
-    pub(crate) fn place(&self) -> usize
-        ensures { result ≡ self.now.place }
-    {
-        self.place
+    pub(crate) fn place(&self) -> usize {
+        (self.end % PLACES).saturating_sub(self.bytes.len())
     }
 
     #[inline]
     fn slice(&self) -> EndianSlice<'a, RunTimeEndian>
         ensures bytes { slice_bytes result ≡ self.now.bytes.now }
-        ensures order { slice_order result ≡ self.now.order }
+        ensures order { is_big_of (slice_order result) ≡ (self.now.big == 1) }
     {
-        EndianSlice::new(self.bytes, self.order)
+        let order = if self.big == 1 {
+            RunTimeEndian::Big
+        } else {
+            RunTimeEndian::Little
+        };
+        EndianSlice::new(self.bytes, order)
     }
 
     /// Drops the first bytes.
@@ -61,10 +69,9 @@ impl<'a> Placed<'a> {
     fn advance(&mut self, count: usize)
         requires { count ≤ length self.old.bytes.now }
         ensures bytes { self.new.bytes.now ≡ drop count self.old.bytes.now }
-        ensures order { self.new.order ≡ self.old.order }
+        ensures order { self.new.big ≡ self.old.big }
     {
         self.bytes = &self.bytes[count..];
-        self.place = self.place.wrapping_add(count);
     }
 }
 
@@ -102,13 +109,13 @@ impl<'a> Reader for Placed<'a> {
 
     #[inline]
     fn split(&mut self, len: usize) -> Result<Self> {
-        self.slice().skip(len)?;
-        let front = Placed {
-            bytes: &self.bytes[..len],
-            ..*self
-        };
-        self.advance(len);
-        Ok(front)
+        let whole = *self;
+        self.skip(len)?;
+        Ok(Placed {
+            bytes: &whole.bytes[..len],
+            end: self.end.wrapping_sub(self.bytes.len()),
+            ..whole
+        })
     }
 
     #[inline]

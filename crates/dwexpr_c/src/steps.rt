@@ -1,7 +1,9 @@
-ghost use Rattle.std.specs.Prelude.{◌≡◌, Some, None, IfSome, IfNone, IfOk, IfErr, Ok, Err, slice_get, length, true, false};
+ghost use Rattle.std.specs.Prelude.{◌≡◌, Some, None, IfSome, IfNone, IfOk, IfErr, Ok, Err, ok_or, slice_get, length, true, false};
 ghost use Rattle.dwarf_base.specs.ByteOrder.{is_big_of};
 ghost use Rattle.dwarf_replay.specs.Stepping as stepping;
+ghost use Rattle.dwexpr_c.specs.Codes.{bad_step_code};
 ghost use Rattle.dwexpr_c.specs.Steps.{step_coded};
+ghost use Rattle.dwexpr_c.specs.Values.{value_coded};
 ghost use Rattle.dwexpr_c.specs.Texts.{IsPlaced, TextAt, text_of_placed};
 ghost use Rattle.dwexpr_c.specs.Places.{IsAt, IsGiven, IsNotAt, IsNotIn, IsNowhere};
 
@@ -10,6 +12,7 @@ use crate::places::Placed;
 use crate::values::{type_of_code, value_of};
 use dwarf_base::RunTimeEndian;
 use dwarf_replay::Step;
+use dwarf_value::Value;
 
 /// The bytes of an expression.
 #[repr(C)]
@@ -75,15 +78,17 @@ fn is_there(text: &[u8], place: usize, block: &[u8]) -> bool
     place <= text.len() && text[place..].starts_with(block)
 }
 
-/// Whether the bytes stand where they should.
-fn is_placed(texts: &[DwexprText<'_>], block: Placed<'_>) -> bool
-    ensures { result ≡ true
-        → IsPlaced texts.now block.entry.text block.entry.place
-        (length (text_of_placed block.entry).bytes) (text_of_placed block.entry).bytes }
+/// Where the bytes should be, if they are there.
+fn expected_place(texts: &[DwexprText<'_>], block: Placed<'_>) -> Option<Place>
+    ensures { IfSome result
+        (λ place. IsPlaced texts.now place.text place.offset
+        (length (text_of_placed block.entry).bytes) (text_of_placed block.entry).bytes) }
 {
-    match texts.get(block.text()) {
-        Some(text) => is_there(bytes_of(text), block.place(), block.bytes()),
-        None => false,
+    let (text, offset) = (block.text(), block.place());
+    if is_there(bytes_of(texts.get(text)?), offset, block.bytes()) {
+        Some(Place { text, offset })
+    } else {
+        None
     }
 }
 
@@ -135,13 +140,17 @@ pub(crate) fn place_of(texts: &[DwexprText<'_>], block: Placed<'_>) -> Option<Pl
         (length (text_of_placed block.entry).bytes) (text_of_placed block.entry).bytes) }
     ensures none { IfNone result (IsNowhere texts.now (text_of_placed block.entry).bytes) }
 {
-    if is_placed(texts, block) {
-        return Some(Place {
-            text: block.text(),
-            offset: block.place(),
-        });
+    match expected_place(texts, block) {
+        Some(place) => Some(place),
+        None => find(texts, block.bytes()),
     }
-    find(texts, block.bytes())
+}
+
+/// The value that a step gives, or the code if its numbers say none.
+fn value_in(step: DwexprStep) -> Result<Value, u32>
+    ensures { result ≡ ok_or (value_coded step.value_type step.number) bad_step_code }
+{
+    value_of(step.value_type, step.number).ok_or(BAD_STEP)
 }
 
 /// The step that the numbers say, or the code if they say none.
@@ -156,7 +165,6 @@ pub(crate) fn step_of<'a>(
     ensures err { IfErr result (λ code. step_coded (is_big_of order) texts.now step ≡ Err code) }
 {
     let number = step.number;
-    let value = value_of(step.value_type, number).ok_or(BAD_STEP);
     Ok(match step.kind {
         1 => Step::InitialValue(number),
         2 => Step::ObjectAddress(number),
@@ -165,10 +173,10 @@ pub(crate) fn step_of<'a>(
             Err(_) => return Err(BAD_STEP),
         },
         4 => Step::Evaluate,
-        5 => Step::Memory(value?),
-        6 => Step::Register(value?),
-        7 => Step::WasmValue(value?),
-        8 => Step::EntryValue(value?),
+        5 => Step::Memory(value_in(step)?),
+        6 => Step::Register(value_in(step)?),
+        7 => Step::WasmValue(value_in(step)?),
+        8 => Step::EntryValue(value_in(step)?),
         9 => Step::FrameBase(number),
         10 => Step::Tls(number),
         11 => Step::CallFrameCfa(number),

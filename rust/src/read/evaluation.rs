@@ -356,6 +356,8 @@ impl<R: Reader> Evaluation<R> {
     }
 
     /// Takes an answer.
+    // In line, so that a step is written where the archive reads it.
+    #[inline(always)]
     #[track_caller]
     fn resume(&mut self, step: RawStep, call: &str) -> Result<EvaluationResult<R>> {
         let mut room = Room::new();

@@ -2,6 +2,6 @@ use Rattle.std.proofs.Common.{ℕ, List, IfNone, subst}
 use Rattle.dwexpr_c.specs.Places.{IsNowhere}
 use Rattle.dwexpr_c.proofs.steps.place_of.Goals as goal
 
-pub returns-clause-none : goal.returns-clause-none
-returns-clause-none c =
+pub returns-in-None-clause-none : goal.returns-in-None-clause-none
+returns-in-None-clause-none c =
     subst (λ (block : List ℕ). IfNone c.find.result (IsNowhere c.args.texts.now block)) c.bytes.ensures c.find.ensures.none

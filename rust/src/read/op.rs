@@ -415,26 +415,23 @@ where
     pub fn parse(bytes: &mut R, encoding: Encoding) -> Result<Operation<R, Offset>> {
         let mut place = MaybeUninit::uninit();
         let shown = raw::decode(bytes.bytes(), raw_encoding(encoding, bytes.endian()), &mut place);
-        match shown.fault {
-            raw::OK => {
-                let operation = operation_of(shown, bytes);
-                bytes.skip(offset(shown.size as u64))?;
-                Ok(operation)
-            }
-            raw::BAD_ENCODING => Err(Error::UnsupportedAddressSize(encoding.address_size)),
-            code => Err(error_of(code, shown.detail, bytes.offset_id())),
-        }
+        // After a fault the size is 0.
+        let read = bytes.split(offset(shown.size as u64))?;
+        operation_of(shown, &read).ok_or_else(|| match shown.fault {
+            raw::BAD_ENCODING => Error::UnsupportedAddressSize(encoding.address_size),
+            code => error_of(code, shown.detail, bytes.offset_id()),
+        })
     }
 }
 
-/// The operation that the archive has read at the front of these bytes.
+/// The operation that the archive has read in these bytes; `None` after a fault.
 #[inline]
-fn operation_of<R: Reader>(shown: &RawOperation, bytes: &R) -> Operation<R> {
+fn operation_of<R: Reader>(shown: &RawOperation, bytes: &R) -> Option<Operation<R>> {
     let block = || bytes.part(shown.block_offset, shown.block_length);
     let base_type = || UnitOffset(offset(shown.base_type));
     let number = shown.number;
     let flag = shown.flag != 0;
-    match shown.kind {
+    Some(match shown.kind {
         1 => Operation::Deref { base_type: base_type(), size: shown.deref_size as u8, space: flag },
         2 => Operation::Drop,
         3 => Operation::Pick { index: number as u8 },
@@ -494,8 +491,8 @@ fn operation_of<R: Reader>(shown: &RawOperation, bytes: &R) -> Operation<R> {
         53 => Operation::WasmGlobal { index: number as u32 },
         54 => Operation::WasmStack { index: number as u32 },
         55 => Operation::VariableValue { offset: DebugInfoOffset(offset(number)) },
-        kind => unreachable!("kind {kind}"),
-    }
+        _ => return None,
+    })
 }
 
 fn reference_of<Offset: ReaderOffset>(number: u64, is_in_debug_info: bool) -> DieReference<Offset> {

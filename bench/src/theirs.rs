@@ -64,7 +64,7 @@ pub fn evaluate_on_heap(bytes: &[u8], job: &Job) -> u64 {
     }
     let text = text_of(bytes, job);
     let mut evaluation = Evaluation::new(text, encoding_of(job));
-    complete(&mut evaluation, text, job)
+    finish(&mut evaluation, text, job)
 }
 
 #[inline(never)]
@@ -74,7 +74,7 @@ pub fn evaluate_in_arrays(bytes: &[u8], job: &Job) -> u64 {
     }
     let text = text_of(bytes, job);
     let mut evaluation: Evaluation<_, Arrays> = Evaluation::new_in(text, encoding_of(job));
-    complete(&mut evaluation, text, job)
+    finish(&mut evaluation, text, job)
 }
 
 fn is_evaluated(job: &Job) -> bool {
@@ -82,31 +82,43 @@ fn is_evaluated(job: &Job) -> bool {
 }
 
 #[inline(always)]
-fn complete<'a, S: EvaluationStorage<Text<'a>>>(
+fn finish<'a, S: EvaluationStorage<Text<'a>>>(
+    evaluation: &mut Evaluation<Text<'a>, S>,
+    text: Text<'a>,
+    job: &Job,
+) -> u64 {
+    if job.counted == u32::MAX {
+        complete::<S, false>(evaluation, text, job)
+    } else {
+        complete::<S, true>(evaluation, text, job)
+    }
+}
+
+#[inline(always)]
+fn complete<'a, S: EvaluationStorage<Text<'a>>, const SUMS: bool>(
     evaluation: &mut Evaluation<Text<'a>, S>,
     text: Text<'a>,
     job: &Job,
 ) -> u64 {
     evaluation.set_max_iterations(job.maximum);
     evaluation.set_object_address(0x7000);
-    let nothing = text_of(&[], job);
     let mut sum = 0u64;
     let mut met = 0u32;
     let mut answer = evaluation.evaluate();
     while met < job.answers {
         let Ok(request) = answer else { break };
-        if met >= job.counted {
+        if SUMS && met >= job.counted {
             sum = mix_request(sum, &request);
         }
         if matches!(request, EvaluationResult::Complete) {
             answer = Ok(request);
             break;
         }
-        let called = if met < job.depth { text } else { nothing };
+        let is_deep = met >= job.depth;
         met += 1;
-        answer = respond(evaluation, request, called);
+        answer = respond(evaluation, request, text, is_deep);
     }
-    if job.counted == 0 {
+    if SUMS && job.counted == 0 {
         sum = match answer {
             Ok(EvaluationResult::Complete) => mix_end(sum, evaluation),
             Ok(_) => sum,
@@ -120,7 +132,8 @@ fn complete<'a, S: EvaluationStorage<Text<'a>>>(
 fn respond<'a, S: EvaluationStorage<Text<'a>>>(
     evaluation: &mut Evaluation<Text<'a>, S>,
     request: EvaluationResult<Text<'a>>,
-    called: Text<'a>,
+    text: Text<'a>,
+    is_deep: bool,
 ) -> gimli::Result<EvaluationResult<Text<'a>>> {
     match request {
         EvaluationResult::Complete => Ok(EvaluationResult::Complete),
@@ -132,7 +145,13 @@ fn respond<'a, S: EvaluationStorage<Text<'a>>>(
         EvaluationResult::RequiresFrameBase => evaluation.resume_with_frame_base(0x7ffe_1000),
         EvaluationResult::RequiresTls(_) => evaluation.resume_with_tls(0x10),
         EvaluationResult::RequiresCallFrameCfa => evaluation.resume_with_call_frame_cfa(0x7ffe_2000),
-        EvaluationResult::RequiresAtLocation(_) => evaluation.resume_with_at_location(called),
+        EvaluationResult::RequiresAtLocation(_) => {
+            let mut called = text;
+            if is_deep {
+                called.empty();
+            }
+            evaluation.resume_with_at_location(called)
+        }
         EvaluationResult::RequiresEntryValue(_) => evaluation.resume_with_entry_value(Value::Generic(5)),
         EvaluationResult::RequiresParameterRef(_) => evaluation.resume_with_parameter_ref(5),
         EvaluationResult::RequiresRelocatedAddress(address) => evaluation.resume_with_relocated_address(address),
@@ -168,7 +187,7 @@ pub fn ends_with_an_answer_after_pieces(bytes: &[u8], job: &Job) -> bool {
             return was_pushed && !evaluation.as_result().is_empty();
         }
         was_pushed = !matches!(request, EvaluationResult::RequiresAtLocation(_));
-        answer = respond(&mut evaluation, request, text_of(&[], job));
+        answer = respond(&mut evaluation, request, text, true);
     }
     false
 }

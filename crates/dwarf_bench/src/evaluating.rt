@@ -7,7 +7,7 @@ ghost use Rattle.dwarf_eval.specs.Evaluation.{IsClosed};
 use crate::jobs::{Case, Job, Text};
 use crate::sums::{mix, mix_location, mix_option, mix_request, mix_value};
 use arrayvec::ArrayVec;
-use dwarf_base::{Encoding, EndianSlice, Format, Result, RunTimeEndian};
+use dwarf_base::{Encoding, EndianSlice, Format, Reader, Result, RunTimeEndian};
 use dwarf_eval::eval::{Evaluation, Status};
 use dwarf_eval::op::{EvaluationResult, Piece};
 use dwarf_store::{EvaluationStorage, StoreOnHeap};
@@ -42,7 +42,7 @@ pub fn evaluate_on_heap(alloc: Global, bytes: &[u8], job: Job) -> u64 {
         text,
         job.encoding(),
     );
-    complete(&mut evaluation, text, job)
+    finish(&mut evaluation, text, job)
 }
 
 pub fn evaluate_in_arrays(bytes: &[u8], job: Job) -> u64 {
@@ -57,7 +57,7 @@ pub fn evaluate_in_arrays(bytes: &[u8], job: Job) -> u64 {
         ArrayVec::new(),
         ArrayVec::new(),
     );
-    complete(&mut evaluation, text, job)
+    finish(&mut evaluation, text, job)
 }
 
 pub fn restart_on_heap(alloc: Global, cases: &[Case<'_>], times: u32) -> u64 {
@@ -95,7 +95,7 @@ fn restart_all<'a, S: EvaluationStorage<Text<'a>>>(
             if is_evaluated(case.job) {
                 let text = case.job.text(case.bytes);
                 evaluation.restart(text, case.job.encoding());
-                total = total.wrapping_add(complete(evaluation, text, case.job));
+                total = total.wrapping_add(finish(evaluation, text, case.job));
             }
         }
     }
@@ -111,11 +111,27 @@ fn is_evaluated(job: Job) -> bool
 
 /// Evaluates to the end, to a fault or until no more answers are given: the number of answers that were given, and a
 /// checksum of the requests that aren't only counted and, if none is, of the pieces and of the value.
+#[inline(always)]
+fn finish<'a, S: EvaluationStorage<Text<'a>>>(
+    evaluation: &mut Evaluation<Text<'a>, S>,
+    text: Text<'a>,
+    job: Job,
+) -> u64
+    requires { IsClosed evaluation.old.status }
+{
+    if job.counted == u32::MAX {
+        complete::<S, false>(evaluation, text, job)
+    } else {
+        complete::<S, true>(evaluation, text, job)
+    }
+}
+
+/// The same; if `SUMS` is false, without a checksum, so that what is timed has no part in one.
 ///
-/// It is a function of its own for each storage, so that `respond`, which is too large to be marked, has one caller and
-/// is in line.
+/// It is a function of its own for each storage and each `SUMS`, so that `respond`, which is too large to be marked,
+/// has one caller and is in line.
 #[inline(never)]
-fn complete<'a, S: EvaluationStorage<Text<'a>>>(
+fn complete<'a, S: EvaluationStorage<Text<'a>>, const SUMS: bool>(
     evaluation: &mut Evaluation<Text<'a>, S>,
     text: Text<'a>,
     job: Job,
@@ -124,7 +140,6 @@ fn complete<'a, S: EvaluationStorage<Text<'a>>>(
 {
     evaluation.set_max_iterations(job.maximum);
     evaluation.set_object_address(0x7000);
-    let nothing = job.text(&[]);
     let mut sum = 0u64;
     let mut met = 0u32;
     let mut reply = evaluation.evaluate();
@@ -132,17 +147,17 @@ fn complete<'a, S: EvaluationStorage<Text<'a>>>(
         let Ok(request) = reply else {
             break;
         };
-        if met >= job.counted {
+        if SUMS && met >= job.counted {
             sum = mix_request(sum, &request);
         }
         if matches!(request, EvaluationResult::Complete) {
             break;
         }
-        let called = if met < job.depth { text } else { nothing };
+        let is_deep = met >= job.depth;
         met += 1;
-        reply = respond(evaluation, request, called);
+        reply = respond::<S, SUMS>(evaluation, request, text, is_deep);
     }
-    if job.counted == 0 {
+    if SUMS && job.counted == 0 {
         sum = mix_end(sum, evaluation);
     }
     sum.wrapping_add(u64::from(met))
@@ -150,42 +165,17 @@ fn complete<'a, S: EvaluationStorage<Text<'a>>>(
 
 /// Gives the open request a made-up answer.
 #[inline(always)]
-fn respond<'a, S: EvaluationStorage<Text<'a>>>(
+fn respond<'a, S: EvaluationStorage<Text<'a>>, const SUMS: bool>(
     evaluation: &mut Evaluation<Text<'a>, S>,
     request: EvaluationResult<Text<'a>>,
-    called: Text<'a>,
+    text: Text<'a>,
+    is_deep: bool,
 ) -> Result<EvaluationResult<Text<'a>>>
     requires { Admits request evaluation.old.status }
     ensures { IfOk result (λ replied. Admits replied evaluation.new.status) }
 {
     match request {
-        EvaluationResult::RequiresFrameBase => evaluation.resume_with_frame_base(0x7ffe_1000),
-        EvaluationResult::RequiresTls(_) => evaluation.resume_with_tls(0x10),
-        EvaluationResult::RequiresCallFrameCfa => {
-            evaluation.resume_with_call_frame_cfa(0x7ffe_2000)
-        }
-        EvaluationResult::RequiresAtLocation(_) => evaluation.resume_with_at_location(called),
-        EvaluationResult::RequiresParameterRef(_) => evaluation.resume_with_parameter_ref(5),
-        EvaluationResult::RequiresRelocatedAddress(address) => {
-            evaluation.resume_with_relocated_address(address)
-        }
-        EvaluationResult::RequiresIndexedAddress { .. } => {
-            evaluation.resume_with_indexed_address(5)
-        }
-        _ => respond_with_value(evaluation, request),
-    }
-}
-
-/// Gives the request a made-up value or type, if it wants one, and else hands it back.
-#[inline(always)]
-fn respond_with_value<'a, S: EvaluationStorage<Text<'a>>>(
-    evaluation: &mut Evaluation<Text<'a>, S>,
-    request: EvaluationResult<Text<'a>>,
-) -> Result<EvaluationResult<Text<'a>>>
-    requires { Admits request evaluation.old.status }
-    ensures { IfOk result (λ replied. Admits replied evaluation.new.status) }
-{
-    match request {
+        EvaluationResult::Complete => Ok(request),
         EvaluationResult::RequiresMemory { .. } => {
             evaluation.resume_with_memory(Value::Generic(0x1234))
         }
@@ -197,13 +187,31 @@ fn respond_with_value<'a, S: EvaluationStorage<Text<'a>>>(
         | EvaluationResult::RequiresWasmStack { index } => {
             evaluation.resume_with_wasm_value(Value::U32(index))
         }
+        EvaluationResult::RequiresFrameBase => evaluation.resume_with_frame_base(0x7ffe_1000),
+        EvaluationResult::RequiresTls(_) => evaluation.resume_with_tls(0x10),
+        EvaluationResult::RequiresCallFrameCfa => {
+            evaluation.resume_with_call_frame_cfa(0x7ffe_2000)
+        }
+        EvaluationResult::RequiresAtLocation(_) => {
+            let mut called = text;
+            if is_deep {
+                called.empty();
+            }
+            evaluation.resume_with_at_location(called)
+        }
         EvaluationResult::RequiresEntryValue(_) => {
             evaluation.resume_with_entry_value(Value::Generic(5))
+        }
+        EvaluationResult::RequiresParameterRef(_) => evaluation.resume_with_parameter_ref(5),
+        EvaluationResult::RequiresRelocatedAddress(address) => {
+            evaluation.resume_with_relocated_address(address)
+        }
+        EvaluationResult::RequiresIndexedAddress { .. } => {
+            evaluation.resume_with_indexed_address(5)
         }
         EvaluationResult::RequiresBaseType(_) => {
             evaluation.resume_with_base_type(ValueType::Generic)
         }
-        _ => Ok(request),
     }
 }
 

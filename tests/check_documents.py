@@ -8,9 +8,10 @@
   built, gimli's files and the web aside.
 - Each block of README.md, docs/GUIDE.md and docs/PROOFS.md whose fence names a file is what stands in that file, byte
   for byte. docs/GUIDE.md has the loop over requests and its proof.
+- Each text that a wrong body takes away stands once in the file that it names. The gate tries few of them.
 
-What fails is printed, a line each. The last line is `N passed, M failed`, of the names, paths and blocks; the status
-is 1 if one failed.
+What fails is printed, a line each. The last line is `N passed, M failed`, of the names, paths, blocks and wrong bodies;
+the status is 1 if one failed.
 """
 
 import fnmatch
@@ -177,8 +178,25 @@ def changed():
             yield f"{page} has no block of {path}"
 
 
+def stale():
+    """Each wrong body can be applied, one change after another."""
+    for edit in sorted(fnmatch.filter(files(), "*.edit")):
+        folder = "" if edit.startswith("tests/") else edit.split("/wrong-bodies/")[0].split("/must-fail/")[0]
+        text, old, fits = "", "", True
+        for line in read(edit).splitlines():
+            kind, _, said = line.partition(":")
+            if kind == "file":
+                text = read(os.path.normpath(os.path.join(folder, said.strip())))
+            elif kind == "old":
+                old = said[1:]
+                fits = fits and text.count(old) == 1
+            elif kind == "new":
+                text = text.replace(old, said[1:])
+        yield None if fits else f"{edit} takes away what doesn't stand once in its file"
+
+
 def main():
-    found = [*glossary(), *unknown(), *astray(), *changed()]
+    found = [*glossary(), *unknown(), *astray(), *changed(), *stale()]
     failed = [line for line in found if line]
     for line in failed:
         print(line)

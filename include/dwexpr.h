@@ -324,7 +324,7 @@ typedef struct dwexpr_evaluation {
 /* How many bytes of memory an evaluation takes: at most DWEXPR_EVALUATION_SIZE. */
 size_t dwexpr_evaluation_size(void);
 
-#define DWEXPR_EVALUATION_SIZE 5376
+#define DWEXPR_EVALUATION_SIZE 4864
 
 /* Makes the memory an evaluation that can be started. */
 void dwexpr_evaluation_begin(dwexpr_evaluation *evaluation);

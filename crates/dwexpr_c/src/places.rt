@@ -1,4 +1,4 @@
-ghost use Rattle.std.specs.Prelude.{◌≡◌, ◌==◌, ◌≤◌, length, drop};
+ghost use Rattle.std.specs.Prelude.{◌≡◌, ◌==◌, ◌≤◌, ◌-◌, ◌/◌, ◌%◌, ◌^◌, length, drop};
 ghost use Rattle.dwarf_base.specs.ByteOrder.{is_big_of};
 ghost use Rattle.dwarf_base.specs.EndianSlice.{slice_bytes, slice_order};
 ghost use Rattle.dwexpr_c.specs.Texts.{text_of_placed};
@@ -12,11 +12,12 @@ pub(crate) struct Placed<'a> {
     bytes: &'a [u8],
     /// 1 if the byte order is big.
     big: usize,
-    /// The index of the text times 2^32, plus where in it they should end. Above that it is another place, which is
-    /// looked at and not taken.
+    /// The index of the text times `PLACES`, plus where in it they should end. In a text of more bytes that is another
+    /// place, which is taken only if it has the same bytes.
     end: usize,
 }
 
+/// How many places of a text are told apart.
 const PLACES: usize = 0x1_0000_0000;
 
 impl<'a> Placed<'a> {
@@ -42,12 +43,16 @@ impl<'a> Placed<'a> {
     }
 
     /// The index of the text that they should be in. No contract says that they are.
-    pub(crate) fn text(&self) -> usize {
+    pub(crate) fn text(&self) -> usize
+        ensures { result ≡ self.now.end / 2 ^ 32 }
+    {
         self.end / PLACES
     }
 
     /// Where in that text they should begin.
-    pub(crate) fn place(&self) -> usize {
+    pub(crate) fn place(&self) -> usize
+        ensures { result ≡ (self.now.end % 2 ^ 32) - length self.now.bytes.now }
+    {
         (self.end % PLACES).saturating_sub(self.bytes.len())
     }
 

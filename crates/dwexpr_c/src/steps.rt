@@ -132,8 +132,8 @@ fn find(texts: &[DwexprText<'_>], block: &[u8]) -> Option<Place>
     None
 }
 
-/// Where the bytes are: at the place that was counted, which no contract of a reader tells; else at the first that has
-/// the same.
+/// Where the bytes are: where they should be, which no contract of a reader tells; else at the first place that has the
+/// same.
 pub(crate) fn place_of(texts: &[DwexprText<'_>], block: Placed<'_>) -> Option<Place>
     ensures some { IfSome result
         (λ place. IsPlaced texts.now place.text place.offset

@@ -10,7 +10,7 @@ use Rattle.dwarf_meaning.specs.Stores.{Setup, Store, push_value, push_piece, pus
 use Rattle.dwarf_meaning.specs.Rest.{State, FaultStatus, with_refusal}
 use Rattle.dwarf_meaning.specs.Refusals.{Limits, Refusal, Never, After, room, spent, MayPick, before_push, before_pushes}
 use Rattle.dwarf_meaning.proofs.Choices.{choose_true, choose_false}
-use Rattle.dwarf_store.specs.Lists.{HasRoom, MayRefuse}
+use Rattle.dwarf_machine.specs.Lists.{HasRoom, MayRefuse}
 use Rattle.dwarf_meaning.specs.Inputs.{with_status}
 use Rattle.dwarf_machine.specs.inner.Steps.{Steps, Gets, Refused}
 use Rattle.dwarf_machine.proofs.Staying.{stays_status}

@@ -9,8 +9,8 @@ ghost use Rattle.dwarf_machine.specs.inner.Steps.{Ends, Takes, Tried, total_afte
 
 use crate::machine::Machine;
 use crate::states::{EvaluationState, Given, OpenRequest};
+use crate::store::EvaluationStorage;
 use dwarf_base::Reader;
-use dwarf_store::EvaluationStorage;
 use dwarf_value::{Value, ValueType};
 
 impl<R: Reader + Copy, S: EvaluationStorage<R>> Machine<R, S> {

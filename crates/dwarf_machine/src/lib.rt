@@ -11,5 +11,6 @@ mod operate;
 mod operations;
 mod operators;
 pub mod states;
+pub mod store;
 mod ticks;
 mod turns;

@@ -15,10 +15,10 @@ ghost use Rattle.dwarf_machine.specs.Machine.{IsOfSort, status_of};
 ghost use Rattle.dwarf_machine.specs.inner.Steps.{CountsOne, GoesBack, Jumps, Pops, PopsGenerics, ReadsOperation, Tries, TriesToEnter, at, has_failed, is_free, is_running, read_to, with_last};
 
 use crate::states::{EvaluationState, LastOperation};
+use crate::store::{ArrayLike, EvaluationStorage};
 use crate::ticks::Ticks;
 use dwarf_base::{Encoding, Error, Reader, ReaderOffset, Result};
 use dwarf_op::{Location, Operation, Piece};
-use dwarf_store::{ArrayLike, EvaluationStorage};
 use dwarf_value::Value;
 use std::marker::Model;
 

@@ -16,9 +16,9 @@ use crate::binary::BinaryOperator;
 use crate::machine::Machine;
 use crate::operators::UnaryOperator;
 use crate::states::{EvaluationState, OpenRequest};
+use crate::store::EvaluationStorage;
 use dwarf_base::{Error, Reader, ReaderOffset, Result, UnitOffset};
 use dwarf_op::{Location, Piece};
-use dwarf_store::EvaluationStorage;
 use dwarf_value::{Value, ValueType};
 
 impl<R: Reader + Copy, S: EvaluationStorage<R>> Machine<R, S> {

@@ -10,9 +10,9 @@ use crate::binary;
 use crate::machine::Machine;
 use crate::operators::UnaryOperator;
 use crate::states::OpenRequest;
+use crate::store::EvaluationStorage;
 use dwarf_base::Reader;
 use dwarf_op::{Location, Operation};
-use dwarf_store::EvaluationStorage;
 use dwarf_value::Value;
 
 impl<R: Reader + Copy, S: EvaluationStorage<R>> Machine<R, S> {

@@ -10,9 +10,9 @@ ghost use Rattle.dwarf_machine.specs.inner.Steps.{RunsOn, Closes, Ends, EndsLoca
 
 use crate::machine::Machine;
 use crate::states::{EvaluationState, LastOperation};
+use crate::store::EvaluationStorage;
 use dwarf_base::{Error, Reader, ReaderOffset};
 use dwarf_op::{Location, Operation, Piece};
-use dwarf_store::EvaluationStorage;
 use dwarf_value::Value;
 
 /// A piece that is the whole variable.

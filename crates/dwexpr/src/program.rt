@@ -18,8 +18,8 @@ use crate::steps::{StepsFault, borrow_steps, steps_in};
 use dwarf_base::EndianSlice;
 use dwarf_eval::eval::{Evaluation, Status};
 use dwarf_eval::op::Piece;
+use dwarf_machine::store::{EvaluationStorage, StoreOnHeap};
 use dwarf_replay::{Answer, Replayed, Step, replay};
-use dwarf_store::{EvaluationStorage, StoreOnHeap};
 use dwarf_value::Value;
 use dwexpr_text::{
     Command, DONE, FAILED, HexFault, Reading, Text, bad_step, bad_words, bytes_of, command_of,

@@ -16,7 +16,7 @@ use crate::op::{EvaluationResult, Expression, Piece};
 use dwarf_base::{Encoding, Reader, Result};
 use dwarf_machine::machine::Machine;
 use dwarf_machine::states::{EvaluationState, Given};
-use dwarf_store::{EvaluationStorage, StoreOnHeap};
+use dwarf_machine::store::{EvaluationStorage, StoreOnHeap};
 use dwarf_value::{Value, ValueType};
 use std::alloc::Allocator;
 use std::marker::Model;

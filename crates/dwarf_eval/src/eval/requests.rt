@@ -11,8 +11,8 @@ use crate::op::{EvaluationResult, Expression};
 use dwarf_base::{Reader, Result};
 use dwarf_machine::machine::Machine;
 use dwarf_machine::states::{EvaluationState, OpenRequest};
+use dwarf_machine::store::EvaluationStorage;
 use dwarf_meaning::WaitingKind;
-use dwarf_store::EvaluationStorage;
 
 /// What is asked.
 pub(crate) fn result_of<R: Reader + Copy>(request: OpenRequest<R>) -> EvaluationResult<R>

@@ -1,7 +1,7 @@
 use Rattle.std.proofs.Common.{refl, length, subst}
 use Rattle.std.proofs.lemmas.List.{length-reverse, reverse-append}
 use Rattle.dwarf_meaning.specs.Rest.{State}
-use Rattle.dwarf_store.specs.Lists.{MayRefuse}
+use Rattle.dwarf_machine.specs.Lists.{MayRefuse}
 use Rattle.dwarf_machine.proofs.Pushes.{value_pushed, value_faults}
 use Rattle.dwarf_machine.proofs.machine.Machine.push.Goals as goal
 

@@ -2,7 +2,7 @@ use Rattle.std.proofs.Common.{◌≡◌, ◌-◌, refl, subst, length, sym, arit
 use Rattle.std.specs.List.{AllByRecursion}
 use Rattle.dwarf_meaning.specs.Rest.{State}
 use Rattle.dwarf_base.proofs.Suffixes.{suffix_whole}
-use Rattle.dwarf_store.specs.Lists.{MayRefuse}
+use Rattle.dwarf_machine.specs.Lists.{MayRefuse}
 use Rattle.dwarf_base.specs.Reads.{IsLeftOf}
 use Rattle.dwarf_machine.proofs.Callers.{callers-push, length-callers, all_and_last}
 use Rattle.dwarf_machine.proofs.Pushes.{caller_pushed, caller_faults}

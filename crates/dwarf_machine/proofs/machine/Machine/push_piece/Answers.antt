@@ -1,7 +1,7 @@
 use Rattle.std.proofs.Common.{refl, length, subst}
 use Rattle.std.proofs.lemmas.List.{length-map, map-append}
 use Rattle.dwarf_meaning.specs.Rest.{State}
-use Rattle.dwarf_store.specs.Lists.{MayRefuse}
+use Rattle.dwarf_machine.specs.Lists.{MayRefuse}
 use Rattle.dwarf_machine.proofs.Pushes.{piece_pushed, piece_faults}
 use Rattle.dwarf_machine.proofs.machine.Machine.push_piece.Goals as goal
 

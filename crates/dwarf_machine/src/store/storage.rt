@@ -1,4 +1,4 @@
-use crate::lists::ArrayLike;
+use super::lists::ArrayLike;
 use dwarf_base::Reader;
 use dwarf_op::Piece;
 use dwarf_value::Value;

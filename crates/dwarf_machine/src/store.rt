@@ -1,5 +1,4 @@
 //! Where an evaluation keeps its values, its callers and its pieces.
-#![tactic(auto)]
 
 mod lists;
 mod storage;

@@ -1,5 +1,5 @@
 ghost use Rattle.std.specs.Prelude.{◌≡◌, ℕ, List, [], ◌∷◌, ◌++◌, Option, Some, None, length, slice_get, option_to_list, OnOk, OnErr, IfErr, IfNone};
-ghost use Rattle.dwarf_store.specs.Lists.{HasRoom, MayRefuse};
+ghost use Rattle.dwarf_machine.specs.Lists.{HasRoom, MayRefuse};
 ghost use Rattle.dwarf_meaning.specs.Stores.{IsWithin};
 
 use arrayvec::ArrayVec;

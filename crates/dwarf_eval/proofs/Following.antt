@@ -15,7 +15,7 @@ use Rattle.dwarf_eval.specs.Evaluation.{Follows, IsAtRest, IsAtRestBy, IsEndedBy
 use Rattle.dwarf_eval.specs.Permits.{IsOpenFor, IsWaitingFor}
 use Rattle.dwarf_eval.specs.declared.op.results.EvaluationResult.{EvaluationResult}
 use Rattle.dwarf_meaning.specs.declared.kinds.WaitingKind.{WaitingKind}
-use Rattle.dwarf_machine.specs.inner.Steps.{has_failed, Reaches, Falls, EndsBy, Ends}
+use Rattle.dwarf_machine.specs.inner.Steps.{has_failed, Reaches, Falls, ComesBy, Comes}
 use Rattle.dwarf_machine.proofs.Refusals.{before_never, before_later}
 use Rattle.dwarf_machine.proofs.Totals.{started_total, course_open, total_start}
 pub use Rattle.dwarf_machine.proofs.Totals.{total_open, total_complete}
@@ -81,16 +81,16 @@ module _ (old : State) (totals : Refusal → List Input → Total) (new : State)
     spends = h.spends;
   }
 
-  follows_by : (status : Status) → new.status ≡ status → EndsBy old totals new status → IsReplied told new.status → IsAtRest new → Follows old totals told new
+  follows_by : (status : Status) → new.status ≡ status → ComesBy old totals new status → IsReplied told new.status → IsAtRest new → Follows old totals told new
   follows_by (RequestStatus request waiting) e h t rests = came_follows (subst WaitsOrIsComplete (sym e) tt) h t rests
   follows_by (CompleteStatus value) e h t rests = came_follows (subst WaitsOrIsComplete (sym e) tt) h t rests
   follows_by (FaultStatus error) e h t rests = fell_follows error e h t rests
-  follows_by Running e h t rests = absurd h
+  follows_by Running e h t rests = absurd (subst (IsReplied told) e t)
   follows_by (Start initial_value) e h t rests = absurd h
 
-  -- a call that ends answers its outcome
-  pub ends_follow : Ends old totals new → IsReplied told new.status → IsAtRest new → Follows old totals told new
-  ends_follow h t rests = follows_by new.status refl h t rests
+  -- a call that replies answers its outcome
+  pub comes_follow : Comes old totals new → IsReplied told new.status → IsAtRest new → Follows old totals told new
+  comes_follow h t rests = follows_by new.status refl h t rests
 
 -- ---- `evaluate` from the start
 
@@ -111,9 +111,9 @@ meaning_total x initial_value starts is r inputs =
     ∙ sym (total_start r x inputs initial_value starts))
 
 -- the meaning is the outcome of a fresh evaluation
-pub start_follows : (x new : State) (told : Reply) (initial_value : Option ℕ) → x.status ≡ Start initial_value → IsFresh x initial_value → Ends x (total x) new → IsReplied told new.status → IsAtRest new → Follows x (means x initial_value) told new
+pub start_follows : (x new : State) (told : Reply) (initial_value : Option ℕ) → x.status ≡ Start initial_value → IsFresh x initial_value → Comes x (total x) new → IsReplied told new.status → IsAtRest new → Follows x (means x initial_value) told new
 start_follows x new told initial_value starts is h t rests =
-    let follows = ends_follow x (total x) new told h t rests in
+    let follows = comes_follow x (total x) new told h t rests in
     let first = meaning_total x initial_value starts is follows.refusal [] in
     record {
       refusal = follows.refusal;

@@ -5,7 +5,7 @@ use Rattle.dwarf_meaning.specs.Requests.{Input, Request, Waiting}
 use Rattle.dwarf_meaning.specs.Refusals.{Refusal}
 use Rattle.dwarf_meaning.specs.Rest.{State, Status, Start, Running, RequestStatus, CompleteStatus, FaultStatus}
 use Rattle.dwarf_meaning.specs.Bounds.{calls_left, calls_left_by}
-use Rattle.dwarf_machine.specs.inner.Steps.{EndsBy, Ends, Nears, Total, replies_by}
+use Rattle.dwarf_machine.specs.inner.Steps.{Comes, ComesBy, HasReply, Nears, Total, replies_by}
 
 pub nears_by : (old new : State) (was is : Status) → old.status ≡ was → new.status ≡ is → calls_left_by new is + replies_by is ≤ calls_left_by old was → Nears old new
 nears_by old new was is e f h =
@@ -35,13 +35,13 @@ if_ok P (Ok t) h = h
 if_ok P (Err e) h = tt
 
 module _ (old : State) (totals : Refusal → List Input → Total) (new : State) (request : Request) (waiting : Waiting) (was : old.status ≡ RequestStatus request waiting) where
-  fewer_by : (status : Status) → new.status ≡ status → EndsBy old totals new status → calls_left new < calls_left old
-  fewer_by (RequestStatus request waiting) e h = fewer_ended old new (RequestStatus request waiting) e (omega arith) h.nears
-  fewer_by (CompleteStatus value) e h = fewer_ended old new (CompleteStatus value) e (omega arith) h.nears
-  fewer_by (FaultStatus error) e h = fewer_fallen old new request waiting error was e
-  fewer_by Running e h = absurd h
-  fewer_by (Start initial_value) e h = absurd h
+  fewer_by : (status : Status) → new.status ≡ status → HasReply status → ComesBy old totals new status → calls_left new < calls_left old
+  fewer_by (RequestStatus request waiting) e o h = fewer_ended old new (RequestStatus request waiting) e (omega arith) h.nears
+  fewer_by (CompleteStatus value) e o h = fewer_ended old new (CompleteStatus value) e (omega arith) h.nears
+  fewer_by (FaultStatus error) e o h = fewer_fallen old new request waiting error was e
+  fewer_by Running e o h = absurd o
+  fewer_by (Start initial_value) e o h = absurd o
 
   -- an answer leaves fewer calls
-  pub ends_fewer : Ends old totals new → calls_left new < calls_left old
-  ends_fewer h = fewer_by new.status refl h
+  pub comes_fewer : HasReply new.status → Comes old totals new → calls_left new < calls_left old
+  comes_fewer o h = fewer_by new.status refl o h

@@ -11,7 +11,7 @@ use Rattle.dwarf_meaning.specs.Refusals.{Refusal, Never, MayPick, before_pushes}
 use Rattle.dwarf_meaning.proofs.Counts.{HasTally, OnStore, Tally, tally_of, tally-push_value}
 use Rattle.dwarf_meaning.specs.Bounds.{faults_in}
 use Rattle.dwarf_meaning.specs.Inputs.{Keeps, with_status}
-use Rattle.dwarf_machine.specs.inner.Steps.{Total, total, Tries, Reaches, Falls, ComesBy, Comes, RunsOnBy, RunsOn, EndsBy, Ends, HasReply, is_running}
+use Rattle.dwarf_machine.specs.inner.Steps.{Total, total, Tries, Reaches, Falls, ComesBy, Comes, HasReply, is_running}
 use Rattle.dwarf_machine.proofs.Refusals.{before_more, may_before}
 use Rattle.dwarf_machine.proofs.Loads.{HasLast, HasPieces, Keeping, kept_in, value_adds, value_last, value_pieces}
 use Rattle.dwarf_machine.proofs.Nearing.{nears_by, nears_more}
@@ -64,54 +64,16 @@ module _ (old : State) (totals : Refusal → List Input → Total) where
   pub comes_more : (a b : State) → is_running a.status ≡ true → Comes old totals a → Comes a (total a) b → Comes old totals b
   comes_more a b is h i = comes_by a b b.status (came_running a a.status is h) i
 
-  ended_by : (a : State) (status : Status) → is_running status ≡ false → ComesBy old totals a status → EndsBy old totals a status
-  ended_by a Running is h = cc
-  ended_by a (RequestStatus request waiting) is h = h
-  ended_by a (CompleteStatus value) is h = h
-  ended_by a (FaultStatus error) is h = h
-  ended_by a (Start initial_value) is h = absurd h
+  over_by : (a : State) (status : Status) → is_running status ≡ false → ComesBy old totals a status → HasReply status
+  over_by a (RequestStatus request waiting) is h = tt
+  over_by a (CompleteStatus value) is h = tt
+  over_by a (FaultStatus error) is h = tt
+  over_by a Running is h = cc
+  over_by a (Start initial_value) is h = absurd h
 
-  pub comes_end : (a : State) → is_running a.status ≡ false → Comes old totals a → Ends old totals a
-  comes_end a is h = ended_by a a.status is h
-
-  ends_by : (a b : State) (status : Status) → Reaches old totals a → EndsBy a (total a) b status → EndsBy old totals b status
-  ends_by a b Running h i = absurd i
-  ends_by a b (RequestStatus request waiting) h i = reaches_more a b h i
-  ends_by a b (CompleteStatus value) h i = reaches_more a b h i
-  ends_by a b (FaultStatus error) h i = falls_more a b (fault_of error) h i
-  ends_by a b (Start initial_value) h i = absurd i
-
-  begun_running : (a : State) (status : Status) → is_running status ≡ true → RunsOnBy old totals a status → Reaches old totals a
-  begun_running a Running is h = h
-  begun_running a (RequestStatus request waiting) is h = absurd h
-  begun_running a (CompleteStatus value) is h = absurd h
-  begun_running a (Start initial_value) is h = absurd h
-  begun_running a (FaultStatus error) is h = cc
-
-  -- it begins, and runs on
-  pub begins_more : (a b : State) → is_running a.status ≡ true → RunsOn old totals a → Ends a (total a) b → Ends old totals b
-  begins_more a b is h i = ends_by a b b.status (begun_running a a.status is h) i
-
-  begun_over : (a : State) (status : Status) → is_running status ≡ false → RunsOnBy old totals a status → EndsBy old totals a status
-  begun_over a Running is h = cc
-  begun_over a (FaultStatus error) is h = h
-  begun_over a (RequestStatus request waiting) is h = absurd h
-  begun_over a (CompleteStatus value) is h = absurd h
-  begun_over a (Start initial_value) is h = absurd h
-
-  -- it ends as it begins
-  pub begins_end : (a : State) → is_running a.status ≡ false → RunsOn old totals a → Ends old totals a
-  begins_end a is h = begun_over a a.status is h
-
-  over_by : (a : State) (status : Status) → EndsBy old totals a status → HasReply status
-  over_by a (RequestStatus request waiting) h = tt
-  over_by a (CompleteStatus value) h = tt
-  over_by a (FaultStatus error) h = tt
-  over_by a Running h = absurd h
-  over_by a (Start initial_value) h = absurd h
-
-  pub ends_over : (a : State) → Ends old totals a → HasReply a.status
-  ends_over a h = over_by a a.status h
+  -- what came and doesn't run has a reply
+  pub comes_over : (a : State) → is_running a.status ≡ false → Comes old totals a → HasReply a.status
+  comes_over a is h = over_by a a.status is h
 
 pub comes_here : (x : State) → x.status ≡ Running → Comes x (total x) x
 comes_here x runs = subst (ComesBy x (total x) x) (sym runs) (reaches_here x runs)
@@ -125,10 +87,10 @@ runs_on (FaultStatus error) h = cc
 
 -- ---- the beginning
 
-pub begins_none : (x new : State) → x.status ≡ Start None → new ≡ with_status Running x → RunsOn x (total x) new
+pub begins_none : (x new : State) → x.status ≡ Start None → new ≡ with_status Running x → Comes x (total x) new
 begins_none x new starts e =
     let runs : new.status ≡ Running = ap (λ (z : State). z.status) e in
-    subst (RunsOnBy x (total x) new) (sym runs) (record {
+    subst (ComesBy x (total x) new) (sym runs) (record {
       pushes = 0;
       same = λ r inputs.
           total_start r x inputs None starts
@@ -146,7 +108,7 @@ begins_none x new starts e =
 pub value_tally : (setup : Setup) (value : Value) (old new : Store) → push_value setup value old ≡ Ok new → tally_of new ≡ tally_of old
 value_tally setup value old new e = subst (OnStore (HasTally (tally_of old))) e (tally-push_value setup value old)
 
-begins_pushed : (v : ℕ) (x new : State) (done : Bool) → x.status ≡ Start (Some v) → Tries 0 (push_value x.setup (Generic v)) (with_status Running x) new done → RunsOn x (total x) new
+begins_pushed : (v : ℕ) (x new : State) (done : Bool) → x.status ≡ Start (Some v) → Tries 0 (push_value x.setup (Generic v)) (with_status Running x) new done → Comes x (total x) new
 begins_pushed v x new true starts d =
     let still : new.status ≡ Running = ap (λ (z : State). z.status) d.alone in
     let s : Store = with_refusal (before_pushes d.steps.pushes Never) x.store in
@@ -154,7 +116,7 @@ begins_pushed v x new true starts d =
     let count : new.store.count ≡ x.store.count = ap (λ (m : Tally). m.count) tally in
     let kept : kept_in new.store ≡ kept_in x.store + 1 = subst (OnStore (Keeping (kept_in s + 1))) (d.steps.same Never) (value_adds x.setup (Generic v) s) in
     let last : new.store.last ≡ x.store.last = subst (OnStore (HasLast s.last)) (d.steps.same Never) (value_last x.setup (Generic v) s) in
-    subst (RunsOnBy x (total x) new) (sym still) (record {
+    subst (ComesBy x (total x) new) (sym still) (record {
       pushes = d.steps.pushes;
       same = λ r inputs.
           total_start (before_pushes d.steps.pushes r) x inputs (Some v) starts
@@ -175,7 +137,7 @@ begins_pushed v x new false starts d =
     let callers = d.stays.callers in
     let items = d.stays.items in
     let decodings = d.stays.decodings in
-    subst (RunsOnBy x (total x) new) (sym d.failed) (record {
+    subst (ComesBy x (total x) new) (sym d.failed) (record {
       refusal = d.gets.refusal;
       may = d.gets.may;
       same = λ inputs.
@@ -186,6 +148,6 @@ begins_pushed v x new false starts d =
       spends = fallen_spends x new d.error (ap faults_in starts) d.failed (omega (arith, callers)) (omega (arith, count)) (omega (arith, items)) (omega (arith, decodings, count)) d.stays.pieces (omega (arith, decodings, count)) (omega (arith, decodings, count));
     })
 
-pub begins_some : (v : ℕ) (x mid new : State) (done : Bool) → x.status ≡ Start (Some v) → mid ≡ with_status Running x → Tries 0 (push_value mid.setup (Generic v)) mid new done → RunsOn x (total x) new
+pub begins_some : (v : ℕ) (x mid new : State) (done : Bool) → x.status ≡ Start (Some v) → mid ≡ with_status Running x → Tries 0 (push_value mid.setup (Generic v)) mid new done → Comes x (total x) new
 begins_some v x mid new done starts e h =
     begins_pushed v x new done starts (subst (λ (z : State). Tries 0 (push_value z.setup (Generic v)) z new done) e h)

@@ -16,7 +16,7 @@ use Rattle.dwarf_meaning.proofs.Counts.{HasTally, OnStore, Tally, tally_of, tall
 use Rattle.dwarf_meaning.proofs.Effects.{IsUseOf, use_is}
 use Rattle.dwarf_meaning.specs.Bounds.{located, faults_in}
 use Rattle.dwarf_meaning.specs.Inputs.{input_of, with_status}
-use Rattle.dwarf_machine.specs.inner.Steps.{Total, total_after, Does, Refused, Stays, Tries, Tried, Enters, TriesToEnter, RunsOnBy, Takes, with_last, with_values}
+use Rattle.dwarf_machine.specs.inner.Steps.{Total, total_after, Does, Refused, Stays, Tries, Tried, Enters, TriesToEnter, ComesBy, Takes, with_last, with_values}
 use Rattle.dwarf_machine.proofs.Loads.{HasLast, HasPieces, Keeping, kept_in, value_adds, value_last, value_pieces, frame_adds, frame_last, frame_pieces}
 use Rattle.dwarf_machine.proofs.Nearing.{nears_by}
 use Rattle.dwarf_machine.proofs.Spending.{answered_spends, fallen_spends}
@@ -52,7 +52,7 @@ module _ (x : State) (request : Request) (waiting : Waiting) (open_now : x.statu
       let callers = stays.callers in
       let items = stays.items in
       let decodings = stays.decodings in
-      subst (RunsOnBy x totals new) (sym failed) (record {
+      subst (ComesBy x totals new) (sym failed) (record {
         refusal = refusal;
         may = may;
         same = λ inputs. same inputs ∙ ap (closed (FaultOutcome (fault_of error))) (sym stays.count);
@@ -83,7 +83,7 @@ module _ (x : State) (request : Request) (waiting : Waiting) (open_now : x.statu
         let callers = ap (λ (z : State). length z.callers) d.alone in
         let count : new.store.count ≡ x.store.count = ap (λ (m : Tally). m.count) tally in
         let low = fewer in
-        subst (RunsOnBy x totals new) (sym runs) (record {
+        subst (ComesBy x totals new) (sym runs) (record {
           pushes = d.steps.pushes;
           same = λ r inputs.
               answer_rest (before_pushes d.steps.pushes r) inputs (PushesAnswer values value) gives
@@ -127,7 +127,7 @@ module _ (x : State) (request : Request) (waiting : Waiting) (open_now : x.statu
       let last = ap (λ (z : State). waits_of z.store.last) e in
       let runs : new.status ≡ Running = ap (λ (z : State). z.status) e in
       let count : new.store.count ≡ x.store.count = ap (λ (z : State). z.store.count) e in
-      subst (RunsOnBy x totals new) (sym runs) (record {
+      subst (ComesBy x totals new) (sym runs) (record {
         pushes = 0;
         same = λ r inputs.
             answer_rest r inputs (Calls callee) calls
@@ -156,7 +156,7 @@ module _ (x : State) (request : Request) (waiting : Waiting) (open_now : x.statu
         let gave : located new.store.last ≡ located x.store.last = ap located stays in
         let callers : length new.callers ≡ suc (length x.callers) = ap (λ (z : State). length z.callers) d.alone in
         let count : new.store.count ≡ x.store.count = ap (λ (m : Tally). m.count) tally in
-        subst (RunsOnBy x totals new) (sym runs) (record {
+        subst (ComesBy x totals new) (sym runs) (record {
           pushes = d.steps.pushes;
           same = λ r inputs.
               let t : Store = with_refusal r new.store in

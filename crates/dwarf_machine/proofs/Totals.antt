@@ -80,24 +80,27 @@ pub total_open : (r : Refusal) (x : State) (request : Request) (waiting : Waitin
 total_open r x request waiting e =
     total_waits r x [] request waiting e ∙ course_open x.store.count x.setup x.callers request (record { text = x.text; place = x.place } ∷ []) []
 
+-- what is put in front of a course stays there once its callers' rest follows
+returned_behind : (setup : Setup) (f : Course → Course)
+    → ((caller : Position) (depth : ℕ) (course : Course) → return_to_caller (run setup) caller depth (f course) (f course).end ≡ f (return_to_caller (run setup) caller depth course course.end))
+    → (callers : List Position) (course : Course) → return_to_callers setup callers (f course) ≡ f (return_to_callers setup callers course)
+returned_behind setup f back [] course = refl
+returned_behind setup f back (caller ∷ callers) course =
+    ap (return_to_callers setup callers) (back caller (length callers) course)
+    ∙ returned_behind setup f back callers (return_to_caller (run setup) caller (length callers) course course.end)
+
 -- an operation is counted
 counted_back : (setup : Setup) (caller position : Position) (depth : ℕ) (course : Course) (end : End) → return_to_caller (run setup) caller depth (add_to_path position course) end ≡ add_to_path position (return_to_caller (run setup) caller depth course end)
 counted_back setup caller position depth course (CompleteEnd s inputs) = refl
 counted_back setup caller position depth course (RequestEnd request positions inputs) = refl
 counted_back setup caller position depth course (FaultEnd fault) = refl
 
-counted_returned : (setup : Setup) (callers : List Position) (position : Position) (course : Course) → return_to_callers setup callers (add_to_path position course) ≡ add_to_path position (return_to_callers setup callers course)
-counted_returned setup [] position course = refl
-counted_returned setup (caller ∷ callers) position course =
-    ap (return_to_callers setup callers) (counted_back setup caller position (length callers) course course.end)
-    ∙ counted_returned setup callers position (return_to_caller (run setup) caller (length callers) course course.end)
-
 pub course_counted : (n : ℕ) (setup : Setup) (callers : List Position) (position : Position) (course : Course) → total_of_course n setup callers (add_to_path position course) ≡ total_of_course (n + 1) setup callers course
 course_counted n setup callers position course =
     let whole : Course = return_to_callers setup callers course in
     let k : ℕ = length whole.path in
     let e : n + suc k ≡ n + 1 + k = omega arith in
-    ap (alone n setup) (counted_returned setup callers position course) ∙ ap (closed (outcome_of_end setup whole.end)) e
+    ap (alone n setup) (returned_behind setup (add_to_path position) (λ caller depth between. counted_back setup caller position depth between between.end) callers course) ∙ ap (closed (outcome_of_end setup whole.end)) e
 
 -- a request is no part of a total
 asked_back : (setup : Setup) (caller : Position) (request : Request) (depth : ℕ) (course : Course) (end : End) → return_to_caller (run setup) caller depth (add_request request course) end ≡ add_request request (return_to_caller (run setup) caller depth course end)
@@ -105,11 +108,6 @@ asked_back setup caller request depth course (CompleteEnd s inputs) = refl
 asked_back setup caller request depth course (RequestEnd other positions inputs) = refl
 asked_back setup caller request depth course (FaultEnd fault) = refl
 
-asked_returned : (setup : Setup) (callers : List Position) (request : Request) (course : Course) → return_to_callers setup callers (add_request request course) ≡ add_request request (return_to_callers setup callers course)
-asked_returned setup [] request course = refl
-asked_returned setup (caller ∷ callers) request course =
-    ap (return_to_callers setup callers) (asked_back setup caller request (length callers) course course.end)
-    ∙ asked_returned setup callers request (return_to_caller (run setup) caller (length callers) course course.end)
-
 pub course_asked : (n : ℕ) (setup : Setup) (callers : List Position) (request : Request) (course : Course) → total_of_course n setup callers (add_request request course) ≡ total_of_course n setup callers course
-course_asked n setup callers request course = ap (alone n setup) (asked_returned setup callers request course)
+course_asked n setup callers request course =
+    ap (alone n setup) (returned_behind setup (add_request request) (λ caller depth between. asked_back setup caller request depth between between.end) callers course)

@@ -5,7 +5,7 @@ ghost use Rattle.dwarf_meaning.specs.Rest.{Running};
 ghost use Rattle.dwarf_meaning.specs.Stores.{Pushed, push_value};
 ghost use Rattle.dwarf_machine.specs.Answers.{IsWaitingFor, IsWaitingTo, answer_of};
 ghost use Rattle.dwarf_meaning.specs.Inputs.{input_of, with_status};
-ghost use Rattle.dwarf_machine.specs.inner.Steps.{Ends, Takes, Tried, total_after, with_last};
+ghost use Rattle.dwarf_machine.specs.inner.Steps.{Comes, HasReply, Takes, Tried, total_after, with_last};
 
 use crate::machine::Machine;
 use crate::states::{EvaluationState, Given, OpenRequest};
@@ -182,8 +182,9 @@ impl<R: Reader + Copy, S: EvaluationStorage<R>> Machine<R, S> {
     #[inline(always)]
     pub fn resume(&mut self, given: Given<R>)
         requires { IsWaitingFor (kind_of_answer (answer_of R.text given)) self.old.status }
-        ensures { Ends self.old (total_after self.old (input_of self.old (answer_of R.text given)))
-            self.new }
+        ensures comes { Comes self.old
+            (total_after self.old (input_of self.old (answer_of R.text given))) self.new }
+        ensures replies { HasReply self.new.status }
     {
         self.take(given);
         if self.is_running() {

@@ -3,14 +3,14 @@ ghost use Rattle.dwarf_base.specs.Reads.{IsLeftOf};
 ghost use Rattle.dwarf_meaning.specs.Acts.{RequestAct, Branches, Locates, Pushes, FaultAct, binary, push, unary};
 ghost use Rattle.dwarf_meaning.specs.Operations as meaning;
 ghost use Rattle.dwarf_meaning.specs.Rest.{Running, FaultStatus};
-ghost use Rattle.dwarf_meaning.specs.Stores.{Plain, address_bits, push_value, push_values};
+ghost use Rattle.dwarf_meaning.specs.Stores.{Plain, address_bits, push_values};
 ghost use Rattle.dwarf_base.specs.declared.errors.Error.TheVariants.{NotEnoughStackItems, UnsupportedEvaluation};
 ghost use Rattle.dwarf_value.specs.Values.{add_of, from_u64_of, to_u64_of, type_of};
 ghost use Rattle.dwarf_meaning.specs.Inputs.{with_status};
 ghost use Rattle.dwarf_machine.specs.Machine.{request_of, waiting_of};
 ghost use Rattle.dwarf_op.specs.Views.{location_of};
 ghost use Rattle.dwarf_machine.specs.inner.Operators.{unary_of};
-ghost use Rattle.dwarf_machine.specs.inner.Steps.{Performs, PopsNumber, Tried, Tries, act_of, at};
+ghost use Rattle.dwarf_machine.specs.inner.Steps.{Performs, PopsNumber, PushesAllPlain, PushesPlain, Tries, act_of, at};
 
 use crate::binary::BinaryOperator;
 use crate::machine::Machine;
@@ -25,8 +25,7 @@ impl<R: Reader + Copy, S: EvaluationStorage<R>> Machine<R, S> {
     /// Pushes the value of a plain operation.
     #[inline(always)]
     fn push_plain(&mut self, value: Value)
-        ensures { Tried 0 (λ s. push_value self.old.setup value (record s { last = Plain }))
-            self.old self.new }
+        ensures { PushesPlain value self.old self.new }
     {
         self.mark_plain();
         self.push(value);
@@ -47,9 +46,7 @@ impl<R: Reader + Copy, S: EvaluationStorage<R>> Machine<R, S> {
     /// Pushes two values of a plain operation, the second on top.
     #[inline(always)]
     fn push_both(&mut self, first: Value, second: Value)
-        ensures { Tried 1
-            (λ s. push_values self.old.setup (first ∷ second ∷ []) (record s { last = Plain }))
-            self.old self.new }
+        ensures { PushesAllPlain (first ∷ second ∷ []) self.old self.new }
     {
         self.mark_plain();
         self.push_two(first, second);
@@ -58,9 +55,7 @@ impl<R: Reader + Copy, S: EvaluationStorage<R>> Machine<R, S> {
     /// Pushes three values of a plain operation, the third on top.
     #[inline(always)]
     fn push_three(&mut self, first: Value, second: Value, third: Value)
-        ensures { Tried 2
-            (λ s. push_values self.old.setup (first ∷ second ∷ third ∷ [])
-            (record s { last = Plain })) self.old self.new }
+        ensures { PushesAllPlain (first ∷ second ∷ third ∷ []) self.old self.new }
     {
         self.mark_plain();
         if self.push(first) {

@@ -1,12 +1,11 @@
 ghost use Rattle.std.specs.Prelude.{◌≡◌, ◌==◌, ◌<◌, length, true, false};
 ghost use Rattle.dwarf_base.specs.Reads.{IsLeftOf};
-ghost use Rattle.dwarf_meaning.specs.Meaning.{whole as meant_whole, completion_of, finish, finish_value};
+ghost use Rattle.dwarf_meaning.specs.Meaning.{whole as meant_whole, finish, finish_value};
 ghost use Rattle.dwarf_meaning.specs.Rest.{Running, Start};
 ghost use Rattle.dwarf_meaning.specs.Run.{piece_ended_by};
 ghost use Rattle.dwarf_meaning.specs.RunLaws.{waits_of};
-ghost use Rattle.dwarf_meaning.specs.Stores.{push_piece};
 ghost use Rattle.dwarf_op.specs.Views.{operation_of, location_of, piece_of};
-ghost use Rattle.dwarf_machine.specs.inner.Steps.{RunsOn, Closes, Ends, EndsLocated, IsReady, Turns, at, goes_on, is_free, total};
+ghost use Rattle.dwarf_machine.specs.inner.Steps.{Closes, Comes, CompletesWith, EndsLocated, HasReply, IsReady, Turns, at, goes_on, is_free, total};
 
 use crate::machine::Machine;
 use crate::states::{EvaluationState, LastOperation};
@@ -114,10 +113,7 @@ impl<R: Reader + Copy, S: EvaluationStorage<R>> Machine<R, S> {
     /// Ends the run with one more piece.
     fn complete(&mut self, piece: Piece<R>, value: Option<Value>)
         requires { self.old.status ≡ Running }
-        ensures { Closes 1
-            (λ s. completion_of value
-            (push_piece self.old.setup (piece_of R.text R.Offset.number piece) s))
-            self.old self.new }
+        ensures { CompletesWith (piece_of R.text R.Offset.number piece) value self.old self.new }
     {
         if self.push_piece(piece) {
             self.enter(EvaluationState::Complete(value));
@@ -193,7 +189,8 @@ impl<R: Reader + Copy, S: EvaluationStorage<R>> Machine<R, S> {
     #[inline(never)]
     pub(crate) fn run_on(&mut self)
         requires { self.old.status ≡ Running }
-        ensures { Ends self.old (total self.old) self.new }
+        ensures comes { Comes self.old (total self.old) self.new }
+        ensures replies { HasReply self.new.status }
     {
         while self.is_running() {
             self.turn();
@@ -203,7 +200,7 @@ impl<R: Reader + Copy, S: EvaluationStorage<R>> Machine<R, S> {
     /// Begins the run.
     fn begin(&mut self, initial_value: Option<u64>)
         requires { self.old.status ≡ Start initial_value }
-        ensures { RunsOn self.old (total self.old) self.new }
+        ensures { Comes self.old (total self.old) self.new }
     {
         self.enter(EvaluationState::Running);
         if let Some(value) = initial_value {
@@ -214,7 +211,8 @@ impl<R: Reader + Copy, S: EvaluationStorage<R>> Machine<R, S> {
     /// Begins the run, and runs on to a request, to the end, or to a fault, which it keeps.
     pub fn start(&mut self, initial_value: Option<u64>)
         requires { self.old.status ≡ Start initial_value }
-        ensures { Ends self.old (total self.old) self.new }
+        ensures comes { Comes self.old (total self.old) self.new }
+        ensures replies { HasReply self.new.status }
     {
         self.begin(initial_value);
         if self.is_running() {

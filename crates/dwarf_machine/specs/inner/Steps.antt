@@ -10,13 +10,13 @@ use Rattle.dwarf_value.specs.declared.types.Value.TheVariants.{Generic}
 use Rattle.dwarf_value.specs.Values.{to_u64_of}
 use Rattle.dwarf_meaning.specs.Operations.{Operation}
 use Rattle.dwarf_meaning.specs.Operations as operation
-use Rattle.dwarf_meaning.specs.Locations.{Location, sized}
+use Rattle.dwarf_meaning.specs.Locations.{Location, Piece, sized}
 use Rattle.dwarf_meaning.specs.Requests.{Request, Waiting, Answer, Input}
 use Rattle.dwarf_meaning.specs.Acts.{Act, act}
 use Rattle.dwarf_meaning.specs.RunLaws.{waits_of}
-use Rattle.dwarf_meaning.specs.Stores.{address_bits, Store, Last, Pieced, Located, push_piece, push_caller, Next, Goes, RequestNext, FaultNext, done}
+use Rattle.dwarf_meaning.specs.Stores.{address_bits, Store, Last, Plain, Pieced, Located, push_value, push_values, push_piece, push_caller, Next, Goes, RequestNext, FaultNext, done}
 use Rattle.dwarf_meaning.specs.Run.{Position, can_count, counted, read, most}
-use Rattle.dwarf_meaning.specs.Meaning.{Outcome, FaultOutcome, CompleteOutcome}
+use Rattle.dwarf_meaning.specs.Meaning.{Outcome, FaultOutcome, CompleteOutcome, completion_of}
 use Rattle.dwarf_meaning.specs.Rest.{State, Status, Start, Running, RequestStatus, CompleteStatus, FaultStatus, with_refusal}
 pub use Rattle.dwarf_meaning.specs.Rest.{Total, total, total_after}
 use Rattle.dwarf_meaning.specs.Refusals.{Limits, Refusal, MayPick, before_pushes}
@@ -79,6 +79,15 @@ Tries more f old new false = Refused more f old new
 
 abbrev pub Tried : (more : ℕ) → (Store → Result Store Fault) → State → State → Type 0
 Tried more f old new = (done : Bool) × Tries more f old new done
+
+-- the value of a plain operation was pushed, or the state keeps the fault
+abbrev pub PushesPlain : Value → State → State → Type 0
+PushesPlain value old new = Tried 0 (λ s. push_value old.setup value (record s { last = Plain })) old new
+
+-- the same of several values, in order
+abbrev pub PushesAllPlain : List Value → State → State → Type 0
+PushesAllPlain values old new =
+    Tried (length values - 1) (λ s. push_values old.setup values (record s { last = Plain })) old new
 
 -- the top was popped, or there is none
 abbrev pub Pops : Option Value → State → State → Type 0
@@ -218,24 +227,11 @@ ComesBy old totals new _ = Reaches old totals new
 abbrev pub Comes : State → (Refusal → List Input → Total) → State → Type 0
 Comes old totals new = ComesBy old totals new new.status
 
-abbrev pub RunsOnBy : State → (Refusal → List Input → Total) → State → Status → Type 0
-RunsOnBy old totals new Running = Reaches old totals new
-RunsOnBy old totals new (FaultStatus error) = Falls old totals (fault_of error) new
-RunsOnBy old totals new _ = ⊥
-
--- the run begins, or goes on after an answer
-abbrev pub RunsOn : State → (Refusal → List Input → Total) → State → Type 0
-RunsOn old totals new = RunsOnBy old totals new new.status
-
-abbrev pub EndsBy : State → (Refusal → List Input → Total) → State → Status → Type 0
-EndsBy old totals new (RequestStatus request waiting) = Reaches old totals new
-EndsBy old totals new (CompleteStatus value) = Reaches old totals new
-EndsBy old totals new (FaultStatus error) = Falls old totals (fault_of error) new
-EndsBy old totals new _ = ⊥
-
--- the call ends in a request, at the end, or in a fault
-abbrev pub Ends : State → (Refusal → List Input → Total) → State → Type 0
-Ends old totals new = EndsBy old totals new new.status
+-- it waits, is complete, or a fault was met
+abbrev pub HasReply : Status → Type 0
+HasReply Running = ⊥
+HasReply (Start initial_value) = ⊥
+HasReply _ = Unit {0}
 
 -- no location waits
 abbrev pub IsFree : Last → Type 0
@@ -282,6 +278,10 @@ ClosesBy more f old new _ = ⊥
 abbrev pub Closes : ℕ → (Store → Outcome) → State → State → Type 0
 Closes more f old new = ClosesBy more f old new new.status
 
+-- the run is over with this piece more and this value, or the state keeps the fault
+abbrev pub CompletesWith : Piece → Option Value → State → State → Type 0
+CompletesWith piece value old new = Closes 1 (λ s. completion_of value (push_piece old.setup piece s)) old new
+
 abbrev pub effort_by : State → Status → ℕ
 effort_by x Running = 3 * (most - x.store.count) + length x.callers + waits_of x.store.last + 1
 effort_by x _ = 0
@@ -311,12 +311,6 @@ is_free _ = true
 abbrev pub goes_on : State → Bool
 goes_on x = is_running x.status && is_free x.store.last && not (x.place == length x.text.bytes)
 
--- it waits, is complete, or a fault was met
-abbrev pub HasReply : Status → Type 0
-HasReply Running = ⊥
-HasReply (Start initial_value) = ⊥
-HasReply _ = Unit {0}
-
 -- ---- answers
 
 -- a called text runs, and there is one caller more
@@ -335,4 +329,4 @@ TriesToEnter callee old new false = Refused 0 (push_caller old.setup (length old
 
 -- the answer is taken
 abbrev pub Takes : Answer → State → State → Type 0
-Takes answer old new = RunsOn old (total_after old (input_of old answer)) new
+Takes answer old new = Comes old (total_after old (input_of old answer)) new

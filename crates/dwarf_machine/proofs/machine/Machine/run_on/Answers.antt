@@ -1,6 +1,6 @@
 use Rattle.std.proofs.Common.{sym, ◌∙◌}
 use Rattle.dwarf_machine.specs.inner.Steps.{total}
-use Rattle.dwarf_machine.proofs.Reaching.{comes_here, comes_more, comes_end}
+use Rattle.dwarf_machine.proofs.Reaching.{comes_here, comes_more, comes_over}
 use Rattle.dwarf_machine.proofs.machine.Machine.run_on.Goals as goal
 
 pub loop-self-init : goal.loop-self-init
@@ -10,5 +10,5 @@ pub loop-self-preserved : goal.loop-self-preserved
 loop-self-preserved g c =
     comes_more c.args.self.now (total c.args.self.now) c.loop-self.self c.turn.new.self (sym c.is_running.ensures ∙ c.loop-self-test.true) c.loop-self.invariant c.turn.ensures.comes
 
-pub returns : goal.returns
-returns g c = comes_end c.args.self.now (total c.args.self.now) c.loop-self.self (sym c.is_running.ensures ∙ c.loop-self-test.false) c.loop-self.invariant
+pub returns-clause-replies : goal.returns-clause-replies
+returns-clause-replies g c = comes_over c.args.self.now (total c.args.self.now) c.loop-self.self (sym c.is_running.ensures ∙ c.loop-self-test.false) c.loop-self.invariant

@@ -1,12 +1,8 @@
 use Rattle.std.proofs.Common.{sym, subst}
-use Rattle.dwarf_meaning.specs.Rest.{State, total}
+use Rattle.dwarf_meaning.specs.Rest.{State}
 use Rattle.dwarf_eval.specs.Evaluation.{Evaluates, IsAtRestBy, reply_of}
 use Rattle.dwarf_eval.proofs.Following.{start_follows}
-use Rattle.dwarf_machine.proofs.Reaching.{ends_over}
 use Rattle.dwarf_eval.proofs.eval.evaluation.Evaluation.evaluate.Goals as goal
-
-pub reply-requires : goal.reply-requires
-reply-requires g c = ends_over c.self.inside.machine (total c.self.inside.machine) c.start.new.self c.start.ensures
 
 pub returns-in-Start-clause-follows : goal.returns-in-Start-clause-follows
 returns-in-Start-clause-follows g c =
@@ -16,5 +12,5 @@ returns-in-Start-clause-follows g c =
     let new : State = c.start.new.self in
     let starts = sym c.in-Start.ensures in
     let fresh = subst (IsAtRestBy x) starts c.self.invariant in
-    let follows = start_follows x new (reply_of text number c.reply.result) c.in-Start.initial_value starts fresh c.start.ensures c.reply.ensures.reply c.reply.ensures.rests in
+    let follows = start_follows x new (reply_of text number c.reply.result) c.in-Start.initial_value starts fresh c.start.ensures.comes c.reply.ensures.reply c.reply.ensures.rests in
     subst (λ (z : State). Evaluates text number z new c.reply.result z.status) c.self.view_is (subst (Evaluates text number x new c.reply.result) (sym starts) follows)

@@ -3,8 +3,8 @@ use Rattle.dwarf_meaning.specs.Kinds.{kind_of_answer}
 use Rattle.dwarf_meaning.specs.Rest.{State, total_after}
 use Rattle.dwarf_eval.specs.Permits.{IsOpenFor, answer_of}
 use Rattle.dwarf_eval.specs.Evaluation.{IsEndedBy, Resumes, reply_of, input_of}
-use Rattle.dwarf_machine.specs.inner.Steps.{Ends}
-use Rattle.dwarf_eval.proofs.Following.{ends_follow, failed_again, resumed, waits}
+use Rattle.dwarf_machine.specs.inner.Steps.{Comes}
+use Rattle.dwarf_eval.proofs.Following.{comes_follow, failed_again, resumed, waits}
 use Rattle.dwarf_eval.proofs.eval.evaluation.Evaluation.resume.Goals as goal
 use Rattle.dwarf_eval.proofs.eval.evaluation.Evaluation.resume.Goals.{then-not-has_failed, else-not-has_failed}
 
@@ -28,9 +28,9 @@ returns-clause-follows g c =
     let there : Resumes text number input x new c.reply.result x.status =
     elim c.if-not-has_failed.branch [
       | then-not-has_failed w ↦
-          let came = subst (λ (z : State). Ends x (total_after x input) z) (sym (ap (λ z. z.machine) w.self-inside-is)) w.resume.ensures in
+          let came = subst (λ (z : State). Comes x (total_after x input) z) (sym (ap (λ z. z.machine) w.self-inside-is)) w.resume.ensures.comes in
           let now = waits x kind x.status (sym c.has_failed.ensures ∙ w.if-not-has_failed.true) c.self.invariant is_open in
-          resumed text number input x new c.reply.result kind x.status now (ends_follow x (total_after x input) new (reply_of text number c.reply.result) came c.reply.ensures.reply c.reply.ensures.rests)
+          resumed text number input x new c.reply.result kind x.status now (comes_follow x (total_after x input) new (reply_of text number c.reply.result) came c.reply.ensures.reply c.reply.ensures.rests)
       | else-not-has_failed w ↦
           let stays : new ≡ x = ap (λ z. z.machine) w.self-inside-is in
           let ended = subst (λ (z : State). IsEndedBy c.reply.result z.status) stays c.reply.ensures.ends in

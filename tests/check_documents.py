@@ -4,8 +4,8 @@
 - docs/GLOSSARY.md is what `bin/glossary` makes of the comments under `specs/`, and each definition has one.
 - Each name in docs/DEFINITIONS.md is one of `specs/` (a file, a definition, a field, a constructor), a public one of
   `src/` (an item, a field, a variant, a method, a module), or a crate.
-- Each path in README.md, CONTRIBUTING.md, bench/README.md and docs/ leads to a file or folder of the repository; what is
-  built, gimli's files and the web aside.
+- Each path in README.md, CONTRIBUTING.md, bench/README.md and docs/ leads to a file or folder of the repository; what
+  is built, gimli's files and the web aside.
 - Each block of README.md, docs/GUIDE.md and docs/PROOFS.md whose fence names a file is what stands in that file, byte
   for byte. docs/GUIDE.md has the loop over requests and its proof.
 - Each text that a wrong body takes away stands once in the file that it names. The gate tries few of them.

@@ -7,8 +7,8 @@ of parts, each a text or a pair of a text and how often it stands. A row may say
 - `program`: the program's name, the word before its words;
 - `input_times`: how often the input stands, one after another;
 - `input_from`: in place of an input, a `directory`, whose read fails, or a pipe that stays `open` and gives nothing;
-- `output_to`: `full`, a device on which every write fails, or `closed`, a pipe that nobody reads, with the signal of that
-  ignored;
+- `output_to`: `full`, a device on which every write fails, or `closed`, a pipe that nobody reads, with the signal of
+  that ignored;
 - `megabytes`: how much memory the program may have;
 - `output_pattern`: a regular expression for all of the output, in place of it.
 

@@ -238,8 +238,8 @@ fn read_wasm_location<R: Reader + Copy>(bytes: &mut R) -> Result<Operation<R>>
     }
 }
 
-// In a function of its own: what an offset makes is found by a second jump, and with it in line each other operation has
-// more to keep in registers.
+// In a function of its own: what an offset makes is found by a second jump, and with it in line each other operation
+// has more to keep in registers.
 #[inline(never)]
 fn read_offset_operation<R: Reader + Copy>(
     shape: Offset,
@@ -403,10 +403,10 @@ fn read_operands<R: Reader + Copy>(
 impl<R: Reader + Copy> Operation<R> {
     /// Reads the operation at the front of `bytes` (DWARF 5, sections 2.5 and 7.7.1).
     ///
-    /// `UnexpectedEof` if its bytes are cut off, `InvalidExpression` of an unknown opcode, and
-    /// `BadUnsignedLeb128`, `BadSignedLeb128`, `UnsupportedAddressSize`, `UnsupportedOffset`, `UnsupportedRegister` or
-    /// `InvalidPieceSize` of an operand; the first operand that isn't allowed decides. After an error `bytes` is at a suffix of
-    /// what it was.
+    /// `UnexpectedEof` if its bytes are cut off, `InvalidExpression` of an unknown opcode, and `BadUnsignedLeb128`,
+    /// `BadSignedLeb128`, `UnsupportedAddressSize`, `UnsupportedOffset`, `UnsupportedRegister` or `InvalidPieceSize`
+    /// of an operand; the first operand that isn't allowed decides. After an error `bytes` is at a suffix of what it
+    /// was.
     #[tactic(auto, using(dwarf_base::proofs::Suffixes::suffix_trans), unfolding(dwarf_meaning::specs::Decoding::operation_at))]
     #[inline(always)]
     pub fn parse(bytes: &mut R, encoding: Encoding) -> Result<Operation<R>>

@@ -22,7 +22,8 @@ pub(crate) const BAD_STEP: u32 = 67;
 /// The code of a step that isn't allowed where it stands.
 pub(crate) const MISPLACED: u32 = 68;
 
-/// The code of bytes that are in none of the texts. Only an evaluation that is held and is given other texts answers it.
+/// The code of bytes that are in none of the texts. Only an evaluation that is held and is given other texts answers
+/// it.
 pub(crate) const LOST_TEXT: u32 = 69;
 
 /// The code of numbers that say no value, no operation on values or no mask; 70 is a code of the driver in C.

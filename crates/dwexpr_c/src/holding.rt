@@ -52,8 +52,9 @@ pub extern "C" fn dwexpr_evaluation_begin(evaluation: &mut DwexprEvaluation)
     evaluation.fill(unstarted());
 }
 
-/// Starts an evaluation that is held: of the first of the texts, in the steps, from nothing (DWARF 5, sections 2.5 and
-/// 2.6). What it answers and writes is what `dwexpr_evaluate` does, and the evaluation then stands where the steps lead.
+/// Starts an evaluation that is held: of the first of the texts, in the steps, from nothing (DWARF 5, sections 2.5
+/// and 2.6). What it answers and writes is what `dwexpr_evaluate` does, and the evaluation then stands where the
+/// steps lead.
 #[unsafe(no_mangle)]
 pub extern "C" fn dwexpr_evaluation_start(
     evaluation: &mut DwexprEvaluation,
@@ -82,9 +83,9 @@ pub extern "C" fn dwexpr_evaluation_start(
 
 /// Takes one more step of an evaluation that is held, mostly the answer to what it asked (DWARF 5, section 2.5).
 ///
-/// It answers 0, or the code of a fault of the expression or of an argument. `outcome` is written in each case. It shows
-/// what the step answered, a request or completion, and nothing after a setting; `step` is 0. Of the pieces of a complete
-/// evaluation as many are written as there is room for.
+/// It answers 0, or the code of a fault of the expression or of an argument. `outcome` is written in each case. It
+/// shows what the step answered, a request or completion, and nothing after a setting; `step` is 0. Of the pieces of
+/// a complete evaluation as many are written as there is room for.
 #[unsafe(no_mangle)]
 pub extern "C" fn dwexpr_evaluation_resume(
     evaluation: &mut DwexprEvaluation,

@@ -1,7 +1,8 @@
 //! DWARF expressions, decoded and evaluated, for callers in C. `include/dwexpr.h` declares what is exported.
 //!
 //! No call takes memory or calls anything back. `dwexpr_decode`, `dwexpr_evaluate` and the calls on values and types
-//! are given everything and keep nothing; the calls `dwexpr_evaluation_..` keep an evaluation in memory of the caller's.
+//! are given everything and keep nothing; the calls `dwexpr_evaluation_..` keep an evaluation in memory of the
+//! caller's.
 #![tactic(auto)]
 
 mod computing;

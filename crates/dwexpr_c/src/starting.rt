@@ -130,10 +130,10 @@ pub(crate) fn start<'a>(
 
 /// Evaluates an expression, the first of the texts, in the steps, from nothing (DWARF 5, sections 2.5 and 2.6).
 ///
-/// It answers 0, the code of a fault of the expression, 1 to 21, or of an argument, 64 and above. `outcome` is written in
-/// each case, and its `code` is that. If it isn't 0 and not of the encoding, `step` is the index of the step that
-/// ended the evaluation. Else it shows what the last call of the steps answered: a request, or completion with its value
-/// and its pieces, of which as many are written as there is room for.
+/// It answers 0, the code of a fault of the expression, 1 to 21, or of an argument, 64 and above. `outcome` is
+/// written in each case, and its `code` is that. If it isn't 0 and not of the encoding, `step` is the index of the
+/// step that ended the evaluation. Else it shows what the last call of the steps answered: a request, or completion
+/// with its value and its pieces, of which as many are written as there is room for.
 #[unsafe(no_mangle)]
 pub extern "C" fn dwexpr_evaluate(
     texts: &[DwexprText<'_>],

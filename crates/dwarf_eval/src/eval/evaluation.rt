@@ -128,9 +128,9 @@ impl<R: Reader + Copy, S: EvaluationStorage<R>> Evaluation<R, S> {
         }
     }
 
-    /// Stands as a fresh evaluation of another `bytecode`, over the same lists with the same limits. It may be called in any
-    /// status, and after a fault too. Nothing that was set stays set. The lists are emptied and keep their memory, so it
-    /// takes none and gives none back.
+    /// Stands as a fresh evaluation of another `bytecode`, over the same lists with the same limits. It may be called
+    /// in any status, and after a fault too. Nothing that was set stays set. The lists are emptied and keep their
+    /// memory, so it takes none and gives none back.
     ///
     /// The encoding's addresses have from 1 to 8 bytes.
     pub fn restart(&mut self, bytecode: R, encoding: Encoding)
@@ -165,8 +165,8 @@ impl<R: Reader + Copy, S: EvaluationStorage<R>> Evaluation<R, S> {
     }
 
     /// Lets the evaluation start with this value on the stack, as `DW_AT_vtable_elem_location` and
-    /// `DW_AT_data_member_location` want it: the object's address. It may be set once, before the start. Without one the
-    /// stack is empty then, and an expression that takes a value from it is `NotEnoughStackItems`.
+    /// `DW_AT_data_member_location` want it: the object's address. It may be set once, before the start. Without one
+    /// the stack is empty then, and an expression that takes a value from it is `NotEnoughStackItems`.
     pub fn set_initial_value(&mut self, value: u64)
         requires { self.old.status ≡ Start None }
         ensures { self.new ≡ with_status (Start (Some value)) self.old }
@@ -248,8 +248,8 @@ impl<R: Reader + Copy, S: EvaluationStorage<R>> Evaluation<R, S> {
     ///
     /// # Errors
     ///
-    /// `StackFull`, if there is no room for the value; then those of [`evaluate`](Self::evaluate). It may be called after a
-    /// fault too, and gives that fault.
+    /// `StackFull`, if there is no room for the value; then those of [`evaluate`](Self::evaluate). It may be called
+    /// after a fault too, and gives that fault.
     #[inline(always)]
     pub fn resume_with_memory(&mut self, value: Value) -> Result<EvaluationResult<R>>
         requires { IsOpenFor kind.Memory self.old.status }
@@ -263,8 +263,8 @@ impl<R: Reader + Copy, S: EvaluationStorage<R>> Evaluation<R, S> {
     ///
     /// # Errors
     ///
-    /// `StackFull`, if there is no room for the sum; then those of [`evaluate`](Self::evaluate). It may be called after a
-    /// fault too, and gives that fault.
+    /// `StackFull`, if there is no room for the sum; then those of [`evaluate`](Self::evaluate). It may be called
+    /// after a fault too, and gives that fault.
     #[inline(always)]
     pub fn resume_with_register(&mut self, value: Value) -> Result<EvaluationResult<R>>
         requires { IsOpenFor kind.Register self.old.status }
@@ -279,8 +279,8 @@ impl<R: Reader + Copy, S: EvaluationStorage<R>> Evaluation<R, S> {
     ///
     /// # Errors
     ///
-    /// `StackFull`, if there is no room for the value; then those of [`evaluate`](Self::evaluate). It may be called after a
-    /// fault too, and gives that fault.
+    /// `StackFull`, if there is no room for the value; then those of [`evaluate`](Self::evaluate). It may be called
+    /// after a fault too, and gives that fault.
     #[inline(always)]
     pub fn resume_with_wasm_value(&mut self, value: Value) -> Result<EvaluationResult<R>>
         requires { IsOpenFor kind.WasmValue self.old.status }
@@ -294,8 +294,8 @@ impl<R: Reader + Copy, S: EvaluationStorage<R>> Evaluation<R, S> {
     ///
     /// # Errors
     ///
-    /// `StackFull`, if there is no room for the value; then those of [`evaluate`](Self::evaluate). It may be called after a
-    /// fault too, and gives that fault.
+    /// `StackFull`, if there is no room for the value; then those of [`evaluate`](Self::evaluate). It may be called
+    /// after a fault too, and gives that fault.
     #[inline(always)]
     pub fn resume_with_entry_value(&mut self, value: Value) -> Result<EvaluationResult<R>>
         requires { IsOpenFor kind.EntryValue self.old.status }
@@ -309,8 +309,8 @@ impl<R: Reader + Copy, S: EvaluationStorage<R>> Evaluation<R, S> {
     ///
     /// # Errors
     ///
-    /// `StackFull`, if there is no room for the sum; then those of [`evaluate`](Self::evaluate). It may be called after a
-    /// fault too, and gives that fault.
+    /// `StackFull`, if there is no room for the sum; then those of [`evaluate`](Self::evaluate). It may be called
+    /// after a fault too, and gives that fault.
     #[inline(always)]
     pub fn resume_with_frame_base(&mut self, frame_base: u64) -> Result<EvaluationResult<R>>
         requires { IsOpenFor kind.FrameBase self.old.status }
@@ -324,8 +324,8 @@ impl<R: Reader + Copy, S: EvaluationStorage<R>> Evaluation<R, S> {
     ///
     /// # Errors
     ///
-    /// `StackFull`, if there is no room for the value; then those of [`evaluate`](Self::evaluate). It may be called after a
-    /// fault too, and gives that fault.
+    /// `StackFull`, if there is no room for the value; then those of [`evaluate`](Self::evaluate). It may be called
+    /// after a fault too, and gives that fault.
     #[inline(always)]
     pub fn resume_with_tls(&mut self, value: u64) -> Result<EvaluationResult<R>>
         requires { IsOpenFor kind.Tls self.old.status }
@@ -339,8 +339,8 @@ impl<R: Reader + Copy, S: EvaluationStorage<R>> Evaluation<R, S> {
     ///
     /// # Errors
     ///
-    /// `StackFull`, if there is no room for the value; then those of [`evaluate`](Self::evaluate). It may be called after a
-    /// fault too, and gives that fault.
+    /// `StackFull`, if there is no room for the value; then those of [`evaluate`](Self::evaluate). It may be called
+    /// after a fault too, and gives that fault.
     #[inline(always)]
     pub fn resume_with_call_frame_cfa(&mut self, cfa: u64) -> Result<EvaluationResult<R>>
         requires { IsOpenFor kind.CallFrameCfa self.old.status }
@@ -355,8 +355,8 @@ impl<R: Reader + Copy, S: EvaluationStorage<R>> Evaluation<R, S> {
     ///
     /// # Errors
     ///
-    /// `StackFull`, if there is no room for the caller; then those of [`evaluate`](Self::evaluate). It may be called after a
-    /// fault too, and gives that fault.
+    /// `StackFull`, if there is no room for the caller; then those of [`evaluate`](Self::evaluate). It may be called
+    /// after a fault too, and gives that fault.
     #[inline(always)]
     pub fn resume_with_at_location(&mut self, bytes: R) -> Result<EvaluationResult<R>>
         requires { IsOpenFor kind.AtLocation self.old.status }
@@ -370,8 +370,8 @@ impl<R: Reader + Copy, S: EvaluationStorage<R>> Evaluation<R, S> {
     ///
     /// # Errors
     ///
-    /// `StackFull`, if there is no room for the value; then those of [`evaluate`](Self::evaluate). It may be called after a
-    /// fault too, and gives that fault.
+    /// `StackFull`, if there is no room for the value; then those of [`evaluate`](Self::evaluate). It may be called
+    /// after a fault too, and gives that fault.
     #[inline(always)]
     pub fn resume_with_parameter_ref(&mut self, parameter_value: u64) -> Result<EvaluationResult<R>>
         requires { IsOpenFor kind.ParameterRef self.old.status }
@@ -385,8 +385,8 @@ impl<R: Reader + Copy, S: EvaluationStorage<R>> Evaluation<R, S> {
     ///
     /// # Errors
     ///
-    /// `StackFull`, if there is no room for the value; then those of [`evaluate`](Self::evaluate). It may be called after a
-    /// fault too, and gives that fault.
+    /// `StackFull`, if there is no room for the value; then those of [`evaluate`](Self::evaluate). It may be called
+    /// after a fault too, and gives that fault.
     #[inline(always)]
     pub fn resume_with_relocated_address(&mut self, address: u64) -> Result<EvaluationResult<R>>
         requires { IsOpenFor kind.RelocatedAddress self.old.status }
@@ -400,8 +400,8 @@ impl<R: Reader + Copy, S: EvaluationStorage<R>> Evaluation<R, S> {
     ///
     /// # Errors
     ///
-    /// `StackFull`, if there is no room for the value; then those of [`evaluate`](Self::evaluate). It may be called after a
-    /// fault too, and gives that fault.
+    /// `StackFull`, if there is no room for the value; then those of [`evaluate`](Self::evaluate). It may be called
+    /// after a fault too, and gives that fault.
     #[inline(always)]
     pub fn resume_with_indexed_address(&mut self, address: u64) -> Result<EvaluationResult<R>>
         requires { IsOpenFor kind.IndexedAddress self.old.status }
@@ -417,8 +417,8 @@ impl<R: Reader + Copy, S: EvaluationStorage<R>> Evaluation<R, S> {
     ///
     /// `UnexpectedEof` or `UnsupportedTypeOperation`, if a literal's bytes give no value of the type;
     /// `NotEnoughStackItems`, if there is no value to convert; `TypeMismatch`, if a value of another size is to be
-    /// reinterpreted; `StackFull`, if there is no room for the value; then those of [`evaluate`](Self::evaluate). It may
-    /// be called after a fault too, and gives that fault.
+    /// reinterpreted; `StackFull`, if there is no room for the value; then those of [`evaluate`](Self::evaluate). It
+    /// may be called after a fault too, and gives that fault.
     #[inline(always)]
     pub fn resume_with_base_type(&mut self, base_type: ValueType) -> Result<EvaluationResult<R>>
         requires { IsOpenFor kind.BaseType self.old.status }

@@ -1,14 +1,17 @@
 -- The encodings that a caller may name (DWARF 5, section 7.5.1).
-use Rattle.std.specs.Prelude.{Bool, ◌==◌, ◌&&◌, ◌||◌, nat_lt, if◌then◌else◌}
+use Rattle.std.specs.Prelude.{Bool, ◌<◌, ◌≤◌, ◌≡◌, ◌⊎◌, ◌==◌, if◌then◌else◌}
 use Rattle.dwarf_base.specs.declared.common.Encoding.{Encoding}
 use Rattle.dwarf_base.specs.declared.common.Format.TheVariants.{Dwarf32, Dwarf64}
 use Rattle.dwexpr_c.specs.declared.encodings.DwexprEncoding.{DwexprEncoding}
 
--- whether the numbers say an encoding
-abbrev pub is_encoding : DwexprEncoding → Bool
-is_encoding e =
-    nat_lt 0 e.address_size && nat_lt e.address_size 9 && nat_lt 1 e.version && nat_lt e.version 6
-    && (e.offset_size == 4 || e.offset_size == 8) && (e.big_endian == 0 || e.big_endian == 1)
+-- the numbers say an encoding
+pub record IsEncoding (e : DwexprEncoding) : Type 0 where
+  pub some_address : 0 < e.address_size
+  pub address_size : e.address_size ≤ 8
+  pub offset_size : (e.offset_size ≡ 4) ⊎ (e.offset_size ≡ 8)
+  pub big_endian : e.big_endian ≤ 1
+  pub first_version : 2 ≤ e.version
+  pub last_version : e.version ≤ 5
 
 -- the one that they say
 abbrev pub encoding_in : DwexprEncoding → Encoding

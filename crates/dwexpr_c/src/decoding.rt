@@ -1,9 +1,9 @@
-ghost use Rattle.std.specs.Prelude.{◌≡◌, ◌<◌, ◌≤◌, true, false, length, drop, slice_index};
+ghost use Rattle.std.specs.Prelude.{◌≡◌, ◌<◌, ◌≤◌, length, drop, slice_index};
 ghost use Rattle.dwarf_base.specs.ByteOrder.{is_big_of};
 ghost use Rattle.dwarf_meaning.specs.Decoding.{operation_at};
 ghost use Rattle.dwexpr_c.specs.Codes.{bad_encoding_code, bad_offset_code};
 ghost use Rattle.dwexpr_c.specs.Decoded.{Decodes, IsBlockAt, disallowed};
-ghost use Rattle.dwexpr_c.specs.Encodings.{is_encoding, encoding_in, is_big_in};
+ghost use Rattle.dwexpr_c.specs.Encodings.{IsEncoding, encoding_in, is_big_in};
 
 use crate::encodings::{DwexprEncoding, Reading, reading_of};
 use crate::faults::{BAD_ENCODING, BAD_OFFSET, numbers_of};
@@ -40,15 +40,15 @@ pub extern "C" fn dwexpr_decode(
     operation: &mut DwexprOperation,
 ) -> u32
     ensures code { result ≡ operation.new.fault }
-    ensures encoding { is_encoding encoding ≡ false
+    ensures encoding { (IsEncoding encoding → ⊥)
         → operation.new ≡ disallowed offset bad_encoding_code }
-    ensures offset { is_encoding encoding ≡ true → length bytes.now ≤ offset
+    ensures offset { IsEncoding encoding → length bytes.now ≤ offset
         → operation.new ≡ disallowed offset bad_offset_code }
-    ensures decodes { is_encoding encoding ≡ true → offset < length bytes.now
+    ensures decodes { IsEncoding encoding → offset < length bytes.now
         → Decodes offset (slice_index bytes.now offset) (length (drop offset bytes.now))
         (operation_at (encoding_in encoding) 64
         (record { bytes = drop offset bytes.now; is_big = is_big_in encoding })) operation.new }
-    ensures block { is_encoding encoding ≡ true → offset < length bytes.now
+    ensures block { IsEncoding encoding → offset < length bytes.now
         → IsBlockAt bytes.now operation.new
         (operation_at (encoding_in encoding) 64
         (record { bytes = drop offset bytes.now; is_big = is_big_in encoding })) }

@@ -1,6 +1,6 @@
-ghost use Rattle.std.specs.Prelude.{◌≡◌, ◌<◌, ◌≤◌, true, false, IfSome, IfNone, ◌==◌, ◌||◌, if◌then◌else◌};
+ghost use Rattle.std.specs.Prelude.{◌≡◌, ◌<◌, ◌≤◌, ◌⊎◌, IfSome, IfNone, ◌==◌, if◌then◌else◌};
 ghost use Rattle.dwarf_base.specs.ByteOrder.{is_big_of};
-ghost use Rattle.dwexpr_c.specs.Encodings.{is_encoding, encoding_in, is_big_in};
+ghost use Rattle.dwexpr_c.specs.Encodings.{IsEncoding, encoding_in, is_big_in};
 
 use dwarf_base::{Encoding, Format, RunTimeEndian};
 
@@ -27,9 +27,9 @@ pub(crate) struct Reading {
 
 fn format_of(offset_size: u8) -> Option<Format>
     ensures some { IfSome result
-        (λ format. ((offset_size == 4 || offset_size == 8) ≡ true)
+        (λ format. ((offset_size ≡ 4) ⊎ (offset_size ≡ 8))
         × (format ≡ (if offset_size == 8 then Format.Dwarf64 else Format.Dwarf32))) }
-    ensures none { IfNone result ((offset_size == 4 || offset_size == 8) ≡ false) }
+    ensures none { IfNone result (((offset_size ≡ 4) ⊎ (offset_size ≡ 8)) → ⊥) }
 {
     match offset_size {
         4 => Some(Format::Dwarf32),
@@ -41,9 +41,9 @@ fn format_of(offset_size: u8) -> Option<Format>
 /// The byte order of a number.
 pub(crate) fn order_of(big_endian: u8) -> Option<RunTimeEndian>
     ensures some { IfSome result
-        (λ order. ((big_endian == 0 || big_endian == 1) ≡ true)
+        (λ order. (big_endian ≤ 1)
         × (is_big_of order ≡ (big_endian == 1))) }
-    ensures none { IfNone result ((big_endian == 0 || big_endian == 1) ≡ false) }
+    ensures none { IfNone result (1 < big_endian) }
 {
     match big_endian {
         0 => Some(RunTimeEndian::Little),
@@ -55,9 +55,9 @@ pub(crate) fn order_of(big_endian: u8) -> Option<RunTimeEndian>
 /// How bytes are to be read, if the numbers say that.
 pub(crate) fn reading_of(numbers: DwexprEncoding) -> Option<Reading>
     ensures some { IfSome result
-        (λ reading. (is_encoding numbers ≡ true) × (reading.encoding ≡ encoding_in numbers)
+        (λ reading. IsEncoding numbers × (reading.encoding ≡ encoding_in numbers)
         × (is_big_of reading.order ≡ is_big_in numbers)) }
-    ensures none { IfNone result (is_encoding numbers ≡ false) }
+    ensures none { IfNone result (IsEncoding numbers → ⊥) }
     ensures size { IfSome result
         (λ reading. (0 < reading.encoding.address_size) × (reading.encoding.address_size ≤ 8)) }
 {

@@ -1,8 +1,8 @@
 ghost use Rattle.std.specs.Mem.{type_size};
-ghost use Rattle.std.specs.Prelude.{◌≡◌, None, false, true};
+ghost use Rattle.std.specs.Prelude.{◌≡◌, None};
 ghost use Rattle.dwarf_base.specs.ByteOrder.{is_big_of};
 ghost use Rattle.dwexpr_c.specs.Codes.{bad_encoding_code};
-ghost use Rattle.dwexpr_c.specs.Encodings.{is_encoding, encoding_in, is_big_in};
+ghost use Rattle.dwexpr_c.specs.Encodings.{IsEncoding, encoding_in, is_big_in};
 ghost use Rattle.dwexpr_c.specs.Evaluated.{EvaluatesFirst};
 ghost use Rattle.dwexpr_c.specs.Held.{HasCapacities, HasResumed, IsBegun, Resumes, Starts};
 ghost use Rattle.dwexpr_c.specs.Outcomes.{ended_outcome};
@@ -67,13 +67,13 @@ pub extern "C" fn dwexpr_evaluation_start(
     requires { IsBegun evaluation.old.held }
     ensures begun { IsBegun evaluation.new.held }
     ensures code { result ≡ outcome.new.code }
-    ensures encoding { is_encoding encoding ≡ false
+    ensures encoding { (IsEncoding encoding → ⊥)
         → (outcome.new ≡ ended_outcome bad_encoding_code 0 0) × (pieces.new ≡ pieces.old)
         × (evaluation.new.held ≡ evaluation.old.held) }
-    ensures evaluates { is_encoding encoding ≡ true
+    ensures evaluates { IsEncoding encoding
         → EvaluatesFirst (encoding_in encoding) (is_big_in encoding) texts.now steps.now outcome.new
         pieces.old pieces.new }
-    ensures starts { is_encoding encoding ≡ true
+    ensures starts { IsEncoding encoding
         → Starts (encoding_in encoding) (is_big_in encoding) texts.now steps.now evaluation.old.held
         evaluation.new.held outcome.new }
 {

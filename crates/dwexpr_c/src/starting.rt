@@ -1,7 +1,7 @@
-ghost use Rattle.std.specs.Prelude.{◌≡◌, ◌<◌, ◌≤◌, true, false, IfSome};
+ghost use Rattle.std.specs.Prelude.{◌≡◌, ◌<◌, ◌≤◌, IfSome};
 ghost use Rattle.dwarf_base.specs.ByteOrder.{is_big_of};
 ghost use Rattle.dwexpr_c.specs.Codes.{bad_encoding_code};
-ghost use Rattle.dwexpr_c.specs.Encodings.{is_encoding, encoding_in, is_big_in};
+ghost use Rattle.dwexpr_c.specs.Encodings.{IsEncoding, encoding_in, is_big_in};
 ghost use Rattle.dwexpr_c.specs.Evaluated.{EvaluatesGiven, EvaluatesFirst};
 ghost use Rattle.dwexpr_c.specs.Held.{HasCapacities, StandsAfter, StandsAfterFirst};
 ghost use Rattle.dwexpr_c.specs.Outcomes.{ended_outcome};
@@ -112,13 +112,13 @@ pub(crate) fn start<'a>(
 )
     requires { HasCapacities held.old.evaluation }
     ensures capacities { HasCapacities held.new.evaluation }
-    ensures encoding { is_encoding numbers ≡ false
+    ensures encoding { (IsEncoding numbers → ⊥)
         → (outcome.new ≡ ended_outcome bad_encoding_code 0 0) × (places.new ≡ places.old)
         × (held.new ≡ held.old) }
-    ensures evaluates { is_encoding numbers ≡ true
+    ensures evaluates { IsEncoding numbers
         → EvaluatesFirst (encoding_in numbers) (is_big_in numbers) texts.now steps.now outcome.new
         places.old places.new }
-    ensures stands { is_encoding numbers ≡ true
+    ensures stands { IsEncoding numbers
         → StandsAfterFirst (encoding_in numbers) (is_big_in numbers) texts.now steps.now held.old
         held.new outcome.new }
 {
@@ -143,9 +143,9 @@ pub extern "C" fn dwexpr_evaluate(
     pieces: &mut [DwexprPiece],
 ) -> u32
     ensures code { result ≡ outcome.new.code }
-    ensures encoding { is_encoding encoding ≡ false
+    ensures encoding { (IsEncoding encoding → ⊥)
         → (outcome.new ≡ ended_outcome bad_encoding_code 0 0) × (pieces.new ≡ pieces.old) }
-    ensures evaluates { is_encoding encoding ≡ true
+    ensures evaluates { IsEncoding encoding
         → EvaluatesFirst (encoding_in encoding) (is_big_in encoding) texts.now steps.now outcome.new
         pieces.old pieces.new }
 {

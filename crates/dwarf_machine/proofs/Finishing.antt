@@ -1,5 +1,6 @@
 -- The end of a run.
 use Rattle.std.proofs.Common.{ℕ, suc, ◌≡◌, ◌+◌, ◌≤◌, ◌==◌, true, false, List, [], length, Option, Some, None, arith, ap, ◌∙◌, sym, refl, subst}
+use Rattle.std.proofs.lemmas.Bool.Decides.{nat_tests}
 use Rattle.dwarf_base.specs.declared.errors.Error.{Error}
 use Rattle.dwarf_base.specs.declared.errors.Error.TheVariants as error
 use Rattle.dwarf_base.specs.Faults.{fault_of}
@@ -165,14 +166,15 @@ value_none old low new h is =
 
 -- ---- the end of a text
 
-module _ (x : State) (runs : x.status ≡ Running) (end : (x.place == length x.text.bytes) ≡ true) where
+module _ (x : State) (runs : x.status ≡ Running) (end : x.place ≡ length x.text.bytes) where
   end_total : (r : Refusal) (inputs : List Input) → total x r inputs ≡ total_of_course x.store.count x.setup x.callers (only_end (CompleteEnd (with_refusal r x.store) inputs))
   end_total r inputs =
       let s : Store = with_refusal r x.store in
+      let at_end : (x.place == length x.text.bytes) ≡ true = grind (arith, nat_tests, end) in
       total_running r x inputs runs
       ∙ ap (total_of_course x.store.count x.setup x.callers)
       (run_turn x.setup x.text x.place (length x.callers) s inputs
-      ∙ choose_true (x.place == length x.text.bytes) (only_end (CompleteEnd s inputs)) (turn_by (run x.setup) x.setup x.text x.place (length x.callers) s inputs s.last) end)
+      ∙ choose_true (x.place == length x.text.bytes) (only_end (CompleteEnd s inputs)) (turn_by (run x.setup) x.setup x.text x.place (length x.callers) s inputs s.last) at_end)
 
   pub back_turned : (new : State) → GoesBack true x new → Turns x new
   back_turned new h =

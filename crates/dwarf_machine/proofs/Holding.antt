@@ -1,5 +1,5 @@
 -- A location that waits for its piece.
-use Rattle.std.proofs.Common.{ℕ, ◌≡◌, ◌+◌, ◌-◌, ◌==◌, Bool, true, false, List, length, Result, Ok, Err, Option, Some, None, arith, ap, ◌∙◌, sym, refl, subst}
+use Rattle.std.proofs.Common.{ℕ, ◌≡◌, ◌+◌, ◌-◌, ◌<◌, Bool, true, false, List, length, Result, Ok, Err, Option, Some, None, arith, ap, ◌∙◌, sym, refl, subst}
 use Rattle.dwarf_base.specs.declared.errors.Error.{Error}
 use Rattle.dwarf_base.specs.declared.errors.Error.TheVariants as error
 use Rattle.dwarf_base.specs.Faults.{Fault, fault_of}
@@ -35,7 +35,7 @@ pub no_piece : {R O P : Type 0} (text : R → Text) (number : O → ℕ) (op : c
 no_piece text number (variant.Piece size_in_bits bit_offset) other = absurd (other size_in_bits bit_offset refl)
 no_piece text number op other = refl
 
-module _ (x : State) (location : Location) (runs : x.status ≡ Running) (inside : (x.place == length x.text.bytes) ≡ false) (waits : x.store.last ≡ Located location) where
+module _ (x : State) (location : Location) (runs : x.status ≡ Running) (inside : x.place < length x.text.bytes) (waits : x.store.last ≡ Located location) where
   held_total : (r : Refusal) (inputs : List Input) (z : Result (Operation × List ℕ) Fault) → read x.setup x.text x.place ≡ z → total x r inputs ≡ total_of_course x.store.count x.setup x.callers (turn_located (run x.setup) x.setup x.text (length x.callers) location (with_refusal r x.store) inputs z)
   held_total r inputs z e =
       let s : Store = with_refusal r x.store in
@@ -149,7 +149,7 @@ module _ (x : State) (location : Location) (runs : x.status ≡ Running) (inside
 
 -- ---- as the machine does it
 
-module _ (x : State) (location : Location) (runs : x.status ≡ Running) (inside : (x.place == length x.text.bytes) ≡ false) (waits : x.store.last ≡ Located location) (behind new : State) where
+module _ (x : State) (location : Location) (runs : x.status ≡ Running) (inside : x.place < length x.text.bytes) (waits : x.store.last ≡ Located location) (behind new : State) where
   pub hold_unread : (error : Error) → read x.setup x.text x.place ≡ Err (fault_of error) → behind ≡ read_to behind.place x → new ≡ with_status (FaultStatus error) behind → Turns x new
   hold_unread error was moved is = held_unread x location runs inside waits behind.place new error (is ∙ ap (with_status (FaultStatus error)) moved) was
 

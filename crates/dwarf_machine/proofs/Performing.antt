@@ -1,5 +1,5 @@
 -- One operation that is counted, read and done before what is left of a text is one turn of the nested run.
-use Rattle.std.proofs.Common.{ℕ, ◌≡◌, ◌-◌, ◌<◌, ◌≤◌, ◌==◌, ◌&&◌, not, Bool, true, false, List, length, arith, ap, ◌∙◌, sym, refl, subst}
+use Rattle.std.proofs.Common.{ℕ, ◌≡◌, ◌-◌, ◌<◌, ◌≤◌, ◌==◌, ◌&&◌, nat_lt, not, Bool, true, false, List, length, arith, ap, ◌∙◌, sym, refl, subst}
 use Rattle.std.proofs.lemmas.Bool.Decides.{nat_tests}
 use Rattle.dwarf_base.specs.Reads.{IsSuffix}
 use Rattle.dwarf_meaning.specs.Locations.{Location}
@@ -35,20 +35,21 @@ located_on Pieced h = cc
 located_on Pushed h = cc
 located_on Called h = cc
 
-on_parts : (runs free ends : Bool) → runs && free && not ends ≡ true → (runs ≡ true) × (free ≡ true) × (ends ≡ false)
-on_parts true true false h = (refl, refl, refl)
-on_parts true true true h = cc
-on_parts true false ends h = cc
-on_parts false free ends h = cc
+on_parts : (runs free inside : Bool) → runs && free && inside ≡ true → (runs ≡ true) × (free ≡ true) × (inside ≡ true)
+on_parts true true true h = (refl, refl, refl)
+on_parts true true false h = cc
+on_parts true false inside h = cc
+on_parts false free inside h = cc
 
 pub ready_on : (x : State) → goes_on x ≡ true → IsReady x
 ready_on x h =
-    let parts = on_parts (is_running x.status) (is_free x.store.last) (x.place == length x.text.bytes) h in
-    record { runs = running_on x.status parts.0; inside = parts.2; free = free_on x.store.last parts.1 }
+    let parts = on_parts (is_running x.status) (is_free x.store.last) (nat_lt x.place (length x.text.bytes)) h in
+    let inside = parts.2 in
+    record { runs = running_on x.status parts.0; inside = grind (arith, nat_tests, inside); free = free_on x.store.last parts.1 }
 
--- with nothing left it is the end
-pub none_left : (left bytes : List ℕ) → IsSuffix left bytes → (length bytes - length left == length bytes) ≡ (length left == 0)
-none_left left bytes h = let fewer = h.no_longer in grind (arith, nat_tests, fewer)
+-- with something left it isn't the end
+pub some_left : (left bytes : List ℕ) → IsSuffix left bytes → nat_lt (length bytes - length left) (length bytes) ≡ not (length left == 0)
+some_left left bytes h = let fewer = h.no_longer in grind (arith, nat_tests, fewer)
 
 -- ---- the turn
 

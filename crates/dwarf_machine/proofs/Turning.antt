@@ -1,5 +1,6 @@
 -- One operation that is counted is one turn of the nested run.
 use Rattle.std.proofs.Common.{ℕ, ◌≡◌, ◌+◌, ◌-◌, ◌*◌, ◌<◌, true, false, List, length, Result, Ok, Err, arith, ap, ◌∙◌, sym, refl, subst, ◌==◌}
+use Rattle.std.proofs.lemmas.Bool.Decides.{nat_tests}
 use Rattle.dwarf_base.specs.declared.errors.Error.{Error}
 use Rattle.dwarf_base.specs.declared.errors.Error.TheVariants as error
 use Rattle.dwarf_base.specs.Faults.{Fault, fault_of}
@@ -56,13 +57,14 @@ free_turn setup text place depth s inputs Called h = refl
 free_turn setup text place depth s inputs (Located location) h = absurd h
 
 -- what is left inside a text, by its next turn
-pub total_inside : (x : State) (r : Refusal) (inputs : List Input) → x.status ≡ Running → (x.place == length x.text.bytes) ≡ false → total x r inputs ≡ total_of_course x.store.count x.setup x.callers (turn_by (run x.setup) x.setup x.text x.place (length x.callers) (with_refusal r x.store) inputs x.store.last)
+pub total_inside : (x : State) (r : Refusal) (inputs : List Input) → x.status ≡ Running → x.place < length x.text.bytes → total x r inputs ≡ total_of_course x.store.count x.setup x.callers (turn_by (run x.setup) x.setup x.text x.place (length x.callers) (with_refusal r x.store) inputs x.store.last)
 total_inside x r inputs runs inside =
     let s : Store = with_refusal r x.store in
+    let before_end : (x.place == length x.text.bytes) ≡ false = grind (arith, nat_tests, inside) in
     total_running r x inputs runs
     ∙ ap (total_of_course x.store.count x.setup x.callers)
     (run_turn x.setup x.text x.place (length x.callers) s inputs
-    ∙ choose_false (x.place == length x.text.bytes) (only_end (CompleteEnd s inputs)) (turn_by (run x.setup) x.setup x.text x.place (length x.callers) s inputs s.last) inside)
+    ∙ choose_false (x.place == length x.text.bytes) (only_end (CompleteEnd s inputs)) (turn_by (run x.setup) x.setup x.text x.place (length x.callers) s inputs s.last) before_end)
 
 -- a turn that ends in a fault
 pub falls_turns : (x new : State) (error : Error) → x.status ≡ Running → new.status ≡ FaultStatus error → Falls x (total x) (fault_of error) new → Turns x new

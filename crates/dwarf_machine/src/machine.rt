@@ -1,4 +1,4 @@
-ghost use Rattle.std.specs.Prelude.{◌≡◌, ◌==◌, ◌<◌, ◌≤◌, ◌+◌, ◌*◌, ℕ, [], None, Some, Err, map, length, slice_get, false, OnOk, IfOk, IfErr};
+ghost use Rattle.std.specs.Prelude.{◌≡◌, ◌<◌, ◌≤◌, ◌+◌, ◌*◌, ℕ, [], None, Some, Err, map, length, slice_get, false, true, OnOk, IfOk, IfErr};
 ghost use Rattle.dwarf_base.specs.Reads.{IsLeftOf, Reads};
 ghost use Rattle.dwarf_base.specs.Faults.{fault_of};
 ghost use Rattle.dwarf_base.specs.declared.errors.Error.TheVariants.{StackFull, TooManyIterations};
@@ -273,7 +273,8 @@ impl<R: Reader + Copy, S: EvaluationStorage<R>> Machine<R, S> {
     /// Whether the running text is at its end.
     #[inline(always)]
     pub(crate) fn is_at_end(&self) -> bool
-        ensures { result ≡ (self.now.place == length self.now.text.bytes) }
+        ensures ends { result ≡ true → self.now.place ≡ length self.now.text.bytes }
+        ensures inside { result ≡ false → self.now.place < length self.now.text.bytes }
     {
         self.pc.is_empty()
     }

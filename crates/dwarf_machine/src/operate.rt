@@ -3,7 +3,7 @@ ghost use Rattle.dwarf_base.specs.Reads.{IsLeftOf};
 ghost use Rattle.dwarf_meaning.specs.Acts.{RequestAct, Branches, Locates, Pushes, FaultAct, binary, push, unary};
 ghost use Rattle.dwarf_meaning.specs.Operations as meaning;
 ghost use Rattle.dwarf_meaning.specs.Rest.{Running, FaultStatus};
-ghost use Rattle.dwarf_meaning.specs.Stores.{Plain, address_bits, push_values};
+ghost use Rattle.dwarf_meaning.specs.Stores.{address_bits, push_values};
 ghost use Rattle.dwarf_base.specs.declared.errors.Error.TheVariants.{NotEnoughStackItems, UnsupportedEvaluation};
 ghost use Rattle.dwarf_value.specs.Values.{add_of, from_u64_of, to_u64_of, type_of};
 ghost use Rattle.dwarf_meaning.specs.Inputs.{with_status};

@@ -1,4 +1,4 @@
-ghost use Rattle.std.specs.Prelude.{◌≡◌, ◌==◌, ◌<◌, length, true, false};
+ghost use Rattle.std.specs.Prelude.{◌≡◌, ◌<◌, length, false};
 ghost use Rattle.dwarf_base.specs.Reads.{IsLeftOf};
 ghost use Rattle.dwarf_meaning.specs.Meaning.{whole as meant_whole, finish, finish_value};
 ghost use Rattle.dwarf_meaning.specs.Rest.{Running, Start};
@@ -97,7 +97,7 @@ impl<R: Reader + Copy, S: EvaluationStorage<R>> Machine<R, S> {
     #[inline(never)]
     fn hold(&mut self)
         requires runs { self.old.status ≡ Running }
-        requires inside { (self.old.place == length self.old.text.bytes) ≡ false }
+        requires inside { self.old.place < length self.old.text.bytes }
         requires waits { is_free self.old.store.last ≡ false }
         ensures { Turns self.old self.new }
     {
@@ -160,7 +160,7 @@ impl<R: Reader + Copy, S: EvaluationStorage<R>> Machine<R, S> {
     #[inline(never)]
     fn leave(&mut self)
         requires runs { self.old.status ≡ Running }
-        requires ends { (self.old.place == length self.old.text.bytes) ≡ true }
+        requires ends { self.old.place ≡ length self.old.text.bytes }
         ensures { Turns self.old self.new }
     {
         if !self.pop_caller() {

@@ -1,6 +1,6 @@
 -- What the parts of an evaluation do to its state. Contracts of this crate alone cite this file, and private ones above
 -- it.
-use Rattle.std.specs.Prelude.{ℕ, ◌+◌, ◌-◌, ◌*◌, ◌<◌, ◌≤◌, ◌≡◌, ◌==◌, ◌&&◌, not, Bool, true, false, List, [], ◌∷◌, Option, Some, None, Result, Ok, Err, length}
+use Rattle.std.specs.Prelude.{ℕ, ◌+◌, ◌-◌, ◌*◌, ◌<◌, ◌≤◌, ◌≡◌, ◌&&◌, nat_lt, Bool, true, false, List, [], ◌∷◌, Option, Some, None, Result, Ok, Err, length}
 use Rattle.dwarf_base.specs.declared.errors.Error.{Error}
 use Rattle.dwarf_base.specs.declared.errors.Error.TheVariants.{BadBranchTarget, InvalidExpressionTerminator, TooManyIterations}
 use Rattle.dwarf_base.specs.Faults.{Fault, fault_of}
@@ -241,7 +241,7 @@ IsFree _ = Unit {0}
 -- about to do one more operation that is counted
 pub record IsReady (x : State) : Type 0 where
   pub runs : x.status ≡ Running
-  pub inside : (x.place == length x.text.bytes) ≡ false
+  pub inside : x.place < length x.text.bytes
   pub free : IsFree x.store.last
 
 -- back in the innermost caller, if there is one
@@ -309,7 +309,7 @@ is_free _ = true
 
 -- whether one more operation is counted next
 abbrev pub goes_on : State → Bool
-goes_on x = is_running x.status && is_free x.store.last && not (x.place == length x.text.bytes)
+goes_on x = is_running x.status && is_free x.store.last && nat_lt x.place (length x.text.bytes)
 
 -- ---- answers
 

@@ -5,6 +5,6 @@ use Rattle.dwarf_machine.proofs.machine.Machine.turn.Goals as goal
 pub run_operations-requires : goal.run_operations-requires
 run_operations-requires g c = record {
   runs = c.requires;
-  inside = sym c.is_at_end.ensures ∙ c.if-is_at_end.false;
+  inside = c.is_at_end.ensures.inside c.if-is_at_end.false;
   free = free_on c.args.self.now.store.last (sym c.is_free.ensures ∙ c.if-is_free.true);
 }

@@ -137,3 +137,10 @@ module _ (setup : Setup) (refusal : Refusal) (text : Text) where
   replies_of told (step ∷ steps) =
       let told_now = after_step told step
       in step_replies step (outcome_of setup refusal text told_now) ++ replies_of told_now steps
+
+-- With this refusal each step is allowed when it comes, the replies are theirs, and this is what is told after them.
+pub record AreDone (setup : Setup) (refusal : Refusal) (text : Text) (told : Told) (steps : List Step)
+    (given : List Reply) (now : Told) : Type 0 where
+  pub allowed : AllAllowed setup refusal text told steps
+  pub replies_are : given ≡ replies_of setup refusal text told steps
+  pub told_is : after_steps setup refusal text told steps ≡ now

@@ -8,7 +8,7 @@ use Rattle.dwarf_meaning.specs.Run.{Position}
 use Rattle.dwarf_meaning.specs.Meaning.{Outcome, RequestOutcome, FaultOutcome, CompleteOutcome}
 use Rattle.dwarf_meaning.specs.Rest.{State, Status, Start, Running, RequestStatus, CompleteStatus, FaultStatus, total}
 use Rattle.dwarf_meaning.specs.Steps as meaning
-use Rattle.dwarf_meaning.specs.Steps.{Told, Reply, Allows, AllAllowed, replies_of, after_steps, outcome_of, outcome_from}
+use Rattle.dwarf_meaning.specs.Steps.{Told, Reply, Allows, AreDone, replies_of, outcome_of, outcome_from}
 use Rattle.dwarf_meaning.specs.Bounds.{initial_items, SpendsInAll}
 use Rattle.dwarf_eval.specs.Evaluation.{first_of, reply_of}
 use Rattle.dwarf_machine.specs.Lists.{MayRefuse}
@@ -59,12 +59,9 @@ StandsAt told x (Some (RequestOutcome request positions)) = IsInRequest request 
 StandsAt told x (Some (FaultOutcome fault)) = IsInFault fault x.status
 StandsAt told x (Some (CompleteOutcome pieces value)) = (x.status ≡ CompleteStatus value) × (x.store.pieces ≡ pieces)
 
--- With this refusal each step is allowed when it comes, the replies are theirs, and this is what they told.
-pub record Tells (old : State) (steps : List meaning.Step) (replies : List Reply) (told : Told)
-    (refusal : Refusal) : Type 0 where
-  pub allowed : AllAllowed old.setup refusal old.text (told_at old) steps
-  pub replies_are : replies ≡ replies_of old.setup refusal old.text (told_at old) steps
-  pub told_is : after_steps old.setup refusal old.text (told_at old) steps ≡ told
+-- the steps are done from a state on, with this refusal
+abbrev pub Tells : State → List meaning.Step → List Reply → Told → Refusal → Type 0
+Tells old steps replies told refusal = AreDone old.setup refusal old.text (told_at old) steps replies told
 
 -- ---- what is left, for a caller who goes on
 

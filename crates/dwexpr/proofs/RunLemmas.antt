@@ -54,18 +54,21 @@ pub evaluates_to : {R O P : Type 0} (text : R → Text) (number : O → ℕ) (li
     → EvaluatesSteps old.setup old.text (told_at old) (steps_of text steps) (behind_replies (replies_in text number given) (ending_of new ended))
 evaluates_to text number limit old new steps given replayed.Done w = inl (record {
   refusal = w.refusal;
-  allowed = w.tells.allowed;
-  ending_is = ap (λ z. behind_replies z (standing new new.status)) w.tells.replies_are
-      ∙ ap (behind_replies _) (stands_ending w.told new _ w.stands ∙ ap (λ told. outcome_ending (outcome_of old.setup w.refusal old.text told)) (sym w.tells.told_is));
+  replies = replies_in text number given;
+  now = w.told;
+  done = w.tells;
+  ending_is = ap (behind_replies _) (stands_ending w.told new _ w.stands);
 })
 evaluates_to text number limit old new steps given (replayed.Misplaced index) w = inr (inl (record {
   refusal = w.walks.refusal;
   index = index;
-  allowed = w.walks.tells.allowed;
+  replies = replies_in text number given;
+  now = w.walks.told;
+  done = w.walks.tells;
   step = w.step;
   is_next = w.is_next;
-  not_allowed = subst (λ told. Allows told (outcome_of old.setup w.walks.refusal old.text told) w.step → ⊥) (sym w.walks.tells.told_is) w.misplaced;
-  ending_is = ap (λ z. behind_replies z (misplaced index)) w.walks.tells.replies_are;
+  not_allowed = w.misplaced;
+  ending_is = refl;
 }))
 evaluates_to text number limit old new steps given (replayed.NoRoom index answer) w = inr (inr (record {
   refusal = w.walks.refusal;

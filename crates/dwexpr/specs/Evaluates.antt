@@ -4,7 +4,7 @@ use Rattle.dwarf_base.specs.declared.common.Encoding.{Encoding}
 use Rattle.dwarf_base.specs.Reads.{Text}
 use Rattle.dwarf_meaning.specs.Stores.{Setup}
 use Rattle.dwarf_meaning.specs.Meaning.{Outcome, RequestOutcome, FaultOutcome, CompleteOutcome}
-use Rattle.dwarf_meaning.specs.Steps.{Step, Told, Reply, Allows, AllAllowed, replies_of, after_steps, outcome_of, untold}
+use Rattle.dwarf_meaning.specs.Steps.{Step, Told, Reply, Allows, AllAllowed, AreDone, replies_of, outcome_of, untold}
 use Rattle.dwarf_meaning.specs.Refusals.{Refusal}
 use Rattle.dwexpr_text.specs.Lines.{reply_lines}
 use Rattle.dwexpr.specs.declared.steps.StepsFault.{StepsFault}
@@ -29,24 +29,26 @@ outcome_ending (Some (CompleteOutcome pieces value)) = complete_ending pieces va
 abbrev pub behind_replies : List Reply → Ending → Ending
 behind_replies replies ending = record ending { text = reply_lines replies ++ ending.text }
 
--- each step was allowed when it came, for some push that memory was refused to, or for none
+-- each step was done, for some push that memory was refused to, or for none
 pub record AllDone (setup : Setup) (text : Text) (told : Told) (steps : List Step) (ending : Ending) : Type 0 where
   pub refusal : Refusal
-  pub allowed : AllAllowed setup refusal text told steps
-  pub ending_is : ending ≡ behind_replies (replies_of setup refusal text told steps)
-      (outcome_ending (outcome_of setup refusal text (after_steps setup refusal text told steps)))
+  pub replies : List Reply
+  pub now : Told
+  pub done : AreDone setup refusal text told steps replies now
+  pub ending_is : ending ≡ behind_replies replies (outcome_ending (outcome_of setup refusal text now))
 
 -- the steps before one were done, and that one isn't allowed
 pub record EndsMisplaced (setup : Setup) (text : Text) (told : Told) (steps : List Step) (ending : Ending)
     : Type 0 where
   pub refusal : Refusal
   pub index : ℕ
-  pub allowed : AllAllowed setup refusal text told (take index steps)
+  pub replies : List Reply
+  pub now : Told
+  pub done : AreDone setup refusal text told (take index steps) replies now
   pub step : Step
   pub is_next : slice_get steps index ≡ Some step
-  pub not_allowed : Allows (after_steps setup refusal text told (take index steps))
-      (outcome_of setup refusal text (after_steps setup refusal text told (take index steps))) step → ⊥
-  pub ending_is : ending ≡ behind_replies (replies_of setup refusal text told (take index steps)) (misplaced index)
+  pub not_allowed : Allows now (outcome_of setup refusal text now) step → ⊥
+  pub ending_is : ending ≡ behind_replies replies (misplaced index)
 
 -- the steps up to one were done, and there was no memory for its reply
 pub record EndsWithoutMemory (setup : Setup) (text : Text) (told : Told) (steps : List Step) (ending : Ending)

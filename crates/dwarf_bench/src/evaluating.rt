@@ -10,7 +10,7 @@ use arrayvec::ArrayVec;
 use dwarf_base::{Encoding, EndianSlice, Format, Reader, Result, RunTimeEndian};
 use dwarf_eval::eval::{Evaluation, Status};
 use dwarf_eval::op::{EvaluationResult, Piece};
-use dwarf_machine::store::{EvaluationStorage, StoreOnHeap};
+use dwarf_eval::store::{EvaluationStorage, StoreOnHeap};
 use dwarf_value::{Value, ValueType};
 use std::alloc::Global;
 

@@ -15,10 +15,10 @@ use Rattle.dwarf_eval.specs.Evaluation.{Follows, IsAtRest, IsAtRestBy, IsEndedBy
 use Rattle.dwarf_eval.specs.Permits.{IsOpenFor, IsWaitingFor}
 use Rattle.dwarf_eval.specs.declared.op.results.EvaluationResult.{EvaluationResult}
 use Rattle.dwarf_meaning.specs.declared.kinds.WaitingKind.{WaitingKind}
-use Rattle.dwarf_machine.specs.inner.Steps.{has_failed, Reaches, Falls, ComesBy, Comes}
-use Rattle.dwarf_machine.proofs.Refusals.{before_never, before_later}
-use Rattle.dwarf_machine.proofs.Totals.{started_total, course_open, total_start}
-pub use Rattle.dwarf_machine.proofs.Totals.{total_open, total_complete}
+use Rattle.dwarf_eval.specs.inner.Steps.{has_failed, Reaches, Falls, ComesBy, Comes}
+use Rattle.dwarf_eval.proofs.Refusals.{before_never, before_later}
+use Rattle.dwarf_eval.proofs.Totals.{started_total, course_open, total_start}
+pub use Rattle.dwarf_eval.proofs.Totals.{total_open, total_complete}
 
 told_by : (r : Refusal) (x : State) (told : Reply) (status : Status) → IsReplied told status → told ≡ reply (total_by x (with_refusal r x.store) [] status).outcome
 told_by r x told (RequestStatus request waiting) h =

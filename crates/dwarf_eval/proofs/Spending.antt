@@ -1,14 +1,28 @@
--- What is spent by calls in a row.
-use Rattle.std.proofs.Common.{ℕ, ◌≡◌, ◌+◌, length, Option, Some, None, arith, ap, refl}
-use Rattle.dwarf_meaning.specs.Rest.{State, Start}
-use Rattle.dwarf_meaning.specs.Bounds.{piece_due, initial_due, answer_due, endings, located, faults_in, DecodesOnce, Spends, SpendsInAll}
+-- What is spent from one state to the next.
+use Rattle.std.proofs.Common.{ℕ, suc, ◌≡◌, ◌+◌, ◌*◌, ◌≤◌, length, Option, arith, ap}
+use Rattle.dwarf_base.specs.declared.errors.Error.{Error}
+use Rattle.dwarf_value.specs.declared.types.Value.{Value}
+use Rattle.dwarf_meaning.specs.Requests.{Request, Waiting}
+use Rattle.dwarf_meaning.specs.RunLaws.{waits_of}
+use Rattle.dwarf_meaning.specs.Stores.{Last, Nothing, Plain, Pieced, Pushed, Called, Located}
+use Rattle.dwarf_meaning.specs.Rest.{State, Start, Running, RequestStatus, CompleteStatus, FaultStatus}
+use Rattle.dwarf_meaning.specs.Bounds.{piece_due, initial_due, answer_due, endings, located, faults_in, DecodesOnce, Spends}
+use Rattle.dwarf_eval.proofs.Endings.{located_waits}
+use Rattle.dwarf_eval.proofs.Loads.{kept_in}
 
-pub spent_here : (x : State) → SpendsInAll 0 x x
-spent_here x = record { items = omega arith; callers = omega arith; decodings = omega arith; once = λ d. d }
+pub waits_little : (last : Last) → waits_of last ≤ 1
+waits_little Nothing = omega arith
+waits_little Plain = omega arith
+waits_little Pieced = omega arith
+waits_little Pushed = omega arith
+waits_little Called = omega arith
+waits_little (Located location) = omega arith
 
--- one call more
-pub spent_more : (more : ℕ) (a b c : State) → SpendsInAll more a b → Spends b c → SpendsInAll more a c
-spent_more more a b c h i =
+pub spends_here : (x : State) → Spends x x
+spends_here x = record { items = omega arith; callers = omega arith; decodings = omega arith; once = λ d. d }
+
+pub spends_more : (a b c : State) → Spends a b → Spends b c → Spends a c
+spends_more a b c h i =
     let items = h.items in
     let items_then = i.items in
     let callers = h.callers in
@@ -17,44 +31,145 @@ spent_more more a b c h i =
     let decodings_then = i.decodings in
     record { items = omega (arith, items, items_then); callers = omega (arith, callers, callers_then); decodings = omega (arith, decodings, decodings_then); once = λ d. i.once (h.once d) }
 
--- a state with the same pieces, status and counts
-once_alike : (old new : State) → faults_in new.status ≡ faults_in old.status → new.store.pieces ≡ old.store.pieces → new.store.count ≡ old.store.count → new.decodings ≡ old.decodings → piece_due new.store.last new.status ≡ piece_due old.store.last old.status → new.store.last ≡ old.store.last → DecodesOnce old → DecodesOnce new
-once_alike old new faults pieces count decodings due last d =
+-- this many operations more were counted and pieces ended, and this many decoded, from where no fault was met
+once_by : (old new : State) → faults_in old.status ≡ 0 → new.decodings + old.store.count + endings old.store.pieces ≡ old.decodings + new.store.count + endings new.store.pieces → piece_due new.store.last new.status ≤ located new.store.last → DecodesOnce old → DecodesOnce new
+once_by old new sound same waits d =
     let each = d.each in
     let no_other = d.no_other in
-    let waits = d.waits in
+    record { each = omega (arith, each, same); no_other = omega (arith, no_other, same, sound); waits = waits }
+
+module _ (old new : State) where
+  -- an operation that was counted and read, and what it does with what is kept
+  pub counted_spends : old.status ≡ Running → new.status ≡ Running → length new.callers ≡ length old.callers → new.store.count ≡ old.store.count + 1 → new.decodings ≡ old.decodings + 1 → kept_in new.store ≤ kept_in old.store + 1 → endings new.store.pieces ≡ endings old.store.pieces → waits_of new.store.last ≤ located new.store.last → Spends old new
+  counted_spends was is callers count decodings kept ended waits =
+      let p = ap (piece_due old.store.last) was in
+      let i = ap initial_due was in
+      let a = ap answer_due was in
+      let q = ap (piece_due new.store.last) is in
+      let j = ap initial_due is in
+      let b = ap answer_due is in
+      let little = waits_little new.store.last in
+      record { items = omega (arith, p, i, a, q, j, b, callers, count, kept); callers = omega (arith, a, b, callers, count); decodings = omega (arith, p, q, count, decodings, little); once = once_by old new (ap faults_in was) (omega (arith, count, decodings, ended)) (omega (arith, q, waits)) }
+
+  pub asked_spends : (request : Request) (waiting : Waiting) → old.status ≡ Running → new.status ≡ RequestStatus request waiting → length new.callers ≡ length old.callers → new.store.count ≡ old.store.count + 1 → new.decodings ≡ old.decodings + 1 → kept_in new.store ≤ kept_in old.store → endings new.store.pieces ≡ endings old.store.pieces → waits_of new.store.last ≤ located new.store.last → Spends old new
+  asked_spends request waiting was is callers count decodings kept ended waits =
+      let p = ap (piece_due old.store.last) was in
+      let i = ap initial_due was in
+      let a = ap answer_due was in
+      let q = ap (piece_due new.store.last) is in
+      let j = ap initial_due is in
+      let b = ap answer_due is in
+      let little = waits_little new.store.last in
+      record { items = omega (arith, p, i, a, q, j, b, callers, count, kept); callers = omega (arith, a, b, callers, count); decodings = omega (arith, p, q, count, decodings, little); once = once_by old new (ap faults_in was) (omega (arith, count, decodings, ended)) (omega (arith, q, waits)) }
+
+  -- the piece after a location: it isn't counted
+  pub held_spends : old.status ≡ Running → new.status ≡ Running → length new.callers ≡ length old.callers → new.store.count ≡ old.store.count → new.decodings ≡ old.decodings + 1 → waits_of old.store.last ≡ 1 → waits_of new.store.last ≡ 0 → kept_in new.store ≡ kept_in old.store → endings new.store.pieces ≡ endings old.store.pieces + located old.store.last → Spends old new
+  held_spends was is callers count decodings waited waits kept ended =
+      let p = ap (piece_due old.store.last) was in
+      let i = ap initial_due was in
+      let a = ap answer_due was in
+      let q = ap (piece_due new.store.last) is in
+      let j = ap initial_due is in
+      let b = ap answer_due is in
+      record {
+        items = omega (arith, p, i, a, q, j, b, callers, count, kept);
+        callers = omega (arith, a, b, callers, count);
+        decodings = omega (arith, p, q, count, decodings, waited, waits);
+        once = λ d.
+            let given = d.waits in
+            let one = located_waits old.store.last in
+            once_by old new (ap faults_in was) (omega (arith, count, decodings, ended, waited, p, given, one)) (omega (arith, q, waits)) d;
+      }
+
+  -- back in the caller
+  pub back_spends : old.status ≡ Running → new.status ≡ Running → length old.callers ≡ suc (length new.callers) → new.store ≡ old.store → new.decodings ≡ old.decodings → Spends old new
+  back_spends was is callers store decodings =
+      let p = ap (piece_due old.store.last) was in
+      let i = ap initial_due was in
+      let a = ap answer_due was in
+      let q = ap (piece_due new.store.last) is in
+      let j = ap initial_due is in
+      let b = ap answer_due is in
+      let kept = ap kept_in store in
+      let count = ap (λ (s : _). s.count) store in
+      let waits = ap (λ (s : _). waits_of s.last) store in
+      let ended = ap (λ (s : _). endings s.pieces) store in
+      let gave = ap (λ (s : _). located s.last) store in
+      record {
+        items = omega (arith, p, i, a, q, j, b, callers, count, kept);
+        callers = omega (arith, a, b, callers, count);
+        decodings = omega (arith, p, q, count, decodings, waits);
+        once = λ d.
+            let given = d.waits in
+            once_by old new (ap faults_in was) (omega (arith, count, decodings, ended)) (omega (arith, p, q, waits, gave, given)) d;
+      }
+
+  -- the end
+  pub over_spends : (value : Option Value) → old.status ≡ Running → new.status ≡ CompleteStatus value → length new.callers ≡ length old.callers → new.store.count ≡ old.store.count → new.decodings ≡ old.decodings → length new.store.values + length new.store.pieces ≤ length old.store.values + length old.store.pieces + waits_of old.store.last → endings new.store.pieces ≡ endings old.store.pieces → Spends old new
+  over_spends value was is callers count decodings kept ended =
+      let p = ap (piece_due old.store.last) was in
+      let i = ap initial_due was in
+      let a = ap answer_due was in
+      let q = ap (piece_due new.store.last) is in
+      let j = ap initial_due is in
+      let b = ap answer_due is in
+      record { items = omega (arith, p, i, a, q, j, b, callers, count, kept); callers = omega (arith, a, b, callers, count); decodings = omega (arith, p, q, count, decodings); once = once_by old new (ap faults_in was) (omega (arith, count, decodings, ended)) (omega (arith, q)) }
+
+  -- the beginning, with a value that is pushed or with none
+  pub begun_spends : (initial_value : Option ℕ) → old.status ≡ Start initial_value → new.status ≡ Running → length new.callers ≡ length old.callers → new.store.count ≡ old.store.count → new.decodings ≡ old.decodings → new.store.last ≡ old.store.last → kept_in new.store ≤ kept_in old.store + initial_due (Start initial_value) → new.store.pieces ≡ old.store.pieces → Spends old new
+  begun_spends initial_value was is callers count decodings last kept pieces =
+      let waits = ap waits_of last in
+      let gave = ap located last in
+      let ended = ap endings pieces in
+      let p = ap (piece_due old.store.last) was in
+      let i = ap initial_due was in
+      let a = ap answer_due was in
+      let q = ap (piece_due new.store.last) is in
+      let j = ap initial_due is in
+      let b = ap answer_due is in
+      record {
+        items = omega (arith, p, i, a, q, j, b, callers, count, kept);
+        callers = omega (arith, a, b, callers, count);
+        decodings = omega (arith, p, q, count, decodings, waits);
+        once = λ d.
+            let given = d.waits in
+            once_by old new (ap faults_in was) (omega (arith, count, decodings, ended)) (omega (arith, p, q, waits, gave, given)) d;
+      }
+
+  -- an answer: a value more at most, or a caller more at most
+  pub answered_spends : (request : Request) (waiting : Waiting) → old.status ≡ RequestStatus request waiting → new.status ≡ Running → length new.callers ≤ length old.callers + 1 → length new.callers + kept_in new.store ≤ length old.callers + kept_in old.store + 1 → new.store.count ≡ old.store.count → new.decodings ≡ old.decodings → waits_of new.store.last ≤ waits_of old.store.last → new.store.pieces ≡ old.store.pieces → (waits_of old.store.last ≤ located old.store.last → waits_of new.store.last ≤ located new.store.last) → Spends old new
+  answered_spends request waiting was is callers kept count decodings waits pieces gives =
+      let ended = ap endings pieces in
+      let p = ap (piece_due old.store.last) was in
+      let i = ap initial_due was in
+      let a = ap answer_due was in
+      let q = ap (piece_due new.store.last) is in
+      let j = ap initial_due is in
+      let b = ap answer_due is in
+      record {
+        items = omega (arith, p, i, a, q, j, b, kept, count);
+        callers = omega (arith, a, b, callers, count);
+        decodings = omega (arith, p, q, count, decodings, waits);
+        once = λ d.
+            let given = d.waits in
+            let still = gives (omega (arith, p, given)) in
+            once_by old new (ap faults_in was) (omega (arith, count, decodings, ended)) (omega (arith, q, still)) d;
+      }
+
+-- a fault: no more items and callers are there than before, and each operation that was counted was decoded, and one more at most
+pub fallen_spends : (old new : State) (error : Error) → faults_in old.status ≡ 0 → new.status ≡ FaultStatus error → length new.callers ≤ length old.callers → old.store.count ≤ new.store.count → length new.store.values + length new.store.pieces ≤ length old.store.values + length old.store.pieces → new.decodings + 2 * old.store.count ≤ old.decodings + piece_due old.store.last old.status + 2 * new.store.count → new.store.pieces ≡ old.store.pieces → old.decodings + new.store.count ≤ new.decodings + old.store.count → new.decodings + old.store.count ≤ old.decodings + new.store.count + 1 → Spends old new
+fallen_spends old new error sound is callers count lists decodings pieces each one =
+    let q = ap (piece_due new.store.last) is in
+    let j = ap initial_due is in
+    let b = ap answer_due is in
     let ended = ap endings pieces in
-    let gave = ap located last in
-    record { each = omega (arith, each, ended, count, decodings); no_other = omega (arith, no_other, ended, count, decodings, faults); waits = omega (arith, waits, due, gave) }
-
--- an initial value
-pub spent_initial : (number : ℕ) (a b c : State) → b.status ≡ Start None → c ≡ record b { status = Start (Some number) } → SpendsInAll 0 a b → SpendsInAll 1 a c
-spent_initial number a b c was is h =
-    let items = h.items in
-    let callers = h.callers in
-    let decodings = h.decodings in
-    let p = ap (piece_due b.store.last) was in
-    let i = ap initial_due was in
-    let d = ap answer_due was in
-    let positions = ap (λ (z : State). length z.callers) is in
-    let count = ap (λ (z : State). z.store.count) is in
-    let q = ap (λ (z : State). piece_due z.store.last z.status) is in
-    let j = ap (λ (z : State). initial_due z.status) is in
-    let e = ap (λ (z : State). answer_due z.status) is in
-    let read = ap (λ (z : State). z.decodings) is in
-    let lists = ap (λ (z : State). length z.store.values + length z.callers + length z.store.pieces) is in
+    let met = ap faults_in is in
     record {
-      items = omega (arith, items, p, i, d, lists, count, q, j, e);
-      callers = omega (arith, callers, d, e, positions, count);
-      decodings = omega (arith, decodings, p, q, read, count);
-      once = λ was_once.
-          let met = ap faults_in was in
-          let meets = ap (λ (z : State). faults_in z.status) is in
-          let pieces = ap (λ (z : State). z.store.pieces) is in
-          let last = ap (λ (z : State). z.store.last) is in
-          once_alike b c (omega (arith, met, meets)) pieces count read (omega (arith, p, q)) last (h.once was_once);
+      items = omega (arith, q, j, b, callers, count, lists);
+      callers = omega (arith, b, callers, count);
+      decodings = omega (arith, q, decodings);
+      once = λ d.
+          let was_each = d.each in
+          let was_no_other = d.no_other in
+          record { each = omega (arith, was_each, each, ended); no_other = omega (arith, was_no_other, one, ended, sound, met); waits = omega (arith, q) };
     }
-
--- the settings
-pub setting_spends : (object : Option ℕ) (maximum : ℕ) (x : State) → Spends x (record x { store = record x.store { object_address = object; maximum = maximum } })
-setting_spends object maximum x = record { items = omega arith; callers = omega arith; decodings = omega arith; once = once_alike x (record x { store = record x.store { object_address = object; maximum = maximum } }) refl refl refl refl refl refl }

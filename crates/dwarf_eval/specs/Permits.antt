@@ -1,5 +1,5 @@
 -- What resumes are given, and where an evaluation stands as its caller sees it.
-pub use Rattle.dwarf_machine.specs.Answers.{answer_of, IsWaitingFor, IsWaitingTo}
+pub use Rattle.dwarf_eval.specs.Answers.{answer_of, IsWaitingFor, IsWaitingTo}
 use Rattle.std.specs.Prelude.{ℕ, ◌≡◌, ◌<◌, Bool, true, false, [], None, Result, IfOk, is_some}
 use Rattle.dwarf_base.specs.declared.errors.Error.{Error}
 use Rattle.dwarf_base.specs.Reads.{Text}

@@ -4,3 +4,5 @@
 mod equality;
 pub mod eval;
 pub mod op;
+mod run;
+pub mod store;

@@ -6,7 +6,7 @@ use crate::operations::SMALL;
 use dwarf_base::{EndianSlice, Error, LittleEndian, Reader, Result};
 use dwarf_eval::eval::{Evaluation, Status, WaitingKind};
 use dwarf_eval::op::{EvaluationResult, Expression, Operation};
-use dwarf_machine::store::EvaluationStorage;
+use dwarf_eval::store::EvaluationStorage;
 use dwarf_value::Value;
 use std::cell::Cell;
 use std::process::Abort;

@@ -20,7 +20,7 @@ use Rattle.dwarf_replay.specs.Replays.{Tells}
 use Rattle.dwarf_eval.specs.declared.op.results.EvaluationResult.{EvaluationResult}
 use Rattle.dwarf_meaning.specs.Bounds.{SpendsInAll, initial_items}
 use Rattle.dwarf_eval.proofs.Following.{told_total, total_open, total_complete}
-use Rattle.dwarf_eval.proofs.Spending.{spent_more}
+use Rattle.dwarf_eval.proofs.CallSpending.{spent_more}
 use Rattle.dwarf_replay.proofs.Telling.{walked_more}
 use Rattle.dwarf_replay.proofs.Standings.{Holds, Unstarted, Going, Over, WentBy, Went, later_before, may_inputs}
 

@@ -10,7 +10,7 @@ use Rattle.dwarf_eval.specs.Evaluation.{with_object, with_maximum, WaitsOrIsComp
 use Rattle.dwarf_replay.specs.Stepping.{IsSet}
 use Rattle.dwarf_replay.specs.Replays.{Tells}
 use Rattle.dwarf_meaning.specs.Bounds.{Spends, SpendsInAll, initial_items}
-use Rattle.dwarf_eval.proofs.Spending.{setting_spends, spent_initial, spent_more}
+use Rattle.dwarf_eval.proofs.CallSpending.{setting_spends, spent_initial, spent_more}
 use Rattle.dwarf_replay.proofs.Telling.{outcome, walked_more}
 use Rattle.dwarf_replay.proofs.Standings.{Holds, Unstarted, Going, WentBy, Went}
 

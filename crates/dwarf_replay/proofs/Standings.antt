@@ -9,7 +9,7 @@ use Rattle.dwarf_meaning.specs.Rest.{State, Status, Start, Running, RequestStatu
 use Rattle.dwarf_meaning.specs.Steps.{Step, Told, Reply}
 use Rattle.dwarf_replay.specs.Replays.{told_at, Tells}
 use Rattle.dwarf_meaning.specs.Bounds.{SpendsInAll, initial_items}
-use Rattle.dwarf_eval.proofs.Spending.{spent_here}
+use Rattle.dwarf_eval.proofs.CallSpending.{spent_here}
 
 -- ---- what some steps came to
 

@@ -12,7 +12,7 @@ use Rattle.dwarf_meaning.specs.Meaning.{First, meaning}
 use Rattle.dwarf_meaning.specs.Rest.{State}
 use Rattle.dwarf_meaning.specs.Steps.{Step, InitialValue, ObjectAddress, MaxIterations, Evaluate, Resume, Told, Reply, reply, replies, Awaits, Allows, AllAllowed, begun, after_step, after_steps, replies_of, outcome_of, outcome_from, step_replies}
 use Rattle.dwarf_meaning.specs.Refusals.{Refusal}
-use Rattle.dwarf_machine.specs.Lists.{MayRefuse}
+use Rattle.dwarf_eval.specs.Lists.{MayRefuse}
 use Rattle.dwarf_replay.specs.Stepping.{step_of, MayTake, IsSet, HasReplied}
 use Rattle.dwarf_replay.specs.inner.Keeping.{IsKept}
 use Rattle.dwarf_replay.specs.Replays.{told_at, steps_of, reply_in, replies_in, Walks, WalksTo, WalksOver}

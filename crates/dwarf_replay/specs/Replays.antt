@@ -11,7 +11,7 @@ use Rattle.dwarf_meaning.specs.Steps as meaning
 use Rattle.dwarf_meaning.specs.Steps.{Told, Reply, Allows, AreDone, replies_of, outcome_of, outcome_from}
 use Rattle.dwarf_meaning.specs.Bounds.{initial_items, SpendsInAll}
 use Rattle.dwarf_eval.specs.Evaluation.{first_of, reply_of}
-use Rattle.dwarf_machine.specs.Lists.{MayRefuse}
+use Rattle.dwarf_eval.specs.Lists.{MayRefuse}
 use Rattle.dwarf_replay.specs.Stepping.{step_of}
 use Rattle.dwarf_replay.specs.declared.steps.Step.{Step}
 use Rattle.dwarf_replay.specs.declared.steps.Answer.{Answer}

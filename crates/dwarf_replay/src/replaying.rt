@@ -8,7 +8,7 @@ use crate::stepping::take_step;
 use crate::steps::{Answer, Replayed, Step, Stepped};
 use dwarf_base::Reader;
 use dwarf_eval::eval::Evaluation;
-use dwarf_machine::store::{ArrayLike, EvaluationStorage};
+use dwarf_eval::store::{ArrayLike, EvaluationStorage};
 
 /// Why a replay ends before its last step.
 #[derive(Clone, Copy)]

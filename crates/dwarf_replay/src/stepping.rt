@@ -6,7 +6,7 @@ ghost use Rattle.dwarf_replay.specs.Stepping.{IsStepped, step_of};
 use crate::steps::{Answer, Step, Stepped};
 use dwarf_base::Reader;
 use dwarf_eval::eval::{Evaluation, Status, WaitingKind};
-use dwarf_machine::store::EvaluationStorage;
+use dwarf_eval::store::EvaluationStorage;
 
 /// Sets the initial value, if that is allowed.
 fn try_initial_value<R: Reader + Copy, S: EvaluationStorage<R>>(

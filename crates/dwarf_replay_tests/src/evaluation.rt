@@ -8,7 +8,7 @@ use dwarf_base::{
 };
 use dwarf_eval::eval::{Evaluation, Status, WaitingKind};
 use dwarf_eval::op::{DieReference, EvaluationResult, Expression, Location, Piece};
-use dwarf_machine::store::{ArrayLike, EvaluationStorage, StoreOnHeap};
+use dwarf_eval::store::{ArrayLike, EvaluationStorage, StoreOnHeap};
 use dwarf_replay::{Answer, Replayed, Step, replay};
 use dwarf_value::Value::{self, Generic};
 use dwarf_value::ValueType;

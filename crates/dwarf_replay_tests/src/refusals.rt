@@ -7,7 +7,7 @@ use crate::replays::{AGAIN, FULL, ITSELF};
 use dwarf_base::{Error, Reader};
 use dwarf_eval::eval::{Evaluation, Status};
 use dwarf_eval::op::{Expression, Piece};
-use dwarf_machine::store::{ArrayLike, EvaluationStorage, StoreOnHeap};
+use dwarf_eval::store::{ArrayLike, EvaluationStorage, StoreOnHeap};
 use dwarf_replay::{Answer, Replayed, Step, Stepped, take_step};
 use dwarf_value::Value::{self, Generic};
 use dwarf_value::ValueType;

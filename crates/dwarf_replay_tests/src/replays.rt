@@ -8,7 +8,7 @@ use crate::evaluation::{
 use dwarf_base::{Error, Register, UnitOffset};
 use dwarf_eval::eval::{Evaluation, Status, WaitingKind};
 use dwarf_eval::op::{DieReference, EvaluationResult, Location, Piece};
-use dwarf_machine::store::EvaluationStorage;
+use dwarf_eval::store::EvaluationStorage;
 use dwarf_replay::{Answer, Replayed, Step};
 use dwarf_value::Value::Generic;
 use std::alloc::{AllocError, Global};

@@ -18,7 +18,7 @@ use crate::steps::{StepsFault, borrow_steps, steps_in};
 use dwarf_base::EndianSlice;
 use dwarf_eval::eval::{Evaluation, Status};
 use dwarf_eval::op::Piece;
-use dwarf_machine::store::{EvaluationStorage, StoreOnHeap};
+use dwarf_eval::store::{EvaluationStorage, StoreOnHeap};
 use dwarf_replay::{Answer, Replayed, Step, replay};
 use dwarf_value::Value;
 use dwexpr_text::{

@@ -17,7 +17,7 @@ use crate::places::Placed;
 use crate::steps::{DwexprStep, DwexprText, step_of};
 use dwarf_base::RunTimeEndian;
 use dwarf_eval::eval::{Evaluation, Status};
-use dwarf_machine::store::EvaluationStorage;
+use dwarf_eval::store::EvaluationStorage;
 use dwarf_op::Piece;
 use dwarf_replay::{Stepped, take_step};
 use dwarf_value::Value;

@@ -7,7 +7,7 @@ use crate::places::Placed;
 use arrayvec::ArrayVec;
 use dwarf_base::{Encoding, Format, Reader, RunTimeEndian};
 use dwarf_eval::eval::Evaluation;
-use dwarf_machine::store::EvaluationStorage;
+use dwarf_eval::store::EvaluationStorage;
 use dwarf_op::Piece;
 use dwarf_value::Value;
 use std::marker::Model;

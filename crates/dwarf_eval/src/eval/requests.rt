@@ -2,16 +2,16 @@ ghost use Rattle.std.specs.Prelude.{◌≡◌, IfOk};
 ghost use Rattle.dwarf_meaning.specs.Kinds.{kind_of_request, kind_of_waiting};
 ghost use Rattle.dwarf_meaning.specs.Rest.{RequestStatus};
 ghost use Rattle.dwarf_meaning.specs.Steps.{RequestReply};
-ghost use Rattle.dwarf_machine.specs.Machine.{request_of, waiting_of};
-ghost use Rattle.dwarf_machine.specs.inner.Steps.{HasReply};
+ghost use Rattle.dwarf_eval.specs.Machine.{request_of, waiting_of};
+ghost use Rattle.dwarf_eval.specs.inner.Steps.{HasReply};
 ghost use Rattle.dwarf_eval.specs.Permits.{Admits};
 ghost use Rattle.dwarf_eval.specs.Evaluation.{IsAtRest, IsEndedBy, IsReplied, reply_of, ok_reply};
 
 use crate::op::{EvaluationResult, Expression};
 use dwarf_base::{Reader, Result};
-use dwarf_machine::machine::Machine;
-use dwarf_machine::states::{EvaluationState, OpenRequest};
-use dwarf_machine::store::EvaluationStorage;
+use crate::run::machine::Machine;
+use crate::run::states::{EvaluationState, OpenRequest};
+use crate::store::EvaluationStorage;
 use dwarf_meaning::WaitingKind;
 
 /// What is asked.

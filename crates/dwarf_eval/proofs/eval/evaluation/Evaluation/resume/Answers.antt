@@ -3,7 +3,7 @@ use Rattle.dwarf_meaning.specs.Kinds.{kind_of_answer}
 use Rattle.dwarf_meaning.specs.Rest.{State, total_after}
 use Rattle.dwarf_eval.specs.Permits.{IsOpenFor, answer_of}
 use Rattle.dwarf_eval.specs.Evaluation.{IsEndedBy, Resumes, reply_of, input_of}
-use Rattle.dwarf_machine.specs.inner.Steps.{Comes}
+use Rattle.dwarf_eval.specs.inner.Steps.{Comes}
 use Rattle.dwarf_eval.proofs.Following.{comes_follow, failed_again, resumed, waits}
 use Rattle.dwarf_eval.proofs.eval.evaluation.Evaluation.resume.Goals as goal
 use Rattle.dwarf_eval.proofs.eval.evaluation.Evaluation.resume.Goals.{then-not-has_failed, else-not-has_failed}

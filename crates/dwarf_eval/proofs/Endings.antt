@@ -1,0 +1,157 @@
+-- How many pieces ended a location.
+use Rattle.std.proofs.Common.{ℕ, ◌≡◌, ◌+◌, ◌≤◌, List, [], ◌∷◌, ◌++◌, length, Option, Some, None, Result, Ok, Err, arith, ◌∙◌, refl}
+use Rattle.dwarf_base.specs.Faults.{Fault}
+use Rattle.dwarf_base.specs.declared.errors.Error.TheVariants.{NotEnoughStackItems}
+use Rattle.dwarf_value.specs.declared.types.Value.{Value}
+use Rattle.dwarf_value.specs.Values.{to_u64_of}
+use Rattle.dwarf_meaning.specs.Operations.{Operation}
+use Rattle.dwarf_meaning.specs.Locations.{Location, Empty, InRegister, AtAddress, HoldsValue, HoldsBytes, PointsInto, Piece}
+use Rattle.dwarf_meaning.specs.Acts.{Act, Pushes, Branches, Locates, EndsPiece, RequestAct, FaultAct, on_top}
+use Rattle.dwarf_meaning.specs.RunLaws.{waits_of}
+use Rattle.dwarf_meaning.specs.Stores.{Setup, address_bits, Store, Last, Nothing, Plain, Pieced, Pushed, Called, Located, push_value, push_piece, push_values, done}
+use Rattle.dwarf_meaning.specs.Meaning.{Outcome, RequestOutcome, FaultOutcome, CompleteOutcome, completion_of, whole, finish_value, finish}
+use Rattle.dwarf_meaning.specs.Refusals.{room}
+use Rattle.dwarf_meaning.proofs.Choices.{choose_both}
+use Rattle.dwarf_meaning.proofs.Counts.{OnStore, OnNext, bound_store, on_bound, on_goes}
+use Rattle.dwarf_meaning.proofs.Effects.{IsActOf, IsGivenBy, IsOwnPlace, locates, ends}
+use Rattle.dwarf_meaning.specs.Bounds.{located_by, ending_by, endings, located}
+use Rattle.dwarf_eval.specs.inner.Steps.{IsFree}
+
+located_little : (location : Location) → located_by location ≤ 1
+located_little Empty = omega arith
+located_little (AtAddress address) = omega arith
+located_little (InRegister register) = omega arith
+located_little (HoldsValue value) = omega arith
+located_little (HoldsBytes value) = omega arith
+located_little (PointsInto value byte_offset) = omega arith
+
+-- if none waits none was given, and one at most
+pub located_waits : (last : Last) → located last ≤ waits_of last
+located_waits Nothing = omega arith
+located_waits Plain = omega arith
+located_waits Pieced = omega arith
+located_waits Pushed = omega arith
+located_waits Called = omega arith
+located_waits (Located location) = located_little location
+
+pub free_waits : (last : Last) → IsFree last → waits_of last ≡ 0
+free_waits Nothing h = refl
+free_waits Plain h = refl
+free_waits Pieced h = refl
+free_waits Pushed h = refl
+free_waits Called h = refl
+free_waits (Located location) h = absurd h
+
+endings_append : (first second : List Piece) → endings (first ++ second) ≡ endings first + endings second
+endings_append [] second = omega arith
+endings_append (piece ∷ first) second =
+    let e = endings_append first second in
+    omega (arith, e)
+
+-- with one piece more
+pub endings_more : (pieces : List Piece) (piece : Piece) → endings (pieces ++ piece ∷ []) ≡ endings pieces + ending_by piece.size_in_bits piece.location
+endings_more pieces piece =
+    let e = endings_append pieces (piece ∷ []) in
+    omega (arith, e)
+
+-- ---- pushes
+
+-- this many pieces ended a location
+abbrev pub Ending : ℕ → Store → Type 0
+Ending n t = endings t.pieces ≡ n
+
+pub piece_ends : (setup : Setup) (piece : Piece) (s : Store) → OnStore (Ending (endings s.pieces + ending_by piece.size_in_bits piece.location)) (push_piece setup piece s)
+unfolding push_piece
+piece_ends setup piece s =
+    let n = endings s.pieces + ending_by piece.size_in_bits piece.location in
+    bound_store (Ending n) (room setup.limits.pieces (length s.pieces) s.refusal) (λ left. record s { pieces = s.pieces ++ piece ∷ []; refusal = left }) (λ left. endings_more s.pieces piece)
+
+-- as many pieces ended a location, and an operation gave the one that waits
+pub record EndsNoMore (n : ℕ) (t : Store) : Type 0 where
+  pub pieces : endings t.pieces ≡ n
+  pub waits : waits_of t.last ≤ located t.last
+
+value_ends : (n : ℕ) (setup : Setup) (value : Value) (s : Store) → EndsNoMore n s → OnStore (EndsNoMore n) (push_value setup value s)
+unfolding push_value
+value_ends n setup value s h =
+    bound_store (EndsNoMore n) (room setup.limits.values (length s.values) s.refusal) (λ left. record s { values = value ∷ s.values; refusal = left }) (λ left. record { pieces = h.pieces; waits = h.waits })
+
+values_end : (n : ℕ) (setup : Setup) (values : List Value) (s : Store) → EndsNoMore n s → OnStore (EndsNoMore n) (push_values setup values s)
+values_end n setup [] s h = h
+values_end n setup (value ∷ values) s h = on_bound (EndsNoMore n) (EndsNoMore n) (push_value setup value s) (push_values setup values) (value_ends n setup value s h) (λ t i. values_end n setup values t i)
+
+own_ends : (n : ℕ) (setup : Setup) (piece : Piece) (s : Store) → ending_by piece.size_in_bits piece.location ≡ 0 → EndsNoMore n s → OnStore (EndsNoMore n) (push_piece setup piece s)
+unfolding push_piece
+own_ends n setup piece s none h =
+    let more = endings_more s.pieces piece in
+    let same = h.pieces in
+    bound_store (EndsNoMore n) (room setup.limits.pieces (length s.pieces) s.refusal) (λ left. record s { pieces = s.pieces ++ piece ∷ []; refusal = left })
+    (λ left. record { pieces = omega (arith, more, same, none); waits = h.waits })
+
+given_by : (op : Operation) (location : Location) → IsGivenBy op location → located_by location ≡ 1
+given_by op (InRegister register) g = refl
+given_by op (HoldsValue value) g = refl
+given_by op (HoldsBytes text) g = refl
+given_by op (PointsInto value byte_offset) g = refl
+given_by op _ g = absurd g
+
+own_by : (size_in_bits : Option ℕ) (location : Location) → IsOwnPlace location → ending_by size_in_bits location ≡ 0
+own_by None location o = refl
+own_by (Some size_in_bits) Empty o = refl
+own_by (Some size_in_bits) (AtAddress address) o = refl
+own_by (Some size_in_bits) _ o = absurd o
+
+-- an operation that is counted ends no location
+pub done_ends : (op : Operation) (setup : Setup) (place len : ℕ) (a : Act) (s : Store) → IsActOf op (length s.values) a → waits_of s.last ≡ 0 → OnNext (EndsNoMore (endings s.pieces)) (done setup place len a s)
+done_ends op setup place len (Pushes rest pushed) s h free =
+    on_goes (EndsNoMore (endings s.pieces)) place _ (values_end (endings s.pieces) setup pushed _ (record { pieces = refl; waits = omega arith }))
+done_ends op setup place len (Branches rest target) s h free =
+    choose_both (OnNext (EndsNoMore (endings s.pieces))) _ _ _ (λ e. tt) (λ e. record { pieces = refl; waits = omega arith })
+done_ends op setup place len (Locates rest location) s (locates _ g) free =
+    let given = given_by op location g in
+    record { pieces = refl; waits = omega (arith, given) }
+done_ends op setup place len (EndsPiece rest piece) s (ends _ own) free =
+    on_goes (EndsNoMore (endings s.pieces)) place _ (own_ends (endings s.pieces) setup piece _ (own_by piece.size_in_bits piece.location own) (record { pieces = refl; waits = omega arith }))
+done_ends op setup place len (RequestAct rest request waiting) s h free = record { pieces = refl; waits = omega (arith, free) }
+done_ends op setup place len (FaultAct fault) s h free = tt
+
+-- ---- the end
+
+-- if it completes, as many pieces ended a location
+abbrev pub EndsAlike : ℕ → Outcome → Type 0
+EndsAlike n (RequestOutcome request positions) = Unit {0}
+EndsAlike n (FaultOutcome fault) = Unit {0}
+EndsAlike n (CompleteOutcome pieces value) = endings pieces ≡ n
+
+stored_alike : (n : ℕ) (value : Option Value) (r : Result Store Fault) → OnStore (Ending n) r → EndsAlike n (completion_of value r)
+stored_alike n value (Ok s) h = h
+stored_alike n value (Err fault) h = tt
+
+grown : (n m : ℕ) (r : Result Store Fault) → n ≡ m → OnStore (Ending n) r → OnStore (Ending m) r
+grown n m (Ok s) e h = h ∙ e
+grown n m (Err fault) e h = tt
+
+whole_alike : (setup : Setup) (value : Option Value) (location : Location) (s : Store) → EndsAlike (endings s.pieces) (completion_of value (push_piece setup (whole location) s))
+whole_alike setup value location s =
+    stored_alike (endings s.pieces) value (push_piece setup (whole location) s)
+    (grown (endings s.pieces + 0) (endings s.pieces) (push_piece setup (whole location) s) (omega arith) (piece_ends setup (whole location) s))
+
+value_alike : (n : ℕ) (values : List Value) (go : Value → List Value → Outcome) → ((x : Value) (rest : List Value) → EndsAlike n (go x rest)) → EndsAlike n (on_top values (FaultOutcome NotEnoughStackItems) go)
+unfolding on_top
+value_alike n [] go h = tt
+value_alike n (x ∷ rest) go h = h x rest
+
+top_alike : (setup : Setup) (s : Store) → EndsAlike (endings s.pieces) (finish_value setup s)
+top_alike setup s = value_alike (endings s.pieces) s.values _ (λ x rest. whole_alike setup (Some x) (AtAddress (to_u64_of (address_bits setup) x)) (record s { values = rest }))
+
+finish_alike_by : (setup : Setup) (s : Store) (last : Last) → EndsAlike (endings s.pieces) (finish setup (record s { last = last }))
+finish_alike_by setup s (Located location) = choose_both (EndsAlike (endings s.pieces)) _ _ _ (λ e. tt) (λ e. whole_alike setup None location (record s { last = Located location }))
+finish_alike_by setup s Plain = choose_both (EndsAlike (endings s.pieces)) _ _ _ (λ e. tt) (λ e. top_alike setup (record s { last = Plain }))
+finish_alike_by setup s Pushed = choose_both (EndsAlike (endings s.pieces)) _ _ _ (λ e. tt) (λ e. top_alike setup (record s { last = Pushed }))
+finish_alike_by setup s Nothing = choose_both (EndsAlike (endings s.pieces)) _ _ _ (λ e. refl) (λ e. top_alike setup (record s { last = Nothing }))
+finish_alike_by setup s Pieced = choose_both (EndsAlike (endings s.pieces)) _ _ _ (λ e. refl) (λ e. top_alike setup (record s { last = Pieced }))
+finish_alike_by setup s Called = choose_both (EndsAlike (endings s.pieces)) _ _ _ (λ e. refl) (λ e. top_alike setup (record s { last = Called }))
+
+-- the end adds at most the whole variable
+pub finish_alike : (setup : Setup) (s : Store) → EndsAlike (endings s.pieces) (finish setup s)
+finish_alike setup s = finish_alike_by setup s s.last

@@ -1,0 +1,249 @@
+-- The end of a run.
+use Rattle.std.proofs.Common.{ℕ, suc, ◌≡◌, ◌+◌, ◌≤◌, ◌==◌, true, false, List, [], length, Option, Some, None, arith, ap, ◌∙◌, sym, refl, subst}
+use Rattle.std.proofs.lemmas.Bool.Decides.{nat_tests}
+use Rattle.dwarf_base.specs.declared.errors.Error.{Error}
+use Rattle.dwarf_base.specs.declared.errors.Error.TheVariants as error
+use Rattle.dwarf_base.specs.Faults.{fault_of}
+use Rattle.dwarf_base.specs.declared.errors.Error.TheVariants.{InvalidPiece, NotEnoughStackItems}
+use Rattle.dwarf_value.specs.declared.types.Value.{Value}
+use Rattle.dwarf_value.specs.Values.{to_u64_of}
+use Rattle.dwarf_meaning.specs.Locations.{AtAddress, Piece}
+use Rattle.dwarf_meaning.specs.Requests.{Input}
+use Rattle.dwarf_meaning.specs.Acts.{choose}
+use Rattle.dwarf_meaning.specs.RunLaws.{waits_of}
+use Rattle.dwarf_meaning.specs.Stores.{Setup, address_bits, Store, Last, Nothing, Plain, Pieced, Pushed, Called, Located, push_piece}
+use Rattle.dwarf_meaning.specs.Run.{Position, CompleteEnd, only_end, turn_by, run}
+use Rattle.dwarf_meaning.specs.Meaning.{Outcome, FaultOutcome, CompleteOutcome, completion_of, has_pieces, whole, finish_value, finish_by, finish}
+use Rattle.dwarf_meaning.specs.Rest.{State, Status, Start, Running, RequestStatus, CompleteStatus, FaultStatus, with_refusal, total_of_course}
+use Rattle.dwarf_meaning.specs.Refusals.{Refusal, Never, before_pushes}
+use Rattle.dwarf_meaning.proofs.Choices.{choose_true, choose_false, top_none, top_some}
+use Rattle.dwarf_meaning.proofs.Counts.{HasTally, OnStore, Tally, tally_of, tally-push_piece}
+use Rattle.dwarf_meaning.proofs.Turns.{run_turn}
+use Rattle.dwarf_meaning.specs.Bounds.{endings, faults_in}
+use Rattle.dwarf_meaning.specs.Inputs.{Keeps, with_status}
+use Rattle.dwarf_eval.specs.inner.Steps.{Does, Refused, Stays, Pops, total, ComesBy, GoesBack, Adds, ClosesBy, Closes, IsFree, Turns, with_store, with_values}
+use Rattle.dwarf_eval.proofs.Reaching.{may_along}
+use Rattle.dwarf_eval.proofs.Endings.{EndsAlike, finish_alike}
+use Rattle.dwarf_eval.proofs.Loads.{Extended, piece_extends}
+use Rattle.dwarf_eval.proofs.Nearing.{nears_by}
+use Rattle.dwarf_eval.proofs.Spending.{back_spends, fallen_spends, over_spends}
+use Rattle.dwarf_eval.proofs.Staying.{fewer_one, keeps_more, stays_here, stays_low, stays_more, stays_popped, stays_then}
+use Rattle.dwarf_eval.proofs.Totals.{closed, going, total_running, total_complete, course_ended}
+use Rattle.dwarf_eval.proofs.Turning.{effort_running, less_stopped, falls_turns}
+
+-- if both are alike, one closes as the other
+module _ (f g : Store → Outcome) (m n : ℕ) (old low new : State) (fits : length low.store.values + length low.store.pieces + m ≤ length old.store.values + length old.store.pieces + n) (fewer : Stays 0 old low) (is : (r : Refusal) → g (with_refusal r old.store) ≡ f (with_refusal r low.store)) (alone : (s : Store) (status : Status) → with_store s (with_status status low) ≡ with_store s (with_status status old)) where
+  finished_as : (status : Status) → ClosesBy m f low new status → ClosesBy n g old new status
+  finished_as (CompleteStatus value) h = record {
+    steps = record { pushes = h.steps.pushes; same = λ r. is (before_pushes h.steps.pushes r) ∙ h.steps.same r };
+    alone = h.alone ∙ alone new.store (CompleteStatus value);
+    kept = keeps_more old low new fewer.kept h.kept;
+    adds =
+        let items = h.adds.items in
+        record { items = omega (arith, items, fits); count = h.adds.count ∙ fewer.count };
+  }
+  finished_as (FaultStatus error) h = record {
+    gets = record { refusal = h.gets.refusal; may = may_along old low h.gets.refusal fewer.kept h.gets.may; same = is h.gets.refusal ∙ h.gets.same };
+    stays = stays_more 0 0 old low new fewer h.stays;
+  }
+  finished_as Running h = absurd h
+  finished_as (Start initial_value) h = absurd h
+  finished_as (RequestStatus request waiting) h = absurd h
+
+  pub closes_as : Closes m f low new → Closes n g old new
+  closes_as h = finished_as new.status h
+
+-- what was pushed leaves the settings
+pub piece_keeps : (setup : Setup) (piece : Piece) (old new : State) → Does (push_piece setup piece) old new → Keeps old new
+piece_keeps setup piece old new d =
+    let s : Store = with_refusal (before_pushes d.steps.pushes Never) old.store in
+    let tally : tally_of new.store ≡ tally_of old.store = subst (OnStore (HasTally (tally_of s))) (d.steps.same Never) (tally-push_piece setup piece s) in
+    record { setup = ap (λ (z : State). z.setup) d.alone; object_address = ap (λ (m : Tally). m.object_address) tally; maximum = ap (λ (m : Tally). m.maximum) tally }
+
+-- a piece more
+pub piece_more : (setup : Setup) (piece : Piece) (old new : State) → Does (push_piece setup piece) old new → Adds 1 old new
+piece_more setup piece old new d =
+    let s : Store = with_refusal (before_pushes d.steps.pushes Never) old.store in
+    let added : Extended (length old.store.values) (length old.store.pieces + 1) old.store.count (with_refusal Never new.store) =
+    subst (OnStore (Extended (length old.store.values) (length old.store.pieces + 1) old.store.count)) (d.steps.same Never) (piece_extends setup piece s) in
+    let values = added.values in
+    let pieces = added.pieces in
+    record { items = omega (arith, values, pieces); count = added.count }
+
+-- a last piece, and then the end
+pub completes_ok : (value : Option Value) (piece : Piece) (old mid new : State) → Does (push_piece old.setup piece) old mid → new ≡ with_status (CompleteStatus value) mid → Closes 1 (λ s. completion_of value (push_piece old.setup piece s)) old new
+completes_ok value piece old mid new d e =
+    let more = piece_more old.setup piece old mid d in
+    subst (ClosesBy 1 (λ s. completion_of value (push_piece old.setup piece s)) old new) (sym (ap (λ (z : State). z.status) e)) (record {
+      steps = record {
+        pushes = d.steps.pushes;
+        same = λ r. ap (completion_of value) (d.steps.same r) ∙ ap (λ (z : State). CompleteOutcome z.store.pieces value) (sym e);
+      };
+      alone = e ∙ (ap (with_status (CompleteStatus value)) d.alone ∙ ap (λ (z : State). with_store z.store (with_status (CompleteStatus value) old)) (sym e));
+      kept = keeps_more old mid new (piece_keeps old.setup piece old mid d)
+          (record { setup = ap (λ (z : State). z.setup) e; object_address = ap (λ (z : State). z.store.object_address) e; maximum = ap (λ (z : State). z.store.maximum) e });
+      adds = subst (λ (s : Store). Adds 1 old (with_store s new)) (ap (λ (z : State). z.store) (sym e)) (record { items = more.items; count = more.count });
+    })
+
+-- a last piece that is refused
+pub completes_err : (value : Option Value) (piece : Piece) (old new : State) → Refused 0 (push_piece old.setup piece) old new → Closes 1 (λ s. completion_of value (push_piece old.setup piece s)) old new
+completes_err value piece old new h =
+    subst (ClosesBy 1 (λ s. completion_of value (push_piece old.setup piece s)) old new) (sym h.failed) (record {
+      gets = record { refusal = h.gets.refusal; may = h.gets.may; same = ap (completion_of value) h.gets.same };
+      stays = h.stays;
+    })
+
+-- by whether there are pieces
+pub closes_else : (more : ℕ) (f g : Store → Outcome) (old new : State) → has_pieces old.store.pieces ≡ false → Closes more g old new → Closes more (λ s. choose (has_pieces s.pieces) (f s) (g s)) old new
+closes_else more f g old new e h =
+    closes_as g (λ s. choose (has_pieces s.pieces) (f s) (g s)) more more old old new (omega arith) (stays_here old) (λ r. choose_false (has_pieces old.store.pieces) (f (with_refusal r old.store)) (g (with_refusal r old.store)) e) (λ s status. refl) h
+
+-- a fault that ends the run
+ends_in : (more : ℕ) (f : Store → Outcome) (error : Error) (old mid new : State) → Stays 0 old mid → new ≡ with_status (FaultStatus error) mid → f (with_refusal Never old.store) ≡ FaultOutcome (fault_of error) → Closes more f old new
+ends_in more f error old mid new stays is e =
+    subst (ClosesBy more f old new) (sym (ap (λ (z : State). z.status) is)) (record {
+      gets = record { refusal = Never; may = tt; same = e };
+      stays = stays_then (FaultStatus error) old mid new stays is;
+    })
+
+-- pieces are there that may not be
+pub mixed : (more : ℕ) (g : Store → Outcome) (old new : State) → has_pieces old.store.pieces ≡ true → new ≡ with_status (FaultStatus error.InvalidPiece) old → Closes more (λ s. choose (has_pieces s.pieces) (FaultOutcome InvalidPiece) (g s)) old new
+mixed more g old new e is =
+    ends_in more (λ s. choose (has_pieces s.pieces) (FaultOutcome InvalidPiece) (g s)) error.InvalidPiece old old new (stays_here old) is
+    (choose_true (has_pieces old.store.pieces) (FaultOutcome InvalidPiece) (g (with_refusal Never old.store)) e)
+
+-- the pieces stand
+pub stands : (g : Store → Outcome) (old new : State) → has_pieces old.store.pieces ≡ true → new ≡ with_status (CompleteStatus None) old → Closes 0 (λ s. choose (has_pieces s.pieces) (CompleteOutcome s.pieces None) (g s)) old new
+stands g old new e is =
+    let values = ap (λ (z : State). length z.store.values) is in
+    let pieces = ap (λ (z : State). length z.store.pieces) is in
+    subst (ClosesBy 0 (λ s. choose (has_pieces s.pieces) (CompleteOutcome s.pieces None) (g s)) old new) (sym (ap (λ (z : State). z.status) is)) (record {
+      steps = record {
+        pushes = 0;
+        same = λ r.
+            choose_true (has_pieces old.store.pieces) (CompleteOutcome old.store.pieces None) (g (with_refusal r old.store)) e
+            ∙ ap (λ (z : State). CompleteOutcome z.store.pieces None) (sym is);
+      };
+      alone = is ∙ ap (λ (z : State). with_store z.store (with_status (CompleteStatus None) old)) (sym is);
+      kept = record { setup = ap (λ (z : State). z.setup) is; object_address = ap (λ (z : State). z.store.object_address) is; maximum = ap (λ (z : State). z.store.maximum) is };
+      adds = record { items = omega (arith, values, pieces); count = ap (λ (z : State). z.store.count) is };
+    })
+
+-- the end, by the last operation
+pub finish_as : (last : Last) (old new : State) → old.store.last ≡ last → Closes (waits_of last) (λ s. finish_by old.setup s last) old new → Closes (waits_of old.store.last) (finish old.setup) old new
+finish_as last old new e h =
+    let more = waits_of old.store.last in
+    closes_as (λ s. finish_by old.setup s old.store.last) (finish old.setup) more more old old new (omega arith) (stays_here old) (λ r. refl) (λ s status. refl)
+    (subst (λ (l : Last). Closes (waits_of l) (λ s. finish_by old.setup s l) old new) (sym e) h)
+
+-- with the value on top, without pieces, if no location waits
+pub finish_plain : (last : Last) (old new : State) → old.store.last ≡ last → IsFree last → has_pieces old.store.pieces ≡ false → Closes 0 (finish_value old.setup) old new → Closes (waits_of old.store.last) (finish old.setup) old new
+finish_plain Nothing old new e free none h = finish_as Nothing old new e (closes_else 0 (λ s. CompleteOutcome s.pieces None) (finish_value old.setup) old new none h)
+finish_plain Plain old new e free none h = finish_as Plain old new e (closes_else 0 (λ s. FaultOutcome InvalidPiece) (finish_value old.setup) old new none h)
+finish_plain Pieced old new e free none h = finish_as Pieced old new e (closes_else 0 (λ s. CompleteOutcome s.pieces None) (finish_value old.setup) old new none h)
+finish_plain Pushed old new e free none h = finish_as Pushed old new e (closes_else 0 (λ s. FaultOutcome InvalidPiece) (finish_value old.setup) old new none h)
+finish_plain Called old new e free none h = finish_as Called old new e (closes_else 0 (λ s. CompleteOutcome s.pieces None) (finish_value old.setup) old new none h)
+finish_plain (Located location) old new e free none h = absurd free
+
+-- the value on top is the result
+abbrev pub top_done : Setup → Store → Value → List Value → Outcome
+top_done setup s x rest = completion_of (Some x) (push_piece setup (whole (AtAddress (to_u64_of (address_bits setup) x))) (record s { values = rest }))
+
+pub value_closes : (x : Value) (address : ℕ) (old low new : State) → Pops (Some x) old low → address ≡ to_u64_of (address_bits low.setup) x → Closes 1 (λ s. completion_of (Some x) (push_piece low.setup (whole (AtAddress address)) s)) low new → Closes 0 (finish_value old.setup) old new
+value_closes x address old low new h e t =
+    let rest = h.0 in
+    let is : address ≡ to_u64_of (address_bits old.setup) x = e ∙ ap (λ (z : State). to_u64_of (address_bits z.setup) x) h.2 in
+    let F = λ (z : State) (n : ℕ). Closes 1 (λ s. completion_of (Some x) (push_piece z.setup (whole (AtAddress n)) s)) z new in
+    let there = subst (F (with_values rest old)) is (subst (λ (z : State). F z address) h.2 t) in
+    let values = ap length h.1 in
+    closes_as (λ s. completion_of (Some x) (push_piece old.setup (whole (AtAddress (to_u64_of (address_bits old.setup) x))) s)) (finish_value old.setup) 1 0 old (with_values rest old) new (omega (arith, values)) (stays_low rest old.store.last old (with_values rest old) (fewer_one x rest old.store.values h.1) refl)
+    (λ r. top_some old.store.values (FaultOutcome NotEnoughStackItems) (top_done old.setup (with_refusal r old.store)) x rest h.1) (λ s status. refl) there
+
+pub value_none : (old low new : State) → Pops None old low → new ≡ with_status (FaultStatus error.NotEnoughStackItems) low → Closes 0 (finish_value old.setup) old new
+value_none old low new h is =
+    ends_in 0 (finish_value old.setup) error.NotEnoughStackItems old low new (stays_popped None old low h) is
+    (top_none old.store.values (FaultOutcome NotEnoughStackItems) (top_done old.setup (with_refusal Never old.store)) h.0)
+
+-- ---- the end of a text
+
+module _ (x : State) (runs : x.status ≡ Running) (end : x.place ≡ length x.text.bytes) where
+  end_total : (r : Refusal) (inputs : List Input) → total x r inputs ≡ total_of_course x.store.count x.setup x.callers (only_end (CompleteEnd (with_refusal r x.store) inputs))
+  end_total r inputs =
+      let s : Store = with_refusal r x.store in
+      let at_end : (x.place == length x.text.bytes) ≡ true = grind (arith, nat_tests, end) in
+      total_running r x inputs runs
+      ∙ ap (total_of_course x.store.count x.setup x.callers)
+      (run_turn x.setup x.text x.place (length x.callers) s inputs
+      ∙ choose_true (x.place == length x.text.bytes) (only_end (CompleteEnd s inputs)) (turn_by (run x.setup) x.setup x.text x.place (length x.callers) s inputs s.last) at_end)
+
+  pub back_turned : (new : State) → GoesBack true x new → Turns x new
+  back_turned new h =
+      let still : new.status ≡ Running = ap (λ (z : State). z.status) h.3 ∙ runs in
+      let was = effort_running x runs in
+      let is = effort_running new still in
+      let callers : length x.callers ≡ suc (length new.callers) = ap length h.2 ∙ ap (λ (z : State). suc (length z.callers)) (sym h.3) in
+      let store : new.store ≡ x.store = ap (λ (z : State). z.store) h.3 in
+      let count : new.store.count ≡ x.store.count = ap (λ (s : Store). s.count) store in
+      let waits = ap (λ (s : Store). waits_of s.last) store in
+      record {
+        comes = subst (ComesBy x (total x) new) (sym still) (record {
+          pushes = 0;
+          same = λ r inputs.
+              end_total r inputs
+              ∙ (ap (λ (fs : List Position). total_of_course x.store.count x.setup fs (only_end (CompleteEnd (with_refusal r x.store) inputs))) h.2
+              ∙ sym (total_running r new inputs still ∙ ap (λ (z : State). going z (with_refusal r z.store) inputs) h.3));
+          kept = record {
+            setup = ap (λ (z : State). z.setup) h.3;
+            object_address = ap (λ (s : Store). s.object_address) store;
+            maximum = ap (λ (s : Store). s.maximum) store;
+          };
+          spends = back_spends x new runs still callers store (ap (λ (z : State). z.decodings) h.3);
+          nears = nears_by x new Running Running runs still (omega (arith, count));
+        });
+        less = omega (arith, was, is, callers, count, waits);
+      }
+
+  -- the outcome of the end of the outermost text
+  outer_total : (r : Refusal) (inputs : List Input) (outcome : Outcome) → x.callers ≡ [] → finish x.setup (with_refusal r x.store) ≡ outcome → total x r inputs ≡ closed outcome x.store.count
+  outer_total r inputs outcome none e =
+      end_total r inputs
+      ∙ (ap (λ (fs : List Position). total_of_course x.store.count x.setup fs (only_end (CompleteEnd (with_refusal r x.store) inputs))) none
+      ∙ course_ended x.store.count x.setup (with_refusal r x.store) inputs outcome e)
+
+  finish_turned : (new : State) (status : Status) → x.callers ≡ [] → new.status ≡ status → ClosesBy (waits_of x.store.last) (finish x.setup) x new status → Turns x new
+  finish_turned new (CompleteStatus value) none e h = record {
+    comes = subst (ComesBy x (total x) new) (sym e) (record {
+      pushes = h.steps.pushes;
+      same = λ r inputs.
+          outer_total (before_pushes h.steps.pushes r) inputs (CompleteOutcome new.store.pieces value) none (h.steps.same r)
+          ∙ (ap (closed (CompleteOutcome new.store.pieces value)) (sym h.adds.count)
+          ∙ sym (total_complete r new inputs value e));
+      kept = h.kept;
+      spends = over_spends x new value runs e (ap (λ (z : State). length z.callers) h.alone) h.adds.count (ap (λ (z : State). z.decodings) h.alone) h.adds.items
+          (subst (EndsAlike (endings x.store.pieces)) (h.steps.same Never) (finish_alike x.setup (with_refusal (before_pushes h.steps.pushes Never) x.store)));
+      nears = nears_by x new Running (CompleteStatus value) runs e (omega arith);
+    });
+    less = less_stopped x new (CompleteStatus value) runs e refl;
+  }
+  finish_turned new (FaultStatus error) none e h =
+      let count = h.stays.count in
+      let callers = h.stays.callers in
+      let items = h.stays.items in
+      let decodings = h.stays.decodings in
+      falls_turns x new error runs e (record {
+        refusal = h.gets.refusal;
+        may = h.gets.may;
+        same = λ inputs. outer_total h.gets.refusal inputs (FaultOutcome (fault_of error)) none h.gets.same ∙ ap (closed (FaultOutcome (fault_of error))) (sym h.stays.count);
+        kept = h.stays.kept;
+        spends = fallen_spends x new error (ap faults_in runs) e (omega (arith, callers)) (omega (arith, count)) (omega (arith, items)) (omega (arith, decodings, count)) h.stays.pieces (omega (arith, decodings, count)) (omega (arith, decodings, count));
+      })
+  finish_turned new Running none e h = absurd h
+  finish_turned new (Start initial_value) none e h = absurd h
+  finish_turned new (RequestStatus request waiting) none e h = absurd h
+
+  pub finish_turns : (new : State) → x.callers ≡ [] → Closes (waits_of x.store.last) (finish x.setup) x new → Turns x new
+  finish_turns new none h = finish_turned new new.status none refl h
+
+-- with a piece that stands for this one
+pub closes_with : (value : Option Value) (piece same : Piece) (old new : State) → piece ≡ same → Closes 1 (λ s. completion_of value (push_piece old.setup piece s)) old new → Closes 1 (λ s. completion_of value (push_piece old.setup same s)) old new
+closes_with value piece same old new e h = subst (λ (p : Piece). Closes 1 (λ s. completion_of value (push_piece old.setup p s)) old new) e h

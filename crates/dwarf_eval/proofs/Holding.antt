@@ -1,0 +1,159 @@
+-- A location that waits for its piece.
+use Rattle.std.proofs.Common.{ℕ, ◌≡◌, ◌+◌, ◌-◌, ◌<◌, Bool, true, false, List, length, Result, Ok, Err, Option, Some, None, arith, ap, ◌∙◌, sym, refl, subst}
+use Rattle.dwarf_base.specs.declared.errors.Error.{Error}
+use Rattle.dwarf_base.specs.declared.errors.Error.TheVariants as error
+use Rattle.dwarf_base.specs.Faults.{Fault, fault_of}
+use Rattle.dwarf_base.specs.declared.errors.Error.TheVariants.{InvalidExpressionTerminator}
+use Rattle.dwarf_meaning.specs.Operations.{Operation}
+use Rattle.dwarf_meaning.specs.Locations.{Location, Piece, sized}
+use Rattle.dwarf_meaning.specs.Requests.{Input}
+use Rattle.dwarf_meaning.specs.RunLaws.{waits_of}
+use Rattle.dwarf_meaning.specs.Stores.{Store, Last, Pieced, Located, push_piece, Next, Goes, FaultNext, goes}
+use Rattle.dwarf_meaning.specs.Run.{after_operation, end_located, turn_located, piece_ended_by, read, run, turn_by}
+use Rattle.dwarf_meaning.specs.Meaning.{FaultOutcome}
+use Rattle.dwarf_meaning.specs.Rest.{State, Running, FaultStatus, with_refusal, total_of_course}
+use Rattle.dwarf_meaning.specs.Refusals.{Refusal, Never, before_pushes}
+use Rattle.dwarf_meaning.proofs.Counts.{OnStore, KeepsBoth, Tally, tally_of, both-push_piece}
+use Rattle.dwarf_base.specs.Reads.{Text}
+use Rattle.dwarf_op.specs.Views.{operation_of}
+use Rattle.dwarf_op.specs.declared.operations.Operation as code
+use Rattle.dwarf_op.specs.declared.operations.Operation.TheVariants as variant
+use Rattle.dwarf_meaning.specs.Bounds.{piece_due, located_by, endings, located, faults_in}
+use Rattle.dwarf_meaning.specs.Inputs.{with_status}
+use Rattle.dwarf_eval.specs.inner.Steps.{Does, Refused, Tries, ReadsOperation, EndsLocated, total, ComesBy, Turns, read_to, with_last}
+use Rattle.dwarf_eval.proofs.Endings.{Ending, piece_ends}
+use Rattle.dwarf_eval.proofs.Loads.{Keeping, kept_in, piece_adds}
+use Rattle.dwarf_eval.proofs.Nearing.{nears_by}
+use Rattle.dwarf_eval.proofs.Spending.{fallen_spends, held_spends}
+use Rattle.dwarf_eval.proofs.Totals.{closed, going, total_running, course_failed}
+use Rattle.dwarf_eval.proofs.Turning.{total_inside, effort_running, falls_turns}
+
+-- an operation that is no piece ends none
+pub no_piece : {R O P : Type 0} (text : R → Text) (number : O → ℕ) (op : code.Operation R O P)
+    → ((size_in_bits : ℕ) (bit_offset : Option ℕ) → op ≡ variant.Piece size_in_bits bit_offset → ⊥)
+    → piece_ended_by (operation_of text number op) ≡ None
+no_piece text number (variant.Piece size_in_bits bit_offset) other = absurd (other size_in_bits bit_offset refl)
+no_piece text number op other = refl
+
+module _ (x : State) (location : Location) (runs : x.status ≡ Running) (inside : x.place < length x.text.bytes) (waits : x.store.last ≡ Located location) where
+  held_total : (r : Refusal) (inputs : List Input) (z : Result (Operation × List ℕ) Fault) → read x.setup x.text x.place ≡ z → total x r inputs ≡ total_of_course x.store.count x.setup x.callers (turn_located (run x.setup) x.setup x.text (length x.callers) location (with_refusal r x.store) inputs z)
+  held_total r inputs z e =
+      let s : Store = with_refusal r x.store in
+      total_inside x r inputs runs inside
+      ∙ (ap (λ (last : Last). total_of_course x.store.count x.setup x.callers (turn_by (run x.setup) x.setup x.text x.place (length x.callers) s inputs last)) waits
+      ∙ ap (λ (y : Result (Operation × List ℕ) Fault). total_of_course x.store.count x.setup x.callers (turn_located (run x.setup) x.setup x.text (length x.callers) location s inputs y)) e)
+
+  waited : waits_of x.store.last ≡ 1
+  waited = ap waits_of waits
+
+  -- a fault of what was read: nothing is counted
+  module _ (place : ℕ) (new : State) (error : Error) (is : new ≡ with_status (FaultStatus error) (read_to place x)) where
+    read_falls : ((inputs : List Input) → total x Never inputs ≡ closed (FaultOutcome (fault_of error)) x.store.count) → Turns x new
+    read_falls same =
+        let failed : new.status ≡ FaultStatus error = ap (λ (z : State). z.status) is in
+        let count : new.store.count ≡ x.store.count = ap (λ (z : State). z.store.count) is in
+        let callers = ap (λ (z : State). length z.callers) is in
+        let lists = ap (λ (z : State). length z.store.values + length z.store.pieces) is in
+        let decodings = ap (λ (z : State). z.decodings) is in
+        let due = ap (piece_due x.store.last) runs in
+        falls_turns x new error runs failed (record {
+          refusal = Never;
+          may = tt;
+          same = λ inputs. same inputs ∙ ap (closed (FaultOutcome (fault_of error))) (sym count);
+          kept = record { setup = ap (λ (z : State). z.setup) is; object_address = ap (λ (z : State). z.store.object_address) is; maximum = ap (λ (z : State). z.store.maximum) is };
+          spends = fallen_spends x new error (ap faults_in runs) failed (omega (arith, callers)) (omega (arith, count)) (omega (arith, lists)) (omega (arith, decodings, count, due, waited)) (ap (λ (z : State). z.store.pieces) is) (omega (arith, decodings, count)) (omega (arith, decodings, count));
+        })
+
+    pub held_unread : read x.setup x.text x.place ≡ Err (fault_of error) → Turns x new
+    held_unread e = read_falls (λ inputs. held_total Never inputs (Err (fault_of error)) e ∙ course_failed x.store.count x.setup x.callers (fault_of error))
+
+  module _ (op : Operation) (behind : List ℕ) (was : read x.setup x.text x.place ≡ Ok (op, behind)) where
+    abbrev place_then : ℕ
+    place_then = length x.text.bytes - length behind
+
+    held_after_operation : (r : Refusal) (inputs : List Input) (o : Option (ℕ × Option ℕ)) (next : Next) → piece_ended_by op ≡ o → end_located x.setup location place_then (with_refusal r x.store) o ≡ next → total x r inputs ≡ total_of_course x.store.count x.setup x.callers (after_operation (run x.setup) x.setup x.text (length x.callers) place_then inputs next)
+    held_after_operation r inputs o next e f =
+        held_total r inputs (Ok (op, behind)) was
+        ∙ (ap (λ (p : Option (ℕ × Option ℕ)). total_of_course x.store.count x.setup x.callers (after_operation (run x.setup) x.setup x.text (length x.callers) place_then inputs (end_located x.setup location place_then (with_refusal r x.store) p))) e
+        ∙ ap (λ (n : Next). total_of_course x.store.count x.setup x.callers (after_operation (run x.setup) x.setup x.text (length x.callers) place_then inputs n)) f)
+
+    held_other : (new : State) → piece_ended_by op ≡ None → new ≡ with_status (FaultStatus (error.InvalidExpressionTerminator (place_then - 1))) (read_to place_then x) → Turns x new
+    held_other new none is =
+        read_falls place_then new (error.InvalidExpressionTerminator (place_then - 1)) is
+        (λ inputs. held_after_operation Never inputs None (FaultNext (InvalidExpressionTerminator (place_then - 1))) none refl ∙ course_failed x.store.count x.setup x.callers (InvalidExpressionTerminator (place_then - 1)))
+
+    module _ (size : ℕ × Option ℕ) (some : piece_ended_by op ≡ Some size) where
+      abbrev piece : Piece
+      piece = sized size.0 size.1 location
+
+      abbrev mid : State
+      mid = with_last Pieced (read_to place_then x)
+
+      piece_turned : (new : State) → Does (push_piece x.setup piece) mid new → Turns x new
+      piece_turned new d =
+          let still : new.status ≡ Running = ap (λ (z : State). z.status) d.alone ∙ runs in
+          let s : Store = with_refusal (before_pushes d.steps.pushes Never) mid.store in
+          let both : KeepsBoth (tally_of s) Pieced (with_refusal Never new.store) = subst (OnStore (KeepsBoth (tally_of s) Pieced)) (d.steps.same Never) (both-push_piece x.setup piece s) in
+          let tally : tally_of new.store ≡ tally_of x.store = both.tally in
+          let count : new.store.count ≡ x.store.count = ap (λ (m : Tally). m.count) tally in
+          let last : waits_of new.store.last ≡ 0 = ap waits_of both.last in
+          let callers : length new.callers ≡ length x.callers = ap (λ (z : State). length z.callers) d.alone in
+          let added : kept_in new.store ≡ kept_in mid.store + 1 = subst (OnStore (Keeping (kept_in s + 1))) (d.steps.same Never) (piece_adds x.setup piece s) in
+          let kept : kept_in new.store ≡ kept_in x.store = omega (arith, added, waited) in
+          let more : endings new.store.pieces ≡ endings x.store.pieces + located_by location = subst (OnStore (Ending (endings s.pieces + located_by location))) (d.steps.same Never) (piece_ends x.setup piece s) in
+          let ended : endings new.store.pieces ≡ endings x.store.pieces + located x.store.last = more ∙ ap (λ (l : Last). endings x.store.pieces + located l) (sym waits) in
+          let was = effort_running x runs in
+          let is = effort_running new still in
+          record {
+            comes = subst (ComesBy x (total x) new) (sym still) (record {
+              pushes = d.steps.pushes;
+              same = λ r inputs.
+                  held_after_operation (before_pushes d.steps.pushes r) inputs (Some size) (Goes place_then (with_refusal r new.store)) some (ap (goes place_then) (d.steps.same r))
+                  ∙ (ap (λ (n : ℕ). going (record mid { store = record mid.store { count = n } }) (with_refusal r new.store) inputs) (sym count)
+                  ∙ sym (total_running r new inputs still ∙ ap (λ (z : State). going z (with_refusal r new.store) inputs) d.alone));
+              kept = record {
+                setup = ap (λ (z : State). z.setup) d.alone;
+                object_address = ap (λ (m : Tally). m.object_address) tally;
+                maximum = ap (λ (m : Tally). m.maximum) tally;
+              };
+              spends = held_spends x new runs still callers count (ap (λ (z : State). z.decodings) d.alone) waited last kept ended;
+              nears = nears_by x new Running Running runs still (omega (arith, count));
+            });
+            less = omega (arith, was, is, callers, count, last, waited);
+          }
+
+      piece_falls : (new : State) → Refused 0 (push_piece x.setup piece) mid new → Turns x new
+      piece_falls new h =
+          let count : new.store.count ≡ x.store.count = h.stays.count in
+          let callers = h.stays.callers in
+          let items = h.stays.items in
+          let decodings = h.stays.decodings in
+          let due = ap (piece_due x.store.last) runs in
+          falls_turns x new h.error runs h.failed (record {
+            refusal = h.gets.refusal;
+            may = h.gets.may;
+            same = λ inputs.
+                held_after_operation h.gets.refusal inputs (Some size) (FaultNext (fault_of h.error)) some (ap (goes place_then) h.gets.same)
+                ∙ (course_failed x.store.count x.setup x.callers (fault_of h.error) ∙ ap (closed (FaultOutcome (fault_of h.error))) (sym count));
+            kept = record { setup = h.stays.kept.setup; object_address = h.stays.kept.object_address; maximum = h.stays.kept.maximum };
+            spends = fallen_spends x new h.error (ap faults_in runs) h.failed (omega (arith, callers)) (omega (arith, count)) (omega (arith, items)) (omega (arith, decodings, count, due, waited)) h.stays.pieces (omega (arith, decodings, count)) (omega (arith, decodings, count));
+          })
+
+      piece_turns : (new : State) (done : Bool) → Tries 0 (push_piece x.setup piece) mid new done → Turns x new
+      piece_turns new true h = piece_turned new h
+      piece_turns new false h = piece_falls new h
+
+    pub held_turns : (new : State) (o : Option (ℕ × Option ℕ)) → piece_ended_by op ≡ o → EndsLocated location o (read_to place_then x) new → Turns x new
+    held_turns new None e h = held_other new e h
+    held_turns new (Some size) e h = piece_turns size e new h.0 h.1
+
+-- ---- as the machine does it
+
+module _ (x : State) (location : Location) (runs : x.status ≡ Running) (inside : x.place < length x.text.bytes) (waits : x.store.last ≡ Located location) (behind new : State) where
+  pub hold_unread : (error : Error) → read x.setup x.text x.place ≡ Err (fault_of error) → behind ≡ read_to behind.place x → new ≡ with_status (FaultStatus error) behind → Turns x new
+  hold_unread error was moved is = held_unread x location runs inside waits behind.place new error (is ∙ ap (with_status (FaultStatus error)) moved) was
+
+  pub hold_turns : (op : Operation) → ReadsOperation op x behind → EndsLocated location (piece_ended_by op) behind new → Turns x new
+  hold_turns op r h =
+      held_turns x location runs inside waits op r.behind r.was new (piece_ended_by op) refl
+      (subst (λ (z : State). EndsLocated location (piece_ended_by op) z new) r.moved h)

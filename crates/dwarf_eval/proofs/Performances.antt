@@ -1,0 +1,226 @@
+-- What an operation does to a state is what its act says.
+use Rattle.std.proofs.Common.{ℕ, ℤ, ◌≡◌, ◌+◌, ◌<◌, ◌≤◌, Bool, true, false, List, [], ◌∷◌, length, Result, Ok, Some, None, arith, ap, ◌∙◌, sym, refl, subst, nat_lt}
+use Rattle.std.proofs.lemmas.Bool.Decides.{nat_tests}
+use Rattle.dwarf_base.specs.declared.errors.Error.{Error}
+use Rattle.dwarf_base.specs.declared.errors.Error.TheVariants as error
+use Rattle.dwarf_base.specs.Faults.{Fault, fault_of}
+use Rattle.dwarf_base.specs.declared.errors.Error.TheVariants.{BadBranchTarget}
+use Rattle.dwarf_value.specs.declared.types.Value.{Value}
+use Rattle.dwarf_meaning.specs.Locations.{Location, Piece}
+use Rattle.dwarf_meaning.specs.Requests.{Request, Waiting}
+use Rattle.dwarf_meaning.specs.Acts.{Act, Pushes, Branches, Locates, EndsPiece, RequestAct, FaultAct, push}
+use Rattle.dwarf_meaning.specs.Stores.{Setup, Store, Last, Plain, Pieced, Located, push_value, push_piece, push_values, Next, Goes, RequestNext, FaultNext, goes, branch_target, branch}
+use Rattle.dwarf_meaning.specs.Rest.{State, Status, Start, Running, RequestStatus, CompleteStatus, FaultStatus, with_refusal}
+use Rattle.dwarf_meaning.specs.Refusals.{Refusal, Never, before_pushes}
+use Rattle.dwarf_meaning.proofs.Choices.{choose_true, choose_false}
+use Rattle.dwarf_meaning.specs.Inputs.{with_status}
+use Rattle.dwarf_eval.specs.inner.Steps.{Stays, Tries, Tried, Pops, Jumps, done_at, LeadsToFault, LeadsBy, Performs, with_store, with_values, with_last, with_place}
+use Rattle.dwarf_eval.proofs.Refusals.{tries_as, bind_ok}
+use Rattle.dwarf_eval.proofs.Staying.{stays_from, stays_low, stays_then}
+
+pub performs_as : (a b : Act) (old new : State) → a ≡ b → Performs b old new → Performs a old new
+performs_as a b old new e h = subst (λ (z : Act). Performs z old new) (sym e) h
+
+-- the operation is refused, by a fault that the state keeps
+pub performs_refuses : (a : Act) (error : Error) (old mid new : State) → a ≡ FaultAct (fault_of error) → Stays 0 old mid → new ≡ with_status (FaultStatus error) mid → Performs a old new
+performs_refuses a error old mid new e stays is =
+    subst (LeadsBy (done_at a old) old new) (sym (ap (λ (z : State). z.status) is)) (record {
+      gets = record { refusal = Never; may = tt; same = ap (λ (z : Act). done_at z old (with_refusal Never old.store)) e };
+      stays = stays_then (FaultStatus error) old mid new stays is;
+    })
+
+-- an act that goes on after the operation, once f is done
+module _ (a : Act) (f : Store → Result Store Fault) (old : State) (is : (s : Store) → done_at a old s ≡ goes old.place (f s)) where
+  pub performs_goes : (new : State) (done : Bool) → old.status ≡ Running → Tries 0 f old new done → Performs a old new
+  performs_goes new true runs d =
+      let place : new.place ≡ old.place = ap (λ (x : State). x.place) d.alone in
+      let still : new.status ≡ Running = ap (λ (x : State). x.status) d.alone ∙ runs in
+      subst (LeadsBy (done_at a old) old new) (sym still) (record {
+        steps = record {
+          pushes = d.steps.pushes;
+          same = λ r.
+              is (with_refusal (before_pushes d.steps.pushes r) old.store)
+              ∙ (ap (goes old.place) (d.steps.same r) ∙ ap (λ (p : ℕ). Goes p (with_refusal r new.store)) (sym place));
+        };
+        alone = d.alone ∙ ap (λ (p : ℕ). with_store new.store (with_place p old)) (sym place);
+      })
+  performs_goes new false runs h =
+      subst (LeadsBy (done_at a old) old new) (sym h.failed) (record {
+        gets = record {
+          refusal = h.gets.refusal;
+          may = h.gets.may;
+          same = is (with_refusal h.gets.refusal old.store) ∙ ap (goes old.place) h.gets.same;
+        };
+        stays = h.stays;
+      })
+
+-- f of what is kept, once its values and the sort of the last operation are these
+abbrev pub from : (values : List Value) → Last → (Store → Result Store Fault) → Store → Result Store Fault
+from values last f s = f (record s { values = values; last = last })
+
+tries_from : (rest : List Value) (last : Last) (f : Setup → Store → Result Store Fault) (old mid new : State) (done : Bool) → length rest ≤ length old.store.values → mid ≡ with_last last (with_values rest old) → Tries 0 (f mid.setup) mid new done → Tries 0 (from rest last (f old.setup)) old new done
+tries_from rest last f old mid new done fewer e h =
+    let h' = subst (λ (z : State). Tries 0 (f z.setup) z new done) e h in
+    tries_as 0 0 (f old.setup) (from rest last (f old.setup)) old (with_last last (with_values rest old)) new done (λ r. refl) (λ s. refl) refl
+    (stays_from 0 0 rest last old.status old new (omega (arith, fewer))) h'
+
+-- Values are pushed; if one is refused, no more are there than were popped.
+pub performs_pushes : (more : ℕ) (rest pushed : List Value) (old mid new : State) → old.status ≡ Running → length rest + more ≤ length old.store.values → mid ≡ with_values rest old → Tried more (λ s. push_values mid.setup pushed (record s { last = Plain })) mid new → Performs (Pushes rest pushed) old new
+performs_pushes more rest pushed old mid new runs fits e h =
+    let h' = subst (λ (z : State). Tries more (λ s. push_values z.setup pushed (record s { last = Plain })) z new h.0) e h.1 in
+    performs_goes (Pushes rest pushed) (from rest Plain (push_values old.setup pushed)) old (λ s. refl) new h.0 runs
+    (tries_as more 0 (λ s. push_values old.setup pushed (record s { last = Plain })) (from rest Plain (push_values old.setup pushed)) old (with_values rest old) new h.0 (λ r. refl) (λ s. refl) refl
+    (stays_from more 0 rest old.store.last old.status old new (omega (arith, fits))) h')
+
+-- one value is pushed
+pub performs_push : (rest : List Value) (value : Value) (old mid new : State) → old.status ≡ Running → length rest ≤ length old.store.values → mid ≡ with_values rest old → Tried 0 (λ s. push_value mid.setup value (record s { last = Plain })) mid new → Performs (Pushes rest (value ∷ [])) old new
+performs_push rest value old mid new runs fewer e h =
+    performs_pushes 0 rest (value ∷ []) old mid new runs (omega (arith, fewer)) e (
+      h.0,
+      tries_as 0 0 (λ s. push_value mid.setup value (record s { last = Plain })) (λ s. push_values mid.setup (value ∷ []) (record s { last = Plain })) mid mid new h.0
+          (λ r. bind_ok (push_value mid.setup value (record (with_refusal r mid.store) { last = Plain }))) (λ s. refl) refl (λ stays. stays) h.1,
+    )
+
+-- a value is pushed on those that are there
+pub performs_more : (value : Value) (old new : State) → old.status ≡ Running → Tried 0 (λ s. push_value old.setup value (record s { last = Plain })) old new → Performs (push old.store.values value) old new
+performs_more value old new runs h = performs_push old.store.values value old old new runs (omega arith) refl h
+
+-- nothing is pushed
+pub performs_none : (rest : List Value) (old new : State) → old.status ≡ Running → new ≡ with_last Plain (with_values rest old) → Performs (Pushes rest []) old new
+performs_none rest old new runs e =
+    performs_goes (Pushes rest []) (from rest Plain (λ s. Ok s)) old (λ s. refl) new true runs (record {
+      steps = record { pushes = 0; same = λ r. ap (λ (z : State). Ok (with_refusal r z.store)) (sym e) };
+      alone = e ∙ ap (λ (z : State). with_store z.store old) (sym e);
+    })
+
+-- a location waits
+pub performs_located : (rest : List Value) (location : Location) (old new : State) → old.status ≡ Running → new ≡ with_last (Located location) (with_values rest old) → Performs (Locates rest location) old new
+performs_located rest location old new runs e =
+    performs_goes (Locates rest location) (from rest (Located location) (λ s. Ok s)) old (λ s. refl) new true runs (record {
+      steps = record { pushes = 0; same = λ r. ap (λ (z : State). Ok (with_refusal r z.store)) (sym e) };
+      alone = e ∙ ap (λ (z : State). with_store z.store old) (sym e);
+    })
+
+-- a piece is ended
+pub performs_ends : (rest : List Value) (piece : Piece) (old mid new : State) (done : Bool) → old.status ≡ Running → length rest ≤ length old.store.values → mid ≡ with_last Pieced (with_values rest old) → Tries 0 (push_piece mid.setup piece) mid new done → Performs (EndsPiece rest piece) old new
+performs_ends rest piece old mid new done runs fewer e h =
+    performs_goes (EndsPiece rest piece) (from rest Pieced (push_piece old.setup piece)) old (λ s. refl) new done runs
+    (tries_from rest Pieced (λ setup. push_piece setup piece) old mid new done fewer e h)
+
+-- something is asked
+pub performs_asks : (rest : List Value) (request : Request) (waiting : Waiting) (old new : State) → new ≡ with_status (RequestStatus request waiting) (with_values rest old) → Performs (RequestAct rest request waiting) old new
+performs_asks rest request waiting old new e =
+    subst (LeadsBy (done_at (RequestAct rest request waiting) old) old new) (sym (ap (λ (z : State). z.status) e)) (record {
+      steps = record { pushes = 0; same = λ r. ap (λ (z : State). RequestNext request waiting (with_refusal r z.store)) (sym e) };
+      alone = e ∙ ap (λ (z : State). with_store z.store (with_status (RequestStatus request waiting) old)) (sym e);
+    })
+
+-- a branch is taken
+pub performs_branch : (t : ℤ) (old mid new : State) (target : ℕ) (done : Bool) → old.status ≡ Running → mid ≡ with_last Plain old → target ≡ branch_target mid.setup mid.place t → Jumps target mid new done → Performs (Branches old.store.values t) old new
+performs_branch t old mid new target true runs e f h =
+    let rest = old.store.values in
+    let is : target ≡ branch_target old.setup old.place t = f ∙ ap (λ (z : State). branch_target z.setup z.place t) e in
+    let new_is : new ≡ with_place target (with_last Plain old) = h.1 ∙ ap (with_place target) e in
+    let fits : target ≤ length old.text.bytes = subst (λ (z : State). target ≤ length z.text.bytes) e h.0 in
+    let place : new.place ≡ target = ap (λ (z : State). z.place) new_is in
+    let inside : nat_lt (length old.text.bytes) target ≡ false = grind (arith, nat_tests) in
+    subst (LeadsBy (done_at (Branches rest t) old) old new) (sym (ap (λ (z : State). z.status) new_is ∙ runs)) (record {
+      steps = record {
+        pushes = 0;
+        same = λ r.
+            let s : Store = record (with_refusal r old.store) { values = rest; last = Plain } in
+            ap (λ (n : ℕ). branch (length old.text.bytes) n s) (sym is)
+            ∙ (choose_false (nat_lt (length old.text.bytes) target) (FaultNext (BadBranchTarget target)) (Goes target s) inside
+            ∙ ap (λ (z : State). Goes z.place (with_refusal r z.store)) (sym new_is));
+      };
+      alone = new_is ∙ ap (λ (z : State). with_store z.store (with_place z.place old)) (sym new_is);
+    })
+performs_branch t old mid new target false runs e f h =
+    let rest = old.store.values in
+    let is : target ≡ branch_target old.setup old.place t = f ∙ ap (λ (z : State). branch_target z.setup z.place t) e in
+    let far : length old.text.bytes < target = subst (λ (z : State). length z.text.bytes < target) e h.0 in
+    let outside : nat_lt (length old.text.bytes) target ≡ true = grind (arith, nat_tests) in
+    let s : Store = record (with_refusal Never old.store) { values = rest; last = Plain } in
+    subst (LeadsBy (done_at (Branches rest t) old) old new) (sym (ap (λ (z : State). z.status) h.1)) (record {
+      gets = record {
+        refusal = Never;
+        may = tt;
+        same =
+            ap (λ (n : ℕ). branch (length old.text.bytes) n s) (sym is)
+            ∙ choose_true (nat_lt (length old.text.bytes) target) (FaultNext (BadBranchTarget target)) (Goes target s) outside;
+      };
+      stays = stays_then (FaultStatus (error.BadBranchTarget target)) old mid new (stays_low rest Plain old mid (omega arith) e) h.1;
+    })
+
+-- ---- several values are popped
+
+pub record PopsTwo (y x : Value) (old new : State) : Type 0 where
+  pub rest : List Value
+  pub values : old.store.values ≡ y ∷ x ∷ rest
+  pub alone : new ≡ with_values rest old
+
+pub pops_two : (y x : Value) (old mid new : State) → Pops (Some y) old mid → Pops (Some x) mid new → PopsTwo y x old new
+pops_two y x old mid new h i =
+    let low : mid.store.values ≡ h.0 = ap (λ (z : State). z.store.values) h.2 in
+    record { rest = i.0; values = h.1 ∙ ap (λ (vs : List Value). y ∷ vs) (sym low ∙ i.1); alone = i.2 ∙ ap (with_values i.0) h.2 }
+
+pub fewer_two : (y x : Value) (rest values : List Value) → values ≡ y ∷ x ∷ rest → length rest + 1 ≤ length values
+fewer_two y x rest values e = let n = ap length e in omega (arith, n)
+
+pub stays_two : (y x : Value) (old new : State) → PopsTwo y x old new → Stays 0 old new
+stays_two y x old new h =
+    let n = fewer_two y x h.rest old.store.values h.values in
+    stays_low h.rest old.store.last old new (omega (arith, n)) h.alone
+
+pub pops_one : (y : Value) (old mid new : State) → Pops (Some y) old mid → Pops None mid new → old.store.values ≡ y ∷ []
+pops_one y old mid new h i =
+    let low : mid.store.values ≡ h.0 = ap (λ (z : State). z.store.values) h.2 in
+    h.1 ∙ ap (λ (vs : List Value). y ∷ vs) (sym low ∙ i.0)
+
+pub record PopsThree (z y x : Value) (old new : State) : Type 0 where
+  pub rest : List Value
+  pub values : old.store.values ≡ z ∷ y ∷ x ∷ rest
+  pub alone : new ≡ with_values rest old
+
+pub pops_three : (z y x : Value) (old mid new : State) → PopsTwo z y old mid → Pops (Some x) mid new → PopsThree z y x old new
+pops_three z y x old mid new h i =
+    let low : mid.store.values ≡ h.rest = ap (λ (s : State). s.store.values) h.alone in
+    record { rest = i.0; values = h.values ∙ ap (λ (vs : List Value). z ∷ y ∷ vs) (sym low ∙ i.1); alone = i.2 ∙ ap (with_values i.0) h.alone }
+
+pub fewer_three : (z y x : Value) (rest values : List Value) → values ≡ z ∷ y ∷ x ∷ rest → length rest + 2 ≤ length values
+fewer_three z y x rest values e = let n = ap length e in omega (arith, n)
+
+pub pops_only_two : (z y : Value) (old mid new : State) → PopsTwo z y old mid → Pops None mid new → old.store.values ≡ z ∷ y ∷ []
+pops_only_two z y old mid new h i =
+    let low : mid.store.values ≡ h.rest = ap (λ (s : State). s.store.values) h.alone in
+    h.values ∙ ap (λ (vs : List Value). z ∷ y ∷ vs) (sym low ∙ i.0)
+
+-- ---- an operation on what is left of the stack
+
+module _ (rest : List Value) (old new : State) (fewer : length rest ≤ length old.store.values) where
+  low_fails : (error : Error) (f g : Store → Next) → ((r : Refusal) → g (with_refusal r old.store) ≡ f (with_refusal r (with_values rest old).store)) → LeadsToFault f error (with_values rest old) new → LeadsToFault g error old new
+  low_fails error f g is h = record {
+    gets = record { refusal = h.gets.refusal; may = h.gets.may; same = is h.gets.refusal ∙ h.gets.same };
+    stays = stays_from 0 0 rest old.store.last old.status old new (omega (arith, fewer)) h.stays;
+  }
+
+  low_by : (f g : Store → Next) → ((r : Refusal) → g (with_refusal r old.store) ≡ f (with_refusal r (with_values rest old).store)) → (status : Status) → LeadsBy f (with_values rest old) new status → LeadsBy g old new status
+  low_by f g is Running h = record { steps = record { pushes = h.steps.pushes; same = λ r. is (before_pushes h.steps.pushes r) ∙ h.steps.same r }; alone = h.alone }
+  low_by f g is (RequestStatus request waiting) h = record { steps = record { pushes = h.steps.pushes; same = λ r. is (before_pushes h.steps.pushes r) ∙ h.steps.same r }; alone = h.alone }
+  low_by f g is (FaultStatus error) h = low_fails error f g is h
+  low_by f g is (Start initial_value) h = absurd h
+  low_by f g is (CompleteStatus value) h = absurd h
+
+-- an act leaves no trace of the values that were popped before it
+act_low : (a : Act) (rest : List Value) (old : State) (r : Refusal) → done_at a old (with_refusal r old.store) ≡ done_at a (with_values rest old) (with_refusal r (with_values rest old).store)
+act_low (Pushes left pushed) rest old r = refl
+act_low (Branches left target) rest old r = refl
+act_low (Locates left location) rest old r = refl
+act_low (EndsPiece left piece) rest old r = refl
+act_low (RequestAct left request waiting) rest old r = refl
+act_low (FaultAct fault) rest old r = refl
+
+-- first a pop, and then the act on what is left
+pub performs_low : (f : List Value → Act) (rest : List Value) (old mid new : State) → length rest ≤ length old.store.values → mid ≡ with_values rest old → Performs (f mid.store.values) mid new → Performs (f rest) old new
+performs_low f rest old mid new fewer e h =
+    low_by rest old new fewer (done_at (f rest) (with_values rest old)) (done_at (f rest) old) (act_low (f rest) rest old) new.status (subst (λ (z : State). Performs (f z.store.values) z new) e h)

@@ -1,0 +1,98 @@
+-- The refusal some pushes before, and parts of the machine one after the other.
+use Rattle.std.proofs.Common.{ℕ, zero, suc, ◌≡◌, ◌+◌, Bool, true, false, [], ◌∷◌, Result, Ok, Err, arith, ap, ◌∙◌, sym, refl, subst}
+use Rattle.dwarf_base.specs.Faults.{Fault, ◌>>=◌}
+use Rattle.dwarf_value.specs.declared.types.Value.{Value}
+use Rattle.dwarf_meaning.specs.Stores.{Setup, Store, push_value, push_values}
+use Rattle.dwarf_meaning.specs.Rest.{State, with_refusal}
+use Rattle.dwarf_meaning.specs.Refusals.{Limits, Refusal, Never, After, MayPick, before_push, before_pushes}
+use Rattle.dwarf_eval.specs.inner.Steps.{Gets, Does, Stays, Tries, with_store}
+
+pub before_more : (p q : ℕ) (r : Refusal) → before_pushes (p + q) r ≡ before_pushes p (before_pushes q r)
+before_more zero q r =
+    let e : zero + q ≡ q = omega arith in
+    ap (λ (n : ℕ). before_pushes n r) e
+before_more (suc p) q r =
+    let e : suc p + q ≡ suc (p + q) = omega arith in
+    ap (λ (n : ℕ). before_pushes n r) e ∙ ap before_push (before_more p q r)
+
+pub before_never : (p : ℕ) → before_pushes p Never ≡ Never
+before_never zero = refl
+before_never (suc p) = ap before_push (before_never p)
+
+pub before_later : (p inputs pushes : ℕ) → before_pushes p (After (suc inputs) pushes) ≡ After (suc inputs) pushes
+before_later zero inputs pushes = refl
+before_later (suc p) inputs pushes = ap before_push (before_later p inputs pushes)
+
+may_before_push : (limits : Limits) (r : Refusal) → MayPick limits r → MayPick limits (before_push r)
+may_before_push limits Never h = tt
+may_before_push limits (After zero pushes) h = h
+may_before_push limits (After (suc inputs) pushes) h = h
+
+pub may_before : (limits : Limits) (p : ℕ) (r : Refusal) → MayPick limits r → MayPick limits (before_pushes p r)
+may_before limits zero r h = h
+may_before limits (suc p) r h = may_before_push limits _ (may_before limits p r h)
+
+-- if both are alike, one is tried as the other
+pub tries_as : (n m : ℕ) (f g : Store → Result Store Fault) (old mid new : State) (done : Bool) → ((r : Refusal) → g (with_refusal r old.store) ≡ f (with_refusal r mid.store)) → ((s : Store) → with_store s mid ≡ with_store s old) → mid.setup ≡ old.setup → (Stays n mid new → Stays m old new) → Tries n f mid new done → Tries m g old new done
+tries_as n m f g old mid new true is alone setup stays d = record {
+  steps = record { pushes = d.steps.pushes; same = λ r. is (before_pushes d.steps.pushes r) ∙ d.steps.same r };
+  alone = d.alone ∙ alone new.store;
+}
+tries_as n m f g old mid new false is alone setup stays d = record {
+  error = d.error;
+  failed = d.failed;
+  gets = record {
+    refusal = d.gets.refusal;
+    may = subst (λ (z : Setup). MayPick z.limits d.gets.refusal) setup d.gets.may;
+    same = is d.gets.refusal ∙ d.gets.same;
+  };
+  stays = stays d.stays;
+}
+
+-- first f, and then g
+pub does_then : (n m : ℕ) (f : Store → Result Store Fault) (g : Setup → Store → Result Store Fault) (old mid new : State) (done : Bool) → Does f old mid → (Stays n mid new → Stays m old new) → Tries n (g mid.setup) mid new done → Tries m (λ s. f s >>= g old.setup) old new done
+does_then n m f g old mid new true h stays i =
+    let setup : mid.setup ≡ old.setup = ap (λ (z : State). z.setup) h.alone in
+    let p = h.steps.pushes in
+    let q = i.steps.pushes in
+    record {
+      steps = record {
+        pushes = p + q;
+        same = λ r.
+            ap (λ (z : Refusal). f (with_refusal z old.store) >>= g old.setup) (before_more p q r)
+            ∙ (ap (λ (z : Result Store Fault). z >>= g old.setup) (h.steps.same (before_pushes q r))
+            ∙ (ap (λ (z : Setup). g z (with_refusal (before_pushes q r) mid.store)) (sym setup) ∙ i.steps.same r));
+      };
+      alone = i.alone ∙ ap (with_store new.store) h.alone;
+    }
+does_then n m f g old mid new false h stays i =
+    let setup : mid.setup ≡ old.setup = ap (λ (z : State). z.setup) h.alone in
+    let p = h.steps.pushes in
+    let gets = i.gets in
+    record {
+      error = i.error;
+      failed = i.failed;
+      gets = record {
+        refusal = before_pushes p gets.refusal;
+        may = may_before old.setup.limits p gets.refusal (subst (λ (z : Setup). MayPick z.limits gets.refusal) setup gets.may);
+        same =
+            ap (λ (z : Result Store Fault). z >>= g old.setup) (h.steps.same gets.refusal)
+            ∙ (ap (λ (z : Setup). g z (with_refusal gets.refusal mid.store)) (sym setup) ∙ gets.same);
+      };
+      stays = stays i.stays;
+    }
+
+pub gets_then : (limits : Limits) (f g : Store → Result Store Fault) (s : Store) (fault : Fault) → Gets limits f s (Err fault) → Gets limits (λ z. f z >>= g) s (Err fault)
+gets_then limits f g s fault h = record { refusal = h.refusal; may = h.may; same = ap (λ (z : Result Store Fault). z >>= g) h.same }
+
+pub bind_ok : (r : Result Store Fault) → (r >>= λ s. Ok s) ≡ r
+bind_ok (Ok s) = refl
+bind_ok (Err fault) = refl
+
+-- two pushes, one after the other
+bind_two : (f : Store → Result Store Fault) (r : Result Store Fault) → (r >>= λ s. f s >>= λ t. Ok t) ≡ r >>= f
+bind_two f (Ok s) = bind_ok (f s)
+bind_two f (Err fault) = refl
+
+pub push_values-two : (setup : Setup) (first second : Value) (s : Store) → push_values setup (first ∷ second ∷ []) s ≡ push_value setup first s >>= push_value setup second
+push_values-two setup first second s = bind_two (push_value setup second) (push_value setup first s)

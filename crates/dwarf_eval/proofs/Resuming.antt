@@ -1,0 +1,187 @@
+-- The outcome of an answer.
+use Rattle.std.proofs.Common.{ℕ, suc, ◌≡◌, ◌+◌, ◌≤◌, arith, Bool, true, false, List, [], ◌∷◌, length, Result, Ok, Err, ap, ◌∙◌, sym, refl, subst}
+use Rattle.dwarf_base.specs.declared.errors.Error.{Error}
+use Rattle.dwarf_base.specs.Faults.{Fault, fault_of}
+use Rattle.dwarf_base.specs.Reads.{Text}
+use Rattle.dwarf_value.specs.declared.types.Value.{Value}
+use Rattle.dwarf_meaning.specs.Requests.{Request, Waiting, Answer, Input}
+use Rattle.dwarf_meaning.specs.Acts.{Use, PushesAnswer, Calls, FaultUse, use_of}
+use Rattle.dwarf_meaning.specs.RunLaws.{waits_of}
+use Rattle.dwarf_meaning.specs.Stores.{address_bits, Store, Pushed, Called, push_value, push_caller}
+use Rattle.dwarf_meaning.specs.Run.{Position, Course, RequestEnd, only_end, run_callee, enter_callee, after_push, after_answer, run}
+use Rattle.dwarf_meaning.specs.Meaning.{FaultOutcome}
+use Rattle.dwarf_meaning.specs.Rest.{State, Running, RequestStatus, FaultStatus, with_refusal, total_of_course}
+use Rattle.dwarf_meaning.specs.Refusals.{Refusal, Never, After, taken, MayPick, before_input, before_pushes}
+use Rattle.dwarf_meaning.proofs.Counts.{HasTally, OnStore, Tally, tally_of, tally-push_caller}
+use Rattle.dwarf_meaning.proofs.Effects.{IsUseOf, use_is}
+use Rattle.dwarf_meaning.specs.Bounds.{located, faults_in}
+use Rattle.dwarf_meaning.specs.Inputs.{input_of, with_status}
+use Rattle.dwarf_eval.specs.inner.Steps.{Total, total_after, Does, Refused, Stays, Tries, Tried, Enters, TriesToEnter, ComesBy, Takes, with_last, with_values}
+use Rattle.dwarf_eval.proofs.Loads.{HasLast, HasPieces, Keeping, kept_in, value_adds, value_last, value_pieces, frame_adds, frame_last, frame_pieces}
+use Rattle.dwarf_eval.proofs.Nearing.{nears_by}
+use Rattle.dwarf_eval.proofs.Spending.{answered_spends, fallen_spends}
+use Rattle.dwarf_eval.proofs.Reaching.{value_tally}
+use Rattle.dwarf_eval.proofs.Staying.{stays_from, stays_then}
+use Rattle.dwarf_eval.proofs.Totals.{closed, going, total_running, total_waits, course_failed}
+
+taken_before : (r : Refusal) → taken (before_input r) ≡ r
+taken_before Never = refl
+taken_before (After inputs pushes) = refl
+
+module _ (x : State) (request : Request) (waiting : Waiting) (open_now : x.status ≡ RequestStatus request waiting) (answer : Answer) where
+  abbrev position : Position
+  position = record { text = x.text; place = x.place }
+
+  abbrev totals : Refusal → List Input → Total
+  totals = total_after x (input_of x answer)
+
+  -- what is kept once the answer is taken; the settings are those of the state
+  abbrev use_total : (r : Refusal) → List Input → Refusal → Use → Total
+  use_total r inputs q u = total_of_course x.store.count x.setup x.callers (after_answer (run x.setup) x.setup position (length x.callers) u (with_refusal q x.store) inputs (only_end (RequestEnd request (position ∷ []) (input_of x answer ∷ inputs))))
+
+  answer_rest : (r : Refusal) (inputs : List Input) (u : Use) → use_of (address_bits x.setup) waiting answer x.store.values ≡ u → totals r inputs ≡ use_total r inputs r u
+  answer_rest r inputs u e =
+      total_waits (before_input r) x (input_of x answer ∷ inputs) request waiting open_now
+      ∙ (ap (λ (q : Refusal). use_total r inputs q (use_of (address_bits x.setup) waiting answer x.store.values)) (taken_before r)
+      ∙ ap (use_total r inputs r) e)
+
+  -- an answer that ends in a fault
+  takes_fault : (new : State) (error : Error) (refusal : Refusal) → new.status ≡ FaultStatus error → Stays 0 x new → MayPick x.setup.limits refusal → ((inputs : List Input) → totals refusal inputs ≡ closed (FaultOutcome (fault_of error)) x.store.count) → Takes answer x new
+  takes_fault new error refusal failed stays may same =
+      let count = stays.count in
+      let callers = stays.callers in
+      let items = stays.items in
+      let decodings = stays.decodings in
+      subst (ComesBy x totals new) (sym failed) (record {
+        refusal = refusal;
+        may = may;
+        same = λ inputs. same inputs ∙ ap (closed (FaultOutcome (fault_of error))) (sym stays.count);
+        kept = stays.kept;
+        spends = fallen_spends x new error (ap faults_in open_now) failed (omega (arith, callers)) (omega (arith, count)) (omega (arith, items)) (omega (arith, decodings, count)) stays.pieces (omega (arith, decodings, count)) (omega (arith, decodings, count));
+      })
+
+  pub denies : (error : Error) (mid new : State) → use_of (address_bits x.setup) waiting answer x.store.values ≡ FaultUse (fault_of error) → Stays 0 x mid → new ≡ with_status (FaultStatus error) mid → Takes answer x new
+  denies error mid new e stays is =
+      takes_fault new error Never (ap (λ (z : State). z.status) is) (stays_then (FaultStatus error) x mid new stays is) tt
+      (λ inputs. answer_rest Never inputs (FaultUse (fault_of error)) e ∙ course_failed x.store.count x.setup x.callers (fault_of error))
+
+  -- a value is pushed on what the answer leaves of the stack
+  module _ (values : List Value) (value : Value) (gives : use_of (address_bits x.setup) waiting answer x.store.values ≡ PushesAnswer values value) where
+    abbrev answered : State
+    answered = with_status Running (with_last Pushed (with_values values x))
+
+    fewer : length values ≤ length x.store.values
+    fewer = subst (IsUseOf answer (length x.store.values)) gives (use_is (address_bits x.setup) waiting answer x.store.values)
+
+    value_taken : (new : State) → Does (push_value x.setup value) answered new → Takes answer x new
+    value_taken new d =
+        let tally = value_tally x.setup value (with_refusal (before_pushes d.steps.pushes Never) answered.store) (with_refusal Never new.store) (d.steps.same Never) in
+        let runs : new.status ≡ Running = ap (λ (z : State). z.status) d.alone in
+        let s : Store = with_refusal (before_pushes d.steps.pushes Never) answered.store in
+        let kept : kept_in new.store ≡ kept_in answered.store + 1 = subst (OnStore (Keeping (kept_in s + 1))) (d.steps.same Never) (value_adds x.setup value s) in
+        let last : waits_of new.store.last ≡ 0 = ap waits_of (subst (OnStore (HasLast s.last)) (d.steps.same Never) (value_last x.setup value s)) in
+        let callers = ap (λ (z : State). length z.callers) d.alone in
+        let count : new.store.count ≡ x.store.count = ap (λ (m : Tally). m.count) tally in
+        let low = fewer in
+        subst (ComesBy x totals new) (sym runs) (record {
+          pushes = d.steps.pushes;
+          same = λ r inputs.
+              answer_rest (before_pushes d.steps.pushes r) inputs (PushesAnswer values value) gives
+              ∙ (ap (λ (z : Result Store Fault). total_of_course x.store.count x.setup x.callers (after_push (run x.setup) position (length x.callers) inputs z)) (d.steps.same r)
+              ∙ (ap (λ (n : ℕ). total_of_course n x.setup x.callers (run x.setup x.text x.place (length x.callers) (with_refusal r new.store) inputs)) (sym count)
+              ∙ sym (total_running r new inputs runs ∙ ap (λ (z : State). going z (with_refusal r new.store) inputs) d.alone)));
+          kept = record {
+            setup = ap (λ (z : State). z.setup) d.alone;
+            object_address = ap (λ (m : Tally). m.object_address) tally;
+            maximum = ap (λ (m : Tally). m.maximum) tally;
+          };
+          spends = answered_spends x new request waiting open_now runs (omega (arith, callers)) (omega (arith, callers, kept, low)) count (ap (λ (z : State). z.decodings) d.alone) (omega (arith, last))
+              (subst (OnStore (HasPieces s.pieces)) (d.steps.same Never) (value_pieces x.setup value s)) (λ given. omega (arith, last));
+          nears = nears_by x new (RequestStatus request waiting) Running open_now runs (omega (arith, count));
+        })
+
+    value_refused : (new : State) → Refused 0 (push_value x.setup value) answered new → Takes answer x new
+    value_refused new h =
+        let low = fewer in
+        takes_fault new h.error h.gets.refusal h.failed (stays_from 0 0 values Pushed Running x new (omega (arith, low)) h.stays) h.gets.may
+        (λ inputs.
+        answer_rest h.gets.refusal inputs (PushesAnswer values value) gives
+        ∙ (ap (λ (z : Result Store Fault). total_of_course x.store.count x.setup x.callers (after_push (run x.setup) position (length x.callers) inputs z)) h.gets.same
+        ∙ course_failed x.store.count x.setup x.callers (fault_of h.error)))
+
+    takes_by : (new : State) (done : Bool) → Tries 0 (push_value x.setup value) answered new done → Takes answer x new
+    takes_by new true d = value_taken new d
+    takes_by new false h = value_refused new h
+
+    -- if the machine popped what the answer takes
+    pub value_takes : (mid new : State) → mid ≡ with_values values x → Tried 0 (push_value mid.setup value) (with_status Running (with_last Pushed mid)) new → Takes answer x new
+    value_takes mid new e h =
+        takes_by new h.0 (subst (λ (z : State). Tries 0 (push_value z.setup value) (with_status Running (with_last Pushed z)) new h.0) e h.1)
+
+  -- ---- a called text
+
+  pub empty_takes : (callee : Text) (new : State) → use_of (address_bits x.setup) waiting answer x.store.values ≡ Calls callee → callee.bytes ≡ [] → new ≡ with_last Called (with_status Running x) → Takes answer x new
+  empty_takes callee new calls none e =
+      let callers = ap (λ (z : State). length z.callers) e in
+      let kept = ap (λ (z : State). kept_in z.store) e in
+      let last = ap (λ (z : State). waits_of z.store.last) e in
+      let runs : new.status ≡ Running = ap (λ (z : State). z.status) e in
+      let count : new.store.count ≡ x.store.count = ap (λ (z : State). z.store.count) e in
+      subst (ComesBy x totals new) (sym runs) (record {
+        pushes = 0;
+        same = λ r inputs.
+            answer_rest r inputs (Calls callee) calls
+            ∙ (ap (λ (bytes : List ℕ). total_of_course x.store.count x.setup x.callers (run_callee (run x.setup) x.setup position (length x.callers) callee bytes (with_refusal r x.store) inputs)) none
+            ∙ sym (total_running r new inputs runs ∙ ap (λ (z : State). going z (with_refusal r z.store) inputs) e));
+        kept = record { setup = ap (λ (z : State). z.setup) e; object_address = ap (λ (z : State). z.store.object_address) e; maximum = ap (λ (z : State). z.store.maximum) e };
+        spends = answered_spends x new request waiting open_now runs (omega (arith, callers)) (omega (arith, callers, kept)) count (ap (λ (z : State). z.decodings) e) (omega (arith, last)) (ap (λ (z : State). z.store.pieces) e) (λ given. omega (arith, last));
+        nears = nears_by x new (RequestStatus request waiting) Running open_now runs (omega (arith, count));
+      })
+
+  module _ (callee : Text) (byte : ℕ) (bytes : List ℕ) (calls : use_of (address_bits x.setup) waiting answer x.store.values ≡ Calls callee) (some : callee.bytes ≡ byte ∷ bytes) where
+    call_rest : (r : Refusal) (inputs : List Input) (z : Result Store Fault) → push_caller x.setup (length x.callers) (with_refusal r x.store) ≡ z → totals r inputs ≡ total_of_course x.store.count x.setup x.callers (enter_callee (run x.setup) position (length x.callers) callee inputs z)
+    call_rest r inputs z e =
+        answer_rest r inputs (Calls callee) calls
+        ∙ (ap (λ (bs : List ℕ). total_of_course x.store.count x.setup x.callers (run_callee (run x.setup) x.setup position (length x.callers) callee bs (with_refusal r x.store) inputs)) some
+        ∙ ap (λ (y : Result Store Fault). total_of_course x.store.count x.setup x.callers (enter_callee (run x.setup) position (length x.callers) callee inputs y)) e)
+
+    text_taken : (new : State) → Enters callee (with_status Running x) new → Takes answer x new
+    text_taken new d =
+        let s : Store = with_refusal (before_pushes d.steps.pushes Never) x.store in
+        let tally : tally_of new.store ≡ tally_of x.store = subst (OnStore (HasTally (tally_of s))) (d.steps.same Never) (tally-push_caller x.setup (length x.callers) s) in
+        let runs : new.status ≡ Running = ap (λ (z : State). z.status) d.alone in
+        let kept : kept_in new.store ≡ kept_in x.store = subst (OnStore (Keeping (kept_in s))) (d.steps.same Never) (frame_adds x.setup (length x.callers) s) in
+        let stays : new.store.last ≡ x.store.last = subst (OnStore (HasLast s.last)) (d.steps.same Never) (frame_last x.setup (length x.callers) s) in
+        let last : waits_of new.store.last ≡ waits_of x.store.last = ap waits_of stays in
+        let gave : located new.store.last ≡ located x.store.last = ap located stays in
+        let callers : length new.callers ≡ suc (length x.callers) = ap (λ (z : State). length z.callers) d.alone in
+        let count : new.store.count ≡ x.store.count = ap (λ (m : Tally). m.count) tally in
+        subst (ComesBy x totals new) (sym runs) (record {
+          pushes = d.steps.pushes;
+          same = λ r inputs.
+              let t : Store = with_refusal r new.store in
+              let course : Course = run x.setup callee 0 (suc (length x.callers)) t inputs in
+              call_rest (before_pushes d.steps.pushes r) inputs (Ok t) (d.steps.same r)
+              ∙ (ap (λ (n : ℕ). total_of_course n x.setup (position ∷ x.callers) course) (sym count)
+              ∙ sym (total_running r new inputs runs ∙ ap (λ (z : State). going z t inputs) d.alone));
+          kept = record {
+            setup = ap (λ (z : State). z.setup) d.alone;
+            object_address = ap (λ (m : Tally). m.object_address) tally;
+            maximum = ap (λ (m : Tally). m.maximum) tally;
+          };
+          spends = answered_spends x new request waiting open_now runs (omega (arith, callers)) (omega (arith, callers, kept)) count (ap (λ (z : State). z.decodings) d.alone) (omega (arith, last))
+              (subst (OnStore (HasPieces s.pieces)) (d.steps.same Never) (frame_pieces x.setup (length x.callers) s)) (λ given. omega (arith, last, gave, given));
+          nears = nears_by x new (RequestStatus request waiting) Running open_now runs (omega (arith, count));
+        })
+
+    text_refused : (new : State) → Refused 0 (push_caller x.setup (length x.callers)) (with_status Running x) new → Takes answer x new
+    text_refused new h =
+        takes_fault new h.error h.gets.refusal h.failed (stays_from 0 0 x.store.values x.store.last Running x new (omega arith) h.stays) h.gets.may
+        (λ inputs. call_rest h.gets.refusal inputs (Err (fault_of h.error)) h.gets.same ∙ course_failed x.store.count x.setup x.callers (fault_of h.error))
+
+    text_takes_by : (new : State) (done : Bool) → TriesToEnter callee (with_status Running x) new done → Takes answer x new
+    text_takes_by new true d = text_taken new d
+    text_takes_by new false h = text_refused new h
+
+    pub text_takes : (mid new : State) (done : Bool) → mid ≡ with_status Running x → TriesToEnter callee mid new done → Takes answer x new
+    text_takes mid new done e h = text_takes_by new done (subst (λ (z : State). TriesToEnter callee z new done) e h)

@@ -1,0 +1,96 @@
+-- What stays if a part of the machine meets a fault.
+use Rattle.std.proofs.Common.{ℕ, ◌≡◌, ◌+◌, ◌≤◌, List, ◌∷◌, length, Option, Some, None, arith, ap, ◌∙◌, sym, refl, subst}
+use Rattle.dwarf_value.specs.declared.types.Value.{Value}
+use Rattle.dwarf_meaning.specs.RunLaws.{waits_of}
+use Rattle.dwarf_meaning.specs.Stores.{Setup, Store, Last, push_value}
+use Rattle.dwarf_meaning.specs.Rest.{State, Status, with_refusal}
+use Rattle.dwarf_meaning.specs.Refusals.{Never, before_pushes}
+use Rattle.dwarf_meaning.proofs.Counts.{HasTally, OnStore, Tally, tally_of, tally-push_value}
+use Rattle.dwarf_meaning.specs.Inputs.{Keeps, with_status}
+use Rattle.dwarf_eval.specs.inner.Steps.{Does, Pops, PopsNumber, Stays, with_last, with_values}
+use Rattle.dwarf_eval.proofs.Loads.{HasLast, HasPieces, Keeping, kept_in, value_adds, value_last, value_pieces}
+
+pub keeps_here : (x : State) → Keeps x x
+keeps_here x = record { setup = refl; object_address = refl; maximum = refl }
+
+pub keeps_more : (a b c : State) → Keeps a b → Keeps b c → Keeps a c
+keeps_more a b c h i = record {
+  setup = i.setup ∙ h.setup;
+  object_address = i.object_address ∙ h.object_address;
+  maximum = i.maximum ∙ h.maximum;
+}
+
+pub stays_here : (x : State) → Stays 0 x x
+stays_here x = record { kept = keeps_here x; text = refl; callers = refl; count = refl; decodings = refl; pieces = refl; items = omega arith }
+
+pub stays_more : (n m : ℕ) (a b c : State) → Stays n a b → Stays m b c → Stays (n + m) a c
+stays_more n m a b c h i =
+    let items = h.items in
+    let items_then = i.items in
+    record {
+      kept = keeps_more a b c h.kept i.kept;
+      text = i.text ∙ h.text;
+      callers = i.callers ∙ h.callers;
+      count = i.count ∙ h.count;
+      decodings = i.decodings ∙ h.decodings;
+      pieces = i.pieces ∙ h.pieces;
+      items = omega (arith, items, items_then);
+    }
+
+-- Before this step values were popped, the sort of the last operation was noted, and a status was entered.
+pub stays_from : (n m : ℕ) (rest : List Value) (last : Last) (status : Status) (old new : State) → length rest + n ≤ length old.store.values + m → Stays n (with_status status (with_last last (with_values rest old))) new → Stays m old new
+stays_from n m rest last status old new fits h =
+    let items = h.items in
+    record {
+      kept = record { setup = h.kept.setup; object_address = h.kept.object_address; maximum = h.kept.maximum };
+      text = h.text;
+      callers = h.callers;
+      count = h.count;
+      decodings = h.decodings;
+      pieces = h.pieces;
+      items = omega (arith, fits, items);
+    }
+
+-- a status was entered
+pub stays_status : (status : Status) (old new : State) → new ≡ with_status status old → Stays 0 old new
+stays_status status old new e = stays_from 0 0 old.store.values old.store.last status old new (omega arith) (subst (Stays 0 (with_status status old)) (sym e) (stays_here (with_status status old)))
+
+-- a fault of a state that stays
+pub stays_then : (status : Status) (old mid new : State) → Stays 0 old mid → new ≡ with_status status mid → Stays 0 old new
+stays_then status old mid new h e =
+    let both = stays_more 0 0 old mid new h (stays_status status mid new e) in
+    both
+
+pub stays_same : (old new : State) → new ≡ old → Stays 0 old new
+stays_same old new e = subst (Stays 0 old) (sym e) (stays_here old)
+
+pub fewer_one : (x : Value) (rest values : List Value) → values ≡ x ∷ rest → length rest ≤ length values
+fewer_one x rest values e = let n = ap length e in omega (arith, n)
+
+pub stays_low : (rest : List Value) (last : Last) (old new : State) → length rest ≤ length old.store.values → new ≡ with_last last (with_values rest old) → Stays 0 old new
+stays_low rest last old new fewer e = stays_from 0 0 rest last old.status old new (omega (arith, fewer)) (subst (Stays 0 (with_last last (with_values rest old))) (sym e) (stays_here (with_last last (with_values rest old))))
+
+pub stays_popped : (o : Option Value) (old new : State) → Pops o old new → Stays 0 old new
+stays_popped None old new h = stays_same old new h.1
+stays_popped (Some x) old new h = stays_low h.0 old.store.last old new (fewer_one x h.0 old.store.values h.1) h.2
+
+pub stays_number : (o : Option ℕ) (old new : State) → PopsNumber old new o → Stays 0 old new
+stays_number None old new h = stays_same old new h.1
+stays_number (Some number) old new h = stays_low h.rest old.store.last old new (fewer_one h.value h.rest old.store.values h.values) h.alone
+
+-- a value was pushed
+pub stays_pushed : (setup : Setup) (value : Value) (old new : State) → Does (push_value setup value) old new → Stays 1 old new
+stays_pushed setup value old new d =
+    let s : Store = with_refusal (before_pushes d.steps.pushes Never) old.store in
+    let tally : tally_of new.store ≡ tally_of old.store = subst (OnStore (HasTally (tally_of s))) (d.steps.same Never) (tally-push_value setup value s) in
+    let kept : kept_in new.store ≡ kept_in old.store + 1 = subst (OnStore (Keeping (kept_in s + 1))) (d.steps.same Never) (value_adds setup value s) in
+    let last : waits_of new.store.last ≡ waits_of old.store.last = ap waits_of (subst (OnStore (HasLast s.last)) (d.steps.same Never) (value_last setup value s)) in
+    record {
+      kept = record { setup = ap (λ (z : State). z.setup) d.alone; object_address = ap (λ (m : Tally). m.object_address) tally; maximum = ap (λ (m : Tally). m.maximum) tally };
+      text = ap (λ (z : State). z.text) d.alone;
+      callers = ap (λ (z : State). length z.callers) d.alone;
+      count = ap (λ (m : Tally). m.count) tally;
+      decodings = ap (λ (z : State). z.decodings) d.alone;
+      pieces = subst (OnStore (HasPieces s.pieces)) (d.steps.same Never) (value_pieces setup value s);
+      items = omega (arith, kept, last);
+    }

@@ -1,0 +1,249 @@
+-- One operation that is counted is one turn of the nested run.
+use Rattle.std.proofs.Common.{ℕ, ◌≡◌, ◌+◌, ◌-◌, ◌*◌, ◌<◌, true, false, List, length, Result, Ok, Err, arith, ap, ◌∙◌, sym, refl, subst, ◌==◌}
+use Rattle.std.proofs.lemmas.Bool.Decides.{nat_tests}
+use Rattle.dwarf_base.specs.declared.errors.Error.{Error}
+use Rattle.dwarf_base.specs.declared.errors.Error.TheVariants as error
+use Rattle.dwarf_base.specs.Faults.{Fault, fault_of}
+use Rattle.dwarf_base.specs.declared.errors.Error.TheVariants.{TooManyIterations}
+use Rattle.dwarf_base.specs.Reads.{Text}
+use Rattle.dwarf_meaning.specs.Operations.{Operation}
+use Rattle.dwarf_meaning.specs.Requests.{Request, Waiting, Input}
+use Rattle.dwarf_meaning.specs.RunLaws.{waits_of}
+use Rattle.dwarf_meaning.specs.Stores.{Setup, address_bits, Store, Last, Nothing, Plain, Pieced, Pushed, Called, Located, Next, Goes, RequestNext, FaultNext}
+use Rattle.dwarf_meaning.specs.Run.{Position, CompleteEnd, FaultEnd, Course, only_end, add_to_path, read, most, can_count, counted, do_operation, turn_counted, after_operation, await_answer, turn_by, run}
+use Rattle.dwarf_meaning.specs.Meaning.{FaultOutcome}
+use Rattle.dwarf_meaning.specs.Rest.{State, Status, Start, Running, RequestStatus, CompleteStatus, FaultStatus, with_refusal, total_of_course}
+use Rattle.dwarf_meaning.specs.Refusals.{Refusal, Never, before_pushes}
+use Rattle.dwarf_meaning.proofs.Choices.{choose_true, choose_false}
+use Rattle.dwarf_meaning.proofs.Counts.{HasTally, OnNext, Tally, tally_of, tally-done}
+use Rattle.dwarf_meaning.proofs.Effects.{act_is}
+use Rattle.dwarf_meaning.proofs.Turns.{run_turn, below_most}
+use Rattle.dwarf_meaning.specs.Bounds.{endings, faults_in}
+use Rattle.dwarf_meaning.specs.Inputs.{Keeps, with_status}
+use Rattle.dwarf_eval.specs.inner.Steps.{total, CountsOne, ReadsOperation, act_of, done_at, LeadsToPlace, LeadsToRequest, LeadsToFault, LeadsBy, Performs, read_to, with_store, Falls, ComesBy, IsFree, IsReady, Turns, effort, effort_by}
+use Rattle.dwarf_eval.proofs.Endings.{EndsNoMore, done_ends, free_waits}
+use Rattle.dwarf_eval.proofs.Loads.{IsLighter, kept_in, done_lighter}
+use Rattle.dwarf_eval.proofs.Nearing.{nears_by}
+use Rattle.dwarf_eval.proofs.Spending.{asked_spends, counted_spends, fallen_spends, waits_little}
+use Rattle.dwarf_eval.proofs.Totals.{closed, going, waiting_total, total_running, total_waits, course_failed, course_counted, course_asked}
+
+-- ---- what there is still to do
+
+pub effort_running : (x : State) → x.status ≡ Running → effort x ≡ 3 * (most - x.store.count) + length x.callers + waits_of x.store.last + 1
+effort_running x e = ap (effort_by x) e
+
+pub less_stopped : (x new : State) (status : Status) → x.status ≡ Running → new.status ≡ status → effort_by new status ≡ 0 → effort new < effort x
+less_stopped x new status runs e none =
+    let was = effort_running x runs in
+    let is : effort new ≡ 0 = ap (effort_by new) e ∙ none in
+    omega (arith, was, is)
+
+less_counted : (x new : State) → x.status ≡ Running → new.status ≡ Running → can_count x.store ≡ true → new.callers ≡ x.callers → new.store.count ≡ x.store.count + 1 → effort new < effort x
+less_counted x new runs still can callers count =
+    let was = effort_running x runs in
+    let is = effort_running new still in
+    let below = below_most x.store can in
+    let same : length new.callers ≡ length x.callers = ap length callers in
+    omega (arith, was, is, below, same, count, waits_little new.store.last)
+
+-- ---- the turn
+
+free_turn : (setup : Setup) (text : Text) (place depth : ℕ) (s : Store) (inputs : List Input) (last : Last) → IsFree last → turn_by (run setup) setup text place depth s inputs last ≡ turn_counted (run setup) setup text place depth s inputs
+free_turn setup text place depth s inputs Nothing h = refl
+free_turn setup text place depth s inputs Plain h = refl
+free_turn setup text place depth s inputs Pieced h = refl
+free_turn setup text place depth s inputs Pushed h = refl
+free_turn setup text place depth s inputs Called h = refl
+free_turn setup text place depth s inputs (Located location) h = absurd h
+
+-- what is left inside a text, by its next turn
+pub total_inside : (x : State) (r : Refusal) (inputs : List Input) → x.status ≡ Running → x.place < length x.text.bytes → total x r inputs ≡ total_of_course x.store.count x.setup x.callers (turn_by (run x.setup) x.setup x.text x.place (length x.callers) (with_refusal r x.store) inputs x.store.last)
+total_inside x r inputs runs inside =
+    let s : Store = with_refusal r x.store in
+    let before_end : (x.place == length x.text.bytes) ≡ false = grind (arith, nat_tests, inside) in
+    total_running r x inputs runs
+    ∙ ap (total_of_course x.store.count x.setup x.callers)
+    (run_turn x.setup x.text x.place (length x.callers) s inputs
+    ∙ choose_false (x.place == length x.text.bytes) (only_end (CompleteEnd s inputs)) (turn_by (run x.setup) x.setup x.text x.place (length x.callers) s inputs s.last) before_end)
+
+-- a turn that ends in a fault
+pub falls_turns : (x new : State) (error : Error) → x.status ≡ Running → new.status ≡ FaultStatus error → Falls x (total x) (fault_of error) new → Turns x new
+falls_turns x new error runs failed falls = record {
+  comes = subst (ComesBy x (total x) new) (sym failed) falls;
+  less = less_stopped x new (FaultStatus error) runs failed refl;
+}
+
+-- if the operation was read
+abbrev pub behind_op : State → ℕ → State
+behind_op x place = read_to place (with_store (counted x.store) x)
+
+module _ (x : State) (ready : IsReady x) where
+  ready_total : (r : Refusal) (inputs : List Input) → total x r inputs ≡ total_of_course x.store.count x.setup x.callers (turn_counted (run x.setup) x.setup x.text x.place (length x.callers) (with_refusal r x.store) inputs)
+  ready_total r inputs =
+      total_inside x r inputs ready.runs ready.inside
+      ∙ ap (total_of_course x.store.count x.setup x.callers) (free_turn x.setup x.text x.place (length x.callers) (with_refusal r x.store) inputs x.store.last ready.free)
+
+  pub ready_none : (new : State) → CountsOne x new false → Turns x new
+  ready_none new h =
+      let failed : new.status ≡ FaultStatus error.TooManyIterations = ap (λ (z : State). z.status) h.1 in
+      let count : new.store.count ≡ x.store.count = ap (λ (z : State). z.store.count) h.1 in
+      let callers = ap (λ (z : State). length z.callers) h.1 in
+      let lists = ap (λ (z : State). length z.store.values + length z.store.pieces) h.1 in
+      let decodings = ap (λ (z : State). z.decodings) h.1 in
+      falls_turns x new error.TooManyIterations ready.runs failed (record {
+        refusal = Never;
+        may = tt;
+        same = λ inputs.
+            ready_total Never inputs
+            ∙ (ap (total_of_course x.store.count x.setup x.callers) (choose_false (can_count x.store) _ (only_end (FaultEnd TooManyIterations)) h.0)
+            ∙ (course_failed x.store.count x.setup x.callers TooManyIterations ∙ ap (closed (FaultOutcome TooManyIterations)) (sym count)));
+        kept = record { setup = ap (λ (z : State). z.setup) h.1; object_address = ap (λ (z : State). z.store.object_address) h.1; maximum = ap (λ (z : State). z.store.maximum) h.1 };
+        spends = fallen_spends x new error.TooManyIterations (ap faults_in ready.runs) failed (omega (arith, callers)) (omega (arith, count)) (omega (arith, lists)) (omega (arith, decodings, count)) (ap (λ (z : State). z.store.pieces) h.1) (omega (arith, decodings, count)) (omega (arith, decodings, count));
+      })
+
+  module _ (can : can_count x.store ≡ true) where
+    ready_read : (r : Refusal) (inputs : List Input) (z : Result (Operation × List ℕ) Fault) → read x.setup x.text x.place ≡ z → total x r inputs ≡ total_of_course (x.store.count + 1) x.setup x.callers (do_operation (run x.setup) x.setup x.text (length x.callers) (counted (with_refusal r x.store)) inputs z)
+    ready_read r inputs z e =
+        let position : Position = record { text = x.text; place = x.place } in
+        let course : Course = do_operation (run x.setup) x.setup x.text (length x.callers) (counted (with_refusal r x.store)) inputs (read x.setup x.text x.place) in
+        ready_total r inputs
+        ∙ (ap (total_of_course x.store.count x.setup x.callers) (choose_true (can_count x.store) (add_to_path position course) (only_end (FaultEnd TooManyIterations)) can)
+        ∙ (course_counted x.store.count x.setup x.callers position course
+        ∙ ap (λ (y : Result (Operation × List ℕ) Fault). total_of_course (x.store.count + 1) x.setup x.callers (do_operation (run x.setup) x.setup x.text (length x.callers) (counted (with_refusal r x.store)) inputs y)) e))
+
+    pub ready_unread : (new : State) (error : Error) (place : ℕ) → read x.setup x.text x.place ≡ Err (fault_of error) → new ≡ with_status (FaultStatus error) (behind_op x place) → Turns x new
+    ready_unread new error place e is =
+        let failed : new.status ≡ FaultStatus error = ap (λ (z : State). z.status) is in
+        let count : new.store.count ≡ x.store.count + 1 = ap (λ (z : State). z.store.count) is in
+        let callers = ap (λ (z : State). length z.callers) is in
+        let lists = ap (λ (z : State). length z.store.values + length z.store.pieces) is in
+        let decodings = ap (λ (z : State). z.decodings) is in
+        falls_turns x new error ready.runs failed (record {
+          refusal = Never;
+          may = tt;
+          same = λ inputs.
+              ready_read Never inputs (Err (fault_of error)) e
+              ∙ (course_failed (x.store.count + 1) x.setup x.callers (fault_of error) ∙ ap (closed (FaultOutcome (fault_of error))) (sym count));
+          kept = record { setup = ap (λ (z : State). z.setup) is; object_address = ap (λ (z : State). z.store.object_address) is; maximum = ap (λ (z : State). z.store.maximum) is };
+          spends = fallen_spends x new error (ap faults_in ready.runs) failed (omega (arith, callers)) (omega (arith, count)) (omega (arith, lists)) (omega (arith, decodings, count)) (ap (λ (z : State). z.store.pieces) is) (omega (arith, decodings, count)) (omega (arith, decodings, count));
+        })
+
+    module _ (op : Operation) (behind : List ℕ) (was : read x.setup x.text x.place ≡ Ok (op, behind)) where
+      abbrev place_then : ℕ
+      place_then = length x.text.bytes - length behind
+
+      abbrev there : State
+      there = behind_op x place_then
+
+      ready_after_operation : (r : Refusal) (inputs : List Input) (next : Next) → done_at (act_of there op) there (with_refusal r there.store) ≡ next → total x r inputs ≡ total_of_course (x.store.count + 1) x.setup x.callers (after_operation (run x.setup) x.setup x.text (length x.callers) place_then inputs next)
+      ready_after_operation r inputs next e =
+          ready_read r inputs (Ok (op, behind)) was
+          ∙ ap (λ (n : Next). total_of_course (x.store.count + 1) x.setup x.callers (after_operation (run x.setup) x.setup x.text (length x.callers) place_then inputs n)) e
+
+      ready_fails : (new : State) (error : Error) → new.status ≡ FaultStatus error → LeadsToFault (done_at (act_of there op) there) error there new → Turns x new
+      ready_fails new error failed h =
+          let count : new.store.count ≡ x.store.count + 1 = h.stays.count in
+          let callers = h.stays.callers in
+          let items = h.stays.items in
+          let decodings = h.stays.decodings in
+          falls_turns x new error ready.runs failed (record {
+            refusal = h.gets.refusal;
+            may = h.gets.may;
+            same = λ inputs.
+                ready_after_operation h.gets.refusal inputs (FaultNext (fault_of error)) h.gets.same
+                ∙ (course_failed (x.store.count + 1) x.setup x.callers (fault_of error) ∙ ap (closed (FaultOutcome (fault_of error))) (sym count));
+            kept = record { setup = h.stays.kept.setup; object_address = h.stays.kept.object_address; maximum = h.stays.kept.maximum };
+            spends = fallen_spends x new error (ap faults_in ready.runs) failed (omega (arith, callers)) (omega (arith, count)) (omega (arith, items)) (omega (arith, decodings, count)) h.stays.pieces (omega (arith, decodings, count)) (omega (arith, decodings, count));
+          })
+
+      -- an operation leaves the count and the settings
+      next_tally : (r : Refusal) (next : Next) → done_at (act_of there op) there (with_refusal r there.store) ≡ next → OnNext (HasTally (tally_of there.store)) next
+      next_tally r next e = subst (OnNext (HasTally (tally_of there.store))) e (tally-done x.setup place_then (length x.text.bytes) (act_of there op) (with_refusal r there.store))
+
+      goes_tally : (new : State) → LeadsToPlace (done_at (act_of there op) there) there new → tally_of new.store ≡ tally_of there.store
+      goes_tally new h = next_tally (before_pushes h.steps.pushes Never) (Goes new.place (with_refusal Never new.store)) (h.steps.same Never)
+
+      asks_tally : (new : State) (request : Request) (waiting : Waiting) → LeadsToRequest (done_at (act_of there op) there) request waiting there new → tally_of new.store ≡ tally_of there.store
+      asks_tally new request waiting h = next_tally (before_pushes h.steps.pushes Never) (RequestNext request waiting (with_refusal Never new.store)) (h.steps.same Never)
+
+      -- it adds one item at most
+      next_lighter : (r : Refusal) (next : Next) → done_at (act_of there op) there (with_refusal r there.store) ≡ next → IsLighter (kept_in there.store) next
+      next_lighter r next e =
+          subst (IsLighter (kept_in there.store)) e
+          (done_lighter x.setup place_then (length x.text.bytes) (act_of there op) (with_refusal r there.store) (act_is (address_bits there.setup) there.store.object_address op there.store.values))
+
+      -- no piece that it gives ended a location, and it gave the one that waits
+      next_ends : (r : Refusal) (next : Next) → done_at (act_of there op) there (with_refusal r there.store) ≡ next → OnNext (EndsNoMore (endings x.store.pieces)) next
+      next_ends r next e =
+          subst (OnNext (EndsNoMore (endings x.store.pieces))) e
+          (done_ends op x.setup place_then (length x.text.bytes) (act_of there op) (with_refusal r there.store) (act_is (address_bits there.setup) there.store.object_address op there.store.values)
+          (free_waits x.store.last ready.free))
+
+      keeps_by : (new : State) → new.setup ≡ x.setup → tally_of new.store ≡ tally_of there.store → Keeps x new
+      keeps_by new setup tally = record { setup = setup; object_address = ap (λ (m : Tally). m.object_address) tally; maximum = ap (λ (m : Tally). m.maximum) tally }
+
+      ready_goes : (new : State) → new.status ≡ Running → LeadsToPlace (done_at (act_of there op) there) there new → Turns x new
+      ready_goes new runs goes =
+          let tally = goes_tally new goes in
+          let count : new.store.count ≡ x.store.count + 1 = ap (λ (m : Tally). m.count) tally in
+          let ends : EndsNoMore (endings x.store.pieces) (with_refusal Never new.store) = next_ends (before_pushes goes.steps.pushes Never) (Goes new.place (with_refusal Never new.store)) (goes.steps.same Never) in
+          record {
+            comes = subst (ComesBy x (total x) new) (sym runs) (record {
+              pushes = goes.steps.pushes;
+              same = λ r inputs.
+                  let course = run x.setup x.text new.place (length x.callers) (with_refusal r new.store) inputs in
+                  ready_after_operation (before_pushes goes.steps.pushes r) inputs (Goes new.place (with_refusal r new.store)) (goes.steps.same r)
+                  ∙ (ap (λ (n : ℕ). total_of_course n x.setup x.callers course) (sym count)
+                  ∙ sym (total_running r new inputs runs ∙ ap (λ (y : State). going y (with_refusal r new.store) inputs) goes.alone));
+              kept = keeps_by new (ap (λ (z : State). z.setup) goes.alone) tally;
+              spends = counted_spends x new ready.runs runs (ap (λ (z : State). length z.callers) goes.alone) count (ap (λ (z : State). z.decodings) goes.alone)
+                  (next_lighter (before_pushes goes.steps.pushes Never) (Goes new.place (with_refusal Never new.store)) (goes.steps.same Never)) ends.pieces ends.waits;
+              nears = nears_by x new Running Running ready.runs runs (omega (arith, count));
+            });
+            less = less_counted x new ready.runs runs can (ap (λ (z : State). z.callers) goes.alone) count;
+          }
+
+      ready_asks : (new : State) (request : Request) (waiting : Waiting) → new.status ≡ RequestStatus request waiting → LeadsToRequest (done_at (act_of there op) there) request waiting there new → Turns x new
+      ready_asks new request waiting open_now asks =
+          let tally = asks_tally new request waiting asks in
+          let count : new.store.count ≡ x.store.count + 1 = ap (λ (m : Tally). m.count) tally in
+          let ends : EndsNoMore (endings x.store.pieces) (with_refusal Never new.store) = next_ends (before_pushes asks.steps.pushes Never) (RequestNext request waiting (with_refusal Never new.store)) (asks.steps.same Never) in
+          record {
+            comes = subst (ComesBy x (total x) new) (sym open_now) (record {
+              pushes = asks.steps.pushes;
+              same = λ r inputs.
+                  ready_after_operation (before_pushes asks.steps.pushes r) inputs (RequestNext request waiting (with_refusal r new.store)) (asks.steps.same r)
+                  ∙ (course_asked (x.store.count + 1) x.setup x.callers request (await_answer (run x.setup) x.setup (record { text = x.text; place = place_then }) (length x.callers) request waiting (with_refusal r new.store) inputs)
+                  ∙ (ap (λ (n : ℕ). waiting_total (record there { store = record there.store { count = n } }) request waiting (with_refusal r new.store) inputs) (sym count)
+                  ∙ sym (total_waits r new inputs request waiting open_now ∙ ap (λ (y : State). waiting_total y request waiting (with_refusal r new.store) inputs) asks.alone)));
+              kept = keeps_by new (ap (λ (z : State). z.setup) asks.alone) tally;
+              spends = asked_spends x new request waiting ready.runs open_now (ap (λ (z : State). length z.callers) asks.alone) count (ap (λ (z : State). z.decodings) asks.alone)
+                  (next_lighter (before_pushes asks.steps.pushes Never) (RequestNext request waiting (with_refusal Never new.store)) (asks.steps.same Never)) ends.pieces ends.waits;
+              nears =
+                  let below = below_most x.store can in
+                  nears_by x new Running (RequestStatus request waiting) ready.runs open_now (omega (arith, count, below));
+            });
+            less = less_stopped x new (RequestStatus request waiting) ready.runs open_now refl;
+          }
+
+      ready_by : (new : State) (status : Status) → new.status ≡ status → LeadsBy (done_at (act_of there op) there) there new status → Turns x new
+      ready_by new Running e h = ready_goes new e h
+      ready_by new (RequestStatus request waiting) e h = ready_asks new request waiting e h
+      ready_by new (FaultStatus error) e h = ready_fails new error e h
+      ready_by new (Start initial_value) e h = absurd h
+      ready_by new (CompleteStatus value) e h = absurd h
+
+      pub ready_performs : (new : State) → Performs (act_of there op) there new → Turns x new
+      ready_performs new h = ready_by new new.status refl h
+
+-- the operation at the place, counted, read and done
+pub counted_turns : (x mid behind new : State) (op : Operation) → IsReady x → CountsOne x mid true → ReadsOperation op mid behind → Performs (act_of behind op) behind new → Turns x new
+counted_turns x mid behind new op ready can reads h =
+    let read_there : ReadsOperation op (with_store (counted x.store) x) behind = subst (λ (z : State). ReadsOperation op z behind) can.1 reads in
+    ready_performs x ready can.0 op read_there.behind read_there.was new (subst (λ (z : State). Performs (act_of z op) z new) read_there.moved h)
+
+-- the operation at the place, counted, which can't be read
+pub unread_turns : (x mid behind new : State) (error : Error) → IsReady x → CountsOne x mid true → read mid.setup mid.text mid.place ≡ Err (fault_of error) → behind ≡ read_to behind.place mid → new ≡ with_status (FaultStatus error) behind → Turns x new
+unread_turns x mid behind new error ready can was moved is =
+    ready_unread x ready can.0 new error behind.place (subst (λ (z : State). read z.setup z.text z.place ≡ Err (fault_of error)) can.1 was)
+    (is ∙ ap (with_status (FaultStatus error)) (moved ∙ ap (read_to behind.place) can.1))

@@ -1,0 +1,20 @@
+use Rattle.std.proofs.Common.{refl, length, subst}
+use Rattle.std.proofs.lemmas.List.{length-reverse, reverse-append}
+use Rattle.dwarf_meaning.specs.Rest.{State}
+use Rattle.dwarf_eval.specs.Lists.{MayRefuse}
+use Rattle.dwarf_eval.proofs.Pushes.{value_pushed, value_faults}
+use Rattle.dwarf_eval.proofs.run.machine.Machine.push.Goals as goal
+
+pub returns-in_default : goal.returns-in_default
+returns-in_default g c =
+    let is = rw (c.in_default.ensures.err, c.push.ensures.limit) at c.fail_full.ensures in
+    value_faults c.args.value c.args.self.now c.fail_full.new.self
+    (subst (λ (s : State). MayRefuse s.setup.limits.values (length s.store.values)) c.self.view_is (rw length-reverse c.in_default.ensures.full))
+    (rw (← c.self.view_is) is)
+
+pub returns : goal.returns
+returns g c =
+    rw (← c.self.view_is) (record {
+      steps = value_pushed _ _ _ _ (rw length-reverse c.in-Ok.ensures.room) (rw (c.in-Ok.ensures.ok, reverse-append) refl);
+      alone = rw c.push.ensures.limit refl;
+    })

@@ -1,0 +1,563 @@
+ghost use Rattle.std.specs.Prelude.{◌≡◌, ◌<◌, ◌≤◌, ◌+◌, ◌*◌, ℕ, [], None, Some, Err, map, length, slice_get, false, true, OnOk, IfOk, IfErr};
+ghost use Rattle.dwarf_base.specs.Reads.{IsLeftOf, Reads};
+ghost use Rattle.dwarf_base.specs.Faults.{fault_of};
+ghost use Rattle.dwarf_base.specs.declared.errors.Error.TheVariants.{StackFull, TooManyIterations};
+ghost use Rattle.dwarf_value.specs.Values.{IsAddressMask, width_of};
+ghost use Rattle.dwarf_meaning.specs.Decoding.{operation_at};
+ghost use Rattle.dwarf_meaning.specs.Meaning.{has_pieces};
+ghost use Rattle.dwarf_meaning.specs.Rest.{Start, FaultStatus};
+ghost use Rattle.dwarf_meaning.specs.Run.{most, read};
+ghost use Rattle.dwarf_meaning.specs.Stores.{Called, Located, Pieced, Plain, Pushed, address_bits, push_value, push_piece, setup_of};
+ghost use Rattle.dwarf_op.specs.Views.{operation_of, location_of, piece_of};
+ghost use Rattle.dwarf_meaning.specs.Bounds.{IsUnspent};
+ghost use Rattle.dwarf_meaning.specs.Inputs.{IsFresh, with_maximum, with_object, with_status};
+ghost use Rattle.dwarf_eval.specs.Machine.{IsOfSort, status_of};
+ghost use Rattle.dwarf_eval.specs.inner.Steps.{CountsOne, GoesBack, Jumps, Pops, PopsGenerics, ReadsOperation, Tries, TriesToEnter, at, has_failed, is_free, is_running, read_to, with_last};
+
+use crate::run::states::{EvaluationState, LastOperation};
+use crate::store::{ArrayLike, EvaluationStorage};
+use crate::run::ticks::Ticks;
+use dwarf_base::{Encoding, Error, Reader, ReaderOffset, Result};
+use dwarf_op::{Location, Operation, Piece};
+use dwarf_value::Value;
+use std::marker::Model;
+
+/// The state of an evaluation, and its smallest steps: these alone see bytes and lists.
+#[derive(Drop)]
+pub struct Machine<R: Reader + Copy, S: EvaluationStorage<R>> {
+    state: EvaluationState<R>,
+    encoding: Encoding,
+    addr_mask: u64,
+    object_address: Option<u64>,
+    max_iterations: u32,
+    iteration: u32,
+    // The running text, and what is left of it.
+    bytecode: R,
+    pc: R,
+    last: LastOperation,
+    // The location that waits for its piece, if the last operation gave one.
+    location: Location<R>,
+    stack: S::Stack,
+    expression_stack: S::ExpressionStack,
+    pieces: S::Result,
+    // Contracts alone see it.
+    decodings: Ticks,
+}
+
+impl<R: Reader + Copy, S: EvaluationStorage<R>> Model for Machine<R, S> {
+    ghost use Rattle.dwarf_meaning.specs.Rest.{State};
+
+    ghost Value = { State };
+
+    ghost use Rattle.dwarf_meaning.specs.Stores.{setup_of};
+    ghost use Rattle.dwarf_eval.specs.Machine.{status_of, store_of, place_of, callers_of, IsSound};
+
+    ghost view = { λ e. record {
+      status = status_of R.text R.Offset.number e.state;
+      setup = setup_of e.encoding R.Offset.BITS (S.Stack.limit e.stack)
+          (S.ExpressionStack.limit e.expression_stack) (S.Result.limit e.pieces);
+      text = R.text e.bytecode;
+      place = place_of (R.text e.bytecode) (R.text e.pc);
+      callers = callers_of R.text (S.ExpressionStack.items e.expression_stack);
+      store = store_of R.text R.Offset.number (S.Stack.items e.stack) (S.Result.items e.pieces)
+          e.iteration e.object_address e.max_iterations e.last e.location;
+      decodings = e.decodings.count;
+    } };
+
+    ghost invariant = { λ e. IsSound R.text e.encoding e.addr_mask e.bytecode e.pc
+        (S.ExpressionStack.items e.expression_stack) };
+}
+
+impl<R: Reader + Copy, S: EvaluationStorage<R>> Machine<R, S> {
+    /// Keeps a fault, which ends the run.
+    #[inline(always)]
+    pub(crate) fn fail(&mut self, error: Error)
+        ensures { self.new ≡ with_status (FaultStatus error) self.old }
+    {
+        self.state = EvaluationState::Failed(error);
+    }
+
+    /// Keeps the fault of a list that is full.
+    #[cold]
+    #[inline(never)]
+    fn fail_full(&mut self)
+        ensures { self.new ≡ with_status (FaultStatus StackFull) self.old }
+    {
+        self.fail(Error::StackFull);
+    }
+
+    /// Keeps the fault of a maximum that is reached.
+    #[cold]
+    #[inline(never)]
+    fn fail_spent(&mut self)
+        ensures { self.new ≡ with_status (FaultStatus TooManyIterations) self.old }
+    {
+        self.fail(Error::TooManyIterations);
+    }
+
+    /// Pushes a value, or keeps the fault of a stack that doesn't take it.
+    #[inline(always)]
+    pub(crate) fn push(&mut self, value: Value) -> bool
+        ensures { Tries 0 (push_value self.old.setup value) self.old self.new result }
+    {
+        let Ok(()) = self.stack.push(value) else {
+            self.fail_full();
+            return false;
+        };
+        true
+    }
+
+    /// Pops the top.
+    #[inline(always)]
+    pub(crate) fn pop(&mut self) -> Option<Value>
+        ensures { Pops result self.old self.new }
+    {
+        self.stack.pop()
+    }
+
+    /// Pops the two on top if both are generic: the second, and the top.
+    #[inline(always)]
+    pub(crate) fn pop_generics(&mut self) -> Option<(u64, u64)>
+        ensures { PopsGenerics result self.old self.new }
+    {
+        let Some(Value::Generic(right)) = self.value_at(0) else {
+            return None;
+        };
+        let Some(Value::Generic(left)) = self.value_at(1) else {
+            return None;
+        };
+        self.pop();
+        self.pop();
+        Some((left, right))
+    }
+
+    /// The value that is this far below the top.
+    #[inline(always)]
+    pub(crate) fn value_at(&self, index: u8) -> Option<Value>
+        ensures { result ≡ slice_get self.now.store.values index }
+    {
+        let len = self.stack.len();
+        if usize::from(index) >= len {
+            return None;
+        }
+        self.stack.get(len - 1 - usize::from(index))
+    }
+
+    /// Adds a piece, or keeps the fault of a list that doesn't take it.
+    #[inline(always)]
+    pub(crate) fn push_piece(&mut self, piece: Piece<R>) -> bool
+        ensures { Tries 0 (push_piece self.old.setup (piece_of R.text R.Offset.number piece))
+            self.old self.new result }
+    {
+        let Ok(()) = self.pieces.push(piece) else {
+            self.fail_full();
+            return false;
+        };
+        true
+    }
+
+    /// Counts one more operation, or keeps the fault of a maximum that doesn't allow it.
+    #[inline(always)]
+    pub(crate) fn count(&mut self) -> bool
+        ensures { CountsOne self.old self.new result }
+    {
+        if self.iteration >= self.max_iterations {
+            self.fail_spent();
+            return false;
+        }
+        self.iteration += 1;
+        true
+    }
+
+    /// Notes that the last operation was a plain one. Most are, so it is seldom written.
+    #[inline(always)]
+    pub(crate) fn mark_plain(&mut self)
+        ensures { self.new ≡ with_last Plain self.old }
+    {
+        if !matches!(self.last, LastOperation::Plain) {
+            self.last = LastOperation::Plain;
+        }
+    }
+
+    /// Notes that the last operation ended a piece.
+    #[inline(always)]
+    pub(crate) fn mark_pieced(&mut self)
+        ensures { self.new ≡ with_last Pieced self.old }
+    {
+        self.last = LastOperation::Pieced;
+    }
+
+    /// Notes that an answer is pushed.
+    #[inline(always)]
+    pub(crate) fn mark_pushed(&mut self)
+        ensures { self.new ≡ with_last Pushed self.old }
+    {
+        self.last = LastOperation::Pushed;
+    }
+
+    /// Notes that a call was answered by an empty text.
+    #[inline(always)]
+    pub(crate) fn mark_called(&mut self)
+        ensures { self.new ≡ with_last Called self.old }
+    {
+        self.last = LastOperation::Called;
+    }
+
+    /// Notes that a location waits for its piece.
+    #[inline(always)]
+    pub(crate) fn mark_located(&mut self, location: Location<R>)
+        ensures { self.new
+            ≡ with_last (Located (location_of R.text R.Offset.number location)) self.old }
+    {
+        self.last = LastOperation::Located;
+        self.location = location;
+    }
+
+    /// Of what sort the last operation was.
+    #[inline(always)]
+    pub(crate) fn last(&self) -> LastOperation
+        ensures { IsOfSort result self.now.store.last }
+    {
+        self.last
+    }
+
+    /// The location that waits for its piece.
+    #[inline(always)]
+    pub(crate) fn location(&self) -> Location<R>
+        requires { is_free self.now.store.last ≡ false }
+        ensures { self.now.store.last ≡ Located (location_of R.text R.Offset.number result) }
+    {
+        self.location
+    }
+
+    /// Goes over to another state.
+    #[inline(always)]
+    pub fn enter(&mut self, state: EvaluationState<R>)
+        ensures { self.new ≡ with_status (status_of R.text R.Offset.number state) self.old }
+    {
+        self.state = state;
+    }
+
+    /// Where the evaluation stands.
+    #[inline(always)]
+    pub fn state(&self) -> EvaluationState<R>
+        ensures { status_of R.text R.Offset.number result ≡ self.now.status }
+    {
+        self.state
+    }
+
+    /// Whether the run goes on.
+    #[inline(always)]
+    pub(crate) fn is_running(&self) -> bool
+        ensures { result ≡ is_running self.now.status }
+    {
+        matches!(self.state, EvaluationState::Running)
+    }
+
+    /// Whether it met a fault.
+    #[inline(always)]
+    pub fn has_failed(&self) -> bool
+        ensures { result ≡ has_failed self.now.status }
+    {
+        matches!(self.state, EvaluationState::Failed(_))
+    }
+
+    /// Whether no location waits for its piece.
+    #[inline(always)]
+    pub(crate) fn is_free(&self) -> bool
+        ensures { result ≡ is_free self.now.store.last }
+    {
+        !matches!(self.last, LastOperation::Located)
+    }
+
+    /// Whether the running text is at its end.
+    #[inline(always)]
+    pub(crate) fn is_at_end(&self) -> bool
+        ensures ends { result ≡ true → self.now.place ≡ length self.now.text.bytes }
+        ensures inside { result ≡ false → self.now.place < length self.now.text.bytes }
+    {
+        self.pc.is_empty()
+    }
+
+    /// Whether there are pieces.
+    #[inline(always)]
+    pub(crate) fn has_pieces(&self) -> bool
+        ensures { result ≡ has_pieces self.now.store.pieces }
+    {
+        self.pieces.len() != 0
+    }
+
+    /// The mask of an address.
+    #[inline(always)]
+    pub(crate) fn addr_mask(&self) -> u64
+        ensures mask { IsAddressMask result }
+        ensures width { width_of result ≡ address_bits self.now.setup }
+    {
+        self.addr_mask
+    }
+
+    /// The size of an address, in bytes.
+    #[inline(always)]
+    pub(crate) fn address_size(&self) -> u8
+        ensures { result ≡ self.now.setup.encoding.address_size }
+    {
+        self.encoding.address_size
+    }
+
+    /// The address of the object that is described, if it is set.
+    #[inline(always)]
+    pub(crate) fn object_address(&self) -> Option<u64>
+        ensures { result ≡ self.now.store.object_address }
+    {
+        self.object_address
+    }
+
+    /// The place in the running text.
+    #[inline(always)]
+    pub(crate) fn place(&self) -> R::Offset
+        ensures value { R.Offset.number result ≡ self.now.place }
+    {
+        self.pc.offset_from(&self.bytecode)
+    }
+
+    /// The place that is before what is left of the running text.
+    #[inline(always)]
+    pub(crate) fn place_of(&self, left: R) -> R::Offset
+        requires { IsLeftOf (R.text left) self.now.text }
+        ensures value { R.Offset.number result ≡ (at (R.text left).bytes self.now).place }
+        ensures bits { self.now.setup.offset_bits ≡ R.Offset.BITS }
+    {
+        left.offset_from(&self.bytecode)
+    }
+
+    /// What is left of the running text.
+    #[inline(always)]
+    pub(crate) fn left(&self) -> R
+        ensures rest { IsLeftOf (R.text result) self.now.text }
+        ensures here { at (R.text result).bytes self.now ≡ self.now }
+    {
+        self.pc
+    }
+
+    /// Goes to what is left of the running text.
+    #[inline(always)]
+    pub(crate) fn go_to(&mut self, left: R)
+        requires { IsLeftOf (R.text left) self.old.text }
+        ensures { self.new ≡ at (R.text left).bytes self.old }
+    {
+        self.pc = left;
+    }
+
+    /// Reads an operation, and counts that. Nothing else of an evaluation decodes, and nothing else raises the count.
+    #[inline(always)]
+    fn read_operation(
+        left: &mut R,
+        decodings: &mut Ticks,
+        encoding: Encoding,
+    ) -> Result<Operation<R>>
+        ensures reads { Reads (operation_of R.text R.Offset.number) (R.text left.old)
+            (R.text left.new) result (operation_at encoding R.Offset.BITS (R.text left.old)) }
+        ensures less { OnOk result
+            (length (R.text left.new).bytes < length (R.text left.old).bytes) }
+        ensures counted { decodings.new.count ≡ decodings.old.count + 1 }
+    {
+        decodings.tick();
+        Operation::parse(left, encoding)
+    }
+
+    /// Reads the operation before what is left of the running text.
+    #[inline(always)]
+    pub(crate) fn decode(&mut self, left: &mut R) -> Result<Operation<R>>
+        requires { IsLeftOf (R.text left.old) self.old.text }
+        ensures ok { IfOk result
+            (λ operation. ReadsOperation (operation_of R.text R.Offset.number operation)
+            (at (R.text left.old).bytes self.old) (at (R.text left.new).bytes self.new)) }
+        ensures behind { OnOk result (0 < (at (R.text left.new).bytes self.new).place) }
+        ensures err { IfErr result
+            (λ e. read self.old.setup self.old.text (at (R.text left.old).bytes self.old).place
+            ≡ Err (fault_of e)) }
+        ensures alone { self.new ≡ read_to self.old.place self.old }
+        ensures rest { IsLeftOf (R.text left.new) self.new.text }
+    {
+        Self::read_operation(left, &mut self.decodings, self.encoding)
+    }
+
+    /// Reads the operation at the place, and goes after it. The reader moves where it is kept: a copy of it would be
+    /// written back in parts, and then read as a whole.
+    #[inline(always)]
+    pub(crate) fn decode_here(&mut self) -> Result<Operation<R>>
+        ensures ok { IfOk result
+            (λ operation. ReadsOperation (operation_of R.text R.Offset.number operation)
+            self.old self.new) }
+        ensures behind { OnOk result (0 < self.new.place) }
+        ensures err { IfErr result
+            (λ e. read self.old.setup self.old.text self.old.place ≡ Err (fault_of e)) }
+        ensures alone { self.new ≡ read_to self.new.place self.old }
+    {
+        Self::read_operation(&mut self.pc, &mut self.decodings, self.encoding)
+    }
+
+    /// Goes to a place of the running text, or keeps the fault of a place that it doesn't have.
+    #[inline(always)]
+    pub(crate) fn jump(&mut self, place: R::Offset, left: &mut R) -> bool
+        requires { IsLeftOf (R.text left.old) self.old.text }
+        ensures jumps { Jumps (R.Offset.number place) (at (R.text left.old).bytes self.old)
+            (at (R.text left.new).bytes self.new) result }
+        ensures rest { IsLeftOf (R.text left.new) self.new.text }
+    {
+        let mut target = self.bytecode;
+        let Ok(()) = target.skip(place) else {
+            self.fail(Error::BadBranchTarget(place.into_u64()));
+            return false;
+        };
+        *left = target;
+        true
+    }
+
+    /// Runs a called text and keeps its caller, or keeps the fault of a list that doesn't take it.
+    pub(crate) fn push_caller(&mut self, callee: R) -> bool
+        ensures { TriesToEnter (R.text callee) self.old self.new result }
+    {
+        let caller = (self.pc, self.bytecode);
+        let Ok(()) = self.expression_stack.push(caller) else {
+            self.fail_full();
+            return false;
+        };
+        self.pc = callee;
+        self.bytecode = callee;
+        true
+    }
+
+    /// Goes back to the innermost caller, if there is one.
+    pub(crate) fn pop_caller(&mut self) -> bool
+        ensures { GoesBack result self.old self.new }
+    {
+        let Some(caller) = self.expression_stack.pop() else {
+            return false;
+        };
+        self.pc = caller.0;
+        self.bytecode = caller.1;
+        true
+    }
+
+    /// Sets the address of the object that is described.
+    pub fn set_object_address(&mut self, value: u64)
+        ensures { self.new ≡ with_object (Some value) self.old }
+    {
+        self.object_address = Some(value);
+    }
+
+    /// Sets how many operations may be counted in all.
+    pub fn set_max_iterations(&mut self, value: u32)
+        ensures { self.new ≡ with_maximum value self.old }
+    {
+        self.max_iterations = value;
+    }
+
+    /// The pieces.
+    #[inline(always)]
+    pub fn pieces(&self) -> &[Piece<R>]
+        ensures { map (piece_of R.text R.Offset.number) result.now ≡ self.now.store.pieces }
+    {
+        self.pieces.as_slice()
+    }
+
+    /// The list of the pieces.
+    pub fn into_pieces(self) -> S::Result
+        ensures { map (piece_of R.text R.Offset.number) (S.Result.items result)
+            ≡ self.store.pieces }
+    {
+        self.pieces
+    }
+
+    /// Stands as a fresh evaluation of another text, over the same lists, which keep their memory.
+    #[tactic(auto, unfolding(dwarf_meaning::specs::Run::most))]
+    pub fn restart(&mut self, bytecode: R, encoding: Encoding)
+        requires some { 0 < encoding.address_size }
+        requires fits { encoding.address_size ≤ 8 }
+        ensures status { self.new.status ≡ Start None }
+        ensures setup { self.new.setup
+            ≡ setup_of encoding R.Offset.BITS self.old.setup.limits.values
+            self.old.setup.limits.callers self.old.setup.limits.pieces }
+        ensures text { self.new.text ≡ R.text bytecode }
+        ensures object_address { self.new.store.object_address ≡ None }
+        ensures maximum { self.new.store.maximum ≡ most }
+        ensures fresh { IsFresh self.new None }
+        ensures unspent { IsUnspent self.new }
+    {
+        clear(&mut self.stack);
+        clear(&mut self.expression_stack);
+        clear(&mut self.pieces);
+        self.state = EvaluationState::Start(None);
+        self.encoding = encoding;
+        self.addr_mask = mask_of(encoding.address_size);
+        self.object_address = None;
+        self.max_iterations = u32::MAX;
+        self.iteration = 0;
+        self.bytecode = bytecode;
+        self.pc = bytecode;
+        self.last = LastOperation::Nothing;
+        self.decodings = Ticks::new();
+    }
+
+    /// A fresh evaluation.
+    #[tactic(auto, unfolding(dwarf_meaning::specs::Run::most))]
+    pub fn new_in(
+        bytecode: R,
+        encoding: Encoding,
+        stack: S::Stack,
+        expression_stack: S::ExpressionStack,
+        pieces: S::Result,
+    ) -> Self
+        requires some { 0 < encoding.address_size }
+        requires fits { encoding.address_size ≤ 8 }
+        requires stack { S.Stack.items stack ≡ [] }
+        requires expression_stack { S.ExpressionStack.items expression_stack ≡ [] }
+        requires pieces { S.Result.items pieces ≡ [] }
+        ensures status { result.status ≡ Start None }
+        ensures setup { result.setup
+            ≡ setup_of encoding R.Offset.BITS (S.Stack.limit stack)
+            (S.ExpressionStack.limit expression_stack) (S.Result.limit pieces) }
+        ensures text { result.text ≡ R.text bytecode }
+        ensures object_address { result.store.object_address ≡ None }
+        ensures maximum { result.store.maximum ≡ most }
+        ensures fresh { IsFresh result None }
+        ensures unspent { IsUnspent result }
+    {
+        Machine {
+            state: EvaluationState::Start(None),
+            encoding,
+            addr_mask: mask_of(encoding.address_size),
+            object_address: None,
+            max_iterations: u32::MAX,
+            iteration: 0,
+            bytecode,
+            pc: bytecode,
+            last: LastOperation::Nothing,
+            location: Location::Empty,
+            stack,
+            expression_stack,
+            pieces,
+            decodings: Ticks::new(),
+        }
+    }
+}
+
+/// The mask of an address of this many bytes.
+fn mask_of(address_size: u8) -> u64
+    requires some { 0 < address_size }
+    requires fits { address_size ≤ 8 }
+    ensures mask { IsAddressMask result }
+    ensures width { width_of result ≡ 8 * address_size }
+{
+    u64::MAX >> (64 - 8 * u32::from(address_size))
+}
+
+/// Empties a list, which keeps its memory.
+#[inline(always)]
+fn clear<L: ArrayLike>(list: &mut L)
+    ensures items { L.items list.new ≡ [] }
+    ensures limit { L.limit list.new ≡ L.limit list.old }
+{
+    while let Some(_) = list.pop() {}
+}

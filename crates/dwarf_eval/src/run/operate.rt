@@ -1,0 +1,456 @@
+ghost use Rattle.std.specs.Prelude.{◌≡◌, [], ◌∷◌};
+ghost use Rattle.dwarf_base.specs.Reads.{IsLeftOf};
+ghost use Rattle.dwarf_meaning.specs.Acts.{RequestAct, Branches, Locates, Pushes, FaultAct, binary, push, unary};
+ghost use Rattle.dwarf_meaning.specs.Operations as meaning;
+ghost use Rattle.dwarf_meaning.specs.Rest.{Running, FaultStatus};
+ghost use Rattle.dwarf_meaning.specs.Stores.{address_bits, push_values};
+ghost use Rattle.dwarf_base.specs.declared.errors.Error.TheVariants.{NotEnoughStackItems, UnsupportedEvaluation};
+ghost use Rattle.dwarf_value.specs.Values.{add_of, from_u64_of, to_u64_of, type_of};
+ghost use Rattle.dwarf_meaning.specs.Inputs.{with_status};
+ghost use Rattle.dwarf_eval.specs.Machine.{request_of, waiting_of};
+ghost use Rattle.dwarf_op.specs.Views.{location_of};
+ghost use Rattle.dwarf_eval.specs.inner.Operators.{unary_of};
+ghost use Rattle.dwarf_eval.specs.inner.Steps.{Performs, PopsNumber, PushesAllPlain, PushesPlain, Tries, act_of, at};
+
+use crate::run::binary::BinaryOperator;
+use crate::run::machine::Machine;
+use crate::run::operators::UnaryOperator;
+use crate::run::states::{EvaluationState, OpenRequest};
+use crate::store::EvaluationStorage;
+use dwarf_base::{Error, Reader, ReaderOffset, Result, UnitOffset};
+use dwarf_op::{Location, Piece};
+use dwarf_value::{Value, ValueType};
+
+impl<R: Reader + Copy, S: EvaluationStorage<R>> Machine<R, S> {
+    /// Pushes the value of a plain operation.
+    #[inline(always)]
+    fn push_plain(&mut self, value: Value)
+        ensures { PushesPlain value self.old self.new }
+    {
+        self.mark_plain();
+        self.push(value);
+    }
+
+    /// Pushes two values, the second on top.
+    #[inline(always)]
+    fn push_two(&mut self, first: Value, second: Value) -> bool
+        ensures { Tries 1 (push_values self.old.setup (first ∷ second ∷ [])) self.old self.new
+            result }
+    {
+        if !self.push(first) {
+            return false;
+        }
+        self.push(second)
+    }
+
+    /// Pushes two values of a plain operation, the second on top.
+    #[inline(always)]
+    fn push_both(&mut self, first: Value, second: Value)
+        ensures { PushesAllPlain (first ∷ second ∷ []) self.old self.new }
+    {
+        self.mark_plain();
+        self.push_two(first, second);
+    }
+
+    /// Pushes three values of a plain operation, the third on top.
+    #[inline(always)]
+    fn push_three(&mut self, first: Value, second: Value, third: Value)
+        ensures { PushesAllPlain (first ∷ second ∷ third ∷ []) self.old self.new }
+    {
+        self.mark_plain();
+        if self.push(first) {
+            self.push_two(second, third);
+        }
+    }
+
+    /// Pushes a constant.
+    #[inline(always)]
+    pub(crate) fn push_constant(&mut self, value: Value)
+        requires { self.old.status ≡ Running }
+        ensures { Performs (push self.old.store.values value) self.old self.new }
+    {
+        self.push_plain(value)
+    }
+
+    /// Puts the call's value in the place of the top.
+    #[inline(never)]
+    pub(crate) fn compute_unary(&mut self, operator: UnaryOperator)
+        requires { self.old.status ≡ Running }
+        ensures { Performs
+            (unary (unary_of operator (address_bits self.old.setup)) self.old.store.values)
+            self.old self.new }
+    {
+        let Some(value) = self.pop() else {
+            self.fall_short();
+            return;
+        };
+        match operator.apply(value, self.addr_mask()) {
+            Ok(computed) => self.push_plain(computed),
+            Err(error) => self.fail(error),
+        }
+    }
+
+    /// Puts the call's value in the place of the two on top.
+    #[inline(never)]
+    pub(crate) fn compute_binary<O: BinaryOperator>(&mut self)
+        requires { self.old.status ≡ Running }
+        ensures { Performs (binary (O.meaning (address_bits self.old.setup)) self.old.store.values)
+            self.old self.new }
+    {
+        let Some((left, right)) = self.pop_generics() else {
+            self.compute_typed::<O>();
+            return;
+        };
+        match O::apply(
+            Value::Generic(left),
+            Value::Generic(right),
+            self.addr_mask(),
+        ) {
+            Ok(computed) => self.push_plain(computed),
+            Err(error) => self.fail(error),
+        }
+    }
+
+    /// The same, of values of any types.
+    #[inline(never)]
+    fn compute_typed<O: BinaryOperator>(&mut self)
+        requires { self.old.status ≡ Running }
+        ensures { Performs (binary (O.meaning (address_bits self.old.setup)) self.old.store.values)
+            self.old self.new }
+    {
+        let Some(right) = self.pop() else {
+            self.fall_short();
+            return;
+        };
+        let Some(left) = self.pop() else {
+            self.fall_short();
+            return;
+        };
+        match O::apply(left, right, self.addr_mask()) {
+            Ok(computed) => self.push_plain(computed),
+            Err(error) => self.fail(error),
+        }
+    }
+
+    /// A value plus a constant of its type.
+    #[inline(always)]
+    #[tactic(auto, unfolding(dwarf_value::specs::Values::type_of))]
+    pub(crate) fn sum(&self, value: Value, constant: u64) -> Result<Value>
+        ensures { result
+            ≡ add_of (address_bits self.now.setup) value (from_u64_of (type_of value) constant) }
+    {
+        let Value::Generic(content) = value else {
+            return self.typed_sum(value, constant);
+        };
+        let addend = Value::from_u64(ValueType::Generic, constant)?;
+        Value::Generic(content).add(addend, self.addr_mask())
+    }
+
+    /// The same, of a value of another type.
+    #[inline(never)]
+    fn typed_sum(&self, value: Value, constant: u64) -> Result<Value>
+        ensures { result
+            ≡ add_of (address_bits self.now.setup) value (from_u64_of (type_of value) constant) }
+    {
+        let addend = Value::from_u64(value.value_type(), constant)?;
+        value.add(addend, self.addr_mask())
+    }
+
+    /// The number of an address's bits that a value is.
+    #[inline(always)]
+    pub(crate) fn number_of(&self, value: Value) -> u64
+        ensures { result ≡ to_u64_of (address_bits self.now.setup) value }
+    {
+        let Value::Generic(content) = value else {
+            return self.typed_number_of(value);
+        };
+        Value::Generic(content)
+            .to_u64(self.addr_mask())
+            .unwrap_or(0)
+    }
+
+    /// The same, of a value of another type.
+    #[inline(never)]
+    fn typed_number_of(&self, value: Value) -> u64
+        ensures { result ≡ to_u64_of (address_bits self.now.setup) value }
+    {
+        value.to_u64(self.addr_mask()).unwrap_or(0)
+    }
+
+    /// Pops the top as a number of an address's bits.
+    #[inline(always)]
+    fn pop_number(&mut self) -> Option<u64>
+        ensures { PopsNumber self.old self.new result }
+    {
+        let value = self.pop()?;
+        Some(self.number_of(value))
+    }
+
+    /// Keeps the fault of a value that isn't there.
+    #[cold]
+    #[inline(never)]
+    pub(crate) fn fall_short(&mut self)
+        ensures { self.new ≡ with_status (FaultStatus NotEnoughStackItems) self.old }
+    {
+        self.fail(Error::NotEnoughStackItems);
+    }
+
+    /// Keeps the fault of an operation that isn't supported.
+    #[cold]
+    #[inline(never)]
+    pub(crate) fn fail_unsupported(&mut self)
+        ensures { Performs (FaultAct UnsupportedEvaluation) self.old self.new }
+    {
+        self.fail(Error::UnsupportedEvaluation);
+    }
+
+    /// Does nothing more than a plain operation.
+    #[inline(always)]
+    pub(crate) fn pass(&mut self)
+        requires { self.old.status ≡ Running }
+        ensures { Performs (Pushes self.old.store.values []) self.old self.new }
+    {
+        self.mark_plain();
+    }
+
+    /// Drops the top.
+    #[inline(always)]
+    pub(crate) fn drop_top(&mut self)
+        requires { self.old.status ≡ Running }
+        ensures { Performs (act_of self.old meaning.Drop) self.old self.new }
+    {
+        let Some(_) = self.pop() else {
+            self.fall_short();
+            return;
+        };
+        self.mark_plain();
+    }
+
+    /// Pushes a copy of the value that is this far below the top.
+    #[inline(always)]
+    pub(crate) fn pick(&mut self, index: u8)
+        requires { self.old.status ≡ Running }
+        ensures { Performs (act_of self.old (meaning.Pick index)) self.old self.new }
+    {
+        let Some(value) = self.value_at(index) else {
+            self.fall_short();
+            return;
+        };
+        self.push_plain(value)
+    }
+
+    /// Swaps the two on top.
+    #[inline(never)]
+    pub(crate) fn swap(&mut self)
+        requires { self.old.status ≡ Running }
+        ensures { Performs (act_of self.old meaning.Swap) self.old self.new }
+    {
+        let Some(top) = self.pop() else {
+            self.fall_short();
+            return;
+        };
+        let Some(next) = self.pop() else {
+            self.fall_short();
+            return;
+        };
+        self.push_both(top, next)
+    }
+
+    /// Moves the top under the two below it.
+    #[inline(never)]
+    pub(crate) fn rotate(&mut self)
+        requires { self.old.status ≡ Running }
+        ensures { Performs (act_of self.old meaning.Rot) self.old self.new }
+    {
+        let Some(top) = self.pop() else {
+            self.fall_short();
+            return;
+        };
+        let Some(second) = self.pop() else {
+            self.fall_short();
+            return;
+        };
+        let Some(third) = self.pop() else {
+            self.fall_short();
+            return;
+        };
+        self.push_three(top, third, second)
+    }
+
+    /// Adds a constant to the top.
+    #[inline(never)]
+    pub(crate) fn add_constant(&mut self, constant: u64)
+        requires { self.old.status ≡ Running }
+        ensures { Performs (act_of self.old (meaning.PlusConstant constant)) self.old self.new }
+    {
+        let Some(value) = self.pop() else {
+            self.fall_short();
+            return;
+        };
+        match self.sum(value, constant) {
+            Ok(sum) => self.push_plain(sum),
+            Err(error) => self.fail(error),
+        }
+    }
+
+    /// Pushes a signed constant.
+    #[inline(always)]
+    pub(crate) fn push_signed(&mut self, constant: i64)
+        requires { self.old.status ≡ Running }
+        ensures { Performs (act_of self.old (meaning.SignedConstant constant)) self.old self.new }
+    {
+        self.push_plain(Value::Generic(constant.cast_unsigned()))
+    }
+
+    /// Pushes the address of the object that is described.
+    #[inline(always)]
+    pub(crate) fn push_object_address(&mut self)
+        requires { self.old.status ≡ Running }
+        ensures { Performs (act_of self.old meaning.PushObjectAddress) self.old self.new }
+    {
+        let Some(address) = self.object_address() else {
+            self.fail(Error::InvalidPushObjectAddress);
+            return;
+        };
+        self.push_plain(Value::Generic(address))
+    }
+
+    /// Goes on this many bytes after the operation.
+    #[inline(always)]
+    pub(crate) fn take_branch(&mut self, target: i16, left: &mut R)
+        requires runs { self.old.status ≡ Running }
+        requires rest { IsLeftOf (R.text left.old) self.old.text }
+        ensures performs { Performs (Branches self.old.store.values target)
+            (at (R.text left.old).bytes self.old) (at (R.text left.new).bytes self.new) }
+        ensures rest { IsLeftOf (R.text left.new) self.new.text }
+    {
+        self.mark_plain();
+        let place = self.place_of(*left);
+        self.jump(place.wrapping_add(R::Offset::from_i16(target)), left);
+    }
+
+    /// Branches if the top isn't zero.
+    #[inline(always)]
+    pub(crate) fn branch_if(&mut self, target: i16, left: &mut R)
+        requires runs { self.old.status ≡ Running }
+        requires rest { IsLeftOf (R.text left.old) self.old.text }
+        ensures performs { Performs (act_of self.old (meaning.Bra target))
+            (at (R.text left.old).bytes self.old) (at (R.text left.new).bytes self.new) }
+        ensures rest { IsLeftOf (R.text left.new) self.new.text }
+    {
+        let Some(number) = self.pop_number() else {
+            self.fall_short();
+            return;
+        };
+        if number == 0 {
+            self.pass();
+            return;
+        }
+        self.take_branch(target, left)
+    }
+
+    /// Lets a location wait for its piece.
+    #[inline(always)]
+    pub(crate) fn locate(&mut self, location: Location<R>)
+        requires { self.old.status ≡ Running }
+        ensures { Performs
+            (Locates self.old.store.values (location_of R.text R.Offset.number location))
+            self.old self.new }
+    {
+        self.mark_located(location);
+    }
+
+    /// Lets the top wait for its piece, as a value that has no place.
+    #[inline(never)]
+    pub(crate) fn locate_value(&mut self)
+        requires { self.old.status ≡ Running }
+        ensures { Performs (act_of self.old meaning.StackValue) self.old self.new }
+    {
+        let Some(value) = self.pop() else {
+            self.fall_short();
+            return;
+        };
+        self.locate(Location::Value { value })
+    }
+
+    /// Ends a piece at the address on top, or nowhere if the stack is empty.
+    #[inline(never)]
+    pub(crate) fn end_piece(&mut self, size_in_bits: u64, bit_offset: Option<u64>)
+        requires { self.old.status ≡ Running }
+        ensures { Performs (act_of self.old (meaning.Piece size_in_bits bit_offset))
+            self.old self.new }
+    {
+        self.mark_pieced();
+        let Some(address) = self.pop_number() else {
+            self.push_piece(Piece {
+                size_in_bits: Some(size_in_bits),
+                bit_offset,
+                location: Location::Empty,
+            });
+            return;
+        };
+        self.push_piece(Piece {
+            size_in_bits: Some(size_in_bits),
+            bit_offset,
+            location: Location::Address { address },
+        });
+    }
+
+    /// Opens a request.
+    #[inline(always)]
+    pub(crate) fn ask(&mut self, request: OpenRequest<R>)
+        ensures { Performs
+            (RequestAct self.old.store.values (request_of R.text R.Offset.number request)
+            (waiting_of R.text request)) self.old self.new }
+    {
+        self.enter(EvaluationState::Waiting(request));
+    }
+
+    /// Asks for what memory holds at the address on top, in the space below it if one is named.
+    #[inline(never)]
+    pub(crate) fn dereference(&mut self, base_type: UnitOffset<R::Offset>, size: u8, space: bool)
+        ensures { Performs
+            (act_of self.old (meaning.Deref (R.Offset.number base_type.0) size space))
+            self.old self.new }
+    {
+        if size > self.address_size() {
+            self.fail(Error::InvalidDerefSize(size));
+            return;
+        }
+        let Some(address) = self.pop_number() else {
+            self.fall_short();
+            return;
+        };
+        if !space {
+            self.ask(OpenRequest::Memory {
+                address,
+                size,
+                space: None,
+                base_type,
+            });
+            return;
+        }
+        let Some(space) = self.pop_number() else {
+            self.fall_short();
+            return;
+        };
+        self.ask(OpenRequest::Memory {
+            address,
+            size,
+            space: Some(space),
+            base_type,
+        })
+    }
+
+    /// Asks for the address of the thread-local slot on top.
+    #[inline(never)]
+    pub(crate) fn ask_tls(&mut self)
+        ensures { Performs (act_of self.old meaning.TLS) self.old self.new }
+    {
+        let Some(index) = self.pop_number() else {
+            self.fall_short();
+            return;
+        };
+        self.ask(OpenRequest::Tls(index))
+    }
+}

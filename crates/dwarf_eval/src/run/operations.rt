@@ -1,0 +1,130 @@
+//! The method of each operation.
+
+ghost use Rattle.std.specs.Prelude.{◌≡◌};
+ghost use Rattle.dwarf_base.specs.Reads.{IsLeftOf};
+ghost use Rattle.dwarf_meaning.specs.Rest.{Running};
+ghost use Rattle.dwarf_eval.specs.inner.Steps.{IsNoBranch, Performs, act_of, at};
+ghost use Rattle.dwarf_op.specs.Views.{operation_of};
+
+use crate::run::binary;
+use crate::run::machine::Machine;
+use crate::run::operators::UnaryOperator;
+use crate::run::states::OpenRequest;
+use crate::store::EvaluationStorage;
+use dwarf_base::Reader;
+use dwarf_op::{Location, Operation};
+use dwarf_value::Value;
+
+impl<R: Reader + Copy, S: EvaluationStorage<R>> Machine<R, S> {
+    /// Does an operation, before what is left of the text.
+    #[inline(always)]
+    #[tactic(auto, using(crate::proofs::Behind::left_there))]
+    pub(crate) fn operate(&mut self, operation: Operation<R>, left: &mut R)
+        requires runs { self.old.status ≡ Running }
+        requires rest { IsLeftOf (R.text left.old) self.old.text }
+        ensures performs { Performs
+            (act_of self.old (operation_of R.text R.Offset.number operation))
+            (at (R.text left.old).bytes self.old) (at (R.text left.new).bytes self.new) }
+        ensures rest { IsLeftOf (R.text left.new) self.new.text }
+    {
+        match operation {
+            Operation::Bra { target } => self.branch_if(target, left),
+            Operation::Skip { target } => self.take_branch(target, left),
+            _ => self.operate_in_place(operation),
+        }
+    }
+
+    /// Does an operation that is no branch.
+    #[inline(always)]
+    #[tactic(auto, unfolding(dwarf_meaning::specs::Acts::act))]
+    fn operate_in_place(&mut self, operation: Operation<R>)
+        requires runs { self.old.status ≡ Running }
+        requires still { IsNoBranch (operation_of R.text R.Offset.number operation) }
+        ensures { Performs
+            (act_of self.old (operation_of R.text R.Offset.number operation)) self.old self.new }
+    {
+        match operation {
+            Operation::Deref {
+                size,
+                space,
+                base_type,
+            } => self.dereference(base_type, size, space),
+            Operation::Drop => self.drop_top(),
+            Operation::Pick { index } => self.pick(index),
+            Operation::Swap => self.swap(),
+            Operation::Rot => self.rotate(),
+            Operation::Abs => self.compute_unary(UnaryOperator::Abs),
+            Operation::And => self.compute_binary::<binary::And>(),
+            Operation::Div => self.compute_binary::<binary::Div>(),
+            Operation::Minus => self.compute_binary::<binary::Minus>(),
+            Operation::Mod => self.compute_binary::<binary::Mod>(),
+            Operation::Mul => self.compute_binary::<binary::Mul>(),
+            Operation::Neg => self.compute_unary(UnaryOperator::Neg),
+            Operation::Not => self.compute_unary(UnaryOperator::Not),
+            Operation::Or => self.compute_binary::<binary::Or>(),
+            Operation::Plus => self.compute_binary::<binary::Plus>(),
+            Operation::PlusConstant { value } => self.add_constant(value),
+            Operation::Shl => self.compute_binary::<binary::Shl>(),
+            Operation::Shr => self.compute_binary::<binary::Shr>(),
+            Operation::Shra => self.compute_binary::<binary::Shra>(),
+            Operation::Xor => self.compute_binary::<binary::Xor>(),
+            Operation::Bra { .. } | Operation::Skip { .. } => unreachable!(),
+            Operation::Eq => self.compute_binary::<binary::Eq>(),
+            Operation::Ge => self.compute_binary::<binary::Ge>(),
+            Operation::Gt => self.compute_binary::<binary::Gt>(),
+            Operation::Le => self.compute_binary::<binary::Le>(),
+            Operation::Lt => self.compute_binary::<binary::Lt>(),
+            Operation::Ne => self.compute_binary::<binary::Ne>(),
+            Operation::UnsignedConstant { value } => self.push_constant(Value::Generic(value)),
+            Operation::SignedConstant { value } => self.push_signed(value),
+            Operation::Register { register } => self.locate(Location::Register { register }),
+            Operation::RegisterOffset {
+                register,
+                offset,
+                base_type,
+            } => self.ask(OpenRequest::Register {
+                register,
+                offset,
+                base_type,
+            }),
+            Operation::FrameOffset { offset } => self.ask(OpenRequest::FrameBase { offset }),
+            Operation::Nop => self.pass(),
+            Operation::PushObjectAddress => self.push_object_address(),
+            Operation::Call { offset } => self.ask(OpenRequest::AtLocation(offset)),
+            Operation::TLS => self.ask_tls(),
+            Operation::CallFrameCFA => self.ask(OpenRequest::CallFrameCfa),
+            Operation::Piece {
+                size_in_bits,
+                bit_offset,
+            } => self.end_piece(size_in_bits, bit_offset),
+            Operation::ImplicitValue { bytes } => self.locate(Location::Bytes { value: bytes }),
+            Operation::StackValue => self.locate_value(),
+            Operation::ImplicitPointer { value, byte_offset } => {
+                self.locate(Location::ImplicitPointer { value, byte_offset })
+            }
+            Operation::EntryValue { expression } => self.ask(OpenRequest::EntryValue(expression)),
+            Operation::ParameterRef { offset } => self.ask(OpenRequest::ParameterRef(offset)),
+            Operation::Address { address } => self.ask(OpenRequest::RelocatedAddress(address)),
+            Operation::AddressIndex { index } => self.ask(OpenRequest::IndexedAddress {
+                index,
+                relocate: true,
+            }),
+            Operation::ConstantIndex { index } => self.ask(OpenRequest::IndexedAddress {
+                index,
+                relocate: false,
+            }),
+            Operation::TypedLiteral { base_type, value } => {
+                self.ask(OpenRequest::TypedLiteral { base_type, value })
+            }
+            Operation::Convert { base_type } => self.ask(OpenRequest::Convert { base_type }),
+            Operation::Reinterpret { base_type } => self.ask(OpenRequest::Reinterpret {
+                base_type,
+            }),
+            Operation::Uninitialized => self.fail_unsupported(),
+            Operation::WasmLocal { index } => self.ask(OpenRequest::WasmLocal(index)),
+            Operation::WasmGlobal { index } => self.ask(OpenRequest::WasmGlobal(index)),
+            Operation::WasmStack { index } => self.ask(OpenRequest::WasmStack(index)),
+            Operation::VariableValue { offset: _ } => self.fail_unsupported(),
+        }
+    }
+}

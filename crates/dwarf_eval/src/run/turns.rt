@@ -1,0 +1,222 @@
+ghost use Rattle.std.specs.Prelude.{◌≡◌, ◌<◌, length, false};
+ghost use Rattle.dwarf_base.specs.Reads.{IsLeftOf};
+ghost use Rattle.dwarf_meaning.specs.Meaning.{whole as meant_whole, finish, finish_value};
+ghost use Rattle.dwarf_meaning.specs.Rest.{Running, Start};
+ghost use Rattle.dwarf_meaning.specs.Run.{piece_ended_by};
+ghost use Rattle.dwarf_meaning.specs.RunLaws.{waits_of};
+ghost use Rattle.dwarf_op.specs.Views.{operation_of, location_of, piece_of};
+ghost use Rattle.dwarf_eval.specs.inner.Steps.{Closes, Comes, CompletesWith, EndsLocated, HasReply, IsReady, Turns, at, goes_on, is_free, total};
+
+use crate::run::machine::Machine;
+use crate::run::states::{EvaluationState, LastOperation};
+use crate::store::EvaluationStorage;
+use dwarf_base::{Error, Reader, ReaderOffset};
+use dwarf_op::{Location, Operation, Piece};
+use dwarf_value::Value;
+
+/// A piece that is the whole variable.
+#[inline(always)]
+fn whole<R: Reader + Copy>(location: Location<R>) -> Piece<R>
+    ensures { piece_of R.text R.Offset.number result
+        ≡ meant_whole (location_of R.text R.Offset.number location) }
+{
+    Piece {
+        size_in_bits: None,
+        bit_offset: None,
+        location,
+    }
+}
+
+impl<R: Reader + Copy, S: EvaluationStorage<R>> Machine<R, S> {
+    /// Counts the operation before what is left, and does it.
+    fn perform(&mut self, left: &mut R)
+        requires ready { IsReady (at (R.text left.old).bytes self.old) }
+        requires rest { IsLeftOf (R.text left.old) self.old.text }
+        ensures turns { Turns (at (R.text left.old).bytes self.old)
+            (at (R.text left.new).bytes self.new) }
+        ensures rest { IsLeftOf (R.text left.new) self.new.text }
+    {
+        if !self.count() {
+            return;
+        }
+        match self.decode(left) {
+            Ok(operation) => self.operate(operation, left),
+            Err(error) => self.fail(error),
+        }
+    }
+
+    /// Whether the operation before what is left comes next.
+    #[inline(always)]
+    fn goes_on(&self, left: R) -> bool
+        requires { IsLeftOf (R.text left) self.now.text }
+        ensures { result ≡ goes_on (at (R.text left).bytes self.now) }
+    {
+        self.is_running() && self.is_free() && !left.is_empty()
+    }
+
+    /// Does operations until something else comes next. What is left of the text is a local meanwhile.
+    #[inline(always)]
+    fn run_operations(&mut self)
+        requires { IsReady self.old }
+        ensures { Turns self.old self.new }
+    {
+        let mut left = self.left();
+        let mut goes_on = true;
+        while goes_on {
+            self.perform(&mut left);
+            goes_on = self.goes_on(left);
+        }
+        self.go_to(left);
+    }
+
+    /// Ends the piece of a location that waits for it, if the operation that was read ends one.
+    #[inline(always)]
+    fn end_located(&mut self, location: Location<R>, operation: Operation<R>)
+        requires { 0 < self.old.place }
+        ensures { EndsLocated (location_of R.text R.Offset.number location)
+            (piece_ended_by (operation_of R.text R.Offset.number operation)) self.old self.new }
+    {
+        let Operation::Piece {
+            size_in_bits,
+            bit_offset,
+        } = operation
+        else {
+            let place = self.place().into_u64();
+            self.fail(Error::InvalidExpressionTerminator(place - 1));
+            return;
+        };
+        self.mark_pieced();
+        self.push_piece(Piece {
+            size_in_bits: Some(size_in_bits),
+            bit_offset,
+            location,
+        });
+    }
+
+    /// Reads the piece of a location that waits for it.
+    #[inline(never)]
+    fn hold(&mut self)
+        requires runs { self.old.status ≡ Running }
+        requires inside { self.old.place < length self.old.text.bytes }
+        requires waits { is_free self.old.store.last ≡ false }
+        ensures { Turns self.old self.new }
+    {
+        match self.decode_here() {
+            Ok(operation) => {
+                let location = self.location();
+                self.end_located(location, operation);
+            }
+            Err(error) => self.fail(error),
+        }
+    }
+
+    /// Ends the run with one more piece.
+    fn complete(&mut self, piece: Piece<R>, value: Option<Value>)
+        requires { self.old.status ≡ Running }
+        ensures { CompletesWith (piece_of R.text R.Offset.number piece) value self.old self.new }
+    {
+        if self.push_piece(piece) {
+            self.enter(EvaluationState::Complete(value));
+        }
+    }
+
+    /// Ends the run with the value on top.
+    fn finish_value(&mut self)
+        requires { self.old.status ≡ Running }
+        ensures { Closes 0 (finish_value self.old.setup) self.old self.new }
+    {
+        let Some(value) = self.pop() else {
+            self.fall_short();
+            return;
+        };
+        let address = self.number_of(value);
+        self.complete(whole(Location::Address { address }), Some(value));
+    }
+
+    /// Ends the run: with the pieces, if its last operation may follow them, or else with one piece.
+    fn finish(&mut self)
+        requires { self.old.status ≡ Running }
+        ensures { Closes (waits_of self.old.store.last) (finish self.old.setup) self.old self.new }
+    {
+        if self.has_pieces() {
+            match self.last() {
+                LastOperation::Nothing => self.enter(EvaluationState::Complete(None)),
+                LastOperation::Plain => self.fail(Error::InvalidPiece),
+                LastOperation::Pieced => self.enter(EvaluationState::Complete(None)),
+                LastOperation::Pushed => self.fail(Error::InvalidPiece),
+                LastOperation::Called => self.enter(EvaluationState::Complete(None)),
+                LastOperation::Located => self.fail(Error::InvalidPiece),
+            }
+            return;
+        }
+        if self.is_free() {
+            self.finish_value();
+            return;
+        }
+        self.complete(whole(self.location()), None);
+    }
+
+    /// Leaves the running text at its end.
+    #[inline(never)]
+    fn leave(&mut self)
+        requires runs { self.old.status ≡ Running }
+        requires ends { self.old.place ≡ length self.old.text.bytes }
+        ensures { Turns self.old self.new }
+    {
+        if !self.pop_caller() {
+            self.finish();
+        }
+    }
+
+    /// Does what comes next.
+    #[inline(always)]
+    fn turn(&mut self)
+        requires { self.old.status ≡ Running }
+        ensures { Turns self.old self.new }
+    {
+        if self.is_at_end() {
+            self.leave();
+            return;
+        }
+        if self.is_free() {
+            self.run_operations();
+            return;
+        }
+        self.hold();
+    }
+
+    /// Runs on to a request, to the end, or to a fault, which it keeps.
+    #[inline(never)]
+    pub(crate) fn run_on(&mut self)
+        requires { self.old.status ≡ Running }
+        ensures comes { Comes self.old (total self.old) self.new }
+        ensures replies { HasReply self.new.status }
+    {
+        while self.is_running() {
+            self.turn();
+        }
+    }
+
+    /// Begins the run.
+    fn begin(&mut self, initial_value: Option<u64>)
+        requires { self.old.status ≡ Start initial_value }
+        ensures { Comes self.old (total self.old) self.new }
+    {
+        self.enter(EvaluationState::Running);
+        if let Some(value) = initial_value {
+            self.push(Value::Generic(value));
+        }
+    }
+
+    /// Begins the run, and runs on to a request, to the end, or to a fault, which it keeps.
+    pub fn start(&mut self, initial_value: Option<u64>)
+        requires { self.old.status ≡ Start initial_value }
+        ensures comes { Comes self.old (total self.old) self.new }
+        ensures replies { HasReply self.new.status }
+    {
+        self.begin(initial_value);
+        if self.is_running() {
+            self.run_on();
+        }
+    }
+}

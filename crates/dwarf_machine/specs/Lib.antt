@@ -1,4 +1,0 @@
-pub mod Answers
-pub mod Lists
-pub mod Machine
-pub mod inner

@@ -16,7 +16,7 @@ use Rattle.dwarf_meaning.specs.Requests.{Request, Waiting, Memory, Register, Was
 use Rattle.dwarf_meaning.specs.Acts.{Use, PushesAnswer, Calls, FaultUse, on_top, on_result, result_of, use_of}
 use Rattle.dwarf_meaning.specs.Rest.{Status, Start, Running, RequestStatus, CompleteStatus, FaultStatus}
 use Rattle.dwarf_meaning.proofs.Choices.{answer_ok, answer_err, read_ok, read_err, top_none, top_some}
-use Rattle.dwarf_eval.specs.Answers.{IsWaitingFor, IsWaitingTo}
+use Rattle.dwarf_eval.specs.inner.Answers.{IsWaitingFor, IsWaitingTo}
 
 -- ---- the open request
 

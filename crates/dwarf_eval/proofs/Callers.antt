@@ -3,7 +3,7 @@ use Rattle.std.proofs.Common.{◌≡◌, List, [], ◌∷◌, ◌++◌, length, 
 use Rattle.std.specs.List.{AllByRecursion}
 use Rattle.std.proofs.lemmas.List.{reverse-append, map-append, length-reverse, length-map}
 use Rattle.dwarf_base.specs.Reads.{Text}
-use Rattle.dwarf_eval.specs.Machine.{caller_of, callers_of}
+use Rattle.dwarf_eval.specs.inner.Machine.{caller_of, callers_of}
 
 pub callers-push : {R : Type 0} (text : R → Text) (f : R × R) (low all : List (R × R)) → all ≡ low ++ f ∷ [] → callers_of text all ≡ caller_of text f ∷ callers_of text low
 callers-push text f low all e =

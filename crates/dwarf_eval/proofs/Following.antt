@@ -12,7 +12,8 @@ use Rattle.dwarf_meaning.specs.Rest.{State, Status, Start, Running, RequestStatu
 use Rattle.dwarf_meaning.specs.Steps.{Reply, reply}
 use Rattle.dwarf_meaning.specs.Refusals.{Refusal, Never, After, before_pushes, IsLater}
 use Rattle.dwarf_eval.specs.Evaluation.{Follows, IsAtRest, IsAtRestBy, IsEndedBy, IsFresh, WaitsOrIsComplete, IsReplied, Resumes, means, reply_of}
-use Rattle.dwarf_eval.specs.Permits.{IsOpenFor, IsWaitingFor}
+use Rattle.dwarf_eval.specs.Permits.{IsOpenFor}
+use Rattle.dwarf_eval.specs.inner.Answers.{IsWaitingFor}
 use Rattle.dwarf_eval.specs.declared.op.results.EvaluationResult.{EvaluationResult}
 use Rattle.dwarf_meaning.specs.declared.kinds.WaitingKind.{WaitingKind}
 use Rattle.dwarf_eval.specs.inner.Steps.{has_failed, Reaches, Falls, ComesBy, Comes}

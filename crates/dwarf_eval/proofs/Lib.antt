@@ -34,5 +34,6 @@ pub mod TickSteps
 pub mod TickWalks
 pub mod EqualPieces
 pub mod Following
+pub mod Replying
 pub mod Items
 pub mod CallSpending

@@ -1,5 +1,5 @@
 -- What an operation does to a state is what its act says.
-use Rattle.std.proofs.Common.{ℕ, ℤ, ◌≡◌, ◌+◌, ◌<◌, ◌≤◌, Bool, true, false, List, [], ◌∷◌, length, Result, Ok, Some, None, arith, ap, ◌∙◌, sym, refl, subst, nat_lt}
+use Rattle.std.proofs.Common.{ℕ, ℤ, ◌≡◌, ◌+◌, ◌<◌, ◌≤◌, Bool, true, false, List, [], ◌∷◌, length, Option, Result, Ok, Some, None, arith, ap, ◌∙◌, sym, refl, subst, nat_lt}
 use Rattle.std.proofs.lemmas.Bool.Decides.{nat_tests}
 use Rattle.dwarf_base.specs.declared.errors.Error.{Error}
 use Rattle.dwarf_base.specs.declared.errors.Error.TheVariants as error
@@ -14,7 +14,8 @@ use Rattle.dwarf_meaning.specs.Rest.{State, Status, Start, Running, RequestStatu
 use Rattle.dwarf_meaning.specs.Refusals.{Refusal, Never, before_pushes}
 use Rattle.dwarf_meaning.proofs.Choices.{choose_true, choose_false}
 use Rattle.dwarf_meaning.specs.Inputs.{with_status}
-use Rattle.dwarf_eval.specs.inner.Steps.{Stays, Tries, Tried, Pops, Jumps, done_at, LeadsToFault, LeadsBy, Performs, with_store, with_values, with_last, with_place}
+use Rattle.dwarf_eval.specs.inner.Machine.{replied_status}
+use Rattle.dwarf_eval.specs.inner.Steps.{Asks, Stays, Tries, Tried, Pops, Jumps, done_at, LeadsToFault, LeadsBy, Performs, with_store, with_values, with_last, with_place}
 use Rattle.dwarf_eval.proofs.Refusals.{tries_as, bind_ok}
 use Rattle.dwarf_eval.proofs.Staying.{stays_from, stays_low, stays_then}
 
@@ -114,6 +115,11 @@ performs_asks rest request waiting old new e =
       steps = record { pushes = 0; same = λ r. ap (λ (z : State). RequestNext request waiting (with_refusal r z.store)) (sym e) };
       alone = e ∙ ap (λ (z : State). with_store z.store (with_status (RequestStatus request waiting) old)) (sym e);
     })
+
+-- a request was opened, if there is one
+pub asks_by : (asked : Option Request) (waiting : Waiting) (old new : State) → new ≡ with_status (replied_status asked waiting) old → Asks asked waiting old new
+asks_by None waiting old new e = tt
+asks_by (Some request) waiting old new e = performs_asks old.store.values request waiting old new e
 
 -- a branch is taken
 pub performs_branch : (t : ℤ) (old mid new : State) (target : ℕ) (done : Bool) → old.status ≡ Running → mid ≡ with_last Plain old → target ≡ branch_target mid.setup mid.place t → Jumps target mid new done → Performs (Branches old.store.values t) old new

@@ -6,7 +6,7 @@ use Rattle.dwarf_op.specs.Views.{location_of}
 use Rattle.dwarf_op.specs.declared.locations.Location.{Location}
 use Rattle.dwarf_eval.specs.declared.run.states.LastOperation.{LastOperation}
 use Rattle.dwarf_eval.specs.declared.run.states.LastOperation.TheVariants as last
-use Rattle.dwarf_eval.specs.Machine.{IsOfSort, last_of}
+use Rattle.dwarf_eval.specs.inner.Machine.{IsOfSort, last_of}
 use Rattle.dwarf_eval.specs.inner.Steps.{is_free}
 
 module _ {R O P : Type 0} (text : R → Text) (number : O → ℕ) where

@@ -1,13 +1,13 @@
 -- What a call of an evaluation replies: the nested meaning, and what is left of it.
 pub use Rattle.dwarf_meaning.specs.Inputs.{input_of, Keeps, with_status, first_of, IsFresh, with_object, with_maximum}
-use Rattle.std.specs.Prelude.{ℕ, ◌≡◌, ◌+◌, List, [], Option, Result, Ok, Err, length}
+use Rattle.std.specs.Prelude.{ℕ, ◌≡◌, ◌+◌, List, [], Option, Some, None, Result, Ok, Err, length}
 use Rattle.dwarf_base.specs.declared.errors.Error.{Error}
 use Rattle.dwarf_base.specs.Faults.{fault_of}
 use Rattle.dwarf_base.specs.Reads.{Text}
 use Rattle.dwarf_value.specs.declared.types.Value.{Value}
 use Rattle.dwarf_meaning.specs.Kinds.{kind_of_request, kind_of_waiting}
 use Rattle.dwarf_meaning.specs.Requests as requests
-use Rattle.dwarf_meaning.specs.Requests.{Input}
+use Rattle.dwarf_meaning.specs.Requests.{Request, Input}
 use Rattle.dwarf_meaning.specs.Refusals.{IsLater, MayPick, Refusal}
 use Rattle.dwarf_meaning.specs.Meaning.{course_of, meaning}
 use Rattle.dwarf_meaning.specs.Rest.{State, Status, Start, Running, RequestStatus, CompleteStatus, FaultStatus, Total, total, total_after}
@@ -25,30 +25,37 @@ WaitsOrIsComplete _ = ⊥
 
 -- ---- replies
 
--- the reply of a result: the request that it names, or completion
+-- what a result asks, if it isn't completion
+abbrev pub request_in : {R O P : Type 0} → (R → Text) → (O → ℕ) → EvaluationResult R O P → Option Request
+request_in text number result.Complete = None
+request_in text number (result.RequiresMemory address size space base_type) =
+    Some (requests.RequiresMemory address size space (number base_type.0))
+request_in text number (result.RequiresRegister register base_type) =
+    Some (requests.RequiresRegister register.0 (number base_type.0))
+request_in text number (result.RequiresWasmLocal index) = Some (requests.RequiresWasmLocal index)
+request_in text number (result.RequiresWasmGlobal index) = Some (requests.RequiresWasmGlobal index)
+request_in text number (result.RequiresWasmStack index) = Some (requests.RequiresWasmStack index)
+request_in text number result.RequiresFrameBase = Some requests.RequiresFrameBase
+request_in text number (result.RequiresTls index) = Some (requests.RequiresTls index)
+request_in text number result.RequiresCallFrameCfa = Some requests.RequiresCallFrameCfa
+request_in text number (result.RequiresAtLocation offset) =
+    Some (requests.RequiresAtLocation (reference_of number offset))
+request_in text number (result.RequiresEntryValue expression) =
+    Some (requests.RequiresEntryValue (text expression.0))
+request_in text number (result.RequiresParameterRef offset) = Some (requests.RequiresParameterRef (number offset.0))
+request_in text number (result.RequiresRelocatedAddress address) = Some (requests.RequiresRelocatedAddress address)
+request_in text number (result.RequiresIndexedAddress index relocate) =
+    Some (requests.RequiresIndexedAddress (number index.0) relocate)
+request_in text number (result.RequiresBaseType base_type) = Some (requests.RequiresBaseType (number base_type.0))
+
+-- the reply by what is asked: the request, or completion
+abbrev pub reply_by : Option Request → Reply
+reply_by None = CompleteReply
+reply_by (Some request) = RequestReply request
+
+-- the reply of a result
 abbrev pub ok_reply : {R O P : Type 0} → (R → Text) → (O → ℕ) → EvaluationResult R O P → Reply
-ok_reply text number result.Complete = CompleteReply
-ok_reply text number (result.RequiresMemory address size space base_type) =
-    RequestReply (requests.RequiresMemory address size space (number base_type.0))
-ok_reply text number (result.RequiresRegister register base_type) =
-    RequestReply (requests.RequiresRegister register.0 (number base_type.0))
-ok_reply text number (result.RequiresWasmLocal index) = RequestReply (requests.RequiresWasmLocal index)
-ok_reply text number (result.RequiresWasmGlobal index) = RequestReply (requests.RequiresWasmGlobal index)
-ok_reply text number (result.RequiresWasmStack index) = RequestReply (requests.RequiresWasmStack index)
-ok_reply text number result.RequiresFrameBase = RequestReply requests.RequiresFrameBase
-ok_reply text number (result.RequiresTls index) = RequestReply (requests.RequiresTls index)
-ok_reply text number result.RequiresCallFrameCfa = RequestReply requests.RequiresCallFrameCfa
-ok_reply text number (result.RequiresAtLocation offset) =
-    RequestReply (requests.RequiresAtLocation (reference_of number offset))
-ok_reply text number (result.RequiresEntryValue expression) =
-    RequestReply (requests.RequiresEntryValue (text expression.0))
-ok_reply text number (result.RequiresParameterRef offset) =
-    RequestReply (requests.RequiresParameterRef (number offset.0))
-ok_reply text number (result.RequiresRelocatedAddress address) =
-    RequestReply (requests.RequiresRelocatedAddress address)
-ok_reply text number (result.RequiresIndexedAddress index relocate) =
-    RequestReply (requests.RequiresIndexedAddress (number index.0) relocate)
-ok_reply text number (result.RequiresBaseType base_type) = RequestReply (requests.RequiresBaseType (number base_type.0))
+ok_reply text number replied = reply_by (request_in text number replied)
 
 -- the reply of a call: a result's, or a fault
 abbrev pub reply_of : {R O P : Type 0} → (R → Text) → (O → ℕ) → Result (EvaluationResult R O P) Error → Reply

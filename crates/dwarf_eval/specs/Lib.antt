@@ -1,6 +1,4 @@
-pub mod Answers
 pub mod Lists
-pub mod Machine
 pub mod Permits
 pub mod Evaluation
 pub mod Iteration

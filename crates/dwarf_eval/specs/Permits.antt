@@ -1,15 +1,13 @@
 -- What resumes are given, and where an evaluation stands as its caller sees it.
-pub use Rattle.dwarf_eval.specs.Answers.{answer_of, IsWaitingFor, IsWaitingTo}
-use Rattle.std.specs.Prelude.{ℕ, ◌≡◌, ◌<◌, Bool, true, false, [], None, Result, IfOk, is_some}
+use Rattle.std.specs.Prelude.{ℕ, ◌≡◌, ◌<◌, Bool, true, false, [], Option, Some, None, Result, IfOk, is_some}
 use Rattle.dwarf_base.specs.declared.errors.Error.{Error}
 use Rattle.dwarf_base.specs.Reads.{Text}
 use Rattle.dwarf_meaning.specs.Kinds.{kind_of_request, kind_of_waiting}
-use Rattle.dwarf_meaning.specs.Requests.{Answer}
+use Rattle.dwarf_meaning.specs.Requests.{Answer, Request}
 use Rattle.dwarf_meaning.specs.Rest as rest
 use Rattle.dwarf_meaning.specs.Rest.{Start, Running, RequestStatus, CompleteStatus, FaultStatus}
 use Rattle.dwarf_meaning.specs.Bounds.{calls_left}
-use Rattle.dwarf_meaning.specs.Steps.{Reply, CompleteReply, RequestReply, FaultReply}
-use Rattle.dwarf_eval.specs.Evaluation.{IsClosed, IsComplete, Resumes, input_of, ok_reply}
+use Rattle.dwarf_eval.specs.Evaluation.{IsClosed, IsComplete, Resumes, input_of, request_in}
 use Rattle.dwarf_eval.specs.declared.op.results.EvaluationResult.{EvaluationResult}
 use Rattle.dwarf_meaning.specs.declared.kinds.WaitingKind.{WaitingKind}
 use Rattle.dwarf_eval.specs.declared.eval.states.Status.{Status}
@@ -43,15 +41,14 @@ Permits s (status.Waiting kind) = IsOpenFor kind s
 Permits s status.Complete = IsComplete s
 Permits s (status.Failed error) = (kind : WaitingKind) → IsOpenFor kind s
 
--- which call a reply permits, as its condition asks: the results, or the resume of the kind that is asked for
-abbrev pub AdmitsReply : Reply → rest.Status → Type 0
-AdmitsReply CompleteReply s = IsComplete s
-AdmitsReply (RequestReply request) s = IsOpenFor (kind_of_request request) s
-AdmitsReply (FaultReply fault) s = Unit {0}
+-- which call is permitted after what is asked, as its condition asks: the results, or the resume of that kind
+abbrev pub AdmitsBy : Option Request → rest.Status → Type 0
+AdmitsBy None s = IsComplete s
+AdmitsBy (Some request) s = IsOpenFor (kind_of_request request) s
 
--- the same of a result, whatever its texts and offsets are
+-- which call a result permits, whatever its texts and offsets are
 abbrev pub Admits : {R O P : Type 0} → EvaluationResult R O P → rest.Status → Type 0
-Admits replied s = AdmitsReply (ok_reply (λ reader. record { bytes = []; is_big = false }) (λ offset. 0) replied) s
+Admits replied s = AdmitsBy (request_in (λ reader. record { bytes = []; is_big = false }) (λ offset. 0) replied) s
 
 -- A resume with this answer: it goes on by it, or gives the fault that was met; a reply permits the call that it asks
 -- for, and fewer resumes are left.

@@ -3,11 +3,14 @@ use Rattle.std.specs.Prelude.{◌≡◌}
 use Rattle.dwarf_base.specs.Reads.{Text}
 use Rattle.dwarf_meaning.specs.Kinds.{kind_of_waiting}
 use Rattle.dwarf_meaning.specs.declared.kinds.WaitingKind.{WaitingKind}
+use Rattle.dwarf_meaning.specs.declared.kinds.WaitingKind.TheVariants as kind
 use Rattle.dwarf_meaning.specs.Requests as requests
 use Rattle.dwarf_meaning.specs.Rest as rest
 use Rattle.dwarf_meaning.specs.Rest.{RequestStatus}
+use Rattle.dwarf_eval.specs.inner.Machine.{offset_of, typed_by}
 use Rattle.dwarf_eval.specs.declared.run.states.Given.{Given}
 use Rattle.dwarf_eval.specs.declared.run.states.Given.TheVariants as given
+use Rattle.dwarf_eval.specs.declared.run.states.OnAnswer.{OnAnswer}
 
 -- what a machine is given, as an answer
 abbrev pub answer_of : {R : Type 0} → (R → Text) → Given R → requests.Answer
@@ -33,3 +36,11 @@ IsWaitingFor kind _ = ⊥
 abbrev pub IsWaitingTo : requests.Waiting → rest.Status → Type 0
 IsWaitingTo wanted (RequestStatus request waiting) = waiting ≡ wanted
 IsWaitingTo wanted _ = ⊥
+
+-- this is what is done with the answer to the open request, if it isn't pushed as it is
+abbrev pub IsDoneWith : {R : Type 0} → (R → Text) → OnAnswer R → rest.Status → Type 0
+IsDoneWith text on_answer (RequestStatus request waiting) =
+    (kind_of_waiting waiting ≡ kind.Register → waiting ≡ requests.Register (offset_of on_answer))
+    × (kind_of_waiting waiting ≡ kind.FrameBase → waiting ≡ requests.FrameBase (offset_of on_answer))
+    × (kind_of_waiting waiting ≡ kind.BaseType → waiting ≡ typed_by text on_answer)
+IsDoneWith text on_answer _ = Unit {0}

@@ -1,5 +1,5 @@
 -- What an evaluation stands for: a state of the nested meaning, its readers seen as texts and places.
-use Rattle.std.specs.Prelude.{ℕ, List, Option, ◌*◌, ◌-◌, ◌≡◌, length, reverse, map}
+use Rattle.std.specs.Prelude.{ℕ, ℤ, pos, List, Option, Some, None, ◌*◌, ◌-◌, ◌≡◌, length, reverse, map}
 use Rattle.std.specs.List.{AllByRecursion}
 use Rattle.dwarf_base.specs.declared.common.Encoding.{Encoding}
 use Rattle.dwarf_base.specs.Reads.{IsLeftOf, Text}
@@ -11,13 +11,16 @@ use Rattle.dwarf_meaning.specs.Stores.{Store, Last, Nothing, Plain, Pieced, Push
 use Rattle.dwarf_meaning.specs.Run.{Position}
 use Rattle.dwarf_meaning.specs.Rest.{Status, Start, Running, RequestStatus, CompleteStatus, FaultStatus}
 use Rattle.dwarf_meaning.specs.Refusals.{Never}
-use Rattle.dwarf_op.specs.Views.{reference_of, location_of, piece_of}
+use Rattle.dwarf_op.specs.Views.{location_of, piece_of}
+use Rattle.dwarf_eval.specs.Evaluation.{request_in}
 use Rattle.dwarf_op.specs.declared.locations.Location.{Location}
 use Rattle.dwarf_op.specs.declared.locations.Piece.{Piece}
 use Rattle.dwarf_eval.specs.declared.run.states.LastOperation.{LastOperation}
 use Rattle.dwarf_eval.specs.declared.run.states.LastOperation.TheVariants as last
-use Rattle.dwarf_eval.specs.declared.run.states.OpenRequest.{OpenRequest}
-use Rattle.dwarf_eval.specs.declared.run.states.OpenRequest.TheVariants as request
+use Rattle.dwarf_eval.specs.declared.op.results.EvaluationResult.{EvaluationResult}
+use Rattle.dwarf_eval.specs.declared.op.results.EvaluationResult.TheVariants as result
+use Rattle.dwarf_eval.specs.declared.run.states.OnAnswer.{OnAnswer}
+use Rattle.dwarf_eval.specs.declared.run.states.OnAnswer.TheVariants as on
 use Rattle.dwarf_eval.specs.declared.run.states.EvaluationState.{EvaluationState}
 use Rattle.dwarf_eval.specs.declared.run.states.EvaluationState.TheVariants as state
 
@@ -39,54 +42,58 @@ IsOfSort last.Pushed x = x ≡ Pushed
 IsOfSort last.Called x = x ≡ Called
 IsOfSort last.Located x = (location : meant.Location) × (x ≡ Located location)
 
--- what an open request asks
-abbrev pub request_of : {R O P : Type 0} → (R → Text) → (O → ℕ) → OpenRequest R O P → requests.Request
-request_of text number (request.Memory address size space base_type) =
-    requests.RequiresMemory address size space (number base_type.0)
-request_of text number (request.Register register offset base_type) =
-    requests.RequiresRegister register.0 (number base_type.0)
-request_of text number (request.WasmLocal index) = requests.RequiresWasmLocal index
-request_of text number (request.WasmGlobal index) = requests.RequiresWasmGlobal index
-request_of text number (request.WasmStack index) = requests.RequiresWasmStack index
-request_of text number (request.FrameBase offset) = requests.RequiresFrameBase
-request_of text number (request.Tls index) = requests.RequiresTls index
-request_of text number request.CallFrameCfa = requests.RequiresCallFrameCfa
-request_of text number (request.AtLocation offset) = requests.RequiresAtLocation (reference_of number offset)
-request_of text number (request.EntryValue expression) = requests.RequiresEntryValue (text expression)
-request_of text number (request.ParameterRef offset) = requests.RequiresParameterRef (number offset.0)
-request_of text number (request.RelocatedAddress address) = requests.RequiresRelocatedAddress address
-request_of text number (request.IndexedAddress index relocate) =
-    requests.RequiresIndexedAddress (number index.0) relocate
-request_of text number (request.TypedLiteral base_type value) = requests.RequiresBaseType (number base_type.0)
-request_of text number (request.Convert base_type) = requests.RequiresBaseType (number base_type.0)
-request_of text number (request.Reinterpret base_type) = requests.RequiresBaseType (number base_type.0)
+-- the offset that is added to an answer
+abbrev pub offset_of : {R : Type 0} → OnAnswer R → ℤ
+offset_of (on.Add offset) = offset
+offset_of _ = pos 0
 
--- what is to be done with its answer
-abbrev pub waiting_of : {R O P : Type 0} → (R → Text) → OpenRequest R O P → requests.Waiting
-waiting_of text (request.Memory address size space base_type) = requests.Memory
-waiting_of text (request.Register register offset base_type) = requests.Register offset
-waiting_of text (request.WasmLocal index) = requests.WasmValue
-waiting_of text (request.WasmGlobal index) = requests.WasmValue
-waiting_of text (request.WasmStack index) = requests.WasmValue
-waiting_of text (request.FrameBase offset) = requests.FrameBase offset
-waiting_of text (request.Tls index) = requests.Tls
-waiting_of text request.CallFrameCfa = requests.CallFrameCfa
-waiting_of text (request.AtLocation offset) = requests.AtLocation
-waiting_of text (request.EntryValue expression) = requests.EntryValue
-waiting_of text (request.ParameterRef offset) = requests.ParameterRef
-waiting_of text (request.RelocatedAddress address) = requests.RelocatedAddress
-waiting_of text (request.IndexedAddress index relocate) = requests.IndexedAddress
-waiting_of text (request.TypedLiteral base_type value) = requests.TypedLiteral (text value)
-waiting_of text (request.Convert base_type) = requests.Convert
-waiting_of text (request.Reinterpret base_type) = requests.Reinterpret
+-- what is done with a base type
+abbrev pub typed_by : {R : Type 0} → (R → Text) → OnAnswer R → requests.Waiting
+typed_by text (on.Parse value) = requests.TypedLiteral (text value)
+typed_by text on.Convert = requests.Convert
+typed_by text _ = requests.Reinterpret
+
+-- what is done with the answer to what a result asks
+abbrev pub waiting_of : {R O P : Type 0} → (R → Text) → EvaluationResult R O P → OnAnswer R → requests.Waiting
+waiting_of text (result.RequiresRegister register base_type) on_answer = requests.Register (offset_of on_answer)
+waiting_of text (result.RequiresWasmLocal index) on_answer = requests.WasmValue
+waiting_of text (result.RequiresWasmGlobal index) on_answer = requests.WasmValue
+waiting_of text (result.RequiresWasmStack index) on_answer = requests.WasmValue
+waiting_of text result.RequiresFrameBase on_answer = requests.FrameBase (offset_of on_answer)
+waiting_of text (result.RequiresTls index) on_answer = requests.Tls
+waiting_of text result.RequiresCallFrameCfa on_answer = requests.CallFrameCfa
+waiting_of text (result.RequiresAtLocation offset) on_answer = requests.AtLocation
+waiting_of text (result.RequiresEntryValue expression) on_answer = requests.EntryValue
+waiting_of text (result.RequiresParameterRef offset) on_answer = requests.ParameterRef
+waiting_of text (result.RequiresRelocatedAddress address) on_answer = requests.RelocatedAddress
+waiting_of text (result.RequiresIndexedAddress index relocate) on_answer = requests.IndexedAddress
+waiting_of text (result.RequiresBaseType base_type) on_answer = typed_by text on_answer
+waiting_of text _ on_answer = requests.Memory
+
+-- complete without a value, or in this request
+abbrev pub replied_status : Option requests.Request → requests.Waiting → Status
+replied_status None waiting = CompleteStatus None
+replied_status (Some request) waiting = RequestStatus request waiting
 
 -- where the code stands, as the definitions have it
-abbrev pub status_of : {R O P : Type 0} → (R → Text) → (O → ℕ) → EvaluationState R O P → Status
-status_of text number (state.Start initial_value) = Start initial_value
-status_of text number state.Running = Running
-status_of text number (state.Waiting request) = RequestStatus (request_of text number request) (waiting_of text request)
-status_of text number (state.Complete value) = CompleteStatus value
-status_of text number (state.Failed error) = FaultStatus error
+abbrev pub status_of : {R O P : Type 0} → (R → Text) → (O → ℕ) → EvaluationState R O P → OnAnswer R → Status
+status_of text number (state.Start initial_value) on_answer = Start initial_value
+status_of text number state.Running on_answer = Running
+status_of text number (state.Replied replied) on_answer =
+    replied_status (request_in text number replied) (waiting_of text replied on_answer)
+status_of text number (state.Complete value) on_answer = CompleteStatus (Some value)
+status_of text number (state.Failed error) on_answer = FaultStatus error
+
+-- it is the same whatever is done with an answer
+abbrev pub IsAlike : {R O P : Type 0} → (R → Text) → (O → ℕ) → EvaluationState R O P → Type 0
+IsAlike {R = R} text number x =
+    (on_answer : OnAnswer R) → status_of text number x on_answer ≡ status_of text number x on.Push
+
+-- the status is that of the state
+abbrev pub IsIn : {R O P : Type 0} → (R → Text) → (O → ℕ) → EvaluationState R O P → Status → Type 0
+IsIn {R = R} text number (state.Replied replied) status =
+    (on_answer : OnAnswer R) × (status_of text number (state.Replied replied) on_answer ≡ status)
+IsIn text number x status = status_of text number x on.Push ≡ status
 
 -- how many bytes of the text come before what is left of it
 abbrev pub place_of : (whole left : Text) → ℕ

@@ -12,7 +12,7 @@ use Rattle.dwarf_meaning.specs.Operations.{Operation}
 use Rattle.dwarf_meaning.specs.Operations as operation
 use Rattle.dwarf_meaning.specs.Locations.{Location, Piece, sized}
 use Rattle.dwarf_meaning.specs.Requests.{Request, Waiting, Answer, Input}
-use Rattle.dwarf_meaning.specs.Acts.{Act, act}
+use Rattle.dwarf_meaning.specs.Acts.{Act, RequestAct, act}
 use Rattle.dwarf_meaning.specs.RunLaws.{waits_of}
 use Rattle.dwarf_meaning.specs.Stores.{address_bits, Store, Last, Plain, Pieced, Located, push_value, push_values, push_piece, push_caller, Next, Goes, RequestNext, FaultNext, done}
 use Rattle.dwarf_meaning.specs.Run.{Position, can_count, counted, read, most}
@@ -181,6 +181,11 @@ Leads f old new = LeadsBy f old new new.status
 -- the operation was done
 abbrev pub Performs : Act → State → State → Type 0
 Performs a old new = Leads (done_at a old) old new
+
+-- a request was opened, if there is one
+abbrev pub Asks : Option Request → Waiting → State → State → Type 0
+Asks (Some request) waiting old new = Performs (RequestAct old.store.values request waiting) old new
+Asks None waiting old new = Unit {0}
 
 -- a piece after a location: it is ended, or the state keeps the fault
 abbrev pub EndsLocated : Location → Option (ℕ × Option ℕ) → State → State → Type 0

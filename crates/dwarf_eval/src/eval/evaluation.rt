@@ -4,19 +4,20 @@ ghost use Rattle.dwarf_meaning.specs.Kinds.{kind_of_answer};
 ghost use Rattle.dwarf_meaning.specs.Requests as requests;
 ghost use Rattle.dwarf_meaning.specs.Rest.{Start, CompleteStatus};
 ghost use Rattle.dwarf_meaning.specs.Run.{most};
-ghost use Rattle.dwarf_eval.specs.Permits.{Admits, AnswersWith, IsOpenFor, Permits, Shows, answer_of};
+ghost use Rattle.dwarf_eval.specs.Permits.{Admits, AnswersWith, IsOpenFor, Permits, Shows};
+ghost use Rattle.dwarf_eval.specs.inner.Answers.{answer_of};
 ghost use Rattle.dwarf_meaning.specs.Bounds.{IsUnspent, calls_left};
 ghost use Rattle.dwarf_eval.specs.Evaluation.{Evaluates, HasResult, IsClosed, IsComplete, Resumes, with_maximum, with_object, input_of, with_status};
 ghost use Rattle.dwarf_meaning.specs.Stores.{setup_of};
 ghost use Rattle.dwarf_op.specs.Views.{piece_of};
 
-use crate::eval::requests::{kind_of_open, reply};
+use crate::eval::requests::{kind_of, reply};
 use crate::eval::states::Status;
 use crate::op::{EvaluationResult, Expression, Piece};
-use dwarf_base::{Encoding, Reader, Result};
 use crate::run::machine::Machine;
 use crate::run::states::{EvaluationState, Given};
 use crate::store::{EvaluationStorage, StoreOnHeap};
+use dwarf_base::{Encoding, Reader, Result};
 use dwarf_value::{Value, ValueType};
 use std::alloc::Allocator;
 use std::marker::Model;
@@ -157,7 +158,10 @@ impl<R: Reader + Copy, S: EvaluationStorage<R>> Evaluation<R, S> {
             EvaluationState::Start(initial_value) => Status::Start {
                 initial: initial_value.is_some(),
             },
-            EvaluationState::Waiting(request) => Status::Waiting(kind_of_open(request)),
+            EvaluationState::Replied(replied) => match kind_of(replied) {
+                Some(kind) => Status::Waiting(kind),
+                None => Status::Complete,
+            },
             EvaluationState::Complete(_) => Status::Complete,
             EvaluationState::Failed(error) => Status::Failed(error),
             EvaluationState::Running => unreachable!(),
@@ -216,16 +220,11 @@ impl<R: Reader + Copy, S: EvaluationStorage<R>> Evaluation<R, S> {
             result self.old.status }
         ensures admits { IfOk result (λ replied. Admits replied self.new.status) }
     {
-        match self.machine.state() {
-            EvaluationState::Start(initial_value) => {
-                self.machine.start(initial_value);
-                return reply(&self.machine);
-            }
-            EvaluationState::Complete(_) => return Ok(EvaluationResult::Complete),
-            EvaluationState::Failed(error) => return Err(error),
-            EvaluationState::Waiting(_) => unreachable!(),
-            EvaluationState::Running => unreachable!(),
-        }
+        let EvaluationState::Start(initial_value) = self.machine.state() else {
+            return reply(&self.machine);
+        };
+        self.machine.start(initial_value);
+        reply(&self.machine)
     }
 
     /// Goes on with an answer.
@@ -434,8 +433,8 @@ impl<R: Reader + Copy, S: EvaluationStorage<R>> Evaluation<R, S> {
         ensures { HasResult result self.now.status }
     {
         match self.machine.state() {
-            EvaluationState::Complete(value) => value,
-            _ => unreachable!(),
+            EvaluationState::Complete(value) => Some(value),
+            _ => None,
         }
     }
 

@@ -3,12 +3,12 @@ ghost use Rattle.dwarf_meaning.specs.Kinds.{kind_of_answer};
 ghost use Rattle.dwarf_meaning.specs.Requests as requests;
 ghost use Rattle.dwarf_meaning.specs.Rest.{Running};
 ghost use Rattle.dwarf_meaning.specs.Stores.{Pushed, push_value};
-ghost use Rattle.dwarf_eval.specs.Answers.{IsWaitingFor, IsWaitingTo, answer_of};
+ghost use Rattle.dwarf_eval.specs.inner.Answers.{IsWaitingFor, IsWaitingTo, answer_of};
 ghost use Rattle.dwarf_meaning.specs.Inputs.{input_of, with_status};
 ghost use Rattle.dwarf_eval.specs.inner.Steps.{Comes, HasReply, Takes, Tried, total_after, with_last};
 
 use crate::run::machine::Machine;
-use crate::run::states::{EvaluationState, Given, OpenRequest};
+use crate::run::states::{EvaluationState, Given, OnAnswer};
 use crate::store::EvaluationStorage;
 use dwarf_base::Reader;
 use dwarf_value::{Value, ValueType};
@@ -31,16 +31,8 @@ impl<R: Reader + Copy, S: EvaluationStorage<R>> Machine<R, S> {
         requires { IsWaitingFor kind.Register self.old.status }
         ensures { Takes (requests.RegisterAnswer value) self.old self.new }
     {
-        match self.state() {
-            EvaluationState::Waiting(
-                OpenRequest::Register {
-                    register: _,
-                    offset,
-                    base_type: _,
-                },
-            ) => self.take_offset(value, offset),
-            _ => unreachable!(),
-        }
+        let offset = self.on_answer().offset();
+        self.take_offset(value, offset);
     }
 
     /// Pushes the value of a register, plus the offset in its type.
@@ -61,12 +53,8 @@ impl<R: Reader + Copy, S: EvaluationStorage<R>> Machine<R, S> {
         requires { IsWaitingFor kind.FrameBase self.old.status }
         ensures { Takes (requests.FrameBaseAnswer frame_base) self.old self.new }
     {
-        match self.state() {
-            EvaluationState::Waiting(OpenRequest::FrameBase { offset }) => {
-                self.take_frame_offset(frame_base, offset)
-            }
-            _ => unreachable!(),
-        }
+        let offset = self.on_answer().offset();
+        self.take_frame_offset(frame_base, offset);
     }
 
     /// Pushes the sum of the frame base and the offset.
@@ -84,20 +72,10 @@ impl<R: Reader + Copy, S: EvaluationStorage<R>> Machine<R, S> {
         requires { IsWaitingFor kind.BaseType self.old.status }
         ensures { Takes (requests.BaseTypeAnswer base_type) self.old self.new }
     {
-        match self.state() {
-            EvaluationState::Waiting(
-                OpenRequest::TypedLiteral {
-                    base_type: _,
-                    value,
-                },
-            ) => self.take_literal(base_type, value),
-            EvaluationState::Waiting(OpenRequest::Convert { base_type: _ }) => {
-                self.take_conversion(base_type)
-            }
-            EvaluationState::Waiting(OpenRequest::Reinterpret { base_type: _ }) => {
-                self.take_reinterpretation(base_type)
-            }
-            _ => unreachable!(),
+        match self.on_answer() {
+            OnAnswer::Parse(value) => self.take_literal(base_type, value),
+            OnAnswer::Convert => self.take_conversion(base_type),
+            _ => self.take_reinterpretation(base_type),
         }
     }
 
@@ -180,7 +158,7 @@ impl<R: Reader + Copy, S: EvaluationStorage<R>> Machine<R, S> {
 
     /// Takes an answer, and runs on to a request, to the end, or to a fault, which it keeps.
     #[inline(always)]
-    pub fn resume(&mut self, given: Given<R>)
+    pub(crate) fn resume(&mut self, given: Given<R>)
         requires { IsWaitingFor (kind_of_answer (answer_of R.text given)) self.old.status }
         ensures comes { Comes self.old
             (total_after self.old (input_of self.old (answer_of R.text given))) self.new }

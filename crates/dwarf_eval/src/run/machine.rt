@@ -11,12 +11,16 @@ ghost use Rattle.dwarf_meaning.specs.Stores.{Called, Located, Pieced, Plain, Pus
 ghost use Rattle.dwarf_op.specs.Views.{operation_of, location_of, piece_of};
 ghost use Rattle.dwarf_meaning.specs.Bounds.{IsUnspent};
 ghost use Rattle.dwarf_meaning.specs.Inputs.{IsFresh, with_maximum, with_object, with_status};
-ghost use Rattle.dwarf_eval.specs.Machine.{IsOfSort, status_of};
+ghost use Rattle.dwarf_eval.specs.inner.Answers.{IsDoneWith};
+ghost use Rattle.dwarf_eval.specs.inner.Machine.{IsAlike, IsIn, IsOfSort, status_of};
+ghost use Rattle.dwarf_eval.specs.declared.run.states.EvaluationState.TheVariants as states;
+ghost use Rattle.dwarf_eval.specs.declared.run.states.OnAnswer.TheVariants as on;
 ghost use Rattle.dwarf_eval.specs.inner.Steps.{CountsOne, GoesBack, Jumps, Pops, PopsGenerics, ReadsOperation, Tries, TriesToEnter, at, has_failed, is_free, is_running, read_to, with_last};
 
-use crate::run::states::{EvaluationState, LastOperation};
-use crate::store::{ArrayLike, EvaluationStorage};
+use crate::op::EvaluationResult;
+use crate::run::states::{EvaluationState, LastOperation, OnAnswer};
 use crate::run::ticks::Ticks;
+use crate::store::{ArrayLike, EvaluationStorage};
 use dwarf_base::{Encoding, Error, Reader, ReaderOffset, Result};
 use dwarf_op::{Location, Operation, Piece};
 use dwarf_value::Value;
@@ -24,7 +28,7 @@ use std::marker::Model;
 
 /// The state of an evaluation, and its smallest steps: these alone see bytes and lists.
 #[derive(Drop)]
-pub struct Machine<R: Reader + Copy, S: EvaluationStorage<R>> {
+pub(crate) struct Machine<R: Reader + Copy, S: EvaluationStorage<R>> {
     state: EvaluationState<R>,
     encoding: Encoding,
     addr_mask: u64,
@@ -37,6 +41,8 @@ pub struct Machine<R: Reader + Copy, S: EvaluationStorage<R>> {
     last: LastOperation,
     // The location that waits for its piece, if the last operation gave one.
     location: Location<R>,
+    // What is done with the answer, if a request is open.
+    on_answer: OnAnswer<R>,
     stack: S::Stack,
     expression_stack: S::ExpressionStack,
     pieces: S::Result,
@@ -50,10 +56,10 @@ impl<R: Reader + Copy, S: EvaluationStorage<R>> Model for Machine<R, S> {
     ghost Value = { State };
 
     ghost use Rattle.dwarf_meaning.specs.Stores.{setup_of};
-    ghost use Rattle.dwarf_eval.specs.Machine.{status_of, store_of, place_of, callers_of, IsSound};
+    ghost use Rattle.dwarf_eval.specs.inner.Machine.{status_of, store_of, place_of, callers_of, IsSound};
 
     ghost view = { λ e. record {
-      status = status_of R.text R.Offset.number e.state;
+      status = status_of R.text R.Offset.number e.state e.on_answer;
       setup = setup_of e.encoding R.Offset.BITS (S.Stack.limit e.stack)
           (S.ExpressionStack.limit e.expression_stack) (S.Result.limit e.pieces);
       text = R.text e.bytecode;
@@ -230,20 +236,41 @@ impl<R: Reader + Copy, S: EvaluationStorage<R>> Machine<R, S> {
         self.location
     }
 
-    /// Goes over to another state.
+    /// Goes over to another state, if what is done with an answer is the same for it.
     #[inline(always)]
-    pub fn enter(&mut self, state: EvaluationState<R>)
-        ensures { self.new ≡ with_status (status_of R.text R.Offset.number state) self.old }
+    pub(crate) fn enter(&mut self, state: EvaluationState<R>)
+        requires { IsAlike R.text R.Offset.number state }
+        ensures { self.new
+            ≡ with_status (status_of R.text R.Offset.number state on.Push) self.old }
     {
         self.state = state;
     }
 
+    /// Replies a request, to do this with its answer.
+    #[inline(always)]
+    pub(crate) fn request(&mut self, request: EvaluationResult<R>, on_answer: OnAnswer<R>)
+        ensures { self.new
+            ≡ with_status (status_of R.text R.Offset.number (states.Replied request) on_answer)
+            self.old }
+    {
+        self.state = EvaluationState::Replied(request);
+        self.on_answer = on_answer;
+    }
+
     /// Where the evaluation stands.
     #[inline(always)]
-    pub fn state(&self) -> EvaluationState<R>
-        ensures { status_of R.text R.Offset.number result ≡ self.now.status }
+    pub(crate) fn state(&self) -> EvaluationState<R>
+        ensures { IsIn R.text R.Offset.number result self.now.status }
     {
         self.state
+    }
+
+    /// What is done with the answer to the open request.
+    #[inline(always)]
+    pub(crate) fn on_answer(&self) -> OnAnswer<R>
+        ensures { IsDoneWith R.text result self.now.status }
+    {
+        self.on_answer
     }
 
     /// Whether the run goes on.
@@ -256,7 +283,7 @@ impl<R: Reader + Copy, S: EvaluationStorage<R>> Machine<R, S> {
 
     /// Whether it met a fault.
     #[inline(always)]
-    pub fn has_failed(&self) -> bool
+    pub(crate) fn has_failed(&self) -> bool
         ensures { result ≡ has_failed self.now.status }
     {
         matches!(self.state, EvaluationState::Failed(_))
@@ -441,14 +468,14 @@ impl<R: Reader + Copy, S: EvaluationStorage<R>> Machine<R, S> {
     }
 
     /// Sets the address of the object that is described.
-    pub fn set_object_address(&mut self, value: u64)
+    pub(crate) fn set_object_address(&mut self, value: u64)
         ensures { self.new ≡ with_object (Some value) self.old }
     {
         self.object_address = Some(value);
     }
 
     /// Sets how many operations may be counted in all.
-    pub fn set_max_iterations(&mut self, value: u32)
+    pub(crate) fn set_max_iterations(&mut self, value: u32)
         ensures { self.new ≡ with_maximum value self.old }
     {
         self.max_iterations = value;
@@ -456,14 +483,14 @@ impl<R: Reader + Copy, S: EvaluationStorage<R>> Machine<R, S> {
 
     /// The pieces.
     #[inline(always)]
-    pub fn pieces(&self) -> &[Piece<R>]
+    pub(crate) fn pieces(&self) -> &[Piece<R>]
         ensures { map (piece_of R.text R.Offset.number) result.now ≡ self.now.store.pieces }
     {
         self.pieces.as_slice()
     }
 
     /// The list of the pieces.
-    pub fn into_pieces(self) -> S::Result
+    pub(crate) fn into_pieces(self) -> S::Result
         ensures { map (piece_of R.text R.Offset.number) (S.Result.items result)
             ≡ self.store.pieces }
     {
@@ -472,7 +499,7 @@ impl<R: Reader + Copy, S: EvaluationStorage<R>> Machine<R, S> {
 
     /// Stands as a fresh evaluation of another text, over the same lists, which keep their memory.
     #[tactic(auto, unfolding(dwarf_meaning::specs::Run::most))]
-    pub fn restart(&mut self, bytecode: R, encoding: Encoding)
+    pub(crate) fn restart(&mut self, bytecode: R, encoding: Encoding)
         requires some { 0 < encoding.address_size }
         requires fits { encoding.address_size ≤ 8 }
         ensures status { self.new.status ≡ Start None }
@@ -502,7 +529,7 @@ impl<R: Reader + Copy, S: EvaluationStorage<R>> Machine<R, S> {
 
     /// A fresh evaluation.
     #[tactic(auto, unfolding(dwarf_meaning::specs::Run::most))]
-    pub fn new_in(
+    pub(crate) fn new_in(
         bytecode: R,
         encoding: Encoding,
         stack: S::Stack,
@@ -535,6 +562,7 @@ impl<R: Reader + Copy, S: EvaluationStorage<R>> Machine<R, S> {
             pc: bytecode,
             last: LastOperation::Nothing,
             location: Location::Empty,
+            on_answer: OnAnswer::Push,
             stack,
             expression_stack,
             pieces,

@@ -1,21 +1,25 @@
 ghost use Rattle.std.specs.Prelude.{◌≡◌, [], ◌∷◌};
 ghost use Rattle.dwarf_base.specs.Reads.{IsLeftOf};
-ghost use Rattle.dwarf_meaning.specs.Acts.{RequestAct, Branches, Locates, Pushes, FaultAct, binary, push, unary};
+ghost use Rattle.dwarf_meaning.specs.Acts.{Branches, Locates, Pushes, FaultAct, binary, push, unary};
 ghost use Rattle.dwarf_meaning.specs.Operations as meaning;
 ghost use Rattle.dwarf_meaning.specs.Rest.{Running, FaultStatus};
 ghost use Rattle.dwarf_meaning.specs.Stores.{address_bits, push_values};
 ghost use Rattle.dwarf_base.specs.declared.errors.Error.TheVariants.{NotEnoughStackItems, UnsupportedEvaluation};
 ghost use Rattle.dwarf_value.specs.Values.{add_of, from_u64_of, to_u64_of, type_of};
 ghost use Rattle.dwarf_meaning.specs.Inputs.{with_status};
-ghost use Rattle.dwarf_eval.specs.Machine.{request_of, waiting_of};
+ghost use Rattle.dwarf_eval.specs.Evaluation.{request_in};
+ghost use Rattle.dwarf_eval.specs.inner.Machine.{IsAlike, waiting_of};
+ghost use Rattle.dwarf_eval.specs.declared.run.states.EvaluationState.TheVariants as states;
+ghost use Rattle.dwarf_eval.specs.declared.run.states.OnAnswer.TheVariants as on;
 ghost use Rattle.dwarf_op.specs.Views.{location_of};
 ghost use Rattle.dwarf_eval.specs.inner.Operators.{unary_of};
-ghost use Rattle.dwarf_eval.specs.inner.Steps.{Performs, PopsNumber, PushesAllPlain, PushesPlain, Tries, act_of, at};
+ghost use Rattle.dwarf_eval.specs.inner.Steps.{Asks, Performs, PopsNumber, PushesAllPlain, PushesPlain, Tries, act_of, at};
 
+use crate::op::EvaluationResult;
 use crate::run::binary::BinaryOperator;
 use crate::run::machine::Machine;
 use crate::run::operators::UnaryOperator;
-use crate::run::states::{EvaluationState, OpenRequest};
+use crate::run::states::{EvaluationState, OnAnswer};
 use crate::store::EvaluationStorage;
 use dwarf_base::{Error, Reader, ReaderOffset, Result, UnitOffset};
 use dwarf_op::{Location, Piece};
@@ -396,14 +400,23 @@ impl<R: Reader + Copy, S: EvaluationStorage<R>> Machine<R, S> {
         });
     }
 
-    /// Opens a request.
+    /// Asks for what is pushed as it is, or run.
     #[inline(always)]
-    pub(crate) fn ask(&mut self, request: OpenRequest<R>)
-        ensures { Performs
-            (RequestAct self.old.store.values (request_of R.text R.Offset.number request)
-            (waiting_of R.text request)) self.old self.new }
+    pub(crate) fn ask(&mut self, request: EvaluationResult<R>)
+        requires { IsAlike R.text R.Offset.number (states.Replied request) }
+        ensures { Asks (request_in R.text R.Offset.number request)
+            (waiting_of R.text request on.Push) self.old self.new }
     {
-        self.enter(EvaluationState::Waiting(request));
+        self.enter(EvaluationState::Replied(request));
+    }
+
+    /// Asks, to do this with the answer.
+    #[inline(always)]
+    pub(crate) fn ask_to(&mut self, on_answer: OnAnswer<R>, request: EvaluationResult<R>)
+        ensures { Asks (request_in R.text R.Offset.number request)
+            (waiting_of R.text request on_answer) self.old self.new }
+    {
+        self.request(request, on_answer);
     }
 
     /// Asks for what memory holds at the address on top, in the space below it if one is named.
@@ -422,7 +435,7 @@ impl<R: Reader + Copy, S: EvaluationStorage<R>> Machine<R, S> {
             return;
         };
         if !space {
-            self.ask(OpenRequest::Memory {
+            self.ask(EvaluationResult::RequiresMemory {
                 address,
                 size,
                 space: None,
@@ -434,7 +447,7 @@ impl<R: Reader + Copy, S: EvaluationStorage<R>> Machine<R, S> {
             self.fall_short();
             return;
         };
-        self.ask(OpenRequest::Memory {
+        self.ask(EvaluationResult::RequiresMemory {
             address,
             size,
             space: Some(space),
@@ -451,6 +464,6 @@ impl<R: Reader + Copy, S: EvaluationStorage<R>> Machine<R, S> {
             self.fall_short();
             return;
         };
-        self.ask(OpenRequest::Tls(index))
+        self.ask(EvaluationResult::RequiresTls(index))
     }
 }

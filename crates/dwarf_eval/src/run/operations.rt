@@ -6,10 +6,16 @@ ghost use Rattle.dwarf_meaning.specs.Rest.{Running};
 ghost use Rattle.dwarf_eval.specs.inner.Steps.{IsNoBranch, Performs, act_of, at};
 ghost use Rattle.dwarf_op.specs.Views.{operation_of};
 
+use crate::op::EvaluationResult::{
+    RequiresAtLocation, RequiresBaseType, RequiresCallFrameCfa, RequiresEntryValue,
+    RequiresFrameBase, RequiresIndexedAddress, RequiresParameterRef, RequiresRegister,
+    RequiresRelocatedAddress, RequiresWasmGlobal, RequiresWasmLocal, RequiresWasmStack,
+};
+use crate::op::Expression;
 use crate::run::binary;
 use crate::run::machine::Machine;
 use crate::run::operators::UnaryOperator;
-use crate::run::states::OpenRequest;
+use crate::run::states::OnAnswer;
 use crate::store::EvaluationStorage;
 use dwarf_base::Reader;
 use dwarf_op::{Location, Operation};
@@ -82,17 +88,21 @@ impl<R: Reader + Copy, S: EvaluationStorage<R>> Machine<R, S> {
                 register,
                 offset,
                 base_type,
-            } => self.ask(OpenRequest::Register {
-                register,
-                offset,
-                base_type,
-            }),
-            Operation::FrameOffset { offset } => self.ask(OpenRequest::FrameBase { offset }),
+            } => self.ask_to(
+                OnAnswer::Add(offset),
+                RequiresRegister {
+                    register,
+                    base_type,
+                },
+            ),
+            Operation::FrameOffset { offset } => {
+                self.ask_to(OnAnswer::Add(offset), RequiresFrameBase)
+            }
             Operation::Nop => self.pass(),
             Operation::PushObjectAddress => self.push_object_address(),
-            Operation::Call { offset } => self.ask(OpenRequest::AtLocation(offset)),
+            Operation::Call { offset } => self.ask(RequiresAtLocation(offset)),
             Operation::TLS => self.ask_tls(),
-            Operation::CallFrameCFA => self.ask(OpenRequest::CallFrameCfa),
+            Operation::CallFrameCFA => self.ask(RequiresCallFrameCfa),
             Operation::Piece {
                 size_in_bits,
                 bit_offset,
@@ -102,28 +112,32 @@ impl<R: Reader + Copy, S: EvaluationStorage<R>> Machine<R, S> {
             Operation::ImplicitPointer { value, byte_offset } => {
                 self.locate(Location::ImplicitPointer { value, byte_offset })
             }
-            Operation::EntryValue { expression } => self.ask(OpenRequest::EntryValue(expression)),
-            Operation::ParameterRef { offset } => self.ask(OpenRequest::ParameterRef(offset)),
-            Operation::Address { address } => self.ask(OpenRequest::RelocatedAddress(address)),
-            Operation::AddressIndex { index } => self.ask(OpenRequest::IndexedAddress {
+            Operation::EntryValue { expression } => {
+                self.ask(RequiresEntryValue(Expression(expression)))
+            }
+            Operation::ParameterRef { offset } => self.ask(RequiresParameterRef(offset)),
+            Operation::Address { address } => self.ask(RequiresRelocatedAddress(address)),
+            Operation::AddressIndex { index } => self.ask(RequiresIndexedAddress {
                 index,
                 relocate: true,
             }),
-            Operation::ConstantIndex { index } => self.ask(OpenRequest::IndexedAddress {
+            Operation::ConstantIndex { index } => self.ask(RequiresIndexedAddress {
                 index,
                 relocate: false,
             }),
             Operation::TypedLiteral { base_type, value } => {
-                self.ask(OpenRequest::TypedLiteral { base_type, value })
+                self.ask_to(OnAnswer::Parse(value), RequiresBaseType(base_type))
             }
-            Operation::Convert { base_type } => self.ask(OpenRequest::Convert { base_type }),
-            Operation::Reinterpret { base_type } => self.ask(OpenRequest::Reinterpret {
-                base_type,
-            }),
+            Operation::Convert { base_type } => {
+                self.ask_to(OnAnswer::Convert, RequiresBaseType(base_type))
+            }
+            Operation::Reinterpret { base_type } => {
+                self.ask_to(OnAnswer::Reinterpret, RequiresBaseType(base_type))
+            }
             Operation::Uninitialized => self.fail_unsupported(),
-            Operation::WasmLocal { index } => self.ask(OpenRequest::WasmLocal(index)),
-            Operation::WasmGlobal { index } => self.ask(OpenRequest::WasmGlobal(index)),
-            Operation::WasmStack { index } => self.ask(OpenRequest::WasmStack(index)),
+            Operation::WasmLocal { index } => self.ask(RequiresWasmLocal { index }),
+            Operation::WasmGlobal { index } => self.ask(RequiresWasmGlobal { index }),
+            Operation::WasmStack { index } => self.ask(RequiresWasmStack { index }),
             Operation::VariableValue { offset: _ } => self.fail_unsupported(),
         }
     }

@@ -1,7 +1,8 @@
 ghost use Rattle.std.specs.Prelude.{◌≡◌, ⊤};
+ghost use Rattle.dwarf_eval.specs.inner.Machine.{offset_of};
 
-use dwarf_base::{DebugAddrIndex, Error, Reader, Register, UnitOffset};
-use dwarf_op::DieReference;
+use crate::op::EvaluationResult;
+use dwarf_base::{Error, Reader};
 use dwarf_value::{Value, ValueType};
 use std::alloc::AllocError;
 
@@ -20,80 +21,23 @@ pub(crate) enum LastOperation {
     Located,
 }
 
-/// An open request, with what is to be done with the answer.
+/// What is done with the answer to an open request.
 #[derive(Copy)]
-pub enum OpenRequest<R: Reader, O = <R as Reader>::Offset> {
-    /// Push what memory holds.
-    Memory {
-        /// The address.
-        address: u64,
-        /// How many bytes.
-        size: u8,
-        /// The address space, if one is named.
-        space: Option<u64>,
-        /// The type of the value; offset 0 is the generic type.
-        base_type: UnitOffset<O>,
-    },
-    /// Push what a register holds, plus the offset.
-    Register {
-        /// The register.
-        register: Register,
-        /// The offset, in bytes.
-        offset: i64,
-        /// The type of the register's value; offset 0 is the generic type.
-        base_type: UnitOffset<O>,
-    },
-    /// Push the local of WebAssembly with this index.
-    WasmLocal(u32),
-    /// Push the global of WebAssembly with this index.
-    WasmGlobal(u32),
-    /// Push the item of WebAssembly's operand stack with this index; 0 is the bottom.
-    WasmStack(u32),
-    /// Push the frame base, plus the offset.
-    FrameBase {
-        /// The offset, in bytes.
-        offset: i64,
-    },
-    /// Push the address of this slot in thread-local storage.
-    Tls(u64),
-    /// Push the canonical frame address.
-    CallFrameCfa,
-    /// Run the expression in `DW_AT_location` of this entry.
-    AtLocation(DieReference<O>),
-    /// Push the value of this expression when the function was entered.
-    EntryValue(R),
-    /// Push the value of this parameter.
-    ParameterRef(UnitOffset<O>),
-    /// Push this address relocated.
-    RelocatedAddress(u64),
-    /// Push what stands in `.debug_addr`.
-    IndexedAddress {
-        /// Its index, from `DW_AT_addr_base` of the unit.
-        index: DebugAddrIndex<O>,
-        /// Whether it is wanted relocated.
-        relocate: bool,
-    },
-    /// Push the bytes as a value of this type.
-    TypedLiteral {
-        /// The type.
-        base_type: UnitOffset<O>,
-        /// The bytes.
-        value: R,
-    },
-    /// Convert the top to this type.
-    Convert {
-        /// The type.
-        base_type: UnitOffset<O>,
-    },
-    /// Take the bits on top as a value of this type.
-    Reinterpret {
-        /// The type.
-        base_type: UnitOffset<O>,
-    },
+pub(crate) enum OnAnswer<R> {
+    // It is pushed as it is, or run.
+    Push,
+    // It is pushed plus this offset, in bytes.
+    Add(i64),
+    // These bytes are pushed as a value of that type.
+    Parse(R),
+    // The top is converted to that type.
+    Convert,
+    // The bits on top are taken as a value of that type.
+    Reinterpret,
 }
 
 // A copy, and not a clone of each field, which takes long to prove.
-impl<R: Reader + Copy, O: Copy> Clone for OpenRequest<R, O> {
+impl<R: Copy> Clone for OnAnswer<R> {
     ghost is_clone = { λ x y. y ≡ x };
 
     ghost is_infallible = { λ _. ⊤ };
@@ -103,17 +47,30 @@ impl<R: Reader + Copy, O: Copy> Clone for OpenRequest<R, O> {
     }
 }
 
+impl<R: Copy> OnAnswer<R> {
+    /// The offset that is added to the answer.
+    #[inline(always)]
+    pub(crate) fn offset(self) -> i64
+        ensures { result ≡ offset_of self }
+    {
+        match self {
+            OnAnswer::Add(offset) => offset,
+            _ => 0,
+        }
+    }
+}
+
 /// Where an evaluation stands.
 #[derive(Copy)]
-pub enum EvaluationState<R: Reader, O = <R as Reader>::Offset> {
+pub(crate) enum EvaluationState<R: Reader, O = <R as Reader>::Offset> {
     /// Nothing was evaluated yet; the initial value, if one is set.
     Start(Option<u64>),
     /// It runs. Between calls it never does.
     Running,
-    /// A request is open.
-    Waiting(OpenRequest<R, O>),
-    /// It is complete; its value, if it ended with the value on top of the stack.
-    Complete(Option<Value>),
+    /// It replied that it is complete, without a value, or a request, which is open.
+    Replied(EvaluationResult<R, O>),
+    /// It is complete, with the value that was on top of the stack.
+    Complete(Value),
     /// It met a fault.
     Failed(Error),
 }
@@ -131,7 +88,7 @@ impl<R: Reader + Copy, O: Copy> Clone for EvaluationState<R, O> {
 
 /// What a resume is given, by the request that it answers.
 #[derive(Copy)]
-pub enum Given<R> {
+pub(crate) enum Given<R> {
     /// What memory holds.
     Memory(Value),
     /// What a register holds.

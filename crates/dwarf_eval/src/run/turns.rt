@@ -1,12 +1,14 @@
 ghost use Rattle.std.specs.Prelude.{◌≡◌, ◌<◌, length, false};
 ghost use Rattle.dwarf_base.specs.Reads.{IsLeftOf};
 ghost use Rattle.dwarf_meaning.specs.Meaning.{whole as meant_whole, finish, finish_value};
-ghost use Rattle.dwarf_meaning.specs.Rest.{Running, Start};
+ghost use Rattle.dwarf_meaning.specs.Inputs.{with_status};
+ghost use Rattle.dwarf_meaning.specs.Rest.{Running, Start, CompleteStatus};
 ghost use Rattle.dwarf_meaning.specs.Run.{piece_ended_by};
 ghost use Rattle.dwarf_meaning.specs.RunLaws.{waits_of};
 ghost use Rattle.dwarf_op.specs.Views.{operation_of, location_of, piece_of};
 ghost use Rattle.dwarf_eval.specs.inner.Steps.{Closes, Comes, CompletesWith, EndsLocated, HasReply, IsReady, Turns, at, goes_on, is_free, total};
 
+use crate::op::EvaluationResult;
 use crate::run::machine::Machine;
 use crate::run::states::{EvaluationState, LastOperation};
 use crate::store::EvaluationStorage;
@@ -110,13 +112,24 @@ impl<R: Reader + Copy, S: EvaluationStorage<R>> Machine<R, S> {
         }
     }
 
+    /// Ends the run.
+    #[inline(always)]
+    fn end(&mut self, value: Option<Value>)
+        ensures { self.new ≡ with_status (CompleteStatus value) self.old }
+    {
+        match value {
+            Some(value) => self.enter(EvaluationState::Complete(value)),
+            None => self.enter(EvaluationState::Replied(EvaluationResult::Complete)),
+        }
+    }
+
     /// Ends the run with one more piece.
     fn complete(&mut self, piece: Piece<R>, value: Option<Value>)
         requires { self.old.status ≡ Running }
         ensures { CompletesWith (piece_of R.text R.Offset.number piece) value self.old self.new }
     {
         if self.push_piece(piece) {
-            self.enter(EvaluationState::Complete(value));
+            self.end(value);
         }
     }
 
@@ -140,11 +153,11 @@ impl<R: Reader + Copy, S: EvaluationStorage<R>> Machine<R, S> {
     {
         if self.has_pieces() {
             match self.last() {
-                LastOperation::Nothing => self.enter(EvaluationState::Complete(None)),
+                LastOperation::Nothing => self.end(None),
                 LastOperation::Plain => self.fail(Error::InvalidPiece),
-                LastOperation::Pieced => self.enter(EvaluationState::Complete(None)),
+                LastOperation::Pieced => self.end(None),
                 LastOperation::Pushed => self.fail(Error::InvalidPiece),
-                LastOperation::Called => self.enter(EvaluationState::Complete(None)),
+                LastOperation::Called => self.end(None),
                 LastOperation::Located => self.fail(Error::InvalidPiece),
             }
             return;
@@ -209,7 +222,7 @@ impl<R: Reader + Copy, S: EvaluationStorage<R>> Machine<R, S> {
     }
 
     /// Begins the run, and runs on to a request, to the end, or to a fault, which it keeps.
-    pub fn start(&mut self, initial_value: Option<u64>)
+    pub(crate) fn start(&mut self, initial_value: Option<u64>)
         requires { self.old.status ≡ Start initial_value }
         ensures comes { Comes self.old (total self.old) self.new }
         ensures replies { HasReply self.new.status }

@@ -4,13 +4,13 @@ use Rattle.dwarf_eval.specs.Evaluation.{Evaluates, IsAtRestBy, reply_of}
 use Rattle.dwarf_eval.proofs.Following.{start_follows}
 use Rattle.dwarf_eval.proofs.eval.evaluation.Evaluation.evaluate.Goals as goal
 
-pub returns-in-Start-clause-follows : goal.returns-in-Start-clause-follows
-returns-in-Start-clause-follows g c =
+pub returns-clause-follows : goal.returns-clause-follows
+returns-clause-follows g c =
     let text = g.R.Reader.text in
     let number = g.R.Offset.ReaderOffset.number in
     let x : State = c.self.inside.machine in
     let new : State = c.start.new.self in
     let starts = sym c.in-Start.ensures in
     let fresh = subst (IsAtRestBy x) starts c.self.invariant in
-    let follows = start_follows x new (reply_of text number c.reply.result) c.in-Start.initial_value starts fresh c.start.ensures.comes c.reply.ensures.reply c.reply.ensures.rests in
-    subst (λ (z : State). Evaluates text number z new c.reply.result z.status) c.self.view_is (subst (Evaluates text number x new c.reply.result) (sym starts) follows)
+    let follows = start_follows x new (reply_of text number c.reply-2.result) c.in-Start.initial_value starts fresh c.start.ensures.comes c.reply-2.ensures.reply c.reply-2.ensures.rests in
+    subst (λ (z : State). Evaluates text number z new c.reply-2.result z.status) c.self.view_is (subst (Evaluates text number x new c.reply-2.result) (sym starts) follows)

@@ -9,7 +9,7 @@ use Rattle.dwarf_eval.proofs.run.machine.Machine.finish.Goals as goal
 
 pub returns-in-Nothing : goal.returns-in-Nothing
 returns-in-Nothing g c =
-    finish_as Nothing c.args.self.now c.enter.new.self c.in-Nothing.ensures (stands (finish_value c.args.self.now.setup) c.args.self.now c.enter.new.self (sym c.has_pieces.ensures ∙ c.if-has_pieces.true) c.enter.ensures)
+    finish_as Nothing c.args.self.now c.end.new.self c.in-Nothing.ensures (stands (finish_value c.args.self.now.setup) c.args.self.now c.end.new.self (sym c.has_pieces.ensures ∙ c.if-has_pieces.true) c.end.ensures)
 
 pub returns-in-Plain : goal.returns-in-Plain
 returns-in-Plain g c =
@@ -17,7 +17,7 @@ returns-in-Plain g c =
 
 pub returns-in-Pieced : goal.returns-in-Pieced
 returns-in-Pieced g c =
-    finish_as Pieced c.args.self.now c.enter-in-Pieced.new.self c.in-Pieced.ensures (stands (finish_value c.args.self.now.setup) c.args.self.now c.enter-in-Pieced.new.self (sym c.has_pieces.ensures ∙ c.if-has_pieces.true) c.enter-in-Pieced.ensures)
+    finish_as Pieced c.args.self.now c.end-in-Pieced.new.self c.in-Pieced.ensures (stands (finish_value c.args.self.now.setup) c.args.self.now c.end-in-Pieced.new.self (sym c.has_pieces.ensures ∙ c.if-has_pieces.true) c.end-in-Pieced.ensures)
 
 pub returns-in-Pushed : goal.returns-in-Pushed
 returns-in-Pushed g c =
@@ -25,7 +25,7 @@ returns-in-Pushed g c =
 
 pub returns-in-Called : goal.returns-in-Called
 returns-in-Called g c =
-    finish_as Called c.args.self.now c.enter-in-Called.new.self c.in-Called.ensures (stands (finish_value c.args.self.now.setup) c.args.self.now c.enter-in-Called.new.self (sym c.has_pieces.ensures ∙ c.if-has_pieces.true) c.enter-in-Called.ensures)
+    finish_as Called c.args.self.now c.end-in-Called.new.self c.in-Called.ensures (stands (finish_value c.args.self.now.setup) c.args.self.now c.end-in-Called.new.self (sym c.has_pieces.ensures ∙ c.if-has_pieces.true) c.end-in-Called.ensures)
 
 pub returns-in-Located : goal.returns-in-Located
 returns-in-Located g c =

@@ -1,5 +1,5 @@
 use Rattle.std.proofs.Common.{sym, ◌∙◌}
-use Rattle.dwarf_eval.specs.Answers.{answer_of}
+use Rattle.dwarf_eval.specs.inner.Answers.{answer_of}
 use Rattle.dwarf_meaning.specs.Inputs.{input_of}
 use Rattle.dwarf_eval.specs.inner.Steps.{total_after}
 use Rattle.dwarf_eval.proofs.Reaching.{comes_more}

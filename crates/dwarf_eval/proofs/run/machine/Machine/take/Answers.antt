@@ -4,7 +4,7 @@ use Rattle.dwarf_value.specs.declared.types.Value.TheVariants.{Generic}
 use Rattle.dwarf_meaning.specs.declared.kinds.WaitingKind.TheVariants as kind
 use Rattle.dwarf_meaning.specs.Kinds.{kind_of_answer}
 use Rattle.dwarf_meaning.specs.Requests.{MemoryAnswer, WasmAnswer, EntryAnswer, TlsAnswer, CfaAnswer, ParameterAnswer, RelocatedAnswer, IndexedAnswer}
-use Rattle.dwarf_eval.specs.Answers.{IsWaitingFor, answer_of}
+use Rattle.dwarf_eval.specs.inner.Answers.{IsWaitingFor, answer_of}
 use Rattle.dwarf_eval.specs.declared.run.states.Given.{Given}
 use Rattle.dwarf_eval.specs.inner.Steps.{Takes}
 use Rattle.dwarf_eval.proofs.AnswerUses.{open_for, memory_gives, wasm_gives, entry_gives, tls_gives, cfa_gives, parameter_gives, relocated_gives, indexed_gives}

@@ -32,32 +32,30 @@ impl<'a> EvaluationStorage<Text<'a>> for Arrays {
     type Result = ArrayVec<Piece<Text<'a>>, 16>;
 }
 
-pub fn evaluate_on_heap(alloc: Global, bytes: &[u8], job: Job) -> u64 {
+pub fn evaluate_on_heap(alloc: Global, bytes: &[u8], job: &Job) -> u64 {
     if !is_evaluated(job) {
         return 0;
     }
-    let text = job.text(bytes);
     let mut evaluation: Evaluation<_, StoreOnHeap<Global>> = Evaluation::new(
         alloc,
-        text,
+        job.text(bytes),
         job.encoding(),
     );
-    finish(&mut evaluation, text, job)
+    finish(&mut evaluation, bytes, job)
 }
 
-pub fn evaluate_in_arrays(bytes: &[u8], job: Job) -> u64 {
+pub fn evaluate_in_arrays(bytes: &[u8], job: &Job) -> u64 {
     if !is_evaluated(job) {
         return 0;
     }
-    let text = job.text(bytes);
     let mut evaluation: Evaluation<_, Arrays> = Evaluation::new_in(
-        text,
+        job.text(bytes),
         job.encoding(),
         ArrayVec::new(),
         ArrayVec::new(),
         ArrayVec::new(),
     );
-    finish(&mut evaluation, text, job)
+    finish(&mut evaluation, bytes, job)
 }
 
 pub fn restart_on_heap(alloc: Global, cases: &[Case<'_>], times: u32) -> u64 {
@@ -92,10 +90,9 @@ fn restart_all<'a, S: EvaluationStorage<Text<'a>>>(
     let mut total = 0u64;
     for case in cases {
         for _ in 0..times {
-            if is_evaluated(case.job) {
-                let text = case.job.text(case.bytes);
-                evaluation.restart(text, case.job.encoding());
-                total = total.wrapping_add(finish(evaluation, text, case.job));
+            if is_evaluated(&case.job) {
+                evaluation.restart(case.job.text(case.bytes), case.job.encoding());
+                total = total.wrapping_add(finish(evaluation, case.bytes, &case.job));
             }
         }
     }
@@ -103,8 +100,8 @@ fn restart_all<'a, S: EvaluationStorage<Text<'a>>>(
 }
 
 /// Whether there is evaluation at this size of addresses.
-fn is_evaluated(job: Job) -> bool
-    ensures { IsTrue result ↔ (0 < job.address_size × job.address_size ≤ 8) }
+fn is_evaluated(job: &Job) -> bool
+    ensures { IsTrue result ↔ (0 < job.now.address_size × job.now.address_size ≤ 8) }
 {
     0 < job.address_size && job.address_size <= 8
 }
@@ -114,15 +111,15 @@ fn is_evaluated(job: Job) -> bool
 #[inline(always)]
 fn finish<'a, S: EvaluationStorage<Text<'a>>>(
     evaluation: &mut Evaluation<Text<'a>, S>,
-    text: Text<'a>,
-    job: Job,
+    bytes: &'a [u8],
+    job: &Job,
 ) -> u64
     requires { IsClosed evaluation.old.status }
 {
     if job.counted == u32::MAX {
-        complete::<S, false>(evaluation, text, job)
+        complete::<S, false>(evaluation, bytes, job)
     } else {
-        complete::<S, true>(evaluation, text, job)
+        complete::<S, true>(evaluation, bytes, job)
     }
 }
 
@@ -133,8 +130,8 @@ fn finish<'a, S: EvaluationStorage<Text<'a>>>(
 #[inline(never)]
 fn complete<'a, S: EvaluationStorage<Text<'a>>, const SUMS: bool>(
     evaluation: &mut Evaluation<Text<'a>, S>,
-    text: Text<'a>,
-    job: Job,
+    bytes: &'a [u8],
+    job: &Job,
 ) -> u64
     requires { IsClosed evaluation.old.status }
 {
@@ -155,7 +152,7 @@ fn complete<'a, S: EvaluationStorage<Text<'a>>, const SUMS: bool>(
         }
         let is_deep = met >= job.depth;
         met += 1;
-        reply = respond::<S, SUMS>(evaluation, request, text, is_deep);
+        reply = respond::<S, SUMS>(evaluation, request, bytes, job, is_deep);
     }
     if SUMS && job.counted == 0 {
         sum = mix_end(sum, evaluation);
@@ -168,7 +165,8 @@ fn complete<'a, S: EvaluationStorage<Text<'a>>, const SUMS: bool>(
 fn respond<'a, S: EvaluationStorage<Text<'a>>, const SUMS: bool>(
     evaluation: &mut Evaluation<Text<'a>, S>,
     request: EvaluationResult<Text<'a>>,
-    text: Text<'a>,
+    bytes: &'a [u8],
+    job: &Job,
     is_deep: bool,
 ) -> Result<EvaluationResult<Text<'a>>>
     requires { Admits request evaluation.old.status }
@@ -193,7 +191,7 @@ fn respond<'a, S: EvaluationStorage<Text<'a>>, const SUMS: bool>(
             evaluation.resume_with_call_frame_cfa(0x7ffe_2000)
         }
         EvaluationResult::RequiresAtLocation(_) => {
-            let mut called = text;
+            let mut called = job.text(bytes);
             if is_deep {
                 called.empty();
             }

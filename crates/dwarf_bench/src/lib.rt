@@ -20,13 +20,13 @@ pub extern "C" fn dwarf_bench_decode(bytes: &[u8], job: &Job) -> u64 {
 /// if addresses don't have from 1 to 8 bytes.
 #[unsafe(no_mangle)]
 pub extern "C" fn dwarf_bench_evaluate(alloc: Global, bytes: &[u8], job: &Job) -> u64 {
-    evaluating::evaluate_on_heap(alloc, bytes, *job)
+    evaluating::evaluate_on_heap(alloc, bytes, job)
 }
 
 /// The same on lists of fixed capacities: 64 values, 8 callers and 16 pieces.
 #[unsafe(no_mangle)]
 pub extern "C" fn dwarf_bench_evaluate_in_arrays(bytes: &[u8], job: &Job) -> u64 {
-    evaluating::evaluate_in_arrays(bytes, *job)
+    evaluating::evaluate_in_arrays(bytes, job)
 }
 
 /// Evaluates each case `times` times before the next, by one evaluation on the heap, which is restarted for each: the

@@ -1,8 +1,8 @@
-use Rattle.std.proofs.Common.{[], append-nil, map, refl, sym}
+use Rattle.std.proofs.Common.{[], append-nil, map, sym}
 use Rattle.dwarf_base.specs.EndianSlice.{slice_text}
 use Rattle.dwarf_op.specs.Views.{piece_of}
 use Rattle.dwexpr_text.specs.Lines.{piece_lines, value_line}
-use Rattle.dwexpr_text.proofs.Fronts.{appends_both, as_rest, begun, more_of}
+use Rattle.dwexpr_text.proofs.Fronts.{as_rest, begun, more_of}
 use Rattle.dwexpr_text.proofs.ListingLemmas.{ends_refused}
 use Rattle.dwexpr.proofs.program.print_complete.Goals as goal
 
@@ -17,10 +17,3 @@ returns-in_err-print_value_line g c =
     (as_rest _ _ _ _ _ (sym (append-nil (value_line c.args.value)))
     (more_of _ _ _ _ (piece_lines (map (piece_of slice_text (λ x. x)) c.args.pieces.now)) _ (begun _ _) c.in_ok-print_pieces.ensures))
     c.in_err-print_value_line.ensures c.from_residual-in_err-print_value_line.ensures
-
-pub returns : goal.returns
-returns g c = (
-  appends_both _ _ _ (piece_lines (map (piece_of slice_text (λ x. x)) c.args.pieces.now)) (value_line c.args.value) _ refl
-      c.in_ok-print_pieces.ensures c.in_ok-print_value_line.ensures,
-  refl,
-)

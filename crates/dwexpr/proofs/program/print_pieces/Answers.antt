@@ -1,13 +1,10 @@
-use Rattle.std.proofs.Common.{◌+◌, ap, map, drop, drop_of_length-le}
+use Rattle.std.proofs.Common.{◌+◌, map, drop}
 use Rattle.dwarf_base.specs.EndianSlice.{slice_text}
 use Rattle.dwarf_op.specs.Views.{piece_of}
 use Rattle.dwexpr_text.specs.Lines.{piece_line, piece_lines}
-use Rattle.dwexpr_text.proofs.Fronts.{all_of, as_rest, begun, more_of, refused_in}
+use Rattle.dwexpr_text.proofs.Fronts.{as_rest, more_of, refused_in}
 use Rattle.dwexpr_text.proofs.ListingLemmas.{lines_at}
 use Rattle.dwexpr.proofs.program.print_pieces.Goals as goal
-
-pub loop-piece-init : goal.loop-piece-init
-loop-piece-init g c = begun _ _
 
 pub returns-in_err-print_piece : goal.returns-in_err-print_piece
 returns-in_err-print_piece g c =
@@ -20,8 +17,3 @@ loop-piece-preserved g c =
     more_of _ _ _ _ _ (piece_lines (map (piece_of slice_text (λ x. x)) (drop (c.loop-piece.piece-index + 1) c.args.pieces.now)))
     (as_rest _ _ _ _ _ (lines_at piece_line (piece_of slice_text (λ x. x)) c.args.pieces.now c.loop-piece.piece-index _ c.loop-piece-test.true) c.loop-piece.invariant)
     c.in_ok-print_piece.ensures
-
-pub returns : goal.returns
-returns g c =
-    all_of _ _ _
-    (as_rest _ _ _ _ _ (ap (λ xs. piece_lines (map (piece_of slice_text (λ x. x)) xs)) (drop_of_length-le c.args.pieces.now c.loop-piece-test.false)) c.loop-piece.invariant)

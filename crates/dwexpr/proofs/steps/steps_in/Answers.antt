@@ -1,17 +1,10 @@
-use Rattle.std.proofs.Common.{length, map, [], ◌∷◌, sym, ◌∙◌, ap, Err, arith}
+use Rattle.std.proofs.Common.{map, [], ◌∷◌, sym, ◌∙◌, ap, Err, arith}
 use Rattle.std.proofs.lemmas.List.{length-map, map-append}
 use Rattle.dwexpr.specs.Steps as spec
 use Rattle.dwexpr_text.specs.Input.{lines_within}
 use Rattle.dwexpr.specs.Steps.{said_then, step_owned}
-use Rattle.dwexpr.proofs.StepLemmas.{next_line, no_lines, none_left, said_after, said_bad, said_first, said_last, said_more, some_left}
+use Rattle.dwexpr.proofs.StepLemmas.{next_line, no_lines, none_left, said_after, said_bad, said_last, said_more, some_left}
 use Rattle.dwexpr.proofs.steps.steps_in.Goals as goal
-
-pub loop-left-init : goal.loop-left-init
-loop-left-init g c = record {
-  most = length c.args.input.now;
-  enough = omega arith;
-  so_far = λ big. rw c.new-steps.ensures.items (said_first _);
-}
 
 pub returns-in-Err-Bad : goal.returns-in-Err-Bad
 returns-in-Err-Bad g c = λ big.

@@ -209,7 +209,8 @@ pub trait Reader: Debug {
     }
 }
 
-// The number of a first byte that goes on, and the bytes after it. Apart, so that one byte is read in line.
+// The number of a first byte that goes on, and the bytes after it. In a function of its own, so that one byte is read
+// in line.
 #[inline(never)]
 fn rest_of_uleb128<R: Reader>(reader: &mut R, first: u8) -> Result<u64>
     ensures { Reads (λ x. x) (R.text reader.old) (R.text reader.new) result
@@ -232,7 +233,8 @@ fn rest_of_uleb128<R: Reader>(reader: &mut R, first: u8) -> Result<u64>
     }
 }
 
-// The number of a first byte that goes on, and the bytes after it. Apart, so that one byte is read in line.
+// The number of a first byte that goes on, and the bytes after it. In a function of its own, so that one byte is read
+// in line.
 #[inline(never)]
 fn rest_of_sleb128<R: Reader>(reader: &mut R, first: u8) -> Result<i64>
     ensures { Reads (λ x. x) (R.text reader.old) (R.text reader.new) result

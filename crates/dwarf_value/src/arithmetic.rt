@@ -81,7 +81,7 @@ impl Value {
         requires { IsAddressMask addr_mask }
         ensures { result ≡ abs_of (width_of addr_mask) self }
     {
-        let (value_type, word) = self.apart(addr_mask, true);
+        let (value_type, word) = self.parts(addr_mask, true);
         let x = word.integer();
         Ok(Value::wrapped_to_64(value_type, if x < 0 { -x } else { x }))
     }
@@ -95,7 +95,7 @@ impl Value {
         requires { IsAddressMask addr_mask }
         ensures { result ≡ neg_of (width_of addr_mask) self }
     {
-        let (value_type, word) = self.apart(addr_mask, true);
+        let (value_type, word) = self.parts(addr_mask, true);
         if !word.signed {
             return Err(Error::UnsupportedTypeOperation);
         }
@@ -110,8 +110,8 @@ impl Value {
             (λ r. AreDivided signed (width_of addr_mask) self rhs r.0 r.1 r.2)
             (UnfitDivision (width_of addr_mask) self rhs) }
     {
-        let (value_type, first) = self.apart(addr_mask, signed);
-        let (other, second) = rhs.apart(addr_mask, signed);
+        let (value_type, first) = self.parts(addr_mask, signed);
+        let (other, second) = rhs.parts(addr_mask, signed);
         let divisor = second.integer();
         if divisor == 0 {
             return Err(Error::DivisionByZero);

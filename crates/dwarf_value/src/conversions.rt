@@ -32,7 +32,7 @@ impl Value {
         requires { IsAddressMask addr_mask }
         ensures { result ≡ Ok (to_u64_of (width_of addr_mask) self) }
     {
-        let (_, word) = self.apart(addr_mask, false);
+        let (_, word) = self.parts(addr_mask, false);
         Ok(low_bits(word.integer()))
     }
 
@@ -71,7 +71,7 @@ impl Value {
         if self.value_type().bit_size(addr_mask) != value_type.bit_size(addr_mask) {
             return Err(Error::TypeMismatch);
         }
-        let (_, word) = self.apart(u64::MAX, false);
+        let (_, word) = self.parts(u64::MAX, false);
         Value::from_u64(value_type, low_bits(word.integer()))
     }
 }

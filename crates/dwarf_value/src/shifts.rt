@@ -18,7 +18,7 @@ impl Value {
         ensures { result ≡ shl_of (width_of addr_mask) self rhs }
     {
         let length = rhs.shift_length(addr_mask)?;
-        let (value_type, word) = self.apart(addr_mask, false);
+        let (value_type, word) = self.parts(addr_mask, false);
         Value::from_u64(
             value_type,
             shifted_left(low_bits(word.integer()), length, word.width),
@@ -37,7 +37,7 @@ impl Value {
         ensures { result ≡ shr_of (width_of addr_mask) self rhs }
     {
         let length = rhs.shift_length(addr_mask)?;
-        let (value_type, word) = self.apart(addr_mask, false);
+        let (value_type, word) = self.parts(addr_mask, false);
         if word.signed {
             return Err(Error::UnsupportedTypeOperation);
         }
@@ -56,7 +56,7 @@ impl Value {
         ensures { result ≡ shra_of (width_of addr_mask) self rhs }
     {
         let length = rhs.shift_length(addr_mask)?;
-        let (value_type, word) = self.apart(addr_mask, true);
+        let (value_type, word) = self.parts(addr_mask, true);
         if !word.signed {
             return Err(Error::UnsupportedTypeOperation);
         }
@@ -70,7 +70,7 @@ impl Value {
         ensures { MatchResult result (IsLength (width_of addr_mask) self)
             (UnfitLength (width_of addr_mask) self) }
     {
-        let (_, word) = self.apart(addr_mask, false);
+        let (_, word) = self.parts(addr_mask, false);
         let length = word.integer();
         if length < 0 {
             return Err(Error::InvalidShiftExpression);

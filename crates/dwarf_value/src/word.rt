@@ -84,7 +84,7 @@ impl Value {
     /// The type and the word of a value. The bits of a generic one are those of an address, `signed` or not.
     #[tactic(auto, unfolding(crate::specs::Values::type_of, crate::specs::Values::integer_of, crate::specs::Values::word_integer, crate::specs::Values::bit_size_of, crate::specs::Values::is_signed))]
     #[inline(always)]
-    pub(crate) fn apart(self, addr_mask: u64, signed: bool) -> (ValueType, Word)
+    pub(crate) fn parts(self, addr_mask: u64, signed: bool) -> (ValueType, Word)
         requires { IsAddressMask addr_mask }
         ensures value_type { result.0 ≡ type_of self }
         ensures width { result.1.width ≡ bit_size_of (width_of addr_mask) (type_of self) }
@@ -131,8 +131,8 @@ impl Value {
             (λ r. AreOperands signed (width_of addr_mask) self rhs r.0 r.1 r.2)
             (UnfitOperands self rhs) }
     {
-        let (value_type, first) = self.apart(addr_mask, signed);
-        let (other, second) = rhs.apart(addr_mask, signed);
+        let (value_type, first) = self.parts(addr_mask, signed);
+        let (other, second) = rhs.parts(addr_mask, signed);
         if !same_type(value_type, other) {
             return Err(Error::TypeMismatch);
         }

@@ -6,13 +6,13 @@ use Rattle.dwarf_value.proofs.types.Value.divided_by.Goals as goal
 
 pub returns-then-divisor-eq0 : goal.returns-then-divisor-eq0
 returns-then-divisor-eq0 c =
-    let read = c.integer-divisor.ensures.value ∙ c.apart-other.ensures.integer in
+    let read = c.integer-divisor.ensures.value ∙ c.parts-other.ensures.integer in
     let zero : c.integer-divisor.result ≡ pos 0 = omega (arith, ints) in
     inl (zero_divisor c.args.signed (width_of c.args.addr_mask) c.args.rhs (sym read ∙ zero), refl)
 
 pub returns-then-not-same_type : goal.returns-then-not-same_type
 returns-then-not-same_type c =
-    let read = c.integer-divisor.ensures.value ∙ c.apart-other.ensures.integer in
+    let read = c.integer-divisor.ensures.value ∙ c.parts-other.ensures.integer in
     let nonzero : integer_of c.args.signed (width_of c.args.addr_mask) c.args.rhs ≢ pos 0 =
     λ e. let zero : c.integer-divisor.result ≡ pos 0 = read ∙ e in omega (arith, ints) in
     let other = nonzero_divisor c.args.signed (width_of c.args.addr_mask) c.args.rhs nonzero in
@@ -20,7 +20,7 @@ returns-then-not-same_type c =
 
 pub returns : goal.returns
 returns c =
-    let read = c.integer-divisor.ensures.value ∙ c.apart-other.ensures.integer in
+    let read = c.integer-divisor.ensures.value ∙ c.parts-other.ensures.integer in
     let nonzero : integer_of c.args.signed (width_of c.args.addr_mask) c.args.rhs ≢ pos 0 =
     λ e. let zero : c.integer-divisor.result ≡ pos 0 = read ∙ e in omega (arith, ints) in
     record {

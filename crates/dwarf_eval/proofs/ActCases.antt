@@ -1,5 +1,5 @@
 -- What operations do with the stack, case by case.
-use Rattle.std.proofs.Common.{ℕ, ℤ, ◌≡◌, ◌==◌, ◌*◌, Bool, true, false, List, [], ◌∷◌, Option, Some, None, ap, ◌∙◌, sym, refl, nat_lt}
+use Rattle.std.proofs.Common.{ℕ, ℤ, ◌≡◌, ◌==◌, ◌*◌, Bool, true, false, List, [], ◌∷◌, Option, Some, None, ap, ◌∙◌, sym, refl, nat_lt, cond}
 use Rattle.std.specs.Prelude.{slice_get}
 use Rattle.dwarf_base.specs.declared.errors.Error.TheVariants.{NotEnoughStackItems, InvalidDerefSize, InvalidPushObjectAddress}
 use Rattle.dwarf_base.specs.Numbers.{residue}
@@ -9,8 +9,8 @@ use Rattle.dwarf_value.specs.Values.{to_u64_of}
 use Rattle.dwarf_meaning.specs.Operations as operation
 use Rattle.dwarf_meaning.specs.Locations.{Empty, AtAddress, HoldsValue, Piece, sized}
 use Rattle.dwarf_meaning.specs.Requests.{RequiresMemory, RequiresTls, Memory, Tls}
-use Rattle.dwarf_meaning.specs.Acts.{Act, Pushes, Branches, Locates, EndsPiece, RequestAct, FaultAct, choose, on_top, short, push, act}
-use Rattle.dwarf_meaning.proofs.Choices.{choose_true, choose_false, top_none, top_some, some_none, some_some}
+use Rattle.dwarf_meaning.specs.Acts.{Act, Pushes, Branches, Locates, EndsPiece, RequestAct, FaultAct, on_top, short, push, act}
+use Rattle.dwarf_meaning.proofs.Choices.{if_true, if_false, top_none, top_some, some_none, some_some}
 
 module _ (bits : ℕ) (object : Option ℕ) (values : List Value) where
   -- an operation that pops at least one value, and finds none
@@ -71,7 +71,7 @@ module _ (bits : ℕ) (object : Option ℕ) (values : List Value) where
   some_object address e = some_some object (FaultAct InvalidPushObjectAddress) (λ address. push values (Generic address)) address e
 
   abbrev branches : ℤ → Value → List Value → Act
-  branches target x rest = choose (to_u64_of bits x == 0) (Pushes rest []) (Branches rest target)
+  branches target x rest = cond (to_u64_of bits x == 0) (Pushes rest []) (Branches rest target)
 
   pub none_bra : (target : ℤ) → values ≡ [] → act bits object (operation.Bra target) values ≡ FaultAct NotEnoughStackItems
   unfolding act
@@ -79,11 +79,11 @@ module _ (bits : ℕ) (object : Option ℕ) (values : List Value) where
 
   pub zero_bra : (target : ℤ) (x : Value) (rest : List Value) → values ≡ x ∷ rest → (to_u64_of bits x == 0) ≡ true → act bits object (operation.Bra target) values ≡ Pushes rest []
   unfolding act
-  zero_bra target x rest e f = top_some values short (branches target) x rest e ∙ choose_true (to_u64_of bits x == 0) (Pushes rest []) (Branches rest target) f
+  zero_bra target x rest e f = top_some values short (branches target) x rest e ∙ if_true (to_u64_of bits x == 0) (Pushes rest []) (Branches rest target) f
 
   pub some_bra : (target : ℤ) (x : Value) (rest : List Value) → values ≡ x ∷ rest → (to_u64_of bits x == 0) ≡ false → act bits object (operation.Bra target) values ≡ Branches rest target
   unfolding act
-  some_bra target x rest e f = top_some values short (branches target) x rest e ∙ choose_false (to_u64_of bits x == 0) (Pushes rest []) (Branches rest target) f
+  some_bra target x rest e f = top_some values short (branches target) x rest e ∙ if_false (to_u64_of bits x == 0) (Pushes rest []) (Branches rest target) f
 
   pub none_stack_value : values ≡ [] → act bits object operation.StackValue values ≡ FaultAct NotEnoughStackItems
   unfolding act
@@ -125,22 +125,22 @@ module _ (bits : ℕ) (object : Option ℕ) (values : List Value) where
 
     pub wide_deref : (space : Bool) → nat_lt bits (8 * size) ≡ true → act bits object (operation.Deref base_type size space) values ≡ FaultAct (InvalidDerefSize size)
     unfolding act
-    wide_deref false e = choose_true (nat_lt bits (8 * size)) (FaultAct (InvalidDerefSize size)) (on_top values short reads) e
-    wide_deref true e = choose_true (nat_lt bits (8 * size)) (FaultAct (InvalidDerefSize size)) (on_top values short reads_in) e
+    wide_deref false e = if_true (nat_lt bits (8 * size)) (FaultAct (InvalidDerefSize size)) (on_top values short reads) e
+    wide_deref true e = if_true (nat_lt bits (8 * size)) (FaultAct (InvalidDerefSize size)) (on_top values short reads_in) e
 
     module _ (fits : nat_lt bits (8 * size) ≡ false) where
       pub none_deref : (space : Bool) → values ≡ [] → act bits object (operation.Deref base_type size space) values ≡ FaultAct NotEnoughStackItems
       unfolding act
-      none_deref false e = choose_false (nat_lt bits (8 * size)) (FaultAct (InvalidDerefSize size)) (on_top values short reads) fits ∙ top_none values short reads e
-      none_deref true e = choose_false (nat_lt bits (8 * size)) (FaultAct (InvalidDerefSize size)) (on_top values short reads_in) fits ∙ top_none values short reads_in e
+      none_deref false e = if_false (nat_lt bits (8 * size)) (FaultAct (InvalidDerefSize size)) (on_top values short reads) fits ∙ top_none values short reads e
+      none_deref true e = if_false (nat_lt bits (8 * size)) (FaultAct (InvalidDerefSize size)) (on_top values short reads_in) fits ∙ top_none values short reads_in e
 
       pub some_deref : (x : Value) (rest : List Value) → values ≡ x ∷ rest → act bits object (operation.Deref base_type size false) values ≡ reads x rest
       unfolding act
-      some_deref x rest e = choose_false (nat_lt bits (8 * size)) (FaultAct (InvalidDerefSize size)) (on_top values short reads) fits ∙ top_some values short reads x rest e
+      some_deref x rest e = if_false (nat_lt bits (8 * size)) (FaultAct (InvalidDerefSize size)) (on_top values short reads) fits ∙ top_some values short reads x rest e
 
       deref_in : (x : Value) (below : List Value) → values ≡ x ∷ below → act bits object (operation.Deref base_type size true) values ≡ reads_in x below
       unfolding act
-      deref_in x below e = choose_false (nat_lt bits (8 * size)) (FaultAct (InvalidDerefSize size)) (on_top values short reads_in) fits ∙ top_some values short reads_in x below e
+      deref_in x below e = if_false (nat_lt bits (8 * size)) (FaultAct (InvalidDerefSize size)) (on_top values short reads_in) fits ∙ top_some values short reads_in x below e
 
       pub one_deref : (x : Value) → values ≡ x ∷ [] → act bits object (operation.Deref base_type size true) values ≡ FaultAct NotEnoughStackItems
       one_deref x e = deref_in x [] e ∙ top_none [] short _ refl

@@ -9,7 +9,6 @@ use Rattle.dwarf_meaning.specs.Rest.{State, Status, Start, Running, RequestStatu
 use Rattle.dwarf_meaning.specs.Refusals.{before_pushes}
 use Rattle.dwarf_meaning.proofs.Effects.{IsActOf, branches, act_is}
 use Rattle.dwarf_eval.specs.inner.Steps.{IsNoBranch, LeadsBy, Performs, Stays, act_of, at, done_at, with_place}
-use Rattle.dwarf_meaning.specs.Operations as operation
 
 -- ---- the text
 

@@ -1,5 +1,5 @@
 -- How many pieces ended a location.
-use Rattle.std.proofs.Common.{ℕ, ◌≡◌, ◌+◌, ◌≤◌, List, [], ◌∷◌, ◌++◌, length, Option, Some, None, Result, Ok, Err, arith, ◌∙◌, refl}
+use Rattle.std.proofs.Common.{ℕ, ◌≡◌, ◌+◌, ◌≤◌, List, [], ◌∷◌, ◌++◌, length, Option, Some, None, Result, Ok, Err, arith, ◌∙◌, refl, nat_lt}
 use Rattle.dwarf_base.specs.Faults.{Fault}
 use Rattle.dwarf_base.specs.declared.errors.Error.TheVariants.{NotEnoughStackItems}
 use Rattle.dwarf_value.specs.declared.types.Value.{Value}
@@ -8,10 +8,10 @@ use Rattle.dwarf_meaning.specs.Operations.{Operation}
 use Rattle.dwarf_meaning.specs.Locations.{Location, Empty, InRegister, AtAddress, HoldsValue, HoldsBytes, PointsInto, Piece}
 use Rattle.dwarf_meaning.specs.Acts.{Act, Pushes, Branches, Locates, EndsPiece, RequestAct, FaultAct, on_top}
 use Rattle.dwarf_meaning.specs.RunLaws.{waits_of}
-use Rattle.dwarf_meaning.specs.Stores.{Setup, address_bits, Store, Last, Nothing, Plain, Pieced, Pushed, Called, Located, push_value, push_piece, push_values, done}
-use Rattle.dwarf_meaning.specs.Meaning.{Outcome, RequestOutcome, FaultOutcome, CompleteOutcome, completion_of, whole, finish_value, finish}
+use Rattle.dwarf_meaning.specs.Stores.{Setup, address_bits, Store, Last, Nothing, Plain, Pieced, Pushed, Called, Located, push_value, push_piece, push_values, done, branch_target}
+use Rattle.dwarf_meaning.specs.Meaning.{Outcome, RequestOutcome, FaultOutcome, CompleteOutcome, completion_of, whole, finish_value, finish, has_pieces}
 use Rattle.dwarf_meaning.specs.Refusals.{room}
-use Rattle.dwarf_meaning.proofs.Choices.{choose_both}
+use Rattle.dwarf_meaning.proofs.Choices.{if_both}
 use Rattle.dwarf_meaning.proofs.Counts.{OnStore, OnNext, bound_store, on_bound, on_goes}
 use Rattle.dwarf_meaning.proofs.Effects.{IsActOf, IsGivenBy, IsOwnPlace, locates, ends}
 use Rattle.dwarf_meaning.specs.Bounds.{located_by, ending_by, endings, located}
@@ -106,7 +106,7 @@ pub done_ends : (op : Operation) (setup : Setup) (place len : ℕ) (a : Act) (s 
 done_ends op setup place len (Pushes rest pushed) s h free =
     on_goes (EndsNoMore (endings s.pieces)) place _ (values_end (endings s.pieces) setup pushed _ (record { pieces = refl; waits = omega arith }))
 done_ends op setup place len (Branches rest target) s h free =
-    choose_both (OnNext (EndsNoMore (endings s.pieces))) _ _ _ (λ e. tt) (λ e. record { pieces = refl; waits = omega arith })
+    if_both (OnNext (EndsNoMore (endings s.pieces))) (nat_lt len (branch_target setup place target)) _ _ (λ e. tt) (λ e. record { pieces = refl; waits = omega arith })
 done_ends op setup place len (Locates rest location) s (locates _ g) free =
     let given = given_by op location g in
     record { pieces = refl; waits = omega (arith, given) }
@@ -145,12 +145,12 @@ top_alike : (setup : Setup) (s : Store) → EndsAlike (endings s.pieces) (finish
 top_alike setup s = value_alike (endings s.pieces) s.values _ (λ x rest. whole_alike setup (Some x) (AtAddress (to_u64_of (address_bits setup) x)) (record s { values = rest }))
 
 finish_alike_by : (setup : Setup) (s : Store) (last : Last) → EndsAlike (endings s.pieces) (finish setup (record s { last = last }))
-finish_alike_by setup s (Located location) = choose_both (EndsAlike (endings s.pieces)) _ _ _ (λ e. tt) (λ e. whole_alike setup None location (record s { last = Located location }))
-finish_alike_by setup s Plain = choose_both (EndsAlike (endings s.pieces)) _ _ _ (λ e. tt) (λ e. top_alike setup (record s { last = Plain }))
-finish_alike_by setup s Pushed = choose_both (EndsAlike (endings s.pieces)) _ _ _ (λ e. tt) (λ e. top_alike setup (record s { last = Pushed }))
-finish_alike_by setup s Nothing = choose_both (EndsAlike (endings s.pieces)) _ _ _ (λ e. refl) (λ e. top_alike setup (record s { last = Nothing }))
-finish_alike_by setup s Pieced = choose_both (EndsAlike (endings s.pieces)) _ _ _ (λ e. refl) (λ e. top_alike setup (record s { last = Pieced }))
-finish_alike_by setup s Called = choose_both (EndsAlike (endings s.pieces)) _ _ _ (λ e. refl) (λ e. top_alike setup (record s { last = Called }))
+finish_alike_by setup s (Located location) = if_both (EndsAlike (endings s.pieces)) (has_pieces s.pieces) _ _ (λ e. tt) (λ e. whole_alike setup None location (record s { last = Located location }))
+finish_alike_by setup s Plain = if_both (EndsAlike (endings s.pieces)) (has_pieces s.pieces) _ _ (λ e. tt) (λ e. top_alike setup (record s { last = Plain }))
+finish_alike_by setup s Pushed = if_both (EndsAlike (endings s.pieces)) (has_pieces s.pieces) _ _ (λ e. tt) (λ e. top_alike setup (record s { last = Pushed }))
+finish_alike_by setup s Nothing = if_both (EndsAlike (endings s.pieces)) (has_pieces s.pieces) _ _ (λ e. refl) (λ e. top_alike setup (record s { last = Nothing }))
+finish_alike_by setup s Pieced = if_both (EndsAlike (endings s.pieces)) (has_pieces s.pieces) _ _ (λ e. refl) (λ e. top_alike setup (record s { last = Pieced }))
+finish_alike_by setup s Called = if_both (EndsAlike (endings s.pieces)) (has_pieces s.pieces) _ _ (λ e. refl) (λ e. top_alike setup (record s { last = Called }))
 
 -- the end adds at most the whole variable
 pub finish_alike : (setup : Setup) (s : Store) → EndsAlike (endings s.pieces) (finish setup s)

@@ -1,5 +1,5 @@
 -- The end of a run.
-use Rattle.std.proofs.Common.{ℕ, suc, ◌≡◌, ◌+◌, ◌≤◌, ◌==◌, true, false, List, [], length, Option, Some, None, arith, ap, ◌∙◌, sym, refl, subst}
+use Rattle.std.proofs.Common.{ℕ, suc, ◌≡◌, ◌+◌, ◌≤◌, ◌==◌, true, false, List, [], length, Option, Some, None, arith, ap, ◌∙◌, sym, refl, subst, cond}
 use Rattle.std.proofs.lemmas.Bool.Decides.{nat_tests}
 use Rattle.dwarf_base.specs.declared.errors.Error.{Error}
 use Rattle.dwarf_base.specs.declared.errors.Error.TheVariants as error
@@ -9,14 +9,13 @@ use Rattle.dwarf_value.specs.declared.types.Value.{Value}
 use Rattle.dwarf_value.specs.Values.{to_u64_of}
 use Rattle.dwarf_meaning.specs.Locations.{AtAddress, Piece}
 use Rattle.dwarf_meaning.specs.Requests.{Input}
-use Rattle.dwarf_meaning.specs.Acts.{choose}
 use Rattle.dwarf_meaning.specs.RunLaws.{waits_of}
 use Rattle.dwarf_meaning.specs.Stores.{Setup, address_bits, Store, Last, Nothing, Plain, Pieced, Pushed, Called, Located, push_piece}
 use Rattle.dwarf_meaning.specs.Run.{Position, CompleteEnd, only_end, turn_by, run}
 use Rattle.dwarf_meaning.specs.Meaning.{Outcome, FaultOutcome, CompleteOutcome, completion_of, has_pieces, whole, finish_value, finish_by, finish}
 use Rattle.dwarf_meaning.specs.Rest.{State, Status, Start, Running, RequestStatus, CompleteStatus, FaultStatus, with_refusal, total_of_course}
 use Rattle.dwarf_meaning.specs.Refusals.{Refusal, Never, before_pushes}
-use Rattle.dwarf_meaning.proofs.Choices.{choose_true, choose_false, top_none, top_some}
+use Rattle.dwarf_meaning.proofs.Choices.{if_true, if_false, top_none, top_some}
 use Rattle.dwarf_meaning.proofs.Counts.{HasTally, OnStore, Tally, tally_of, tally-push_piece}
 use Rattle.dwarf_meaning.proofs.Turns.{run_turn}
 use Rattle.dwarf_meaning.specs.Bounds.{endings, faults_in}
@@ -94,9 +93,9 @@ completes_err value piece old new h =
     })
 
 -- by whether there are pieces
-pub closes_else : (more : ℕ) (f g : Store → Outcome) (old new : State) → has_pieces old.store.pieces ≡ false → Closes more g old new → Closes more (λ s. choose (has_pieces s.pieces) (f s) (g s)) old new
+pub closes_else : (more : ℕ) (f g : Store → Outcome) (old new : State) → has_pieces old.store.pieces ≡ false → Closes more g old new → Closes more (λ s. cond (has_pieces s.pieces) (f s) (g s)) old new
 closes_else more f g old new e h =
-    closes_as g (λ s. choose (has_pieces s.pieces) (f s) (g s)) more more old old new (omega arith) (stays_here old) (λ r. choose_false (has_pieces old.store.pieces) (f (with_refusal r old.store)) (g (with_refusal r old.store)) e) (λ s status. refl) h
+    closes_as g (λ s. cond (has_pieces s.pieces) (f s) (g s)) more more old old new (omega arith) (stays_here old) (λ r. if_false (has_pieces old.store.pieces) (f (with_refusal r old.store)) (g (with_refusal r old.store)) e) (λ s status. refl) h
 
 -- a fault that ends the run
 ends_in : (more : ℕ) (f : Store → Outcome) (error : Error) (old mid new : State) → Stays 0 old mid → new ≡ with_status (FaultStatus error) mid → f (with_refusal Never old.store) ≡ FaultOutcome (fault_of error) → Closes more f old new
@@ -107,21 +106,21 @@ ends_in more f error old mid new stays is e =
     })
 
 -- pieces are there that may not be
-pub mixed : (more : ℕ) (g : Store → Outcome) (old new : State) → has_pieces old.store.pieces ≡ true → new ≡ with_status (FaultStatus error.InvalidPiece) old → Closes more (λ s. choose (has_pieces s.pieces) (FaultOutcome InvalidPiece) (g s)) old new
+pub mixed : (more : ℕ) (g : Store → Outcome) (old new : State) → has_pieces old.store.pieces ≡ true → new ≡ with_status (FaultStatus error.InvalidPiece) old → Closes more (λ s. cond (has_pieces s.pieces) (FaultOutcome InvalidPiece) (g s)) old new
 mixed more g old new e is =
-    ends_in more (λ s. choose (has_pieces s.pieces) (FaultOutcome InvalidPiece) (g s)) error.InvalidPiece old old new (stays_here old) is
-    (choose_true (has_pieces old.store.pieces) (FaultOutcome InvalidPiece) (g (with_refusal Never old.store)) e)
+    ends_in more (λ s. cond (has_pieces s.pieces) (FaultOutcome InvalidPiece) (g s)) error.InvalidPiece old old new (stays_here old) is
+    (if_true (has_pieces old.store.pieces) (FaultOutcome InvalidPiece) (g (with_refusal Never old.store)) e)
 
 -- the pieces stand
-pub stands : (g : Store → Outcome) (old new : State) → has_pieces old.store.pieces ≡ true → new ≡ with_status (CompleteStatus None) old → Closes 0 (λ s. choose (has_pieces s.pieces) (CompleteOutcome s.pieces None) (g s)) old new
+pub stands : (g : Store → Outcome) (old new : State) → has_pieces old.store.pieces ≡ true → new ≡ with_status (CompleteStatus None) old → Closes 0 (λ s. cond (has_pieces s.pieces) (CompleteOutcome s.pieces None) (g s)) old new
 stands g old new e is =
     let values = ap (λ (z : State). length z.store.values) is in
     let pieces = ap (λ (z : State). length z.store.pieces) is in
-    subst (ClosesBy 0 (λ s. choose (has_pieces s.pieces) (CompleteOutcome s.pieces None) (g s)) old new) (sym (ap (λ (z : State). z.status) is)) (record {
+    subst (ClosesBy 0 (λ s. cond (has_pieces s.pieces) (CompleteOutcome s.pieces None) (g s)) old new) (sym (ap (λ (z : State). z.status) is)) (record {
       steps = record {
         pushes = 0;
         same = λ r.
-            choose_true (has_pieces old.store.pieces) (CompleteOutcome old.store.pieces None) (g (with_refusal r old.store)) e
+            if_true (has_pieces old.store.pieces) (CompleteOutcome old.store.pieces None) (g (with_refusal r old.store)) e
             ∙ ap (λ (z : State). CompleteOutcome z.store.pieces None) (sym is);
       };
       alone = is ∙ ap (λ (z : State). with_store z.store (with_status (CompleteStatus None) old)) (sym is);
@@ -174,7 +173,7 @@ module _ (x : State) (runs : x.status ≡ Running) (end : x.place ≡ length x.t
       total_running r x inputs runs
       ∙ ap (total_of_course x.store.count x.setup x.callers)
       (run_turn x.setup x.text x.place (length x.callers) s inputs
-      ∙ choose_true (x.place == length x.text.bytes) (only_end (CompleteEnd s inputs)) (turn_by (run x.setup) x.setup x.text x.place (length x.callers) s inputs s.last) at_end)
+      ∙ if_true (x.place == length x.text.bytes) (only_end (CompleteEnd s inputs)) (turn_by (run x.setup) x.setup x.text x.place (length x.callers) s inputs s.last) at_end)
 
   pub back_turned : (new : State) → GoesBack true x new → Turns x new
   back_turned new h =

@@ -12,7 +12,7 @@ use Rattle.dwarf_meaning.specs.Acts.{Act, Pushes, Branches, Locates, EndsPiece, 
 use Rattle.dwarf_meaning.specs.Stores.{Setup, Store, Last, Plain, Pieced, Located, push_value, push_piece, push_values, Next, Goes, RequestNext, FaultNext, goes, branch_target, branch}
 use Rattle.dwarf_meaning.specs.Rest.{State, Status, Start, Running, RequestStatus, CompleteStatus, FaultStatus, with_refusal}
 use Rattle.dwarf_meaning.specs.Refusals.{Refusal, Never, before_pushes}
-use Rattle.dwarf_meaning.proofs.Choices.{choose_true, choose_false}
+use Rattle.dwarf_meaning.proofs.Choices.{if_true, if_false}
 use Rattle.dwarf_meaning.specs.Inputs.{with_status}
 use Rattle.dwarf_eval.specs.inner.Machine.{replied_status}
 use Rattle.dwarf_eval.specs.inner.Steps.{Asks, Stays, Tries, Tried, Pops, Jumps, done_at, LeadsToFault, LeadsBy, Performs, with_store, with_values, with_last, with_place}
@@ -136,7 +136,7 @@ performs_branch t old mid new target true runs e f h =
         same = λ r.
             let s : Store = record (with_refusal r old.store) { values = rest; last = Plain } in
             ap (λ (n : ℕ). branch (length old.text.bytes) n s) (sym is)
-            ∙ (choose_false (nat_lt (length old.text.bytes) target) (FaultNext (BadBranchTarget target)) (Goes target s) inside
+            ∙ (if_false (nat_lt (length old.text.bytes) target) (FaultNext (BadBranchTarget target)) (Goes target s) inside
             ∙ ap (λ (z : State). Goes z.place (with_refusal r z.store)) (sym new_is));
       };
       alone = new_is ∙ ap (λ (z : State). with_store z.store (with_place z.place old)) (sym new_is);
@@ -153,7 +153,7 @@ performs_branch t old mid new target false runs e f h =
         may = tt;
         same =
             ap (λ (n : ℕ). branch (length old.text.bytes) n s) (sym is)
-            ∙ choose_true (nat_lt (length old.text.bytes) target) (FaultNext (BadBranchTarget target)) (Goes target s) outside;
+            ∙ if_true (nat_lt (length old.text.bytes) target) (FaultNext (BadBranchTarget target)) (Goes target s) outside;
       };
       stays = stays_then (FaultStatus (error.BadBranchTarget target)) old mid new (stays_low rest Plain old mid (omega arith) e) h.1;
     })

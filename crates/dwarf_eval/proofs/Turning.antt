@@ -14,7 +14,7 @@ use Rattle.dwarf_meaning.specs.Run.{Position, CompleteEnd, FaultEnd, Course, onl
 use Rattle.dwarf_meaning.specs.Meaning.{FaultOutcome}
 use Rattle.dwarf_meaning.specs.Rest.{State, Status, Start, Running, RequestStatus, CompleteStatus, FaultStatus, with_refusal, total_of_course}
 use Rattle.dwarf_meaning.specs.Refusals.{Refusal, Never, before_pushes}
-use Rattle.dwarf_meaning.proofs.Choices.{choose_true, choose_false}
+use Rattle.dwarf_meaning.proofs.Choices.{if_true, if_false}
 use Rattle.dwarf_meaning.proofs.Counts.{HasTally, OnNext, Tally, tally_of, tally-done}
 use Rattle.dwarf_meaning.proofs.Effects.{act_is}
 use Rattle.dwarf_meaning.proofs.Turns.{run_turn, below_most}
@@ -64,7 +64,7 @@ total_inside x r inputs runs inside =
     total_running r x inputs runs
     ∙ ap (total_of_course x.store.count x.setup x.callers)
     (run_turn x.setup x.text x.place (length x.callers) s inputs
-    ∙ choose_false (x.place == length x.text.bytes) (only_end (CompleteEnd s inputs)) (turn_by (run x.setup) x.setup x.text x.place (length x.callers) s inputs s.last) before_end)
+    ∙ if_false (x.place == length x.text.bytes) (only_end (CompleteEnd s inputs)) (turn_by (run x.setup) x.setup x.text x.place (length x.callers) s inputs s.last) before_end)
 
 -- a turn that ends in a fault
 pub falls_turns : (x new : State) (error : Error) → x.status ≡ Running → new.status ≡ FaultStatus error → Falls x (total x) (fault_of error) new → Turns x new
@@ -95,7 +95,7 @@ module _ (x : State) (ready : IsReady x) where
         may = tt;
         same = λ inputs.
             ready_total Never inputs
-            ∙ (ap (total_of_course x.store.count x.setup x.callers) (choose_false (can_count x.store) _ (only_end (FaultEnd TooManyIterations)) h.0)
+            ∙ (ap (total_of_course x.store.count x.setup x.callers) (if_false (can_count x.store) _ (only_end (FaultEnd TooManyIterations)) h.0)
             ∙ (course_failed x.store.count x.setup x.callers TooManyIterations ∙ ap (closed (FaultOutcome TooManyIterations)) (sym count)));
         kept = record { setup = ap (λ (z : State). z.setup) h.1; object_address = ap (λ (z : State). z.store.object_address) h.1; maximum = ap (λ (z : State). z.store.maximum) h.1 };
         spends = fallen_spends x new error.TooManyIterations (ap faults_in ready.runs) failed (omega (arith, callers)) (omega (arith, count)) (omega (arith, lists)) (omega (arith, decodings, count)) (ap (λ (z : State). z.store.pieces) h.1) (omega (arith, decodings, count)) (omega (arith, decodings, count));
@@ -107,7 +107,7 @@ module _ (x : State) (ready : IsReady x) where
         let position : Position = record { text = x.text; place = x.place } in
         let course : Course = do_operation (run x.setup) x.setup x.text (length x.callers) (counted (with_refusal r x.store)) inputs (read x.setup x.text x.place) in
         ready_total r inputs
-        ∙ (ap (total_of_course x.store.count x.setup x.callers) (choose_true (can_count x.store) (add_to_path position course) (only_end (FaultEnd TooManyIterations)) can)
+        ∙ (ap (total_of_course x.store.count x.setup x.callers) (if_true (can_count x.store) (add_to_path position course) (only_end (FaultEnd TooManyIterations)) can)
         ∙ (course_counted x.store.count x.setup x.callers position course
         ∙ ap (λ (y : Result (Operation × List ℕ) Fault). total_of_course (x.store.count + 1) x.setup x.callers (do_operation (run x.setup) x.setup x.text (length x.callers) (counted (with_refusal r x.store)) inputs y)) e))
 

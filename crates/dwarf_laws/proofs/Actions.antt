@@ -16,7 +16,7 @@ use Rattle.dwarf_meaning.specs.Requests.{Request, RequiresMemory, RequiresTls, W
 use Rattle.dwarf_meaning.specs.Acts.{on_top, on_result, result_of, Act, Pushes, Branches, Locates, EndsPiece, RequestAct, FaultAct, short, unary, binary, act, Use, PushesAnswer, Calls, FaultUse, WrongKind, use_of}
 use Rattle.dwarf_laws.specs.Agreement as agreeing
 use Rattle.dwarf_laws.specs.Agreement.{Pairwise, none, more, Both, nothing, something, AgreeingNumbers, AgreeingAnswers, AgreeingLocations, same, AgreeingPieces}
-use Rattle.dwarf_laws.proofs.Pairs.{get_both, choose_pair, top_pair, some_pair, answer_pair, read_pair, answers_agree}
+use Rattle.dwarf_laws.proofs.Pairs.{get_both, if_pair, top_pair, some_pair, answer_pair, read_pair, answers_agree}
 
 pub data AgreeingActs (w : ℕ) : Act → Act → Type 0 where
   pushes : {rest rest' pushed pushed' : List Value} → Pairwise (Agree w) rest rest'
@@ -121,18 +121,18 @@ module _ (w : ℕ) where
       some_pair (AgreeingActs w) (AgreeingNumbers w) _ _ _ _ _ _ o refuses
       (λ m n e. pushes_one values others _ _ h (Agree-Generic w m n e))
   act_both object object' (operation.Bra target) values others o h =
-      top_acts values others _ _ h (λ x x' rest rest' a b. choose_pair (AgreeingActs w) _ _ _ _ _ _
+      top_acts values others _ _ h (λ x x' rest rest' a b. if_pair (AgreeingActs w) _ _ _ _ _ _
       (ap (λ (n : ℕ). n == 0) (to_u64_of-Agree w x x' a)) (pushes b none) (branches b))
   act_both object object' (operation.Skip target) values others o h = branches h
   act_both object object' operation.Nop values others o h = pushes h none
   act_both object object' (operation.VariableValue offset) values others o h = refuses
   act_both object object' operation.Uninitialized values others o h = refuses
   act_both object object' (operation.Deref base_type size false) values others o h =
-      choose_pair (AgreeingActs w) _ _ _ _ _ _ refl refuses
+      if_pair (AgreeingActs w) _ _ _ _ _ _ refl refuses
       (top_acts values others _ _ h (λ x x' rest rest' a b.
       asks_equal rest rest' _ _ Memory (ap (λ (n : ℕ). RequiresMemory n size None base_type) (to_u64_of-Agree w x x' a)) b))
   act_both object object' (operation.Deref base_type size true) values others o h =
-      choose_pair (AgreeingActs w) _ _ _ _ _ _ refl refuses
+      if_pair (AgreeingActs w) _ _ _ _ _ _ refl refuses
       (top_acts values others _ _ h (λ x x' below below' a b. top_acts below below' _ _ b (λ y y' rest rest' c d.
       let p = to_u64_of-Agree w x x' a in let q = to_u64_of-Agree w y y' c in
       asks_equal rest rest' _ _ Memory (cc) d)))

@@ -18,7 +18,7 @@ use Rattle.dwarf_meaning.specs.Stores.{Setup, address_bits, Store, Last, Nothing
 use Rattle.dwarf_meaning.specs.Run.{Position, End, CompleteEnd, RequestEnd, FaultEnd, Course, only_end, add_to_path, add_request, return_to_caller, run_callee, after_answer, await_answer, after_operation, read, can_count, counted, do_operation, turn_counted, turn_located, turn_by, run}
 use Rattle.dwarf_meaning.specs.Meaning.{First}
 use Rattle.dwarf_meaning.specs.RunLaws.{EndOpen}
-use Rattle.dwarf_meaning.proofs.Choices.{choose_true, choose_false}
+use Rattle.dwarf_meaning.proofs.Choices.{if_true, if_false}
 use Rattle.dwarf_meaning.proofs.Turns.{run_turn}
 use Rattle.dwarf_meaning.proofs.Callees.{run_open}
 use Rattle.dwarf_meaning.proofs.Decoded.{spelled_operation, whole_operation}
@@ -84,11 +84,11 @@ module _ (encoding : Encoding) (bits : ℕ) (A K B : List ℕ) (big : Bool) (off
     where
       by_test : (b : Bool) → can_count (calm t) ≡ b → turn_counted (run S) S outer (length A) 0 (calm t) inputs ≡ call_course t inputs
       by_test true e =
-          choose_true (can_count (calm t)) _ _ e ∙ ap (add_to_path (record { text = outer; place = length A }))
+          if_true (can_count (calm t)) _ _ e ∙ ap (add_to_path (record { text = outer; place = length A }))
           (does_call (counted (calm t)) inputs)
       by_test false e =
           let x : FaultEnd TooManyIterations ≡ RequestEnd call (behind_call ∷ []) [] = sym
-          (ap (λ (c : Course). c.end) (choose_false (can_count (calm t))
+          (ap (λ (c : Course). c.end) (if_false (can_count (calm t))
           (add_to_path (record { text = outer; place = length A })
           (do_operation (run S) S outer 0 (counted (calm t)) before (read S outer (length A))))
           (only_end (FaultEnd TooManyIterations)) e)) ∙ at_call in
@@ -114,7 +114,7 @@ module _ (encoding : Encoding) (bits : ℕ) (A K B : List ℕ) (big : Bool) (off
       (length A) 0 (calm t) inputs t.last
   opened t inputs =
       run_turn S outer (length A) 0 (calm t) inputs
-      ∙ choose_false (length A == length (A ++ (K ++ B))) _ _ (let l = length-append A (K ++ B) in
+      ∙ if_false (length A == length (A ++ (K ++ B))) _ _ (let l = length-append A (K ++ B) in
       let k = length-append K B in let m = some_call in grind (arith, nat_tests))
 
   -- if the run of some inputs stays at the call, the run of any asks it

@@ -11,7 +11,7 @@ use Rattle.dwarf_meaning.specs.Acts.{Act, Pushes, Branches, Locates, EndsPiece, 
 use Rattle.dwarf_meaning.specs.Stores.{Setup, Store, Plain, Pieced, Located, push_value, push_piece, push_values, Next, Goes, RequestNext, FaultNext, goes, done, branch_target, branch}
 use Rattle.dwarf_meaning.specs.Run.{end_located}
 use Rattle.dwarf_meaning.specs.Refusals.{Never}
-use Rattle.dwarf_meaning.proofs.Choices.{choose_false, choose_both}
+use Rattle.dwarf_meaning.proofs.Choices.{if_false, if_both}
 use Rattle.dwarf_laws.proofs.Jumps.{Jumping, pushes, branches, locates, ends, asks, refuses}
 
 abbrev pub free : Encoding → (bits : ℕ) → Setup
@@ -66,7 +66,7 @@ module _ (encoding : Encoding) (bits : ℕ) where
         → NextBoth n Al t.object_address t.maximum (branch len (branch_target S place target) (ahead n t))
         (branch len' (branch_target S place' target) (calm t))
     branch_both target t h =
-        choose_both (λ (x : Next). NextBoth n Al t.object_address t.maximum x
+        if_both (λ (x : Next). NextBoth n Al t.object_address t.maximum x
         (branch len' (branch_target S place' target) (calm t))) (nat_lt len (branch_target S place target)) _ _
         (λ e. fails_both)
         (λ e.
@@ -74,7 +74,7 @@ module _ (encoding : Encoding) (bits : ℕ) where
         let no : nat_lt len' (branch_target S place' target) ≡ false = let l = lands.0 in grind (arith, nat_tests) in
         subst (λ (x : Next). NextBoth n Al t.object_address t.maximum
         (Goes (branch_target S place target) (ahead n t)) x)
-        (sym (choose_false (nat_lt len' (branch_target S place' target))
+        (sym (if_false (nat_lt len' (branch_target S place' target))
         (FaultNext (BadBranchTarget (branch_target S place' target))) (Goes (branch_target S place' target) (calm t))
         no)) (goes_both t lands.1 refl refl))
 

@@ -12,8 +12,8 @@ use Rattle.dwarf_meaning.specs.Stores.{Setup, address_bits, Store, Last, Nothing
 use Rattle.dwarf_meaning.specs.Run.{end_located}
 use Rattle.dwarf_meaning.specs.Refusals.{Limits, Refusal, Never, After, spent, room}
 use Rattle.dwarf_laws.specs.Agreement.{Pairwise, none, more, Both, AgreeingNumbers, AgreeingLocations, AgreeingPieces}
-use Rattle.dwarf_meaning.proofs.Choices.{choose_both}
-use Rattle.dwarf_laws.proofs.Pairs.{same_length, snoc_both, choose_pair}
+use Rattle.dwarf_meaning.proofs.Choices.{if_both}
+use Rattle.dwarf_laws.proofs.Pairs.{same_length, snoc_both, if_pair}
 use Rattle.dwarf_laws.proofs.Actions.{AgreeingActs, pushes, branches, locates, ends, asks, refuses}
 
 pub data AgreeingLasts (w : ℕ) : Last → Last → Type 0 where
@@ -71,7 +71,7 @@ spent_is (After (suc inputs) more_pushes) = is_left
 
 room_is : (limit : Option ℕ) (n : ℕ) (refusal : Refusal) → IsRoom (room limit n refusal)
 room_is None n refusal = spent_is refusal
-room_is (Some limit) n refusal = choose_both IsRoom (nat_lt n limit) (Ok refusal) (Err StackFull) (λ e. is_left) (λ e. is_full)
+room_is (Some limit) n refusal = if_both IsRoom (nat_lt n limit) (Ok refusal) (Err StackFull) (λ e. is_left) (λ e. is_full)
 
 pub map_free : {Free A B : Type 0} (f : A → B) (x y : A) → Free ⊎ (x ≡ y) → Free ⊎ (f x ≡ f y)
 map_free f x y (inl free) = inl free
@@ -215,7 +215,7 @@ module _ (Free : Type 0) (setup : Setup) (limits : Limits) (premise : Free ⊎ (
       → AgreeingNexts Free w (done setup place len a s) (done other place len b t)
   done_both place len a b s t (pushes r p) h = goes_both place _ _ (push_values_both _ _ _ _ p (changed h r both_plain))
   done_both place len a b s t (branches r) h =
-      choose_pair (AgreeingNexts Free w) _ _ _ _ _ _ refl fails (goes_on (changed h r both_plain))
+      if_pair (AgreeingNexts Free w) _ _ _ _ _ _ refl fails (goes_on (changed h r both_plain))
   done_both place len a b s t (locates r l) h = goes_on (changed h r (both_located l))
   done_both place len a b s t (ends r p) h = goes_both place _ _ (push_piece_both _ _ _ _ p (changed h r both_pieced))
   done_both place len a b s t (asks r) h = request_next (changed h r h.last)

@@ -9,7 +9,7 @@ use Rattle.dwarf_meaning.specs.Requests.{Request, Waiting, Input}
 use Rattle.dwarf_meaning.specs.Acts.{Act, Pushes, Branches, Locates, EndsPiece, RequestAct, FaultAct, Use, PushesAnswer, Calls, FaultUse, WrongKind, use_of}
 use Rattle.dwarf_meaning.specs.Stores.{Setup, address_bits, Store, Last, Nothing, Plain, Pieced, Pushed, Called, Located, push_value, push_caller, Next, Goes, RequestNext, FaultNext, goes, done}
 use Rattle.dwarf_meaning.specs.Run.{Position, End, CompleteEnd, RequestEnd, FaultEnd, Course, Continues, return_to_caller, after_push, enter_callee, run_callee, after_answer, with_input, await_answer, after_operation, read, can_count, counted, do_operation, turn_counted, piece_ended_by, end_located, turn_located, turn_by, turn, out_of_turns, run_for, enough, run}
-use Rattle.dwarf_meaning.proofs.Choices.{choose_both}
+use Rattle.dwarf_meaning.proofs.Choices.{if_both}
 use Rattle.dwarf_laws.proofs.Jumps.{Jumping, pushes, branches, locates, ends, asks, refuses, straight_jumps, act_jumps}
 use Rattle.dwarf_laws.proofs.Calm.{free}
 use Rattle.dwarf_laws.proofs.Texts.{stands, StraightFrom, straight_step}
@@ -129,7 +129,7 @@ module _ (encoding : Encoding) (bits : ℕ) (T : Text) (q : ℕ) where
 
     counts_later : AsksBehind T q (turn_counted go S T p d s inputs).end
     counts_later =
-        choose_both (λ (c : Course). AsksBehind T q c.end) (can_count s) _ _
+        if_both (λ (c : Course). AsksBehind T q c.end) (can_count s) _ _
         (λ e. does_later (counted s) (read S T p) refl) (λ e. tt)
 
     by_later : (last : Last) → AsksBehind T q (turn_by go S T p d s inputs last).end
@@ -141,7 +141,7 @@ module _ (encoding : Encoding) (bits : ℕ) (T : Text) (q : ℕ) where
     by_later Called = counts_later
 
     turn_later : AsksBehind T q (turn go S T p d s inputs).end
-    turn_later = choose_both (λ (c : Course). AsksBehind T q c.end) (p == length T.bytes) _ _ (λ e. tt) (λ e. by_later s.last)
+    turn_later = if_both (λ (c : Course). AsksBehind T q c.end) (p == length T.bytes) _ _ (λ e. tt) (λ e. by_later s.last)
 
   later_for : (turns : ℕ) → Later (run_for turns S)
   unfolding run_for

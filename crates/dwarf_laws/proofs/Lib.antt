@@ -14,5 +14,5 @@ pub mod Calling
 pub mod Inlined
 pub mod Computed
 pub mod Placed
-pub mod Apart
+pub mod Disagreement
 pub mod Unrefused

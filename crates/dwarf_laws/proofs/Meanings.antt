@@ -14,7 +14,7 @@ use Rattle.dwarf_meaning.specs.Run.{End, Course, after_push, run}
 use Rattle.dwarf_meaning.specs.Meaning.{Outcome, FaultOutcome, completion_of, has_pieces, finish_value, finish_by, First, fresh, with_initial, outcome_of_end, course_of, meaning}
 use Rattle.dwarf_meaning.specs.Refusals.{Limits, Refusal}
 use Rattle.dwarf_laws.specs.Agreement.{Pairwise, none, more, Both, nothing, something, AgreeingNumbers, AgreeingFirsts, AgreeingInputs, AgreeingLocations, AgreeingPieces, AgreeingOutcomes, requests, faults, completions}
-use Rattle.dwarf_laws.proofs.Pairs.{choose_pair, top_pair}
+use Rattle.dwarf_laws.proofs.Pairs.{if_pair, top_pair}
 use Rattle.dwarf_laws.proofs.Actions.{same_addresses}
 use Rattle.dwarf_laws.proofs.Holdings.{AgreeingLasts, both_nothing, both_plain, both_pieced, both_pushed, both_called, both_located, AgreeingStores, AgreeingResults, stores, refusals, result_first, result_second, push_value_both, push_piece_both, changed}
 use Rattle.dwarf_laws.proofs.Runs.{AgreeingEnds, finish_both, ask_both, fail_both, AgreeingCourses, courses, course_first, course_second, run_both}
@@ -59,7 +59,7 @@ module _ (Free : Type 0) (setup : Setup) (limits : Limits) (premise : Free ⊎ (
   located_both : (location location' : Location) (s t : Store) → AgreeingLocations w location location'
       → AgreeingStores Free w s t → AgreeUnlessFull Free w (finish_by setup s (Located location)) (finish_by other t (Located location'))
   located_both location location' s t l h =
-      choose_pair (AgreeUnlessFull Free w) _ _ _ _ _ _ (same_has w _ _ h.pieces) (agree faults)
+      if_pair (AgreeUnlessFull Free w) _ _ _ _ _ _ (same_has w _ _ h.pieces) (agree faults)
       (completed_both None None _ _ nothing (push_piece_both Free setup limits premise _ _ s t
       (record { sizes = refl; offsets = refl; locations = l }) h))
 
@@ -71,11 +71,11 @@ module _ (Free : Type 0) (setup : Setup) (limits : Limits) (premise : Free ⊎ (
       (record { sizes = refl; offsets = refl; locations = same_addresses w x x' a }) (changed h b h.last)))
 
   judged_both : (s t : Store) → AgreeingStores Free w s t → AgreeUnlessFull Free w (finish_by setup s Plain) (finish_by other t Plain)
-  judged_both s t h = choose_pair (AgreeUnlessFull Free w) _ _ _ _ _ _ (same_has w _ _ h.pieces) (agree faults) (value_both s t h)
+  judged_both s t h = if_pair (AgreeUnlessFull Free w) _ _ _ _ _ _ (same_has w _ _ h.pieces) (agree faults) (value_both s t h)
 
   free_both : (s t : Store) → AgreeingStores Free w s t → AgreeUnlessFull Free w (finish_by setup s Nothing) (finish_by other t Nothing)
   free_both s t h =
-      choose_pair (AgreeUnlessFull Free w) _ _ _ _ _ _ (same_has w _ _ h.pieces)
+      if_pair (AgreeUnlessFull Free w) _ _ _ _ _ _ (same_has w _ _ h.pieces)
       (agree (completions h.pieces nothing)) (value_both s t h)
 
   by_both : (s t : Store) (l m : Last) → AgreeingStores Free w s t → AgreeingLasts w l m

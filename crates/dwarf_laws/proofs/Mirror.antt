@@ -14,7 +14,7 @@ use Rattle.dwarf_meaning.specs.Stores.{Setup, address_bits, Store, Last, Nothing
 use Rattle.dwarf_meaning.specs.Run.{Position, End, CompleteEnd, RequestEnd, FaultEnd, Course, only_end, add_to_path, append_course, Continues, return_to_caller, run_callee, after_answer, await_answer, after_operation, read, can_count, counted, do_operation, turn_counted, piece_ended_by, turn_located, turn_by, turn, out_of_turns, run_for, enough, run}
 use Rattle.dwarf_meaning.specs.Meaning.{First}
 use Rattle.dwarf_laws.specs.Inlining.{in_force}
-use Rattle.dwarf_meaning.proofs.Choices.{choose_true, choose_false, choose_both}
+use Rattle.dwarf_meaning.proofs.Choices.{if_true, if_false, if_both}
 use Rattle.dwarf_meaning.proofs.Turns.{run_turn}
 use Rattle.dwarf_laws.proofs.Jumps.{AllJumps, every_jump, act_jumps}
 use Rattle.dwarf_laws.proofs.Calm.{free, calm, ahead, NextBoth, goes_both, request_both, fails_both, Lands, done_both, holds_both}
@@ -95,7 +95,7 @@ module _ (encoding : Encoding) (bits : ℕ) (target : First) (n : ℕ) where
   pub at_end : (T : Text) (d : ℕ) (s : Store) (inputs : List Input)
       → run S T (length T.bytes) d s inputs ≡ only_end (CompleteEnd s inputs)
   at_end T d s inputs =
-      run_turn S T (length T.bytes) d s inputs ∙ choose_true (length T.bytes == length T.bytes) _ _ (grind (arith, nat_tests))
+      run_turn S T (length T.bytes) d s inputs ∙ if_true (length T.bytes == length T.bytes) _ _ (grind (arith, nat_tests))
 
   module _ (T' : Text) (stop d' : ℕ) where
     behind : (more front : List Request) (end : End) (requests : List Request) (end' : End)
@@ -231,7 +231,7 @@ module _ (encoding : Encoding) (bits : ℕ) (target : First) (n : ℕ) where
     counts_mirror : (p p' : ℕ) (t : Store) (inputs : List Input) → Al p p' → Fits target inputs t.object_address t.maximum
         → Here (turn_counted go S T p d (ahead n t) inputs) (turn_counted (run S) S T' p' d' (calm t) inputs)
     counts_mirror p p' t inputs a f =
-        choose_both (λ (c : Course). Here c (turn_counted (run S) S T' p' d' (calm t) inputs)) (can_count (ahead n t)) _ _
+        if_both (λ (c : Course). Here c (turn_counted (run S) S T' p' d' (calm t) inputs)) (can_count (ahead n t)) _ _
         (λ can.
         let first = add_to_path (at T p) (do_operation go S T d (counted (ahead n t)) inputs (read S T p)) in
         let inner : Here first (do_operation (run S) S T' d' (counted (calm t)) inputs (read S T' p')) = subst
@@ -239,7 +239,7 @@ module _ (encoding : Encoding) (bits : ℕ) (target : First) (n : ℕ) where
         (do_operation (run S) S T' d' (counted (calm t)) inputs (read S T' p'))) (counted_ahead t)
         (does_mirror p p' (record t { count = t.count + 1 }) inputs (read S T p) a f refl) in
         subst (λ (c : Course). Here first c) (sym
-        (choose_true (can_count (calm t))
+        (if_true (can_count (calm t))
         (add_to_path (at T' p') (do_operation (run S) S T' d' (counted (calm t)) inputs (read S T' p')))
         (only_end (FaultEnd TooManyIterations)) (can_too t can))) inner)
         (λ e. tt)
@@ -258,7 +258,7 @@ module _ (encoding : Encoding) (bits : ℕ) (target : First) (n : ℕ) where
         → Fits target inputs t.object_address t.maximum
         → Here (turn go S T p d (ahead n t) inputs) (run S T' p' d' (calm t) inputs)
     turn_mirror p p' t inputs a f =
-        choose_both (λ (c : Course). Here c (run S T' p' d' (calm t) inputs)) (p == length T.bytes) _ _
+        if_both (λ (c : Course). Here c (run S T' p' d' (calm t) inputs)) (p == length T.bytes) _ _
         (λ e.
         let here : p' ≡ stop = al.ends p p' a (let l : p ≡ length T.bytes = grind (arith, nat_tests) in l) in
         record {
@@ -270,7 +270,7 @@ module _ (encoding : Encoding) (bits : ℕ) (target : First) (n : ℕ) where
               (run S T' k d' (calm t) inputs)) here (record { requests = refl; end = refl });
         })
         (λ e.
-        let step = run_turn S T' p' d' (calm t) inputs ∙ choose_false (p' == length T'.bytes) _ _ (al.inside p p' a e) in
+        let step = run_turn S T' p' d' (calm t) inputs ∙ if_false (p' == length T'.bytes) _ _ (al.inside p p' a e) in
         subst (λ (c : Course). Here (turn_by go S T p d (ahead n t) inputs t.last) c) (sym step)
         (by_mirror p p' t inputs t.last a f))
 

@@ -1,5 +1,5 @@
 -- Two lists, options and choices that are related.
-use Rattle.std.proofs.Common.{ℕ, zero, suc, ◌≡◌, ap, refl, subst, Bool, true, false, List, [], ◌∷◌, ◌++◌, length, Option, Result, Ok, Err}
+use Rattle.std.proofs.Common.{ℕ, zero, suc, ◌≡◌, ap, refl, subst, Bool, true, false, List, [], ◌∷◌, ◌++◌, length, Option, Result, Ok, Err, cond}
 use Rattle.std.specs.Prelude.{slice_get}
 use Rattle.dwarf_base.specs.declared.errors.Error.{Error}
 use Rattle.dwarf_base.specs.Faults.{Fault}
@@ -7,7 +7,7 @@ use Rattle.dwarf_value.specs.declared.types.Value.{Value}
 use Rattle.dwarf_value.specs.Values.{Agree}
 use Rattle.dwarf_value.specs.Laws.{AgreeingResults, values, errors}
 use Rattle.dwarf_value.proofs.Agreements.{Agree-refl}
-use Rattle.dwarf_meaning.specs.Acts.{choose, on_top, on_some, on_result, result_of}
+use Rattle.dwarf_meaning.specs.Acts.{on_top, on_some, on_result, result_of}
 use Rattle.dwarf_laws.specs.Agreement.{Pairwise, none, more, Both, nothing, something}
 
 -- ---- lists and options
@@ -30,11 +30,10 @@ get_both R (suc i) (more r rs) = get_both R i rs
 -- ---- the words of the definitions, on both sides
 
 module _ {A : Type 0} (R : A → A → Type 0) where
-  pub choose_pair : (b c : Bool) (x x' y y' : A) → b ≡ c → R x x' → R y y' → R (choose b x y) (choose c x' y')
-  unfolding choose
-  choose_pair b c x x' y y' e h g = subst (λ p. R (choose b x y) (choose p x' y')) e (at b)
+  pub if_pair : (b c : Bool) (x x' y y' : A) → b ≡ c → R x x' → R y y' → R (cond b x y) (cond c x' y')
+  if_pair b c x x' y y' e h g = subst (λ p. R (cond b x y) (cond p x' y')) e (at b)
     where
-      at : (b : Bool) → R (choose b x y) (choose b x' y')
+      at : (b : Bool) → R (cond b x y) (cond b x' y')
       at true = h
       at false = g
 

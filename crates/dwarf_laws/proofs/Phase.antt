@@ -1,5 +1,5 @@
 -- Before a call both runs are the same.
-use Rattle.std.proofs.Common.{ℕ, ◌+◌, ◌-◌, ◌≡◌, ◌<◌, Bool, true, false, List, [], ◌∷◌, ◌++◌, length, Option, Some, None, Result, Ok, refl, sym, ap, subst, ◌∙◌, ◌==◌, arith, append_assoc, length-append}
+use Rattle.std.proofs.Common.{ℕ, ◌+◌, ◌-◌, ◌≡◌, ◌<◌, Bool, true, false, List, [], ◌∷◌, ◌++◌, length, Option, Some, None, Result, Ok, refl, sym, ap, subst, ◌∙◌, ◌==◌, arith, append_assoc, length-append, cond}
 use Rattle.std.proofs.lemmas.Bool.Decides.{nat_tests}
 use Rattle.dwarf_base.specs.declared.common.Encoding.{Encoding}
 use Rattle.dwarf_base.specs.Faults.{Fault}
@@ -10,12 +10,12 @@ use Rattle.dwarf_meaning.specs.Operations.{Operation, DieReference}
 use Rattle.dwarf_meaning.specs.Locations.{Location}
 use Rattle.dwarf_meaning.specs.Spelling.{Spells}
 use Rattle.dwarf_meaning.specs.Requests.{Request, RequiresAtLocation, Waiting, Input}
-use Rattle.dwarf_meaning.specs.Acts.{choose, Act, Pushes, Branches, Locates, EndsPiece, RequestAct, FaultAct, act, Use, PushesAnswer, Calls, FaultUse, WrongKind, use_of}
+use Rattle.dwarf_meaning.specs.Acts.{Act, Pushes, Branches, Locates, EndsPiece, RequestAct, FaultAct, act, Use, PushesAnswer, Calls, FaultUse, WrongKind, use_of}
 use Rattle.dwarf_meaning.specs.Stores.{Setup, address_bits, Store, Last, Nothing, Plain, Pieced, Pushed, Called, Located, push_value, push_piece, push_caller, Next, Goes, RequestNext, FaultNext, goes, done}
 use Rattle.dwarf_meaning.specs.Run.{Position, End, CompleteEnd, RequestEnd, FaultEnd, Course, only_end, append_course, return_to_caller, run_callee, after_answer, await_answer, after_operation, read, can_count, do_operation, turn_counted, piece_ended_by, end_located, turn_located, turn_by, run}
 use Rattle.dwarf_meaning.specs.Meaning.{First}
 use Rattle.dwarf_meaning.specs.RunLaws.{IsSettled, end_before, course_before, Open, alone, calling}
-use Rattle.dwarf_meaning.proofs.Choices.{choose_false}
+use Rattle.dwarf_meaning.proofs.Choices.{if_false}
 use Rattle.dwarf_meaning.proofs.Turns.{run_turn}
 use Rattle.dwarf_meaning.proofs.Inputs.{extends_run}
 use Rattle.dwarf_laws.proofs.Jumps.{Jumping, pushes, branches, locates, ends, asks, refuses}
@@ -151,11 +151,10 @@ module _ (encoding : Encoding) (bits : ℕ) where
     leads_failed : (fault : Fault) (f : List ℕ → List Input → Course) → Leads (only_end (FaultEnd fault)) f
     leads_failed fault f e = absurd (let x : FaultEnd fault ≡ RequestEnd call (behind_call ∷ []) [] = e in cc)
 
-    leads_choose : (b : Bool) (x y : Course) (f g : List ℕ → List Input → Course) → Leads x f → Leads y g
-        → Leads (choose b x y) (λ X more. choose b (f X more) (g X more))
-    unfolding choose
-    leads_choose true x y f g h k = h
-    leads_choose false x y f g h k = k
+    leads_if : (b : Bool) (x y : Course) (f g : List ℕ → List Input → Course) → Leads x f → Leads y g
+        → Leads (cond b x y) (λ X more. cond b (f X more) (g X more))
+    leads_if true x y f g h k = h
+    leads_if false x y f g h k = k
 
     -- from a place on
     abbrev pub From : ℕ → Type 0
@@ -284,7 +283,7 @@ module _ (encoding : Encoding) (bits : ℕ) where
             (λ X more. turn_counted (run S) S (text X) q 0 (calm t) (inputs ++ more))
         counts_leads t inputs f =
             let u : Store = record t { count = t.count + 1 } in
-            leads_choose (can_count (calm t)) _ _ _ _
+            leads_if (can_count (calm t)) _ _ _ _
             (leads_as (after_operation (run S) S outer 0 p inputs
             (done S p 0 (act (address_bits S) u.object_address op u.values) (calm u)))
             (do_operation (run S) S outer 0 (calm u) inputs (read S outer q))
@@ -320,7 +319,7 @@ module _ (encoding : Encoding) (bits : ℕ) where
             → run S (text X) q 0 (calm t) inputs ≡ turn_by (run S) S (text X) q 0 (calm t) inputs t.last
         opened X t inputs =
             run_turn S (text X) q 0 (calm t) inputs
-            ∙ choose_false (q == length (A ++ X)) _ _
+            ∙ if_false (q == length (A ++ X)) _ _
             (let l : length (A ++ X) ≡ length A + length X = length-append A X in let i = inside in grind (arith, nat_tests))
 
         pub turn_leads : From q

@@ -12,7 +12,7 @@ use Rattle.dwarf_meaning.specs.Stores.{Setup, address_bits, Store, Last, Next}
 use Rattle.dwarf_meaning.specs.Run.{Position, End, CompleteEnd, RequestEnd, FaultEnd, Course, only_end, add_to_path, add_request, append_course, Continues, return_to_caller, after_push, enter_callee, run_callee, after_answer, with_input, await_answer, after_operation, read, can_count, counted, do_operation, turn_counted, piece_ended_by, turn_located, turn_by, turn, out_of_turns, run_for, enough, run}
 use Rattle.dwarf_meaning.specs.Refusals.{Limits, taken}
 use Rattle.dwarf_laws.specs.Agreement.{Pairwise, none, more, AgreeingInputs, AgreeingLocations}
-use Rattle.dwarf_laws.proofs.Pairs.{choose_pair}
+use Rattle.dwarf_laws.proofs.Pairs.{if_pair}
 use Rattle.dwarf_laws.proofs.Actions.{AgreeingUses, gives, calls, denies, misfits, act_both, use_both}
 use Rattle.dwarf_laws.proofs.Holdings.{AgreeingLasts, both_nothing, both_plain, both_pieced, both_pushed, both_called, both_located, AgreeingStores, AgreeingResults, stores, refusals, result_first, result_second, AgreeingNexts, goes_on, request_next, fails, next_first, next_second, map_free, changed, push_value_both, push_frame_both, done_both, holds_both}
 
@@ -184,7 +184,7 @@ module _ (Free : Type 0) (setup : Setup) (limits : Limits) (premise : Free ⊎ (
         → AgreeingStores Free w s t → Pairwise (AgreeingInputs w) inputs inputs'
         → AgreeingCourses Free w (turn_counted go setup text place depth s inputs) (turn_counted go' other text place depth t inputs')
     counts_both text place depth s t inputs inputs' h i =
-        choose_pair (AgreeingCourses Free w) (can_count s) (can_count t) _ _ _ _ (same_can s t h)
+        if_pair (AgreeingCourses Free w) (can_count s) (can_count t) _ _ _ _ (same_can s t h)
         (passing_both Free w (record { text = text; place = place }) _ _
         (does_both text depth (counted s) (counted t) inputs inputs' (read setup text place) (counted_both s t h) i))
         (ended_both Free w _ _ fail_both)
@@ -212,7 +212,7 @@ module _ (Free : Type 0) (setup : Setup) (limits : Limits) (premise : Free ⊎ (
 
     turn_both : GoAlike Free w (turn go setup) (turn go' other)
     turn_both text place depth s t inputs inputs' h i =
-        choose_pair (AgreeingCourses Free w) _ _ _ _ _ _ refl (ended_both Free w _ _ (finish_both h i))
+        if_pair (AgreeingCourses Free w) _ _ _ _ _ _ refl (ended_both Free w _ _ (finish_both h i))
         (by_both text place depth s t inputs inputs' s.last t.last h.last h i)
 
   run_for_both : (turns : ℕ) → GoAlike Free w (run_for turns setup) (run_for turns other)

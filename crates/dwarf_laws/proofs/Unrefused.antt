@@ -2,7 +2,7 @@
 use Rattle.std.proofs.Common.{ℕ, zero, suc, ◌≡◌, ap, refl, sym, subst, ◌⊎◌, inl, inr, List, [], ◌∷◌, ◌++◌, length, Option, Some, None, Result, Ok, Err}
 use Rattle.dwarf_base.specs.declared.common.Encoding.{Encoding}
 use Rattle.dwarf_base.specs.Faults.{Fault, ◌>>=◌}
-use Rattle.dwarf_base.specs.declared.errors.Error.TheVariants.{StackFull}
+use Rattle.dwarf_base.specs.declared.errors.Error.TheVariants.{StackFull, InvalidPiece}
 use Rattle.dwarf_base.specs.Reads.{Text}
 use Rattle.dwarf_value.specs.declared.types.Value.{Value}
 use Rattle.dwarf_meaning.specs.Operations.{Operation}
@@ -11,9 +11,9 @@ use Rattle.dwarf_meaning.specs.Requests.{Request, Waiting, Input}
 use Rattle.dwarf_meaning.specs.Acts.{on_top, Act, Pushes, Branches, Locates, EndsPiece, RequestAct, FaultAct, Use, PushesAnswer, Calls, FaultUse, WrongKind, use_of}
 use Rattle.dwarf_meaning.specs.Stores.{Setup, address_bits, Store, Last, Nothing, Plain, Pieced, Pushed, Called, Located, push_value, push_piece, push_caller, push_values, Next, Goes, RequestNext, FaultNext, goes, done}
 use Rattle.dwarf_meaning.specs.Run.{Position, End, CompleteEnd, RequestEnd, FaultEnd, Course, only_end, add_to_path, add_request, append_course, Continues, return_to_caller, after_push, enter_callee, run_callee, after_answer, with_input, await_answer, after_operation, read, can_count, counted, do_operation, turn_counted, piece_ended_by, end_located, turn_located, turn_by, turn, out_of_turns, run_for, enough}
-use Rattle.dwarf_meaning.specs.Meaning.{Outcome, FaultOutcome, completion_of, finish_value, finish_by, First, fresh, with_initial, outcome_of_end, meaning}
+use Rattle.dwarf_meaning.specs.Meaning.{Outcome, FaultOutcome, completion_of, finish_value, finish_by, First, fresh, with_initial, outcome_of_end, meaning, has_pieces, CompleteOutcome, whole}
 use Rattle.dwarf_meaning.specs.Refusals.{Refusal, Never}
-use Rattle.dwarf_laws.proofs.Pairs.{choose_pair}
+use Rattle.dwarf_laws.proofs.Pairs.{if_pair}
 use Rattle.dwarf_laws.proofs.Holdings.{IsRoom, is_left, is_full, spent_is}
 use Rattle.dwarf_laws.proofs.Calm.{free, calm}
 
@@ -106,7 +106,7 @@ module _ (encoding : Encoding) (bits : ℕ) where
 
   done_calm : (place len : ℕ) (a : Act) (s : Store) → CalmNexts (done S place len a s) (done S place len a (calm s))
   done_calm place len (Pushes rest pushed) s = goes_calm place _ _ (values_calm pushed (record s { values = rest; last = Plain }))
-  done_calm place len (Branches rest target) s = choose_pair CalmNexts _ _ _ _ _ _ refl fails goes_on
+  done_calm place len (Branches rest target) s = if_pair CalmNexts _ _ _ _ _ _ refl fails goes_on
   done_calm place len (Locates rest location) s = goes_on
   done_calm place len (EndsPiece rest piece) s = goes_calm place _ _ (piece_calm piece (record s { values = rest; last = Pieced }))
   done_calm place len (RequestAct rest request waiting) s = request_next
@@ -180,7 +180,7 @@ module _ (encoding : Encoding) (bits : ℕ) where
     counts_calm : (text : Text) (place depth : ℕ) (s : Store) (inputs : List Input)
         → Calms (turn_counted go S text place depth s inputs) (turn_counted go' S text place depth (calm s) inputs)
     counts_calm text place depth s inputs =
-        choose_pair Calms (can_count s) (can_count s) _ _ _ _ refl
+        if_pair Calms (can_count s) (can_count s) _ _ _ _ refl
         (passing_calm (record { text = text; place = place }) _ _
         (does_calm text depth (counted s) inputs (read S text place))) (ended_calm _ _ fail_calm)
 
@@ -201,7 +201,7 @@ module _ (encoding : Encoding) (bits : ℕ) where
 
     turn_calm : GoCalm (turn go S) (turn go' S)
     turn_calm text place depth s inputs =
-        choose_pair Calms _ _ _ _ _ _ refl (ended_calm _ _ finish_calm) (by_calm text place depth s inputs s.last)
+        if_pair Calms _ _ _ _ _ _ refl (ended_calm _ _ finish_calm) (by_calm text place depth s inputs s.last)
 
   run_for_calm : (turns : ℕ) → GoCalm (run_for turns S) (run_for turns S)
   unfolding run_for
@@ -221,7 +221,7 @@ module _ (encoding : Encoding) (bits : ℕ) where
 
   located_calm : (location : Location) (s : Store) → CalmOutcomes (finish_by S s (Located location))
       (finish_by S (calm s) (Located location))
-  located_calm location s = choose_pair CalmOutcomes _ _ _ _ _ _ refl (inr refl) (completed_calm None _ _ (piece_calm _ s))
+  located_calm location s = if_pair CalmOutcomes (has_pieces s.pieces) _ (FaultOutcome InvalidPiece) _ _ _ refl (inr refl) (completed_calm None _ _ (piece_calm (whole location) s))
 
   top_calm : (s : Store) (values : List Value) → s.values ≡ values → CalmOutcomes (finish_value S s) (finish_value S (calm s))
   unfolding on_top
@@ -235,10 +235,10 @@ module _ (encoding : Encoding) (bits : ℕ) where
       at (x ∷ rest) = completed_calm (Some x) _ _ (piece_calm _ (record s { values = rest }))
 
   judged_calm : (s : Store) → CalmOutcomes (finish_by S s Plain) (finish_by S (calm s) Plain)
-  judged_calm s = choose_pair CalmOutcomes _ _ _ _ _ _ refl (inr refl) (top_calm s s.values refl)
+  judged_calm s = if_pair CalmOutcomes (has_pieces s.pieces) _ (FaultOutcome InvalidPiece) _ _ _ refl (inr refl) (top_calm s s.values refl)
 
   free_calm : (s : Store) → CalmOutcomes (finish_by S s Nothing) (finish_by S (calm s) Nothing)
-  free_calm s = choose_pair CalmOutcomes _ _ _ _ _ _ refl (inr refl) (top_calm s s.values refl)
+  free_calm s = if_pair CalmOutcomes (has_pieces s.pieces) _ (CompleteOutcome s.pieces None) _ _ _ refl (inr refl) (top_calm s s.values refl)
 
   finished_calm : (s : Store) (l : Last) → CalmOutcomes (finish_by S s l) (finish_by S (calm s) l)
   finished_calm s (Located location) = located_calm location s

@@ -50,12 +50,11 @@ in_force first (input ∷ inputs) =
 
 -- the called text as an answer that changes no setting
 abbrev pub answered : CallSite → First → Input
-answered site settings =
-    record {
-      object_address = settings.object_address;
-      maximum = settings.maximum;
-      answer = LocationAnswer (called site);
-    }
+answered site settings = record {
+  object_address = settings.object_address;
+  maximum = settings.maximum;
+  answer = LocationAnswer (called site);
+}
 
 -- the inputs of the outer text: the earlier ones, that answer, and the later ones
 abbrev pub with_answer : CallSite → First → (earlier later : List Input) → List Input

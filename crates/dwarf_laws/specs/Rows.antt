@@ -61,15 +61,15 @@ pub record IsWorked (site : CallSite) (earlier later : List Input) (before behin
 -- ---- why the premises stand
 
 -- Two runs of one text, for addresses of 4 bytes, and the outcome of each: it doesn't agree.
-pub record ComeApart (setup other : Setup) (refusal another : Refusal) (bytes : List ℕ) (first second : First)
-    (inputs others : List Input) (outcome apart : Outcome) : Type 0 where
+pub record Disagree (setup other : Setup) (refusal another : Refusal) (bytes : List ℕ) (first second : First)
+    (inputs others : List Input) (outcome another_outcome : Outcome) : Type 0 where
   pub one_comes : meaning setup refusal (text bytes) first inputs ≡ outcome
-  pub other_comes : meaning other another (text bytes) second others ≡ apart
-  pub differ : AgreeingOutcomes 32 outcome apart → ⊥
+  pub other_comes : meaning other another (text bytes) second others ≡ another_outcome
+  pub differ : AgreeingOutcomes 32 outcome another_outcome → ⊥
 
 -- Two texts and the outcome of each, by its own inputs: they don't end alike.
-pub record EndApart (setup : Setup) (bytes others : List ℕ) (first : First) (inputs later : List Input)
-    (outcome apart : Outcome) : Type 0 where
+pub record EndUnlike (setup : Setup) (bytes others : List ℕ) (first : First) (inputs later : List Input)
+    (outcome another_outcome : Outcome) : Type 0 where
   pub outer_comes : meaning setup Never (text bytes) first inputs ≡ outcome
-  pub inlined_comes : meaning setup Never (text others) first later ≡ apart
-  pub differ : EndAlike outcome apart → ⊥
+  pub inlined_comes : meaning setup Never (text others) first later ≡ another_outcome
+  pub differ : EndAlike outcome another_outcome → ⊥

@@ -9,7 +9,7 @@ ghost use Rattle.dwarf_meaning.specs.Refusals.{Never, After};
 ghost use Rattle.dwarf_meaning.specs.Meaning.{RequestOutcome, FaultOutcome, CompleteOutcome, whole};
 ghost use Rattle.dwarf_meaning.specs.Steps.{InitialValue, ObjectAddress, RequestReply, CompleteReply, FaultReply};
 ghost use Rattle.dwarf_meaning.specs.Rows.{text, no_limits, with_limits, plain, at_most, unset, given, calls, open_at, word_at, valued, pieced};
-ghost use Rattle.dwarf_laws.specs.Rows.{started_steps, ComeAlike, call_site, IsWorked, ComeApart, EndApart};
+ghost use Rattle.dwarf_laws.specs.Rows.{started_steps, ComeAlike, call_site, IsWorked, Disagree, EndUnlike};
 
 /// Worked rows of `high_bits`: two runs of one text whose answers differ above the 32 bits of an address.
 ///
@@ -143,42 +143,42 @@ pub fn called_rows()
         (RequiresCallFrameCfa ∷ []) (RequiresCallFrameCfa ∷ []) (valued 5 5) }
 {}
 
-/// Why premises of `high_bits` stand: the smallest two runs that come apart if one doesn't hold.
+/// Why premises of `high_bits` stand: the smallest two runs whose outcomes disagree if one doesn't hold.
 ///
 /// It does nothing. Each clause of its contract gives the limits and the refusal of both runs, the text's bytes, the
 /// settings and the answers of both, and the outcome of each.
 pub fn premises_of_high_bits()
-    ensures limits_differ { ComeApart plain (with_limits (record no_limits { values = Some 0 }))
+    ensures limits_differ { Disagree plain (with_limits (record no_limits { values = Some 0 }))
         Never Never (0x31 ∷ []) unset unset
         [] [] (valued 1 1) (FaultOutcome StackFull) }
-    ensures refusals_differ { ComeApart plain plain Never (After 0 0) (0x31 ∷ []) unset unset
+    ensures refusals_differ { Disagree plain plain Never (After 0 0) (0x31 ∷ []) unset unset
         [] [] (valued 1 1) (FaultOutcome StackFull) }
-    ensures maxima_differ { ComeApart plain plain Never Never (0x31 ∷ []) (at_most 1) (at_most 0)
+    ensures maxima_differ { Disagree plain plain Never Never (0x31 ∷ []) (at_most 1) (at_most 0)
         [] [] (valued 1 1) (FaultOutcome TooManyIterations) }
-    ensures one_initial_value { ComeApart plain plain Never Never []
+    ensures one_initial_value { Disagree plain plain Never Never []
         (record unset { initial_value = Some 0 }) unset
         [] [] (valued 0 0) (FaultOutcome NotEnoughStackItems) }
-    ensures one_object_address { ComeApart plain plain Never Never (0x97 ∷ [])
+    ensures one_object_address { Disagree plain plain Never Never (0x97 ∷ [])
         (record unset { object_address = Some 0 }) unset
         [] [] (valued 0 0) (FaultOutcome InvalidPushObjectAddress) }
-    ensures numbers_differ { ComeApart plain plain Never Never (0x9c ∷ []) unset unset
+    ensures numbers_differ { Disagree plain plain Never Never (0x9c ∷ []) unset unset
         (given unset (CfaAnswer 0 ∷ [])) (given unset (CfaAnswer 1 ∷ []))
         (valued 0 0) (valued 1 1) }
-    ensures types_of_values_differ { ComeApart plain plain Never Never (0x70 ∷ 0x00 ∷ []) unset
+    ensures types_of_values_differ { Disagree plain plain Never Never (0x70 ∷ 0x00 ∷ []) unset
         unset
         (given unset (RegisterAnswer (U8 0) ∷ [])) (given unset (RegisterAnswer (U16 0) ∷ []))
         (CompleteOutcome (whole (AtAddress 0) ∷ []) (Some (U8 0)))
         (CompleteOutcome (whole (AtAddress 0) ∷ []) (Some (U16 0))) }
-    ensures typed_values_differ_above { ComeApart plain plain Never Never (0x70 ∷ 0x00 ∷ []) unset
+    ensures typed_values_differ_above { Disagree plain plain Never Never (0x70 ∷ 0x00 ∷ []) unset
         unset
         (given unset (RegisterAnswer (U64 0) ∷ []))
         (given unset (RegisterAnswer (U64 0x100000000) ∷ []))
         (CompleteOutcome (whole (AtAddress 0) ∷ []) (Some (U64 0)))
         (CompleteOutcome (whole (AtAddress 0x100000000) ∷ []) (Some (U64 0x100000000))) }
-    ensures texts_differ { ComeApart plain plain Never Never (0x98 ∷ 0x05 ∷ 0x00 ∷ []) unset unset
+    ensures texts_differ { Disagree plain plain Never Never (0x98 ∷ 0x05 ∷ 0x00 ∷ []) unset unset
         (given unset (calls (0x30 ∷ []) ∷ [])) (given unset (calls (0x31 ∷ []) ∷ []))
         (valued 0 0) (valued 1 1) }
-    ensures types_differ { ComeApart plain plain Never Never (0x30 ∷ 0xa8 ∷ 0x05 ∷ []) unset unset
+    ensures types_differ { Disagree plain plain Never Never (0x30 ∷ 0xa8 ∷ 0x05 ∷ []) unset unset
         (given unset (BaseTypeAnswer kind.U8 ∷ [])) (given unset (BaseTypeAnswer kind.U16 ∷ []))
         (CompleteOutcome (whole (AtAddress 0) ∷ []) (Some (U8 0)))
         (CompleteOutcome (whole (AtAddress 0) ∷ []) (Some (U16 0))) }
@@ -189,43 +189,43 @@ pub fn premises_of_high_bits()
 /// It does nothing. Each clause of its contract gives the limits, the bytes of the outer text and those of the inlined
 /// one, the settings, the answers to each, and the outcome of each.
 pub fn premises_of_inlining()
-    ensures callers_have_a_limit { EndApart (with_limits (record no_limits { callers = Some 0 }))
+    ensures callers_have_a_limit { EndUnlike (with_limits (record no_limits { callers = Some 0 }))
         (0x98 ∷ 0x05 ∷ 0x00 ∷ []) (0x31 ∷ [])
         unset (given unset (calls (0x31 ∷ []) ∷ [])) [] (FaultOutcome StackFull) (valued 1 1) }
-    ensures outer_text_branches { EndApart plain (0x98 ∷ 0x05 ∷ 0x00 ∷ 0x2f ∷ 0xfa ∷ 0xff ∷ [])
+    ensures outer_text_branches { EndUnlike plain (0x98 ∷ 0x05 ∷ 0x00 ∷ 0x2f ∷ 0xfa ∷ 0xff ∷ [])
         (0x31 ∷ 0x2f ∷ 0xfa ∷ 0xff ∷ [])
         unset (given unset (calls (0x31 ∷ []) ∷ [])) []
         (RequestOutcome (RequiresAtLocation (UnitRef 5))
         (open_at (0x98 ∷ 0x05 ∷ 0x00 ∷ 0x2f ∷ 0xfa ∷ 0xff ∷ []) 3 ∷ []))
         (FaultOutcome (BadBranchTarget 0xfffffffffffffffe)) }
-    ensures callee_is_empty { EndApart plain (0x31 ∷ 0x93 ∷ 0x04 ∷ 0x31 ∷ 0x98 ∷ 0x05 ∷ 0x00 ∷ [])
+    ensures callee_is_empty { EndUnlike plain (0x31 ∷ 0x93 ∷ 0x04 ∷ 0x31 ∷ 0x98 ∷ 0x05 ∷ 0x00 ∷ [])
         (0x31 ∷ 0x93 ∷ 0x04 ∷ 0x31 ∷ [])
         unset (given unset (calls [] ∷ [])) [] (pieced (word_at (AtAddress 1) ∷ []))
         (FaultOutcome InvalidPiece) }
-    ensures callee_in_the_other_order { EndApart plain (0x98 ∷ 0x05 ∷ 0x00 ∷ [])
+    ensures callee_in_the_other_order { EndUnlike plain (0x98 ∷ 0x05 ∷ 0x00 ∷ [])
         (0x0a ∷ 0x01 ∷ 0x02 ∷ [])
         unset
         (given unset
         (LocationAnswer (record { bytes = 0x0a ∷ 0x01 ∷ 0x02 ∷ []; is_big = true }) ∷ [])) []
         (valued 258 258) (valued 513 513) }
-    ensures offsets_are_narrow { EndApart (record plain { offset_bits = 2 })
+    ensures offsets_are_narrow { EndUnlike (record plain { offset_bits = 2 })
         (0x31 ∷ 0x98 ∷ 0x01 ∷ 0x00 ∷ [])
         (0x31 ∷ 0x2f ∷ 0x00 ∷ 0x00 ∷ [])
         (at_most 3) (given (at_most 3) (calls (0x2f ∷ 0x00 ∷ 0x00 ∷ []) ∷ [])) [] (valued 1 1)
         (FaultOutcome TooManyIterations) }
-    ensures call_is_not_reached { EndApart plain (0x9c ∷ 0x98 ∷ 0x05 ∷ 0x00 ∷ []) (0x9c ∷ 0x31 ∷ [])
+    ensures call_is_not_reached { EndUnlike plain (0x9c ∷ 0x98 ∷ 0x05 ∷ 0x00 ∷ []) (0x9c ∷ 0x31 ∷ [])
         unset (given unset (calls (0x31 ∷ []) ∷ CfaAnswer 0 ∷ [])) (given unset (CfaAnswer 0 ∷ []))
         (RequestOutcome RequiresCallFrameCfa (open_at (0x9c ∷ 0x98 ∷ 0x05 ∷ 0x00 ∷ []) 1 ∷ []))
         (valued 1 1) }
-    ensures maximum_is_set_at_the_answer { EndApart plain (0x98 ∷ 0x05 ∷ 0x00 ∷ [])
+    ensures maximum_is_set_at_the_answer { EndUnlike plain (0x98 ∷ 0x05 ∷ 0x00 ∷ [])
         (0x31 ∷ 0x96 ∷ [])
         (at_most 1) (given (at_most 3) (calls (0x31 ∷ 0x96 ∷ []) ∷ [])) []
         (valued 1 1) (FaultOutcome TooManyIterations) }
-    ensures object_is_set_at_the_answer { EndApart plain (0x98 ∷ 0x05 ∷ 0x00 ∷ []) (0x97 ∷ [])
+    ensures object_is_set_at_the_answer { EndUnlike plain (0x98 ∷ 0x05 ∷ 0x00 ∷ []) (0x97 ∷ [])
         unset (given (record unset { object_address = Some 7 }) (calls (0x97 ∷ []) ∷ [])) []
         (valued 7 7)
         (FaultOutcome InvalidPushObjectAddress) }
-    ensures outer_run_meets_a_fault { EndApart plain (0x98 ∷ 0x05 ∷ 0x00 ∷ []) (0x31 ∷ [])
+    ensures outer_run_meets_a_fault { EndUnlike plain (0x98 ∷ 0x05 ∷ 0x00 ∷ []) (0x31 ∷ [])
         (at_most 1) (given (at_most 1) (calls (0x31 ∷ []) ∷ [])) []
         (FaultOutcome TooManyIterations) (valued 1 1) }
 {}

@@ -1,5 +1,5 @@
 -- The operand of each branch has 16 bits.
-use Rattle.std.proofs.Common.{ℕ, ◌*◌, ◌-◌, ◌≡◌, ◌<◌, ◌≤◌, ◌&&◌, ◌==◌, nat_le, nat_lt, ℤ, pos, ◌-ℤ◌, Bool, true, false, cond, List, [], ◌∷◌, ◌++◌, length, Ok, arith, refl, sym, subst}
+use Rattle.std.proofs.Common.{ℕ, ◌*◌, ◌≡◌, ◌<◌, ◌≤◌, ◌==◌, nat_lt, ℤ, pos, ◌-ℤ◌, Bool, true, false, cond, List, [], ◌∷◌, ◌++◌, length, Ok, arith, refl, sym, subst}
 use Rattle.std.proofs.lemmas.Bool.Decides.{nat_tests}
 use Rattle.std.proofs.lemmas.Int.{ints}
 use Rattle.dwarf_base.specs.declared.common.Encoding.{Encoding}
@@ -45,280 +45,106 @@ NearRow (Signed SignedLeb128 next) = (value : ℤ) → NearRow (next value)
 NearRow (Block size next) = (block : Text) → NearRow (next block)
 NearRow (Invalid opcode) = Unit {0}
 
-choose_near : (test : Bool) (x y : Row) → NearRow x → NearRow y → NearRow (cond test x y)
-choose_near true x y h k = h
-choose_near false x y h k = k
+if_near : (test : Bool) (x y : Row) → NearRow x → NearRow y → NearRow (cond test x y)
+if_near true x y h k = h
+if_near false x y h k = k
 
 near_wasm : (kind : ℕ) → NearRow (wasm_row kind)
 near_wasm kind =
-    choose_near (kind == 0) _ _ (λ index. tt) (choose_near (kind == 1) _ _ (λ index. tt) (choose_near (kind == 2) _ _ (λ index. tt) (choose_near (kind == 3) _ _ (λ index. tt) tt)))
+    if_near (kind == 0) _ _ (λ index. tt) (if_near (kind == 1) _ _ (λ index. tt) (if_near (kind == 2) _ _ (λ index. tt) (if_near (kind == 3) _ _ (λ index. tt) tt)))
 
 abbrev NearLines : List Line → Type 0
 NearLines [] = Unit {0}
-NearLines (line ∷ more) = ((distance : ℕ) → NearRow (line.row distance)) × NearLines more
+NearLines (line ∷ more) = ((opcode : ℕ) → NearRow (line.row opcode)) × NearLines more
+
+-- a pair, so that a long one needs no parentheses
+infixr 20 ◌⊳◌
+pub ◌⊳◌ : {P Q : Type 0} → P → Q → P × Q
+p ⊳ q = (p, q)
 
 near_lines : (encoding : Encoding) → NearLines (lines encoding)
-near_lines encoding = (
-  λ distance number. tt,
-  (
-    λ distance. tt,
-    (
-      λ distance number. tt,
-      (
-        λ distance number near. tt,
-        (
-          λ distance number. tt,
-          (
-            λ distance number near. tt,
-            (
-              λ distance number. tt,
-              (
-                λ distance number near. tt,
-                (
-                  λ distance number. tt,
-                  (
-                    λ distance number near. tt,
-                    (
-                      λ distance number. tt,
-                      (
-                        λ distance number. tt,
-                        (
-                          λ distance. tt,
-                          (
-                            λ distance. tt,
-                            (
-                              λ distance. tt,
-                              (
-                                λ distance number. tt,
-                                (
-                                  λ distance. tt,
-                                  (
-                                    λ distance. tt,
-                                    (
-                                      λ distance. tt,
-                                      (
-                                        λ distance. tt,
-                                        (
-                                          λ distance. tt,
-                                          (
-                                            λ distance. tt,
-                                            (
-                                              λ distance. tt,
-                                              (
-                                                λ distance. tt,
-                                                (
-                                                  λ distance. tt,
-                                                  (
-                                                    λ distance. tt,
-                                                    (
-                                                      λ distance. tt,
-                                                      (
-                                                        λ distance. tt,
-                                                        (
-                                                          λ distance. tt,
-                                                          (
-                                                            λ distance number. tt,
-                                                            (
-                                                              λ distance. tt,
-                                                              (
-                                                                λ distance. tt,
-                                                                (
-                                                                  λ distance. tt,
-                                                                  (
-                                                                    λ distance. tt,
-                                                                    (
-                                                                      λ distance target near. near refl,
-                                                                      (
-                                                                        λ distance. tt,
-                                                                        (
-                                                                          λ distance. tt,
-                                                                          (
-                                                                            λ distance. tt,
-                                                                            (
-                                                                              λ distance. tt,
-                                                                              (
-                                                                                λ distance. tt,
-                                                                                (
-                                                                                  λ distance. tt,
-                                                                                  (
-                                                                                    λ distance target near. near refl,
-                                                                                    (
-                                                                                      λ distance. tt,
-                                                                                      (
-                                                                                        λ distance. tt,
-                                                                                        (
-                                                                                          λ distance number. tt,
-                                                                                          (
-                                                                                            λ distance number. tt,
-                                                                                            (
-                                                                                              λ distance number. tt,
-                                                                                              (
-                                                                                                λ distance first second. tt,
-                                                                                                (
-                                                                                                  λ distance number. tt,
-                                                                                                  (
-                                                                                                    λ distance number. tt,
-                                                                                                    (
-                                                                                                      λ distance number. tt,
-                                                                                                      (
-                                                                                                        λ distance. tt,
-                                                                                                        (
-                                                                                                          λ distance. tt,
-                                                                                                          (
-                                                                                                            λ distance number. tt,
-                                                                                                            (
-                                                                                                              λ distance number. tt,
-                                                                                                              (
-                                                                                                                λ distance number. tt,
-                                                                                                                (
-                                                                                                                  λ distance. tt,
-                                                                                                                  (
-                                                                                                                    λ distance. tt,
-                                                                                                                    (
-                                                                                                                      λ distance first second. tt,
-                                                                                                                      (
-                                                                                                                        λ distance size block. tt,
-                                                                                                                        (
-                                                                                                                          λ distance. tt,
-                                                                                                                          (
-                                                                                                                            λ distance first second. tt,
-                                                                                                                            (
-                                                                                                                              λ distance number. tt,
-                                                                                                                              (
-                                                                                                                                λ distance number. tt,
-                                                                                                                                (
-                                                                                                                                  λ distance size block. tt,
-                                                                                                                                  (
-                                                                                                                                    λ distance base_type size block. tt,
-                                                                                                                                    (
-                                                                                                                                      λ distance first second. tt,
-                                                                                                                                      (
-                                                                                                                                        λ distance first second. tt,
-                                                                                                                                        (
-                                                                                                                                          λ distance first second. tt,
-                                                                                                                                          (
-                                                                                                                                            λ distance number. tt,
-                                                                                                                                            (
-                                                                                                                                              λ distance number. tt,
-                                                                                                                                              (
-                                                                                                                                                λ distance. tt,
-                                                                                                                                                (
-                                                                                                                                                  λ distance. near_wasm,
-                                                                                                                                                  (
-                                                                                                                                                    λ distance. tt,
-                                                                                                                                                    (
-                                                                                                                                                      λ distance first second. tt,
-                                                                                                                                                      (
-                                                                                                                                                        λ distance size block. tt,
-                                                                                                                                                        (
-                                                                                                                                                          λ distance base_type size block. tt,
-                                                                                                                                                          (
-                                                                                                                                                            λ distance first second. tt,
-                                                                                                                                                            (
-                                                                                                                                                              λ distance first second. tt,
-                                                                                                                                                              (
-                                                                                                                                                                λ distance number. tt,
-                                                                                                                                                                (
-                                                                                                                                                                  λ distance number. tt,
-                                                                                                                                                                  (
-                                                                                                                                                                    λ distance number. tt,
-                                                                                                                                                                    (
-                                                                                                                                                                      λ distance number. tt,
-                                                                                                                                                                      (
-                                                                                                                                                                        λ distance number. tt,
-                                                                                                                                                                        (
-                                                                                                                                                                          λ distance number. tt,
-                                                                                                                                                                          tt,
-                                                                                                                                                                        ),
-                                                                                                                                                                      ),
-                                                                                                                                                                    ),
-                                                                                                                                                                  ),
-                                                                                                                                                                ),
-                                                                                                                                                              ),
-                                                                                                                                                            ),
-                                                                                                                                                          ),
-                                                                                                                                                        ),
-                                                                                                                                                      ),
-                                                                                                                                                    ),
-                                                                                                                                                  ),
-                                                                                                                                                ),
-                                                                                                                                              ),
-                                                                                                                                            ),
-                                                                                                                                          ),
-                                                                                                                                        ),
-                                                                                                                                      ),
-                                                                                                                                    ),
-                                                                                                                                  ),
-                                                                                                                                ),
-                                                                                                                              ),
-                                                                                                                            ),
-                                                                                                                          ),
-                                                                                                                        ),
-                                                                                                                      ),
-                                                                                                                    ),
-                                                                                                                  ),
-                                                                                                                ),
-                                                                                                              ),
-                                                                                                            ),
-                                                                                                          ),
-                                                                                                        ),
-                                                                                                      ),
-                                                                                                    ),
-                                                                                                  ),
-                                                                                                ),
-                                                                                              ),
-                                                                                            ),
-                                                                                          ),
-                                                                                        ),
-                                                                                      ),
-                                                                                    ),
-                                                                                  ),
-                                                                                ),
-                                                                              ),
-                                                                            ),
-                                                                          ),
-                                                                        ),
-                                                                      ),
-                                                                    ),
-                                                                  ),
-                                                                ),
-                                                              ),
-                                                            ),
-                                                          ),
-                                                        ),
-                                                      ),
-                                                    ),
-                                                  ),
-                                                ),
-                                              ),
-                                            ),
-                                          ),
-                                        ),
-                                      ),
-                                    ),
-                                  ),
-                                ),
-                              ),
-                            ),
-                          ),
-                        ),
-                      ),
-                    ),
-                  ),
-                ),
-              ),
-            ),
-          ),
-        ),
-      ),
-    ),
-  ),
-)
+near_lines encoding =
+    (λ opcode number. tt)
+    ⊳ (λ opcode. tt)
+    ⊳ (λ opcode number. tt)
+    ⊳ (λ opcode number near. tt)
+    ⊳ (λ opcode number. tt)
+    ⊳ (λ opcode number near. tt)
+    ⊳ (λ opcode number. tt)
+    ⊳ (λ opcode number near. tt)
+    ⊳ (λ opcode number. tt)
+    ⊳ (λ opcode number near. tt)
+    ⊳ (λ opcode number. tt)
+    ⊳ (λ opcode number. tt)
+    ⊳ (λ opcode. tt)
+    ⊳ (λ opcode. tt)
+    ⊳ (λ opcode. tt)
+    ⊳ (λ opcode number. tt)
+    ⊳ (λ opcode. tt)
+    ⊳ (λ opcode. tt)
+    ⊳ (λ opcode. tt)
+    ⊳ (λ opcode. tt)
+    ⊳ (λ opcode. tt)
+    ⊳ (λ opcode. tt)
+    ⊳ (λ opcode. tt)
+    ⊳ (λ opcode. tt)
+    ⊳ (λ opcode. tt)
+    ⊳ (λ opcode. tt)
+    ⊳ (λ opcode. tt)
+    ⊳ (λ opcode. tt)
+    ⊳ (λ opcode. tt)
+    ⊳ (λ opcode number. tt)
+    ⊳ (λ opcode. tt)
+    ⊳ (λ opcode. tt)
+    ⊳ (λ opcode. tt)
+    ⊳ (λ opcode. tt)
+    ⊳ (λ opcode target near. near refl)
+    ⊳ (λ opcode. tt)
+    ⊳ (λ opcode. tt)
+    ⊳ (λ opcode. tt)
+    ⊳ (λ opcode. tt)
+    ⊳ (λ opcode. tt)
+    ⊳ (λ opcode. tt)
+    ⊳ (λ opcode target near. near refl)
+    ⊳ (λ opcode. tt)
+    ⊳ (λ opcode. tt)
+    ⊳ (λ opcode number. tt)
+    ⊳ (λ opcode number. tt)
+    ⊳ (λ opcode number. tt)
+    ⊳ (λ opcode first second. tt)
+    ⊳ (λ opcode number. tt)
+    ⊳ (λ opcode number. tt)
+    ⊳ (λ opcode number. tt)
+    ⊳ (λ opcode. tt)
+    ⊳ (λ opcode. tt)
+    ⊳ (λ opcode number. tt)
+    ⊳ (λ opcode number. tt)
+    ⊳ (λ opcode number. tt)
+    ⊳ (λ opcode. tt)
+    ⊳ (λ opcode. tt)
+    ⊳ (λ opcode first second. tt)
+    ⊳ (λ opcode size block. tt)
+    ⊳ (λ opcode. tt)
+    ⊳ (λ opcode first second. tt)
+    ⊳ (λ opcode number. tt)
+    ⊳ (λ opcode number. tt)
+    ⊳ (λ opcode size block. tt)
+    ⊳ (λ opcode base_type size block. tt)
+    ⊳ (λ opcode first second. tt)
+    ⊳ (λ opcode first second. tt)
+    ⊳ (λ opcode first second. tt)
+    ⊳ (λ opcode number. tt)
+    ⊳ (λ opcode number. tt)
+    ⊳ (λ opcode. near_wasm)
+    ⊳ (λ opcode. tt)
+    ⊳ (λ opcode number. tt)
+    ⊳ (λ opcode number. tt)
+    ⊳ tt
 
 near_among : (opcode : ℕ) (table : List Line) → NearLines table → NearRow (row_among opcode table)
 near_among opcode [] h = tt
 near_among opcode (line ∷ more) h =
-    choose_near (nat_le line.from opcode && nat_le opcode line.to) (line.row (opcode - line.from)) (row_among opcode more) (h.0 (opcode - line.from)) (near_among opcode more h.1)
+    if_near (line.has opcode) (line.row opcode) (row_among opcode more) (h.0 opcode) (near_among opcode more h.1)
 
 near_row : (encoding : Encoding) (opcode : ℕ) → NearRow (row_of encoding opcode)
 unfolding row_of

@@ -12,7 +12,7 @@ use Rattle.dwarf_meaning.specs.Run.{Position, End, CompleteEnd, RequestEnd, Faul
 use Rattle.dwarf_meaning.specs.Meaning.{completion_of, has_pieces, finish_value, finish_by, First, fresh, with_initial, outcome_of_end, course_of, meaning}
 use Rattle.dwarf_meaning.specs.RunLaws.{IsAnswered, IsCallee, Open, alone, calling, EndOpen, OutcomeOpen}
 use Rattle.dwarf_meaning.specs.Refusals.{Refusal}
-use Rattle.dwarf_meaning.proofs.Choices.{choose_both, top_both}
+use Rattle.dwarf_meaning.proofs.Choices.{if_both, top_both}
 use Rattle.dwarf_meaning.proofs.Effects.{IsUseOf, use_is}
 
 -- the answers of these inputs are among all of them
@@ -80,7 +80,7 @@ module _ (all : List Input) where
 
     opens_counts : (setup : Setup) (text : Text) (place depth : ℕ) (s : Store) (inputs : List Input) → Known all inputs → Ends text (turn_counted go setup text place depth s inputs).end
     opens_counts setup text place depth s inputs k =
-        choose_both (λ (c : Course). Ends text c.end) (can_count s) _ _ (λ can. opens_does setup text depth (counted s) inputs (read setup text place) k) (λ e. tt)
+        if_both (λ (c : Course). Ends text c.end) (can_count s) _ _ (λ can. opens_does setup text depth (counted s) inputs (read setup text place) k) (λ e. tt)
 
     opens_held : (setup : Setup) (text : Text) (depth : ℕ) (location : Location) (s : Store) (inputs : List Input) (r : Result (Operation × List ℕ) Fault) → Known all inputs → Ends text (turn_located go setup text depth location s inputs r).end
     opens_held setup text depth location s inputs (Ok x) k = opens_led setup text depth _ inputs _ k
@@ -96,7 +96,7 @@ module _ (all : List Input) where
 
     opens_turn : (setup : Setup) → Opens (turn go setup)
     opens_turn setup text place depth s inputs k =
-        choose_both (λ (c : Course). Ends text c.end) (place == length text.bytes) _ _ (λ e. k) (λ e. opens_by setup text place depth s inputs s.last k)
+        if_both (λ (c : Course). Ends text c.end) (place == length text.bytes) _ _ (λ e. k) (λ e. opens_by setup text place depth s inputs s.last k)
 
   opens_run_for : (turns : ℕ) (setup : Setup) → Opens (run_for turns setup)
   unfolding run_for
@@ -120,12 +120,12 @@ module _ (inputs : List Input) (text : Text) where
   value_open setup s = top_both (OutcomeOpen inputs text) s.values _ _ tt (λ x rest e. completed_open (Some x) _)
 
   finish_open : (setup : Setup) (s : Store) (last : Last) → OutcomeOpen inputs text (finish_by setup s last)
-  finish_open setup s (Located location) = choose_both (OutcomeOpen inputs text) (has_pieces s.pieces) _ _ (λ e. tt) (λ e. completed_open None _)
-  finish_open setup s Plain = choose_both (OutcomeOpen inputs text) (has_pieces s.pieces) _ _ (λ e. tt) (λ e. value_open setup s)
-  finish_open setup s Pushed = choose_both (OutcomeOpen inputs text) (has_pieces s.pieces) _ _ (λ e. tt) (λ e. value_open setup s)
-  finish_open setup s Nothing = choose_both (OutcomeOpen inputs text) (has_pieces s.pieces) _ _ (λ e. tt) (λ e. value_open setup s)
-  finish_open setup s Pieced = choose_both (OutcomeOpen inputs text) (has_pieces s.pieces) _ _ (λ e. tt) (λ e. value_open setup s)
-  finish_open setup s Called = choose_both (OutcomeOpen inputs text) (has_pieces s.pieces) _ _ (λ e. tt) (λ e. value_open setup s)
+  finish_open setup s (Located location) = if_both (OutcomeOpen inputs text) (has_pieces s.pieces) _ _ (λ e. tt) (λ e. completed_open None _)
+  finish_open setup s Plain = if_both (OutcomeOpen inputs text) (has_pieces s.pieces) _ _ (λ e. tt) (λ e. value_open setup s)
+  finish_open setup s Pushed = if_both (OutcomeOpen inputs text) (has_pieces s.pieces) _ _ (λ e. tt) (λ e. value_open setup s)
+  finish_open setup s Nothing = if_both (OutcomeOpen inputs text) (has_pieces s.pieces) _ _ (λ e. tt) (λ e. value_open setup s)
+  finish_open setup s Pieced = if_both (OutcomeOpen inputs text) (has_pieces s.pieces) _ _ (λ e. tt) (λ e. value_open setup s)
+  finish_open setup s Called = if_both (OutcomeOpen inputs text) (has_pieces s.pieces) _ _ (λ e. tt) (λ e. value_open setup s)
 
   ended_open : (setup : Setup) (end : End) → Ends inputs text end → OutcomeOpen inputs text (outcome_of_end setup end)
   ended_open setup (CompleteEnd s left) h = finish_open setup s s.last

@@ -1,5 +1,5 @@
 -- Each operation of a run's path is counted once, and none beyond a bound on the maxima.
-use Rattle.std.proofs.Common.{ℕ, zero, suc, ◌≡◌, ◌+◌, ◌≤◌, ◌<◌, Bool, true, false, List, [], ◌∷◌, ◌++◌, length, Result, Ok, Err, arith, subst, ◌==◌, length-append}
+use Rattle.std.proofs.Common.{ℕ, zero, suc, ◌≡◌, ◌+◌, ◌≤◌, ◌<◌, Bool, true, false, List, [], ◌∷◌, ◌++◌, length, Result, Ok, Err, arith, subst, ◌==◌, length-append, cond, ◌-◌}
 use Rattle.std.proofs.lemmas.Bool.Decides.{nat_tests}
 use Rattle.dwarf_base.specs.Faults.{Fault}
 use Rattle.dwarf_base.specs.declared.errors.Error.TheVariants.{TooManyIterations}
@@ -7,11 +7,11 @@ use Rattle.dwarf_base.specs.Reads.{Text}
 use Rattle.dwarf_meaning.specs.Operations.{Operation}
 use Rattle.dwarf_meaning.specs.Locations.{Location}
 use Rattle.dwarf_meaning.specs.Requests.{Request, Waiting, Input}
-use Rattle.dwarf_meaning.specs.Acts.{choose, Use, PushesAnswer, Calls, FaultUse, WrongKind, use_of}
+use Rattle.dwarf_meaning.specs.Acts.{Use, PushesAnswer, Calls, FaultUse, WrongKind, use_of, act}
 use Rattle.dwarf_meaning.specs.Stores.{Setup, address_bits, Store, Last, Nothing, Plain, Pieced, Pushed, Called, Located, Next, Goes, RequestNext, FaultNext}
 use Rattle.dwarf_meaning.specs.Run.{Position, End, CompleteEnd, RequestEnd, FaultEnd, Course, only_end, add_to_path, add_request, append_course, Continues, return_to_caller, after_push, enter_callee, run_callee, after_answer, with_input, await_answer, after_operation, read, most, can_count, counted, do_operation, turn_counted, piece_ended_by, turn_located, turn_by, turn, out_of_turns, run_for, enough, run}
 use Rattle.dwarf_meaning.specs.RunLaws.{AllMaxima, MaximaWithin, EndCounts, EndCountWithin, EndMaximumWithin, CountsWithin}
-use Rattle.dwarf_meaning.proofs.Choices.{choose_both}
+use Rattle.dwarf_meaning.proofs.Choices.{if_both}
 use Rattle.dwarf_meaning.proofs.Counts.{OnStore, OnNext, Tally, tally_of, HasTally, OnPiece, tally-push_value, tally-push_caller, tally-done, both-holds}
 
 -- what is known of each maximum, and the bound on counts that it gives
@@ -49,8 +49,8 @@ module _ (bound : ℕ) (Fits : ℕ → Type 0) where
   counted_failed : (n : ℕ) (fault : Fault) → n ≤ bound → Counted bound Fits n (only_end (FaultEnd fault))
   counted_failed n fault h = record { few = omega (arith, h); at_end = tt }
 
-  counted_choose : (n : ℕ) (b : Bool) (x y : Course) → (b ≡ true → Counted bound Fits n x) → (b ≡ false → Counted bound Fits n y) → Counted bound Fits n (choose b x y)
-  counted_choose n = choose_both (Counted bound Fits n)
+  counted_if : (n : ℕ) (b : Bool) (x y : Course) → (b ≡ true → Counted bound Fits n x) → (b ≡ false → Counted bound Fits n y) → Counted bound Fits n (cond b x y)
+  counted_if n = if_both (Counted bound Fits n)
 
   counted_joined : (n : ℕ) (first second : Course) → Counted bound Fits (n + length first.path) second → Counted bound Fits n (append_course first second)
   counted_joined n first second h =
@@ -112,12 +112,12 @@ module _ (bound : ℕ) (Fits : ℕ → Type 0) where
     counted_led setup text depth place inputs n (FaultNext fault) h a = counted_failed n.count fault a.count
 
     counted_does : (setup : Setup) (text : Text) (depth : ℕ) (s : Store) (inputs : List Input) (r : Result (Operation × List ℕ) Fault) → Allowed bound Fits (tally_of s) inputs → Counted bound Fits s.count (do_operation go setup text depth s inputs r)
-    counted_does setup text depth s inputs (Ok x) a = counted_led setup text depth _ inputs (tally_of s) _ (tally-done setup _ _ _ s) a
+    counted_does setup text depth s inputs (Ok x) a = counted_led setup text depth _ inputs (tally_of s) _ (tally-done setup (length text.bytes - length x.1) (length text.bytes) (act (address_bits setup) s.object_address x.0 s.values) s) a
     counted_does setup text depth s inputs (Err fault) a = counted_failed s.count fault a.count
 
     counted_counts : (setup : Setup) (text : Text) (place depth : ℕ) (s : Store) (inputs : List Input) → Allowed bound Fits (tally_of s) inputs → Counted bound Fits s.count (turn_counted go setup text place depth s inputs)
     counted_counts setup text place depth s inputs a =
-        counted_choose s.count (can_count s) _ _
+        counted_if s.count (can_count s) _ _
         (λ can. let below = bounded.below s.maximum a.maximum s.count (grind (arith, nat_tests)) (grind (arith, nat_tests)) in
         counted_passing s.count _ _ (counted_does setup text depth (counted s) inputs (read setup text place)
         (record { count = omega (arith, below); maximum = a.maximum; others = a.others })))
@@ -142,7 +142,7 @@ module _ (bound : ℕ) (Fits : ℕ → Type 0) where
 
     counted_turn : (setup : Setup) → Counting (turn go setup)
     counted_turn setup text place depth s inputs a =
-        counted_choose s.count (place == length text.bytes) _ _
+        counted_if s.count (place == length text.bytes) _ _
         (λ e. record { few = omega (arith, a.count); at_end = record { count = omega arith; maximum = a.maximum; others = a.others } })
         (λ e. counted_by setup text place depth s inputs s.last a)
 

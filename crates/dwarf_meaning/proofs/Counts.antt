@@ -1,13 +1,13 @@
 -- What an operation does, a piece after a location and an answer leave the count and the settings as they are.
-use Rattle.std.proofs.Common.{ℕ, ◌≡◌, List, [], ◌∷◌, ◌++◌, length, Option, Some, None, Result, Ok, Err, refl, ◌∙◌}
+use Rattle.std.proofs.Common.{ℕ, ◌≡◌, nat_lt, List, [], ◌∷◌, ◌++◌, length, Option, Some, None, Result, Ok, Err, refl, ◌∙◌}
 use Rattle.dwarf_base.specs.Faults.{Fault, ◌>>=◌}
 use Rattle.dwarf_value.specs.declared.types.Value.{Value}
 use Rattle.dwarf_meaning.specs.Locations.{Location, Piece}
 use Rattle.dwarf_meaning.specs.Acts.{Act, Pushes, Branches, Locates, EndsPiece, RequestAct, FaultAct}
-use Rattle.dwarf_meaning.specs.Stores.{Setup, Store, Last, Plain, Pieced, push_value, push_piece, push_caller, push_values, Next, Goes, RequestNext, FaultNext, goes, done}
+use Rattle.dwarf_meaning.specs.Stores.{Setup, Store, Last, Plain, Pieced, push_value, push_piece, push_caller, push_values, Next, Goes, RequestNext, FaultNext, goes, branch_target, done}
 use Rattle.dwarf_meaning.specs.Run.{end_located}
 use Rattle.dwarf_meaning.specs.Refusals.{Refusal, room}
-use Rattle.dwarf_meaning.proofs.Choices.{choose_both}
+use Rattle.dwarf_meaning.proofs.Choices.{if_both}
 
 -- if a store comes of it, P holds of that
 abbrev pub OnStore : (Store → Type 0) → Result Store Fault → Type 0
@@ -84,7 +84,7 @@ on_goes P place (Err fault) h = tt
 pub tally-done : (setup : Setup) (place len : ℕ) (a : Act) (s : Store) → OnNext (HasTally (tally_of s)) (done setup place len a s)
 tally-done setup place len (Pushes rest pushed) s =
     on_goes (HasTally (tally_of s)) place _ (tally-push_values setup pushed (record s { values = rest; last = Plain }))
-tally-done setup place len (Branches rest target) s = choose_both (OnNext (HasTally (tally_of s))) _ _ _ (λ e. tt) (λ e. refl)
+tally-done setup place len (Branches rest target) s = if_both (OnNext (HasTally (tally_of s))) (nat_lt len (branch_target setup place target)) _ _ (λ e. tt) (λ e. refl)
 tally-done setup place len (Locates rest location) s = refl
 tally-done setup place len (EndsPiece rest piece) s = on_goes (HasTally (tally_of s)) place _ (tally-push_piece setup piece (record s { values = rest; last = Pieced }))
 tally-done setup place len (RequestAct rest request waiting) s = refl

@@ -1,15 +1,16 @@
 -- What an operation does, and what is done with an answer, in outline.
-use Rattle.std.proofs.Common.{ℕ, suc, ℤ, ◌≡◌, ◌+◌, ◌≤◌, ◌⊎◌, inl, inr, true, false, List, [], ◌∷◌, length, Option, Result, Ok, Err, arith, refl}
+use Rattle.std.proofs.Common.{ℕ, suc, ℤ, ◌≡◌, ◌==◌, nat_lt, ◌+◌, ◌*◌, ◌≤◌, ◌⊎◌, inl, inr, true, false, List, [], ◌∷◌, length, Option, Result, Ok, Err, arith, refl}
 use Rattle.dwarf_base.specs.declared.errors.Error.{Error}
 use Rattle.dwarf_base.specs.Faults.{Fault}
 use Rattle.dwarf_base.specs.declared.errors.Error.TheVariants.{NotEnoughStackItems}
 use Rattle.dwarf_value.specs.declared.types.Value.{Value}
+use Rattle.dwarf_value.specs.Values.{to_u64_of}
 use Rattle.dwarf_meaning.specs.Operations as operation
 use Rattle.dwarf_meaning.specs.Operations.{Operation}
 use Rattle.dwarf_meaning.specs.Locations.{Location, Empty, InRegister, AtAddress, HoldsValue, HoldsBytes, PointsInto, Piece}
 use Rattle.dwarf_meaning.specs.Requests.{Request, RequiresEntryValue, Waiting, Memory, Register, WasmValue, EntryValue, FrameBase, Tls, CallFrameCfa, ParameterRef, RelocatedAddress, IndexedAddress, AtLocation, TypedLiteral, Convert, Reinterpret, Answer, MemoryAnswer, RegisterAnswer, WasmAnswer, EntryAnswer, FrameBaseAnswer, TlsAnswer, CfaAnswer, ParameterAnswer, RelocatedAnswer, IndexedAnswer, LocationAnswer, BaseTypeAnswer}
 use Rattle.dwarf_meaning.specs.Acts.{on_top, on_result, result_of, Act, Pushes, Branches, Locates, EndsPiece, RequestAct, FaultAct, short, push, unary, binary, act, Use, PushesAnswer, Calls, FaultUse, WrongKind, use_of}
-use Rattle.dwarf_meaning.proofs.Choices.{choose_both, top_both, some_both, answer_both}
+use Rattle.dwarf_meaning.proofs.Choices.{if_both, top_both, some_both, answer_both}
 
 -- ---- operations
 
@@ -101,15 +102,15 @@ act_is bits object operation.PushObjectAddress values =
     some_both (IsActOf operation.PushObjectAddress (length values)) object _ _ refuses (λ address. push_is values _)
 act_is bits object (operation.Bra target) values =
     top_is values _ (λ x rest e.
-    choose_both (IsActOf (operation.Bra target) (length values)) _ _ _ (λ f. pushes (omega (arith, e)) (omega (arith, e))) (λ f. branches (omega (arith, e)) (inl refl)))
+    if_both (IsActOf (operation.Bra target) (length values)) (to_u64_of bits x == 0) _ _ (λ f. pushes (omega (arith, e)) (omega (arith, e))) (λ f. branches (omega (arith, e)) (inl refl)))
 act_is bits object (operation.Skip target) values = branches (omega arith) (inr refl)
 act_is bits object operation.Nop values = pushes (omega arith) (omega arith)
 act_is bits object (operation.VariableValue offset) values = refuses
 act_is bits object operation.Uninitialized values = refuses
 act_is bits object (operation.Deref base_type size false) values =
-    choose_both (IsActOf (operation.Deref base_type size false) (length values)) _ _ _ (λ e. refuses) (λ e. top_is values _ (λ x rest f. asks (omega (arith, f)) tt))
+    if_both (IsActOf (operation.Deref base_type size false) (length values)) (nat_lt bits (8 * size)) _ _ (λ e. refuses) (λ e. top_is values _ (λ x rest f. asks (omega (arith, f)) tt))
 act_is bits object (operation.Deref base_type size true) values =
-    choose_both (IsActOf (operation.Deref base_type size true) (length values)) _ _ _ (λ e. refuses)
+    if_both (IsActOf (operation.Deref base_type size true) (length values)) (nat_lt bits (8 * size)) _ _ (λ e. refuses)
     (λ e. top_is values _ (λ x below f. top_is below _ (λ y rest g. asks (omega (arith, f, g)) tt)))
 act_is bits object (operation.RegisterOffset register offset base_type) values = asks (omega arith) tt
 act_is bits object (operation.FrameOffset offset) values = asks (omega arith) tt

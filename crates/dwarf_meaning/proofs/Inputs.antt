@@ -1,11 +1,11 @@
 -- A run is decided by the inputs that it takes.
-use Rattle.std.proofs.Common.{ℕ, zero, suc, ◌≡◌, Bool, true, false, List, [], ◌∷◌, ◌++◌, length, Result, Ok, Err, refl, ap, ◌∙◌, ◌==◌}
+use Rattle.std.proofs.Common.{ℕ, zero, suc, ◌≡◌, Bool, true, false, List, [], ◌∷◌, ◌++◌, length, Result, Ok, Err, refl, ap, ◌∙◌, ◌==◌, cond}
 use Rattle.dwarf_base.specs.Faults.{Fault}
 use Rattle.dwarf_base.specs.Reads.{Text}
 use Rattle.dwarf_meaning.specs.Operations.{Operation}
 use Rattle.dwarf_meaning.specs.Locations.{Location}
 use Rattle.dwarf_meaning.specs.Requests.{Request, Waiting, Input}
-use Rattle.dwarf_meaning.specs.Acts.{choose, Use, PushesAnswer, Calls, FaultUse, WrongKind, use_of}
+use Rattle.dwarf_meaning.specs.Acts.{Use, PushesAnswer, Calls, FaultUse, WrongKind, use_of}
 use Rattle.dwarf_meaning.specs.Stores.{Setup, address_bits, Store, Last, Nothing, Plain, Pieced, Pushed, Called, Located, push_value, push_caller, Next, Goes, RequestNext, FaultNext}
 use Rattle.dwarf_meaning.specs.Run.{Position, End, CompleteEnd, RequestEnd, FaultEnd, Course, only_end, add_to_path, add_request, append_course, Continues, return_to_caller, after_push, enter_callee, run_callee, after_answer, with_input, await_answer, after_operation, read, can_count, counted, do_operation, turn_counted, turn_located, turn_by, turn, out_of_turns, run_for, enough, run}
 use Rattle.dwarf_meaning.specs.Meaning.{First, fresh, with_initial, outcome_of_end, course_of, meaning}
@@ -16,10 +16,9 @@ use Rattle.dwarf_meaning.specs.Refusals.{Refusal}
 abbrev pub Extends : List Input → Course → Course → Type 0
 Extends more first second = IsSettled first.end → second ≡ course_before more first
 
-extends_choose : (more : List Input) (b : Bool) (x y u v : Course) → Extends more x u → Extends more y v → Extends more (choose b x y) (choose b u v)
-unfolding choose
-extends_choose more true x y u v h i settled = h settled
-extends_choose more false x y u v h i settled = i settled
+extends_if : (more : List Input) (b : Bool) (x y u v : Course) → Extends more x u → Extends more y v → Extends more (cond b x y) (cond b u v)
+extends_if more true x y u v h i settled = h settled
+extends_if more false x y u v h i settled = i settled
 
 -- more inputs to come change nothing
 abbrev pub Extensible : List Input → Continues → Type 0
@@ -76,7 +75,7 @@ module _ (more : List Input) (go : Continues) (extends : Extensible more go) whe
   extends_counts : (setup : Setup) (text : Text) (place depth : ℕ) (s : Store) (inputs : List Input) → Extends more (turn_counted go setup text place depth s inputs) (turn_counted go setup text place depth s (inputs ++ more))
   extends_counts setup text place depth s inputs =
       let position : Position = record { text = text; place = place } in
-      extends_choose more (can_count s) _ _ _ _
+      extends_if more (can_count s) _ _ _ _
       (λ settled. ap (add_to_path position) (extends_does setup text depth (counted s) inputs (read setup text place) settled))
       (λ settled. refl)
 
@@ -94,7 +93,7 @@ module _ (more : List Input) (go : Continues) (extends : Extensible more go) whe
 
   extends_turn : (setup : Setup) → Extensible more (turn go setup)
   extends_turn setup text place depth s inputs =
-      extends_choose more (place == length text.bytes) _ _ _ _ (λ settled. refl) (extends_by setup text place depth s inputs s.last)
+      extends_if more (place == length text.bytes) _ _ _ _ (λ settled. refl) (extends_by setup text place depth s inputs s.last)
 
 pub extends_run_for : (turns : ℕ) (setup : Setup) (more : List Input) → Extensible more (run_for turns setup)
 unfolding run_for

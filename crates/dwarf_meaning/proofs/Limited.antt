@@ -10,12 +10,12 @@ use Rattle.dwarf_meaning.specs.Operations.{Operation}
 use Rattle.dwarf_meaning.specs.Locations.{Location, Piece}
 use Rattle.dwarf_meaning.specs.Requests.{Request, Waiting, Answer, Input}
 use Rattle.dwarf_meaning.specs.Acts.{on_top, Act, Pushes, Branches, Locates, EndsPiece, RequestAct, FaultAct, Use, PushesAnswer, Calls, FaultUse, WrongKind, use_of}
-use Rattle.dwarf_meaning.specs.Stores.{IsWithin, Setup, address_bits, Store, Last, Nothing, Plain, Pieced, Pushed, Called, Located, push_value, push_piece, push_caller, push_values, Next, Goes, RequestNext, FaultNext, done}
+use Rattle.dwarf_meaning.specs.Stores.{IsWithin, Setup, address_bits, Store, Last, Nothing, Plain, Pieced, Pushed, Called, Located, push_value, push_piece, push_caller, push_values, Next, Goes, RequestNext, FaultNext, branch_target, done}
 use Rattle.dwarf_meaning.specs.Run.{Position, End, CompleteEnd, RequestEnd, FaultEnd, Course, only_end, Continues, return_to_caller, after_push, enter_callee, run_callee, after_answer, with_input, await_answer, after_operation, read, can_count, counted, do_operation, turn_counted, piece_ended_by, end_located, turn_located, turn_by, turn, out_of_turns, run_for, enough, run, return_to_callers}
 use Rattle.dwarf_meaning.specs.Meaning.{completion_of, has_pieces, whole, finish_value, finish_by, First, fresh, with_initial, outcome_of_end, course_of, meaning}
 use Rattle.dwarf_meaning.specs.RunLaws.{ListsWithin, OpenTexts, EndWithin, OutcomeWithin, outermost}
 use Rattle.dwarf_meaning.specs.Refusals.{Refusal, spent, room}
-use Rattle.dwarf_meaning.proofs.Choices.{choose_both}
+use Rattle.dwarf_meaning.proofs.Choices.{if_both}
 use Rattle.dwarf_meaning.proofs.Counts.{OnStore, OnNext, bound_store, on_bound, on_goes}
 use Rattle.dwarf_meaning.proofs.Effects.{IsActOf, pushes, branches, locates, ends, asks, act_is, IsUseOf, use_is}
 
@@ -29,7 +29,7 @@ within_less (Some limit) n m h i = omega (arith, h, i)
 room_within : (limit : Option ℕ) (n : ℕ) (refusal : Refusal) (P : Store → Type 0) (make : Refusal → Store) → (IsWithin limit (suc n) → (left : Refusal) → P (make left)) → OnStore P (room limit n refusal >>= λ left. Ok (make left))
 room_within None n refusal P make h = bound_store P (spent refusal) make (h tt)
 room_within (Some limit) n refusal P make h =
-    choose_both (λ (r : Result Refusal Fault). OnStore P (r >>= λ left. Ok (make left))) (nat_lt n limit) (Ok refusal) (Err StackFull)
+    if_both (λ (r : Result Refusal Fault). OnStore P (r >>= λ left. Ok (make left))) (nat_lt n limit) (Ok refusal) (Err StackFull)
     (λ e. let below : n < limit = grind (arith, nat_tests) in h (omega (arith, below)) refusal)
     (λ e. tt)
 
@@ -72,7 +72,7 @@ module _ (setup : Setup) where
   kept_done place len (Pushes rest pushed) s (pushes l _) h =
       on_goes Kept place _ (kept_values pushed (record s { values = rest; last = Plain }) (record { values = within_less setup.limits.values _ _ l h.values; pieces = h.pieces }))
   kept_done place len (Branches rest target) s (branches l _) h =
-      choose_both (OnNext Kept) _ _ _ (λ e. tt) (λ e. record { values = within_less setup.limits.values _ _ l h.values; pieces = h.pieces })
+      if_both (OnNext Kept) (nat_lt len (branch_target setup place target)) _ _ (λ e. tt) (λ e. record { values = within_less setup.limits.values _ _ l h.values; pieces = h.pieces })
   kept_done place len (Locates rest location) s (locates l _) h = record { values = within_less setup.limits.values _ _ l h.values; pieces = h.pieces }
   kept_done place len (EndsPiece rest piece) s (ends l _) h =
       on_goes Kept place _ (kept_piece piece (record s { values = rest; last = Pieced }) (record { values = within_less setup.limits.values _ _ l h.values; pieces = h.pieces }))
@@ -143,7 +143,7 @@ module _ (setup : Setup) where
 
     limited_counts : (text : Text) (place depth : ℕ) (s : Store) (inputs : List Input) → IsWithin setup.limits.callers depth → Kept s → EndWithin setup.limits text depth (turn_counted go setup text place depth s inputs).end
     limited_counts text place depth s inputs d h =
-        choose_both (λ (c : Course). EndWithin setup.limits text depth c.end) (can_count s) _ _
+        if_both (λ (c : Course). EndWithin setup.limits text depth c.end) (can_count s) _ _
         (λ can. limited_does text depth (counted s) inputs (read setup text place) d (record { values = h.values; pieces = h.pieces }))
         (λ e. tt)
 
@@ -161,7 +161,7 @@ module _ (setup : Setup) where
 
     limited_turn : Limited (turn go setup)
     limited_turn text place depth s inputs d h =
-        choose_both (λ (c : Course). EndWithin setup.limits text depth c.end) (place == length text.bytes) _ _
+        if_both (λ (c : Course). EndWithin setup.limits text depth c.end) (place == length text.bytes) _ _
         (λ e. h) (λ e. limited_by text place depth s inputs s.last d h)
 
   limited_run_for : (turns : ℕ) → Limited (run_for turns setup)
@@ -182,13 +182,13 @@ module _ (setup : Setup) where
       completed_within text (Some x) _ (kept_piece _ (record s { values = rest }) (record { values = within_less setup.limits.values _ _ (omega (arith, l)) h.values; pieces = h.pieces }))
 
   located_within : (text : Text) (location : Location) (s : Store) → Kept s → OutcomeWithin setup.limits text (finish_by setup s (Located location))
-  located_within text location s h = choose_both (OutcomeWithin setup.limits text) (has_pieces s.pieces) _ _ (λ e. tt) (λ e. completed_within text None _ (kept_piece (whole location) s h))
+  located_within text location s h = if_both (OutcomeWithin setup.limits text) (has_pieces s.pieces) _ _ (λ e. tt) (λ e. completed_within text None _ (kept_piece (whole location) s h))
 
   judged_within : (text : Text) (s : Store) → Kept s → OutcomeWithin setup.limits text (finish_by setup s Plain)
-  judged_within text s h = choose_both (OutcomeWithin setup.limits text) (has_pieces s.pieces) _ _ (λ e. tt) (λ e. value_within text s s.values (omega arith) h)
+  judged_within text s h = if_both (OutcomeWithin setup.limits text) (has_pieces s.pieces) _ _ (λ e. tt) (λ e. value_within text s s.values (omega arith) h)
 
   free_within : (text : Text) (s : Store) → Kept s → OutcomeWithin setup.limits text (finish_by setup s Nothing)
-  free_within text s h = choose_both (OutcomeWithin setup.limits text) (has_pieces s.pieces) _ _ (λ e. h.pieces) (λ e. value_within text s s.values (omega arith) h)
+  free_within text s h = if_both (OutcomeWithin setup.limits text) (has_pieces s.pieces) _ _ (λ e. h.pieces) (λ e. value_within text s s.values (omega arith) h)
 
   finish_within : (text : Text) (s : Store) (last : Last) → Kept s → OutcomeWithin setup.limits text (finish_by setup s last)
   finish_within text s (Located location) h = located_within text location s h

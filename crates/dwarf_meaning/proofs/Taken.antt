@@ -9,7 +9,7 @@ use Rattle.dwarf_meaning.specs.Acts.{Use, PushesAnswer, Calls, FaultUse, WrongKi
 use Rattle.dwarf_meaning.specs.Stores.{Setup, address_bits, Store, Last, Nothing, Plain, Pieced, Pushed, Called, Located, push_value, push_caller, Next, Goes, RequestNext, FaultNext}
 use Rattle.dwarf_meaning.specs.Run.{Position, End, CompleteEnd, RequestEnd, FaultEnd, Course, only_end, add_request, Continues, return_to_caller, after_push, enter_callee, run_callee, after_answer, with_input, await_answer, after_operation, read, can_count, counted, do_operation, turn_counted, turn_located, turn_by, turn, out_of_turns, run_for, enough, run}
 use Rattle.dwarf_meaning.specs.RunLaws.{Took, EndTook}
-use Rattle.dwarf_meaning.proofs.Choices.{choose_both}
+use Rattle.dwarf_meaning.proofs.Choices.{if_both}
 
 abbrev Taking : List Input → Course → Type 0
 Taking inputs course = EndTook inputs course.requests course.end
@@ -101,7 +101,7 @@ module _ (go : Continues) (takes : Takes go) where
 
   takes_counts : (setup : Setup) (text : Text) (place depth : ℕ) (s : Store) (inputs : List Input) → Taking inputs (turn_counted go setup text place depth s inputs)
   takes_counts setup text place depth s inputs =
-      choose_both (Taking inputs) (can_count s) _ _ (λ can. takes_does setup text depth (counted s) inputs (read setup text place)) (λ e. omega arith)
+      if_both (Taking inputs) (can_count s) _ _ (λ can. takes_does setup text depth (counted s) inputs (read setup text place)) (λ e. omega arith)
 
   takes_held : (setup : Setup) (text : Text) (depth : ℕ) (location : Location) (s : Store) (inputs : List Input) (r : Result (Operation × List ℕ) Fault) → Taking inputs (turn_located go setup text depth location s inputs r)
   takes_held setup text depth location s inputs (Ok x) = takes_led setup text depth _ inputs _
@@ -117,7 +117,7 @@ module _ (go : Continues) (takes : Takes go) where
 
   takes_turn : (setup : Setup) → Takes (turn go setup)
   takes_turn setup text place depth s inputs =
-      choose_both (Taking inputs) (place == length text.bytes) _ _
+      if_both (Taking inputs) (place == length text.bytes) _ _
       (λ e. record { taken = []; split = refl; one_each = refl })
       (λ e. takes_by setup text place depth s inputs s.last)
 

@@ -1,5 +1,5 @@
 -- Enough turns are enough: a run is one turn, and then a run again.
-use Rattle.std.proofs.Common.{ℕ, zero, suc, ◌≡◌, ◌+◌, ◌-◌, ◌*◌, ◌≤◌, ◌<◌, Bool, true, false, List, [], ◌∷◌, length, Result, Ok, Err, arith, ap, ◌∙◌, sym, refl, subst, ◌==◌}
+use Rattle.std.proofs.Common.{ℕ, zero, suc, ◌≡◌, ◌+◌, ◌-◌, ◌*◌, ◌≤◌, ◌<◌, Bool, true, false, List, [], ◌∷◌, length, Result, Ok, Err, arith, ap, ◌∙◌, sym, refl, subst, ◌==◌, cond}
 use Rattle.std.proofs.lemmas.Bool.Decides.{nat_tests}
 use Rattle.dwarf_base.specs.Faults.{Fault}
 use Rattle.dwarf_base.specs.declared.errors.Error.TheVariants.{TooManyIterations}
@@ -7,11 +7,11 @@ use Rattle.dwarf_base.specs.Reads.{Text}
 use Rattle.dwarf_meaning.specs.Operations.{Operation}
 use Rattle.dwarf_meaning.specs.Locations.{Location}
 use Rattle.dwarf_meaning.specs.Requests.{Request, Waiting, Input}
-use Rattle.dwarf_meaning.specs.Acts.{choose, Use, PushesAnswer, Calls, FaultUse, WrongKind, use_of}
+use Rattle.dwarf_meaning.specs.Acts.{Use, PushesAnswer, Calls, FaultUse, WrongKind, use_of, act}
 use Rattle.dwarf_meaning.specs.Stores.{Setup, address_bits, Store, Last, Nothing, Plain, Pieced, Pushed, Called, Located, Next, Goes, RequestNext, FaultNext}
 use Rattle.dwarf_meaning.specs.Run.{Position, End, CompleteEnd, RequestEnd, FaultEnd, Course, only_end, add_to_path, add_request, append_course, Continues, return_to_caller, after_push, enter_callee, run_callee, after_answer, with_input, await_answer, after_operation, read, most, can_count, counted, do_operation, turn_counted, piece_ended_by, turn_located, turn_by, turn, out_of_turns, run_for, enough, run}
 use Rattle.dwarf_meaning.specs.RunLaws.{waits_of, turns_left}
-use Rattle.dwarf_meaning.proofs.Choices.{choose_false, choose_both}
+use Rattle.dwarf_meaning.proofs.Choices.{if_false, if_both}
 use Rattle.dwarf_meaning.proofs.Counts.{OnStore, OnNext, Tally, tally_of, HasTally, OnPiece, tally-push_value, tally-push_caller, tally-done, both-holds}
 
 waits_little : (last : Last) → waits_of last ≤ 1
@@ -89,12 +89,12 @@ module _ (go : Continues) (lowers : Lowers go) where
   lowers_led setup text depth place inputs n (FaultNext fault) h = tt
 
   lowers_does : (setup : Setup) (text : Text) (depth : ℕ) (s : Store) (inputs : List Input) (r : Result (Operation × List ℕ) Fault) → EndsWithin (room_at s.count) (do_operation go setup text depth s inputs r).end
-  lowers_does setup text depth s inputs (Ok x) = lowers_led setup text depth _ inputs (tally_of s) _ (tally-done setup _ _ _ s)
+  lowers_does setup text depth s inputs (Ok x) = lowers_led setup text depth _ inputs (tally_of s) _ (tally-done setup (length text.bytes - length x.1) (length text.bytes) (act (address_bits setup) s.object_address x.0 s.values) s)
   lowers_does setup text depth s inputs (Err fault) = tt
 
   lowers_counts : (setup : Setup) (text : Text) (place depth : ℕ) (s : Store) (inputs : List Input) → EndsWithin (turns_left s) (turn_counted go setup text place depth s inputs).end
   lowers_counts setup text place depth s inputs =
-      choose_both (λ (c : Course). EndsWithin (turns_left s) c.end) (can_count s) _ _
+      if_both (λ (c : Course). EndsWithin (turns_left s) c.end) (can_count s) _ _
       (λ can. let below = below_most s can in ends_more (room_at (s.count + 1)) (turns_left s) _ (omega arith) (lowers_does setup text depth (counted s) inputs (read setup text place)))
       (λ e. tt)
 
@@ -121,7 +121,7 @@ module _ (go : Continues) (lowers : Lowers go) where
 
   pub lowers_turn : (setup : Setup) → Lowers (turn go setup)
   lowers_turn setup text place depth s inputs =
-      choose_both (λ (c : Course). EndsWithin (turns_left s) c.end) (place == length text.bytes) _ _ (λ e. omega arith) (λ e. lowers_by setup text place depth s inputs s.last refl)
+      if_both (λ (c : Course). EndsWithin (turns_left s) c.end) (place == length text.bytes) _ _ (λ e. omega arith) (λ e. lowers_by setup text place depth s inputs s.last refl)
 
 pub lowers_run : (turns : ℕ) (setup : Setup) → Lowers (run_for turns setup)
 unfolding run_for
@@ -173,19 +173,19 @@ module _ (go other : Continues) (m : ℕ) (alike : Alike m go other) (lowers : L
   alike_led setup text depth place inputs n (FaultNext fault) h i = refl
 
   alike_does : (setup : Setup) (text : Text) (depth : ℕ) (s : Store) (inputs : List Input) (r : Result (Operation × List ℕ) Fault) → room_at s.count ≤ m → do_operation go setup text depth s inputs r ≡ do_operation other setup text depth s inputs r
-  alike_does setup text depth s inputs (Ok x) i = alike_led setup text depth _ inputs (tally_of s) _ (tally-done setup _ _ _ s) i
+  alike_does setup text depth s inputs (Ok x) i = alike_led setup text depth _ inputs (tally_of s) _ (tally-done setup (length text.bytes - length x.1) (length text.bytes) (act (address_bits setup) s.object_address x.0 s.values) s) i
   alike_does setup text depth s inputs (Err fault) i = refl
 
   alike_counts : (setup : Setup) (text : Text) (place depth : ℕ) (s : Store) (inputs : List Input) → turns_left s ≤ suc m → turn_counted go setup text place depth s inputs ≡ turn_counted other setup text place depth s inputs
   alike_counts setup text place depth s inputs h =
       alike_by_test (can_count s) refl
     where
-      alike_by_test : (b : Bool) → can_count s ≡ b → choose b (add_to_path (record { text = text; place = place }) (do_operation go setup text depth (counted s) inputs (read setup text place))) (only_end (FaultEnd TooManyIterations)) ≡ choose b (add_to_path (record { text = text; place = place }) (do_operation other setup text depth (counted s) inputs (read setup text place))) (only_end (FaultEnd TooManyIterations))
+      alike_by_test : (b : Bool) → can_count s ≡ b → cond b (add_to_path (record { text = text; place = place }) (do_operation go setup text depth (counted s) inputs (read setup text place))) (only_end (FaultEnd TooManyIterations)) ≡ cond b (add_to_path (record { text = text; place = place }) (do_operation other setup text depth (counted s) inputs (read setup text place))) (only_end (FaultEnd TooManyIterations))
       alike_by_test true e =
           let below = below_most s e in
-          ap (λ (c : Course). choose true (add_to_path (record { text = text; place = place }) c) (only_end (FaultEnd TooManyIterations)))
+          ap (add_to_path (record { text = text; place = place }))
           (alike_does setup text depth (counted s) inputs (read setup text place) (omega arith))
-      alike_by_test false e = choose_false false _ _ refl ∙ sym (choose_false false _ _ refl)
+      alike_by_test false e = refl
 
   alike_piece : (setup : Setup) (text : Text) (depth place : ℕ) (inputs : List Input) (n : Tally) (next : Next) → OnPiece n next → 2 * (most - n.count) ≤ m → after_operation go setup text depth place inputs next ≡ after_operation other setup text depth place inputs next
   alike_piece setup text depth place inputs n (Goes to s) h i =
@@ -209,14 +209,14 @@ module _ (go other : Continues) (m : ℕ) (alike : Alike m go other) (lowers : L
 
   pub alike_turn : (setup : Setup) (text : Text) (place depth : ℕ) (s : Store) (inputs : List Input) → turns_left s ≤ suc m → turn go setup text place depth s inputs ≡ turn other setup text place depth s inputs
   alike_turn setup text place depth s inputs h =
-      ap (choose (place == length text.bytes) (only_end (CompleteEnd s inputs))) (alike_by setup text place depth s inputs s.last refl h)
+      ap (cond (place == length text.bytes) (only_end (CompleteEnd s inputs))) (alike_by setup text place depth s inputs s.last refl h)
 
 -- if no turn is left the runs are over, however they would go on
 module _ (go other : Continues) where
   counted_out_of_turns : (setup : Setup) (text : Text) (place depth : ℕ) (s : Store) (inputs : List Input) → turns_left s ≤ 0 → turn_counted go setup text place depth s inputs ≡ turn_counted other setup text place depth s inputs
   counted_out_of_turns setup text place depth s inputs h =
       let no : can_count s ≡ false = grind (arith, nat_tests) in
-      choose_false (can_count s) _ _ no ∙ sym (choose_false (can_count s) _ _ no)
+      if_false (can_count s) _ _ no ∙ sym (if_false (can_count s) _ _ no)
 
   turn_by_out_of_turns : (setup : Setup) (text : Text) (place depth : ℕ) (s : Store) (inputs : List Input) (last : Last) → waits_of s.last ≡ waits_of last → turns_left s ≤ 0 → turn_by go setup text place depth s inputs last ≡ turn_by other setup text place depth s inputs last
   turn_by_out_of_turns setup text place depth s inputs (Located location) e h = absurd (omega (arith, e, h))
@@ -228,7 +228,7 @@ module _ (go other : Continues) where
 
   turn_out_of_turns : (setup : Setup) (text : Text) (place depth : ℕ) (s : Store) (inputs : List Input) → turns_left s ≤ 0 → turn go setup text place depth s inputs ≡ turn other setup text place depth s inputs
   turn_out_of_turns setup text place depth s inputs h =
-      ap (choose (place == length text.bytes) (only_end (CompleteEnd s inputs))) (turn_by_out_of_turns setup text place depth s inputs s.last refl h)
+      ap (cond (place == length text.bytes) (only_end (CompleteEnd s inputs))) (turn_by_out_of_turns setup text place depth s inputs s.last refl h)
 
 -- two numbers of turns that are enough give one course
 pub run_for-enough : (n m : ℕ) (setup : Setup) (text : Text) (place depth : ℕ) (s : Store) (inputs : List Input) → turns_left s ≤ n → turns_left s ≤ m → run_for n setup text place depth s inputs ≡ run_for m setup text place depth s inputs

@@ -1,5 +1,5 @@
 -- What each operation does with the stack, apart from the lists' limits (DWARF 5, sections 2.5.1 and 2.6.1).
-use Rattle.std.specs.Prelude.{ℕ, ◌*◌, ℤ, ◌==◌, pos, ◌+ℤ◌, Bool, true, false, List, [], ◌∷◌, Option, Some, None, Result, Ok, Err, nat_lt, slice_get}
+use Rattle.std.specs.Prelude.{ℕ, ◌*◌, ℤ, ◌==◌, pos, ◌+ℤ◌, true, false, List, [], ◌∷◌, Option, Some, None, Result, Ok, Err, nat_lt, slice_get, if◌then◌else◌}
 use Rattle.dwarf_base.specs.declared.errors.Error.{Error}
 use Rattle.dwarf_base.specs.Faults.{Fault, fault_of}
 use Rattle.dwarf_base.specs.declared.errors.Error.TheVariants.{NotEnoughStackItems, InvalidDerefSize, InvalidPushObjectAddress, UnsupportedEvaluation}
@@ -28,11 +28,6 @@ pub data Act : Type 0 where
   FaultAct : (fault : Fault) → Act
 
 -- ---- words for the tables below
-
--- the first if the test holds, else the second
-unfoldable pub choose : {A : Type 0} → Bool → A → A → A
-choose true first second = first
-choose false first second = second
 
 -- the top of a stack and what is below it, or `none` of an empty one
 unfoldable pub on_top : {A : Type 0} → List Value → A → (Value → List Value → A) → A
@@ -75,82 +70,79 @@ binary call values =
 -- ---- operations that are done at once, and those that ask
 
 -- An address has `bits` bits, and `object` is the address of the object that is described, if one is known.
-unfoldable pub act : (bits : ℕ) (object : Option ℕ) → Operation → List Value → Act
-act bits object operation.Drop values = on_top values short (λ x rest. Pushes rest [])
-act bits object (operation.Pick index) values = on_some (slice_get values index) short (push values)
-act bits object operation.Swap (y ∷ x ∷ rest) = Pushes rest (y ∷ x ∷ [])
-act bits object operation.Swap _ = short
-act bits object operation.Rot (z ∷ y ∷ x ∷ rest) = Pushes rest (z ∷ x ∷ y ∷ [])
-act bits object operation.Rot _ = short
-act bits object operation.Abs values = unary (abs_of bits) values
-act bits object operation.Neg values = unary (neg_of bits) values
-act bits object operation.Not values = unary (not_of bits) values
-act bits object operation.Plus values = binary (add_of bits) values
-act bits object operation.Minus values = binary (sub_of bits) values
-act bits object operation.Mul values = binary (mul_of bits) values
-act bits object operation.Div values = binary (div_of bits) values
-act bits object operation.Mod values = binary (rem_of bits) values
-act bits object operation.And values = binary (and_of bits) values
-act bits object operation.Or values = binary (or_of bits) values
-act bits object operation.Xor values = binary (xor_of bits) values
-act bits object operation.Shl values = binary (shl_of bits) values
-act bits object operation.Shr values = binary (shr_of bits) values
-act bits object operation.Shra values = binary (shra_of bits) values
-act bits object operation.Eq values = binary (eq_of bits) values
-act bits object operation.Ge values = binary (ge_of bits) values
-act bits object operation.Gt values = binary (gt_of bits) values
-act bits object operation.Le values = binary (le_of bits) values
-act bits object operation.Lt values = binary (lt_of bits) values
-act bits object operation.Ne values = binary (ne_of bits) values
-act bits object (operation.PlusConstant value) values =
-    unary (λ x. add_of bits x (from_u64_of (type_of x) value)) values
-act bits object (operation.UnsignedConstant value) values = push values (Generic value)
-act bits object (operation.SignedConstant value) values = push values (Generic (residue 64 value))
-act bits object operation.PushObjectAddress values =
-    on_some object (FaultAct InvalidPushObjectAddress) (λ address. push values (Generic address))
-act bits object (operation.Bra target) values =
-    on_top values short (λ x rest. choose (to_u64_of bits x == 0) (Pushes rest []) (Branches rest target))
-act bits object (operation.Skip target) values = Branches values target
-act bits object operation.Nop values = Pushes values []
-act bits object (operation.VariableValue offset) values = FaultAct UnsupportedEvaluation
-act bits object operation.Uninitialized values = FaultAct UnsupportedEvaluation
-act bits object (operation.Deref base_type size false) values =
-    choose (nat_lt bits (8 * size)) (FaultAct (InvalidDerefSize size))
-    (on_top values short (λ x rest. RequestAct rest (RequiresMemory (to_u64_of bits x) size None base_type) Memory))
-act bits object (operation.Deref base_type size true) values =
-    choose (nat_lt bits (8 * size)) (FaultAct (InvalidDerefSize size))
-    (on_top values short (λ x below. on_top below short
-    (λ y rest. RequestAct rest (RequiresMemory (to_u64_of bits x) size (Some (to_u64_of bits y)) base_type)
-    Memory)))
-act bits object (operation.RegisterOffset register offset base_type) values =
-    RequestAct values (RequiresRegister register base_type) (Register offset)
-act bits object (operation.FrameOffset offset) values = RequestAct values RequiresFrameBase (FrameBase offset)
-act bits object operation.TLS values =
-    on_top values short (λ x rest. RequestAct rest (RequiresTls (to_u64_of bits x)) Tls)
-act bits object operation.CallFrameCFA values = RequestAct values RequiresCallFrameCfa CallFrameCfa
-act bits object (operation.Call offset) values = RequestAct values (RequiresAtLocation offset) AtLocation
-act bits object (operation.EntryValue expression) values = RequestAct values (RequiresEntryValue expression) EntryValue
-act bits object (operation.ParameterRef offset) values = RequestAct values (RequiresParameterRef offset) ParameterRef
-act bits object (operation.Address address) values =
-    RequestAct values (RequiresRelocatedAddress address) RelocatedAddress
-act bits object (operation.AddressIndex index) values =
-    RequestAct values (RequiresIndexedAddress index true) IndexedAddress
-act bits object (operation.ConstantIndex index) values =
-    RequestAct values (RequiresIndexedAddress index false) IndexedAddress
-act bits object (operation.TypedLiteral base_type value) values =
-    RequestAct values (RequiresBaseType base_type) (TypedLiteral value)
-act bits object (operation.Convert base_type) values = RequestAct values (RequiresBaseType base_type) Convert
-act bits object (operation.Reinterpret base_type) values = RequestAct values (RequiresBaseType base_type) Reinterpret
-act bits object (operation.WasmLocal index) values = RequestAct values (RequiresWasmLocal index) WasmValue
-act bits object (operation.WasmGlobal index) values = RequestAct values (RequiresWasmGlobal index) WasmValue
-act bits object (operation.WasmStack index) values = RequestAct values (RequiresWasmStack index) WasmValue
-act bits object (operation.Register register) values = Locates values (InRegister register)
-act bits object (operation.ImplicitValue bytes) values = Locates values (HoldsBytes bytes)
-act bits object operation.StackValue values = on_top values short (λ x rest. Locates rest (HoldsValue x))
-act bits object (operation.ImplicitPointer value byte_offset) values = Locates values (PointsInto value byte_offset)
-act bits object (operation.Piece size_in_bits bit_offset) values =
-    on_top values (EndsPiece [] (sized size_in_bits bit_offset Empty))
-    (λ x rest. EndsPiece rest (sized size_in_bits bit_offset (AtAddress (to_u64_of bits x))))
+module _ (bits : ℕ) (object : Option ℕ) where
+  -- what an operation does with the values on the stack
+  unfoldable pub act : Operation → List Value → Act
+  act operation.Drop values = on_top values short (λ x rest. Pushes rest [])
+  act (operation.Pick index) values = on_some (slice_get values index) short (push values)
+  act operation.Swap (y ∷ x ∷ rest) = Pushes rest (y ∷ x ∷ [])
+  act operation.Swap _ = short
+  act operation.Rot (z ∷ y ∷ x ∷ rest) = Pushes rest (z ∷ x ∷ y ∷ [])
+  act operation.Rot _ = short
+  act operation.Abs values = unary (abs_of bits) values
+  act operation.Neg values = unary (neg_of bits) values
+  act operation.Not values = unary (not_of bits) values
+  act operation.Plus values = binary (add_of bits) values
+  act operation.Minus values = binary (sub_of bits) values
+  act operation.Mul values = binary (mul_of bits) values
+  act operation.Div values = binary (div_of bits) values
+  act operation.Mod values = binary (rem_of bits) values
+  act operation.And values = binary (and_of bits) values
+  act operation.Or values = binary (or_of bits) values
+  act operation.Xor values = binary (xor_of bits) values
+  act operation.Shl values = binary (shl_of bits) values
+  act operation.Shr values = binary (shr_of bits) values
+  act operation.Shra values = binary (shra_of bits) values
+  act operation.Eq values = binary (eq_of bits) values
+  act operation.Ge values = binary (ge_of bits) values
+  act operation.Gt values = binary (gt_of bits) values
+  act operation.Le values = binary (le_of bits) values
+  act operation.Lt values = binary (lt_of bits) values
+  act operation.Ne values = binary (ne_of bits) values
+  act (operation.PlusConstant value) values = unary (λ x. add_of bits x (from_u64_of (type_of x) value)) values
+  act (operation.UnsignedConstant value) values = push values (Generic value)
+  act (operation.SignedConstant value) values = push values (Generic (residue 64 value))
+  act operation.PushObjectAddress values =
+      on_some object (FaultAct InvalidPushObjectAddress) (λ address. push values (Generic address))
+  act (operation.Bra target) values =
+      on_top values short (λ x rest. if to_u64_of bits x == 0 then Pushes rest [] else Branches rest target)
+  act (operation.Skip target) values = Branches values target
+  act operation.Nop values = Pushes values []
+  act (operation.VariableValue offset) values = FaultAct UnsupportedEvaluation
+  act operation.Uninitialized values = FaultAct UnsupportedEvaluation
+  act (operation.Deref base_type size false) values =
+      if nat_lt bits (8 * size) then FaultAct (InvalidDerefSize size)
+      else on_top values short (λ x rest.
+      RequestAct rest (RequiresMemory (to_u64_of bits x) size None base_type) Memory)
+  act (operation.Deref base_type size true) values =
+      if nat_lt bits (8 * size) then FaultAct (InvalidDerefSize size)
+      else on_top values short (λ x below. on_top below short (λ y rest.
+      RequestAct rest (RequiresMemory (to_u64_of bits x) size (Some (to_u64_of bits y)) base_type) Memory))
+  act (operation.RegisterOffset register offset base_type) values =
+      RequestAct values (RequiresRegister register base_type) (Register offset)
+  act (operation.FrameOffset offset) values = RequestAct values RequiresFrameBase (FrameBase offset)
+  act operation.TLS values = on_top values short (λ x rest. RequestAct rest (RequiresTls (to_u64_of bits x)) Tls)
+  act operation.CallFrameCFA values = RequestAct values RequiresCallFrameCfa CallFrameCfa
+  act (operation.Call offset) values = RequestAct values (RequiresAtLocation offset) AtLocation
+  act (operation.EntryValue expression) values = RequestAct values (RequiresEntryValue expression) EntryValue
+  act (operation.ParameterRef offset) values = RequestAct values (RequiresParameterRef offset) ParameterRef
+  act (operation.Address address) values = RequestAct values (RequiresRelocatedAddress address) RelocatedAddress
+  act (operation.AddressIndex index) values = RequestAct values (RequiresIndexedAddress index true) IndexedAddress
+  act (operation.ConstantIndex index) values = RequestAct values (RequiresIndexedAddress index false) IndexedAddress
+  act (operation.TypedLiteral base_type value) values =
+      RequestAct values (RequiresBaseType base_type) (TypedLiteral value)
+  act (operation.Convert base_type) values = RequestAct values (RequiresBaseType base_type) Convert
+  act (operation.Reinterpret base_type) values = RequestAct values (RequiresBaseType base_type) Reinterpret
+  act (operation.WasmLocal index) values = RequestAct values (RequiresWasmLocal index) WasmValue
+  act (operation.WasmGlobal index) values = RequestAct values (RequiresWasmGlobal index) WasmValue
+  act (operation.WasmStack index) values = RequestAct values (RequiresWasmStack index) WasmValue
+  act (operation.Register register) values = Locates values (InRegister register)
+  act (operation.ImplicitValue bytes) values = Locates values (HoldsBytes bytes)
+  act operation.StackValue values = on_top values short (λ x rest. Locates rest (HoldsValue x))
+  act (operation.ImplicitPointer value byte_offset) values = Locates values (PointsInto value byte_offset)
+  act (operation.Piece size_in_bits bit_offset) values =
+      on_top values (EndsPiece [] (sized size_in_bits bit_offset Empty))
+      (λ x rest. EndsPiece rest (sized size_in_bits bit_offset (AtAddress (to_u64_of bits x))))
 
 -- ---- what is done with an answer
 
@@ -164,28 +156,27 @@ pub data Use : Type 0 where
   -- the answer isn't of the kind that is waited for
   WrongKind : Use
 
--- What an answer is used for, by what waits for it; the values are those on the stack. An answer of another kind isn't
--- used.
-unfoldable pub use_of : (bits : ℕ) → Waiting → Answer → List Value → Use
-use_of bits Memory (MemoryAnswer value) values = PushesAnswer values value
-use_of bits (Register offset) (RegisterAnswer x) values =
-    on_result (result_of (add_of bits x (from_u64_of (type_of x) (residue 64 offset)))) FaultUse (PushesAnswer values)
-use_of bits WasmValue (WasmAnswer value) values = PushesAnswer values value
-use_of bits EntryValue (EntryAnswer value) values = PushesAnswer values value
-use_of bits (FrameBase offset) (FrameBaseAnswer number) values =
-    PushesAnswer values (Generic (residue 64 (pos number +ℤ offset)))
-use_of bits Tls (TlsAnswer number) values = PushesAnswer values (Generic number)
-use_of bits CallFrameCfa (CfaAnswer number) values = PushesAnswer values (Generic number)
-use_of bits ParameterRef (ParameterAnswer number) values = PushesAnswer values (Generic number)
-use_of bits RelocatedAddress (RelocatedAnswer number) values = PushesAnswer values (Generic number)
-use_of bits IndexedAddress (IndexedAnswer number) values = PushesAnswer values (Generic number)
-use_of bits AtLocation (LocationAnswer text) values = Calls text
-use_of bits (TypedLiteral literal) (BaseTypeAnswer value_type) values =
-    on_result (parse_of value_type literal.is_big literal.bytes) FaultUse (PushesAnswer values)
-use_of bits Convert (BaseTypeAnswer value_type) values =
-    on_top values (FaultUse NotEnoughStackItems)
-    (λ x rest. on_result (result_of (convert_of bits value_type x)) FaultUse (PushesAnswer rest))
-use_of bits Reinterpret (BaseTypeAnswer value_type) values =
-    on_top values (FaultUse NotEnoughStackItems)
-    (λ x rest. on_result (result_of (reinterpret_of bits value_type x)) FaultUse (PushesAnswer rest))
-use_of bits _ _ values = WrongKind
+module _ (bits : ℕ) where
+  -- What an answer is used for, by what waits for it; the values are those on the stack. An answer of another kind
+  -- isn't used.
+  unfoldable pub use_of : Waiting → Answer → List Value → Use
+  use_of Memory (MemoryAnswer value) values = PushesAnswer values value
+  use_of (Register offset) (RegisterAnswer x) values =
+      on_result (result_of (add_of bits x (from_u64_of (type_of x) (residue 64 offset)))) FaultUse (PushesAnswer values)
+  use_of WasmValue (WasmAnswer value) values = PushesAnswer values value
+  use_of EntryValue (EntryAnswer value) values = PushesAnswer values value
+  use_of (FrameBase offset) (FrameBaseAnswer number) values =
+      PushesAnswer values (Generic (residue 64 (pos number +ℤ offset)))
+  use_of Tls (TlsAnswer number) values = PushesAnswer values (Generic number)
+  use_of CallFrameCfa (CfaAnswer number) values = PushesAnswer values (Generic number)
+  use_of ParameterRef (ParameterAnswer number) values = PushesAnswer values (Generic number)
+  use_of RelocatedAddress (RelocatedAnswer number) values = PushesAnswer values (Generic number)
+  use_of IndexedAddress (IndexedAnswer number) values = PushesAnswer values (Generic number)
+  use_of AtLocation (LocationAnswer text) values = Calls text
+  use_of (TypedLiteral literal) (BaseTypeAnswer value_type) values =
+      on_result (parse_of value_type literal.is_big literal.bytes) FaultUse (PushesAnswer values)
+  use_of Convert (BaseTypeAnswer value_type) values = on_top values (FaultUse NotEnoughStackItems)
+      (λ x rest. on_result (result_of (convert_of bits value_type x)) FaultUse (PushesAnswer rest))
+  use_of Reinterpret (BaseTypeAnswer value_type) values = on_top values (FaultUse NotEnoughStackItems)
+      (λ x rest. on_result (result_of (reinterpret_of bits value_type x)) FaultUse (PushesAnswer rest))
+  use_of _ _ values = WrongKind

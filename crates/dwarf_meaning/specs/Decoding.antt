@@ -14,27 +14,25 @@ number_at big (InBytes size) bytes = fixed_at big size bytes
 number_at big (InAddress size) bytes = address_at big size bytes
 number_at big InLeb128 bytes = uleb_at bytes
 
--- an unsigned operand
-abbrev pub unsigned_at : Context → Form → List ℕ → Result (ℕ × List ℕ) Fault
-unsigned_at context form bytes =
-    number_at context.is_big (layout_of context.encoding form) bytes
-    >>= λ number. operand_value context.offset_bits form number.0 >>= λ value. Ok (value, number.1)
-
 -- a signed operand
 abbrev pub integer_at : (big : Bool) → SignedForm → List ℕ → Result (ℤ × List ℕ) Fault
 integer_at big (SignedFixed size) bytes = signed_at big size bytes
 integer_at big SignedLeb128 bytes = sleb_at bytes
 
--- a row's operands, in order, and what they make
-abbrev pub operands_at : Context → Row → List ℕ → Result (Operation × List ℕ) Fault
-operands_at context (Makes op) bytes = Ok (op, bytes)
-operands_at context (Unsigned form next) bytes =
-    unsigned_at context form bytes >>= λ x. operands_at context (next x.0) x.1
-operands_at context (Signed form next) bytes =
-    integer_at context.is_big form bytes >>= λ x. operands_at context (next x.0) x.1
-operands_at context (Block size next) bytes =
-    split_at size bytes >>= λ x. operands_at context (next (block_of context x.0)) x.1
-operands_at context (Invalid opcode) bytes = Err (invalid_expression opcode)
+module _ (context : Context) where
+  -- an unsigned operand
+  abbrev pub unsigned_at : Form → List ℕ → Result (ℕ × List ℕ) Fault
+  unsigned_at form bytes =
+      number_at context.is_big (layout_of context.encoding form) bytes
+      >>= λ number. operand_value context.offset_bits form number.0 >>= λ value. Ok (value, number.1)
+
+  -- a row's operands, in order, and what they make
+  abbrev pub operands_at : Row → List ℕ → Result (Operation × List ℕ) Fault
+  operands_at (Makes op) bytes = Ok (op, bytes)
+  operands_at (Unsigned form next) bytes = unsigned_at form bytes >>= λ x. operands_at (next x.0) x.1
+  operands_at (Signed form next) bytes = integer_at context.is_big form bytes >>= λ x. operands_at (next x.0) x.1
+  operands_at (Block size next) bytes = split_at size bytes >>= λ x. operands_at (next (block_of context x.0)) x.1
+  operands_at (Invalid opcode) bytes = Err (invalid_expression opcode)
 
 -- an opcode and the operands of its row
 unfoldable pub operation_at : Encoding → (offset_bits : ℕ) → Text → Result (Operation × List ℕ) Fault

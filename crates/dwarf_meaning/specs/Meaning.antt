@@ -1,6 +1,6 @@
 -- The meaning of an expression, for the settings and the answers of its caller (DWARF 5, sections 2.5, 2.6.1.1 and
 -- 2.6.1.2).
-use Rattle.std.specs.Prelude.{Bool, true, false, ℕ, List, [], ◌∷◌, Option, Some, None, Result, Ok, Err}
+use Rattle.std.specs.Prelude.{Bool, true, false, ℕ, List, [], ◌∷◌, Option, Some, None, Result, Ok, Err, if◌then◌else◌}
 use Rattle.dwarf_base.specs.Faults.{Fault}
 use Rattle.dwarf_base.specs.declared.errors.Error.TheVariants.{InvalidPiece, NotEnoughStackItems}
 use Rattle.dwarf_base.specs.Reads.{Text}
@@ -9,7 +9,7 @@ use Rattle.dwarf_value.specs.declared.types.Value.TheVariants.{Generic}
 use Rattle.dwarf_value.specs.Values.{to_u64_of}
 use Rattle.dwarf_meaning.specs.Locations.{Location, AtAddress, Piece}
 use Rattle.dwarf_meaning.specs.Requests.{Request, Input}
-use Rattle.dwarf_meaning.specs.Acts.{choose, on_top}
+use Rattle.dwarf_meaning.specs.Acts.{on_top}
 use Rattle.dwarf_meaning.specs.Stores.{Setup, address_bits, Store, Last, Nothing, Plain, Pushed, Located, push_value, push_piece}
 use Rattle.dwarf_meaning.specs.Run.{Position, End, CompleteEnd, RequestEnd, FaultEnd, Course, after_push, run}
 use Rattle.dwarf_meaning.specs.Refusals.{Refusal}
@@ -37,24 +37,24 @@ has_pieces (piece ∷ pieces) = true
 abbrev pub whole : Location → Piece
 whole location = record { size_in_bits = None; bit_offset = None; location = location }
 
--- the top is the value, and the address of the whole variable
-abbrev pub finish_value : Setup → Store → Outcome
-finish_value setup s =
-    on_top s.values (FaultOutcome NotEnoughStackItems)
-    (λ x rest. completion_of (Some x) (push_piece setup (whole (AtAddress (to_u64_of (address_bits setup) x)))
-    (record s { values = rest })))
+module _ (setup : Setup) where
+  -- the top is the value, and the address of the whole variable
+  abbrev pub finish_value : Store → Outcome
+  finish_value s =
+      on_top s.values (FaultOutcome NotEnoughStackItems) (λ x rest. completion_of (Some x)
+      (push_piece setup (whole (AtAddress (to_u64_of (address_bits setup) x))) (record s { values = rest })))
 
--- the end, by the last operation: a location is the whole variable; neither it nor a value may follow pieces
-abbrev pub finish_by : Setup → Store → Last → Outcome
-finish_by setup s (Located location) =
-    choose (has_pieces s.pieces) (FaultOutcome InvalidPiece) (completion_of None (push_piece setup (whole location) s))
-finish_by setup s Plain = choose (has_pieces s.pieces) (FaultOutcome InvalidPiece) (finish_value setup s)
-finish_by setup s Pushed = choose (has_pieces s.pieces) (FaultOutcome InvalidPiece) (finish_value setup s)
-finish_by setup s _ = choose (has_pieces s.pieces) (CompleteOutcome s.pieces None) (finish_value setup s)
+  -- the end, by the last operation: a location is the whole variable; neither it nor a value may follow pieces
+  abbrev pub finish_by : Store → Last → Outcome
+  finish_by s (Located location) = if has_pieces s.pieces then FaultOutcome InvalidPiece
+      else completion_of None (push_piece setup (whole location) s)
+  finish_by s Plain = if has_pieces s.pieces then FaultOutcome InvalidPiece else finish_value s
+  finish_by s Pushed = if has_pieces s.pieces then FaultOutcome InvalidPiece else finish_value s
+  finish_by s _ = if has_pieces s.pieces then CompleteOutcome s.pieces None else finish_value s
 
--- the end of the outermost text
-abbrev pub finish : Setup → Store → Outcome
-finish setup s = finish_by setup s s.last
+  -- the end of the outermost text
+  abbrev pub finish : Store → Outcome
+  finish s = finish_by s s.last
 
 -- ---- the whole
 
@@ -72,16 +72,15 @@ pub record First : Type 0 where
 
 -- what is kept at the start: nothing but the settings
 abbrev pub fresh : First → Refusal → Store
-fresh first refusal =
-    record {
-      values = [];
-      pieces = [];
-      count = 0;
-      object_address = first.object_address;
-      maximum = first.maximum;
-      last = Nothing;
-      refusal = refusal;
-    }
+fresh first refusal = record {
+  values = [];
+  pieces = [];
+  count = 0;
+  last = Nothing;
+  refusal = refusal;
+  object_address = first.object_address;
+  maximum = first.maximum;
+}
 
 -- the initial value is pushed, if there is one
 abbrev pub with_initial : Setup → Option ℕ → Store → Result Store Fault

@@ -1,5 +1,5 @@
 -- The table of opcodes (DWARF 5, section 7.7.1, and the extensions of GNU and WebAssembly).
-use Rattle.std.specs.Prelude.{ℕ, ◌-◌, ◌*◌, ◌==◌, ◌&&◌, nat_le, ℤ, pos, true, false, List, [], ◌∷◌, Some, None, if◌then◌else◌}
+use Rattle.std.specs.Prelude.{ℕ, ◌-◌, ◌*◌, ◌==◌, ◌&&◌, ◌||◌, nat_le, Bool, ℤ, pos, true, false, List, [], ◌∷◌, Some, None, if◌then◌else◌}
 use Rattle.dwarf_base.specs.declared.common.Encoding.{Encoding}
 use Rattle.dwarf_base.specs.Reads.{Text}
 use Rattle.dwarf_meaning.specs.Operations as operation
@@ -43,19 +43,22 @@ wasm_row kind =
     else (if kind == 3 then unsigned (Fixed 4) operation.WasmGlobal
     else Invalid 0xed)))
 
--- opcodes from one to another, and the row of the one that is this far after the first
+-- some opcodes, and the row of each
 pub record Line : Type 0 where
-  pub from : ℕ
-  pub to : ℕ
-  pub row : ℕ → Row
+  pub has : (opcode : ℕ) → Bool
+  pub row : (opcode : ℕ) → Row
 
 -- a single opcode
 abbrev pub one : (opcode : ℕ) → Row → Line
-one opcode row = record { from = opcode; to = opcode; row = λ distance. row }
+one opcode row = record { has = λ n. n == opcode; row = λ n. row }
 
--- opcodes that differ by a number
+-- the standard's opcode, and the one of GNU's extension that came before it
+abbrev pub both : (standard gnu : ℕ) → Row → Line
+both standard gnu row = record { has = λ n. n == standard || n == gnu; row = λ n. row }
+
+-- opcodes from one to another, which differ by a number
 abbrev pub range : (from to : ℕ) → (ℕ → Row) → Line
-range from to row = record { from = from; to = to; row = row }
+range from to row = record { has = λ n. nat_le from n && nat_le n to; row = λ n. row (n - from) }
 
 -- the whole table
 abbrev pub lines : Encoding → List Line
@@ -107,8 +110,7 @@ lines encoding =
     ∷ range 0x70 0x8f (λ number. signed SignedLeb128 (λ offset. operation.RegisterOffset number offset 0))
     ∷ one 0x90 (unsigned RegisterNumber operation.Register)
     ∷ one 0x91 (signed SignedLeb128 operation.FrameOffset)
-    ∷ one 0x92 (unsigned_signed RegisterNumber SignedLeb128
-    (λ register offset. operation.RegisterOffset register offset 0))
+    ∷ one 0x92 (unsigned_signed RegisterNumber SignedLeb128 (λ number offset. operation.RegisterOffset number offset 0))
     ∷ one 0x93 (unsigned PieceSize (λ size. operation.Piece (8 * size) None))
     ∷ one 0x94 (unsigned (Fixed 1) (λ size. operation.Deref 0 size false))
     ∷ one 0x95 (unsigned (Fixed 1) (λ size. operation.Deref 0 size true))
@@ -117,44 +119,31 @@ lines encoding =
     ∷ one 0x98 (unsigned (Fixed 2) (λ offset. operation.Call (UnitRef offset)))
     ∷ one 0x99 (unsigned (Fixed 4) (λ offset. operation.Call (UnitRef offset)))
     ∷ one 0x9a (unsigned SectionOffset (λ offset. operation.Call (DebugInfoRef offset)))
-    ∷ one 0x9b (Makes operation.TLS)
+    ∷ both 0x9b 0xe0 (Makes operation.TLS)
     ∷ one 0x9c (Makes operation.CallFrameCFA)
     ∷ one 0x9d (unsigned_two Leb128 Leb128 (λ size offset. operation.Piece size (Some offset)))
     ∷ one 0x9e (sized_block Offset operation.ImplicitValue)
     ∷ one 0x9f (Makes operation.StackValue)
-    ∷ one 0xa0 (unsigned_signed InfoReference SignedLeb128 operation.ImplicitPointer)
-    ∷ one 0xa1 (unsigned Offset operation.AddressIndex)
-    ∷ one 0xa2 (unsigned Offset operation.ConstantIndex)
-    ∷ one 0xa3 (sized_block Offset operation.EntryValue)
-    ∷ one 0xa4 (Unsigned Offset (λ base_type. sized_block (Fixed 1) (operation.TypedLiteral base_type)))
-    ∷ one 0xa5 (unsigned_two RegisterNumber Offset
-    (λ register base_type. operation.RegisterOffset register (pos 0) base_type))
-    ∷ one 0xa6 (unsigned_two (Fixed 1) Offset (λ size base_type. operation.Deref base_type size false))
+    ∷ both 0xa0 0xf2 (unsigned_signed InfoReference SignedLeb128 operation.ImplicitPointer)
+    ∷ both 0xa1 0xfb (unsigned Offset operation.AddressIndex)
+    ∷ both 0xa2 0xfc (unsigned Offset operation.ConstantIndex)
+    ∷ both 0xa3 0xf3 (sized_block Offset operation.EntryValue)
+    ∷ both 0xa4 0xf4 (Unsigned Offset (λ base_type. sized_block (Fixed 1) (operation.TypedLiteral base_type)))
+    ∷ both 0xa5 0xf5 (unsigned_two RegisterNumber Offset (λ number type. operation.RegisterOffset number (pos 0) type))
+    ∷ both 0xa6 0xf6 (unsigned_two (Fixed 1) Offset (λ size base_type. operation.Deref base_type size false))
     ∷ one 0xa7 (unsigned_two (Fixed 1) Offset (λ size base_type. operation.Deref base_type size true))
-    ∷ one 0xa8 (unsigned Offset operation.Convert)
-    ∷ one 0xa9 (unsigned Offset operation.Reinterpret)
-    ∷ one 0xe0 (Makes operation.TLS)
+    ∷ both 0xa8 0xf7 (unsigned Offset operation.Convert)
+    ∷ both 0xa9 0xf9 (unsigned Offset operation.Reinterpret)
     ∷ one 0xed (Unsigned (Fixed 1) wasm_row)
     ∷ one 0xf0 (Makes operation.Uninitialized)
-    ∷ one 0xf2 (unsigned_signed InfoReference SignedLeb128 operation.ImplicitPointer)
-    ∷ one 0xf3 (sized_block Offset operation.EntryValue)
-    ∷ one 0xf4 (Unsigned Offset (λ base_type. sized_block (Fixed 1) (operation.TypedLiteral base_type)))
-    ∷ one 0xf5 (unsigned_two RegisterNumber Offset
-    (λ register base_type. operation.RegisterOffset register (pos 0) base_type))
-    ∷ one 0xf6 (unsigned_two (Fixed 1) Offset (λ size base_type. operation.Deref base_type size false))
-    ∷ one 0xf7 (unsigned Offset operation.Convert)
-    ∷ one 0xf9 (unsigned Offset operation.Reinterpret)
     ∷ one 0xfa (unsigned (Fixed 4) operation.ParameterRef)
-    ∷ one 0xfb (unsigned Offset operation.AddressIndex)
-    ∷ one 0xfc (unsigned Offset operation.ConstantIndex)
     ∷ one 0xfd (unsigned SectionOffset operation.VariableValue)
     ∷ []
 
 -- the row of the line that has the opcode
 abbrev pub row_among : (opcode : ℕ) → List Line → Row
 row_among opcode [] = Invalid opcode
-row_among opcode (line ∷ more) =
-    if nat_le line.from opcode && nat_le opcode line.to then line.row (opcode - line.from) else row_among opcode more
+row_among opcode (line ∷ more) = if line.has opcode then line.row opcode else row_among opcode more
 
 -- the row of an opcode
 unfoldable pub row_of : Encoding → (opcode : ℕ) → Row

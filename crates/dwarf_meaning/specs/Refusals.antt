@@ -1,8 +1,7 @@
 -- The limits of the lists, and which push is refused without one.
-use Rattle.std.specs.Prelude.{ℕ, zero, suc, ◌≡◌, ◌⊎◌, nat_lt, Option, None, Some, Result, Ok, Err}
+use Rattle.std.specs.Prelude.{ℕ, zero, suc, ◌≡◌, ◌⊎◌, nat_lt, Option, None, Some, Result, Ok, Err, if◌then◌else◌}
 use Rattle.dwarf_base.specs.Faults.{Fault}
 use Rattle.dwarf_base.specs.declared.errors.Error.TheVariants.{StackFull}
-use Rattle.dwarf_meaning.specs.Acts.{choose}
 
 -- how many items each list holds at most, if there is such a number
 pub record Limits : Type 0 where
@@ -28,7 +27,7 @@ spent (After (suc inputs) pushes) = Ok (After (suc inputs) pushes)
 -- what is left of the refusal after a push on a list with this limit, of n items
 abbrev pub room : Option ℕ → (n : ℕ) → Refusal → Result Refusal Fault
 room None n refusal = spent refusal
-room (Some limit) n refusal = choose (nat_lt n limit) (Ok refusal) (Err StackFull)
+room (Some limit) n refusal = if nat_lt n limit then Ok refusal else Err StackFull
 
 -- the refusal before a push on a list without a limit
 abbrev pub before_push : Refusal → Refusal

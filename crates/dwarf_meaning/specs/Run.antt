@@ -1,5 +1,5 @@
 -- A run of an expression, in which a called expression is run in its call's place (DWARF 5, section 2.5).
-use Rattle.std.specs.Prelude.{Bool, ℕ, zero, suc, ◌+◌, ◌-◌, ◌*◌, List, [], ◌∷◌, ◌++◌, Option, Some, None, Result, Ok, Err, length, drop, nat_lt, ◌&&◌, ◌==◌}
+use Rattle.std.specs.Prelude.{Bool, ℕ, zero, suc, ◌+◌, ◌-◌, ◌*◌, List, [], ◌∷◌, ◌++◌, Option, Some, None, Result, Ok, Err, length, drop, nat_lt, ◌&&◌, ◌==◌, if◌then◌else◌}
 use Rattle.dwarf_base.specs.Faults.{Fault}
 use Rattle.dwarf_base.specs.declared.errors.Error.TheVariants.{InvalidExpressionTerminator, TooManyIterations}
 use Rattle.dwarf_base.specs.Reads.{Text}
@@ -8,7 +8,7 @@ use Rattle.dwarf_meaning.specs.Operations.{Operation}
 use Rattle.dwarf_meaning.specs.Locations.{Location, sized}
 use Rattle.dwarf_meaning.specs.Decoding.{operation_at}
 use Rattle.dwarf_meaning.specs.Requests.{Request, Waiting, Input}
-use Rattle.dwarf_meaning.specs.Acts.{choose, act, Use, PushesAnswer, Calls, FaultUse, WrongKind, use_of}
+use Rattle.dwarf_meaning.specs.Acts.{act, Use, PushesAnswer, Calls, FaultUse, WrongKind, use_of}
 use Rattle.dwarf_meaning.specs.Stores.{Setup, address_bits, Store, Last, Pieced, Pushed, Called, Located, push_value, push_piece, push_caller, Next, Goes, RequestNext, FaultNext, goes, done}
 use Rattle.dwarf_meaning.specs.Refusals.{taken}
 
@@ -85,91 +85,88 @@ end_located setup location place s (Some piece) =
 end_located setup location place s None = FaultNext (InvalidExpressionTerminator (place - 1))
 
 module _ (go : Continues) where
-  -- the caller's rest, after its callee's course
-  abbrev pub return_to_caller : Position → (depth : ℕ) → Course → End → Course
-  return_to_caller position depth course (CompleteEnd s inputs) =
-      append_course course (go position.text position.place depth s inputs)
-  return_to_caller position depth course (RequestEnd request positions inputs) =
-      record course { end = RequestEnd request (positions ++ position ∷ []) inputs }
-  return_to_caller position depth course (FaultEnd fault) = record course { end = FaultEnd fault }
+  module _ (position : Position) (depth : ℕ) where
+    -- the caller's rest, after its callee's course
+    abbrev pub return_to_caller : Course → End → Course
+    return_to_caller course (CompleteEnd s inputs) = append_course course
+        (go position.text position.place depth s inputs)
+    return_to_caller course (RequestEnd request positions inputs) =
+        record course { end = RequestEnd request (positions ++ position ∷ []) inputs }
+    return_to_caller course (FaultEnd fault) = record course { end = FaultEnd fault }
 
-  -- on from a position, if the push found room
-  abbrev pub after_push : Position → (depth : ℕ) → List Input → Result Store Fault → Course
-  after_push position depth inputs (Ok s) = go position.text position.place depth s inputs
-  after_push position depth inputs (Err fault) = only_end (FaultEnd fault)
+    -- on from the position, if the push found room
+    abbrev pub after_push : List Input → Result Store Fault → Course
+    after_push inputs (Ok s) = go position.text position.place depth s inputs
+    after_push inputs (Err fault) = only_end (FaultEnd fault)
 
-  -- a callee is run from its beginning, if its caller found room, and then the caller's rest
-  abbrev pub enter_callee : Position → (depth : ℕ) → Text → List Input → Result Store Fault → Course
-  enter_callee position depth callee inputs (Ok s) =
-      let course = go callee 0 (suc depth) s inputs in return_to_caller position depth course course.end
-  enter_callee position depth callee inputs (Err fault) = only_end (FaultEnd fault)
+    -- a callee is run from its beginning, if its caller found room, and then the caller's rest
+    abbrev pub enter_callee : Text → List Input → Result Store Fault → Course
+    enter_callee callee inputs (Ok s) =
+        let course = go callee 0 (suc depth) s inputs in return_to_caller course course.end
+    enter_callee callee inputs (Err fault) = only_end (FaultEnd fault)
 
   module _ (setup : Setup) where
-    -- a call goes on at once if it was answered by no bytes
-    abbrev pub run_callee : Position → (depth : ℕ) → Text → List ℕ → Store → List Input → Course
-    run_callee position depth callee [] s inputs =
-        go position.text position.place depth (record s { last = Called }) inputs
-    run_callee position depth callee (byte ∷ bytes) s inputs =
-        enter_callee position depth callee inputs (push_caller setup depth s)
+    module _ (position : Position) (depth : ℕ) where
+      -- a call goes on at once if it was answered by no bytes
+      abbrev pub run_callee : Text → List ℕ → Store → List Input → Course
+      run_callee callee [] s inputs = go position.text position.place depth (record s { last = Called }) inputs
+      run_callee callee (byte ∷ bytes) s inputs = enter_callee position depth callee inputs (push_caller setup depth s)
 
-    -- what an answer is used for
-    abbrev pub after_answer : Position → (depth : ℕ) → Use → Store → List Input → Course → Course
-    after_answer position depth (PushesAnswer rest value) s inputs unanswered =
-        after_push position depth inputs (push_value setup value (record s { values = rest; last = Pushed }))
-    after_answer position depth (Calls callee) s inputs unanswered =
-        run_callee position depth callee callee.bytes s inputs
-    after_answer position depth (FaultUse fault) s inputs unanswered = only_end (FaultEnd fault)
-    after_answer position depth WrongKind s inputs unanswered = unanswered
+      -- what an answer is used for
+      abbrev pub after_answer : Use → Store → List Input → Course → Course
+      after_answer (PushesAnswer rest value) s inputs unanswered =
+          after_push position depth inputs (push_value setup value (record s { values = rest; last = Pushed }))
+      after_answer (Calls callee) s inputs unanswered = run_callee callee callee.bytes s inputs
+      after_answer (FaultUse fault) s inputs unanswered = only_end (FaultEnd fault)
+      after_answer WrongKind s inputs unanswered = unanswered
 
-    -- a request takes the next input; it stays open if there is none, or none of its kind
-    abbrev pub await_answer : Position → (depth : ℕ) → Request → Waiting → Store → List Input → Course
-    await_answer position depth request waiting s [] = only_end (RequestEnd request (position ∷ []) [])
-    await_answer position depth request waiting s (input ∷ inputs) =
-        after_answer position depth (use_of (address_bits setup) waiting input.answer s.values) (with_input input s)
-        inputs (only_end (RequestEnd request (position ∷ []) (input ∷ inputs)))
+      -- a request takes the next input; it stays open if there is none, or none of its kind
+      abbrev pub await_answer : Request → Waiting → Store → List Input → Course
+      await_answer request waiting s [] = only_end (RequestEnd request (position ∷ []) [])
+      await_answer request waiting s (input ∷ inputs) =
+          after_answer (use_of (address_bits setup) waiting input.answer s.values) (with_input input s) inputs
+          (only_end (RequestEnd request (position ∷ []) (input ∷ inputs)))
 
-    -- on at the place that an operation led to, or by the answer to its request
-    abbrev pub after_operation : Text → (depth place : ℕ) → List Input → Next → Course
-    after_operation text depth place inputs (Goes to s) = go text to depth s inputs
-    after_operation text depth place inputs (RequestNext request waiting s) =
-        add_request request (await_answer (record { text = text; place = place }) depth request waiting s inputs)
-    after_operation text depth place inputs (FaultNext fault) = only_end (FaultEnd fault)
+    module _ (text : Text) where
+      -- on at the place that an operation led to, or by the answer to its request
+      abbrev pub after_operation : (depth place : ℕ) → List Input → Next → Course
+      after_operation depth place inputs (Goes to s) = go text to depth s inputs
+      after_operation depth place inputs (RequestNext request waiting s) =
+          add_request request (await_answer (record { text = text; place = place }) depth request waiting s inputs)
+      after_operation depth place inputs (FaultNext fault) = only_end (FaultEnd fault)
 
-    -- the operation that was read is done
-    abbrev pub do_operation : Text → (depth : ℕ) → Store → List Input → Result (Operation × List ℕ) Fault → Course
-    do_operation text depth s inputs (Ok x) =
-        let place = length text.bytes - length x.1 in
-        after_operation text depth place inputs
-        (done setup place (length text.bytes) (act (address_bits setup) s.object_address x.0 s.values) s)
-    do_operation text depth s inputs (Err fault) = only_end (FaultEnd fault)
+      -- the operation that was read is done
+      abbrev pub do_operation : (depth : ℕ) → Store → List Input → Result (Operation × List ℕ) Fault → Course
+      do_operation depth s inputs (Ok x) =
+          let place = length text.bytes - length x.1 in
+          after_operation depth place inputs
+          (done setup place (length text.bytes) (act (address_bits setup) s.object_address x.0 s.values) s)
+      do_operation depth s inputs (Err fault) = only_end (FaultEnd fault)
 
-    -- one more operation is counted, and done
-    abbrev pub turn_counted : Text → (place depth : ℕ) → Store → List Input → Course
-    turn_counted text place depth s inputs =
-        choose (can_count s)
-        (add_to_path (record { text = text; place = place })
-        (do_operation text depth (counted s) inputs (read setup text place)))
-        (only_end (FaultEnd TooManyIterations))
+      -- one more operation is counted, and done
+      abbrev pub turn_counted : (place depth : ℕ) → Store → List Input → Course
+      turn_counted place depth s inputs =
+          if can_count s
+          then add_to_path (record { text = text; place = place })
+          (do_operation depth (counted s) inputs (read setup text place))
+          else only_end (FaultEnd TooManyIterations)
 
-    -- the operation that was read ends the location's piece, and isn't counted
-    abbrev pub turn_located : Text → (depth : ℕ) → Location → Store → List Input
-        → Result (Operation × List ℕ) Fault → Course
-    turn_located text depth location s inputs (Ok x) =
-        let place = length text.bytes - length x.1 in
-        after_operation text depth place inputs (end_located setup location place s (piece_ended_by x.0))
-    turn_located text depth location s inputs (Err fault) = only_end (FaultEnd fault)
+      -- the operation that was read ends the location's piece, and isn't counted
+      abbrev pub turn_located : (depth : ℕ) → Location → Store → List Input → Result (Operation × List ℕ) Fault → Course
+      turn_located depth location s inputs (Ok x) =
+          let place = length text.bytes - length x.1 in
+          after_operation depth place inputs (end_located setup location place s (piece_ended_by x.0))
+      turn_located depth location s inputs (Err fault) = only_end (FaultEnd fault)
 
-    -- a turn by the last operation: after a location, or one that is counted
-    abbrev pub turn_by : Text → (place depth : ℕ) → Store → List Input → Last → Course
-    turn_by text place depth s inputs (Located location) =
-        turn_located text depth location s inputs (read setup text place)
-    turn_by text place depth s inputs _ = turn_counted text place depth s inputs
+      -- a turn by the last operation: after a location, or one that is counted
+      abbrev pub turn_by : (place depth : ℕ) → Store → List Input → Last → Course
+      turn_by place depth s inputs (Located location) = turn_located depth location s inputs (read setup text place)
+      turn_by place depth s inputs _ = turn_counted place depth s inputs
 
-    -- the next operation, or the end of the text
-    abbrev pub turn : Continues
-    turn text place depth s inputs =
-        choose (place == length text.bytes) (only_end (CompleteEnd s inputs))
-        (turn_by text place depth s inputs s.last)
+      -- the next operation, or the end of the text
+      abbrev pub turn : (place depth : ℕ) → Store → List Input → Course
+      turn place depth s inputs =
+          if place == length text.bytes then only_end (CompleteEnd s inputs) else turn_by place depth s inputs s.last
 
 -- no turn is left
 abbrev pub out_of_turns : Continues

@@ -1,6 +1,6 @@
 -- What a run keeps beside texts and places, and the rule by which its lists take one more item (DWARF 5, sections
 -- 2.5.1, 2.5.1.5 and 2.6.1.2).
-use Rattle.std.specs.Prelude.{ℕ, ◌*◌, ◌≤◌, ℤ, pos, ◌+ℤ◌, List, [], ◌∷◌, ◌++◌, Option, Some, None, Result, Ok, Err, length, nat_lt}
+use Rattle.std.specs.Prelude.{ℕ, ◌*◌, ◌≤◌, ℤ, pos, ◌+ℤ◌, List, [], ◌∷◌, ◌++◌, Option, Some, None, Result, Ok, Err, length, nat_lt, if◌then◌else◌}
 use Rattle.dwarf_base.specs.declared.common.Encoding.{Encoding}
 use Rattle.dwarf_base.specs.Faults.{Fault, ◌>>=◌}
 use Rattle.dwarf_base.specs.declared.errors.Error.TheVariants.{BadBranchTarget}
@@ -8,7 +8,7 @@ use Rattle.dwarf_base.specs.Numbers.{residue}
 use Rattle.dwarf_value.specs.declared.types.Value.{Value}
 use Rattle.dwarf_meaning.specs.Locations.{Location, Piece}
 use Rattle.dwarf_meaning.specs.Requests.{Request, Waiting}
-use Rattle.dwarf_meaning.specs.Acts.{choose, Act, Pushes, Branches, Locates, EndsPiece, RequestAct, FaultAct}
+use Rattle.dwarf_meaning.specs.Acts.{Act, Pushes, Branches, Locates, EndsPiece, RequestAct, FaultAct}
 use Rattle.dwarf_meaning.specs.Refusals.{Limits, Refusal, room}
 
 -- no more than the limit, if there is one
@@ -24,12 +24,11 @@ pub record Setup : Type 0 where
 
 -- the setup: an encoding, the bits of an offset, and a limit for each list
 abbrev pub setup_of : Encoding → ℕ → Option ℕ → Option ℕ → Option ℕ → Setup
-setup_of encoding offset_bits values callers pieces =
-    record {
-      encoding = encoding;
-      offset_bits = offset_bits;
-      limits = record { values = values; callers = callers; pieces = pieces };
-    }
+setup_of encoding offset_bits values callers pieces = record {
+  encoding = encoding;
+  offset_bits = offset_bits;
+  limits = record { values = values; callers = callers; pieces = pieces };
+}
 
 -- how many bits an address has
 abbrev pub address_bits : Setup → ℕ
@@ -64,26 +63,25 @@ pub record Store : Type 0 where
 
 -- ---- pushes
 
--- a value, on top
-unfoldable pub push_value : Setup → Value → Store → Result Store Fault
-push_value setup value s =
-    room setup.limits.values (length s.values) s.refusal
-    >>= λ left. Ok (record s { values = value ∷ s.values; refusal = left })
+module _ (setup : Setup) where
+  -- a value, on top
+  unfoldable pub push_value : Value → Store → Result Store Fault
+  push_value value s = room setup.limits.values (length s.values) s.refusal
+      >>= λ left. Ok (record s { values = value ∷ s.values; refusal = left })
 
--- a piece, after the others
-unfoldable pub push_piece : Setup → Piece → Store → Result Store Fault
-push_piece setup piece s =
-    room setup.limits.pieces (length s.pieces) s.refusal
-    >>= λ left. Ok (record s { pieces = s.pieces ++ piece ∷ []; refusal = left })
+  -- a piece, after the others
+  unfoldable pub push_piece : Piece → Store → Result Store Fault
+  push_piece piece s = room setup.limits.pieces (length s.pieces) s.refusal
+      >>= λ left. Ok (record s { pieces = s.pieces ++ piece ∷ []; refusal = left })
 
--- a caller, if `depth` callers wait
-unfoldable pub push_caller : Setup → (depth : ℕ) → Store → Result Store Fault
-push_caller setup depth s = room setup.limits.callers depth s.refusal >>= λ left. Ok (record s { refusal = left })
+  -- a caller, if `depth` callers wait
+  unfoldable pub push_caller : (depth : ℕ) → Store → Result Store Fault
+  push_caller depth s = room setup.limits.callers depth s.refusal >>= λ left. Ok (record s { refusal = left })
 
--- values in order, the last on top
-abbrev pub push_values : Setup → List Value → Store → Result Store Fault
-push_values setup [] s = Ok s
-push_values setup (value ∷ values) s = push_value setup value s >>= push_values setup values
+  -- values in order, the last on top
+  abbrev pub push_values : List Value → Store → Result Store Fault
+  push_values [] s = Ok s
+  push_values (value ∷ values) s = push_value value s >>= push_values values
 
 -- ---- operations
 
@@ -104,16 +102,15 @@ branch_target setup place target = residue setup.offset_bits (pos place +ℤ tar
 
 -- a place of a text of this length, or its end
 abbrev pub branch : (len place : ℕ) → Store → Next
-branch len place s = choose (nat_lt len place) (FaultNext (BadBranchTarget place)) (Goes place s)
+branch len place s = if nat_lt len place then FaultNext (BadBranchTarget place) else Goes place s
 
--- What an operation does to what is kept; `place` is the one after it, in a text of length `len`.
-abbrev pub done : Setup → (place len : ℕ) → Act → Store → Next
-done setup place len (Pushes rest pushed) s =
-    goes place (push_values setup pushed (record s { values = rest; last = Plain }))
-done setup place len (Branches rest target) s =
-    branch len (branch_target setup place target) (record s { values = rest; last = Plain })
-done setup place len (Locates rest location) s = Goes place (record s { values = rest; last = Located location })
-done setup place len (EndsPiece rest piece) s =
-    goes place (push_piece setup piece (record s { values = rest; last = Pieced }))
-done setup place len (RequestAct rest request waiting) s = RequestNext request waiting (record s { values = rest })
-done setup place len (FaultAct fault) s = FaultNext fault
+module _ (setup : Setup) (place len : ℕ) where
+  -- What an operation does to what is kept; `place` is the one after it, in a text of length `len`.
+  abbrev pub done : Act → Store → Next
+  done (Pushes rest pushed) s = goes place (push_values setup pushed (record s { values = rest; last = Plain }))
+  done (Branches rest target) s =
+      branch len (branch_target setup place target) (record s { values = rest; last = Plain })
+  done (Locates rest location) s = Goes place (record s { values = rest; last = Located location })
+  done (EndsPiece rest piece) s = goes place (push_piece setup piece (record s { values = rest; last = Pieced }))
+  done (RequestAct rest request waiting) s = RequestNext request waiting (record s { values = rest })
+  done (FaultAct fault) s = FaultNext fault

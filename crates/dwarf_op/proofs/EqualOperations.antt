@@ -151,10 +151,10 @@ further (Fs ∷ Fss) view n lines (inl x) = let here = lines.0.there x in omega 
 further (Fs ∷ Fss) view n lines (inr c) =
     let above = further Fss (λ d. view (inr d)) (suc n) lines.1 c in omega (arith, above)
 
--- a variant is seen apart from all that are further on
-apart : (Fs : List Field) (Fss : List (List Field)) (view : Choice (Fs ∷ Fss) → meaning.Operation) (n : ℕ)
+-- a variant is seen as another than all that are further on
+distinct : (Fs : List Field) (Fss : List (List Field)) (view : Choice (Fs ∷ Fss) → meaning.Operation) (n : ℕ)
     → Lines (Fs ∷ Fss) view n → (x : Values Fs) (c : Choice Fss) → place (view (inl x)) ≡ place (view (inr c)) → ⊥
-apart Fs Fss view n lines x c equal =
+distinct Fs Fss view n lines x c equal =
     let here = lines.0.there x in
     let above = further Fss (λ d. view (inr d)) (suc n) lines.1 c in omega (arith, here, above, equal)
 
@@ -163,8 +163,8 @@ equal_choices : (Fss : List (List Field)) (view : Choice Fss → meaning.Operati
     → IsTrue (by false false Fss (tests Fss view n lines) c d) ↔ (view c ≡ view d)
 equal_choices [] view n lines c d = absurd c
 equal_choices (Fs ∷ Fss) view n lines (inl x) (inl y) = lines.0.decides x y
-equal_choices (Fs ∷ Fss) view n lines (inl x) (inr d) = never (λ e. apart Fs Fss view n lines x d (ap place e))
-equal_choices (Fs ∷ Fss) view n lines (inr c) (inl y) = never (λ e. apart Fs Fss view n lines y c (ap place (sym e)))
+equal_choices (Fs ∷ Fss) view n lines (inl x) (inr d) = never (λ e. distinct Fs Fss view n lines x d (ap place e))
+equal_choices (Fs ∷ Fss) view n lines (inr c) (inl y) = never (λ e. distinct Fs Fss view n lines y c (ap place (sym e)))
 equal_choices (Fs ∷ Fss) view n lines (inr c) (inr d) = equal_choices Fss (λ e. view (inr e)) (suc n) lines.1 c d
 
 module _ (O : RattleType) (o : partial_eq.Ghosts O.Denot) (p : Dict)

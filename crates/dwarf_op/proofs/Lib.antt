@@ -2,3 +2,4 @@ mod EqualOperations
 pub mod OneByte
 pub mod Rows
 pub mod ShortLeb
+pub mod Blocks

@@ -16,81 +16,79 @@ abbrev pub reference_of : {O : Type 0} → (O → ℕ) → DieReference O → me
 reference_of number (reference.UnitRef offset) = meaning.UnitRef (number offset.0)
 reference_of number (reference.DebugInfoRef offset) = meaning.DebugInfoRef (number offset.0)
 
--- an operation of the code, as the definitions have it
-abbrev pub operation_of : {R O P : Type 0} → (R → Text) → (O → ℕ) → Operation R O P → meaning.Operation
-operation_of text number (operation.Deref size base_type space) = meaning.Deref (number base_type.0) size space
-operation_of text number operation.Drop = meaning.Drop
-operation_of text number (operation.Pick index) = meaning.Pick index
-operation_of text number operation.Swap = meaning.Swap
-operation_of text number operation.Rot = meaning.Rot
-operation_of text number operation.Abs = meaning.Abs
-operation_of text number operation.And = meaning.And
-operation_of text number operation.Div = meaning.Div
-operation_of text number operation.Minus = meaning.Minus
-operation_of text number operation.Mod = meaning.Mod
-operation_of text number operation.Mul = meaning.Mul
-operation_of text number operation.Neg = meaning.Neg
-operation_of text number operation.Not = meaning.Not
-operation_of text number operation.Or = meaning.Or
-operation_of text number operation.Plus = meaning.Plus
-operation_of text number (operation.PlusConstant value) = meaning.PlusConstant value
-operation_of text number operation.Shl = meaning.Shl
-operation_of text number operation.Shr = meaning.Shr
-operation_of text number operation.Shra = meaning.Shra
-operation_of text number operation.Xor = meaning.Xor
-operation_of text number (operation.Bra target) = meaning.Bra target
-operation_of text number operation.Eq = meaning.Eq
-operation_of text number operation.Ge = meaning.Ge
-operation_of text number operation.Gt = meaning.Gt
-operation_of text number operation.Le = meaning.Le
-operation_of text number operation.Lt = meaning.Lt
-operation_of text number operation.Ne = meaning.Ne
-operation_of text number (operation.Skip target) = meaning.Skip target
-operation_of text number (operation.UnsignedConstant value) = meaning.UnsignedConstant value
-operation_of text number (operation.SignedConstant value) = meaning.SignedConstant value
-operation_of text number (operation.Register register) = meaning.Register register.0
-operation_of text number (operation.RegisterOffset register offset base_type) =
-    meaning.RegisterOffset register.0 offset (number base_type.0)
-operation_of text number (operation.FrameOffset offset) = meaning.FrameOffset offset
-operation_of text number operation.Nop = meaning.Nop
-operation_of text number operation.PushObjectAddress = meaning.PushObjectAddress
-operation_of text number (operation.Call offset) = meaning.Call (reference_of number offset)
-operation_of text number operation.TLS = meaning.TLS
-operation_of text number operation.CallFrameCFA = meaning.CallFrameCFA
-operation_of text number (operation.Piece size_in_bits bit_offset) = meaning.Piece size_in_bits bit_offset
-operation_of text number (operation.ImplicitValue bytes) = meaning.ImplicitValue (text bytes)
-operation_of text number operation.StackValue = meaning.StackValue
-operation_of text number (operation.ImplicitPointer value byte_offset) =
-    meaning.ImplicitPointer (number value.0) byte_offset
-operation_of text number (operation.EntryValue expression) = meaning.EntryValue (text expression)
-operation_of text number (operation.ParameterRef offset) = meaning.ParameterRef (number offset.0)
-operation_of text number (operation.Address address) = meaning.Address address
-operation_of text number (operation.AddressIndex index) = meaning.AddressIndex (number index.0)
-operation_of text number (operation.ConstantIndex index) = meaning.ConstantIndex (number index.0)
-operation_of text number (operation.TypedLiteral base_type value) =
-    meaning.TypedLiteral (number base_type.0) (text value)
-operation_of text number (operation.Convert base_type) = meaning.Convert (number base_type.0)
-operation_of text number (operation.Reinterpret base_type) = meaning.Reinterpret (number base_type.0)
-operation_of text number operation.Uninitialized = meaning.Uninitialized
-operation_of text number (operation.WasmLocal index) = meaning.WasmLocal index
-operation_of text number (operation.WasmGlobal index) = meaning.WasmGlobal index
-operation_of text number (operation.WasmStack index) = meaning.WasmStack index
-operation_of text number (operation.VariableValue offset) = meaning.VariableValue (number offset.0)
+module _ {R O P : Type 0} (text : R → Text) (number : O → ℕ) where
+  -- an operation of the code, as the definitions have it
+  abbrev pub operation_of : Operation R O P → meaning.Operation
+  operation_of (operation.Deref size base_type space) = meaning.Deref (number base_type.0) size space
+  operation_of operation.Drop = meaning.Drop
+  operation_of (operation.Pick index) = meaning.Pick index
+  operation_of operation.Swap = meaning.Swap
+  operation_of operation.Rot = meaning.Rot
+  operation_of operation.Abs = meaning.Abs
+  operation_of operation.And = meaning.And
+  operation_of operation.Div = meaning.Div
+  operation_of operation.Minus = meaning.Minus
+  operation_of operation.Mod = meaning.Mod
+  operation_of operation.Mul = meaning.Mul
+  operation_of operation.Neg = meaning.Neg
+  operation_of operation.Not = meaning.Not
+  operation_of operation.Or = meaning.Or
+  operation_of operation.Plus = meaning.Plus
+  operation_of (operation.PlusConstant value) = meaning.PlusConstant value
+  operation_of operation.Shl = meaning.Shl
+  operation_of operation.Shr = meaning.Shr
+  operation_of operation.Shra = meaning.Shra
+  operation_of operation.Xor = meaning.Xor
+  operation_of (operation.Bra target) = meaning.Bra target
+  operation_of operation.Eq = meaning.Eq
+  operation_of operation.Ge = meaning.Ge
+  operation_of operation.Gt = meaning.Gt
+  operation_of operation.Le = meaning.Le
+  operation_of operation.Lt = meaning.Lt
+  operation_of operation.Ne = meaning.Ne
+  operation_of (operation.Skip target) = meaning.Skip target
+  operation_of (operation.UnsignedConstant value) = meaning.UnsignedConstant value
+  operation_of (operation.SignedConstant value) = meaning.SignedConstant value
+  operation_of (operation.Register register) = meaning.Register register.0
+  operation_of (operation.RegisterOffset register offset base_type) =
+      meaning.RegisterOffset register.0 offset (number base_type.0)
+  operation_of (operation.FrameOffset offset) = meaning.FrameOffset offset
+  operation_of operation.Nop = meaning.Nop
+  operation_of operation.PushObjectAddress = meaning.PushObjectAddress
+  operation_of (operation.Call offset) = meaning.Call (reference_of number offset)
+  operation_of operation.TLS = meaning.TLS
+  operation_of operation.CallFrameCFA = meaning.CallFrameCFA
+  operation_of (operation.Piece size_in_bits bit_offset) = meaning.Piece size_in_bits bit_offset
+  operation_of (operation.ImplicitValue bytes) = meaning.ImplicitValue (text bytes)
+  operation_of operation.StackValue = meaning.StackValue
+  operation_of (operation.ImplicitPointer value byte_offset) = meaning.ImplicitPointer (number value.0) byte_offset
+  operation_of (operation.EntryValue expression) = meaning.EntryValue (text expression)
+  operation_of (operation.ParameterRef offset) = meaning.ParameterRef (number offset.0)
+  operation_of (operation.Address address) = meaning.Address address
+  operation_of (operation.AddressIndex index) = meaning.AddressIndex (number index.0)
+  operation_of (operation.ConstantIndex index) = meaning.ConstantIndex (number index.0)
+  operation_of (operation.TypedLiteral base_type value) = meaning.TypedLiteral (number base_type.0) (text value)
+  operation_of (operation.Convert base_type) = meaning.Convert (number base_type.0)
+  operation_of (operation.Reinterpret base_type) = meaning.Reinterpret (number base_type.0)
+  operation_of operation.Uninitialized = meaning.Uninitialized
+  operation_of (operation.WasmLocal index) = meaning.WasmLocal index
+  operation_of (operation.WasmGlobal index) = meaning.WasmGlobal index
+  operation_of (operation.WasmStack index) = meaning.WasmStack index
+  operation_of (operation.VariableValue offset) = meaning.VariableValue (number offset.0)
 
--- a location of the code, as the definitions have it
-abbrev pub location_of : {R O P : Type 0} → (R → Text) → (O → ℕ) → Location R O P → locations.Location
-location_of text number location.Empty = locations.Empty
-location_of text number (location.Register register) = locations.InRegister register.0
-location_of text number (location.Address address) = locations.AtAddress address
-location_of text number (location.Value value) = locations.HoldsValue value
-location_of text number (location.Bytes value) = locations.HoldsBytes (text value)
-location_of text number (location.ImplicitPointer value byte_offset) = locations.PointsInto (number value.0) byte_offset
+  -- a location of the code, as the definitions have it
+  abbrev pub location_of : Location R O P → locations.Location
+  location_of location.Empty = locations.Empty
+  location_of (location.Register register) = locations.InRegister register.0
+  location_of (location.Address address) = locations.AtAddress address
+  location_of (location.Value value) = locations.HoldsValue value
+  location_of (location.Bytes value) = locations.HoldsBytes (text value)
+  location_of (location.ImplicitPointer value byte_offset) = locations.PointsInto (number value.0) byte_offset
 
--- a piece of the code, as the definitions have it
-abbrev pub piece_of : {R O P : Type 0} → (R → Text) → (O → ℕ) → Piece R O P → locations.Piece
-piece_of text number piece =
-    record {
-      size_in_bits = piece.size_in_bits;
-      bit_offset = piece.bit_offset;
-      location = location_of text number piece.location;
-    }
+  -- a piece of the code, as the definitions have it
+  abbrev pub piece_of : Piece R O P → locations.Piece
+  piece_of piece = record {
+    size_in_bits = piece.size_in_bits;
+    bit_offset = piece.bit_offset;
+    location = location_of piece.location;
+  }

@@ -257,7 +257,7 @@ fn read_offset_operation<R: Reader + Copy>(
 
 // On a copy of the reader, as what is rare.
 #[inline(always)]
-fn read_offset_apart<R: Reader + Copy>(
+fn read_offset_on_copy<R: Reader + Copy>(
     shape: Offset,
     make: FromOffset,
     bytes: &mut R,
@@ -268,9 +268,9 @@ fn read_offset_apart<R: Reader + Copy>(
         (operands_in encoding R.Offset.BITS (R.text bytes.old)
         (entry_row encoding 0 (Entry.Offset shape make))) }
 {
-    let mut apart = *bytes;
-    let operation = read_offset_operation(shape, make, &mut apart, encoding);
-    *bytes = apart;
+    let mut copy = *bytes;
+    let operation = read_offset_operation(shape, make, &mut copy, encoding);
+    *bytes = copy;
     operation
 }
 
@@ -324,7 +324,7 @@ fn read_rare_operands<R: Reader + Copy>(
 
 // On a copy of the reader, so that the reader itself needn't stand in memory; the room for the copy is made here alone.
 #[inline(always)]
-fn read_rare<R: Reader + Copy>(
+fn read_rare_on_copy<R: Reader + Copy>(
     entry: Rare,
     bytes: &mut R,
     encoding: Encoding,
@@ -333,9 +333,9 @@ fn read_rare<R: Reader + Copy>(
         (R.text bytes.old) (R.text bytes.new) result
         (operands_in encoding R.Offset.BITS (R.text bytes.old) (rare_row encoding entry)) }
 {
-    let mut apart = *bytes;
-    let operation = read_rare_operands(entry, &mut apart, encoding);
-    *bytes = apart;
+    let mut copy = *bytes;
+    let operation = read_rare_operands(entry, &mut copy, encoding);
+    *bytes = copy;
     operation
 }
 
@@ -395,8 +395,8 @@ fn read_operands<R: Reader + Copy>(
             base_type: generic_type(),
         }),
         Entry::Piece => read_piece(bytes),
-        Entry::Offset(shape, make) => read_offset_apart(shape, make, bytes, encoding),
-        Entry::Rare(entry) => read_rare(entry, bytes, encoding),
+        Entry::Offset(shape, make) => read_offset_on_copy(shape, make, bytes, encoding),
+        Entry::Rare(entry) => read_rare_on_copy(entry, bytes, encoding),
     }
 }
 

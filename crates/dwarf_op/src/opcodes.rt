@@ -165,7 +165,7 @@ pub(crate) enum Entry {
     BaseRegister(u8),
     // A size in bytes.
     Piece,
-    // What few operations have; it is read apart.
+    // What few operations have; it is read in a function of its own.
     Rare(Rare),
 }
 

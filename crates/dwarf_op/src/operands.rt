@@ -3,14 +3,12 @@
 ghost use Rattle.std.specs.Prelude.{◌≡◌, ◌<◌, pos, neg_ℤ, ◌≤ℤ◌, ◌<ℤ◌};
 ghost use Rattle.dwarf_base.specs.declared.common.Encoding.{Encoding};
 ghost use Rattle.dwarf_base.specs.Leb.{uleb_at, sleb_at, sign_extended};
-ghost use Rattle.dwarf_base.specs.Reads.{Reads, Text, fixed_at, signed_at};
+ghost use Rattle.dwarf_base.specs.Reads.{Reads, fixed_at, signed_at};
 ghost use Rattle.dwarf_meaning.specs.Operands.{context_of};
-ghost use Rattle.dwarf_meaning.specs.Operations.{Operation};
-ghost use Rattle.dwarf_meaning.specs.Opcodes.{sized_block};
 ghost use Rattle.dwarf_meaning.specs.Decoding.{unsigned_at, integer_at};
 ghost use Rattle.dwarf_op.specs.Entries.{
+  block_in,
   offset_form,
-  operands_in,
   register_at,
   signed_form,
   unsigned_form,
@@ -38,7 +36,7 @@ pub(crate) fn read_i16<R: Reader>(bytes: &mut R) -> Result<i16>
     bytes.read_i16()
 }
 
-// An unsigned LEB128 number: of one byte or two in line, on a copy of the reader; a longer one apart.
+// An unsigned LEB128 number: of one byte or two in line, on a copy of the reader; a longer one by a call.
 #[inline(always)]
 pub(crate) fn read_uleb128<R: Reader + Copy>(bytes: &mut R) -> Result<u64>
     ensures { Reads (λ n. n) (R.text bytes.old) (R.text bytes.new) result
@@ -55,7 +53,7 @@ pub(crate) fn read_uleb128<R: Reader + Copy>(bytes: &mut R) -> Result<u64>
         *bytes = rest;
         return Ok(u64::from(first % 128) + 128 * u64::from(second));
     }
-    read_uleb128_apart(bytes)
+    read_uleb128_on_copy(bytes)
 }
 
 // A signed LEB128 number, read in the same way.
@@ -75,7 +73,7 @@ pub(crate) fn read_sleb128<R: Reader + Copy>(bytes: &mut R) -> Result<i64>
         *bytes = rest;
         return Ok(i64::from(first % 128) + 128 * last_byte(second));
     }
-    read_sleb128_apart(bytes)
+    read_sleb128_on_copy(bytes)
 }
 
 // What the last byte of a signed number adds at its place: its seven bits, whose highest is the sign.
@@ -92,13 +90,13 @@ fn last_byte(byte: u8) -> i64
 // A number of three bytes or more. The copy is made in a function of its own: a function begins by setting the room of
 // all its locals to zero, and most numbers are short.
 #[inline(always)]
-fn read_uleb128_apart<R: Reader + Copy>(bytes: &mut R) -> Result<u64>
+fn read_uleb128_on_copy<R: Reader + Copy>(bytes: &mut R) -> Result<u64>
     ensures { Reads (λ n. n) (R.text bytes.old) (R.text bytes.new) result
         (uleb_at (R.text bytes.old).bytes) }
 {
-    let mut apart = *bytes;
-    let number = read_long_uleb128(&mut apart)?;
-    *bytes = apart;
+    let mut copy = *bytes;
+    let number = read_long_uleb128(&mut copy)?;
+    *bytes = copy;
     Ok(number)
 }
 
@@ -112,13 +110,13 @@ fn read_long_uleb128<R: Reader>(bytes: &mut R) -> Result<u64>
 
 // The same of a signed number.
 #[inline(always)]
-fn read_sleb128_apart<R: Reader + Copy>(bytes: &mut R) -> Result<i64>
+fn read_sleb128_on_copy<R: Reader + Copy>(bytes: &mut R) -> Result<i64>
     ensures { Reads (λ n. n) (R.text bytes.old) (R.text bytes.new) result
         (sleb_at (R.text bytes.old).bytes) }
 {
-    let mut apart = *bytes;
-    let number = read_long_sleb128(&mut apart)?;
-    *bytes = apart;
+    let mut copy = *bytes;
+    let number = read_long_sleb128(&mut copy)?;
+    *bytes = copy;
     Ok(number)
 }
 
@@ -213,10 +211,8 @@ pub(crate) fn read_block<R: Reader + Copy>(
     bytes: &mut R,
     encoding: Encoding,
 ) -> Result<R>
-    ensures { (make : Text → Operation) → Reads (λ block. make (R.text block))
-        (R.text bytes.old) (R.text bytes.new) result
-        (operands_in encoding R.Offset.BITS (R.text bytes.old)
-        (sized_block (offset_form size) make)) }
+    ensures { Reads R.text (R.text bytes.old) (R.text bytes.new) result
+        (block_in encoding R.Offset.BITS (R.text bytes.old) (offset_form size)) }
 {
     let size = read_offset(size, bytes, encoding)?;
     bytes.split(size)

@@ -1,5 +1,5 @@
 -- Each block that an evaluation gives is a block of an operation of one of its texts.
-use Rattle.std.proofs.Common.{ℕ, zero, suc, ◌==◌, subst, List, [], ◌∷◌, ◌++◌, length, Option, Some, None, Result, Ok, Err}
+use Rattle.std.proofs.Common.{ℕ, zero, suc, ◌==◌, subst, List, [], ◌∷◌, ◌++◌, length, Option, Some, None, Result, Ok, Err, nat_lt}
 use Rattle.dwarf_base.specs.Faults.{Fault}
 use Rattle.dwarf_base.specs.Reads.{Text}
 use Rattle.dwarf_value.specs.declared.types.Value.{Value}
@@ -8,11 +8,11 @@ use Rattle.dwarf_meaning.specs.Operations.{Operation}
 use Rattle.dwarf_meaning.specs.Locations.{Location, HoldsBytes, Piece}
 use Rattle.dwarf_meaning.specs.Requests.{Request, Waiting, Answer, LocationAnswer, Input}
 use Rattle.dwarf_meaning.specs.Acts.{Act, Pushes, Branches, Locates, EndsPiece, RequestAct, FaultAct, Use, PushesAnswer, Calls, FaultUse, WrongKind, use_of}
-use Rattle.dwarf_meaning.specs.Stores.{Setup, address_bits, Store, Last, Nothing, Plain, Pieced, Pushed, Called, Located, push_value, push_piece, push_caller, push_values, Next, Goes, RequestNext, FaultNext, goes, done}
+use Rattle.dwarf_meaning.specs.Stores.{Setup, address_bits, Store, Last, Nothing, Plain, Pieced, Pushed, Called, Located, push_value, push_piece, push_caller, push_values, Next, Goes, RequestNext, FaultNext, goes, done, branch_target}
 use Rattle.dwarf_meaning.specs.Run.{Position, End, CompleteEnd, RequestEnd, FaultEnd, Course, only_end, Continues, return_to_caller, after_push, enter_callee, run_callee, after_answer, with_input, await_answer, after_operation, read, can_count, counted, do_operation, turn_counted, piece_ended_by, end_located, turn_located, turn_by, turn, out_of_turns, run_for, enough}
 use Rattle.dwarf_meaning.specs.Meaning.{Outcome, RequestOutcome, FaultOutcome, CompleteOutcome, completion_of, has_pieces, whole, finish_value, finish_by, First, fresh, with_initial, outcome_of_end, meaning}
 use Rattle.dwarf_meaning.specs.Refusals.{Refusal, room}
-use Rattle.dwarf_meaning.proofs.Choices.{choose_both, top_both}
+use Rattle.dwarf_meaning.proofs.Choices.{if_both, top_both}
 use Rattle.dwarf_meaning.proofs.Counts.{OnStore, bound_store, on_bound}
 use Rattle.dwarf_meaning.proofs.Effects.{IsActOf, IsOwnPlace, locates, ends, asks, act_is, IsUseOf, use_is}
 use Rattle.dwexpr_c.specs.Operations.{block_in}
@@ -124,7 +124,7 @@ module _ (Q : List ℕ → Type 0) where
   done_holds setup place len (Pushes rest pushed) s a h =
       goes_holds place _ (values_hold setup pushed (record s { values = rest; last = Plain }) (record { pieces = h.pieces; last = tt }))
   done_holds setup place len (Branches rest target) s a h =
-      choose_both OnNext _ _ _ (λ e. tt) (λ e. record { pieces = h.pieces; last = tt })
+      if_both OnNext (nat_lt len (branch_target setup place target)) _ _ (λ e. tt) (λ e. record { pieces = h.pieces; last = tt })
   done_holds setup place len (Locates rest location) s a h = record { pieces = h.pieces; last = a }
   done_holds setup place len (EndsPiece rest piece) s a h =
       goes_holds place _ (piece_holds setup piece (record s { values = rest; last = Pieced }) (record { pieces = h.pieces; last = tt }) a)
@@ -208,7 +208,7 @@ module _ (P : Text → Type 0) (Q : List ℕ → Type 0) where
 
     counts_carries : (text : Text) (place depth : ℕ) (s : Store) (inputs : List Input) → P text → Holds Q s → OnInputs P inputs → OnEnd (turn_counted go setup text place depth s inputs).end
     counts_carries text place depth s inputs p h i =
-        choose_both (λ (c : Course). OnEnd c.end) (can_count s) _ _
+        if_both (λ (c : Course). OnEnd c.end) (can_count s) _ _
         (λ e. does_carries text depth (counted s) inputs (read setup text place) p (reads text place p) (record { pieces = h.pieces; last = h.last }) i)
         (λ e. tt)
 
@@ -227,7 +227,7 @@ module _ (P : Text → Type 0) (Q : List ℕ → Type 0) where
 
     turn_carries : Carries (turn go setup)
     turn_carries text place depth s inputs p h i =
-        choose_both (λ (c : Course). OnEnd c.end) (place == length text.bytes) _ _ (λ e. (h, i))
+        if_both (λ (c : Course). OnEnd c.end) (place == length text.bytes) _ _ (λ e. (h, i))
         (λ e. by_carries text place depth s inputs s.last p h.last h i)
 
   run_for_carries : (turns : ℕ) (setup : Setup) → Reads setup → Carries (run_for turns setup)
@@ -247,14 +247,14 @@ module _ (P : Text → Type 0) (Q : List ℕ → Type 0) where
       (λ x rest e. completed_holds (Some x) _ (piece_holds Q setup _ (record s { values = rest }) (record { pieces = h.pieces; last = h.last }) tt))
 
   judged_ends : (setup : Setup) (s : Store) → Holds Q s → OnOutcome Q (finish_by setup s Plain)
-  judged_ends setup s h = choose_both (OnOutcome Q) (has_pieces s.pieces) _ _ (λ e. tt) (λ e. value_ends setup s h)
+  judged_ends setup s h = if_both (OnOutcome Q) (has_pieces s.pieces) _ _ (λ e. tt) (λ e. value_ends setup s h)
 
   free_ends : (setup : Setup) (s : Store) → Holds Q s → OnOutcome Q (finish_by setup s Nothing)
-  free_ends setup s h = choose_both (OnOutcome Q) (has_pieces s.pieces) _ _ (λ e. h.pieces) (λ e. value_ends setup s h)
+  free_ends setup s h = if_both (OnOutcome Q) (has_pieces s.pieces) _ _ (λ e. h.pieces) (λ e. value_ends setup s h)
 
   finish_holds : (setup : Setup) (s : Store) (last : Last) → Holds Q s → OnLast Q last → OnOutcome Q (finish_by setup s last)
   finish_holds setup s (Located location) h l =
-      choose_both (OnOutcome Q) (has_pieces s.pieces) _ _ (λ e. tt) (λ e. completed_holds None _ (piece_holds Q setup (whole location) s h l))
+      if_both (OnOutcome Q) (has_pieces s.pieces) _ _ (λ e. tt) (λ e. completed_holds None _ (piece_holds Q setup (whole location) s h l))
   finish_holds setup s Plain h l = judged_ends setup s h
   finish_holds setup s Pushed h l = judged_ends setup s h
   finish_holds setup s Nothing h l = free_ends setup s h

@@ -12,13 +12,12 @@ disallowed offset code = record blank_operation { offset = offset; fault = code 
 
 -- a fault was met after this opcode
 abbrev pub faulted : (offset opcode : ℕ) → Fault → DwexprOperation
-faulted offset opcode fault =
-    record blank_operation {
-      offset = offset;
-      opcode = opcode;
-      fault = code_of_fault fault;
-      detail = number_of_fault fault;
-    }
+faulted offset opcode fault = record blank_operation {
+  offset = offset;
+  opcode = opcode;
+  fault = code_of_fault fault;
+  detail = number_of_fault fault;
+}
 
 -- a block is the last part of its operation, which ends here
 abbrev pub with_block : (end : ℕ) → Option (List ℕ) → DwexprOperation → DwexprOperation

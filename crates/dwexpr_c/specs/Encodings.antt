@@ -15,12 +15,11 @@ pub record IsEncoding (e : DwexprEncoding) : Type 0 where
 
 -- the one that they say
 abbrev pub encoding_in : DwexprEncoding → Encoding
-encoding_in e =
-    record {
-      address_size = e.address_size;
-      format = if e.offset_size == 8 then Dwarf64 else Dwarf32;
-      version = e.version;
-    }
+encoding_in e = record {
+  address_size = e.address_size;
+  format = if e.offset_size == 8 then Dwarf64 else Dwarf32;
+  version = e.version;
+}
 
 -- whether the first byte of a number is its highest
 abbrev pub is_big_in : DwexprEncoding → Bool

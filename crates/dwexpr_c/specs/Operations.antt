@@ -5,23 +5,22 @@ use Rattle.dwexpr_c.specs.declared.operations.DwexprOperation.{DwexprOperation}
 
 -- all numbers are 0
 abbrev pub blank_operation : DwexprOperation
-blank_operation =
-    record {
-      offset = 0;
-      size = 0;
-      opcode = 0;
-      kind = 0;
-      number = 0;
-      signed_number = pos 0;
-      base_type = 0;
-      register_number = 0;
-      deref_size = 0;
-      flag = 0;
-      fault = 0;
-      block_offset = 0;
-      block_length = 0;
-      detail = 0;
-    }
+blank_operation = record {
+  offset = 0;
+  size = 0;
+  opcode = 0;
+  kind = 0;
+  number = 0;
+  signed_number = pos 0;
+  base_type = 0;
+  register_number = 0;
+  deref_size = 0;
+  flag = 0;
+  fault = 0;
+  block_offset = 0;
+  block_length = 0;
+  detail = 0;
+}
 
 -- a kind alone
 abbrev pub of_kind : (kind : ℕ) → DwexprOperation

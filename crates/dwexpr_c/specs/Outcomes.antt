@@ -15,25 +15,24 @@ use Rattle.dwexpr_c.specs.declared.steps.DwexprText.{DwexprText}
 
 -- all numbers are 0: nothing was evaluated
 abbrev pub blank_outcome : DwexprOutcome
-blank_outcome =
-    record {
-      code = 0;
-      request = 0;
-      detail = 0;
-      step = 0;
-      number = 0;
-      base_type = 0;
-      space = 0;
-      register_number = 0;
-      size = 0;
-      flag = 0;
-      value_type = 0;
-      value = 0;
-      block_text = 0;
-      block_offset = 0;
-      block_length = 0;
-      pieces = 0;
-    }
+blank_outcome = record {
+  code = 0;
+  request = 0;
+  detail = 0;
+  step = 0;
+  number = 0;
+  base_type = 0;
+  space = 0;
+  register_number = 0;
+  size = 0;
+  flag = 0;
+  value_type = 0;
+  value = 0;
+  block_text = 0;
+  block_offset = 0;
+  block_length = 0;
+  pieces = 0;
+}
 
 -- a request of this code, and a number
 abbrev pub request_outcome : (request number : ℕ) → DwexprOutcome

@@ -18,23 +18,22 @@ or_zero (Some number) = number
 
 -- the kind and the sizes; all else is 0
 abbrev pub sized : (kind : ℕ) → (size_in_bits bit_offset : Option ℕ) → DwexprPiece
-sized kind size_in_bits bit_offset =
-    record {
-      kind = kind;
-      has_size = has size_in_bits;
-      size_in_bits = or_zero size_in_bits;
-      bit_offset =
-          or_zero bit_offset;
-      has_bit_offset =
-          has bit_offset;
-      value_type =
-          0;
-      number = 0;
-      byte_offset = pos 0;
-      block_text = 0;
-      block_offset = 0;
-      block_length = 0;
-    }
+sized kind size_in_bits bit_offset = record {
+  kind = kind;
+  has_size = has size_in_bits;
+  size_in_bits = or_zero size_in_bits;
+  bit_offset =
+      or_zero bit_offset;
+  has_bit_offset =
+      has bit_offset;
+  value_type =
+      0;
+  number = 0;
+  byte_offset = pos 0;
+  block_text = 0;
+  block_offset = 0;
+  block_length = 0;
+}
 
 -- the piece names the place of these bytes, and nothing else differs
 abbrev pub ShowsBytes : List DwexprText → List ℕ → (shown out : DwexprPiece) → Type 0

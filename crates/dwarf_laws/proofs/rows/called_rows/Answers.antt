@@ -6,7 +6,7 @@ use Rattle.dwarf_value.specs.Values.{type_of, bit_size_of, is_signed, is_same, w
 use Rattle.dwarf_meaning.specs.Operations.{UnitRef}
 use Rattle.dwarf_meaning.specs.Locations.{InRegister}
 use Rattle.dwarf_meaning.specs.Requests.{RequiresCallFrameCfa, CfaAnswer}
-use Rattle.dwarf_meaning.specs.Acts.{choose, on_top, on_some, on_result, result_of, act, use_of}
+use Rattle.dwarf_meaning.specs.Acts.{on_top, on_some, on_result, result_of, act, use_of}
 use Rattle.dwarf_meaning.specs.Decoding.{operation_at}
 use Rattle.dwarf_meaning.specs.Opcodes.{row_of}
 use Rattle.dwarf_meaning.specs.Stores.{push_value, push_piece, push_caller}
@@ -18,7 +18,7 @@ use Rattle.dwarf_laws.proofs.Placed.{stands_in}
 use Rattle.dwarf_laws.proofs.rows.called_rows.Goals as goal
 
 pub returns : goal.returns
-unfolding uleb_at sleb_at fixed_at type_of bit_size_of is_signed is_same word_integer integer_of value_of choose on_top on_some on_result result_of act use_of operation_at items_at row_of push_value push_piece push_caller most run_for
+unfolding uleb_at sleb_at fixed_at type_of bit_size_of is_signed is_same word_integer integer_of value_of on_top on_some on_result result_of act use_of operation_at items_at row_of push_value push_piece push_caller most run_for
 returns c = record {
   sum =
       worked (call_site (0x31 ∷ []) (0x22 ∷ []) (0x32 ∷ [])) [] []

@@ -7,7 +7,7 @@ use Rattle.dwarf_value.specs.declared.types.ValueType.TheVariants as kind
 use Rattle.dwarf_value.specs.Values.{type_of, bit_size_of, is_signed, is_same, word_integer, integer_of, value_of}
 use Rattle.dwarf_meaning.specs.Locations.{AtAddress}
 use Rattle.dwarf_meaning.specs.Requests.{RegisterAnswer, CfaAnswer, BaseTypeAnswer}
-use Rattle.dwarf_meaning.specs.Acts.{choose, on_top, on_some, on_result, result_of, act, use_of}
+use Rattle.dwarf_meaning.specs.Acts.{on_top, on_some, on_result, result_of, act, use_of}
 use Rattle.dwarf_meaning.specs.Decoding.{operation_at}
 use Rattle.dwarf_meaning.specs.Opcodes.{row_of}
 use Rattle.dwarf_meaning.specs.Stores.{push_value, push_piece, push_caller}
@@ -16,11 +16,11 @@ use Rattle.dwarf_meaning.specs.Meaning.{FaultOutcome, CompleteOutcome, whole}
 use Rattle.dwarf_meaning.specs.Rows.{text, no_limits, with_limits, plain, at_most, unset, given, calls, valued}
 use Rattle.dwarf_meaning.specs.Refusals.{Never, After}
 use Rattle.dwarf_meaning.proofs.FewTurns.{in_twenty}
-use Rattle.dwarf_laws.proofs.Apart.{agree_alike, natural}
+use Rattle.dwarf_laws.proofs.Disagreement.{agree_alike, natural}
 use Rattle.dwarf_laws.proofs.rows.premises_of_high_bits.Goals as goal
 
 pub returns : goal.returns
-unfolding uleb_at sleb_at fixed_at type_of bit_size_of is_signed is_same word_integer integer_of value_of choose on_top on_some on_result result_of act use_of operation_at row_of push_value push_piece push_caller most run_for
+unfolding uleb_at sleb_at fixed_at type_of bit_size_of is_signed is_same word_integer integer_of value_of on_top on_some on_result result_of act use_of operation_at row_of push_value push_piece push_caller most run_for
 returns c = record {
   limits_differ = record {
     one_comes = in_twenty plain Never (text (0x31 ∷ [])) unset [] (valued 1 1) (λ more. refl);

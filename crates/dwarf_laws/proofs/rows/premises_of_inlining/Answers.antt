@@ -6,7 +6,7 @@ use Rattle.dwarf_value.specs.Values.{type_of, bit_size_of, is_signed, is_same, w
 use Rattle.dwarf_meaning.specs.Operations.{UnitRef}
 use Rattle.dwarf_meaning.specs.Locations.{AtAddress}
 use Rattle.dwarf_meaning.specs.Requests.{RequiresCallFrameCfa, RequiresAtLocation, CfaAnswer, LocationAnswer}
-use Rattle.dwarf_meaning.specs.Acts.{choose, on_top, on_some, on_result, result_of, act, use_of}
+use Rattle.dwarf_meaning.specs.Acts.{on_top, on_some, on_result, result_of, act, use_of}
 use Rattle.dwarf_meaning.specs.Decoding.{operation_at}
 use Rattle.dwarf_meaning.specs.Opcodes.{row_of}
 use Rattle.dwarf_meaning.specs.Stores.{push_value, push_piece, push_caller}
@@ -15,11 +15,11 @@ use Rattle.dwarf_meaning.specs.Meaning.{RequestOutcome, FaultOutcome}
 use Rattle.dwarf_meaning.specs.Rows.{text, no_limits, with_limits, plain, at_most, unset, given, calls, open_at, word_at, valued, pieced}
 use Rattle.dwarf_meaning.specs.Refusals.{Never}
 use Rattle.dwarf_meaning.proofs.FewTurns.{in_twenty}
-use Rattle.dwarf_laws.proofs.Apart.{end_ended, number_of}
+use Rattle.dwarf_laws.proofs.Disagreement.{end_ended, number_of}
 use Rattle.dwarf_laws.proofs.rows.premises_of_inlining.Goals as goal
 
 pub returns : goal.returns
-unfolding uleb_at sleb_at fixed_at type_of bit_size_of is_signed is_same word_integer integer_of value_of choose on_top on_some on_result result_of act use_of operation_at row_of push_value push_piece push_caller most run_for
+unfolding uleb_at sleb_at fixed_at type_of bit_size_of is_signed is_same word_integer integer_of value_of on_top on_some on_result result_of act use_of operation_at row_of push_value push_piece push_caller most run_for
 returns c = record {
   callers_have_a_limit = record {
     outer_comes =

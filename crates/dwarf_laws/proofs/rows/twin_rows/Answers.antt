@@ -10,7 +10,7 @@ use Rattle.dwarf_meaning.specs.Operations.{UnitRef}
 use Rattle.dwarf_meaning.specs.Locations.{AtAddress, HoldsValue}
 use Rattle.dwarf_meaning.specs.Requests.{RequiresMemory, RequiresRegister, RequiresWasmLocal, RequiresWasmGlobal, RequiresWasmStack, RequiresFrameBase, RequiresTls, RequiresCallFrameCfa, RequiresAtLocation, RequiresEntryValue, RequiresParameterRef, RequiresRelocatedAddress, RequiresIndexedAddress, RequiresBaseType, MemoryAnswer, RegisterAnswer, WasmAnswer, EntryAnswer, FrameBaseAnswer, TlsAnswer, CfaAnswer, ParameterAnswer, RelocatedAnswer, IndexedAnswer, BaseTypeAnswer}
 use Rattle.dwarf_meaning.specs.Meaning.{FaultOutcome, CompleteOutcome, whole}
-use Rattle.dwarf_meaning.specs.Acts.{choose, on_top, on_some, on_result, result_of, act, use_of}
+use Rattle.dwarf_meaning.specs.Acts.{on_top, on_some, on_result, result_of, act, use_of}
 use Rattle.dwarf_meaning.specs.Decoding.{operation_at}
 use Rattle.dwarf_meaning.specs.Opcodes.{row_of}
 use Rattle.dwarf_meaning.specs.Stores.{push_value, push_piece, push_caller}
@@ -25,7 +25,7 @@ use Rattle.dwarf_laws.proofs.Computed.{set_once, once, twice}
 use Rattle.dwarf_laws.proofs.rows.twin_rows.Goals as goal
 
 pub returns : goal.returns
-unfolding uleb_at sleb_at fixed_at type_of bit_size_of is_signed is_same word_integer integer_of value_of choose on_top on_some on_result result_of act use_of operation_at row_of push_value push_piece push_caller most run_for
+unfolding uleb_at sleb_at fixed_at type_of bit_size_of is_signed is_same word_integer integer_of value_of on_top on_some on_result result_of act use_of operation_at row_of push_value push_piece push_caller most run_for
 returns c = record {
   frame_address = record {
     agree = more evaluate (more (resume (cfa refl)) none);

@@ -1,4 +1,4 @@
--- Outcomes that come apart: what two of them would have in common, if they agreed or ended alike.
+-- Outcomes that disagree: what two of them would have in common, if they agreed or ended alike.
 use Rattle.std.proofs.Common.{ℕ, ℤ, pos, negsuc, ◌≡◌, Option, Some, None, refl}
 use Rattle.dwarf_value.specs.declared.types.Value.{Value}
 use Rattle.dwarf_value.specs.declared.types.Value.TheVariants.{Generic}

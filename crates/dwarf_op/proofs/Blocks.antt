@@ -1,0 +1,47 @@
+-- A size and a block are what an operation of a block is made of.
+use Rattle.std.proofs.Common.{ℕ, ◌≡◌, refl, ap, ◌∙◌, List, Result, Ok, Err}
+use Rattle.dwarf_base.specs.declared.common.Encoding.{Encoding}
+use Rattle.dwarf_base.specs.declared.errors.Error.{Error}
+use Rattle.dwarf_base.specs.Faults.{Fault, fault_of, ◌>>=◌}
+use Rattle.dwarf_base.specs.Reads.{Text, Gives, Reads, split_at}
+use Rattle.dwarf_meaning.specs.Operations.{Operation}
+use Rattle.dwarf_meaning.specs.Operands.{Context, Form, block_of, context_of}
+use Rattle.dwarf_meaning.specs.Opcodes.{sized_block}
+use Rattle.dwarf_meaning.specs.Decoding.{unsigned_at}
+use Rattle.dwarf_op.specs.Entries.{block_in, operands_in}
+
+module _ (make : Text → Operation) where
+  -- the operation that is made of a block
+  abbrev made : Result (Text × List ℕ) Fault → Result (Operation × List ℕ) Fault
+  made (Ok x) = Ok (make x.0, x.1)
+  made (Err fault) = Err fault
+
+  module _ (context : Context) where
+    abbrev as_block : List ℕ × List ℕ → Result (Text × List ℕ) Fault
+    as_block x = Ok (block_of context x.0, x.1)
+
+    abbrev as_operation : List ℕ × List ℕ → Result (Operation × List ℕ) Fault
+    as_operation x = Ok (make (block_of context x.0), x.1)
+
+    made_of : (bytes : Result (List ℕ × List ℕ) Fault) → (bytes >>= as_operation) ≡ made (bytes >>= as_block)
+    made_of (Ok x) = refl
+    made_of (Err fault) = refl
+
+    made_by : (size : Result (ℕ × List ℕ) Fault)
+        → (size >>= λ n. split_at n.0 n.1 >>= as_operation) ≡ made (size >>= λ n. split_at n.0 n.1 >>= as_block)
+    made_by (Ok n) = made_of (split_at n.0 n.1)
+    made_by (Err fault) = refl
+
+  pub reads_block : {X : Type 0} {view : X → Text} {old new : Text} {result : Result X Error} (encoding : Encoding)
+      (offset_bits : ℕ) (form : Form) → Reads view old new result (block_in encoding offset_bits old form)
+      → Reads (λ x. make (view x)) old new result (operands_in encoding offset_bits old (sized_block form make))
+  reads_block {X} {view} {old} {new} {result} encoding offset_bits form h =
+      record { value = gives result h.value; rest = h.rest; order = h.order }
+    where
+      is_made : operands_in encoding offset_bits old (sized_block form make) ≡ made (block_in encoding offset_bits old form)
+      is_made = made_by (context_of encoding offset_bits old.is_big) (unsigned_at (context_of encoding offset_bits old.is_big) form old.bytes)
+
+      gives : (r : Result X Error) → Gives view r new.bytes (block_in encoding offset_bits old form)
+          → Gives (λ x. make (view x)) r new.bytes (operands_in encoding offset_bits old (sized_block form make))
+      gives (Ok x) e = is_made ∙ ap made e
+      gives (Err error) e = is_made ∙ ap made e

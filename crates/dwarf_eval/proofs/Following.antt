@@ -11,9 +11,9 @@ use Rattle.dwarf_meaning.specs.Meaning.{with_initial, meaning}
 use Rattle.dwarf_meaning.specs.Rest.{State, Status, Start, Running, RequestStatus, CompleteStatus, FaultStatus, with_refusal, Total, total_of_course, total_by, total, total_after}
 use Rattle.dwarf_meaning.specs.Steps.{Reply, reply}
 use Rattle.dwarf_meaning.specs.Refusals.{Refusal, Never, After, before_pushes, IsLater}
-use Rattle.dwarf_eval.specs.Evaluation.{Follows, IsAtRest, IsAtRestBy, IsEndedBy, IsFresh, WaitsOrIsComplete, IsReplied, Resumes, means, reply_of}
+use Rattle.dwarf_eval.specs.Evaluation.{Follows, IsEndedBy, IsFresh, WaitsOrIsComplete, IsReplied, Resumes, means, reply_of}
 use Rattle.dwarf_eval.specs.Permits.{IsOpenFor}
-use Rattle.dwarf_eval.specs.inner.Answers.{IsWaitingFor}
+use Rattle.dwarf_eval.specs.inner.Answers.{IsAtRestBy, IsWaitingFor}
 use Rattle.dwarf_eval.specs.declared.op.results.EvaluationResult.{EvaluationResult}
 use Rattle.dwarf_meaning.specs.declared.kinds.WaitingKind.{WaitingKind}
 use Rattle.dwarf_eval.specs.inner.Steps.{has_failed, Reaches, Falls, ComesBy, Comes}
@@ -54,8 +54,8 @@ module _ (old : State) (totals : Refusal → List Input → Total) (new : State)
   open_count (Start initial_value) e o = absurd o
   open_count (FaultStatus error) e o = absurd o
 
-  came_follows : WaitsOrIsComplete new.status → Reaches old totals new → IsReplied told new.status → IsAtRest new → Follows old totals told new
-  came_follows o h t rests =
+  came_follows : WaitsOrIsComplete new.status → Reaches old totals new → IsReplied told new.status → Follows old totals told new
+  came_follows o h t =
       let here : total new Never [] ≡ totals Never [] = sym (later_total h Never [] tt) in
       record {
         refusal = Never;
@@ -63,35 +63,33 @@ module _ (old : State) (totals : Refusal → List Input → Total) (new : State)
         reply = told_total Never new told t ∙ ap (λ (z : Total). reply z.outcome) here;
         count = sym (open_count new.status refl o) ∙ ap (λ (z : Total). z.count) here;
         status = t;
-        rests = rests;
         more = λ open_now r inputs l. later_total h r inputs l;
         kept = h.kept;
         spends = h.spends;
       }
 
-  fell_follows : (error : Error) → new.status ≡ FaultStatus error → Falls old totals (fault_of error) new → IsReplied told new.status → IsAtRest new → Follows old totals told new
-  fell_follows error failed h t rests = record {
+  fell_follows : (error : Error) → new.status ≡ FaultStatus error → Falls old totals (fault_of error) new → IsReplied told new.status → Follows old totals told new
+  fell_follows error failed h t = record {
     refusal = h.refusal;
     may = h.may;
     reply = subst (IsReplied told) failed t ∙ sym (ap (λ (z : Total). reply z.outcome) (h.same []));
     count = sym (ap (λ (z : Total). z.count) (h.same []));
     status = t;
-    rests = rests;
     more = λ open_now r inputs l. absurd (subst WaitsOrIsComplete failed open_now);
     kept = h.kept;
     spends = h.spends;
   }
 
-  follows_by : (status : Status) → new.status ≡ status → ComesBy old totals new status → IsReplied told new.status → IsAtRest new → Follows old totals told new
-  follows_by (RequestStatus request waiting) e h t rests = came_follows (subst WaitsOrIsComplete (sym e) tt) h t rests
-  follows_by (CompleteStatus value) e h t rests = came_follows (subst WaitsOrIsComplete (sym e) tt) h t rests
-  follows_by (FaultStatus error) e h t rests = fell_follows error e h t rests
-  follows_by Running e h t rests = absurd (subst (IsReplied told) e t)
-  follows_by (Start initial_value) e h t rests = absurd h
+  follows_by : (status : Status) → new.status ≡ status → ComesBy old totals new status → IsReplied told new.status → Follows old totals told new
+  follows_by (RequestStatus request waiting) e h t = came_follows (subst WaitsOrIsComplete (sym e) tt) h t
+  follows_by (CompleteStatus value) e h t = came_follows (subst WaitsOrIsComplete (sym e) tt) h t
+  follows_by (FaultStatus error) e h t = fell_follows error e h t
+  follows_by Running e h t = absurd (subst (IsReplied told) e t)
+  follows_by (Start initial_value) e h t = absurd h
 
   -- a call that replies answers its outcome
-  pub comes_follow : Comes old totals new → IsReplied told new.status → IsAtRest new → Follows old totals told new
-  comes_follow h t rests = follows_by new.status refl h t rests
+  pub comes_follow : Comes old totals new → IsReplied told new.status → Follows old totals told new
+  comes_follow h t = follows_by new.status refl h t
 
 -- ---- `evaluate` from the start
 
@@ -112,9 +110,9 @@ meaning_total x initial_value starts is r inputs =
     ∙ sym (total_start r x inputs initial_value starts))
 
 -- the meaning is the outcome of a fresh evaluation
-pub start_follows : (x new : State) (told : Reply) (initial_value : Option ℕ) → x.status ≡ Start initial_value → IsFresh x initial_value → Comes x (total x) new → IsReplied told new.status → IsAtRest new → Follows x (means x initial_value) told new
-start_follows x new told initial_value starts is h t rests =
-    let follows = comes_follow x (total x) new told h t rests in
+pub start_follows : (x new : State) (told : Reply) (initial_value : Option ℕ) → x.status ≡ Start initial_value → IsFresh x initial_value → Comes x (total x) new → IsReplied told new.status → Follows x (means x initial_value) told new
+start_follows x new told initial_value starts is h t =
+    let follows = comes_follow x (total x) new told h t in
     let first = meaning_total x initial_value starts is follows.refusal [] in
     record {
       refusal = follows.refusal;
@@ -122,7 +120,6 @@ start_follows x new told initial_value starts is h t rests =
       reply = follows.reply ∙ sym (ap (λ (z : Total). reply z.outcome) first);
       count = follows.count ∙ sym (ap (λ (z : Total). z.count) first);
       status = follows.status;
-      rests = follows.rests;
       more = λ open_now r inputs l. meaning_total x initial_value starts is r inputs ∙ follows.more open_now r inputs l;
       kept = follows.kept;
       spends = follows.spends;

@@ -34,6 +34,5 @@ pub mod TickSteps
 pub mod TickWalks
 pub mod EqualPieces
 pub mod Following
-pub mod Replying
 pub mod Items
 pub mod CallSpending

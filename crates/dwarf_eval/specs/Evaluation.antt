@@ -5,12 +5,10 @@ use Rattle.dwarf_base.specs.declared.errors.Error.{Error}
 use Rattle.dwarf_base.specs.Faults.{fault_of}
 use Rattle.dwarf_base.specs.Reads.{Text}
 use Rattle.dwarf_value.specs.declared.types.Value.{Value}
-use Rattle.dwarf_meaning.specs.Kinds.{kind_of_request, kind_of_waiting}
-use Rattle.dwarf_meaning.specs.Requests as requests
-use Rattle.dwarf_meaning.specs.Requests.{Request, Input}
+use Rattle.dwarf_meaning.specs.Requests.{Request, RequiresMemory, RequiresRegister, RequiresWasmLocal, RequiresWasmGlobal, RequiresWasmStack, RequiresFrameBase, RequiresTls, RequiresCallFrameCfa, RequiresAtLocation, RequiresEntryValue, RequiresParameterRef, RequiresRelocatedAddress, RequiresIndexedAddress, RequiresBaseType, Input}
 use Rattle.dwarf_meaning.specs.Refusals.{IsLater, MayPick, Refusal}
 use Rattle.dwarf_meaning.specs.Meaning.{course_of, meaning}
-use Rattle.dwarf_meaning.specs.Rest.{State, Status, Start, Running, RequestStatus, CompleteStatus, FaultStatus, Total, total, total_after}
+use Rattle.dwarf_meaning.specs.Rest.{State, Status, Start, RequestStatus, CompleteStatus, FaultStatus, Total, total, total_after}
 use Rattle.dwarf_meaning.specs.Steps.{Reply, CompleteReply, RequestReply, FaultReply, reply}
 use Rattle.dwarf_op.specs.Views.{reference_of}
 use Rattle.dwarf_meaning.specs.Bounds.{Spends}
@@ -25,42 +23,39 @@ WaitsOrIsComplete _ = ⊥
 
 -- ---- replies
 
--- what a result asks, if it isn't completion
-abbrev pub request_in : {R O P : Type 0} → (R → Text) → (O → ℕ) → EvaluationResult R O P → Option Request
-request_in text number result.Complete = None
-request_in text number (result.RequiresMemory address size space base_type) =
-    Some (requests.RequiresMemory address size space (number base_type.0))
-request_in text number (result.RequiresRegister register base_type) =
-    Some (requests.RequiresRegister register.0 (number base_type.0))
-request_in text number (result.RequiresWasmLocal index) = Some (requests.RequiresWasmLocal index)
-request_in text number (result.RequiresWasmGlobal index) = Some (requests.RequiresWasmGlobal index)
-request_in text number (result.RequiresWasmStack index) = Some (requests.RequiresWasmStack index)
-request_in text number result.RequiresFrameBase = Some requests.RequiresFrameBase
-request_in text number (result.RequiresTls index) = Some (requests.RequiresTls index)
-request_in text number result.RequiresCallFrameCfa = Some requests.RequiresCallFrameCfa
-request_in text number (result.RequiresAtLocation offset) =
-    Some (requests.RequiresAtLocation (reference_of number offset))
-request_in text number (result.RequiresEntryValue expression) =
-    Some (requests.RequiresEntryValue (text expression.0))
-request_in text number (result.RequiresParameterRef offset) = Some (requests.RequiresParameterRef (number offset.0))
-request_in text number (result.RequiresRelocatedAddress address) = Some (requests.RequiresRelocatedAddress address)
-request_in text number (result.RequiresIndexedAddress index relocate) =
-    Some (requests.RequiresIndexedAddress (number index.0) relocate)
-request_in text number (result.RequiresBaseType base_type) = Some (requests.RequiresBaseType (number base_type.0))
-
 -- the reply by what is asked: the request, or completion
 abbrev pub reply_by : Option Request → Reply
 reply_by None = CompleteReply
 reply_by (Some request) = RequestReply request
 
--- the reply of a result
-abbrev pub ok_reply : {R O P : Type 0} → (R → Text) → (O → ℕ) → EvaluationResult R O P → Reply
-ok_reply text number replied = reply_by (request_in text number replied)
+module _ {R O P : Type 0} (text : R → Text) (number : O → ℕ) where
+  -- what a result asks, if it isn't completion
+  abbrev pub request_in : EvaluationResult R O P → Option Request
+  request_in result.Complete = None
+  request_in (result.RequiresMemory address size space base_type) =
+      Some (RequiresMemory address size space (number base_type.0))
+  request_in (result.RequiresRegister register base_type) = Some (RequiresRegister register.0 (number base_type.0))
+  request_in (result.RequiresWasmLocal index) = Some (RequiresWasmLocal index)
+  request_in (result.RequiresWasmGlobal index) = Some (RequiresWasmGlobal index)
+  request_in (result.RequiresWasmStack index) = Some (RequiresWasmStack index)
+  request_in result.RequiresFrameBase = Some RequiresFrameBase
+  request_in (result.RequiresTls index) = Some (RequiresTls index)
+  request_in result.RequiresCallFrameCfa = Some RequiresCallFrameCfa
+  request_in (result.RequiresAtLocation offset) = Some (RequiresAtLocation (reference_of number offset))
+  request_in (result.RequiresEntryValue expression) = Some (RequiresEntryValue (text expression.0))
+  request_in (result.RequiresParameterRef offset) = Some (RequiresParameterRef (number offset.0))
+  request_in (result.RequiresRelocatedAddress address) = Some (RequiresRelocatedAddress address)
+  request_in (result.RequiresIndexedAddress index relocate) = Some (RequiresIndexedAddress (number index.0) relocate)
+  request_in (result.RequiresBaseType base_type) = Some (RequiresBaseType (number base_type.0))
 
--- the reply of a call: a result's, or a fault
-abbrev pub reply_of : {R O P : Type 0} → (R → Text) → (O → ℕ) → Result (EvaluationResult R O P) Error → Reply
-reply_of text number (Ok replied) = ok_reply text number replied
-reply_of text number (Err error) = FaultReply (fault_of error)
+  -- the reply of a result
+  abbrev pub ok_reply : EvaluationResult R O P → Reply
+  ok_reply replied = reply_by (request_in replied)
+
+  -- the reply of a call: a result's, or a fault
+  abbrev pub reply_of : Result (EvaluationResult R O P) Error → Reply
+  reply_of (Ok replied) = ok_reply replied
+  reply_of (Err error) = FaultReply (fault_of error)
 
 -- the status is that of the reply
 abbrev pub IsReplied : Reply → Status → Type 0
@@ -75,18 +70,6 @@ IsEndedBy replied (CompleteStatus value) = replied ≡ Ok result.Complete
 IsEndedBy replied (FaultStatus error) = replied ≡ Err error
 IsEndedBy replied _ = Unit {0}
 
--- by the status: an evaluation at the start is fresh, an open request waits for an answer of the kind that it asks for,
--- and none runs
-abbrev pub IsAtRestBy : State → Status → Type 0
-IsAtRestBy x (Start initial_value) = IsFresh x initial_value
-IsAtRestBy x (RequestStatus request waiting) = kind_of_waiting waiting ≡ kind_of_request request
-IsAtRestBy x Running = ⊥
-IsAtRestBy x _ = Unit {0}
-
--- between calls nothing runs
-abbrev pub IsAtRest : State → Type 0
-IsAtRest x = IsAtRestBy x x.status
-
 -- For some refusal, or for none, a call replied as `totals` gives it and counted as many operations; the setup and the
 -- settings stay; and as long as it isn't over, the total of the new state is what `totals` gives, for all inputs to
 -- come.
@@ -96,7 +79,6 @@ pub record Follows (old : State) (totals : Refusal → List Input → Total) (re
   pub reply : replied ≡ reply (totals refusal []).outcome
   pub count : new.store.count ≡ (totals refusal []).count
   pub status : IsReplied replied new.status
-  pub rests : IsAtRest new
   pub more : WaitsOrIsComplete new.status → (r : Refusal) (inputs : List Input) → IsLater r
       → totals r inputs ≡ total new r inputs
   pub kept : Keeps old new
@@ -109,23 +91,22 @@ means x initial_value r inputs = record {
   count = x.store.count + length (course_of x.setup r x.text (first_of x initial_value) inputs).path;
 }
 
--- `evaluate`: at the start it replies the meaning; after that it replies what it replied, and changes nothing; it isn't
--- called in a request, nor does anything run between calls
-abbrev pub Evaluates : {R O P : Type 0} → (R → Text) → (O → ℕ) → State → State → Result (EvaluationResult R O P) Error
-    → Status → Type 0
-Evaluates text number old new replied (Start initial_value) =
-    Follows old (means old initial_value) (reply_of text number replied) new
-Evaluates text number old new replied (CompleteStatus value) = (replied ≡ Ok result.Complete) × (new ≡ old)
-Evaluates text number old new replied (FaultStatus error) = (replied ≡ Err error) × (new ≡ old)
-Evaluates text number old new replied _ = ⊥
+module _ {R O P : Type 0} (text : R → Text) (number : O → ℕ) where
+  -- `evaluate`: at the start it replies the meaning; after that it replies what it replied, and changes nothing; it
+  -- isn't called in a request, nor does anything run between calls
+  abbrev pub Evaluates : State → State → Result (EvaluationResult R O P) Error → Status → Type 0
+  Evaluates old new replied (Start initial_value) =
+      Follows old (means old initial_value) (reply_of text number replied) new
+  Evaluates old new replied (CompleteStatus value) = (replied ≡ Ok result.Complete) × (new ≡ old)
+  Evaluates old new replied (FaultStatus error) = (replied ≡ Err error) × (new ≡ old)
+  Evaluates old new replied _ = ⊥
 
--- a resume: it goes on with the input; after a fault it replies that, and changes nothing
-abbrev pub Resumes : {R O P : Type 0} → (R → Text) → (O → ℕ) → Input → State → State
-    → Result (EvaluationResult R O P) Error → Status → Type 0
-Resumes text number input old new replied (RequestStatus request waiting) =
-    Follows old (total_after old input) (reply_of text number replied) new
-Resumes text number input old new replied (FaultStatus error) = (replied ≡ Err error) × (new ≡ old)
-Resumes text number input old new replied _ = Unit {0}
+  -- a resume: it goes on with the input; after a fault it replies that, and changes nothing
+  abbrev pub Resumes : Input → State → State → Result (EvaluationResult R O P) Error → Status → Type 0
+  Resumes input old new replied (RequestStatus request waiting) =
+      Follows old (total_after old input) (reply_of text number replied) new
+  Resumes input old new replied (FaultStatus error) = (replied ≡ Err error) × (new ≡ old)
+  Resumes input old new replied _ = Unit {0}
 
 -- no request is open
 abbrev pub IsClosed : Status → Type 0

@@ -23,16 +23,15 @@ use Rattle.dwarf_replay.specs.Replays.{Walks, WalksTo, WalksOver}
 
 -- an evaluation of a text, with nothing set and nothing done, for addresses of 4 bytes and without limits
 abbrev pub fresh_at : Text → State
-fresh_at text =
-    record {
-      status = Start None;
-      setup = plain;
-      text = text;
-      place = 0;
-      callers = [];
-      store = fresh unset Never;
-      decodings = 0;
-    }
+fresh_at text = record {
+  status = Start None;
+  setup = plain;
+  text = text;
+  place = 0;
+  callers = [];
+  store = fresh unset Never;
+  decodings = 0;
+}
 
 -- one text and one encoding, the same maximum, and object addresses that agree
 pub record AreTwins (x y : State) : Type 0 where

@@ -11,11 +11,11 @@ use Rattle.dwarf_replay.specs.declared.steps.Stepped.{Stepped}
 use Rattle.dwarf_replay.specs.declared.steps.Stepped.TheVariants as stepped
 use Rattle.dwarf_eval.specs.declared.op.results.EvaluationResult.{EvaluationResult}
 
--- what a call gave
-abbrev pub given_of : {R O P : Type 0} → (R → Text) → (O → ℕ) → Result (EvaluationResult R O P) Error
-    → Result Reply Error
-given_of text number (Ok told) = Ok (ok_reply text number told)
-given_of text number (Err error) = Err error
+module _ {R O P : Type 0} (text : R → Text) (number : O → ℕ) where
+  -- what a call gave
+  abbrev pub given_of : Result (EvaluationResult R O P) Error → Result Reply Error
+  given_of (Ok told) = Ok (ok_reply text number told)
+  given_of (Err error) = Err error
 
 -- the outcome of a step
 pub data Came : Type 0 where

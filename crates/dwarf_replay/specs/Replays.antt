@@ -22,13 +22,14 @@ use Rattle.dwarf_replay.specs.declared.steps.Replayed.TheVariants as replayed
 abbrev pub steps_of : {R : Type 0} → (R → Text) → List (Step R) → List meaning.Step
 steps_of text steps = map (step_of text) steps
 
--- the reply that an item of the list says
-abbrev pub reply_in : {R O P : Type 0} → (R → Text) → (O → ℕ) → Answer R O P → Reply
-reply_in text number answer = reply_of text number answer.0
+module _ {R O P : Type 0} (text : R → Text) (number : O → ℕ) where
+  -- the reply that an item of the list says
+  abbrev pub reply_in : Answer R O P → Reply
+  reply_in answer = reply_of text number answer.0
 
--- the replies that the list says
-abbrev pub replies_in : {R O P : Type 0} → (R → Text) → (O → ℕ) → List (Answer R O P) → List Reply
-replies_in text number given = map (reply_in text number) given
+  -- the replies that the list says
+  abbrev pub replies_in : List (Answer R O P) → List Reply
+  replies_in given = map reply_in given
 
 -- nothing was told but the settings
 abbrev pub told_at : State → Told
@@ -120,12 +121,11 @@ pub record WalksOver (index : ℕ) (answer : Reply) (limit : Option ℕ) (old : 
   pub inside : (step : meaning.Step) × (slice_get steps index ≡ Some step)
   pub full : MayRefuse limit (length replies)
 
--- by how it ended: all steps were done, one isn't allowed, or a reply found no room
-abbrev pub Replays : {R O P : Type 0} → (R → Text) → (O → ℕ) → Option ℕ → State → List (Step R) → List (Answer R O P)
-    → State → Replayed R O P → Type 0
-Replays text number limit old steps given new replayed.Done =
-    Walks old (steps_of text steps) (replies_in text number given) new
-Replays text number limit old steps given new (replayed.Misplaced index) =
-    WalksTo index old (steps_of text steps) (replies_in text number given) new
-Replays text number limit old steps given new (replayed.NoRoom index answer) =
-    WalksOver index (reply_in text number answer) limit old (steps_of text steps) (replies_in text number given) new
+module _ {R O P : Type 0} (text : R → Text) (number : O → ℕ) where
+  -- by how it ended: all steps were done, one isn't allowed, or a reply found no room
+  abbrev pub Replays : Option ℕ → State → List (Step R) → List (Answer R O P) → State → Replayed R O P → Type 0
+  Replays limit old steps given new replayed.Done = Walks old (steps_of text steps) (replies_in text number given) new
+  Replays limit old steps given new (replayed.Misplaced index) =
+      WalksTo index old (steps_of text steps) (replies_in text number given) new
+  Replays limit old steps given new (replayed.NoRoom index answer) =
+      WalksOver index (reply_in text number answer) limit old (steps_of text steps) (replies_in text number given) new

@@ -49,16 +49,17 @@ IsSet (ObjectAddress address) old new = new ≡ with_object (Some address) old
 IsSet (MaxIterations maximum) old new = new ≡ with_maximum maximum old
 IsSet _ old new = ⊥
 
--- the evaluation replied
-abbrev pub HasReplied : {R O P : Type 0} → (R → Text) → (O → ℕ) → meaning.Step → State → State
-    → Result (EvaluationResult R O P) Error → Type 0
-HasReplied text number Evaluate old new replied = IsClosed old.status × Evaluates text number old new replied old.status
-HasReplied text number (Resume answer) old new replied =
-    IsOpenFor (kind_of_answer answer) old.status × Resumes text number (input_of old answer) old new replied old.status
-HasReplied text number _ old new replied = ⊥
+module _ {R O P : Type 0} (text : R → Text) (number : O → ℕ) where
+  -- the evaluation replied
+  abbrev pub HasReplied : meaning.Step → State → State → Result (EvaluationResult R O P) Error → Type 0
+  HasReplied Evaluate old new replied = IsClosed old.status × Evaluates text number old new replied old.status
+  HasReplied (Resume answer) old new replied =
+      IsOpenFor (kind_of_answer answer) old.status
+      × Resumes text number (input_of old answer) old new replied old.status
+  HasReplied _ old new replied = ⊥
 
--- the outcome of the step
-abbrev pub IsStepped : {R O P : Type 0} → (R → Text) → (O → ℕ) → meaning.Step → State → State → Stepped R O P → Type 0
-IsStepped text number step old new stepped.Misplaced = (new ≡ old) × (MayTake step old.status → ⊥)
-IsStepped text number step old new stepped.Set = IsSet step old new
-IsStepped text number step old new (stepped.Answered answer) = HasReplied text number step old new answer.0
+  -- the outcome of the step
+  abbrev pub IsStepped : meaning.Step → State → State → Stepped R O P → Type 0
+  IsStepped step old new stepped.Misplaced = (new ≡ old) × (MayTake step old.status → ⊥)
+  IsStepped step old new stepped.Set = IsSet step old new
+  IsStepped step old new (stepped.Answered answer) = HasReplied step old new answer.0

@@ -1,5 +1,5 @@
 -- What is printed of an evaluation that was replayed is what its steps come to.
-use Rattle.std.proofs.Common.{◌≡◌, ◌⊎◌, inl, inr, ℕ, List, [], Option, Some, None, refl, sym, ◌∙◌, ap, subst, length, ◌<◌, ◌^◌, arith, ap₂, Result, Ok, Err, Bool}
+use Rattle.std.proofs.Common.{◌≡◌, ◌⊎◌, inl, inr, ℕ, List, [], Option, Some, None, refl, ◌∙◌, ap, subst, length, ◌<◌, ◌^◌, arith, ap₂, Result, Ok, Err, Bool}
 use Rattle.std.proofs.lemmas.List.{length-map}
 use Rattle.std.proofs.lemmas.Option.{slice_get_within}
 use Rattle.dwarf_replay.specs.Stepping.{step_of}
@@ -23,7 +23,7 @@ use Rattle.dwexpr.specs.Evaluates.{EvaluatesSteps, EvaluatesSaid, behind_replies
 use Rattle.dwexpr.specs.Steps.{ReadsSteps}
 use Rattle.dwexpr.specs.declared.steps.StepsFault.{StepsFault}
 use Rattle.dwexpr.specs.declared.steps.StepsFault.TheVariants as fault
-use Rattle.dwexpr_text.specs.Endings.{Ending, misplaced, no_memory, standing}
+use Rattle.dwexpr_text.specs.Endings.{Ending, no_memory, standing}
 use Rattle.dwexpr.specs.inner.Replayed.{HasLine, ending_of}
 
 asking_ending : (request : Request) (positions : List Position) (x : State) (status : Status) → IsInRequest request positions x status

@@ -1,12 +1,13 @@
 -- What a machine is given, and what it waits for.
 use Rattle.std.specs.Prelude.{◌≡◌}
 use Rattle.dwarf_base.specs.Reads.{Text}
-use Rattle.dwarf_meaning.specs.Kinds.{kind_of_waiting}
+use Rattle.dwarf_meaning.specs.Kinds.{kind_of_request, kind_of_waiting}
+use Rattle.dwarf_meaning.specs.Inputs.{IsFresh}
 use Rattle.dwarf_meaning.specs.declared.kinds.WaitingKind.{WaitingKind}
 use Rattle.dwarf_meaning.specs.declared.kinds.WaitingKind.TheVariants as kind
 use Rattle.dwarf_meaning.specs.Requests as requests
 use Rattle.dwarf_meaning.specs.Rest as rest
-use Rattle.dwarf_meaning.specs.Rest.{RequestStatus}
+use Rattle.dwarf_meaning.specs.Rest.{Start, Running, RequestStatus}
 use Rattle.dwarf_eval.specs.inner.Machine.{offset_of, typed_by}
 use Rattle.dwarf_eval.specs.declared.run.states.Given.{Given}
 use Rattle.dwarf_eval.specs.declared.run.states.Given.TheVariants as given
@@ -44,3 +45,15 @@ IsDoneWith text on_answer (RequestStatus request waiting) =
     × (kind_of_waiting waiting ≡ kind.FrameBase → waiting ≡ requests.FrameBase (offset_of on_answer))
     × (kind_of_waiting waiting ≡ kind.BaseType → waiting ≡ typed_by text on_answer)
 IsDoneWith text on_answer _ = Unit {0}
+
+-- by the status: an evaluation at the start is fresh, an open request waits for an answer of the kind that it asks for,
+-- and none runs
+abbrev pub IsAtRestBy : rest.State → rest.Status → Type 0
+IsAtRestBy x (Start initial_value) = IsFresh x initial_value
+IsAtRestBy x (RequestStatus request waiting) = kind_of_waiting waiting ≡ kind_of_request request
+IsAtRestBy x Running = ⊥
+IsAtRestBy x _ = Unit {0}
+
+-- between calls nothing runs
+abbrev pub IsAtRest : rest.State → Type 0
+IsAtRest x = IsAtRestBy x x.status

@@ -37,7 +37,7 @@ impl<R: Reader + Copy, S: EvaluationStorage<R>> Model for Evaluation<R, S> {
 
     ghost Value = { State };
 
-    ghost use Rattle.dwarf_eval.specs.Evaluation.{IsAtRest};
+    ghost use Rattle.dwarf_eval.specs.inner.Answers.{IsAtRest};
 
     ghost view = { λ e. e.machine };
 

@@ -31,7 +31,7 @@ returns-clause-follows g c =
       | then-not-has_failed w ↦
           let came = subst (λ (z : State). Comes x (total_after x input) z) (sym (ap (λ z. z.machine) w.self-inside-is)) w.resume.ensures.comes in
           let now = waits x kind x.status (sym c.has_failed.ensures ∙ w.if-not-has_failed.true) c.self.invariant is_open in
-          resumed text number input x new c.reply.result kind x.status now (comes_follow x (total_after x input) new (reply_of text number c.reply.result) came c.reply.ensures.reply c.reply.ensures.rests)
+          resumed text number input x new c.reply.result kind x.status now (comes_follow x (total_after x input) new (reply_of text number c.reply.result) came c.reply.ensures.reply)
       | else-not-has_failed w ↦
           let stays : new ≡ x = ap (λ z. z.machine) w.self-inside-is in
           let ended = subst (λ (z : State). IsEndedBy c.reply.result z.status) stays c.reply.ensures.ends in

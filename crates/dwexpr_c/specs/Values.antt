@@ -1,6 +1,7 @@
 -- Values of expressions as two numbers, a type and a content (DWARF 5, section 2.5.1).
-use Rattle.std.specs.Prelude.{ℕ, ◌==◌, ◌%◌, ◌^◌, Option, Some, None, if◌then◌else◌}
-use Rattle.dwarf_base.specs.Numbers.{residue, signed_of}
+use Rattle.std.specs.Prelude.{ℕ, ◌==◌, Option, Some, None, option_map, if◌then◌else◌}
+use Rattle.dwarf_base.specs.Numbers.{residue}
+use Rattle.dwarf_value.specs.Values.{from_u64_of}
 use Rattle.dwarf_value.specs.declared.types.Value.{Value}
 use Rattle.dwarf_value.specs.declared.types.Value.TheVariants as value
 use Rattle.dwarf_value.specs.declared.types.ValueType.{ValueType}
@@ -34,26 +35,9 @@ type_code (Some value_type.U32) = 7
 type_code (Some value_type.I64) = 8
 type_code (Some value_type.U64) = 9
 
--- the value of a type that has these lowest bits
-abbrev pub value_at : ValueType → (content : ℕ) → Value
-value_at value_type.Generic content = value.Generic content
-value_at value_type.I8 content = value.I8 (signed_of 8 (content % 2 ^ 8))
-value_at value_type.U8 content = value.U8 (content % 2 ^ 8)
-value_at value_type.I16 content = value.I16 (signed_of 16 (content % 2 ^ 16))
-value_at value_type.U16 content = value.U16 (content % 2 ^ 16)
-value_at value_type.I32 content = value.I32 (signed_of 32 (content % 2 ^ 32))
-value_at value_type.U32 content = value.U32 (content % 2 ^ 32)
-value_at value_type.I64 content = value.I64 (signed_of 64 content)
-value_at value_type.U64 content = value.U64 content
-
--- the value, if there is a type
-abbrev pub value_typed : Option ValueType → (content : ℕ) → Option Value
-value_typed None content = None
-value_typed (Some t) content = Some (value_at t content)
-
--- the value that a type's code and a content say
+-- the value that a type's code and a content say: the content wraps to the type
 abbrev pub value_coded : (code content : ℕ) → Option Value
-value_coded code content = value_typed (type_coded code) content
+value_coded code content = option_map (λ t. from_u64_of t content) (type_coded code)
 
 -- a value as a caller sees it; a signed content is extended to 64 bits
 abbrev pub shown_value : Value → DwexprValue

@@ -241,7 +241,7 @@ pub extern "C" fn dwexpr_type_bit_size(value_type: u32, addr_mask: u64) -> u32
     }
 }
 
-/// The type of a base type's values, by its `DW_AT_encoding` and its size in bytes; 0 where it is none (DWARF 5,
+/// The type of a base type's values, by its `DW_AT_encoding` and its size in bytes; 0 if there is none (DWARF 5,
 /// section 5.1).
 #[unsafe(no_mangle)]
 pub extern "C" fn dwexpr_type_from_encoding(encoding: u8, byte_size: u64) -> u32

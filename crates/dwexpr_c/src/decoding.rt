@@ -11,7 +11,7 @@ use crate::operations::{DwexprOperation, disallow, show, show_fault};
 use dwarf_base::{EndianSlice, Reader};
 use dwarf_op::Operation;
 
-/// Shows what stands at an offset, where there is a byte.
+/// Shows what stands at an offset that has a byte.
 fn decode_at(bytes: &[u8], reading: Reading, offset: usize, shown: &mut DwexprOperation)
     requires { offset < length bytes.now }
     ensures { Decodes offset (slice_index bytes.now offset) (length (drop offset bytes.now))

@@ -70,22 +70,10 @@ pub(crate) fn numbers_of_value(value: Value) -> DwexprValue
     }
 }
 
-/// The value of this type whose lowest bits are these.
+/// The value of the type of this code that the content wraps to.
 pub(crate) fn value_of(code: u32, content: u64) -> Option<Value>
     ensures { result ≡ value_coded code content }
 {
-    let byte = (content % 0x100) as u8;
-    let half = (content % 0x1_0000) as u16;
-    let word = (content % 0x1_0000_0000) as u32;
-    Some(match type_of_code(code)? {
-        ValueType::Generic => Value::Generic(content),
-        ValueType::I8 => Value::I8(byte.cast_signed()),
-        ValueType::U8 => Value::U8(byte),
-        ValueType::I16 => Value::I16(half.cast_signed()),
-        ValueType::U16 => Value::U16(half),
-        ValueType::I32 => Value::I32(word.cast_signed()),
-        ValueType::U32 => Value::U32(word),
-        ValueType::I64 => Value::I64(content.cast_signed()),
-        ValueType::U64 => Value::U64(content),
-    })
+    let value_type = type_of_code(code)?;
+    Value::from_u64(value_type, content).ok()
 }

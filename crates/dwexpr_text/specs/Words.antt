@@ -1,7 +1,7 @@
 -- The words of the program: `ops|eval ADDR OFFSET VERSION ORDER HEX`.
-use Rattle.std.specs.Prelude.{ℕ, ◌==◌, codes, bytes_eq, List, [], ◌∷◌, Option, Some, None, Result, Ok, Err, if◌then◌else◌}
+use Rattle.std.specs.Result.{result_ok}
+use Rattle.std.specs.Prelude.{ℕ, ◌==◌, codes, bytes_eq, List, [], ◌∷◌, Option, Some, None, if◌then◌else◌}
 use Rattle.hex.specs.Hex.{decode_of}
-use Rattle.hex.specs.declared.error.FromHexError.{FromHexError}
 use Rattle.dwarf_base.specs.declared.common.Format.{Format}
 use Rattle.dwarf_base.specs.declared.common.Format.TheVariants.{Dwarf32, Dwarf64}
 use Rattle.dwarf_base.specs.declared.byte_order.RunTimeEndian.{RunTimeEndian}
@@ -12,16 +12,11 @@ use Rattle.dwexpr_text.specs.declared.words.Reading.{Reading}
 
 -- ---- HEX
 
--- the bytes, if the digits say some
-abbrev pub decoded_bytes : Result (List ℕ) FromHexError → Option (List ℕ)
-decoded_bytes (Ok bytes) = Some bytes
-decoded_bytes (Err e) = None
-
 -- the bytes of a word: none of the word `-`, and else those of a positive even number of digits
 abbrev pub bytes_in : List ℕ → Option (List ℕ)
 bytes_in [] = None
 bytes_in (byte ∷ []) = if byte == 45 then Some [] else None
-bytes_in (byte ∷ next ∷ rest) = decoded_bytes (decode_of (byte ∷ next ∷ rest))
+bytes_in (byte ∷ next ∷ rest) = result_ok (decode_of (byte ∷ next ∷ rest))
 
 -- ---- the words before it
 

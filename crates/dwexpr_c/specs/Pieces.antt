@@ -22,12 +22,9 @@ sized kind size_in_bits bit_offset = record {
   kind = kind;
   has_size = has size_in_bits;
   size_in_bits = or_zero size_in_bits;
-  bit_offset =
-      or_zero bit_offset;
-  has_bit_offset =
-      has bit_offset;
-  value_type =
-      0;
+  bit_offset = or_zero bit_offset;
+  has_bit_offset = has bit_offset;
+  value_type = 0;
   number = 0;
   byte_offset = pos 0;
   block_text = 0;

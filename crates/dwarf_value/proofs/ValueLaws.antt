@@ -12,6 +12,8 @@ use Rattle.dwarf_value.specs.declared.types.Value.{Value}
 use Rattle.dwarf_value.specs.declared.types.Value.TheVariants.{Generic}
 use Rattle.dwarf_value.specs.declared.types.ValueType.{ValueType}
 use Rattle.dwarf_value.specs.declared.types.ValueType.TheVariants as kind
+use denote.Enum.Bare.{true_same}
+use Rattle.dwarf_value.specs.contracts.types.ValueType.{the_type}
 use Rattle.dwarf_value.specs.Values.{type_of, bit_size_of, is_same, is_signed, unsigned_integer, signed_integer, value_of, Agree, to_u64_of, from_u64_of, reinterpret_of}
 use Rattle.dwarf_value.specs.Laws.{IsWidth, Trichotomy, Opposites, QuotientAndRemainder, NegateTwice, NegateTwiceGeneric, ReinterpretTwice, AgreeingResults, values, errors, AgreementIsKept}
 use Rattle.dwarf_value.proofs.Congruences.{Congruent, Congruent-sym, Congruent-trans, Congruent-add, Congruent-neg, Congruent-mul, Congruent-lower, Congruent-residue}
@@ -21,20 +23,9 @@ use Rattle.dwarf_value.proofs.Agreements.{to_u64_of-Agree, convert_of-Agree, add
 
 -- ---- comparisons
 
-is_same-itself : (t : ValueType) → is_same t t ≡ true
-unfolding is_same
-is_same-itself kind.Generic = refl
-is_same-itself kind.I8 = refl
-is_same-itself kind.U8 = refl
-is_same-itself kind.I16 = refl
-is_same-itself kind.U16 = refl
-is_same-itself kind.I32 = refl
-is_same-itself kind.U32 = refl
-is_same-itself kind.I64 = refl
-is_same-itself kind.U64 = refl
-
 is_same-equal : (s t : ValueType) → s ≡ t → is_same s t ≡ true
-is_same-equal s t e = rw e (is_same-itself t)
+unfolding is_same
+is_same-equal s t e = true_same the_type s t e
 
 -- how two integers compare
 data Compared (a b : ℤ) : Type 0 where

@@ -1,5 +1,6 @@
 -- Values as types and integers, and what each call on values returns (DWARF 5, section 2.5).
 use Rattle.std.specs.Prelude.{ℕ, ◌-◌, ◌/◌, ◌%◌, ◌^◌, ◌<◌, ◌≡◌, ℤ, pos, negsuc, neg_ℤ, ◌+ℤ◌, ◌-ℤ◌, ◌*ℤ◌, Bool, true, false, not, if◌then◌else◌, nat_le, ◌==◌, unsigned_abs, int_lt, int_le, int_div, int_rem, bit_and, bit_or, bit_xor, List, Option, Some, None, Result, Ok, Err}
+use denote.Enum.Bare.{sameb}
 use Rattle.std.specs.Int.{is_negative}
 use Rattle.std.specs.Int.RustNames.{count_ones}
 use Rattle.std.specs.Ordering.{int_eq}
@@ -11,6 +12,7 @@ use Rattle.dwarf_base.specs.declared.errors.Error.TheVariants.{UnsupportedTypeOp
 use Rattle.dwarf_value.specs.declared.types.Value.{Value}
 use Rattle.dwarf_value.specs.declared.types.Value.TheVariants.{Generic, I8, U8, I16, U16, I32, U32, I64, U64}
 use Rattle.dwarf_value.specs.declared.types.ValueType.{ValueType}
+use Rattle.dwarf_value.specs.contracts.types.ValueType.{the_type}
 use Rattle.dwarf_value.specs.declared.types.ValueType.TheVariants as kind
 
 -- how many bits an address has: the one bits of its mask
@@ -57,18 +59,9 @@ is_signed generic kind.I32 = true
 is_signed generic kind.I64 = true
 is_signed generic _ = false
 
--- whether two types are the same
+-- whether two types are the same, as `==` tells
 unfoldable pub is_same : ValueType → ValueType → Bool
-is_same kind.Generic kind.Generic = true
-is_same kind.I8 kind.I8 = true
-is_same kind.U8 kind.U8 = true
-is_same kind.I16 kind.I16 = true
-is_same kind.U16 kind.U16 = true
-is_same kind.I32 kind.I32 = true
-is_same kind.U32 kind.U32 = true
-is_same kind.I64 kind.I64 = true
-is_same kind.U64 kind.U64 = true
-is_same _ _ = false
+is_same = sameb the_type
 
 -- the integer of k bits: in two's complement, or from 0 up
 unfoldable pub word_integer : (signed : Bool) (k : ℕ) → ℕ → ℤ

@@ -1,5 +1,5 @@
 -- The operand of each branch has 16 bits.
-use Rattle.std.proofs.Common.{ℕ, ◌*◌, ◌≡◌, ◌<◌, ◌≤◌, ◌==◌, nat_lt, ℤ, pos, ◌-ℤ◌, Bool, true, false, cond, List, [], ◌∷◌, ◌++◌, length, Ok, arith, refl, sym, subst}
+use Rattle.std.proofs.Common.{ℕ, ◌*◌, ◌≡◌, ◌<◌, ◌≤◌, nat_lt, ℤ, pos, ◌-ℤ◌, Bool, true, false, cond, List, [], ◌∷◌, ◌++◌, length, Ok, arith, refl, sym, subst}
 use Rattle.std.proofs.lemmas.Bool.Decides.{nat_tests}
 use Rattle.std.proofs.lemmas.Int.{ints}
 use Rattle.dwarf_base.specs.declared.common.Encoding.{Encoding}
@@ -7,11 +7,12 @@ use Rattle.dwarf_base.specs.Numbers.{number_of, signed_of}
 use Rattle.dwarf_base.specs.Reads.{split_at, Text}
 use Rattle.dwarf_meaning.specs.Operations.{Operation}
 use Rattle.dwarf_meaning.specs.Operands.{Context, block_of, context_of, SignedFixed, SignedLeb128}
-use Rattle.dwarf_meaning.specs.Opcodes.{Row, Makes, Unsigned, Signed, Block, Invalid, Line, lines, row_among, row_of, wasm_row}
+use Rattle.dwarf_meaning.specs.Opcodes.{Row, Makes, Unsigned, Signed, Block, Invalid, lines, row_of}
 use Rattle.dwarf_meaning.specs.Decoding.{unsigned_at, integer_at, operands_at, operation_at}
 use Rattle.dwarf_meaning.specs.Spelling.{SpellsInteger}
 use Rattle.dwarf_meaning.specs.Spelling as spelling
 use Rattle.dwarf_meaning.specs.Branches.{AreBytes, IsNear, BranchesNear}
+use Rattle.dwarf_meaning.proofs.Lines.{OnLines, ◌⊳◌, wasm_holds, row_holds}
 use Rattle.dwarf_meaning.proofs.ReadsExactly.{went, pair_same, reads_block}
 use Rattle.dwarf_meaning.proofs.NumberReads.{reads_unsigned, reads_integer}
 
@@ -45,24 +46,7 @@ NearRow (Signed SignedLeb128 next) = (value : ℤ) → NearRow (next value)
 NearRow (Block size next) = (block : Text) → NearRow (next block)
 NearRow (Invalid opcode) = Unit {0}
 
-if_near : (test : Bool) (x y : Row) → NearRow x → NearRow y → NearRow (cond test x y)
-if_near true x y h k = h
-if_near false x y h k = k
-
-near_wasm : (kind : ℕ) → NearRow (wasm_row kind)
-near_wasm kind =
-    if_near (kind == 0) _ _ (λ index. tt) (if_near (kind == 1) _ _ (λ index. tt) (if_near (kind == 2) _ _ (λ index. tt) (if_near (kind == 3) _ _ (λ index. tt) tt)))
-
-abbrev NearLines : List Line → Type 0
-NearLines [] = Unit {0}
-NearLines (line ∷ more) = ((opcode : ℕ) → NearRow (line.row opcode)) × NearLines more
-
--- a pair, so that a long one needs no parentheses
-infixr 20 ◌⊳◌
-pub ◌⊳◌ : {P Q : Type 0} → P → Q → P × Q
-p ⊳ q = (p, q)
-
-near_lines : (encoding : Encoding) → NearLines (lines encoding)
+near_lines : (encoding : Encoding) → OnLines NearRow (lines encoding)
 near_lines encoding =
     (λ opcode number. tt)
     ⊳ (λ opcode. tt)
@@ -135,20 +119,14 @@ near_lines encoding =
     ⊳ (λ opcode first second. tt)
     ⊳ (λ opcode number. tt)
     ⊳ (λ opcode number. tt)
-    ⊳ (λ opcode. near_wasm)
+    ⊳ (λ opcode kind. wasm_holds NearRow kind (λ index. tt) (λ index. tt) (λ index. tt) (λ index. tt) tt)
     ⊳ (λ opcode. tt)
     ⊳ (λ opcode number. tt)
     ⊳ (λ opcode number. tt)
     ⊳ tt
 
-near_among : (opcode : ℕ) (table : List Line) → NearLines table → NearRow (row_among opcode table)
-near_among opcode [] h = tt
-near_among opcode (line ∷ more) h =
-    if_near (line.has opcode) (line.row opcode) (row_among opcode more) (h.0 opcode) (near_among opcode more h.1)
-
 near_row : (encoding : Encoding) (opcode : ℕ) → NearRow (row_of encoding opcode)
-unfolding row_of
-near_row encoding opcode = near_among opcode (lines encoding) (near_lines encoding)
+near_row encoding opcode = row_holds NearRow (λ n. tt) encoding opcode (near_lines encoding)
 
 -- ---- what is read
 

@@ -4,6 +4,7 @@ pub mod NumberReads
 pub mod OperationReads
 pub mod Decoded
 pub mod Splittings
+pub mod Lines
 pub mod Branches
 pub mod DecodingFaults
 pub mod Choices

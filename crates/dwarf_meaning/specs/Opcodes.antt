@@ -1,5 +1,5 @@
 -- The table of opcodes (DWARF 5, section 7.7.1, and the extensions of GNU and WebAssembly).
-use Rattle.std.specs.Prelude.{ℕ, ◌-◌, ◌*◌, ◌==◌, ◌&&◌, ◌||◌, nat_le, Bool, ℤ, pos, true, false, List, [], ◌∷◌, Some, None, if◌then◌else◌}
+use Rattle.std.specs.Prelude.{ℕ, ◌+◌, ◌-◌, ◌*◌, ◌==◌, ◌&&◌, ◌||◌, nat_le, Bool, ℤ, pos, true, false, List, [], ◌∷◌, ◌++◌, Some, None, if◌then◌else◌}
 use Rattle.dwarf_base.specs.declared.common.Encoding.{Encoding}
 use Rattle.dwarf_base.specs.Reads.{Text}
 use Rattle.dwarf_meaning.specs.Operations as operation
@@ -60,6 +60,11 @@ both standard gnu row = record { has = λ n. n == standard || n == gnu; row = λ
 abbrev pub range : (from to : ℕ) → (ℕ → Row) → Line
 range from to row = record { has = λ n. nat_le from n && nat_le n to; row = λ n. row (n - from) }
 
+-- consecutive opcodes, each with an operation that has no operands
+abbrev pub plain : (from : ℕ) → List Operation → List Line
+plain from [] = []
+plain from (op ∷ ops) = one from (Makes op) ∷ plain (from + 1) ops
+
 -- the whole table
 abbrev pub lines : Encoding → List Line
 lines encoding =
@@ -75,36 +80,16 @@ lines encoding =
     ∷ one 0x0f (signed (SignedFixed 8) operation.SignedConstant)
     ∷ one 0x10 (unsigned Leb128 operation.UnsignedConstant)
     ∷ one 0x11 (signed SignedLeb128 operation.SignedConstant)
-    ∷ one 0x12 (Makes (operation.Pick 0))
-    ∷ one 0x13 (Makes operation.Drop)
-    ∷ one 0x14 (Makes (operation.Pick 1))
-    ∷ one 0x15 (unsigned (Fixed 1) operation.Pick)
-    ∷ one 0x16 (Makes operation.Swap)
-    ∷ one 0x17 (Makes operation.Rot)
-    ∷ one 0x18 (Makes (operation.Deref 0 encoding.address_size true))
-    ∷ one 0x19 (Makes operation.Abs)
-    ∷ one 0x1a (Makes operation.And)
-    ∷ one 0x1b (Makes operation.Div)
-    ∷ one 0x1c (Makes operation.Minus)
-    ∷ one 0x1d (Makes operation.Mod)
-    ∷ one 0x1e (Makes operation.Mul)
-    ∷ one 0x1f (Makes operation.Neg)
-    ∷ one 0x20 (Makes operation.Not)
-    ∷ one 0x21 (Makes operation.Or)
-    ∷ one 0x22 (Makes operation.Plus)
-    ∷ one 0x23 (unsigned Leb128 operation.PlusConstant)
-    ∷ one 0x24 (Makes operation.Shl)
-    ∷ one 0x25 (Makes operation.Shr)
-    ∷ one 0x26 (Makes operation.Shra)
-    ∷ one 0x27 (Makes operation.Xor)
-    ∷ one 0x28 (signed (SignedFixed 2) operation.Bra)
-    ∷ one 0x29 (Makes operation.Eq)
-    ∷ one 0x2a (Makes operation.Ge)
-    ∷ one 0x2b (Makes operation.Gt)
-    ∷ one 0x2c (Makes operation.Le)
-    ∷ one 0x2d (Makes operation.Lt)
-    ∷ one 0x2e (Makes operation.Ne)
-    ∷ one 0x2f (signed (SignedFixed 2) operation.Skip)
+    ∷ plain 0x12 (operation.Pick 0 ∷ operation.Drop ∷ operation.Pick 1 ∷ [])
+    ++ one 0x15 (unsigned (Fixed 1) operation.Pick)
+    ∷ plain 0x16 (operation.Swap ∷ operation.Rot ∷ operation.Deref 0 encoding.address_size true ∷ [])
+    ++ plain 0x19 (operation.Abs ∷ operation.And ∷ operation.Div ∷ operation.Minus ∷ operation.Mod ∷ [])
+    ++ plain 0x1e (operation.Mul ∷ operation.Neg ∷ operation.Not ∷ operation.Or ∷ operation.Plus ∷ [])
+    ++ one 0x23 (unsigned Leb128 operation.PlusConstant)
+    ∷ plain 0x24 (operation.Shl ∷ operation.Shr ∷ operation.Shra ∷ operation.Xor ∷ [])
+    ++ one 0x28 (signed (SignedFixed 2) operation.Bra)
+    ∷ plain 0x29 (operation.Eq ∷ operation.Ge ∷ operation.Gt ∷ operation.Le ∷ operation.Lt ∷ operation.Ne ∷ [])
+    ++ one 0x2f (signed (SignedFixed 2) operation.Skip)
     ∷ range 0x30 0x4f (λ number. Makes (operation.UnsignedConstant number))
     ∷ range 0x50 0x6f (λ number. Makes (operation.Register number))
     ∷ range 0x70 0x8f (λ number. signed SignedLeb128 (λ offset. operation.RegisterOffset number offset 0))
@@ -114,9 +99,8 @@ lines encoding =
     ∷ one 0x93 (unsigned PieceSize (λ size. operation.Piece (8 * size) None))
     ∷ one 0x94 (unsigned (Fixed 1) (λ size. operation.Deref 0 size false))
     ∷ one 0x95 (unsigned (Fixed 1) (λ size. operation.Deref 0 size true))
-    ∷ one 0x96 (Makes operation.Nop)
-    ∷ one 0x97 (Makes operation.PushObjectAddress)
-    ∷ one 0x98 (unsigned (Fixed 2) (λ offset. operation.Call (UnitRef offset)))
+    ∷ plain 0x96 (operation.Nop ∷ operation.PushObjectAddress ∷ [])
+    ++ one 0x98 (unsigned (Fixed 2) (λ offset. operation.Call (UnitRef offset)))
     ∷ one 0x99 (unsigned (Fixed 4) (λ offset. operation.Call (UnitRef offset)))
     ∷ one 0x9a (unsigned SectionOffset (λ offset. operation.Call (DebugInfoRef offset)))
     ∷ both 0x9b 0xe0 (Makes operation.TLS)

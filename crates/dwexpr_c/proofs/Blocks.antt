@@ -8,7 +8,7 @@ use Rattle.dwarf_base.specs.declared.common.Encoding.{Encoding}
 use Rattle.dwarf_base.specs.Reads.{Text}
 use Rattle.dwarf_meaning.specs.Operations.{Operation}
 use Rattle.dwarf_meaning.specs.Operands.{Context, block_of}
-use Rattle.dwarf_meaning.specs.Opcodes.{Row, Makes, Unsigned, Signed, Block, Invalid, Line, lines, row_among, row_of, wasm_row}
+use Rattle.dwarf_meaning.specs.Opcodes.{Row, Makes, Unsigned, Signed, Block, Invalid, lines, row_of}
 use Rattle.dwarf_meaning.specs.Decoding.{operation_at}
 use Rattle.dwarf_meaning.specs.Spelling.{SpellsOperands, Spells}
 use Rattle.dwarf_meaning.specs.Spelling as spelling
@@ -16,7 +16,7 @@ use Rattle.dwarf_meaning.proofs.Decoded.{operation_begins}
 use Rattle.dwexpr_c.specs.Decoded.{Decodes, HasBlock, IsBlockAt, with_block}
 use Rattle.dwexpr_c.specs.Operations.{block_in, operands_of}
 use Rattle.dwexpr_c.specs.declared.operations.DwexprOperation.{DwexprOperation}
-use Rattle.dwarf_meaning.proofs.Branches.{◌⊳◌}
+use Rattle.dwarf_meaning.proofs.Lines.{OnLines, ◌⊳◌, wasm_holds, row_holds}
 
 -- ---- what the rows of the table make
 
@@ -36,19 +36,7 @@ LastInRow (Signed form next) = (value : ℤ) → LastInRow (next value)
 LastInRow (Block size next) = (block : Text) → IsLast block (next block)
 LastInRow (Invalid opcode) = Unit {0}
 
-if_last : (test : Bool) (x y : Row) → LastInRow x → LastInRow y → LastInRow (cond test x y)
-if_last true x y h k = h
-if_last false x y h k = k
-
-last_in_wasm : (opcode kind : ℕ) → LastInRow (wasm_row kind)
-last_in_wasm opcode kind =
-    if_last (kind == 0) _ _ (λ index. refl) (if_last (kind == 1) _ _ (λ index. refl) (if_last (kind == 2) _ _ (λ index. refl) (if_last (kind == 3) _ _ (λ index. refl) tt)))
-
-abbrev LastInLines : List Line → Type 0
-LastInLines [] = Unit {0}
-LastInLines (line ∷ more) = ((opcode : ℕ) → LastInRow (line.row opcode)) × LastInLines more
-
-last_in_lines : (encoding : Encoding) → LastInLines (lines encoding)
+last_in_lines : (encoding : Encoding) → OnLines LastInRow (lines encoding)
 last_in_lines encoding =
     (λ opcode number. refl)
     ⊳ (λ opcode. refl)
@@ -121,20 +109,14 @@ last_in_lines encoding =
     ⊳ (λ opcode first second. refl)
     ⊳ (λ opcode number. refl)
     ⊳ (λ opcode number. refl)
-    ⊳ last_in_wasm
+    ⊳ (λ opcode kind. wasm_holds LastInRow kind (λ index. refl) (λ index. refl) (λ index. refl) (λ index. refl) tt)
     ⊳ (λ opcode. refl)
     ⊳ (λ opcode number. refl)
     ⊳ (λ opcode number. refl)
     ⊳ tt
 
-last_among : (opcode : ℕ) (table : List Line) → LastInLines table → LastInRow (row_among opcode table)
-last_among opcode [] h = tt
-last_among opcode (line ∷ more) h =
-    if_last (line.has opcode) (line.row opcode) (row_among opcode more) (h.0 opcode) (last_among opcode more h.1)
-
 last_in_row : (encoding : Encoding) (opcode : ℕ) → LastInRow (row_of encoding opcode)
-unfolding row_of
-last_in_row encoding opcode = last_among opcode (lines encoding) (last_in_lines encoding)
+last_in_row encoding opcode = row_holds LastInRow (λ n. tt) encoding opcode (last_in_lines encoding)
 
 -- ---- what is spelled
 

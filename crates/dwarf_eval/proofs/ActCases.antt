@@ -1,5 +1,6 @@
 -- What operations do with the stack, case by case.
 use Rattle.std.proofs.Common.{ℕ, ℤ, ◌≡◌, ◌==◌, ◌*◌, Bool, true, false, List, [], ◌∷◌, Option, Some, None, ap, ◌∙◌, sym, refl, nat_lt, cond}
+use Rattle.std.proofs.lemmas.Bool.{cond-true, cond-false}
 use Rattle.std.specs.Prelude.{slice_get}
 use Rattle.dwarf_base.specs.declared.errors.Error.TheVariants.{NotEnoughStackItems, InvalidDerefSize, InvalidPushObjectAddress}
 use Rattle.dwarf_base.specs.Numbers.{residue}
@@ -8,9 +9,9 @@ use Rattle.dwarf_value.specs.declared.types.Value.TheVariants.{Generic}
 use Rattle.dwarf_value.specs.Values.{to_u64_of}
 use Rattle.dwarf_meaning.specs.Operations as operation
 use Rattle.dwarf_meaning.specs.Locations.{Empty, AtAddress, HoldsValue, Piece, sized}
-use Rattle.dwarf_meaning.specs.Requests.{RequiresMemory, RequiresTls, Memory, Tls}
+use Rattle.dwarf_meaning.specs.Requests.{RequiresMemory, RequiresTls, Push}
 use Rattle.dwarf_meaning.specs.Acts.{Act, Pushes, Branches, Locates, EndsPiece, RequestAct, FaultAct, on_top, short, push, act}
-use Rattle.dwarf_meaning.proofs.Choices.{if_true, if_false, top_none, top_some, some_none, some_some}
+use Rattle.dwarf_meaning.proofs.Choices.{top_none, top_some, some_none, some_some}
 
 module _ (bits : ℕ) (object : Option ℕ) (values : List Value) where
   -- an operation that pops at least one value, and finds none
@@ -79,11 +80,11 @@ module _ (bits : ℕ) (object : Option ℕ) (values : List Value) where
 
   pub zero_bra : (target : ℤ) (x : Value) (rest : List Value) → values ≡ x ∷ rest → (to_u64_of bits x == 0) ≡ true → act bits object (operation.Bra target) values ≡ Pushes rest []
   unfolding act
-  zero_bra target x rest e f = top_some values short (branches target) x rest e ∙ if_true (to_u64_of bits x == 0) (Pushes rest []) (Branches rest target) f
+  zero_bra target x rest e f = top_some values short (branches target) x rest e ∙ cond-true (to_u64_of bits x == 0) (Pushes rest []) (Branches rest target) f
 
   pub some_bra : (target : ℤ) (x : Value) (rest : List Value) → values ≡ x ∷ rest → (to_u64_of bits x == 0) ≡ false → act bits object (operation.Bra target) values ≡ Branches rest target
   unfolding act
-  some_bra target x rest e f = top_some values short (branches target) x rest e ∙ if_false (to_u64_of bits x == 0) (Pushes rest []) (Branches rest target) f
+  some_bra target x rest e f = top_some values short (branches target) x rest e ∙ cond-false (to_u64_of bits x == 0) (Pushes rest []) (Branches rest target) f
 
   pub none_stack_value : values ≡ [] → act bits object operation.StackValue values ≡ FaultAct NotEnoughStackItems
   unfolding act
@@ -95,11 +96,11 @@ module _ (bits : ℕ) (object : Option ℕ) (values : List Value) where
 
   pub none_tls : values ≡ [] → act bits object operation.TLS values ≡ FaultAct NotEnoughStackItems
   unfolding act
-  none_tls e = top_none values short (λ x rest. RequestAct rest (RequiresTls (to_u64_of bits x)) Tls) e
+  none_tls e = top_none values short (λ x rest. RequestAct rest (RequiresTls (to_u64_of bits x)) Push) e
 
-  pub some_tls : (x : Value) (rest : List Value) → values ≡ x ∷ rest → act bits object operation.TLS values ≡ RequestAct rest (RequiresTls (to_u64_of bits x)) Tls
+  pub some_tls : (x : Value) (rest : List Value) → values ≡ x ∷ rest → act bits object operation.TLS values ≡ RequestAct rest (RequiresTls (to_u64_of bits x)) Push
   unfolding act
-  some_tls x rest e = top_some values short (λ x rest. RequestAct rest (RequiresTls (to_u64_of bits x)) Tls) x rest e
+  some_tls x rest e = top_some values short (λ x rest. RequestAct rest (RequiresTls (to_u64_of bits x)) Push) x rest e
 
   module _ (size : ℕ) (offset : Option ℕ) where
     abbrev piece_nowhere : Piece
@@ -118,34 +119,34 @@ module _ (bits : ℕ) (object : Option ℕ) (values : List Value) where
 
   module _ (base_type size : ℕ) where
     abbrev reads : Value → List Value → Act
-    reads x rest = RequestAct rest (RequiresMemory (to_u64_of bits x) size None base_type) Memory
+    reads x rest = RequestAct rest (RequiresMemory (to_u64_of bits x) size None base_type) Push
 
     abbrev reads_in : Value → List Value → Act
-    reads_in x below = on_top below short (λ y rest. RequestAct rest (RequiresMemory (to_u64_of bits x) size (Some (to_u64_of bits y)) base_type) Memory)
+    reads_in x below = on_top below short (λ y rest. RequestAct rest (RequiresMemory (to_u64_of bits x) size (Some (to_u64_of bits y)) base_type) Push)
 
     pub wide_deref : (space : Bool) → nat_lt bits (8 * size) ≡ true → act bits object (operation.Deref base_type size space) values ≡ FaultAct (InvalidDerefSize size)
     unfolding act
-    wide_deref false e = if_true (nat_lt bits (8 * size)) (FaultAct (InvalidDerefSize size)) (on_top values short reads) e
-    wide_deref true e = if_true (nat_lt bits (8 * size)) (FaultAct (InvalidDerefSize size)) (on_top values short reads_in) e
+    wide_deref false e = cond-true (nat_lt bits (8 * size)) (FaultAct (InvalidDerefSize size)) (on_top values short reads) e
+    wide_deref true e = cond-true (nat_lt bits (8 * size)) (FaultAct (InvalidDerefSize size)) (on_top values short reads_in) e
 
     module _ (fits : nat_lt bits (8 * size) ≡ false) where
       pub none_deref : (space : Bool) → values ≡ [] → act bits object (operation.Deref base_type size space) values ≡ FaultAct NotEnoughStackItems
       unfolding act
-      none_deref false e = if_false (nat_lt bits (8 * size)) (FaultAct (InvalidDerefSize size)) (on_top values short reads) fits ∙ top_none values short reads e
-      none_deref true e = if_false (nat_lt bits (8 * size)) (FaultAct (InvalidDerefSize size)) (on_top values short reads_in) fits ∙ top_none values short reads_in e
+      none_deref false e = cond-false (nat_lt bits (8 * size)) (FaultAct (InvalidDerefSize size)) (on_top values short reads) fits ∙ top_none values short reads e
+      none_deref true e = cond-false (nat_lt bits (8 * size)) (FaultAct (InvalidDerefSize size)) (on_top values short reads_in) fits ∙ top_none values short reads_in e
 
       pub some_deref : (x : Value) (rest : List Value) → values ≡ x ∷ rest → act bits object (operation.Deref base_type size false) values ≡ reads x rest
       unfolding act
-      some_deref x rest e = if_false (nat_lt bits (8 * size)) (FaultAct (InvalidDerefSize size)) (on_top values short reads) fits ∙ top_some values short reads x rest e
+      some_deref x rest e = cond-false (nat_lt bits (8 * size)) (FaultAct (InvalidDerefSize size)) (on_top values short reads) fits ∙ top_some values short reads x rest e
 
       deref_in : (x : Value) (below : List Value) → values ≡ x ∷ below → act bits object (operation.Deref base_type size true) values ≡ reads_in x below
       unfolding act
-      deref_in x below e = if_false (nat_lt bits (8 * size)) (FaultAct (InvalidDerefSize size)) (on_top values short reads_in) fits ∙ top_some values short reads_in x below e
+      deref_in x below e = cond-false (nat_lt bits (8 * size)) (FaultAct (InvalidDerefSize size)) (on_top values short reads_in) fits ∙ top_some values short reads_in x below e
 
       pub one_deref : (x : Value) → values ≡ x ∷ [] → act bits object (operation.Deref base_type size true) values ≡ FaultAct NotEnoughStackItems
       one_deref x e = deref_in x [] e ∙ top_none [] short _ refl
 
-      pub two_deref : (x y : Value) (rest : List Value) → values ≡ x ∷ y ∷ rest → act bits object (operation.Deref base_type size true) values ≡ RequestAct rest (RequiresMemory (to_u64_of bits x) size (Some (to_u64_of bits y)) base_type) Memory
+      pub two_deref : (x y : Value) (rest : List Value) → values ≡ x ∷ y ∷ rest → act bits object (operation.Deref base_type size true) values ≡ RequestAct rest (RequiresMemory (to_u64_of bits x) size (Some (to_u64_of bits y)) base_type) Push
       two_deref x y rest e =
           deref_in x (y ∷ rest) e
-          ∙ top_some (y ∷ rest) short (λ y rest. RequestAct rest (RequiresMemory (to_u64_of bits x) size (Some (to_u64_of bits y)) base_type) Memory) y rest refl
+          ∙ top_some (y ∷ rest) short (λ y rest. RequestAct rest (RequiresMemory (to_u64_of bits x) size (Some (to_u64_of bits y)) base_type) Push) y rest refl

@@ -10,35 +10,39 @@ use Rattle.dwarf_value.specs.declared.types.Value.TheVariants.{Generic}
 use Rattle.dwarf_value.specs.declared.types.ValueType.{ValueType}
 use Rattle.dwarf_value.specs.Values.{add_of, from_u64_of, type_of, convert_of, reinterpret_of, parse_of}
 use Rattle.dwarf_meaning.specs.declared.kinds.WaitingKind.TheVariants as kind
-use Rattle.dwarf_meaning.specs.Kinds.{kind_of_waiting}
+use Rattle.dwarf_meaning.specs.Kinds.{kind_of_request}
 use Rattle.dwarf_meaning.specs.declared.kinds.WaitingKind.{WaitingKind}
-use Rattle.dwarf_meaning.specs.Requests.{Request, Waiting, Memory, Register, WasmValue, EntryValue, FrameBase, Tls, CallFrameCfa, ParameterRef, RelocatedAddress, IndexedAddress, AtLocation, TypedLiteral, Convert, Reinterpret, MemoryAnswer, RegisterAnswer, WasmAnswer, EntryAnswer, FrameBaseAnswer, TlsAnswer, CfaAnswer, ParameterAnswer, RelocatedAnswer, IndexedAnswer, LocationAnswer, BaseTypeAnswer}
+use Rattle.dwarf_meaning.specs.Requests.{Request, OnAnswer, Push, Add, Parse, Convert, Reinterpret, ValueAnswer, NumberAnswer, LocationAnswer, BaseTypeAnswer}
 use Rattle.dwarf_meaning.specs.Acts.{Use, PushesAnswer, Calls, FaultUse, on_top, on_result, result_of, use_of}
 use Rattle.dwarf_meaning.specs.Rest.{Status, Start, Running, RequestStatus, CompleteStatus, FaultStatus}
 use Rattle.dwarf_meaning.proofs.Choices.{answer_ok, answer_err, read_ok, read_err, top_none, top_some}
-use Rattle.dwarf_eval.specs.inner.Answers.{IsWaitingFor, IsWaitingTo}
+use Rattle.dwarf_eval.specs.inner.Answers.{IsFor, IsWaitingFor, IsWaitingTo}
 
 -- ---- the open request
 
-pub record IsOpenTo (wanted : Waiting) (status : Status) : Type 0 where
+-- a request of this kind is open
+pub record IsOpen (kind : WaitingKind) (status : Status) : Type 0 where
+  pub request : Request
+  pub on_answer : OnAnswer
+  pub is : status ≡ RequestStatus request on_answer
+  pub fits : kind_of_request request ≡ kind
+  pub is_for : IsFor kind on_answer
+
+-- a request of this kind is open, to do this with its answer
+pub record IsOpenTo (kind : WaitingKind) (wanted : OnAnswer) (status : Status) : Type 0 where
   pub request : Request
   pub is : status ≡ RequestStatus request wanted
+  pub fits : kind_of_request request ≡ kind
 
-pub record WaitsOrIsComplete (kind : WaitingKind) (status : Status) : Type 0 where
-  pub request : Request
-  pub waiting : Waiting
-  pub is : status ≡ RequestStatus request waiting
-  pub fits : kind_of_waiting waiting ≡ kind
+pub open_to : (kind : WaitingKind) (wanted : OnAnswer) (status : Status) → IsWaitingTo kind wanted status → IsOpenTo kind wanted status
+open_to kind wanted (RequestStatus request on_answer) h = record { request = request; is = ap (RequestStatus request) h.1; fits = h.0 }
+open_to kind wanted (Start initial_value) h = absurd h
+open_to kind wanted (CompleteStatus value) h = absurd h
+open_to kind wanted (FaultStatus error) h = absurd h
+open_to kind wanted Running h = absurd h
 
-pub open_to : (wanted : Waiting) (status : Status) → IsWaitingTo wanted status → IsOpenTo wanted status
-open_to wanted (RequestStatus request waiting) h = record { request = request; is = ap (RequestStatus request) h }
-open_to wanted (Start initial_value) h = absurd h
-open_to wanted (CompleteStatus value) h = absurd h
-open_to wanted (FaultStatus error) h = absurd h
-open_to wanted Running h = absurd h
-
-pub open_for : (kind : WaitingKind) (status : Status) → IsWaitingFor kind status → WaitsOrIsComplete kind status
-open_for kind (RequestStatus request waiting) h = record { request = request; waiting = waiting; is = refl; fits = h }
+pub open_for : (kind : WaitingKind) (status : Status) → IsWaitingFor kind status → IsOpen kind status
+open_for kind (RequestStatus request on_answer) h = record { request = request; on_answer = on_answer; is = refl; fits = h.0; is_for = h.1 }
 open_for kind (Start initial_value) h = absurd h
 open_for kind (CompleteStatus value) h = absurd h
 open_for kind (FaultStatus error) h = absurd h
@@ -47,75 +51,42 @@ open_for kind Running h = absurd h
 -- ---- answers that are pushed as they are
 
 module _ (bits : ℕ) (values : List Value) where
-  pub memory_gives : (w : Waiting) (v : Value) → kind_of_waiting w ≡ kind.Memory → use_of bits w (MemoryAnswer v) values ≡ PushesAnswer values v
+  pub value_gives : (on_answer : OnAnswer) (kind : WaitingKind) (v : Value) → on_answer ≡ Push → use_of bits on_answer (ValueAnswer kind v) values ≡ PushesAnswer values v
   unfolding use_of
-  memory_gives Memory v e = refl
-  memory_gives _ v e = cc
+  value_gives on_answer kind v e = ap (λ (o : OnAnswer). use_of bits o (ValueAnswer kind v) values) e
 
-  pub wasm_gives : (w : Waiting) (v : Value) → kind_of_waiting w ≡ kind.WasmValue → use_of bits w (WasmAnswer v) values ≡ PushesAnswer values v
+  pub number_gives : (on_answer : OnAnswer) (kind : WaitingKind) (n : ℕ) → on_answer ≡ Push → use_of bits on_answer (NumberAnswer kind n) values ≡ PushesAnswer values (Generic n)
   unfolding use_of
-  wasm_gives WasmValue v e = refl
-  wasm_gives _ v e = cc
+  number_gives on_answer kind n e = ap (λ (o : OnAnswer). use_of bits o (NumberAnswer kind n) values) e
 
-  pub entry_gives : (w : Waiting) (v : Value) → kind_of_waiting w ≡ kind.EntryValue → use_of bits w (EntryAnswer v) values ≡ PushesAnswer values v
+  pub location_calls : (on_answer : OnAnswer) (text : Text) → use_of bits on_answer (LocationAnswer text) values ≡ Calls text
   unfolding use_of
-  entry_gives EntryValue v e = refl
-  entry_gives _ v e = cc
-
-  pub tls_gives : (w : Waiting) (n : ℕ) → kind_of_waiting w ≡ kind.Tls → use_of bits w (TlsAnswer n) values ≡ PushesAnswer values (Generic n)
-  unfolding use_of
-  tls_gives Tls n e = refl
-  tls_gives _ n e = cc
-
-  pub cfa_gives : (w : Waiting) (n : ℕ) → kind_of_waiting w ≡ kind.CallFrameCfa → use_of bits w (CfaAnswer n) values ≡ PushesAnswer values (Generic n)
-  unfolding use_of
-  cfa_gives CallFrameCfa n e = refl
-  cfa_gives _ n e = cc
-
-  pub parameter_gives : (w : Waiting) (n : ℕ) → kind_of_waiting w ≡ kind.ParameterRef → use_of bits w (ParameterAnswer n) values ≡ PushesAnswer values (Generic n)
-  unfolding use_of
-  parameter_gives ParameterRef n e = refl
-  parameter_gives _ n e = cc
-
-  pub relocated_gives : (w : Waiting) (n : ℕ) → kind_of_waiting w ≡ kind.RelocatedAddress → use_of bits w (RelocatedAnswer n) values ≡ PushesAnswer values (Generic n)
-  unfolding use_of
-  relocated_gives RelocatedAddress n e = refl
-  relocated_gives _ n e = cc
-
-  pub indexed_gives : (w : Waiting) (n : ℕ) → kind_of_waiting w ≡ kind.IndexedAddress → use_of bits w (IndexedAnswer n) values ≡ PushesAnswer values (Generic n)
-  unfolding use_of
-  indexed_gives IndexedAddress n e = refl
-  indexed_gives _ n e = cc
-
-  pub location_calls : (w : Waiting) (text : Text) → kind_of_waiting w ≡ kind.AtLocation → use_of bits w (LocationAnswer text) values ≡ Calls text
-  unfolding use_of
-  location_calls AtLocation text e = refl
-  location_calls _ text e = cc
+  location_calls on_answer text = refl
 
   -- ---- answers from which a value is made
 
-  register_is : (offset : ℤ) (x : Value) → use_of bits (Register offset) (RegisterAnswer x) values ≡ on_result (result_of (add_of bits x (from_u64_of (type_of x) (residue 64 offset)))) FaultUse (PushesAnswer values)
+  register_is : (offset : ℤ) (x : Value) → use_of bits (Add offset) (ValueAnswer kind.Register x) values ≡ on_result (result_of (add_of bits x (from_u64_of (type_of x) (residue 64 offset)))) FaultUse (PushesAnswer values)
   unfolding use_of
   register_is offset x = refl
 
-  pub register_gives : (offset : ℤ) (x v : Value) → add_of bits x (from_u64_of (type_of x) (residue 64 offset)) ≡ Ok v → use_of bits (Register offset) (RegisterAnswer x) values ≡ PushesAnswer values v
+  pub register_gives : (offset : ℤ) (x v : Value) → add_of bits x (from_u64_of (type_of x) (residue 64 offset)) ≡ Ok v → use_of bits (Add offset) (ValueAnswer kind.Register x) values ≡ PushesAnswer values v
   register_gives offset x v e = register_is offset x ∙ answer_ok (add_of bits x (from_u64_of (type_of x) (residue 64 offset))) FaultUse (PushesAnswer values) v e
 
-  pub register_denies : (offset : ℤ) (x : Value) (error : Error) → add_of bits x (from_u64_of (type_of x) (residue 64 offset)) ≡ Err error → use_of bits (Register offset) (RegisterAnswer x) values ≡ FaultUse (fault_of error)
+  pub register_denies : (offset : ℤ) (x : Value) (error : Error) → add_of bits x (from_u64_of (type_of x) (residue 64 offset)) ≡ Err error → use_of bits (Add offset) (ValueAnswer kind.Register x) values ≡ FaultUse (fault_of error)
   register_denies offset x error e = register_is offset x ∙ answer_err (add_of bits x (from_u64_of (type_of x) (residue 64 offset))) FaultUse (PushesAnswer values) error e
 
-  pub frame_base_gives : (offset : ℤ) (base number : ℕ) → number ≡ residue 64 (pos base +ℤ offset) → use_of bits (FrameBase offset) (FrameBaseAnswer base) values ≡ PushesAnswer values (Generic number)
+  pub frame_base_gives : (offset : ℤ) (base number : ℕ) → number ≡ residue 64 (pos base +ℤ offset) → use_of bits (Add offset) (NumberAnswer kind.FrameBase base) values ≡ PushesAnswer values (Generic number)
   unfolding use_of
   frame_base_gives offset base number e = ap (λ (n : ℕ). PushesAnswer values (Generic n)) (sym e)
 
-  literal_is : (literal : Text) (t : ValueType) → use_of bits (TypedLiteral literal) (BaseTypeAnswer t) values ≡ on_result (parse_of t literal.is_big literal.bytes) FaultUse (PushesAnswer values)
+  literal_is : (literal : Text) (t : ValueType) → use_of bits (Parse literal) (BaseTypeAnswer t) values ≡ on_result (parse_of t literal.is_big literal.bytes) FaultUse (PushesAnswer values)
   unfolding use_of
   literal_is literal t = refl
 
-  pub literal_gives : (literal : Text) (t : ValueType) (v : Value) → parse_of t literal.is_big literal.bytes ≡ Ok v → use_of bits (TypedLiteral literal) (BaseTypeAnswer t) values ≡ PushesAnswer values v
+  pub literal_gives : (literal : Text) (t : ValueType) (v : Value) → parse_of t literal.is_big literal.bytes ≡ Ok v → use_of bits (Parse literal) (BaseTypeAnswer t) values ≡ PushesAnswer values v
   literal_gives literal t v e = literal_is literal t ∙ read_ok (parse_of t literal.is_big literal.bytes) FaultUse (PushesAnswer values) v e
 
-  pub literal_denies : (literal : Text) (t : ValueType) (fault : Fault) → parse_of t literal.is_big literal.bytes ≡ Err fault → use_of bits (TypedLiteral literal) (BaseTypeAnswer t) values ≡ FaultUse fault
+  pub literal_denies : (literal : Text) (t : ValueType) (fault : Fault) → parse_of t literal.is_big literal.bytes ≡ Err fault → use_of bits (Parse literal) (BaseTypeAnswer t) values ≡ FaultUse fault
   literal_denies literal t fault e = literal_is literal t ∙ read_err (parse_of t literal.is_big literal.bytes) FaultUse (PushesAnswer values) fault e
 
   -- the top becomes a value of the type

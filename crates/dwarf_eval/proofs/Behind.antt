@@ -14,7 +14,7 @@ use Rattle.dwarf_eval.specs.inner.Steps.{IsNoBranch, LeadsBy, Performs, Stays, a
 
 text_by : (f : Store → Next) (old new : State) (status : Status) → LeadsBy f old new status → new.text ≡ old.text
 text_by f old new Running h = ap (λ (z : State). z.text) h.alone
-text_by f old new (RequestStatus request waiting) h = ap (λ (z : State). z.text) h.alone
+text_by f old new (RequestStatus request on_answer) h = ap (λ (z : State). z.text) h.alone
 text_by f old new (FaultStatus error) h = h.stays.text
 text_by f old new (Start initial_value) h = absurd h
 text_by f old new (CompleteStatus value) h = absurd h
@@ -31,7 +31,7 @@ IsStill _ = Unit {0}
 
 abbrev moved : ℕ → Next → Next
 moved place (Goes was s) = Goes place s
-moved place (RequestNext request waiting s) = RequestNext request waiting s
+moved place (RequestNext request on_answer s) = RequestNext request on_answer s
 moved place (FaultNext fault) = FaultNext fault
 
 goes_moved : (place was : ℕ) (r : Result Store Fault) → goes place r ≡ moved place (goes was r)
@@ -43,7 +43,7 @@ done_moved setup place was len (Pushes rest pushed) s h = goes_moved place was _
 done_moved setup place was len (Branches rest target) s h = absurd h
 done_moved setup place was len (Locates rest location) s h = refl
 done_moved setup place was len (EndsPiece rest piece) s h = goes_moved place was _
-done_moved setup place was len (RequestAct rest request waiting) s h = refl
+done_moved setup place was len (RequestAct rest request on_answer) s h = refl
 done_moved setup place was len (FaultAct fault) s h = refl
 
 stays_behind : (place : ℕ) (old new : State) → Stays 0 old new → Stays 0 (with_place place old) (with_place place new)
@@ -69,10 +69,10 @@ module _ (a : Act) (place : ℕ) (old new : State) (still : IsStill a) where
     };
     alone = ap (with_place place) h.alone;
   }
-  behind_by (RequestStatus request waiting) h = record {
+  behind_by (RequestStatus request on_answer) h = record {
     steps = record {
       pushes = h.steps.pushes;
-      same = λ r. moves (with_refusal (before_pushes h.steps.pushes r) old.store) (RequestNext request waiting (with_refusal r new.store)) (h.steps.same r);
+      same = λ r. moves (with_refusal (before_pushes h.steps.pushes r) old.store) (RequestNext request on_answer (with_refusal r new.store)) (h.steps.same r);
     };
     alone = ap (with_place place) h.alone;
   }

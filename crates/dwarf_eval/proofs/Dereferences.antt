@@ -5,7 +5,7 @@ use Rattle.dwarf_base.specs.declared.errors.Error.TheVariants as error
 use Rattle.dwarf_value.specs.declared.types.Value.{Value}
 use Rattle.dwarf_value.specs.Values.{to_u64_of}
 use Rattle.dwarf_meaning.specs.Operations as operation
-use Rattle.dwarf_meaning.specs.Requests.{RequiresMemory, Memory}
+use Rattle.dwarf_meaning.specs.Requests.{RequiresMemory, Push}
 use Rattle.dwarf_meaning.specs.Acts.{Act, RequestAct}
 use Rattle.dwarf_meaning.specs.Stores.{address_bits}
 use Rattle.dwarf_meaning.specs.Rest.{State, FaultStatus}
@@ -55,12 +55,12 @@ module _ (base_type size : ℕ) (old : State) where
     no_address space mid new h is =
         performs_refuses (deref space) error.NotEnoughStackItems old mid new (none_deref _ _ old.store.values base_type size narrow space h.0) (stays_number None old mid h) is
 
-    pub asks_memory : (address : ℕ) (mid new : State) → PopsTo address old mid → Performs (RequestAct mid.store.values (RequiresMemory address size None base_type) Memory) mid new → Performs (deref false) old new
+    pub asks_memory : (address : ℕ) (mid new : State) → PopsTo address old mid → Performs (RequestAct mid.store.values (RequiresMemory address size None base_type) Push) mid new → Performs (deref false) old new
     asks_memory address mid new h i =
         performs_as _ _ old new
         (some_deref _ _ old.store.values base_type size narrow h.value h.rest h.values
-        ∙ ap (λ (n : ℕ). RequestAct h.rest (RequiresMemory n size None base_type) Memory) (sym h.is))
-        (performs_low (λ rest. RequestAct rest (RequiresMemory address size None base_type) Memory) h.rest old mid new (fewer_one h.value h.rest old.store.values h.values) h.alone i)
+        ∙ ap (λ (n : ℕ). RequestAct h.rest (RequiresMemory n size None base_type) Push) (sym h.is))
+        (performs_low (λ rest. RequestAct rest (RequiresMemory address size None base_type) Push) h.rest old mid new (fewer_one h.value h.rest old.store.values h.values) h.alone i)
 
     pub no_space : (address : ℕ) (mid low new : State) → PopsTo address old mid → PopsNumber mid low None → new ≡ with_status (FaultStatus error.NotEnoughStackItems) low → Performs (deref true) old new
     no_space address mid low new h i is =
@@ -69,12 +69,12 @@ module _ (base_type size : ℕ) (old : State) where
         let stays = stays_more 0 0 old mid low (stays_number (Some address) old mid h) (stays_number None mid low i) in
         performs_refuses (deref true) error.NotEnoughStackItems old low new (one_deref _ _ old.store.values base_type size narrow h.value one) stays is
 
-    pub asks_space : (address space : ℕ) (mid low new : State) → PopsTo address old mid → PopsTo space mid low → Performs (RequestAct low.store.values (RequiresMemory address size (Some space) base_type) Memory) low new → Performs (deref true) old new
+    pub asks_space : (address space : ℕ) (mid low new : State) → PopsTo address old mid → PopsTo space mid low → Performs (RequestAct low.store.values (RequiresMemory address size (Some space) base_type) Push) low new → Performs (deref true) old new
     asks_space address space mid low new h i k =
         let pair = pops_pair address space old mid low h i in
         let n = fewer_two pair.first pair.second pair.rest old.store.values pair.values in
         performs_as _ _ old new
         (two_deref _ _ old.store.values base_type size narrow pair.first pair.second pair.rest pair.values
-        ∙ (ap (λ (n : ℕ). RequestAct pair.rest (RequiresMemory n size (Some (to_u64_of (address_bits old.setup) pair.second)) base_type) Memory) (sym pair.is_first)
-        ∙ ap (λ (n : ℕ). RequestAct pair.rest (RequiresMemory address size (Some n) base_type) Memory) (sym pair.is_second)))
-        (performs_low (λ rest. RequestAct rest (RequiresMemory address size (Some space) base_type) Memory) pair.rest old low new (omega (arith, n)) pair.alone k)
+        ∙ (ap (λ (n : ℕ). RequestAct pair.rest (RequiresMemory n size (Some (to_u64_of (address_bits old.setup) pair.second)) base_type) Push) (sym pair.is_first)
+        ∙ ap (λ (n : ℕ). RequestAct pair.rest (RequiresMemory address size (Some n) base_type) Push) (sym pair.is_second)))
+        (performs_low (λ rest. RequestAct rest (RequiresMemory address size (Some space) base_type) Push) pair.rest old low new (omega (arith, n)) pair.alone k)

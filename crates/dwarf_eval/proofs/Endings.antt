@@ -1,5 +1,6 @@
 -- How many pieces ended a location.
 use Rattle.std.proofs.Common.{ℕ, ◌≡◌, ◌+◌, ◌≤◌, List, [], ◌∷◌, ◌++◌, length, Option, Some, None, Result, Ok, Err, arith, ◌∙◌, refl, nat_lt}
+use Rattle.std.proofs.lemmas.Bool.{cond_both}
 use Rattle.dwarf_base.specs.Faults.{Fault}
 use Rattle.dwarf_base.specs.declared.errors.Error.TheVariants.{NotEnoughStackItems}
 use Rattle.dwarf_value.specs.declared.types.Value.{Value}
@@ -11,7 +12,6 @@ use Rattle.dwarf_meaning.specs.RunLaws.{waits_of}
 use Rattle.dwarf_meaning.specs.Stores.{Setup, address_bits, Store, Last, Nothing, Plain, Pieced, Pushed, Called, Located, push_value, push_piece, push_values, done, branch_target}
 use Rattle.dwarf_meaning.specs.Meaning.{Outcome, RequestOutcome, FaultOutcome, CompleteOutcome, completion_of, whole, finish_value, finish, has_pieces}
 use Rattle.dwarf_meaning.specs.Refusals.{room}
-use Rattle.dwarf_meaning.proofs.Choices.{if_both}
 use Rattle.dwarf_meaning.proofs.Counts.{OnStore, OnNext, bound_store, on_bound, on_goes}
 use Rattle.dwarf_meaning.proofs.Effects.{IsActOf, IsGivenBy, IsOwnPlace, locates, ends}
 use Rattle.dwarf_meaning.specs.Bounds.{located_by, ending_by, endings, located}
@@ -106,13 +106,13 @@ pub done_ends : (op : Operation) (setup : Setup) (place len : ℕ) (a : Act) (s 
 done_ends op setup place len (Pushes rest pushed) s h free =
     on_goes (EndsNoMore (endings s.pieces)) place _ (values_end (endings s.pieces) setup pushed _ (record { pieces = refl; waits = omega arith }))
 done_ends op setup place len (Branches rest target) s h free =
-    if_both (OnNext (EndsNoMore (endings s.pieces))) (nat_lt len (branch_target setup place target)) _ _ (λ e. tt) (λ e. record { pieces = refl; waits = omega arith })
+    cond_both (nat_lt len (branch_target setup place target)) _ _ (OnNext (EndsNoMore (endings s.pieces))) (λ e. tt) (λ e. record { pieces = refl; waits = omega arith })
 done_ends op setup place len (Locates rest location) s (locates _ g) free =
     let given = given_by op location g in
     record { pieces = refl; waits = omega (arith, given) }
 done_ends op setup place len (EndsPiece rest piece) s (ends _ own) free =
     on_goes (EndsNoMore (endings s.pieces)) place _ (own_ends (endings s.pieces) setup piece _ (own_by piece.size_in_bits piece.location own) (record { pieces = refl; waits = omega arith }))
-done_ends op setup place len (RequestAct rest request waiting) s h free = record { pieces = refl; waits = omega (arith, free) }
+done_ends op setup place len (RequestAct rest request on_answer) s h free = record { pieces = refl; waits = omega (arith, free) }
 done_ends op setup place len (FaultAct fault) s h free = tt
 
 -- ---- the end
@@ -145,12 +145,12 @@ top_alike : (setup : Setup) (s : Store) → EndsAlike (endings s.pieces) (finish
 top_alike setup s = value_alike (endings s.pieces) s.values _ (λ x rest. whole_alike setup (Some x) (AtAddress (to_u64_of (address_bits setup) x)) (record s { values = rest }))
 
 finish_alike_by : (setup : Setup) (s : Store) (last : Last) → EndsAlike (endings s.pieces) (finish setup (record s { last = last }))
-finish_alike_by setup s (Located location) = if_both (EndsAlike (endings s.pieces)) (has_pieces s.pieces) _ _ (λ e. tt) (λ e. whole_alike setup None location (record s { last = Located location }))
-finish_alike_by setup s Plain = if_both (EndsAlike (endings s.pieces)) (has_pieces s.pieces) _ _ (λ e. tt) (λ e. top_alike setup (record s { last = Plain }))
-finish_alike_by setup s Pushed = if_both (EndsAlike (endings s.pieces)) (has_pieces s.pieces) _ _ (λ e. tt) (λ e. top_alike setup (record s { last = Pushed }))
-finish_alike_by setup s Nothing = if_both (EndsAlike (endings s.pieces)) (has_pieces s.pieces) _ _ (λ e. refl) (λ e. top_alike setup (record s { last = Nothing }))
-finish_alike_by setup s Pieced = if_both (EndsAlike (endings s.pieces)) (has_pieces s.pieces) _ _ (λ e. refl) (λ e. top_alike setup (record s { last = Pieced }))
-finish_alike_by setup s Called = if_both (EndsAlike (endings s.pieces)) (has_pieces s.pieces) _ _ (λ e. refl) (λ e. top_alike setup (record s { last = Called }))
+finish_alike_by setup s (Located location) = cond_both (has_pieces s.pieces) _ _ (EndsAlike (endings s.pieces)) (λ e. tt) (λ e. whole_alike setup None location (record s { last = Located location }))
+finish_alike_by setup s Plain = cond_both (has_pieces s.pieces) _ _ (EndsAlike (endings s.pieces)) (λ e. tt) (λ e. top_alike setup (record s { last = Plain }))
+finish_alike_by setup s Pushed = cond_both (has_pieces s.pieces) _ _ (EndsAlike (endings s.pieces)) (λ e. tt) (λ e. top_alike setup (record s { last = Pushed }))
+finish_alike_by setup s Nothing = cond_both (has_pieces s.pieces) _ _ (EndsAlike (endings s.pieces)) (λ e. refl) (λ e. top_alike setup (record s { last = Nothing }))
+finish_alike_by setup s Pieced = cond_both (has_pieces s.pieces) _ _ (EndsAlike (endings s.pieces)) (λ e. refl) (λ e. top_alike setup (record s { last = Pieced }))
+finish_alike_by setup s Called = cond_both (has_pieces s.pieces) _ _ (EndsAlike (endings s.pieces)) (λ e. refl) (λ e. top_alike setup (record s { last = Called }))
 
 -- the end adds at most the whole variable
 pub finish_alike : (setup : Setup) (s : Store) → EndsAlike (endings s.pieces) (finish setup s)

@@ -1,5 +1,6 @@
 -- The end of a run.
 use Rattle.std.proofs.Common.{ℕ, suc, ◌≡◌, ◌+◌, ◌≤◌, ◌==◌, true, false, List, [], length, Option, Some, None, arith, ap, ◌∙◌, sym, refl, subst, cond}
+use Rattle.std.proofs.lemmas.Bool.{cond-true, cond-false}
 use Rattle.std.proofs.lemmas.Bool.Decides.{nat_tests}
 use Rattle.dwarf_base.specs.declared.errors.Error.{Error}
 use Rattle.dwarf_base.specs.declared.errors.Error.TheVariants as error
@@ -15,7 +16,7 @@ use Rattle.dwarf_meaning.specs.Run.{Position, CompleteEnd, only_end, turn_by, ru
 use Rattle.dwarf_meaning.specs.Meaning.{Outcome, FaultOutcome, CompleteOutcome, completion_of, has_pieces, whole, finish_value, finish_by, finish}
 use Rattle.dwarf_meaning.specs.Rest.{State, Status, Start, Running, RequestStatus, CompleteStatus, FaultStatus, with_refusal, total_of_course}
 use Rattle.dwarf_meaning.specs.Refusals.{Refusal, Never, before_pushes}
-use Rattle.dwarf_meaning.proofs.Choices.{if_true, if_false, top_none, top_some}
+use Rattle.dwarf_meaning.proofs.Choices.{top_none, top_some}
 use Rattle.dwarf_meaning.proofs.Counts.{HasTally, OnStore, Tally, tally_of, tally-push_piece}
 use Rattle.dwarf_meaning.proofs.Turns.{run_turn}
 use Rattle.dwarf_meaning.specs.Bounds.{endings, faults_in}
@@ -47,7 +48,7 @@ module _ (f g : Store → Outcome) (m n : ℕ) (old low new : State) (fits : len
   }
   finished_as Running h = absurd h
   finished_as (Start initial_value) h = absurd h
-  finished_as (RequestStatus request waiting) h = absurd h
+  finished_as (RequestStatus request on_answer) h = absurd h
 
   pub closes_as : Closes m f low new → Closes n g old new
   closes_as h = finished_as new.status h
@@ -95,7 +96,7 @@ completes_err value piece old new h =
 -- by whether there are pieces
 pub closes_else : (more : ℕ) (f g : Store → Outcome) (old new : State) → has_pieces old.store.pieces ≡ false → Closes more g old new → Closes more (λ s. cond (has_pieces s.pieces) (f s) (g s)) old new
 closes_else more f g old new e h =
-    closes_as g (λ s. cond (has_pieces s.pieces) (f s) (g s)) more more old old new (omega arith) (stays_here old) (λ r. if_false (has_pieces old.store.pieces) (f (with_refusal r old.store)) (g (with_refusal r old.store)) e) (λ s status. refl) h
+    closes_as g (λ s. cond (has_pieces s.pieces) (f s) (g s)) more more old old new (omega arith) (stays_here old) (λ r. cond-false (has_pieces old.store.pieces) (f (with_refusal r old.store)) (g (with_refusal r old.store)) e) (λ s status. refl) h
 
 -- a fault that ends the run
 ends_in : (more : ℕ) (f : Store → Outcome) (error : Error) (old mid new : State) → Stays 0 old mid → new ≡ with_status (FaultStatus error) mid → f (with_refusal Never old.store) ≡ FaultOutcome (fault_of error) → Closes more f old new
@@ -109,7 +110,7 @@ ends_in more f error old mid new stays is e =
 pub mixed : (more : ℕ) (g : Store → Outcome) (old new : State) → has_pieces old.store.pieces ≡ true → new ≡ with_status (FaultStatus error.InvalidPiece) old → Closes more (λ s. cond (has_pieces s.pieces) (FaultOutcome InvalidPiece) (g s)) old new
 mixed more g old new e is =
     ends_in more (λ s. cond (has_pieces s.pieces) (FaultOutcome InvalidPiece) (g s)) error.InvalidPiece old old new (stays_here old) is
-    (if_true (has_pieces old.store.pieces) (FaultOutcome InvalidPiece) (g (with_refusal Never old.store)) e)
+    (cond-true (has_pieces old.store.pieces) (FaultOutcome InvalidPiece) (g (with_refusal Never old.store)) e)
 
 -- the pieces stand
 pub stands : (g : Store → Outcome) (old new : State) → has_pieces old.store.pieces ≡ true → new ≡ with_status (CompleteStatus None) old → Closes 0 (λ s. cond (has_pieces s.pieces) (CompleteOutcome s.pieces None) (g s)) old new
@@ -120,7 +121,7 @@ stands g old new e is =
       steps = record {
         pushes = 0;
         same = λ r.
-            if_true (has_pieces old.store.pieces) (CompleteOutcome old.store.pieces None) (g (with_refusal r old.store)) e
+            cond-true (has_pieces old.store.pieces) (CompleteOutcome old.store.pieces None) (g (with_refusal r old.store)) e
             ∙ ap (λ (z : State). CompleteOutcome z.store.pieces None) (sym is);
       };
       alone = is ∙ ap (λ (z : State). with_store z.store (with_status (CompleteStatus None) old)) (sym is);
@@ -173,7 +174,7 @@ module _ (x : State) (runs : x.status ≡ Running) (end : x.place ≡ length x.t
       total_running r x inputs runs
       ∙ ap (total_of_course x.store.count x.setup x.callers)
       (run_turn x.setup x.text x.place (length x.callers) s inputs
-      ∙ if_true (x.place == length x.text.bytes) (only_end (CompleteEnd s inputs)) (turn_by (run x.setup) x.setup x.text x.place (length x.callers) s inputs s.last) at_end)
+      ∙ cond-true (x.place == length x.text.bytes) (only_end (CompleteEnd s inputs)) (turn_by (run x.setup) x.setup x.text x.place (length x.callers) s inputs s.last) at_end)
 
   pub back_turned : (new : State) → GoesBack true x new → Turns x new
   back_turned new h =
@@ -238,7 +239,7 @@ module _ (x : State) (runs : x.status ≡ Running) (end : x.place ≡ length x.t
       })
   finish_turned new Running none e h = absurd h
   finish_turned new (Start initial_value) none e h = absurd h
-  finish_turned new (RequestStatus request waiting) none e h = absurd h
+  finish_turned new (RequestStatus request on_answer) none e h = absurd h
 
   pub finish_turns : (new : State) → x.callers ≡ [] → Closes (waits_of x.store.last) (finish x.setup) x new → Turns x new
   finish_turns new none h = finish_turned new new.status none refl h

@@ -13,7 +13,7 @@ use Rattle.dwarf_meaning.specs.Steps.{Reply, reply}
 use Rattle.dwarf_meaning.specs.Refusals.{Refusal, Never, After, before_pushes, IsLater}
 use Rattle.dwarf_eval.specs.Evaluation.{Follows, IsEndedBy, IsFresh, WaitsOrIsComplete, IsReplied, Resumes, means, reply_of}
 use Rattle.dwarf_eval.specs.Permits.{IsOpenFor}
-use Rattle.dwarf_eval.specs.inner.Answers.{IsAtRestBy, IsWaitingFor}
+use Rattle.dwarf_eval.specs.inner.Answers.{IsAtRestBy, IsFor, IsWaitingFor}
 use Rattle.dwarf_eval.specs.declared.op.results.EvaluationResult.{EvaluationResult}
 use Rattle.dwarf_meaning.specs.declared.kinds.WaitingKind.{WaitingKind}
 use Rattle.dwarf_eval.specs.inner.Steps.{has_failed, Reaches, Falls, ComesBy, Comes}
@@ -22,7 +22,7 @@ use Rattle.dwarf_eval.proofs.Totals.{started_total, course_open, total_start}
 pub use Rattle.dwarf_eval.proofs.Totals.{total_open, total_complete}
 
 told_by : (r : Refusal) (x : State) (told : Reply) (status : Status) → IsReplied told status → told ≡ reply (total_by x (with_refusal r x.store) [] status).outcome
-told_by r x told (RequestStatus request waiting) h =
+told_by r x told (RequestStatus request on_answer) h =
     h ∙ sym (ap (λ (z : Total). reply z.outcome) (course_open x.store.count x.setup x.callers request (record { text = x.text; place = x.place } ∷ []) []))
 told_by r x told (CompleteStatus value) h = h
 told_by r x told (FaultStatus error) h = h
@@ -48,7 +48,7 @@ module _ (old : State) (totals : Refusal → List Input → Total) (new : State)
 
   -- nothing more is counted in a request that waits for an input, or at the end
   open_count : (status : Status) → new.status ≡ status → WaitsOrIsComplete status → (total new Never []).count ≡ new.store.count
-  open_count (RequestStatus request waiting) e o = ap (λ (z : Total). z.count) (total_open Never new request waiting e)
+  open_count (RequestStatus request on_answer) e o = ap (λ (z : Total). z.count) (total_open Never new request on_answer e)
   open_count (CompleteStatus value) e o = ap (λ (z : Total). z.count) (total_complete Never new [] value e)
   open_count Running e o = absurd o
   open_count (Start initial_value) e o = absurd o
@@ -81,7 +81,7 @@ module _ (old : State) (totals : Refusal → List Input → Total) (new : State)
   }
 
   follows_by : (status : Status) → new.status ≡ status → ComesBy old totals new status → IsReplied told new.status → Follows old totals told new
-  follows_by (RequestStatus request waiting) e h t = came_follows (subst WaitsOrIsComplete (sym e) tt) h t
+  follows_by (RequestStatus request on_answer) e h t = came_follows (subst WaitsOrIsComplete (sym e) tt) h t
   follows_by (CompleteStatus value) e h t = came_follows (subst WaitsOrIsComplete (sym e) tt) h t
   follows_by (FaultStatus error) e h t = fell_follows error e h t
   follows_by Running e h t = absurd (subst (IsReplied told) e t)
@@ -129,7 +129,7 @@ start_follows x new told initial_value starts is h t =
 
 -- a request is open, if there was no fault, and waits for what it asks for
 pub waits : (x : State) (kind : WaitingKind) (status : Status) → has_failed status ≡ false → IsAtRestBy x status → IsOpenFor kind status → IsWaitingFor kind status
-waits x kind (RequestStatus request waiting) e agrees h = agrees ∙ h
+waits x kind (RequestStatus request on_answer) e is_for h = (h, subst (λ (k : WaitingKind). IsFor k on_answer) h is_for)
 waits x kind (FaultStatus error) e agrees h = absurd (true≢false e)
 waits x kind Running e agrees h = absurd h
 waits x kind (Start initial_value) e agrees h = absurd h
@@ -138,7 +138,7 @@ waits x kind (CompleteStatus value) e agrees h = absurd h
 module _ {R O P : Type 0} (text : R → Text) (number : O → ℕ) (input : Input) (x new : State) (replied : Result (EvaluationResult R O P) Error) where
   -- a request took the input
   pub resumed : (kind : WaitingKind) (status : Status) → IsWaitingFor kind status → Follows x (total_after x input) (reply_of text number replied) new → Resumes text number input x new replied status
-  resumed kind (RequestStatus request waiting) w h = h
+  resumed kind (RequestStatus request on_answer) w h = h
   resumed kind (FaultStatus error) w h = absurd w
   resumed kind Running w h = absurd w
   resumed kind (Start initial_value) w h = absurd w
@@ -147,7 +147,7 @@ module _ {R O P : Type 0} (text : R → Text) (number : O → ℕ) (input : Inpu
   -- a fault is given again
   pub failed_again : (status : Status) → has_failed status ≡ true → IsEndedBy replied status → Resumes text number input x x replied status
   failed_again (FaultStatus error) e h = (h, refl)
-  failed_again (RequestStatus request waiting) e h = absurd (false≢true e)
+  failed_again (RequestStatus request on_answer) e h = absurd (false≢true e)
   failed_again Running e h = tt
   failed_again (Start initial_value) e h = tt
   failed_again (CompleteStatus value) e h = tt

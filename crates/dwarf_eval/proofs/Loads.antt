@@ -1,5 +1,6 @@
 -- What pushes and operations add to what is kept.
 use Rattle.std.proofs.Common.{ℕ, ◌≡◌, ◌+◌, ◌≤◌, List, [], ◌∷◌, ◌++◌, length, Result, Ok, Err, arith, refl, ◌∙◌, nat_lt}
+use Rattle.std.proofs.lemmas.Bool.{cond_both}
 use Rattle.std.proofs.lemmas.List.{length-append}
 use Rattle.dwarf_base.specs.Faults.{Fault}
 use Rattle.dwarf_value.specs.declared.types.Value.{Value}
@@ -9,7 +10,6 @@ use Rattle.dwarf_meaning.specs.Acts.{Act, Pushes, Branches, Locates, EndsPiece, 
 use Rattle.dwarf_meaning.specs.RunLaws.{waits_of}
 use Rattle.dwarf_meaning.specs.Stores.{Setup, Store, Last, Plain, Pieced, push_value, push_piece, push_caller, push_values, Next, Goes, RequestNext, FaultNext, goes, done, branch_target}
 use Rattle.dwarf_meaning.specs.Refusals.{room}
-use Rattle.dwarf_meaning.proofs.Choices.{if_both}
 use Rattle.dwarf_meaning.proofs.Counts.{OnStore, bound_store, on_bound}
 use Rattle.dwarf_meaning.proofs.Effects.{IsActOf, pushes, branches, locates, ends, asks}
 
@@ -84,7 +84,7 @@ values_add setup (value ∷ values) s =
 -- an operation leaves this many, and one more if it goes on
 abbrev pub IsLighter : ℕ → Next → Type 0
 IsLighter n (Goes place t) = kept_in t ≤ n + 1
-IsLighter n (RequestNext request waiting t) = kept_in t ≤ n
+IsLighter n (RequestNext request on_answer t) = kept_in t ≤ n
 IsLighter n (FaultNext fault) = Unit {0}
 
 goes_lighter : (n m place : ℕ) (r : Result Store Fault) → n ≤ m + 1 → OnStore (Keeping n) r → IsLighter m (goes place r)
@@ -94,9 +94,9 @@ goes_lighter n m place (Err fault) h e = tt
 pub done_lighter : {op : Operation} (setup : Setup) (place len : ℕ) (a : Act) (s : Store) → IsActOf op (length s.values) a → IsLighter (kept_in s) (done setup place len a s)
 done_lighter setup place len (Pushes rest pushed) s (pushes fewer h) =
     goes_lighter (length rest + length s.pieces + 0 + length pushed) (kept_in s) place _ (omega (arith, h)) (values_add setup pushed (record s { values = rest; last = Plain }))
-done_lighter setup place len (Branches rest target) s (branches h _) = if_both (IsLighter (kept_in s)) (nat_lt len (branch_target setup place target)) _ _ (λ e. tt) (λ e. omega (arith, h))
+done_lighter setup place len (Branches rest target) s (branches h _) = cond_both (nat_lt len (branch_target setup place target)) _ _ (IsLighter (kept_in s)) (λ e. tt) (λ e. omega (arith, h))
 done_lighter setup place len (Locates rest location) s (locates h _) = omega (arith, h)
 done_lighter setup place len (EndsPiece rest piece) s (ends h _) =
     goes_lighter (length rest + length s.pieces + 0 + 1) (kept_in s) place _ (omega (arith, h)) (piece_adds setup piece (record s { values = rest; last = Pieced }))
-done_lighter setup place len (RequestAct rest request waiting) s (asks h _) = omega (arith, h)
+done_lighter setup place len (RequestAct rest request on_answer) s (asks h _) = omega (arith, h)
 done_lighter setup place len (FaultAct fault) s h = tt

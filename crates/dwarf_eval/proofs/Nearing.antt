@@ -1,7 +1,7 @@
 -- How the calls that are left fall.
 use Rattle.std.proofs.Common.{◌≡◌, ◌+◌, ◌≤◌, ◌<◌, List, Result, Ok, Err, IfOk, arith, ap, refl}
 use Rattle.dwarf_base.specs.declared.errors.Error.{Error}
-use Rattle.dwarf_meaning.specs.Requests.{Input, Request, Waiting}
+use Rattle.dwarf_meaning.specs.Requests.{Input, Request, OnAnswer}
 use Rattle.dwarf_meaning.specs.Refusals.{Refusal}
 use Rattle.dwarf_meaning.specs.Rest.{State, Status, Start, Running, RequestStatus, CompleteStatus, FaultStatus}
 use Rattle.dwarf_meaning.specs.Bounds.{calls_left, calls_left_by}
@@ -24,8 +24,8 @@ fewer_ended old new status is ends h =
     omega (arith, h, stop, ends)
 
 -- a call that met a fault
-pub fewer_fallen : (old new : State) (request : Request) (waiting : Waiting) (error : Error) → old.status ≡ RequestStatus request waiting → new.status ≡ FaultStatus error → calls_left new < calls_left old
-fewer_fallen old new request waiting error was is =
+pub fewer_fallen : (old new : State) (request : Request) (on_answer : OnAnswer) (error : Error) → old.status ≡ RequestStatus request on_answer → new.status ≡ FaultStatus error → calls_left new < calls_left old
+fewer_fallen old new request on_answer error was is =
     let before = ap (calls_left_by old) was in
     let after = ap (calls_left_by new) is in
     omega (arith, before, after)
@@ -34,11 +34,11 @@ pub if_ok : {Y : Type 0} (P : Type 0) (told : Result Y Error) → P → IfOk tol
 if_ok P (Ok t) h = h
 if_ok P (Err e) h = tt
 
-module _ (old : State) (totals : Refusal → List Input → Total) (new : State) (request : Request) (waiting : Waiting) (was : old.status ≡ RequestStatus request waiting) where
+module _ (old : State) (totals : Refusal → List Input → Total) (new : State) (request : Request) (on_answer : OnAnswer) (was : old.status ≡ RequestStatus request on_answer) where
   fewer_by : (status : Status) → new.status ≡ status → HasReply status → ComesBy old totals new status → calls_left new < calls_left old
-  fewer_by (RequestStatus request waiting) e o h = fewer_ended old new (RequestStatus request waiting) e (omega arith) h.nears
+  fewer_by (RequestStatus request on_answer) e o h = fewer_ended old new (RequestStatus request on_answer) e (omega arith) h.nears
   fewer_by (CompleteStatus value) e o h = fewer_ended old new (CompleteStatus value) e (omega arith) h.nears
-  fewer_by (FaultStatus error) e o h = fewer_fallen old new request waiting error was e
+  fewer_by (FaultStatus error) e o h = fewer_fallen old new request on_answer error was e
   fewer_by Running e o h = absurd o
   fewer_by (Start initial_value) e o h = absurd o
 

@@ -1,5 +1,6 @@
 -- What an operation does to a state is what its act says.
 use Rattle.std.proofs.Common.{ℕ, ℤ, ◌≡◌, ◌+◌, ◌<◌, ◌≤◌, Bool, true, false, List, [], ◌∷◌, length, Option, Result, Ok, Some, None, arith, ap, ◌∙◌, sym, refl, subst, nat_lt}
+use Rattle.std.proofs.lemmas.Bool.{cond-true, cond-false}
 use Rattle.std.proofs.lemmas.Bool.Decides.{nat_tests}
 use Rattle.dwarf_base.specs.declared.errors.Error.{Error}
 use Rattle.dwarf_base.specs.declared.errors.Error.TheVariants as error
@@ -7,12 +8,11 @@ use Rattle.dwarf_base.specs.Faults.{Fault, fault_of}
 use Rattle.dwarf_base.specs.declared.errors.Error.TheVariants.{BadBranchTarget}
 use Rattle.dwarf_value.specs.declared.types.Value.{Value}
 use Rattle.dwarf_meaning.specs.Locations.{Location, Piece}
-use Rattle.dwarf_meaning.specs.Requests.{Request, Waiting}
+use Rattle.dwarf_meaning.specs.Requests.{Request, OnAnswer}
 use Rattle.dwarf_meaning.specs.Acts.{Act, Pushes, Branches, Locates, EndsPiece, RequestAct, FaultAct, push}
 use Rattle.dwarf_meaning.specs.Stores.{Setup, Store, Last, Plain, Pieced, Located, push_value, push_piece, push_values, Next, Goes, RequestNext, FaultNext, goes, branch_target, branch}
 use Rattle.dwarf_meaning.specs.Rest.{State, Status, Start, Running, RequestStatus, CompleteStatus, FaultStatus, with_refusal}
 use Rattle.dwarf_meaning.specs.Refusals.{Refusal, Never, before_pushes}
-use Rattle.dwarf_meaning.proofs.Choices.{if_true, if_false}
 use Rattle.dwarf_meaning.specs.Inputs.{with_status}
 use Rattle.dwarf_eval.specs.inner.Machine.{replied_status}
 use Rattle.dwarf_eval.specs.inner.Steps.{Asks, Stays, Tries, Tried, Pops, Jumps, done_at, LeadsToFault, LeadsBy, Performs, with_store, with_values, with_last, with_place}
@@ -109,17 +109,17 @@ performs_ends rest piece old mid new done runs fewer e h =
     (tries_from rest Pieced (λ setup. push_piece setup piece) old mid new done fewer e h)
 
 -- something is asked
-pub performs_asks : (rest : List Value) (request : Request) (waiting : Waiting) (old new : State) → new ≡ with_status (RequestStatus request waiting) (with_values rest old) → Performs (RequestAct rest request waiting) old new
-performs_asks rest request waiting old new e =
-    subst (LeadsBy (done_at (RequestAct rest request waiting) old) old new) (sym (ap (λ (z : State). z.status) e)) (record {
-      steps = record { pushes = 0; same = λ r. ap (λ (z : State). RequestNext request waiting (with_refusal r z.store)) (sym e) };
-      alone = e ∙ ap (λ (z : State). with_store z.store (with_status (RequestStatus request waiting) old)) (sym e);
+pub performs_asks : (rest : List Value) (request : Request) (on_answer : OnAnswer) (old new : State) → new ≡ with_status (RequestStatus request on_answer) (with_values rest old) → Performs (RequestAct rest request on_answer) old new
+performs_asks rest request on_answer old new e =
+    subst (LeadsBy (done_at (RequestAct rest request on_answer) old) old new) (sym (ap (λ (z : State). z.status) e)) (record {
+      steps = record { pushes = 0; same = λ r. ap (λ (z : State). RequestNext request on_answer (with_refusal r z.store)) (sym e) };
+      alone = e ∙ ap (λ (z : State). with_store z.store (with_status (RequestStatus request on_answer) old)) (sym e);
     })
 
 -- a request was opened, if there is one
-pub asks_by : (asked : Option Request) (waiting : Waiting) (old new : State) → new ≡ with_status (replied_status asked waiting) old → Asks asked waiting old new
-asks_by None waiting old new e = tt
-asks_by (Some request) waiting old new e = performs_asks old.store.values request waiting old new e
+pub asks_by : (asked : Option Request) (on_answer : OnAnswer) (old new : State) → new ≡ with_status (replied_status asked on_answer) old → Asks asked on_answer old new
+asks_by None on_answer old new e = tt
+asks_by (Some request) on_answer old new e = performs_asks old.store.values request on_answer old new e
 
 -- a branch is taken
 pub performs_branch : (t : ℤ) (old mid new : State) (target : ℕ) (done : Bool) → old.status ≡ Running → mid ≡ with_last Plain old → target ≡ branch_target mid.setup mid.place t → Jumps target mid new done → Performs (Branches old.store.values t) old new
@@ -136,7 +136,7 @@ performs_branch t old mid new target true runs e f h =
         same = λ r.
             let s : Store = record (with_refusal r old.store) { values = rest; last = Plain } in
             ap (λ (n : ℕ). branch (length old.text.bytes) n s) (sym is)
-            ∙ (if_false (nat_lt (length old.text.bytes) target) (FaultNext (BadBranchTarget target)) (Goes target s) inside
+            ∙ (cond-false (nat_lt (length old.text.bytes) target) (FaultNext (BadBranchTarget target)) (Goes target s) inside
             ∙ ap (λ (z : State). Goes z.place (with_refusal r z.store)) (sym new_is));
       };
       alone = new_is ∙ ap (λ (z : State). with_store z.store (with_place z.place old)) (sym new_is);
@@ -153,7 +153,7 @@ performs_branch t old mid new target false runs e f h =
         may = tt;
         same =
             ap (λ (n : ℕ). branch (length old.text.bytes) n s) (sym is)
-            ∙ if_true (nat_lt (length old.text.bytes) target) (FaultNext (BadBranchTarget target)) (Goes target s) outside;
+            ∙ cond-true (nat_lt (length old.text.bytes) target) (FaultNext (BadBranchTarget target)) (Goes target s) outside;
       };
       stays = stays_then (FaultStatus (error.BadBranchTarget target)) old mid new (stays_low rest Plain old mid (omega arith) e) h.1;
     })
@@ -212,7 +212,7 @@ module _ (rest : List Value) (old new : State) (fewer : length rest ≤ length o
 
   low_by : (f g : Store → Next) → ((r : Refusal) → g (with_refusal r old.store) ≡ f (with_refusal r (with_values rest old).store)) → (status : Status) → LeadsBy f (with_values rest old) new status → LeadsBy g old new status
   low_by f g is Running h = record { steps = record { pushes = h.steps.pushes; same = λ r. is (before_pushes h.steps.pushes r) ∙ h.steps.same r }; alone = h.alone }
-  low_by f g is (RequestStatus request waiting) h = record { steps = record { pushes = h.steps.pushes; same = λ r. is (before_pushes h.steps.pushes r) ∙ h.steps.same r }; alone = h.alone }
+  low_by f g is (RequestStatus request on_answer) h = record { steps = record { pushes = h.steps.pushes; same = λ r. is (before_pushes h.steps.pushes r) ∙ h.steps.same r }; alone = h.alone }
   low_by f g is (FaultStatus error) h = low_fails error f g is h
   low_by f g is (Start initial_value) h = absurd h
   low_by f g is (CompleteStatus value) h = absurd h
@@ -223,7 +223,7 @@ act_low (Pushes left pushed) rest old r = refl
 act_low (Branches left target) rest old r = refl
 act_low (Locates left location) rest old r = refl
 act_low (EndsPiece left piece) rest old r = refl
-act_low (RequestAct left request waiting) rest old r = refl
+act_low (RequestAct left request on_answer) rest old r = refl
 act_low (FaultAct fault) rest old r = refl
 
 -- first a pop, and then the act on what is left

@@ -13,7 +13,7 @@ use Rattle.dwarf_eval.proofs.Turning.{ready_none}
 
 running_on : (status : Status) → is_running status ≡ true → status ≡ Running
 running_on Running h = refl
-running_on (RequestStatus request waiting) h = cc
+running_on (RequestStatus request on_answer) h = cc
 running_on (CompleteStatus value) h = cc
 running_on (FaultStatus error) h = cc
 running_on (Start initial_value) h = cc

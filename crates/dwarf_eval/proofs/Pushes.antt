@@ -1,5 +1,6 @@
 -- Pushes that a list took, and pushes that it refused.
 use Rattle.std.proofs.Common.{ℕ, zero, suc, ◌≡◌, inl, inr, [], ◌∷◌, ◌++◌, length, Result, Ok, Err, Option, Some, None, arith, ap, ◌∙◌, sym, refl, nat_lt}
+use Rattle.std.proofs.lemmas.Bool.{cond-true, cond-false}
 use Rattle.std.proofs.lemmas.Bool.Decides.{nat_tests}
 use Rattle.dwarf_base.specs.declared.errors.Error.TheVariants as error
 use Rattle.dwarf_base.specs.Faults.{Fault, ◌>>=◌}
@@ -9,7 +10,6 @@ use Rattle.dwarf_meaning.specs.Locations.{Piece}
 use Rattle.dwarf_meaning.specs.Stores.{Setup, Store, push_value, push_piece, push_caller}
 use Rattle.dwarf_meaning.specs.Rest.{State, FaultStatus, with_refusal}
 use Rattle.dwarf_meaning.specs.Refusals.{Limits, Refusal, Never, After, room, spent, MayPick, before_push, before_pushes}
-use Rattle.dwarf_meaning.proofs.Choices.{if_true, if_false}
 use Rattle.dwarf_eval.specs.Lists.{HasRoom, MayRefuse}
 use Rattle.dwarf_meaning.specs.Inputs.{with_status}
 use Rattle.dwarf_eval.specs.inner.Steps.{Steps, Gets, Refused}
@@ -27,7 +27,7 @@ spent_before (After (suc inputs) pushes) = refl
 
 room_before : (limit : Option ℕ) (n : ℕ) (r : Refusal) → HasRoom limit n → room limit n (before_pushes (cost limit) r) ≡ Ok r
 room_before None n r h = spent_before r
-room_before (Some limit) n r h = if_true (nat_lt n limit) (Ok r) (Err StackFull) (grind (arith, nat_tests))
+room_before (Some limit) n r h = cond-true (nat_lt n limit) (Ok r) (Err StackFull) (grind (arith, nat_tests))
 
 -- the refusal under which a list at its limit, or without one, refuses now
 abbrev refuser : Option ℕ → Refusal
@@ -36,7 +36,7 @@ refuser (Some limit) = Never
 
 room_refused : (limit : Option ℕ) (n : ℕ) → MayRefuse limit n → room limit n (refuser limit) ≡ Err StackFull
 room_refused None n h = refl
-room_refused (Some limit) n h = if_false (nat_lt n limit) (Ok Never) (Err StackFull) (grind (arith, nat_tests))
+room_refused (Some limit) n h = cond-false (nat_lt n limit) (Ok Never) (Err StackFull) (grind (arith, nat_tests))
 
 may_value : (limits : Limits) (limit : Option ℕ) → limits.values ≡ limit → MayPick limits (refuser limit)
 may_value limits None e = inl e

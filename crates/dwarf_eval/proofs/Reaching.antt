@@ -47,7 +47,7 @@ module _ (old : State) (totals : Refusal → List Input → Total) where
 
   comes_by : (a b : State) (status : Status) → Reaches old totals a → ComesBy a (total a) b status → ComesBy old totals b status
   comes_by a b Running h i = reaches_more a b h i
-  comes_by a b (RequestStatus request waiting) h i = reaches_more a b h i
+  comes_by a b (RequestStatus request on_answer) h i = reaches_more a b h i
   comes_by a b (CompleteStatus value) h i = reaches_more a b h i
   comes_by a b (FaultStatus error) h i = falls_more a b (fault_of error) h i
   comes_by a b (Start initial_value) h i = absurd i
@@ -55,7 +55,7 @@ module _ (old : State) (totals : Refusal → List Input → Total) where
   -- a state that runs was reached
   came_running : (a : State) (status : Status) → is_running status ≡ true → ComesBy old totals a status → Reaches old totals a
   came_running a Running is h = h
-  came_running a (RequestStatus request waiting) is h = h
+  came_running a (RequestStatus request on_answer) is h = h
   came_running a (CompleteStatus value) is h = h
   came_running a (Start initial_value) is h = absurd h
   came_running a (FaultStatus error) is h = cc
@@ -65,7 +65,7 @@ module _ (old : State) (totals : Refusal → List Input → Total) where
   comes_more a b is h i = comes_by a b b.status (came_running a a.status is h) i
 
   over_by : (a : State) (status : Status) → is_running status ≡ false → ComesBy old totals a status → HasReply status
-  over_by a (RequestStatus request waiting) is h = tt
+  over_by a (RequestStatus request on_answer) is h = tt
   over_by a (CompleteStatus value) is h = tt
   over_by a (FaultStatus error) is h = tt
   over_by a Running is h = cc
@@ -81,7 +81,7 @@ comes_here x runs = subst (ComesBy x (total x) x) (sym runs) (reaches_here x run
 pub runs_on : (status : Status) → is_running status ≡ true → status ≡ Running
 runs_on Running h = refl
 runs_on (Start initial_value) h = cc
-runs_on (RequestStatus request waiting) h = cc
+runs_on (RequestStatus request on_answer) h = cc
 runs_on (CompleteStatus value) h = cc
 runs_on (FaultStatus error) h = cc
 

@@ -4,11 +4,17 @@ use Rattle.dwarf_base.specs.declared.errors.Error.{Error}
 use Rattle.dwarf_base.specs.Faults.{Fault, fault_of}
 use Rattle.dwarf_base.specs.Reads.{Text}
 use Rattle.dwarf_value.specs.declared.types.Value.{Value}
-use Rattle.dwarf_meaning.specs.Requests.{Request, Waiting, Answer, Input}
+use Rattle.dwarf_value.specs.declared.types.Value.TheVariants.{Generic}
+use denote.Enum.Bare.{true_same}
+use Rattle.std.proofs.lemmas.Bool.{cond-true}
+use Rattle.dwarf_meaning.specs.contracts.kinds.WaitingKind.{the_type}
+use Rattle.dwarf_meaning.specs.declared.kinds.WaitingKind.{WaitingKind}
+use Rattle.dwarf_meaning.specs.Kinds.{kind_of_request, kind_of_answer, is_same_kind}
+use Rattle.dwarf_meaning.specs.Requests.{Request, OnAnswer, Push, Answer, ValueAnswer, NumberAnswer, Input}
 use Rattle.dwarf_meaning.specs.Acts.{Use, PushesAnswer, Calls, FaultUse, use_of}
 use Rattle.dwarf_meaning.specs.RunLaws.{waits_of}
 use Rattle.dwarf_meaning.specs.Stores.{address_bits, Store, Pushed, Called, push_value, push_caller}
-use Rattle.dwarf_meaning.specs.Run.{Position, Course, RequestEnd, only_end, run_callee, enter_callee, after_push, after_answer, run}
+use Rattle.dwarf_meaning.specs.Run.{Position, Course, run_callee, enter_callee, after_push, after_answer, run}
 use Rattle.dwarf_meaning.specs.Meaning.{FaultOutcome}
 use Rattle.dwarf_meaning.specs.Rest.{State, Running, RequestStatus, FaultStatus, with_refusal, total_of_course}
 use Rattle.dwarf_meaning.specs.Refusals.{Refusal, Never, After, taken, MayPick, before_input, before_pushes}
@@ -17,6 +23,8 @@ use Rattle.dwarf_meaning.proofs.Effects.{IsUseOf, use_is}
 use Rattle.dwarf_meaning.specs.Bounds.{located, faults_in}
 use Rattle.dwarf_meaning.specs.Inputs.{input_of, with_status}
 use Rattle.dwarf_eval.specs.inner.Steps.{Total, total_after, Does, Refused, Stays, Tries, Tried, Enters, TriesToEnter, ComesBy, Takes, with_last, with_values}
+use Rattle.dwarf_eval.specs.inner.Answers.{IsFor, IsWaitingFor}
+use Rattle.dwarf_eval.proofs.AnswerUses.{open_for, value_gives, number_gives}
 use Rattle.dwarf_eval.proofs.Loads.{HasLast, HasPieces, Keeping, kept_in, value_adds, value_last, value_pieces, frame_adds, frame_last, frame_pieces}
 use Rattle.dwarf_eval.proofs.Nearing.{nears_by}
 use Rattle.dwarf_eval.proofs.Spending.{answered_spends, fallen_spends}
@@ -24,11 +32,15 @@ use Rattle.dwarf_eval.proofs.Reaching.{value_tally}
 use Rattle.dwarf_eval.proofs.Staying.{stays_from, stays_then}
 use Rattle.dwarf_eval.proofs.Totals.{closed, going, total_running, total_waits, course_failed}
 
+same_kinds : {one other : WaitingKind} → one ≡ other → is_same_kind one other ≡ true
+unfolding is_same_kind
+same_kinds e = true_same the_type _ _ e
+
 taken_before : (r : Refusal) → taken (before_input r) ≡ r
 taken_before Never = refl
 taken_before (After inputs pushes) = refl
 
-module _ (x : State) (request : Request) (waiting : Waiting) (open_now : x.status ≡ RequestStatus request waiting) (answer : Answer) where
+module _ (x : State) (request : Request) (on_answer : OnAnswer) (open_now : x.status ≡ RequestStatus request on_answer) (answer : Answer) (fits : kind_of_request request ≡ kind_of_answer answer) where
   abbrev position : Position
   position = record { text = x.text; place = x.place }
 
@@ -37,13 +49,14 @@ module _ (x : State) (request : Request) (waiting : Waiting) (open_now : x.statu
 
   -- what is kept once the answer is taken; the settings are those of the state
   abbrev use_total : (r : Refusal) → List Input → Refusal → Use → Total
-  use_total r inputs q u = total_of_course x.store.count x.setup x.callers (after_answer (run x.setup) x.setup position (length x.callers) u (with_refusal q x.store) inputs (only_end (RequestEnd request (position ∷ []) (input_of x answer ∷ inputs))))
+  use_total r inputs q u = total_of_course x.store.count x.setup x.callers (after_answer (run x.setup) x.setup position (length x.callers) u (with_refusal q x.store) inputs)
 
-  answer_rest : (r : Refusal) (inputs : List Input) (u : Use) → use_of (address_bits x.setup) waiting answer x.store.values ≡ u → totals r inputs ≡ use_total r inputs r u
+  answer_rest : (r : Refusal) (inputs : List Input) (u : Use) → use_of (address_bits x.setup) on_answer answer x.store.values ≡ u → totals r inputs ≡ use_total r inputs r u
   answer_rest r inputs u e =
-      total_waits (before_input r) x (input_of x answer ∷ inputs) request waiting open_now
-      ∙ (ap (λ (q : Refusal). use_total r inputs q (use_of (address_bits x.setup) waiting answer x.store.values)) (taken_before r)
-      ∙ ap (use_total r inputs r) e)
+      total_waits (before_input r) x (input_of x answer ∷ inputs) request on_answer open_now
+      ∙ (ap (total_of_course x.store.count x.setup x.callers) (cond-true (is_same_kind (kind_of_request request) (kind_of_answer answer)) _ _ (same_kinds fits))
+      ∙ (ap (λ (q : Refusal). use_total r inputs q (use_of (address_bits x.setup) on_answer answer x.store.values)) (taken_before r)
+      ∙ ap (use_total r inputs r) e))
 
   -- an answer that ends in a fault
   takes_fault : (new : State) (error : Error) (refusal : Refusal) → new.status ≡ FaultStatus error → Stays 0 x new → MayPick x.setup.limits refusal → ((inputs : List Input) → totals refusal inputs ≡ closed (FaultOutcome (fault_of error)) x.store.count) → Takes answer x new
@@ -60,18 +73,18 @@ module _ (x : State) (request : Request) (waiting : Waiting) (open_now : x.statu
         spends = fallen_spends x new error (ap faults_in open_now) failed (omega (arith, callers)) (omega (arith, count)) (omega (arith, items)) (omega (arith, decodings, count)) stays.pieces (omega (arith, decodings, count)) (omega (arith, decodings, count));
       })
 
-  pub denies : (error : Error) (mid new : State) → use_of (address_bits x.setup) waiting answer x.store.values ≡ FaultUse (fault_of error) → Stays 0 x mid → new ≡ with_status (FaultStatus error) mid → Takes answer x new
+  pub denies : (error : Error) (mid new : State) → use_of (address_bits x.setup) on_answer answer x.store.values ≡ FaultUse (fault_of error) → Stays 0 x mid → new ≡ with_status (FaultStatus error) mid → Takes answer x new
   denies error mid new e stays is =
       takes_fault new error Never (ap (λ (z : State). z.status) is) (stays_then (FaultStatus error) x mid new stays is) tt
       (λ inputs. answer_rest Never inputs (FaultUse (fault_of error)) e ∙ course_failed x.store.count x.setup x.callers (fault_of error))
 
   -- a value is pushed on what the answer leaves of the stack
-  module _ (values : List Value) (value : Value) (gives : use_of (address_bits x.setup) waiting answer x.store.values ≡ PushesAnswer values value) where
+  module _ (values : List Value) (value : Value) (gives : use_of (address_bits x.setup) on_answer answer x.store.values ≡ PushesAnswer values value) where
     abbrev answered : State
     answered = with_status Running (with_last Pushed (with_values values x))
 
     fewer : length values ≤ length x.store.values
-    fewer = subst (IsUseOf answer (length x.store.values)) gives (use_is (address_bits x.setup) waiting answer x.store.values)
+    fewer = subst (IsUseOf answer (length x.store.values)) gives (use_is (address_bits x.setup) on_answer answer x.store.values)
 
     value_taken : (new : State) → Does (push_value x.setup value) answered new → Takes answer x new
     value_taken new d =
@@ -95,9 +108,9 @@ module _ (x : State) (request : Request) (waiting : Waiting) (open_now : x.statu
             object_address = ap (λ (m : Tally). m.object_address) tally;
             maximum = ap (λ (m : Tally). m.maximum) tally;
           };
-          spends = answered_spends x new request waiting open_now runs (omega (arith, callers)) (omega (arith, callers, kept, low)) count (ap (λ (z : State). z.decodings) d.alone) (omega (arith, last))
+          spends = answered_spends x new request on_answer open_now runs (omega (arith, callers)) (omega (arith, callers, kept, low)) count (ap (λ (z : State). z.decodings) d.alone) (omega (arith, last))
               (subst (OnStore (HasPieces s.pieces)) (d.steps.same Never) (value_pieces x.setup value s)) (λ given. omega (arith, last));
-          nears = nears_by x new (RequestStatus request waiting) Running open_now runs (omega (arith, count));
+          nears = nears_by x new (RequestStatus request on_answer) Running open_now runs (omega (arith, count));
         })
 
     value_refused : (new : State) → Refused 0 (push_value x.setup value) answered new → Takes answer x new
@@ -120,7 +133,7 @@ module _ (x : State) (request : Request) (waiting : Waiting) (open_now : x.statu
 
   -- ---- a called text
 
-  pub empty_takes : (callee : Text) (new : State) → use_of (address_bits x.setup) waiting answer x.store.values ≡ Calls callee → callee.bytes ≡ [] → new ≡ with_last Called (with_status Running x) → Takes answer x new
+  pub empty_takes : (callee : Text) (new : State) → use_of (address_bits x.setup) on_answer answer x.store.values ≡ Calls callee → callee.bytes ≡ [] → new ≡ with_last Called (with_status Running x) → Takes answer x new
   empty_takes callee new calls none e =
       let callers = ap (λ (z : State). length z.callers) e in
       let kept = ap (λ (z : State). kept_in z.store) e in
@@ -134,11 +147,11 @@ module _ (x : State) (request : Request) (waiting : Waiting) (open_now : x.statu
             ∙ (ap (λ (bytes : List ℕ). total_of_course x.store.count x.setup x.callers (run_callee (run x.setup) x.setup position (length x.callers) callee bytes (with_refusal r x.store) inputs)) none
             ∙ sym (total_running r new inputs runs ∙ ap (λ (z : State). going z (with_refusal r z.store) inputs) e));
         kept = record { setup = ap (λ (z : State). z.setup) e; object_address = ap (λ (z : State). z.store.object_address) e; maximum = ap (λ (z : State). z.store.maximum) e };
-        spends = answered_spends x new request waiting open_now runs (omega (arith, callers)) (omega (arith, callers, kept)) count (ap (λ (z : State). z.decodings) e) (omega (arith, last)) (ap (λ (z : State). z.store.pieces) e) (λ given. omega (arith, last));
-        nears = nears_by x new (RequestStatus request waiting) Running open_now runs (omega (arith, count));
+        spends = answered_spends x new request on_answer open_now runs (omega (arith, callers)) (omega (arith, callers, kept)) count (ap (λ (z : State). z.decodings) e) (omega (arith, last)) (ap (λ (z : State). z.store.pieces) e) (λ given. omega (arith, last));
+        nears = nears_by x new (RequestStatus request on_answer) Running open_now runs (omega (arith, count));
       })
 
-  module _ (callee : Text) (byte : ℕ) (bytes : List ℕ) (calls : use_of (address_bits x.setup) waiting answer x.store.values ≡ Calls callee) (some : callee.bytes ≡ byte ∷ bytes) where
+  module _ (callee : Text) (byte : ℕ) (bytes : List ℕ) (calls : use_of (address_bits x.setup) on_answer answer x.store.values ≡ Calls callee) (some : callee.bytes ≡ byte ∷ bytes) where
     call_rest : (r : Refusal) (inputs : List Input) (z : Result Store Fault) → push_caller x.setup (length x.callers) (with_refusal r x.store) ≡ z → totals r inputs ≡ total_of_course x.store.count x.setup x.callers (enter_callee (run x.setup) position (length x.callers) callee inputs z)
     call_rest r inputs z e =
         answer_rest r inputs (Calls callee) calls
@@ -169,9 +182,9 @@ module _ (x : State) (request : Request) (waiting : Waiting) (open_now : x.statu
             object_address = ap (λ (m : Tally). m.object_address) tally;
             maximum = ap (λ (m : Tally). m.maximum) tally;
           };
-          spends = answered_spends x new request waiting open_now runs (omega (arith, callers)) (omega (arith, callers, kept)) count (ap (λ (z : State). z.decodings) d.alone) (omega (arith, last))
+          spends = answered_spends x new request on_answer open_now runs (omega (arith, callers)) (omega (arith, callers, kept)) count (ap (λ (z : State). z.decodings) d.alone) (omega (arith, last))
               (subst (OnStore (HasPieces s.pieces)) (d.steps.same Never) (frame_pieces x.setup (length x.callers) s)) (λ given. omega (arith, last, gave, given));
-          nears = nears_by x new (RequestStatus request waiting) Running open_now runs (omega (arith, count));
+          nears = nears_by x new (RequestStatus request on_answer) Running open_now runs (omega (arith, count));
         })
 
     text_refused : (new : State) → Refused 0 (push_caller x.setup (length x.callers)) (with_status Running x) new → Takes answer x new
@@ -185,3 +198,18 @@ module _ (x : State) (request : Request) (waiting : Waiting) (open_now : x.statu
 
     pub text_takes : (mid new : State) (done : Bool) → mid ≡ with_status Running x → TriesToEnter callee mid new done → Takes answer x new
     text_takes mid new done e h = text_takes_by new done (subst (λ (z : State). TriesToEnter callee z new done) e h)
+
+-- ---- answers that are pushed as they are
+
+module _ (x : State) (kind : WaitingKind) where
+  pub value_pushed : (value : Value) (new : State) → IsWaitingFor kind x.status → ((on_answer : OnAnswer) → IsFor kind on_answer → on_answer ≡ Push) → Tried 0 (push_value x.setup value) (with_status Running (with_last Pushed x)) new → Takes (ValueAnswer kind value) x new
+  value_pushed value new waits plain h =
+      let now = open_for kind x.status waits in
+      value_takes x now.request now.on_answer now.is (ValueAnswer kind value) now.fits x.store.values value
+      (value_gives (address_bits x.setup) x.store.values now.on_answer kind value (plain now.on_answer now.is_for)) x new refl h
+
+  pub number_pushed : (number : ℕ) (new : State) → IsWaitingFor kind x.status → ((on_answer : OnAnswer) → IsFor kind on_answer → on_answer ≡ Push) → Tried 0 (push_value x.setup (Generic number)) (with_status Running (with_last Pushed x)) new → Takes (NumberAnswer kind number) x new
+  number_pushed number new waits plain h =
+      let now = open_for kind x.status waits in
+      value_takes x now.request now.on_answer now.is (NumberAnswer kind number) now.fits x.store.values (Generic number)
+      (number_gives (address_bits x.setup) x.store.values now.on_answer kind number (plain now.on_answer now.is_for)) x new refl h

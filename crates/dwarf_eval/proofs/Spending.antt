@@ -2,7 +2,7 @@
 use Rattle.std.proofs.Common.{ℕ, suc, ◌≡◌, ◌+◌, ◌*◌, ◌≤◌, length, Option, arith, ap}
 use Rattle.dwarf_base.specs.declared.errors.Error.{Error}
 use Rattle.dwarf_value.specs.declared.types.Value.{Value}
-use Rattle.dwarf_meaning.specs.Requests.{Request, Waiting}
+use Rattle.dwarf_meaning.specs.Requests.{Request, OnAnswer}
 use Rattle.dwarf_meaning.specs.RunLaws.{waits_of}
 use Rattle.dwarf_meaning.specs.Stores.{Last, Nothing, Plain, Pieced, Pushed, Called, Located}
 use Rattle.dwarf_meaning.specs.Rest.{State, Start, Running, RequestStatus, CompleteStatus, FaultStatus}
@@ -51,8 +51,8 @@ module _ (old new : State) where
       let little = waits_little new.store.last in
       record { items = omega (arith, p, i, a, q, j, b, callers, count, kept); callers = omega (arith, a, b, callers, count); decodings = omega (arith, p, q, count, decodings, little); once = once_by old new (ap faults_in was) (omega (arith, count, decodings, ended)) (omega (arith, q, waits)) }
 
-  pub asked_spends : (request : Request) (waiting : Waiting) → old.status ≡ Running → new.status ≡ RequestStatus request waiting → length new.callers ≡ length old.callers → new.store.count ≡ old.store.count + 1 → new.decodings ≡ old.decodings + 1 → kept_in new.store ≤ kept_in old.store → endings new.store.pieces ≡ endings old.store.pieces → waits_of new.store.last ≤ located new.store.last → Spends old new
-  asked_spends request waiting was is callers count decodings kept ended waits =
+  pub asked_spends : (request : Request) (on_answer : OnAnswer) → old.status ≡ Running → new.status ≡ RequestStatus request on_answer → length new.callers ≡ length old.callers → new.store.count ≡ old.store.count + 1 → new.decodings ≡ old.decodings + 1 → kept_in new.store ≤ kept_in old.store → endings new.store.pieces ≡ endings old.store.pieces → waits_of new.store.last ≤ located new.store.last → Spends old new
+  asked_spends request on_answer was is callers count decodings kept ended waits =
       let p = ap (piece_due old.store.last) was in
       let i = ap initial_due was in
       let a = ap answer_due was in
@@ -137,8 +137,8 @@ module _ (old new : State) where
       }
 
   -- an answer: a value more at most, or a caller more at most
-  pub answered_spends : (request : Request) (waiting : Waiting) → old.status ≡ RequestStatus request waiting → new.status ≡ Running → length new.callers ≤ length old.callers + 1 → length new.callers + kept_in new.store ≤ length old.callers + kept_in old.store + 1 → new.store.count ≡ old.store.count → new.decodings ≡ old.decodings → waits_of new.store.last ≤ waits_of old.store.last → new.store.pieces ≡ old.store.pieces → (waits_of old.store.last ≤ located old.store.last → waits_of new.store.last ≤ located new.store.last) → Spends old new
-  answered_spends request waiting was is callers kept count decodings waits pieces gives =
+  pub answered_spends : (request : Request) (on_answer : OnAnswer) → old.status ≡ RequestStatus request on_answer → new.status ≡ Running → length new.callers ≤ length old.callers + 1 → length new.callers + kept_in new.store ≤ length old.callers + kept_in old.store + 1 → new.store.count ≡ old.store.count → new.decodings ≡ old.decodings → waits_of new.store.last ≤ waits_of old.store.last → new.store.pieces ≡ old.store.pieces → (waits_of old.store.last ≤ located old.store.last → waits_of new.store.last ≤ located new.store.last) → Spends old new
+  answered_spends request on_answer was is callers kept count decodings waits pieces gives =
       let ended = ap endings pieces in
       let p = ap (piece_due old.store.last) was in
       let i = ap initial_due was in

@@ -3,7 +3,7 @@ use Rattle.std.proofs.Common.{ℕ, suc, ◌≡◌, ◌+◌, arith, length, List,
 use Rattle.std.proofs.lemmas.List.{append-nil}
 use Rattle.dwarf_base.specs.Faults.{Fault}
 use Rattle.dwarf_value.specs.declared.types.Value.{Value}
-use Rattle.dwarf_meaning.specs.Requests.{Request, Waiting, Input}
+use Rattle.dwarf_meaning.specs.Requests.{Request, OnAnswer, Input}
 use Rattle.dwarf_meaning.specs.Stores.{Setup, Store}
 use Rattle.dwarf_meaning.specs.Run.{Position, Course, End, CompleteEnd, RequestEnd, FaultEnd, only_end, add_to_path, add_request, return_to_caller, after_push, run, await_answer, return_to_callers}
 use Rattle.dwarf_meaning.specs.Meaning.{Outcome, RequestOutcome, FaultOutcome, CompleteOutcome, outcome_of_end, finish, with_initial}
@@ -16,9 +16,9 @@ closed outcome n = record { outcome = outcome; count = n }
 abbrev pub going : State → Store → List Input → Total
 going x s inputs = total_of_course x.store.count x.setup x.callers (run x.setup x.text x.place (length x.callers) s inputs)
 
-abbrev pub waiting_total : State → Request → Waiting → Store → List Input → Total
-waiting_total x request waiting s inputs =
-    total_of_course x.store.count x.setup x.callers (await_answer (run x.setup) x.setup (record { text = x.text; place = x.place }) (length x.callers) request waiting s inputs)
+abbrev pub waiting_total : State → Request → OnAnswer → Store → List Input → Total
+waiting_total x request on_answer s inputs =
+    total_of_course x.store.count x.setup x.callers (await_answer (run x.setup) x.setup (record { text = x.text; place = x.place }) (length x.callers) request on_answer s inputs)
 
 abbrev pub started_total : State → List Input → Result Store Fault → Total
 started_total x inputs z =
@@ -31,8 +31,8 @@ total_by_status r x inputs status e = ap (total_by x (with_refusal r x.store) in
 pub total_running : (r : Refusal) (x : State) (inputs : List Input) → x.status ≡ Running → total x r inputs ≡ going x (with_refusal r x.store) inputs
 total_running r x inputs = total_by_status r x inputs Running
 
-pub total_waits : (r : Refusal) (x : State) (inputs : List Input) (request : Request) (waiting : Waiting) → x.status ≡ RequestStatus request waiting → total x r inputs ≡ waiting_total x request waiting (with_refusal r x.store) inputs
-total_waits r x inputs request waiting = total_by_status r x inputs (RequestStatus request waiting)
+pub total_waits : (r : Refusal) (x : State) (inputs : List Input) (request : Request) (on_answer : OnAnswer) → x.status ≡ RequestStatus request on_answer → total x r inputs ≡ waiting_total x request on_answer (with_refusal r x.store) inputs
+total_waits r x inputs request on_answer = total_by_status r x inputs (RequestStatus request on_answer)
 
 pub total_complete : (r : Refusal) (x : State) (inputs : List Input) (value : Option Value) → x.status ≡ CompleteStatus value → total x r inputs ≡ closed (CompleteOutcome x.store.pieces value) x.store.count
 total_complete r x inputs value = total_by_status r x inputs (CompleteStatus value)
@@ -76,9 +76,9 @@ course_open n setup callers request positions inputs =
     ap (alone n setup) (request_returned setup callers request positions inputs) ∙ no_more (RequestOutcome request (positions ++ callers)) n
 
 -- a request that waits for an input
-pub total_open : (r : Refusal) (x : State) (request : Request) (waiting : Waiting) → x.status ≡ RequestStatus request waiting → total x r [] ≡ closed (RequestOutcome request (record { text = x.text; place = x.place } ∷ x.callers)) x.store.count
-total_open r x request waiting e =
-    total_waits r x [] request waiting e ∙ course_open x.store.count x.setup x.callers request (record { text = x.text; place = x.place } ∷ []) []
+pub total_open : (r : Refusal) (x : State) (request : Request) (on_answer : OnAnswer) → x.status ≡ RequestStatus request on_answer → total x r [] ≡ closed (RequestOutcome request (record { text = x.text; place = x.place } ∷ x.callers)) x.store.count
+total_open r x request on_answer e =
+    total_waits r x [] request on_answer e ∙ course_open x.store.count x.setup x.callers request (record { text = x.text; place = x.place } ∷ []) []
 
 -- what is put in front of a course stays there once its callers' rest follows
 returned_behind : (setup : Setup) (f : Course → Course)

@@ -1,5 +1,6 @@
 -- One operation that is counted is one turn of the nested run.
 use Rattle.std.proofs.Common.{ℕ, ◌≡◌, ◌+◌, ◌-◌, ◌*◌, ◌<◌, true, false, List, length, Result, Ok, Err, arith, ap, ◌∙◌, sym, refl, subst, ◌==◌}
+use Rattle.std.proofs.lemmas.Bool.{cond-true, cond-false}
 use Rattle.std.proofs.lemmas.Bool.Decides.{nat_tests}
 use Rattle.dwarf_base.specs.declared.errors.Error.{Error}
 use Rattle.dwarf_base.specs.declared.errors.Error.TheVariants as error
@@ -7,14 +8,13 @@ use Rattle.dwarf_base.specs.Faults.{Fault, fault_of}
 use Rattle.dwarf_base.specs.declared.errors.Error.TheVariants.{TooManyIterations}
 use Rattle.dwarf_base.specs.Reads.{Text}
 use Rattle.dwarf_meaning.specs.Operations.{Operation}
-use Rattle.dwarf_meaning.specs.Requests.{Request, Waiting, Input}
+use Rattle.dwarf_meaning.specs.Requests.{Request, OnAnswer, Input}
 use Rattle.dwarf_meaning.specs.RunLaws.{waits_of}
 use Rattle.dwarf_meaning.specs.Stores.{Setup, address_bits, Store, Last, Nothing, Plain, Pieced, Pushed, Called, Located, Next, Goes, RequestNext, FaultNext}
 use Rattle.dwarf_meaning.specs.Run.{Position, CompleteEnd, FaultEnd, Course, only_end, add_to_path, read, most, can_count, counted, do_operation, turn_counted, after_operation, await_answer, turn_by, run}
 use Rattle.dwarf_meaning.specs.Meaning.{FaultOutcome}
 use Rattle.dwarf_meaning.specs.Rest.{State, Status, Start, Running, RequestStatus, CompleteStatus, FaultStatus, with_refusal, total_of_course}
 use Rattle.dwarf_meaning.specs.Refusals.{Refusal, Never, before_pushes}
-use Rattle.dwarf_meaning.proofs.Choices.{if_true, if_false}
 use Rattle.dwarf_meaning.proofs.Counts.{HasTally, OnNext, Tally, tally_of, tally-done}
 use Rattle.dwarf_meaning.proofs.Effects.{act_is}
 use Rattle.dwarf_meaning.proofs.Turns.{run_turn, below_most}
@@ -64,7 +64,7 @@ total_inside x r inputs runs inside =
     total_running r x inputs runs
     ∙ ap (total_of_course x.store.count x.setup x.callers)
     (run_turn x.setup x.text x.place (length x.callers) s inputs
-    ∙ if_false (x.place == length x.text.bytes) (only_end (CompleteEnd s inputs)) (turn_by (run x.setup) x.setup x.text x.place (length x.callers) s inputs s.last) before_end)
+    ∙ cond-false (x.place == length x.text.bytes) (only_end (CompleteEnd s inputs)) (turn_by (run x.setup) x.setup x.text x.place (length x.callers) s inputs s.last) before_end)
 
 -- a turn that ends in a fault
 pub falls_turns : (x new : State) (error : Error) → x.status ≡ Running → new.status ≡ FaultStatus error → Falls x (total x) (fault_of error) new → Turns x new
@@ -95,7 +95,7 @@ module _ (x : State) (ready : IsReady x) where
         may = tt;
         same = λ inputs.
             ready_total Never inputs
-            ∙ (ap (total_of_course x.store.count x.setup x.callers) (if_false (can_count x.store) _ (only_end (FaultEnd TooManyIterations)) h.0)
+            ∙ (ap (total_of_course x.store.count x.setup x.callers) (cond-false (can_count x.store) _ (only_end (FaultEnd TooManyIterations)) h.0)
             ∙ (course_failed x.store.count x.setup x.callers TooManyIterations ∙ ap (closed (FaultOutcome TooManyIterations)) (sym count)));
         kept = record { setup = ap (λ (z : State). z.setup) h.1; object_address = ap (λ (z : State). z.store.object_address) h.1; maximum = ap (λ (z : State). z.store.maximum) h.1 };
         spends = fallen_spends x new error.TooManyIterations (ap faults_in ready.runs) failed (omega (arith, callers)) (omega (arith, count)) (omega (arith, lists)) (omega (arith, decodings, count)) (ap (λ (z : State). z.store.pieces) h.1) (omega (arith, decodings, count)) (omega (arith, decodings, count));
@@ -107,7 +107,7 @@ module _ (x : State) (ready : IsReady x) where
         let position : Position = record { text = x.text; place = x.place } in
         let course : Course = do_operation (run x.setup) x.setup x.text (length x.callers) (counted (with_refusal r x.store)) inputs (read x.setup x.text x.place) in
         ready_total r inputs
-        ∙ (ap (total_of_course x.store.count x.setup x.callers) (if_true (can_count x.store) (add_to_path position course) (only_end (FaultEnd TooManyIterations)) can)
+        ∙ (ap (total_of_course x.store.count x.setup x.callers) (cond-true (can_count x.store) (add_to_path position course) (only_end (FaultEnd TooManyIterations)) can)
         ∙ (course_counted x.store.count x.setup x.callers position course
         ∙ ap (λ (y : Result (Operation × List ℕ) Fault). total_of_course (x.store.count + 1) x.setup x.callers (do_operation (run x.setup) x.setup x.text (length x.callers) (counted (with_refusal r x.store)) inputs y)) e))
 
@@ -163,8 +163,8 @@ module _ (x : State) (ready : IsReady x) where
       goes_tally : (new : State) → LeadsToPlace (done_at (act_of there op) there) there new → tally_of new.store ≡ tally_of there.store
       goes_tally new h = next_tally (before_pushes h.steps.pushes Never) (Goes new.place (with_refusal Never new.store)) (h.steps.same Never)
 
-      asks_tally : (new : State) (request : Request) (waiting : Waiting) → LeadsToRequest (done_at (act_of there op) there) request waiting there new → tally_of new.store ≡ tally_of there.store
-      asks_tally new request waiting h = next_tally (before_pushes h.steps.pushes Never) (RequestNext request waiting (with_refusal Never new.store)) (h.steps.same Never)
+      asks_tally : (new : State) (request : Request) (on_answer : OnAnswer) → LeadsToRequest (done_at (act_of there op) there) request on_answer there new → tally_of new.store ≡ tally_of there.store
+      asks_tally new request on_answer h = next_tally (before_pushes h.steps.pushes Never) (RequestNext request on_answer (with_refusal Never new.store)) (h.steps.same Never)
 
       -- it adds one item at most
       next_lighter : (r : Refusal) (next : Next) → done_at (act_of there op) there (with_refusal r there.store) ≡ next → IsLighter (kept_in there.store) next
@@ -203,32 +203,32 @@ module _ (x : State) (ready : IsReady x) where
             less = less_counted x new ready.runs runs can (ap (λ (z : State). z.callers) goes.alone) count;
           }
 
-      ready_asks : (new : State) (request : Request) (waiting : Waiting) → new.status ≡ RequestStatus request waiting → LeadsToRequest (done_at (act_of there op) there) request waiting there new → Turns x new
-      ready_asks new request waiting open_now asks =
-          let tally = asks_tally new request waiting asks in
+      ready_asks : (new : State) (request : Request) (on_answer : OnAnswer) → new.status ≡ RequestStatus request on_answer → LeadsToRequest (done_at (act_of there op) there) request on_answer there new → Turns x new
+      ready_asks new request on_answer open_now asks =
+          let tally = asks_tally new request on_answer asks in
           let count : new.store.count ≡ x.store.count + 1 = ap (λ (m : Tally). m.count) tally in
-          let ends : EndsNoMore (endings x.store.pieces) (with_refusal Never new.store) = next_ends (before_pushes asks.steps.pushes Never) (RequestNext request waiting (with_refusal Never new.store)) (asks.steps.same Never) in
+          let ends : EndsNoMore (endings x.store.pieces) (with_refusal Never new.store) = next_ends (before_pushes asks.steps.pushes Never) (RequestNext request on_answer (with_refusal Never new.store)) (asks.steps.same Never) in
           record {
             comes = subst (ComesBy x (total x) new) (sym open_now) (record {
               pushes = asks.steps.pushes;
               same = λ r inputs.
-                  ready_after_operation (before_pushes asks.steps.pushes r) inputs (RequestNext request waiting (with_refusal r new.store)) (asks.steps.same r)
-                  ∙ (course_asked (x.store.count + 1) x.setup x.callers request (await_answer (run x.setup) x.setup (record { text = x.text; place = place_then }) (length x.callers) request waiting (with_refusal r new.store) inputs)
-                  ∙ (ap (λ (n : ℕ). waiting_total (record there { store = record there.store { count = n } }) request waiting (with_refusal r new.store) inputs) (sym count)
-                  ∙ sym (total_waits r new inputs request waiting open_now ∙ ap (λ (y : State). waiting_total y request waiting (with_refusal r new.store) inputs) asks.alone)));
+                  ready_after_operation (before_pushes asks.steps.pushes r) inputs (RequestNext request on_answer (with_refusal r new.store)) (asks.steps.same r)
+                  ∙ (course_asked (x.store.count + 1) x.setup x.callers request (await_answer (run x.setup) x.setup (record { text = x.text; place = place_then }) (length x.callers) request on_answer (with_refusal r new.store) inputs)
+                  ∙ (ap (λ (n : ℕ). waiting_total (record there { store = record there.store { count = n } }) request on_answer (with_refusal r new.store) inputs) (sym count)
+                  ∙ sym (total_waits r new inputs request on_answer open_now ∙ ap (λ (y : State). waiting_total y request on_answer (with_refusal r new.store) inputs) asks.alone)));
               kept = keeps_by new (ap (λ (z : State). z.setup) asks.alone) tally;
-              spends = asked_spends x new request waiting ready.runs open_now (ap (λ (z : State). length z.callers) asks.alone) count (ap (λ (z : State). z.decodings) asks.alone)
-                  (next_lighter (before_pushes asks.steps.pushes Never) (RequestNext request waiting (with_refusal Never new.store)) (asks.steps.same Never)) ends.pieces ends.waits;
+              spends = asked_spends x new request on_answer ready.runs open_now (ap (λ (z : State). length z.callers) asks.alone) count (ap (λ (z : State). z.decodings) asks.alone)
+                  (next_lighter (before_pushes asks.steps.pushes Never) (RequestNext request on_answer (with_refusal Never new.store)) (asks.steps.same Never)) ends.pieces ends.waits;
               nears =
                   let below = below_most x.store can in
-                  nears_by x new Running (RequestStatus request waiting) ready.runs open_now (omega (arith, count, below));
+                  nears_by x new Running (RequestStatus request on_answer) ready.runs open_now (omega (arith, count, below));
             });
-            less = less_stopped x new (RequestStatus request waiting) ready.runs open_now refl;
+            less = less_stopped x new (RequestStatus request on_answer) ready.runs open_now refl;
           }
 
       ready_by : (new : State) (status : Status) → new.status ≡ status → LeadsBy (done_at (act_of there op) there) there new status → Turns x new
       ready_by new Running e h = ready_goes new e h
-      ready_by new (RequestStatus request waiting) e h = ready_asks new request waiting e h
+      ready_by new (RequestStatus request on_answer) e h = ready_asks new request on_answer e h
       ready_by new (FaultStatus error) e h = ready_fails new error e h
       ready_by new (Start initial_value) e h = absurd h
       ready_by new (CompleteStatus value) e h = absurd h

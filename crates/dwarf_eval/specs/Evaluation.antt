@@ -17,7 +17,7 @@ use Rattle.dwarf_eval.specs.declared.op.results.EvaluationResult.TheVariants as 
 
 -- it waits or is complete
 abbrev pub WaitsOrIsComplete : Status → Type 0
-WaitsOrIsComplete (RequestStatus request waiting) = Unit {0}
+WaitsOrIsComplete (RequestStatus request on_answer) = Unit {0}
 WaitsOrIsComplete (CompleteStatus value) = Unit {0}
 WaitsOrIsComplete _ = ⊥
 
@@ -59,7 +59,7 @@ module _ {R O P : Type 0} (text : R → Text) (number : O → ℕ) where
 
 -- the status is that of the reply
 abbrev pub IsReplied : Reply → Status → Type 0
-IsReplied replied (RequestStatus request waiting) = replied ≡ RequestReply request
+IsReplied replied (RequestStatus request on_answer) = replied ≡ RequestReply request
 IsReplied replied (CompleteStatus value) = replied ≡ CompleteReply
 IsReplied replied (FaultStatus error) = replied ≡ FaultReply (fault_of error)
 IsReplied replied _ = ⊥
@@ -103,14 +103,14 @@ module _ {R O P : Type 0} (text : R → Text) (number : O → ℕ) where
 
   -- a resume: it goes on with the input; after a fault it replies that, and changes nothing
   abbrev pub Resumes : Input → State → State → Result (EvaluationResult R O P) Error → Status → Type 0
-  Resumes input old new replied (RequestStatus request waiting) =
+  Resumes input old new replied (RequestStatus request on_answer) =
       Follows old (total_after old input) (reply_of text number replied) new
   Resumes input old new replied (FaultStatus error) = (replied ≡ Err error) × (new ≡ old)
   Resumes input old new replied _ = Unit {0}
 
 -- no request is open
 abbrev pub IsClosed : Status → Type 0
-IsClosed (RequestStatus request waiting) = ⊥
+IsClosed (RequestStatus request on_answer) = ⊥
 IsClosed _ = Unit {0}
 
 -- the evaluation is complete

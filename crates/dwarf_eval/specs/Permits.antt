@@ -2,7 +2,7 @@
 use Rattle.std.specs.Prelude.{ℕ, ◌≡◌, ◌<◌, Bool, true, false, [], Option, Some, None, Result, IfOk, is_some}
 use Rattle.dwarf_base.specs.declared.errors.Error.{Error}
 use Rattle.dwarf_base.specs.Reads.{Text}
-use Rattle.dwarf_meaning.specs.Kinds.{kind_of_request, kind_of_waiting}
+use Rattle.dwarf_meaning.specs.Kinds.{kind_of_request}
 use Rattle.dwarf_meaning.specs.Requests.{Answer, Request}
 use Rattle.dwarf_meaning.specs.Rest as rest
 use Rattle.dwarf_meaning.specs.Rest.{Start, Running, RequestStatus, CompleteStatus, FaultStatus}
@@ -16,16 +16,14 @@ use Rattle.dwarf_eval.specs.declared.eval.states.Status.TheVariants as status
 -- the status is that of the evaluation: if a request is open, its kind
 abbrev pub Shows : rest.Status → Status → Type 0
 Shows (Start initial_value) shown = shown ≡ status.Start (is_some initial_value)
-Shows (RequestStatus request waiting) (status.Waiting kind) =
-    (kind ≡ kind_of_waiting waiting) × (kind ≡ kind_of_request request)
-Shows (RequestStatus request waiting) _ = ⊥
+Shows (RequestStatus request on_answer) shown = shown ≡ status.Waiting (kind_of_request request)
 Shows (CompleteStatus value) shown = shown ≡ status.Complete
 Shows (FaultStatus error) shown = shown ≡ status.Failed error
 Shows Running shown = ⊥
 
 -- a request is open that asks for an answer of this kind, or the evaluation met a fault
 abbrev pub IsOpenFor : WaitingKind → rest.Status → Type 0
-IsOpenFor kind (RequestStatus request waiting) = kind_of_request request ≡ kind
+IsOpenFor kind (RequestStatus request on_answer) = kind_of_request request ≡ kind
 IsOpenFor kind (FaultStatus error) = Unit {0}
 IsOpenFor kind _ = ⊥
 

@@ -6,7 +6,7 @@ use Rattle.std.specs.Prelude.{slice_get}
 use Rattle.dwarf_base.specs.declared.errors.Error.{Error}
 use Rattle.dwarf_base.specs.Faults.{Fault, fault_of}
 use Rattle.dwarf_base.specs.Reads.{Text}
-use Rattle.dwarf_meaning.specs.Requests.{Request, Waiting}
+use Rattle.dwarf_meaning.specs.Requests.{Request, OnAnswer}
 use Rattle.dwarf_meaning.specs.Stores.{Setup, address_bits}
 use Rattle.dwarf_meaning.specs.Run.{Position}
 use Rattle.dwarf_meaning.specs.Meaning.{Outcome}
@@ -71,8 +71,8 @@ module _ (setup : Setup) (refusal : Refusal) (text : Text) where
 -- ---- where evaluations stand
 
 pub asking_of : (x : State) (request : Request) (positions : List Position) (status : Status) → IsInRequest request positions x status
-    → (waiting : Waiting) × (status ≡ RequestStatus request waiting) × (positions ≡ open_texts x)
-asking_of x request positions (RequestStatus open_request waiting) h = (waiting, ap (λ r. RequestStatus r waiting) h.0, h.1)
+    → (on_answer : OnAnswer) × (status ≡ RequestStatus request on_answer) × (positions ≡ open_texts x)
+asking_of x request positions (RequestStatus open_request on_answer) h = (on_answer, ap (λ r. RequestStatus r on_answer) h.0, h.1)
 asking_of x request positions (Start initial_value) h = absurd h
 asking_of x request positions (CompleteStatus value) h = absurd h
 asking_of x request positions (FaultStatus error) h = absurd h
@@ -82,7 +82,7 @@ pub stopped_of : (fault : Fault) (status : Status) → IsInFault fault status
     → (error : Error) × (status ≡ FaultStatus error) × (fault_of error ≡ fault)
 stopped_of fault (FaultStatus error) h = (error, refl, h)
 stopped_of fault (Start initial_value) h = absurd h
-stopped_of fault (RequestStatus request waiting) h = absurd h
+stopped_of fault (RequestStatus request on_answer) h = absurd h
 stopped_of fault (CompleteStatus value) h = absurd h
 stopped_of fault Running h = absurd h
 

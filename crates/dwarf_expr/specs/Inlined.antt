@@ -3,7 +3,7 @@ use Rattle.std.specs.Prelude.{◌≡◌, ◌≢◌, List, ◌∷◌, ◌++◌, O
 use Rattle.dwarf_base.specs.declared.errors.Error.{Error}
 use Rattle.dwarf_value.specs.declared.types.Value.{Value}
 use Rattle.dwarf_meaning.specs.Operations.{DieReference}
-use Rattle.dwarf_meaning.specs.Requests.{Request, Waiting, LocationAnswer}
+use Rattle.dwarf_meaning.specs.Requests.{Request, OnAnswer, LocationAnswer}
 use Rattle.dwarf_meaning.specs.Meaning.{First}
 use Rattle.dwarf_meaning.specs.Rest.{State, RequestStatus, CompleteStatus, FaultStatus}
 use Rattle.dwarf_meaning.specs.Steps.{Step, Resume, Told, Reply, after_steps}
@@ -34,7 +34,7 @@ pub record MayInline (x y : State) (site : CallSite) (offset : DieReference) (st
 
 -- both wait in the same request, or are complete with the same pieces and value
 pub data StatesEndAlike (x y : State) : Type 0 where
-  in_request : (request : Request) (waiting another : Waiting) → x.status ≡ RequestStatus request waiting
+  in_request : (request : Request) (on_answer another : OnAnswer) → x.status ≡ RequestStatus request on_answer
       → y.status ≡ RequestStatus request another → StatesEndAlike x y
   in_completion : (value : Option Value) → x.status ≡ CompleteStatus value → y.status ≡ CompleteStatus value
       → x.store.pieces ≡ y.store.pieces → StatesEndAlike x y

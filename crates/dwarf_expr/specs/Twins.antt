@@ -7,7 +7,7 @@ use Rattle.dwarf_base.specs.Reads.{Text}
 use Rattle.dwarf_value.specs.declared.types.Value.{Value}
 use Rattle.dwarf_value.specs.Values.{Agree}
 use Rattle.dwarf_value.specs.Laws.{IsWidth}
-use Rattle.dwarf_meaning.specs.Requests.{Request, Waiting}
+use Rattle.dwarf_meaning.specs.Requests.{Request, OnAnswer}
 use Rattle.dwarf_meaning.specs.Stores.{address_bits}
 use Rattle.dwarf_meaning.specs.Run.{Position}
 use Rattle.dwarf_meaning.specs.Meaning.{fresh}
@@ -63,7 +63,7 @@ open_texts x = record { text = x.text; place = x.place } ∷ x.callers
 pub data StatesStandAlike (bits : ℕ) (x y : State) : Type 0 where
   unstarted : (number other : Option ℕ) → x.status ≡ Start number → y.status ≡ Start other
       → Both (AgreeingNumbers bits) number other → StatesStandAlike bits x y
-  in_request : (request : Request) (waiting another : Waiting) → x.status ≡ RequestStatus request waiting
+  in_request : (request : Request) (on_answer another : OnAnswer) → x.status ≡ RequestStatus request on_answer
       → y.status ≡ RequestStatus request another → open_texts x ≡ open_texts y → StatesStandAlike bits x y
   in_fault : (error other : Error) → x.status ≡ FaultStatus error → y.status ≡ FaultStatus other
       → fault_of error ≡ fault_of other → StatesStandAlike bits x y

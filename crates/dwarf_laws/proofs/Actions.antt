@@ -12,8 +12,9 @@ use Rattle.dwarf_value.proofs.ValueLaws.{reinterpret_of-Agree}
 use Rattle.dwarf_meaning.specs.Operations as operation
 use Rattle.dwarf_meaning.specs.Operations.{Operation}
 use Rattle.dwarf_meaning.specs.Locations.{Location, AtAddress, Piece}
-use Rattle.dwarf_meaning.specs.Requests.{Request, RequiresMemory, RequiresTls, Waiting, Memory, Register, WasmValue, EntryValue, FrameBase, Tls, CallFrameCfa, ParameterRef, RelocatedAddress, IndexedAddress, AtLocation, TypedLiteral, Convert, Reinterpret, Answer}
-use Rattle.dwarf_meaning.specs.Acts.{on_top, on_result, result_of, Act, Pushes, Branches, Locates, EndsPiece, RequestAct, FaultAct, short, unary, binary, act, Use, PushesAnswer, Calls, FaultUse, WrongKind, use_of}
+use Rattle.dwarf_meaning.specs.Requests.{Request, RequiresMemory, RequiresTls, OnAnswer, Push, Add, Parse, Convert, Answer}
+use Rattle.dwarf_meaning.specs.Kinds.{kind_of_answer}
+use Rattle.dwarf_meaning.specs.Acts.{on_top, on_result, result_of, Act, Pushes, Branches, Locates, EndsPiece, RequestAct, FaultAct, short, unary, binary, act, Use, PushesAnswer, Calls, FaultUse, use_of}
 use Rattle.dwarf_laws.specs.Agreement as agreeing
 use Rattle.dwarf_laws.specs.Agreement.{Pairwise, none, more, Both, nothing, something, AgreeingNumbers, AgreeingAnswers, AgreeingLocations, same, AgreeingPieces}
 use Rattle.dwarf_laws.proofs.Pairs.{get_both, if_pair, top_pair, some_pair, answer_pair, read_pair, answers_agree}
@@ -27,8 +28,8 @@ pub data AgreeingActs (w : ℕ) : Act → Act → Type 0 where
       → AgreeingLocations w location location' → AgreeingActs w (Locates rest location) (Locates rest' location')
   ends : {rest rest' : List Value} {piece piece' : Piece} → Pairwise (Agree w) rest rest'
       → AgreeingPieces w piece piece' → AgreeingActs w (EndsPiece rest piece) (EndsPiece rest' piece')
-  asks : {rest rest' : List Value} {request : Request} {waiting : Waiting} → Pairwise (Agree w) rest rest'
-      → AgreeingActs w (RequestAct rest request waiting) (RequestAct rest' request waiting)
+  asks : {rest rest' : List Value} {request : Request} {on_answer : OnAnswer} → Pairwise (Agree w) rest rest'
+      → AgreeingActs w (RequestAct rest request on_answer) (RequestAct rest' request on_answer)
   refuses : {fault : Fault} → AgreeingActs w (FaultAct fault) (FaultAct fault)
 
 pub data AgreeingUses (w : ℕ) : Use → Use → Type 0 where
@@ -36,7 +37,6 @@ pub data AgreeingUses (w : ℕ) : Use → Use → Type 0 where
       → AgreeingUses w (PushesAnswer rest x) (PushesAnswer rest' x')
   calls : {text : Text} → AgreeingUses w (Calls text) (Calls text)
   denies : {fault : Fault} → AgreeingUses w (FaultUse fault) (FaultUse fault)
-  misfits : AgreeingUses w WrongKind WrongKind
 
 -- the same address on both sides
 pub same_addresses : (w : ℕ) (x x' : Value) → Agree w x x'
@@ -47,10 +47,11 @@ same_addresses w x x' a =
 -- ---- operations
 
 module _ (w : ℕ) where
-  asks_equal : (rest rest' : List Value) (request request' : Request) (waiting : Waiting) → request ≡ request'
-      → Pairwise (Agree w) rest rest' → AgreeingActs w (RequestAct rest request waiting) (RequestAct rest' request' waiting)
-  asks_equal rest rest' request request' waiting e h =
-      subst (λ (r : Request). AgreeingActs w (RequestAct rest request waiting) (RequestAct rest' r waiting)) e (asks h)
+  asks_equal : (rest rest' : List Value) (request request' : Request) (on_answer : OnAnswer) → request ≡ request'
+      → Pairwise (Agree w) rest rest'
+      → AgreeingActs w (RequestAct rest request on_answer) (RequestAct rest' request' on_answer)
+  asks_equal rest rest' request request' on_answer e h =
+      subst (λ (r : Request). AgreeingActs w (RequestAct rest request on_answer) (RequestAct rest' r on_answer)) e (asks h)
 
   pushes_one : (rest rest' : List Value) (x x' : Value) → Pairwise (Agree w) rest rest' → Agree w x x'
       → AgreeingActs w (Pushes rest (x ∷ [])) (Pushes rest' (x' ∷ []))
@@ -130,16 +131,16 @@ module _ (w : ℕ) where
   act_both object object' (operation.Deref base_type size false) values others o h =
       if_pair (AgreeingActs w) _ _ _ _ _ _ refl refuses
       (top_acts values others _ _ h (λ x x' rest rest' a b.
-      asks_equal rest rest' _ _ Memory (ap (λ (n : ℕ). RequiresMemory n size None base_type) (to_u64_of-Agree w x x' a)) b))
+      asks_equal rest rest' _ _ Push (ap (λ (n : ℕ). RequiresMemory n size None base_type) (to_u64_of-Agree w x x' a)) b))
   act_both object object' (operation.Deref base_type size true) values others o h =
       if_pair (AgreeingActs w) _ _ _ _ _ _ refl refuses
       (top_acts values others _ _ h (λ x x' below below' a b. top_acts below below' _ _ b (λ y y' rest rest' c d.
       let p = to_u64_of-Agree w x x' a in let q = to_u64_of-Agree w y y' c in
-      asks_equal rest rest' _ _ Memory (cc) d)))
+      asks_equal rest rest' _ _ Push (cc) d)))
   act_both object object' (operation.RegisterOffset register offset base_type) values others o h = asks h
   act_both object object' (operation.FrameOffset offset) values others o h = asks h
   act_both object object' operation.TLS values others o h =
-      top_acts values others _ _ h (λ x x' rest rest' a b. asks_equal rest rest' _ _ Tls
+      top_acts values others _ _ h (λ x x' rest rest' a b. asks_equal rest rest' _ _ Push
       (ap RequiresTls (to_u64_of-Agree w x x' a)) b)
   act_both object object' operation.CallFrameCFA values others o h = asks h
   act_both object object' (operation.Call offset) values others o h = asks h
@@ -165,34 +166,34 @@ module _ (w : ℕ) where
 
 -- ---- answers
 
+-- answers that agree are of one kind
+pub same_kinds : (w : ℕ) (x y : Answer) → AgreeingAnswers w x y → kind_of_answer x ≡ kind_of_answer y
+same_kinds w x y (agreeing.value a) = refl
+same_kinds w x y (agreeing.number e) = refl
+same_kinds w x y agreeing.location = refl
+same_kinds w x y agreeing.base_type = refl
+
 module _ (w : ℕ) (width : IsWidth w) where
   answer_uses : (r r' : Result Value Error) (rest rest' : List Value) → AgreeingResults w r r' → Pairwise (Agree w) rest rest'
       → AgreeingUses w (on_result (result_of r) FaultUse (PushesAnswer rest)) (on_result (result_of r') FaultUse (PushesAnswer rest'))
   answer_uses r r' rest rest' h b =
       answer_pair (AgreeingUses w) w r r' FaultUse FaultUse _ _ h (λ fault. denies) (λ x x' a. gives b a)
 
-  pub use_both : (waiting : Waiting) (x y : Answer) (values others : List Value) → AgreeingAnswers w x y
-      → Pairwise (Agree w) values others → AgreeingUses w (use_of w waiting x values) (use_of w waiting y others)
+  pub use_both : (on_answer : OnAnswer) (x y : Answer) (values others : List Value) → AgreeingAnswers w x y
+      → Pairwise (Agree w) values others → AgreeingUses w (use_of w on_answer x values) (use_of w on_answer y others)
   unfolding use_of
-  use_both Memory x y values others (agreeing.memory a) h = gives h a
-  use_both (Register offset) x y values others (agreeing.register a) h =
+  use_both (Add offset) x y values others (agreeing.value a) h =
       answer_uses _ _ values others (answers_agree w _ _ (add_of_constant-Agree w (residue 64 offset) _ _ a)) h
-  use_both WasmValue x y values others (agreeing.wasm_value a) h = gives h a
-  use_both EntryValue x y values others (agreeing.entry_value a) h = gives h a
-  use_both (FrameBase offset) x y values others (agreeing.frame_base e) h = gives h (Agree-sums w _ _ offset width.within_64 e)
-  use_both Tls x y values others (agreeing.tls e) h = gives h (Agree-Generic w _ _ e)
-  use_both CallFrameCfa x y values others (agreeing.cfa e) h = gives h (Agree-Generic w _ _ e)
-  use_both ParameterRef x y values others (agreeing.parameter e) h = gives h (Agree-Generic w _ _ e)
-  use_both RelocatedAddress x y values others (agreeing.relocated e) h = gives h (Agree-Generic w _ _ e)
-  use_both IndexedAddress x y values others (agreeing.indexed e) h = gives h (Agree-Generic w _ _ e)
-  use_both AtLocation x y values others agreeing.location h = calls
-  use_both (TypedLiteral literal) x y values others agreeing.base_type h =
+  use_both _ x y values others (agreeing.value a) h = gives h a
+  use_both (Add offset) x y values others (agreeing.number e) h = gives h (Agree-sums w _ _ offset width.within_64 e)
+  use_both _ x y values others (agreeing.number e) h = gives h (Agree-Generic w _ _ e)
+  use_both _ x y values others agreeing.location h = calls
+  use_both (Parse literal) x y values others agreeing.base_type h =
       read_pair (AgreeingUses w) _ FaultUse FaultUse (PushesAnswer values) (PushesAnswer others)
       (λ fault. denies) (λ v. gives h (Agree-refl w v))
   use_both Convert x y values others agreeing.base_type h =
       top_pair (AgreeingUses w) w values others _ _ _ _ h denies (λ v v' rest rest' a b.
       answer_uses _ _ rest rest' (answers_agree w _ _ (convert_of-Agree _ w v v' a)) b)
-  use_both Reinterpret x y values others agreeing.base_type h =
+  use_both _ x y values others agreeing.base_type h =
       top_pair (AgreeingUses w) w values others _ _ _ _ h denies (λ v v' rest rest' a b.
       answer_uses _ _ rest rest' (reinterpret_of-Agree w _ v v' width a) b)
-  use_both _ x y values others _ h = misfits

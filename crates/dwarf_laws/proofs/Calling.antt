@@ -1,5 +1,6 @@
 -- Up to the call: what is asked, and what is kept there.
 use Rattle.std.proofs.Common.{ℕ, ◌+◌, ◌-◌, ◌≡◌, ◌≤◌, ◌<◌, Bool, true, false, List, [], ◌∷◌, ◌++◌, length, drop, Ok, refl, sym, ap, subst, ◌∙◌, ◌==◌, arith, append_assoc, length-append}
+use Rattle.std.proofs.lemmas.Bool.{cond-true, cond-false, cond_both}
 use Rattle.std.proofs.lemmas.Bool.Decides.{nat_tests}
 use Rattle.std.proofs.lemmas.List.{drop-append-le, length-drop}
 use Rattle.std.proofs.Math.Seq.{drop-append_seam}
@@ -12,13 +13,13 @@ use Rattle.dwarf_meaning.specs.Locations.{Location}
 use Rattle.dwarf_meaning.specs.Spelling.{Spells}
 use Rattle.dwarf_meaning.specs.Splitting.{Joined}
 use Rattle.dwarf_meaning.specs.Splitting as splitting
-use Rattle.dwarf_meaning.specs.Requests.{Request, RequiresAtLocation, AtLocation, Answer, LocationAnswer, Input}
-use Rattle.dwarf_meaning.specs.Acts.{act, use_of}
-use Rattle.dwarf_meaning.specs.Stores.{Setup, address_bits, Store, Last, Nothing, Plain, Pieced, Pushed, Called, Located, push_caller, done}
+use Rattle.dwarf_meaning.specs.Requests.{Request, RequiresAtLocation, Push, Input}
+use Rattle.dwarf_meaning.specs.Kinds.{kind_of_request, kind_of_answer, is_same_kind}
+use Rattle.dwarf_meaning.specs.Acts.{act, Use, PushesAnswer, Calls, FaultUse, use_of}
+use Rattle.dwarf_meaning.specs.Stores.{Setup, address_bits, Store, Last, Nothing, Plain, Pieced, Pushed, Called, Located, push_value, push_caller, done}
 use Rattle.dwarf_meaning.specs.Run.{Position, End, CompleteEnd, RequestEnd, FaultEnd, Course, only_end, add_to_path, add_request, return_to_caller, run_callee, after_answer, await_answer, after_operation, read, can_count, counted, do_operation, turn_counted, turn_located, turn_by, run}
 use Rattle.dwarf_meaning.specs.Meaning.{First}
 use Rattle.dwarf_meaning.specs.RunLaws.{EndOpen}
-use Rattle.dwarf_meaning.proofs.Choices.{if_true, if_false}
 use Rattle.dwarf_meaning.proofs.Turns.{run_turn}
 use Rattle.dwarf_meaning.proofs.Callees.{run_open}
 use Rattle.dwarf_meaning.proofs.Decoded.{spelled_operation, whole_operation}
@@ -67,10 +68,10 @@ module _ (encoding : Encoding) (bits : ℕ) (A K B : List ℕ) (big : Bool) (off
   abbrev pub call_course : Store → List Input → Course
   call_course t inputs =
       add_to_path (record { text = outer; place = length A })
-      (add_request call (await_answer (run S) S behind_call 0 call AtLocation (counted (calm t)) inputs))
+      (add_request call (await_answer (run S) S behind_call 0 call Push (counted (calm t)) inputs))
 
   does_call : (s : Store) (inputs : List Input) → do_operation (run S) S outer 0 s inputs (read S outer (length A)) ≡ add_request
-      call (await_answer (run S) S behind_call 0 call AtLocation s inputs)
+      call (await_answer (run S) S behind_call 0 call Push s inputs)
   unfolding act
   does_call s inputs =
       ap (do_operation (run S) S outer 0 s inputs) read_call
@@ -84,11 +85,11 @@ module _ (encoding : Encoding) (bits : ℕ) (A K B : List ℕ) (big : Bool) (off
     where
       by_test : (b : Bool) → can_count (calm t) ≡ b → turn_counted (run S) S outer (length A) 0 (calm t) inputs ≡ call_course t inputs
       by_test true e =
-          if_true (can_count (calm t)) _ _ e ∙ ap (add_to_path (record { text = outer; place = length A }))
+          cond-true (can_count (calm t)) _ _ e ∙ ap (add_to_path (record { text = outer; place = length A }))
           (does_call (counted (calm t)) inputs)
       by_test false e =
           let x : FaultEnd TooManyIterations ≡ RequestEnd call (behind_call ∷ []) [] = sym
-          (ap (λ (c : Course). c.end) (if_false (can_count (calm t))
+          (ap (λ (c : Course). c.end) (cond-false (can_count (calm t))
           (add_to_path (record { text = outer; place = length A })
           (do_operation (run S) S outer 0 (counted (calm t)) before (read S outer (length A))))
           (only_end (FaultEnd TooManyIterations)) e)) ∙ at_call in
@@ -114,7 +115,7 @@ module _ (encoding : Encoding) (bits : ℕ) (A K B : List ℕ) (big : Bool) (off
       (length A) 0 (calm t) inputs t.last
   opened t inputs =
       run_turn S outer (length A) 0 (calm t) inputs
-      ∙ if_false (length A == length (A ++ (K ++ B))) _ _ (let l = length-append A (K ++ B) in
+      ∙ cond-false (length A == length (A ++ (K ++ B))) _ _ (let l = length-append A (K ++ B) in
       let k = length-append K B in let m = some_call in grind (arith, nat_tests))
 
   -- if the run of some inputs stays at the call, the run of any asks it
@@ -157,18 +158,20 @@ module _ (encoding : Encoding) (bits : ℕ) (A K B : List ℕ) (big : Bool) (off
         back_not callee s inputs (run S callee 0 1 (calm s) inputs) (run S callee 0 1 (calm s) inputs).end
         (run_open S callee 0 1 (calm s) inputs) at_call
 
-    used_not : (answer : Answer) (s : Store) (input : Input) (inputs : List Input)
-        → AtCall (after_answer (run S) S behind_call 0 (use_of (address_bits S) AtLocation answer s.values) (calm s) inputs
-        (only_end (RequestEnd call (behind_call ∷ []) (input ∷ inputs)))).end → ⊥
-    unfolding use_of
-    used_not (LocationAnswer callee) s input inputs at_call = called_not callee callee.bytes s inputs at_call
-    used_not _ s input inputs at_call = let x : input ∷ inputs ≡ [] = ap inputs_of at_call in cc
+    used_not : (u : Use) (s : Store) (inputs : List Input)
+        → AtCall (after_answer (run S) S behind_call 0 u (calm s) inputs).end → ⊥
+    unfolding push_value
+    used_not (PushesAnswer rest value) s inputs at_call = later_not _ inputs at_call
+    used_not (Calls callee) s inputs at_call = called_not callee callee.bytes s inputs at_call
+    used_not (FaultUse fault) s inputs at_call = let x : FaultEnd fault ≡ RequestEnd call (behind_call ∷ []) [] = at_call in cc
 
     asked_not : (t : Store) (input : Input) (inputs : List Input)
-        → AtCall (await_answer (run S) S behind_call 0 call AtLocation (counted (calm t)) (input ∷ inputs)).end → ⊥
-    asked_not t input inputs at_call =
-        used_not input.answer (record t
-        { count = t.count + 1; object_address = input.object_address; maximum = input.maximum }) input inputs at_call
+        → AtCall (await_answer (run S) S behind_call 0 call Push (counted (calm t)) (input ∷ inputs)).end → ⊥
+    asked_not t input inputs =
+        cond_both (is_same_kind (kind_of_request call) (kind_of_answer input.answer)) _ _ (λ (c : Course). AtCall c.end → ⊥)
+        (λ fits. used_not (use_of (address_bits S) Push input.answer t.values) (record t
+        { count = t.count + 1; object_address = input.object_address; maximum = input.maximum }) inputs)
+        (λ other at_call. let x : input ∷ inputs ≡ [] = ap inputs_of at_call in cc)
 
   module _ (target : First) where
     abbrev From : ℕ → Type 0

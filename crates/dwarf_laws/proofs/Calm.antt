@@ -1,17 +1,17 @@
 -- Without limits and refusals nothing that is kept depends on the count.
 use Rattle.std.proofs.Common.{ℕ, ◌+◌, ◌≡◌, ◌≤◌, ℤ, false, List, [], ◌∷◌, ◌++◌, Option, Some, None, Result, Ok, refl, sym, subst, arith, nat_lt}
+use Rattle.std.proofs.lemmas.Bool.{cond-false, cond_both}
 use Rattle.std.proofs.lemmas.Bool.Decides.{nat_tests}
 use Rattle.dwarf_base.specs.declared.common.Encoding.{Encoding}
 use Rattle.dwarf_base.specs.Faults.{Fault}
 use Rattle.dwarf_base.specs.declared.errors.Error.TheVariants.{BadBranchTarget}
 use Rattle.dwarf_value.specs.declared.types.Value.{Value}
 use Rattle.dwarf_meaning.specs.Locations.{Location}
-use Rattle.dwarf_meaning.specs.Requests.{Request, Waiting}
+use Rattle.dwarf_meaning.specs.Requests.{Request, OnAnswer}
 use Rattle.dwarf_meaning.specs.Acts.{Act, Pushes, Branches, Locates, EndsPiece, RequestAct, FaultAct}
 use Rattle.dwarf_meaning.specs.Stores.{Setup, Store, Plain, Pieced, Located, push_value, push_piece, push_values, Next, Goes, RequestNext, FaultNext, goes, done, branch_target, branch}
 use Rattle.dwarf_meaning.specs.Run.{end_located}
 use Rattle.dwarf_meaning.specs.Refusals.{Never}
-use Rattle.dwarf_meaning.proofs.Choices.{if_false, if_both}
 use Rattle.dwarf_laws.proofs.Jumps.{Jumping, pushes, branches, locates, ends, asks, refuses}
 
 abbrev pub free : Encoding → (bits : ℕ) → Setup
@@ -51,8 +51,8 @@ module _ (encoding : Encoding) (bits : ℕ) where
   pub data NextBoth (n : ℕ) (Al : ℕ → ℕ → Type 0) (object : Option ℕ) (maximum : ℕ) : Next → Next → Type 0 where
     goes_both : {q q' : ℕ} (t : Store) → Al q q' → t.object_address ≡ object → t.maximum ≡ maximum
         → NextBoth n Al object maximum (Goes q (ahead n t)) (Goes q' (calm t))
-    request_both : {request : Request} {waiting : Waiting} (t : Store) → t.object_address ≡ object → t.maximum ≡ maximum
-        → NextBoth n Al object maximum (RequestNext request waiting (ahead n t)) (RequestNext request waiting (calm t))
+    request_both : {request : Request} {on_answer : OnAnswer} (t : Store) → t.object_address ≡ object → t.maximum ≡ maximum
+        → NextBoth n Al object maximum (RequestNext request on_answer (ahead n t)) (RequestNext request on_answer (calm t))
     fails_both : {fault : Fault} {next : Next} → NextBoth n Al object maximum (FaultNext fault) next
 
   module _ (n : ℕ) (Al : ℕ → ℕ → Type 0) (len len' place place' : ℕ) where
@@ -66,15 +66,15 @@ module _ (encoding : Encoding) (bits : ℕ) where
         → NextBoth n Al t.object_address t.maximum (branch len (branch_target S place target) (ahead n t))
         (branch len' (branch_target S place' target) (calm t))
     branch_both target t h =
-        if_both (λ (x : Next). NextBoth n Al t.object_address t.maximum x
-        (branch len' (branch_target S place' target) (calm t))) (nat_lt len (branch_target S place target)) _ _
+        cond_both (nat_lt len (branch_target S place target)) _ _ (λ (x : Next). NextBoth n Al t.object_address t.maximum x
+        (branch len' (branch_target S place' target) (calm t)))
         (λ e. fails_both)
         (λ e.
         let lands = h (grind (arith, nat_tests)) in
         let no : nat_lt len' (branch_target S place' target) ≡ false = let l = lands.0 in grind (arith, nat_tests) in
         subst (λ (x : Next). NextBoth n Al t.object_address t.maximum
         (Goes (branch_target S place target) (ahead n t)) x)
-        (sym (if_false (nat_lt len' (branch_target S place' target))
+        (sym (cond-false (nat_lt len' (branch_target S place' target))
         (FaultNext (BadBranchTarget (branch_target S place' target))) (Goes (branch_target S place' target) (calm t))
         no)) (goes_both t lands.1 refl refl))
 
@@ -92,7 +92,7 @@ module _ (encoding : Encoding) (bits : ℕ) where
     done_both (Locates rest location) t al locates = goes_both (record t { values = rest; last = Located location }) al refl refl
     done_both (EndsPiece rest piece) t al ends =
         goes_both (record t { values = rest; last = Pieced; pieces = t.pieces ++ piece ∷ [] }) al refl refl
-    done_both (RequestAct rest request waiting) t al asks = request_both (record t { values = rest }) refl refl
+    done_both (RequestAct rest request on_answer) t al asks = request_both (record t { values = rest }) refl refl
     done_both (FaultAct fault) t al refuses = fails_both
 
     pub holds_both : (location : Location) (t : Store) (o : Option (ℕ × Option ℕ)) → Al place place'

@@ -5,15 +5,14 @@ use Rattle.dwarf_base.specs.declared.errors.Error.TheVariants.{StackFull}
 use Rattle.dwarf_base.specs.Reads.{Text}
 use Rattle.dwarf_value.specs.Laws.{IsWidth}
 use Rattle.dwarf_meaning.specs.Requests.{Answer, Input}
-use Rattle.dwarf_meaning.specs.Kinds.{kind_of_answer}
 use Rattle.dwarf_meaning.specs.Stores.{Setup, address_bits}
 use Rattle.dwarf_meaning.specs.Meaning.{Outcome, FaultOutcome, First}
 use Rattle.dwarf_meaning.specs.Steps.{Step, InitialValue, ObjectAddress, MaxIterations, Evaluate, Resume, Told, outcome_from, outcome_of, IsEvaluable, Awaits, IsUntold, Allows, begun, heard, after, Reply, reply, replies, step_replies, after_step, replies_of, untold}
 use Rattle.dwarf_meaning.specs.Refusals.{Limits, Refusal}
-use Rattle.dwarf_laws.specs.Agreement as agreeing
 use Rattle.dwarf_laws.specs.Agreement.{Pairwise, none, more, Both, nothing, something, AgreeingAnswers, AgreeingSteps, initial_value, object_address, max_iterations, evaluate, resume, AgreeingFirsts, AgreeingInputs, AgreeingTold, AgreeingOutcomes, requests, faults, completions}
 use Rattle.dwarf_laws.specs.TwoRuns.{NoneIsFull, path_from, StandAlike, AreAlike, TwoRuns}
 use Rattle.dwarf_laws.proofs.Pairs.{snoc_both}
+use Rattle.dwarf_laws.proofs.Actions.{same_kinds}
 use Rattle.dwarf_laws.proofs.Meanings.{meaning_both, path_both}
 
 -- ---- which step may come next
@@ -27,20 +26,6 @@ none_back R x y nothing e = refl
 none_back R x y (something r) e = cc
 
 module _ (w : ℕ) where
-  same_kinds : (a b : Answer) → AgreeingAnswers w a b → kind_of_answer a ≡ kind_of_answer b
-  same_kinds a b (agreeing.memory h) = refl
-  same_kinds a b (agreeing.register h) = refl
-  same_kinds a b (agreeing.wasm_value h) = refl
-  same_kinds a b (agreeing.entry_value h) = refl
-  same_kinds a b (agreeing.frame_base h) = refl
-  same_kinds a b (agreeing.tls h) = refl
-  same_kinds a b (agreeing.cfa h) = refl
-  same_kinds a b (agreeing.parameter h) = refl
-  same_kinds a b (agreeing.relocated h) = refl
-  same_kinds a b (agreeing.indexed h) = refl
-  same_kinds a b agreeing.location = refl
-  same_kinds a b agreeing.base_type = refl
-
   evaluable_both : (o o' : Option Outcome) → Both (AgreeingOutcomes w) o o' → IsEvaluable o ↔ IsEvaluable o'
   evaluable_both o o' nothing = (λ h. h, λ h. h)
   evaluable_both o o' (something requests) = (λ h. h, λ h. h)
@@ -50,7 +35,7 @@ module _ (w : ℕ) where
   awaits_both : (a b : Answer) (o o' : Option Outcome) → AgreeingAnswers w a b → Both (AgreeingOutcomes w) o o'
       → Awaits a o ↔ Awaits b o'
   awaits_both a b o o' k nothing = (λ h. h, λ h. h)
-  awaits_both a b o o' k (something requests) = (λ h. h ∙ same_kinds a b k, λ h. h ∙ sym (same_kinds a b k))
+  awaits_both a b o o' k (something requests) = (λ h. h ∙ same_kinds w a b k, λ h. h ∙ sym (same_kinds w a b k))
   awaits_both a b o o' k (something faults) = (λ h. h, λ h. h)
   awaits_both a b o o' k (something (completions p v)) = (λ h. h, λ h. h)
 

@@ -1,18 +1,18 @@
 -- What two runs keep, and what is pushed on it.
 use Rattle.std.proofs.Common.{ℕ, zero, suc, ◌≡◌, ap, refl, subst, ◌⊎◌, inl, inr, List, [], ◌∷◌, ◌++◌, length, Option, Some, None, Result, Ok, Err}
+use Rattle.std.proofs.lemmas.Bool.{cond_both}
 use Rattle.std.specs.Prelude.{nat_lt}
 use Rattle.dwarf_base.specs.Faults.{Fault, ◌>>=◌}
 use Rattle.dwarf_base.specs.declared.errors.Error.TheVariants.{StackFull}
 use Rattle.dwarf_value.specs.declared.types.Value.{Value}
 use Rattle.dwarf_value.specs.Values.{Agree}
 use Rattle.dwarf_meaning.specs.Locations.{Location, Piece}
-use Rattle.dwarf_meaning.specs.Requests.{Request, Waiting}
+use Rattle.dwarf_meaning.specs.Requests.{Request, OnAnswer}
 use Rattle.dwarf_meaning.specs.Acts.{Act}
 use Rattle.dwarf_meaning.specs.Stores.{Setup, address_bits, Store, Last, Nothing, Plain, Pieced, Pushed, Called, Located, push_value, push_piece, push_caller, push_values, Next, Goes, RequestNext, FaultNext, goes, done}
 use Rattle.dwarf_meaning.specs.Run.{end_located}
 use Rattle.dwarf_meaning.specs.Refusals.{Limits, Refusal, Never, After, spent, room}
 use Rattle.dwarf_laws.specs.Agreement.{Pairwise, none, more, Both, AgreeingNumbers, AgreeingLocations, AgreeingPieces}
-use Rattle.dwarf_meaning.proofs.Choices.{if_both}
 use Rattle.dwarf_laws.proofs.Pairs.{same_length, snoc_both, if_pair}
 use Rattle.dwarf_laws.proofs.Actions.{AgreeingActs, pushes, branches, locates, ends, asks, refuses}
 
@@ -50,8 +50,8 @@ pub data AgreeingResults (Free : Type 0) (w : ℕ) : Result Store Fault → Resu
 
 pub data AgreeingNexts (Free : Type 0) (w : ℕ) : Next → Next → Type 0 where
   goes_on : {place : ℕ} {s t : Store} → AgreeingStores Free w s t → AgreeingNexts Free w (Goes place s) (Goes place t)
-  request_next : {request : Request} {waiting : Waiting} {s t : Store} → AgreeingStores Free w s t
-      → AgreeingNexts Free w (RequestNext request waiting s) (RequestNext request waiting t)
+  request_next : {request : Request} {on_answer : OnAnswer} {s t : Store} → AgreeingStores Free w s t
+      → AgreeingNexts Free w (RequestNext request on_answer s) (RequestNext request on_answer t)
   fails : {fault : Fault} → AgreeingNexts Free w (FaultNext fault) (FaultNext fault)
   next_first : {next : Next} → Free → AgreeingNexts Free w (FaultNext StackFull) next
   next_second : {next : Next} → Free → AgreeingNexts Free w next (FaultNext StackFull)
@@ -71,7 +71,7 @@ spent_is (After (suc inputs) more_pushes) = is_left
 
 room_is : (limit : Option ℕ) (n : ℕ) (refusal : Refusal) → IsRoom (room limit n refusal)
 room_is None n refusal = spent_is refusal
-room_is (Some limit) n refusal = if_both IsRoom (nat_lt n limit) (Ok refusal) (Err StackFull) (λ e. is_left) (λ e. is_full)
+room_is (Some limit) n refusal = cond_both (nat_lt n limit) (Ok refusal) (Err StackFull) IsRoom (λ e. is_left) (λ e. is_full)
 
 pub map_free : {Free A B : Type 0} (f : A → B) (x y : A) → Free ⊎ (x ≡ y) → Free ⊎ (f x ≡ f y)
 map_free f x y (inl free) = inl free

@@ -8,7 +8,8 @@ use Rattle.dwarf_value.specs.declared.types.Value.TheVariants.{Generic}
 use Rattle.dwarf_meaning.specs.Operations.{Operation, DieReference}
 use Rattle.dwarf_meaning.specs.Splitting.{Joined, items_at}
 use Rattle.dwarf_meaning.specs.Splitting as splitting
-use Rattle.dwarf_meaning.specs.Requests.{Request, RequiresAtLocation, AtLocation, Input}
+use Rattle.dwarf_meaning.specs.Requests.{Request, RequiresAtLocation, Push, Input}
+use Rattle.dwarf_meaning.specs.Kinds.{is_same_kind}
 use Rattle.dwarf_meaning.specs.Acts.{use_of}
 use Rattle.dwarf_meaning.specs.Stores.{Setup, Store, Last, Nothing, Plain, Pieced, Pushed, Called, Located, push_caller, push_value, push_piece}
 use Rattle.dwarf_meaning.specs.Run.{Position, End, CompleteEnd, RequestEnd, FaultEnd, Course, add_to_path, add_request, return_to_caller, after_push, run_callee, await_answer, counted, run}
@@ -210,11 +211,11 @@ module _ (encoding : Encoding) (bits : ℕ) where
 
     -- the outer run from the call on, with the answer
     answered_call : (t : Store) (settings : First) (inputs : List Input)
-        → await_answer (run S) S behind_call 0 (RequiresAtLocation offset) AtLocation (counted (calm t))
+        → await_answer (run S) S behind_call 0 (RequiresAtLocation offset) Push (counted (calm t))
         (answered site settings ∷ inputs)
         ≡ (let u : Store = record t { object_address = settings.object_address; maximum = settings.maximum } in
         let c = run S callee 0 1 (ahead 1 u) inputs in return_to_caller (run S) behind_call 0 c c.end)
-    unfolding use_of
+    unfolding use_of is_same_kind
     answered_call t settings inputs =
         enters behind_call callee C (record t
         { object_address = settings.object_address; maximum = settings.maximum }) inputs fit.some

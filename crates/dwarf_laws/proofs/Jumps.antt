@@ -4,7 +4,7 @@ use Rattle.dwarf_base.specs.Faults.{Fault}
 use Rattle.dwarf_value.specs.declared.types.Value.{Value}
 use Rattle.dwarf_meaning.specs.Operations.{Operation}
 use Rattle.dwarf_meaning.specs.Locations.{Location, Piece}
-use Rattle.dwarf_meaning.specs.Requests.{Request, Waiting}
+use Rattle.dwarf_meaning.specs.Requests.{Request, OnAnswer}
 use Rattle.dwarf_meaning.specs.Branches.{IsNear, BranchesNear}
 use Rattle.dwarf_laws.specs.Inlining.{IsStraight}
 use Rattle.dwarf_meaning.specs.Acts.{Act, Pushes, Branches, Locates, EndsPiece, RequestAct, FaultAct, act}
@@ -38,7 +38,7 @@ pub data Jumping (P : ℤ → Type 0) : Act → Type 0 where
   branches : {rest : List Value} {target : ℤ} → P target → Jumping P (Branches rest target)
   locates : {rest : List Value} {location : Location} → Jumping P (Locates rest location)
   ends : {rest : List Value} {piece : Piece} → Jumping P (EndsPiece rest piece)
-  asks : {rest : List Value} {request : Request} {waiting : Waiting} → Jumping P (RequestAct rest request waiting)
+  asks : {rest : List Value} {request : Request} {on_answer : OnAnswer} → Jumping P (RequestAct rest request on_answer)
   refuses : {fault : Fault} → Jumping P (FaultAct fault)
 
 -- what an operation does, by its target
@@ -48,7 +48,7 @@ jumping P op (Branches rest target) (effect.branches l (inl e)) j = branches (su
 jumping P op (Branches rest target) (effect.branches l (inr e)) j = branches (subst (AllJumps P) e j)
 jumping P op (Locates rest location) d j = locates
 jumping P op (EndsPiece rest piece) d j = ends
-jumping P op (RequestAct rest request waiting) d j = asks
+jumping P op (RequestAct rest request on_answer) d j = asks
 jumping P op (FaultAct fault) d j = refuses
 
 pub act_jumps : (P : ℤ → Type 0) (bits : ℕ) (object : Option ℕ) (op : Operation) (values : List Value) → AllJumps P op

@@ -1,15 +1,16 @@
 -- A text with no branches asks at ever later places.
 use Rattle.std.proofs.Common.{ℕ, zero, suc, ◌-◌, ◌≡◌, ◌≤◌, ◌<◌, List, [], ◌∷◌, ◌++◌, length, Option, Some, None, Result, Ok, Err, refl, sym, subst, ◌==◌, arith}
+use Rattle.std.proofs.lemmas.Bool.{cond_both}
 use Rattle.dwarf_base.specs.declared.common.Encoding.{Encoding}
 use Rattle.dwarf_base.specs.Faults.{Fault}
 use Rattle.dwarf_base.specs.Reads.{Text}
 use Rattle.dwarf_meaning.specs.Operations.{Operation}
 use Rattle.dwarf_meaning.specs.Locations.{Location}
-use Rattle.dwarf_meaning.specs.Requests.{Request, Waiting, Input}
-use Rattle.dwarf_meaning.specs.Acts.{Act, Pushes, Branches, Locates, EndsPiece, RequestAct, FaultAct, Use, PushesAnswer, Calls, FaultUse, WrongKind, use_of}
+use Rattle.dwarf_meaning.specs.Requests.{Request, OnAnswer, Input}
+use Rattle.dwarf_meaning.specs.Kinds.{kind_of_request, kind_of_answer, is_same_kind}
+use Rattle.dwarf_meaning.specs.Acts.{Act, Pushes, Branches, Locates, EndsPiece, RequestAct, FaultAct, Use, PushesAnswer, Calls, FaultUse, use_of}
 use Rattle.dwarf_meaning.specs.Stores.{Setup, address_bits, Store, Last, Nothing, Plain, Pieced, Pushed, Called, Located, push_value, push_caller, Next, Goes, RequestNext, FaultNext, goes, done}
 use Rattle.dwarf_meaning.specs.Run.{Position, End, CompleteEnd, RequestEnd, FaultEnd, Course, Continues, return_to_caller, after_push, enter_callee, run_callee, after_answer, with_input, await_answer, after_operation, read, can_count, counted, do_operation, turn_counted, piece_ended_by, end_located, turn_located, turn_by, turn, out_of_turns, run_for, enough, run}
-use Rattle.dwarf_meaning.proofs.Choices.{if_both}
 use Rattle.dwarf_laws.proofs.Jumps.{Jumping, pushes, branches, locates, ends, asks, refuses, straight_jumps, act_jumps}
 use Rattle.dwarf_laws.proofs.Calm.{free}
 use Rattle.dwarf_laws.proofs.Texts.{stands, StraightFrom, straight_step}
@@ -17,7 +18,7 @@ use Rattle.dwarf_laws.proofs.Texts.{stands, StraightFrom, straight_step}
 -- it goes on at this place alone
 abbrev pub LeadsTo : ℕ → Next → Type 0
 LeadsTo place (Goes q s) = q ≡ place
-LeadsTo place (RequestNext request waiting s) = Unit {0}
+LeadsTo place (RequestNext request on_answer s) = Unit {0}
 LeadsTo place (FaultNext fault) = Unit {0}
 
 leads_goes : (place : ℕ) (r : Result Store Fault) → LeadsTo place (goes place r)
@@ -30,7 +31,7 @@ leads_done setup place len (Pushes rest pushed) s pushes = leads_goes place _
 leads_done setup place len (Branches rest target) s (branches h) = absurd h
 leads_done setup place len (Locates rest location) s locates = refl
 leads_done setup place len (EndsPiece rest piece) s ends = leads_goes place _
-leads_done setup place len (RequestAct rest request waiting) s asks = tt
+leads_done setup place len (RequestAct rest request on_answer) s asks = tt
 leads_done setup place len (FaultAct fault) s refuses = tt
 
 pub leads_holds : (setup : Setup) (location : Location) (place : ℕ) (s : Store) (o : Option (ℕ × Option ℕ))
@@ -85,24 +86,24 @@ module _ (encoding : Encoding) (bits : ℕ) (T : Text) (q : ℕ) where
     called_later callee [] s inputs = goes_later (record s { last = Called }) inputs
     called_later callee (byte ∷ bytes) s inputs = entered_later callee inputs (push_caller S d s)
 
-    used_later : (u : Use) (s : Store) (inputs : List Input) (c : Course) → AsksBehind T q c.end
-        → AsksBehind T q (after_answer go S here d u s inputs c).end
-    used_later (PushesAnswer rest value) s inputs c h =
+    used_later : (u : Use) (s : Store) (inputs : List Input) → AsksBehind T q (after_answer go S here d u s inputs).end
+    used_later (PushesAnswer rest value) s inputs =
         resumed_later inputs (push_value S value (record s { values = rest; last = Pushed }))
-    used_later (Calls callee) s inputs c h = called_later callee callee.bytes s inputs
-    used_later (FaultUse fault) s inputs c h = tt
-    used_later WrongKind s inputs c h = h
+    used_later (Calls callee) s inputs = called_later callee callee.bytes s inputs
+    used_later (FaultUse fault) s inputs = tt
 
-    asked_later : (request : Request) (waiting : Waiting) (s : Store) (inputs : List Input)
-        → AsksBehind T q (await_answer go S here d request waiting s inputs).end
-    asked_later request waiting s [] = record { inner = []; place = p; is = refl; later = after }
-    asked_later request waiting s (input ∷ inputs) =
-        used_later (use_of (address_bits S) waiting input.answer s.values) (with_input input s) inputs _
-        (record { inner = []; place = p; is = refl; later = after })
+    asked_later : (request : Request) (on_answer : OnAnswer) (s : Store) (inputs : List Input)
+        → AsksBehind T q (await_answer go S here d request on_answer s inputs).end
+    asked_later request on_answer s [] = record { inner = []; place = p; is = refl; later = after }
+    asked_later request on_answer s (input ∷ inputs) =
+        cond_both (is_same_kind (kind_of_request request) (kind_of_answer input.answer)) _ _
+        (λ (c : Course). AsksBehind T q c.end)
+        (λ fits. used_later (use_of (address_bits S) on_answer input.answer s.values) (with_input input s) inputs)
+        (λ other. record { inner = []; place = p; is = refl; later = after })
 
     after_operation_later : (inputs : List Input) (next : Next) → LeadsTo p next → AsksBehind T q (after_operation go S T d p inputs next).end
     after_operation_later inputs (Goes to s) e = subst (λ (k : ℕ). AsksBehind T q (go T k d s inputs).end) (sym e) (goes_later s inputs)
-    after_operation_later inputs (RequestNext request waiting s) e = asked_later request waiting s inputs
+    after_operation_later inputs (RequestNext request on_answer s) e = asked_later request on_answer s inputs
     after_operation_later inputs (FaultNext fault) e = tt
 
   module _ (go : Continues) (H : Later go) (p d : ℕ) (s : Store) (inputs : List Input) (from : q ≤ p)
@@ -129,7 +130,7 @@ module _ (encoding : Encoding) (bits : ℕ) (T : Text) (q : ℕ) where
 
     counts_later : AsksBehind T q (turn_counted go S T p d s inputs).end
     counts_later =
-        if_both (λ (c : Course). AsksBehind T q c.end) (can_count s) _ _
+        cond_both (can_count s) _ _ (λ (c : Course). AsksBehind T q c.end)
         (λ e. does_later (counted s) (read S T p) refl) (λ e. tt)
 
     by_later : (last : Last) → AsksBehind T q (turn_by go S T p d s inputs last).end
@@ -141,7 +142,7 @@ module _ (encoding : Encoding) (bits : ℕ) (T : Text) (q : ℕ) where
     by_later Called = counts_later
 
     turn_later : AsksBehind T q (turn go S T p d s inputs).end
-    turn_later = if_both (λ (c : Course). AsksBehind T q c.end) (p == length T.bytes) _ _ (λ e. tt) (λ e. by_later s.last)
+    turn_later = cond_both (p == length T.bytes) _ _ (λ (c : Course). AsksBehind T q c.end) (λ e. tt) (λ e. by_later s.last)
 
   later_for : (turns : ℕ) → Later (run_for turns S)
   unfolding run_for

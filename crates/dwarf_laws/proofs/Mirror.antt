@@ -1,5 +1,6 @@
 -- A run in one text, and a run in another that reads the same operations, if the first has counted more.
 use Rattle.std.proofs.Common.{ℕ, zero, suc, ◌+◌, ◌-◌, ◌≡◌, true, false, List, [], ◌∷◌, ◌++◌, length, Option, Result, Ok, Err, refl, sym, ap, subst, ◌∙◌, ◌==◌, arith, append_assoc}
+use Rattle.std.proofs.lemmas.Bool.{cond-true, cond-false, cond_both}
 use Rattle.std.proofs.lemmas.Bool.Decides.{nat_tests}
 use Rattle.std.proofs.lemmas.List.{append-nil}
 use Rattle.dwarf_base.specs.declared.common.Encoding.{Encoding}
@@ -8,14 +9,15 @@ use Rattle.dwarf_base.specs.declared.errors.Error.TheVariants.{TooManyIterations
 use Rattle.dwarf_base.specs.Reads.{Text}
 use Rattle.dwarf_meaning.specs.Operations.{Operation}
 use Rattle.dwarf_meaning.specs.Locations.{Location}
-use Rattle.dwarf_meaning.specs.Requests.{Request, Waiting, Input}
-use Rattle.dwarf_meaning.specs.Acts.{act, Use, PushesAnswer, Calls, FaultUse, WrongKind, use_of}
+use Rattle.dwarf_meaning.specs.Requests.{Request, OnAnswer, Input}
+use Rattle.dwarf_meaning.specs.Kinds.{kind_of_request, kind_of_answer, is_same_kind}
+use Rattle.dwarf_meaning.specs.Acts.{act, Use, PushesAnswer, Calls, FaultUse, use_of}
 use Rattle.dwarf_meaning.specs.Stores.{Setup, address_bits, Store, Last, Nothing, Plain, Pieced, Pushed, Called, Located, push_value, push_caller, Next}
 use Rattle.dwarf_meaning.specs.Run.{Position, End, CompleteEnd, RequestEnd, FaultEnd, Course, only_end, add_to_path, append_course, Continues, return_to_caller, run_callee, after_answer, await_answer, after_operation, read, can_count, counted, do_operation, turn_counted, piece_ended_by, turn_located, turn_by, turn, out_of_turns, run_for, enough, run}
 use Rattle.dwarf_meaning.specs.Meaning.{First}
 use Rattle.dwarf_laws.specs.Inlining.{in_force}
-use Rattle.dwarf_meaning.proofs.Choices.{if_true, if_false, if_both}
 use Rattle.dwarf_meaning.proofs.Turns.{run_turn}
+use Rattle.dwarf_laws.proofs.Pairs.{if_pair}
 use Rattle.dwarf_laws.proofs.Jumps.{AllJumps, every_jump, act_jumps}
 use Rattle.dwarf_laws.proofs.Calm.{free, calm, ahead, NextBoth, goes_both, request_both, fails_both, Lands, done_both, holds_both}
 
@@ -95,7 +97,7 @@ module _ (encoding : Encoding) (bits : ℕ) (target : First) (n : ℕ) where
   pub at_end : (T : Text) (d : ℕ) (s : Store) (inputs : List Input)
       → run S T (length T.bytes) d s inputs ≡ only_end (CompleteEnd s inputs)
   at_end T d s inputs =
-      run_turn S T (length T.bytes) d s inputs ∙ if_true (length T.bytes == length T.bytes) _ _ (grind (arith, nat_tests))
+      run_turn S T (length T.bytes) d s inputs ∙ cond-true (length T.bytes == length T.bytes) _ _ (grind (arith, nat_tests))
 
   module _ (T' : Text) (stop d' : ℕ) where
     behind : (more front : List Request) (end : End) (requests : List Request) (end' : End)
@@ -164,24 +166,25 @@ module _ (encoding : Encoding) (bits : ℕ) (target : First) (n : ℕ) where
         back_mirror q q' callee c c.end (run S callee 0 (suc d') (calm t) inputs) a
         (H callee callee Equal (length callee.bytes) (same_text callee) 0 0 (suc d) (suc d') t inputs refl f)
 
-    used_mirror : (q q' : ℕ) (u : Use) (t : Store) (inputs : List Input) (x y : Course) → Al q q'
-        → Fits target inputs t.object_address t.maximum → Here x y
-        → Here (after_answer go S (at T q) d u (ahead n t) inputs x) (after_answer (run S) S (at T' q') d' u (calm t) inputs y)
-    unfolding push_value
-    used_mirror q q' (PushesAnswer rest value) t inputs x y a f h =
-        goes_mirror q q' (record t { values = value ∷ rest; last = Pushed }) inputs a f
-    used_mirror q q' (Calls callee) t inputs x y a f h = called_mirror q q' callee callee.bytes t inputs a f
-    used_mirror q q' (FaultUse fault) t inputs x y a f h = tt
-    used_mirror q q' WrongKind t inputs x y a f h = h
-
-    asked_mirror : (q q' : ℕ) (request : Request) (waiting : Waiting) (t : Store) (inputs : List Input) → Al q q'
+    used_mirror : (q q' : ℕ) (u : Use) (t : Store) (inputs : List Input) → Al q q'
         → Fits target inputs t.object_address t.maximum
-        → Here (await_answer go S (at T q) d request waiting (ahead n t) inputs)
-        (await_answer (run S) S (at T' q') d' request waiting (calm t) inputs)
-    asked_mirror q q' request waiting t [] a f = record { positions = at T' q' ∷ []; same = refl; is = refl }
-    asked_mirror q q' request waiting t (input ∷ inputs) a f =
-        used_mirror q q' (use_of (address_bits S) waiting input.answer t.values)
-        (record t { object_address = input.object_address; maximum = input.maximum }) inputs _ _ a f
+        → Here (after_answer go S (at T q) d u (ahead n t) inputs)
+        (after_answer (run S) S (at T' q') d' u (calm t) inputs)
+    unfolding push_value
+    used_mirror q q' (PushesAnswer rest value) t inputs a f =
+        goes_mirror q q' (record t { values = value ∷ rest; last = Pushed }) inputs a f
+    used_mirror q q' (Calls callee) t inputs a f = called_mirror q q' callee callee.bytes t inputs a f
+    used_mirror q q' (FaultUse fault) t inputs a f = tt
+
+    asked_mirror : (q q' : ℕ) (request : Request) (on_answer : OnAnswer) (t : Store) (inputs : List Input) → Al q q'
+        → Fits target inputs t.object_address t.maximum
+        → Here (await_answer go S (at T q) d request on_answer (ahead n t) inputs)
+        (await_answer (run S) S (at T' q') d' request on_answer (calm t) inputs)
+    asked_mirror q q' request on_answer t [] a f = record { positions = at T' q' ∷ []; same = refl; is = refl }
+    asked_mirror q q' request on_answer t (input ∷ inputs) a f =
+        if_pair Here (is_same_kind (kind_of_request request) (kind_of_answer input.answer)) _ _ _ _ _ refl
+        (used_mirror q q' (use_of (address_bits S) on_answer input.answer t.values)
+        (record t { object_address = input.object_address; maximum = input.maximum }) inputs a f)
         (record { positions = at T' q' ∷ []; same = refl; is = refl })
 
     after_operation_mirror : (place place' : ℕ) (inputs : List Input) (object : Option ℕ) (maximum : ℕ) (x y : Next)
@@ -190,11 +193,11 @@ module _ (encoding : Encoding) (bits : ℕ) (target : First) (n : ℕ) where
     after_operation_mirror place place' inputs object maximum x y a f (goes_both t b o m) =
         goes_mirror _ _ t inputs b (subst (λ k. Fits target inputs k t.maximum) (sym o)
         (subst (λ k. Fits target inputs object k) (sym m) f))
-    after_operation_mirror place place' inputs object maximum x y a f (request_both {request = request} {waiting = waiting} t o m) =
-        let first = await_answer go S (at T place) d request waiting (ahead n t) inputs in
-        let second = await_answer (run S) S (at T' place') d' request waiting (calm t) inputs in
+    after_operation_mirror place place' inputs object maximum x y a f (request_both {request = request} {on_answer = on_answer} t o m) =
+        let first = await_answer go S (at T place) d request on_answer (ahead n t) inputs in
+        let second = await_answer (run S) S (at T' place') d' request on_answer (calm t) inputs in
         behind T' stop d' (request ∷ []) first.requests first.end second.requests second.end
-        (asked_mirror place place' request waiting t inputs a
+        (asked_mirror place place' request on_answer t inputs a
         (subst (λ k. Fits target inputs k t.maximum) (sym o) (subst (λ k. Fits target inputs object k) (sym m) f)))
     after_operation_mirror place place' inputs object maximum x y a f fails_both = tt
 
@@ -231,7 +234,7 @@ module _ (encoding : Encoding) (bits : ℕ) (target : First) (n : ℕ) where
     counts_mirror : (p p' : ℕ) (t : Store) (inputs : List Input) → Al p p' → Fits target inputs t.object_address t.maximum
         → Here (turn_counted go S T p d (ahead n t) inputs) (turn_counted (run S) S T' p' d' (calm t) inputs)
     counts_mirror p p' t inputs a f =
-        if_both (λ (c : Course). Here c (turn_counted (run S) S T' p' d' (calm t) inputs)) (can_count (ahead n t)) _ _
+        cond_both (can_count (ahead n t)) _ _ (λ (c : Course). Here c (turn_counted (run S) S T' p' d' (calm t) inputs))
         (λ can.
         let first = add_to_path (at T p) (do_operation go S T d (counted (ahead n t)) inputs (read S T p)) in
         let inner : Here first (do_operation (run S) S T' d' (counted (calm t)) inputs (read S T' p')) = subst
@@ -239,7 +242,7 @@ module _ (encoding : Encoding) (bits : ℕ) (target : First) (n : ℕ) where
         (do_operation (run S) S T' d' (counted (calm t)) inputs (read S T' p'))) (counted_ahead t)
         (does_mirror p p' (record t { count = t.count + 1 }) inputs (read S T p) a f refl) in
         subst (λ (c : Course). Here first c) (sym
-        (if_true (can_count (calm t))
+        (cond-true (can_count (calm t))
         (add_to_path (at T' p') (do_operation (run S) S T' d' (counted (calm t)) inputs (read S T' p')))
         (only_end (FaultEnd TooManyIterations)) (can_too t can))) inner)
         (λ e. tt)
@@ -258,7 +261,7 @@ module _ (encoding : Encoding) (bits : ℕ) (target : First) (n : ℕ) where
         → Fits target inputs t.object_address t.maximum
         → Here (turn go S T p d (ahead n t) inputs) (run S T' p' d' (calm t) inputs)
     turn_mirror p p' t inputs a f =
-        if_both (λ (c : Course). Here c (run S T' p' d' (calm t) inputs)) (p == length T.bytes) _ _
+        cond_both (p == length T.bytes) _ _ (λ (c : Course). Here c (run S T' p' d' (calm t) inputs))
         (λ e.
         let here : p' ≡ stop = al.ends p p' a (let l : p ≡ length T.bytes = grind (arith, nat_tests) in l) in
         record {
@@ -270,7 +273,7 @@ module _ (encoding : Encoding) (bits : ℕ) (target : First) (n : ℕ) where
               (run S T' k d' (calm t) inputs)) here (record { requests = refl; end = refl });
         })
         (λ e.
-        let step = run_turn S T' p' d' (calm t) inputs ∙ if_false (p' == length T'.bytes) _ _ (al.inside p p' a e) in
+        let step = run_turn S T' p' d' (calm t) inputs ∙ cond-false (p' == length T'.bytes) _ _ (al.inside p p' a e) in
         subst (λ (c : Course). Here (turn_by go S T p d (ahead n t) inputs t.last) c) (sym step)
         (by_mirror p p' t inputs t.last a f))
 

@@ -1,5 +1,6 @@
 -- Before a call both runs are the same.
 use Rattle.std.proofs.Common.{ℕ, ◌+◌, ◌-◌, ◌≡◌, ◌<◌, Bool, true, false, List, [], ◌∷◌, ◌++◌, length, Option, Some, None, Result, Ok, refl, sym, ap, subst, ◌∙◌, ◌==◌, arith, append_assoc, length-append, cond}
+use Rattle.std.proofs.lemmas.Bool.{cond-false}
 use Rattle.std.proofs.lemmas.Bool.Decides.{nat_tests}
 use Rattle.dwarf_base.specs.declared.common.Encoding.{Encoding}
 use Rattle.dwarf_base.specs.Faults.{Fault}
@@ -9,13 +10,13 @@ use Rattle.dwarf_meaning.specs.Operations as operation
 use Rattle.dwarf_meaning.specs.Operations.{Operation, DieReference}
 use Rattle.dwarf_meaning.specs.Locations.{Location}
 use Rattle.dwarf_meaning.specs.Spelling.{Spells}
-use Rattle.dwarf_meaning.specs.Requests.{Request, RequiresAtLocation, Waiting, Input}
-use Rattle.dwarf_meaning.specs.Acts.{Act, Pushes, Branches, Locates, EndsPiece, RequestAct, FaultAct, act, Use, PushesAnswer, Calls, FaultUse, WrongKind, use_of}
+use Rattle.dwarf_meaning.specs.Requests.{Request, RequiresAtLocation, OnAnswer, Input}
+use Rattle.dwarf_meaning.specs.Kinds.{kind_of_request, kind_of_answer, is_same_kind}
+use Rattle.dwarf_meaning.specs.Acts.{Act, Pushes, Branches, Locates, EndsPiece, RequestAct, FaultAct, act, Use, PushesAnswer, Calls, FaultUse, use_of}
 use Rattle.dwarf_meaning.specs.Stores.{Setup, address_bits, Store, Last, Nothing, Plain, Pieced, Pushed, Called, Located, push_value, push_piece, push_caller, Next, Goes, RequestNext, FaultNext, goes, done}
 use Rattle.dwarf_meaning.specs.Run.{Position, End, CompleteEnd, RequestEnd, FaultEnd, Course, only_end, append_course, return_to_caller, run_callee, after_answer, await_answer, after_operation, read, can_count, do_operation, turn_counted, piece_ended_by, end_located, turn_located, turn_by, run}
 use Rattle.dwarf_meaning.specs.Meaning.{First}
 use Rattle.dwarf_meaning.specs.RunLaws.{IsSettled, end_before, course_before, Open, alone, calling}
-use Rattle.dwarf_meaning.proofs.Choices.{if_false}
 use Rattle.dwarf_meaning.proofs.Turns.{run_turn}
 use Rattle.dwarf_meaning.proofs.Inputs.{extends_run}
 use Rattle.dwarf_laws.proofs.Jumps.{Jumping, pushes, branches, locates, ends, asks, refuses}
@@ -47,8 +48,8 @@ open_some inputs text positions (calling position callee inner c o) = omega (ari
 
 pub data NextCalm (object : Option ℕ) (maximum place : ℕ) : Next → Type 0 where
   goes_calm : (t : Store) → t.object_address ≡ object → t.maximum ≡ maximum → NextCalm object maximum place (Goes place (calm t))
-  request_calm : {request : Request} {waiting : Waiting} (t : Store) → t.object_address ≡ object → t.maximum ≡ maximum
-      → NextCalm object maximum place (RequestNext request waiting (calm t))
+  request_calm : {request : Request} {on_answer : OnAnswer} (t : Store) → t.object_address ≡ object → t.maximum ≡ maximum
+      → NextCalm object maximum place (RequestNext request on_answer (calm t))
   fails_calm : {fault : Fault} → NextCalm object maximum place (FaultNext fault)
 
 same_len : (setup : Setup) (place len other : ℕ) (a : Act) (s : Store) → Jumping (λ z. ⊥) a
@@ -57,7 +58,7 @@ same_len setup place len other (Pushes rest pushed) s pushes = refl
 same_len setup place len other (Branches rest target) s (branches h) = absurd h
 same_len setup place len other (Locates rest location) s locates = refl
 same_len setup place len other (EndsPiece rest piece) s ends = refl
-same_len setup place len other (RequestAct rest request waiting) s asks = refl
+same_len setup place len other (RequestAct rest request on_answer) s asks = refl
 same_len setup place len other (FaultAct fault) s refuses = refl
 
 module _ (encoding : Encoding) (bits : ℕ) where
@@ -76,7 +77,7 @@ module _ (encoding : Encoding) (bits : ℕ) where
       goes_calm (record t { values = rest; last = Located location }) refl refl
   done_calm place len (EndsPiece rest piece) t ends =
       goes_calm (record t { values = rest; last = Pieced; pieces = t.pieces ++ piece ∷ [] }) refl refl
-  done_calm place len (RequestAct rest request waiting) t asks = request_calm (record t { values = rest }) refl refl
+  done_calm place len (RequestAct rest request on_answer) t asks = request_calm (record t { values = rest }) refl refl
   done_calm place len (FaultAct fault) t refuses = fails_calm
 
   holds_calm : (location : Location) (place : ℕ) (t : Store) (o : Option (ℕ × Option ℕ))
@@ -225,26 +226,24 @@ module _ (encoding : Encoding) (bits : ℕ) where
       called_leads callee [] t inputs f = H (record t { last = Called }) inputs f
       called_leads callee (byte ∷ bytes) t inputs f = back_leads callee t inputs _ f refl
 
-      used_leads : (u : Use) (t : Store) (inputs : List Input) (c : Course) (g : List ℕ → List Input → Course)
-          → Fits target inputs t.object_address t.maximum → Leads c g
-          → Leads (after_answer (run S) S (at (K ++ B)) 0 u (calm t) inputs c)
-          (λ X more. after_answer (run S) S (at X) 0 u (calm t) (inputs ++ more) (g X more))
+      used_leads : (u : Use) (t : Store) (inputs : List Input) → Fits target inputs t.object_address t.maximum
+          → Leads (after_answer (run S) S (at (K ++ B)) 0 u (calm t) inputs)
+          (λ X more. after_answer (run S) S (at X) 0 u (calm t) (inputs ++ more))
       unfolding push_value
-      used_leads (PushesAnswer rest value) t inputs c g f h = H (record t { values = value ∷ rest; last = Pushed }) inputs f
-      used_leads (Calls callee) t inputs c g f h = called_leads callee callee.bytes t inputs f
-      used_leads (FaultUse fault) t inputs c g f h = leads_failed fault (λ X more. only_end (FaultEnd fault))
-      used_leads WrongKind t inputs c g f h = h
+      used_leads (PushesAnswer rest value) t inputs f = H (record t { values = value ∷ rest; last = Pushed }) inputs f
+      used_leads (Calls callee) t inputs f = called_leads callee callee.bytes t inputs f
+      used_leads (FaultUse fault) t inputs f = leads_failed fault (λ X more. only_end (FaultEnd fault))
 
-      asked_leads : (request : Request) (waiting : Waiting) (t : Store) (inputs : List Input)
+      asked_leads : (request : Request) (on_answer : OnAnswer) (t : Store) (inputs : List Input)
           → Fits target inputs t.object_address t.maximum
-          → Leads (await_answer (run S) S (at (K ++ B)) 0 request waiting (calm t) inputs)
-          (λ X more. await_answer (run S) S (at X) 0 request waiting (calm t) (inputs ++ more))
-      asked_leads request waiting t [] f = λ at_call. absurd (not_here request [] [] at_call)
-      asked_leads request waiting t (input ∷ inputs) f =
-          used_leads (use_of (address_bits S) waiting input.answer t.values)
-          (record t { object_address = input.object_address; maximum = input.maximum }) inputs
-          (only_end (RequestEnd request (at (K ++ B) ∷ []) (input ∷ inputs)))
-          (λ X more. only_end (RequestEnd request (at X ∷ []) (input ∷ (inputs ++ more)))) f
+          → Leads (await_answer (run S) S (at (K ++ B)) 0 request on_answer (calm t) inputs)
+          (λ X more. await_answer (run S) S (at X) 0 request on_answer (calm t) (inputs ++ more))
+      asked_leads request on_answer t [] f = λ at_call. absurd (not_here request [] [] at_call)
+      asked_leads request on_answer t (input ∷ inputs) f =
+          leads_if (is_same_kind (kind_of_request request) (kind_of_answer input.answer)) _ _ _
+          (λ X more. only_end (RequestEnd request (at X ∷ []) (input ∷ (inputs ++ more))))
+          (used_leads (use_of (address_bits S) on_answer input.answer t.values)
+          (record t { object_address = input.object_address; maximum = input.maximum }) inputs f)
           (λ at_call. absurd (not_here request [] (input ∷ inputs) at_call))
 
       after_operation_leads : (inputs : List Input) (object : Option ℕ) (maximum : ℕ) (next : Next)
@@ -252,8 +251,8 @@ module _ (encoding : Encoding) (bits : ℕ) where
           → Leads (after_operation (run S) S outer 0 p inputs next) (λ X more. after_operation (run S) S (text X) 0 p (inputs ++ more) next)
       after_operation_leads inputs object maximum next f (goes_calm t o m) =
           H t inputs (subst (λ k. Fits target inputs k t.maximum) (sym o) (subst (λ k. Fits target inputs object k) (sym m) f))
-      after_operation_leads inputs object maximum next f (request_calm {request = request} {waiting = waiting} t o m) = λ at_call.
-          reached_behind (request ∷ []) _ _ (asked_leads request waiting t inputs
+      after_operation_leads inputs object maximum next f (request_calm {request = request} {on_answer = on_answer} t o m) = λ at_call.
+          reached_behind (request ∷ []) _ _ (asked_leads request on_answer t inputs
           (subst (λ k. Fits target inputs k t.maximum) (sym o) (subst (λ k. Fits target inputs object k) (sym m) f)) at_call)
       after_operation_leads inputs object maximum next f (fails_calm {fault = fault}) = leads_failed fault (λ X more. only_end (FaultEnd fault))
 
@@ -319,7 +318,7 @@ module _ (encoding : Encoding) (bits : ℕ) where
             → run S (text X) q 0 (calm t) inputs ≡ turn_by (run S) S (text X) q 0 (calm t) inputs t.last
         opened X t inputs =
             run_turn S (text X) q 0 (calm t) inputs
-            ∙ if_false (q == length (A ++ X)) _ _
+            ∙ cond-false (q == length (A ++ X)) _ _
             (let l : length (A ++ X) ≡ length A + length X = length-append A X in let i = inside in grind (arith, nat_tests))
 
         pub turn_leads : From q

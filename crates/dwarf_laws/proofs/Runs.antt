@@ -6,14 +6,15 @@ use Rattle.dwarf_base.specs.Reads.{Text}
 use Rattle.dwarf_value.specs.Laws.{IsWidth}
 use Rattle.dwarf_meaning.specs.Operations.{Operation}
 use Rattle.dwarf_meaning.specs.Locations.{Location}
-use Rattle.dwarf_meaning.specs.Requests.{Request, Waiting, Input}
+use Rattle.dwarf_meaning.specs.Requests.{Request, OnAnswer, Input}
+use Rattle.dwarf_meaning.specs.Kinds.{kind_of_request, is_same_kind}
 use Rattle.dwarf_meaning.specs.Acts.{Use}
 use Rattle.dwarf_meaning.specs.Stores.{Setup, address_bits, Store, Last, Next}
 use Rattle.dwarf_meaning.specs.Run.{Position, End, CompleteEnd, RequestEnd, FaultEnd, Course, only_end, add_to_path, add_request, append_course, Continues, return_to_caller, after_push, enter_callee, run_callee, after_answer, with_input, await_answer, after_operation, read, can_count, counted, do_operation, turn_counted, piece_ended_by, turn_located, turn_by, turn, out_of_turns, run_for, enough, run}
 use Rattle.dwarf_meaning.specs.Refusals.{Limits, taken}
 use Rattle.dwarf_laws.specs.Agreement.{Pairwise, none, more, AgreeingInputs, AgreeingLocations}
 use Rattle.dwarf_laws.proofs.Pairs.{if_pair}
-use Rattle.dwarf_laws.proofs.Actions.{AgreeingUses, gives, calls, denies, misfits, act_both, use_both}
+use Rattle.dwarf_laws.proofs.Actions.{AgreeingUses, gives, calls, denies, act_both, same_kinds, use_both}
 use Rattle.dwarf_laws.proofs.Holdings.{AgreeingLasts, both_nothing, both_plain, both_pieced, both_pushed, both_called, both_located, AgreeingStores, AgreeingResults, stores, refusals, result_first, result_second, AgreeingNexts, goes_on, request_next, fails, next_first, next_second, map_free, changed, push_value_both, push_frame_both, done_both, holds_both}
 
 pub data AgreeingEnds (Free : Type 0) (w : ℕ) : End → End → Type 0 where
@@ -123,27 +124,29 @@ module _ (Free : Type 0) (setup : Setup) (limits : Limits) (premise : Free ⊎ (
     called_both position depth callee (byte ∷ bytes) s t inputs inputs' h i =
         entered_both position depth callee inputs inputs' _ _ i (push_frame_both Free setup limits premise depth s t h)
 
-    used_both : (position : Position) (depth : ℕ) (u u' : Use) (s t : Store) (inputs inputs' : List Input) (c c' : Course)
+    used_both : (position : Position) (depth : ℕ) (u u' : Use) (s t : Store) (inputs inputs' : List Input)
         → AgreeingUses w u u' → AgreeingStores Free w s t → Pairwise (AgreeingInputs w) inputs inputs'
-        → AgreeingCourses Free w c c' → AgreeingCourses Free w (after_answer go setup position depth u s inputs c)
-        (after_answer go' other position depth u' t inputs' c')
-    used_both position depth u u' s t inputs inputs' c c' (gives r a) h i k =
+        → AgreeingCourses Free w (after_answer go setup position depth u s inputs)
+        (after_answer go' other position depth u' t inputs')
+    used_both position depth u u' s t inputs inputs' (gives r a) h i =
         resumed_both position depth inputs inputs' _ _ i
         (push_value_both Free setup limits premise _ _ _ _ a (changed h r both_pushed))
-    used_both position depth u u' s t inputs inputs' c c' (calls {text = callee}) h i k = called_both position depth callee
+    used_both position depth u u' s t inputs inputs' (calls {text = callee}) h i = called_both position depth callee
         callee.bytes s t inputs inputs' h i
-    used_both position depth u u' s t inputs inputs' c c' denies h i k = ended_both Free w _ _ fail_both
-    used_both position depth u u' s t inputs inputs' c c' misfits h i k = k
+    used_both position depth u u' s t inputs inputs' denies h i = ended_both Free w _ _ fail_both
 
-    asked_both : (position : Position) (depth : ℕ) (request : Request) (waiting : Waiting) (s t : Store)
+    asked_both : (position : Position) (depth : ℕ) (request : Request) (on_answer : OnAnswer) (s t : Store)
         (inputs inputs' : List Input) → AgreeingStores Free w s t → Pairwise (AgreeingInputs w) inputs inputs'
-        → AgreeingCourses Free w (await_answer go setup position depth request waiting s inputs)
-        (await_answer go' other position depth request waiting t inputs')
-    asked_both position depth request waiting s t inputs inputs' h none = ended_both Free w _ _ ask_both
-    asked_both position depth request waiting s t inputs inputs' h (more {x = x} {y = y} a i) =
-        used_both position depth _ _ _ _ _ _ _ _
-        (use_both w width waiting x.answer y.answer s.values t.values a.answer h.values)
-        (with_input_both x y s t a h) i (ended_both Free w _ _ ask_both)
+        → AgreeingCourses Free w (await_answer go setup position depth request on_answer s inputs)
+        (await_answer go' other position depth request on_answer t inputs')
+    asked_both position depth request on_answer s t inputs inputs' h none = ended_both Free w _ _ ask_both
+    asked_both position depth request on_answer s t inputs inputs' h (more {x = x} {y = y} a i) =
+        if_pair (AgreeingCourses Free w) _ _ _ _ _ _
+        (ap (is_same_kind (kind_of_request request)) (same_kinds w x.answer y.answer a.answer))
+        (used_both position depth _ _ _ _ _ _
+        (use_both w width on_answer x.answer y.answer s.values t.values a.answer h.values)
+        (with_input_both x y s t a h) i)
+        (ended_both Free w _ _ ask_both)
 
     after_operation_both : (text : Text) (depth place : ℕ) (inputs inputs' : List Input) (n n' : Next)
         → Pairwise (AgreeingInputs w) inputs inputs' → AgreeingNexts Free w n n'

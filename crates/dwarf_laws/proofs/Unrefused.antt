@@ -7,8 +7,9 @@ use Rattle.dwarf_base.specs.Reads.{Text}
 use Rattle.dwarf_value.specs.declared.types.Value.{Value}
 use Rattle.dwarf_meaning.specs.Operations.{Operation}
 use Rattle.dwarf_meaning.specs.Locations.{Location, Piece}
-use Rattle.dwarf_meaning.specs.Requests.{Request, Waiting, Input}
-use Rattle.dwarf_meaning.specs.Acts.{on_top, Act, Pushes, Branches, Locates, EndsPiece, RequestAct, FaultAct, Use, PushesAnswer, Calls, FaultUse, WrongKind, use_of}
+use Rattle.dwarf_meaning.specs.Requests.{Request, OnAnswer, Input}
+use Rattle.dwarf_meaning.specs.Kinds.{kind_of_request, kind_of_answer, is_same_kind}
+use Rattle.dwarf_meaning.specs.Acts.{on_top, Act, Pushes, Branches, Locates, EndsPiece, RequestAct, FaultAct, Use, PushesAnswer, Calls, FaultUse, use_of}
 use Rattle.dwarf_meaning.specs.Stores.{Setup, address_bits, Store, Last, Nothing, Plain, Pieced, Pushed, Called, Located, push_value, push_piece, push_caller, push_values, Next, Goes, RequestNext, FaultNext, goes, done}
 use Rattle.dwarf_meaning.specs.Run.{Position, End, CompleteEnd, RequestEnd, FaultEnd, Course, only_end, add_to_path, add_request, append_course, Continues, return_to_caller, after_push, enter_callee, run_callee, after_answer, with_input, await_answer, after_operation, read, can_count, counted, do_operation, turn_counted, piece_ended_by, end_located, turn_located, turn_by, turn, out_of_turns, run_for, enough}
 use Rattle.dwarf_meaning.specs.Meaning.{Outcome, FaultOutcome, completion_of, finish_value, finish_by, First, fresh, with_initial, outcome_of_end, meaning, has_pieces, CompleteOutcome, whole}
@@ -25,8 +26,8 @@ data CalmResults : Result Store Fault → Result Store Fault → Type 0 where
 
 data CalmNexts : Next → Next → Type 0 where
   goes_on : {place : ℕ} {s : Store} → CalmNexts (Goes place s) (Goes place (calm s))
-  request_next : {request : Request} {waiting : Waiting} {s : Store}
-      → CalmNexts (RequestNext request waiting s) (RequestNext request waiting (calm s))
+  request_next : {request : Request} {on_answer : OnAnswer} {s : Store}
+      → CalmNexts (RequestNext request on_answer s) (RequestNext request on_answer (calm s))
   fails : {fault : Fault} → CalmNexts (FaultNext fault) (FaultNext fault)
   no_next : {next : Next} → CalmNexts (FaultNext StackFull) next
 
@@ -109,7 +110,7 @@ module _ (encoding : Encoding) (bits : ℕ) where
   done_calm place len (Branches rest target) s = if_pair CalmNexts _ _ _ _ _ _ refl fails goes_on
   done_calm place len (Locates rest location) s = goes_on
   done_calm place len (EndsPiece rest piece) s = goes_calm place _ _ (piece_calm piece (record s { values = rest; last = Pieced }))
-  done_calm place len (RequestAct rest request waiting) s = request_next
+  done_calm place len (RequestAct rest request on_answer) s = request_next
   done_calm place len (FaultAct fault) s = fails
 
   holds_calm : (location : Location) (place : ℕ) (s : Store) (o : Option (ℕ × Option ℕ))
@@ -149,26 +150,28 @@ module _ (encoding : Encoding) (bits : ℕ) where
     called_calm position depth callee [] s inputs = H position.text position.place depth (record s { last = Called }) inputs
     called_calm position depth callee (byte ∷ bytes) s inputs = entered_calm position depth callee inputs _ _ (frame_calm depth s)
 
-    used_calm : (position : Position) (depth : ℕ) (u : Use) (s : Store) (inputs : List Input) (c : Course) → Calms c c
-        → Calms (after_answer go S position depth u s inputs c) (after_answer go' S position depth u (calm s) inputs c)
-    used_calm position depth (PushesAnswer rest value) s inputs c k =
+    used_calm : (position : Position) (depth : ℕ) (u : Use) (s : Store) (inputs : List Input)
+        → Calms (after_answer go S position depth u s inputs) (after_answer go' S position depth u (calm s) inputs)
+    used_calm position depth (PushesAnswer rest value) s inputs =
         resumed_calm position depth inputs _ _ (value_calm value (record s { values = rest; last = Pushed }))
-    used_calm position depth (Calls callee) s inputs c k = called_calm position depth callee callee.bytes s inputs
-    used_calm position depth (FaultUse fault) s inputs c k = ended_calm _ _ fail_calm
-    used_calm position depth WrongKind s inputs c k = k
+    used_calm position depth (Calls callee) s inputs = called_calm position depth callee callee.bytes s inputs
+    used_calm position depth (FaultUse fault) s inputs = ended_calm _ _ fail_calm
 
-    asked_calm : (position : Position) (depth : ℕ) (request : Request) (waiting : Waiting) (s : Store) (inputs : List Input)
-        → Calms (await_answer go S position depth request waiting s inputs) (await_answer go' S position depth request waiting (calm s) inputs)
-    asked_calm position depth request waiting s [] = ended_calm _ _ ask_calm
-    asked_calm position depth request waiting s (input ∷ inputs) =
-        used_calm position depth (use_of (address_bits S) waiting input.answer s.values) (with_input input s) inputs _
+    asked_calm : (position : Position) (depth : ℕ) (request : Request) (on_answer : OnAnswer) (s : Store)
+        (inputs : List Input)
+        → Calms (await_answer go S position depth request on_answer s inputs)
+        (await_answer go' S position depth request on_answer (calm s) inputs)
+    asked_calm position depth request on_answer s [] = ended_calm _ _ ask_calm
+    asked_calm position depth request on_answer s (input ∷ inputs) =
+        if_pair Calms (is_same_kind (kind_of_request request) (kind_of_answer input.answer)) _ _ _ _ _ refl
+        (used_calm position depth (use_of (address_bits S) on_answer input.answer s.values) (with_input input s) inputs)
         (ended_calm _ _ ask_calm)
 
     after_operation_calm : (text : Text) (depth place : ℕ) (inputs : List Input) (n n' : Next) → CalmNexts n n'
         → Calms (after_operation go S text depth place inputs n) (after_operation go' S text depth place inputs n')
     after_operation_calm text depth place inputs n n' (goes_on {place = to} {s = s}) = H text to depth s inputs
-    after_operation_calm text depth place inputs n n' (request_next {request = request} {waiting = waiting} {s = s}) =
-        asking_calm request _ _ (asked_calm (record { text = text; place = place }) depth request waiting s inputs)
+    after_operation_calm text depth place inputs n n' (request_next {request = request} {on_answer = on_answer} {s = s}) =
+        asking_calm request _ _ (asked_calm (record { text = text; place = place }) depth request on_answer s inputs)
     after_operation_calm text depth place inputs n n' fails = ended_calm _ _ fail_calm
     after_operation_calm text depth place inputs n n' no_next = full refl
 

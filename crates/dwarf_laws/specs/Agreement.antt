@@ -6,7 +6,8 @@ use Rattle.dwarf_value.specs.declared.types.Value.{Value}
 use Rattle.dwarf_value.specs.declared.types.ValueType.{ValueType}
 use Rattle.dwarf_value.specs.Values.{Agree}
 use Rattle.dwarf_meaning.specs.Locations.{Location, HoldsValue, Piece}
-use Rattle.dwarf_meaning.specs.Requests.{Request, Answer, MemoryAnswer, RegisterAnswer, WasmAnswer, EntryAnswer, FrameBaseAnswer, TlsAnswer, CfaAnswer, ParameterAnswer, RelocatedAnswer, IndexedAnswer, LocationAnswer, BaseTypeAnswer, Input}
+use Rattle.dwarf_meaning.specs.declared.kinds.WaitingKind.{WaitingKind}
+use Rattle.dwarf_meaning.specs.Requests.{Request, Answer, ValueAnswer, NumberAnswer, LocationAnswer, BaseTypeAnswer, Input}
 use Rattle.dwarf_meaning.specs.Run.{Position}
 use Rattle.dwarf_meaning.specs.Meaning.{Outcome, RequestOutcome, FaultOutcome, CompleteOutcome, First}
 use Rattle.dwarf_meaning.specs.Steps.{Step, InitialValue, ObjectAddress, MaxIterations, Evaluate, Resume, Told}
@@ -29,16 +30,9 @@ AgreeingNumbers w first second = first % 2 ^ w ≡ second % 2 ^ w
 
 -- answers of one kind, whose numbers or values agree, and whose texts and types are the same
 pub data AgreeingAnswers (w : ℕ) : Answer → Answer → Type 0 where
-  memory : {x y : Value} → Agree w x y → AgreeingAnswers w (MemoryAnswer x) (MemoryAnswer y)
-  register : {x y : Value} → Agree w x y → AgreeingAnswers w (RegisterAnswer x) (RegisterAnswer y)
-  wasm_value : {x y : Value} → Agree w x y → AgreeingAnswers w (WasmAnswer x) (WasmAnswer y)
-  entry_value : {x y : Value} → Agree w x y → AgreeingAnswers w (EntryAnswer x) (EntryAnswer y)
-  frame_base : {m n : ℕ} → AgreeingNumbers w m n → AgreeingAnswers w (FrameBaseAnswer m) (FrameBaseAnswer n)
-  tls : {m n : ℕ} → AgreeingNumbers w m n → AgreeingAnswers w (TlsAnswer m) (TlsAnswer n)
-  cfa : {m n : ℕ} → AgreeingNumbers w m n → AgreeingAnswers w (CfaAnswer m) (CfaAnswer n)
-  parameter : {m n : ℕ} → AgreeingNumbers w m n → AgreeingAnswers w (ParameterAnswer m) (ParameterAnswer n)
-  relocated : {m n : ℕ} → AgreeingNumbers w m n → AgreeingAnswers w (RelocatedAnswer m) (RelocatedAnswer n)
-  indexed : {m n : ℕ} → AgreeingNumbers w m n → AgreeingAnswers w (IndexedAnswer m) (IndexedAnswer n)
+  value : {kind : WaitingKind} {x y : Value} → Agree w x y → AgreeingAnswers w (ValueAnswer kind x) (ValueAnswer kind y)
+  number : {kind : WaitingKind} {m n : ℕ} → AgreeingNumbers w m n
+      → AgreeingAnswers w (NumberAnswer kind m) (NumberAnswer kind n)
   location : {text : Text} → AgreeingAnswers w (LocationAnswer text) (LocationAnswer text)
   base_type : {value_type : ValueType} → AgreeingAnswers w (BaseTypeAnswer value_type) (BaseTypeAnswer value_type)
 

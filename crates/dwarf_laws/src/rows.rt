@@ -1,10 +1,11 @@
 ghost use Rattle.std.specs.Prelude.{[], ◌∷◌, Some, None, true, false};
 ghost use Rattle.dwarf_base.specs.declared.errors.Error.TheVariants.{StackFull, TooManyIterations, NotEnoughStackItems, InvalidPushObjectAddress, InvalidPiece, BadBranchTarget};
 ghost use Rattle.dwarf_value.specs.declared.types.Value.TheVariants.{Generic, U8, U16, U32, U64};
-ghost use Rattle.dwarf_value.specs.declared.types.ValueType.TheVariants as kind;
+ghost use Rattle.dwarf_value.specs.declared.types.ValueType.TheVariants as value_type;
 ghost use Rattle.dwarf_meaning.specs.Operations.{UnitRef};
 ghost use Rattle.dwarf_meaning.specs.Locations.{InRegister, AtAddress, HoldsValue};
-ghost use Rattle.dwarf_meaning.specs.Requests.{RequiresMemory, RequiresRegister, RequiresWasmLocal, RequiresWasmGlobal, RequiresWasmStack, RequiresFrameBase, RequiresTls, RequiresCallFrameCfa, RequiresAtLocation, RequiresEntryValue, RequiresParameterRef, RequiresRelocatedAddress, RequiresIndexedAddress, RequiresBaseType, MemoryAnswer, RegisterAnswer, WasmAnswer, EntryAnswer, FrameBaseAnswer, TlsAnswer, CfaAnswer, ParameterAnswer, RelocatedAnswer, IndexedAnswer, LocationAnswer, BaseTypeAnswer};
+ghost use Rattle.dwarf_meaning.specs.declared.kinds.WaitingKind.TheVariants as kind;
+ghost use Rattle.dwarf_meaning.specs.Requests.{RequiresMemory, RequiresRegister, RequiresWasmLocal, RequiresWasmGlobal, RequiresWasmStack, RequiresFrameBase, RequiresTls, RequiresCallFrameCfa, RequiresAtLocation, RequiresEntryValue, RequiresParameterRef, RequiresRelocatedAddress, RequiresIndexedAddress, RequiresBaseType, ValueAnswer, NumberAnswer, LocationAnswer, BaseTypeAnswer};
 ghost use Rattle.dwarf_meaning.specs.Refusals.{Never, After};
 ghost use Rattle.dwarf_meaning.specs.Meaning.{RequestOutcome, FaultOutcome, CompleteOutcome, whole};
 ghost use Rattle.dwarf_meaning.specs.Steps.{InitialValue, ObjectAddress, RequestReply, CompleteReply, FaultReply};
@@ -17,98 +18,106 @@ ghost use Rattle.dwarf_laws.specs.Rows.{started_steps, ComeAlike, call_site, IsW
 /// agree; then what both reply, and the outcome of each.
 pub fn twin_rows()
     ensures frame_address { ComeAlike plain (0x9c ∷ [])
-        (started_steps (CfaAnswer 0x10 ∷ [])) (started_steps (CfaAnswer 0x100000010 ∷ []))
+        (started_steps (NumberAnswer kind.CallFrameCfa 0x10 ∷ []))
+        (started_steps (NumberAnswer kind.CallFrameCfa 0x100000010 ∷ []))
         (RequestReply RequiresCallFrameCfa ∷ CompleteReply ∷ [])
         (valued 0x10 0x10) (valued 0x100000010 0x10) }
     ensures register { ComeAlike plain (0x70 ∷ 0x00 ∷ [])
-        (started_steps (RegisterAnswer (Generic 5) ∷ []))
-        (started_steps (RegisterAnswer (Generic 0x700000005) ∷ []))
+        (started_steps (ValueAnswer kind.Register (Generic 5) ∷ []))
+        (started_steps (ValueAnswer kind.Register (Generic 0x700000005) ∷ []))
         (RequestReply (RequiresRegister 0 0) ∷ CompleteReply ∷ []) (valued 5 5) (valued 5 5) }
     ensures frame_base { ComeAlike plain (0x91 ∷ 0x00 ∷ [])
-        (started_steps (FrameBaseAnswer 0x10 ∷ []))
-        (started_steps (FrameBaseAnswer 0x100000010 ∷ []))
+        (started_steps (NumberAnswer kind.FrameBase 0x10 ∷ []))
+        (started_steps (NumberAnswer kind.FrameBase 0x100000010 ∷ []))
         (RequestReply RequiresFrameBase ∷ CompleteReply ∷ [])
         (valued 0x10 0x10) (valued 0x100000010 0x10) }
     ensures tls { ComeAlike plain (0x35 ∷ 0x9b ∷ [])
-        (started_steps (TlsAnswer 0x10 ∷ [])) (started_steps (TlsAnswer 0x100000010 ∷ []))
+        (started_steps (NumberAnswer kind.Tls 0x10 ∷ [])) (started_steps (NumberAnswer kind.Tls 0x100000010 ∷ []))
         (RequestReply (RequiresTls 5) ∷ CompleteReply ∷ [])
         (valued 0x10 0x10) (valued 0x100000010 0x10) }
     ensures parameter { ComeAlike plain (0xfa ∷ 0x05 ∷ 0x00 ∷ 0x00 ∷ 0x00 ∷ [])
-        (started_steps (ParameterAnswer 0x10 ∷ []))
-        (started_steps (ParameterAnswer 0x100000010 ∷ []))
+        (started_steps (NumberAnswer kind.ParameterRef 0x10 ∷ []))
+        (started_steps (NumberAnswer kind.ParameterRef 0x100000010 ∷ []))
         (RequestReply (RequiresParameterRef 5) ∷ CompleteReply ∷ [])
         (valued 0x10 0x10) (valued 0x100000010 0x10) }
     ensures relocated_address { ComeAlike plain (0x03 ∷ 0x05 ∷ 0x00 ∷ 0x00 ∷ 0x00 ∷ [])
-        (started_steps (RelocatedAnswer 0x10 ∷ []))
-        (started_steps (RelocatedAnswer 0x100000010 ∷ []))
+        (started_steps (NumberAnswer kind.RelocatedAddress 0x10 ∷ []))
+        (started_steps (NumberAnswer kind.RelocatedAddress 0x100000010 ∷ []))
         (RequestReply (RequiresRelocatedAddress 5) ∷ CompleteReply ∷ [])
         (valued 0x10 0x10) (valued 0x100000010 0x10) }
     ensures indexed_address { ComeAlike plain (0xa1 ∷ 0x05 ∷ [])
-        (started_steps (IndexedAnswer 0x10 ∷ [])) (started_steps (IndexedAnswer 0x100000010 ∷ []))
+        (started_steps (NumberAnswer kind.IndexedAddress 0x10 ∷ []))
+        (started_steps (NumberAnswer kind.IndexedAddress 0x100000010 ∷ []))
         (RequestReply (RequiresIndexedAddress 5 true) ∷ CompleteReply ∷ [])
         (valued 0x10 0x10) (valued 0x100000010 0x10) }
     ensures indexed_constant { ComeAlike plain (0xa2 ∷ 0x05 ∷ [])
-        (started_steps (IndexedAnswer 0x10 ∷ [])) (started_steps (IndexedAnswer 0x100000010 ∷ []))
+        (started_steps (NumberAnswer kind.IndexedAddress 0x10 ∷ []))
+        (started_steps (NumberAnswer kind.IndexedAddress 0x100000010 ∷ []))
         (RequestReply (RequiresIndexedAddress 5 false) ∷ CompleteReply ∷ [])
         (valued 0x10 0x10) (valued 0x100000010 0x10) }
     ensures wasm_local { ComeAlike plain (0xed ∷ 0x00 ∷ 0x05 ∷ [])
-        (started_steps (WasmAnswer (Generic 0x10) ∷ []))
-        (started_steps (WasmAnswer (Generic 0x100000010) ∷ []))
+        (started_steps (ValueAnswer kind.WasmValue (Generic 0x10) ∷ []))
+        (started_steps (ValueAnswer kind.WasmValue (Generic 0x100000010) ∷ []))
         (RequestReply (RequiresWasmLocal 5) ∷ CompleteReply ∷ [])
         (valued 0x10 0x10) (valued 0x100000010 0x10) }
     ensures wasm_global { ComeAlike plain (0xed ∷ 0x01 ∷ 0x05 ∷ [])
-        (started_steps (WasmAnswer (Generic 0x10) ∷ []))
-        (started_steps (WasmAnswer (Generic 0x100000010) ∷ []))
+        (started_steps (ValueAnswer kind.WasmValue (Generic 0x10) ∷ []))
+        (started_steps (ValueAnswer kind.WasmValue (Generic 0x100000010) ∷ []))
         (RequestReply (RequiresWasmGlobal 5) ∷ CompleteReply ∷ [])
         (valued 0x10 0x10) (valued 0x100000010 0x10) }
     ensures wasm_stack { ComeAlike plain (0xed ∷ 0x02 ∷ 0x05 ∷ [])
-        (started_steps (WasmAnswer (Generic 0x10) ∷ []))
-        (started_steps (WasmAnswer (Generic 0x100000010) ∷ []))
+        (started_steps (ValueAnswer kind.WasmValue (Generic 0x10) ∷ []))
+        (started_steps (ValueAnswer kind.WasmValue (Generic 0x100000010) ∷ []))
         (RequestReply (RequiresWasmStack 5) ∷ CompleteReply ∷ [])
         (valued 0x10 0x10) (valued 0x100000010 0x10) }
     ensures entry_value { ComeAlike plain (0xa3 ∷ 0x01 ∷ 0x9c ∷ [])
-        (started_steps (EntryAnswer (Generic 0x10) ∷ []))
-        (started_steps (EntryAnswer (Generic 0x100000010) ∷ []))
+        (started_steps (ValueAnswer kind.EntryValue (Generic 0x10) ∷ []))
+        (started_steps (ValueAnswer kind.EntryValue (Generic 0x100000010) ∷ []))
         (RequestReply (RequiresEntryValue (text (0x9c ∷ []))) ∷ CompleteReply ∷ [])
         (valued 0x10 0x10) (valued 0x100000010 0x10) }
     ensures memory { ComeAlike plain (0x9c ∷ 0x06 ∷ [])
-        (started_steps (CfaAnswer 0x10 ∷ MemoryAnswer (Generic 0x10) ∷ []))
-        (started_steps (CfaAnswer 0x100000010 ∷ MemoryAnswer (Generic 0x100000010) ∷ []))
+        (started_steps (NumberAnswer kind.CallFrameCfa 0x10 ∷ ValueAnswer kind.Memory (Generic 0x10) ∷ []))
+        (started_steps (NumberAnswer kind.CallFrameCfa 0x100000010
+        ∷ ValueAnswer kind.Memory (Generic 0x100000010) ∷ []))
         (RequestReply RequiresCallFrameCfa ∷ RequestReply
         (RequiresMemory 0x10 4 None 0) ∷ CompleteReply ∷ [])
         (valued 0x10 0x10) (valued 0x100000010 0x10) }
     ensures called_text { ComeAlike plain (0x98 ∷ 0x05 ∷ 0x00 ∷ [])
-        (started_steps (calls (0x9c ∷ []) ∷ CfaAnswer 0x10 ∷ []))
-        (started_steps (calls (0x9c ∷ []) ∷ CfaAnswer 0x100000010 ∷ []))
+        (started_steps (calls (0x9c ∷ []) ∷ NumberAnswer kind.CallFrameCfa 0x10 ∷ []))
+        (started_steps (calls (0x9c ∷ []) ∷ NumberAnswer kind.CallFrameCfa 0x100000010 ∷ []))
         (RequestReply (RequiresAtLocation (UnitRef 5)) ∷ RequestReply
         RequiresCallFrameCfa ∷ CompleteReply ∷ [])
         (valued 0x10 0x10) (valued 0x100000010 0x10) }
     ensures value_of_a_piece { ComeAlike plain (0x9c ∷ 0x9f ∷ [])
-        (started_steps (CfaAnswer 0x10 ∷ [])) (started_steps (CfaAnswer 0x100000010 ∷ []))
+        (started_steps (NumberAnswer kind.CallFrameCfa 0x10 ∷ []))
+        (started_steps (NumberAnswer kind.CallFrameCfa 0x100000010 ∷ []))
         (RequestReply RequiresCallFrameCfa ∷ CompleteReply ∷ [])
         (pieced (whole (HoldsValue (Generic 0x10)) ∷ []))
         (pieced (whole (HoldsValue (Generic 0x100000010)) ∷ [])) }
     ensures shift { ComeAlike plain (0x9c ∷ 0x12 ∷ 0x24 ∷ [])
-        (started_steps (CfaAnswer 1 ∷ [])) (started_steps (CfaAnswer 0x100000001 ∷ []))
+        (started_steps (NumberAnswer kind.CallFrameCfa 1 ∷ []))
+        (started_steps (NumberAnswer kind.CallFrameCfa 0x100000001 ∷ []))
         (RequestReply RequiresCallFrameCfa ∷ CompleteReply ∷ []) (valued 2 2) (valued 2 2) }
     ensures branch { ComeAlike plain (0x31 ∷ 0x9c ∷ 0x28 ∷ 0x01 ∷ 0x00 ∷ 0x33 ∷ [])
-        (started_steps (CfaAnswer 0 ∷ [])) (started_steps (CfaAnswer 0x100000000 ∷ []))
+        (started_steps (NumberAnswer kind.CallFrameCfa 0 ∷ []))
+        (started_steps (NumberAnswer kind.CallFrameCfa 0x100000000 ∷ []))
         (RequestReply RequiresCallFrameCfa ∷ CompleteReply ∷ []) (valued 3 3) (valued 3 3) }
     ensures reinterpreted { ComeAlike plain (0x9c ∷ 0xa9 ∷ 0x09 ∷ [])
-        (started_steps (CfaAnswer 0x10 ∷ BaseTypeAnswer kind.U32 ∷ []))
-        (started_steps (CfaAnswer 0x100000010 ∷ BaseTypeAnswer kind.U32 ∷ []))
+        (started_steps (NumberAnswer kind.CallFrameCfa 0x10 ∷ BaseTypeAnswer value_type.U32 ∷ []))
+        (started_steps (NumberAnswer kind.CallFrameCfa 0x100000010 ∷ BaseTypeAnswer value_type.U32 ∷ []))
         (RequestReply RequiresCallFrameCfa ∷ RequestReply (RequiresBaseType 9) ∷ CompleteReply ∷ [])
         (CompleteOutcome (whole (AtAddress 0x10) ∷ []) (Some (U32 0x10)))
         (CompleteOutcome (whole (AtAddress 0x10) ∷ []) (Some (U32 0x10))) }
     ensures converted { ComeAlike plain (0x9c ∷ 0xa8 ∷ 0x09 ∷ [])
-        (started_steps (CfaAnswer 0x10 ∷ BaseTypeAnswer kind.U64 ∷ []))
-        (started_steps (CfaAnswer 0x100000010 ∷ BaseTypeAnswer kind.U64 ∷ []))
+        (started_steps (NumberAnswer kind.CallFrameCfa 0x10 ∷ BaseTypeAnswer value_type.U64 ∷ []))
+        (started_steps (NumberAnswer kind.CallFrameCfa 0x100000010 ∷ BaseTypeAnswer value_type.U64 ∷ []))
         (RequestReply RequiresCallFrameCfa ∷ RequestReply (RequiresBaseType 9) ∷ CompleteReply ∷ [])
         (CompleteOutcome (whole (AtAddress 0x10) ∷ []) (Some (U64 0x10)))
         (CompleteOutcome (whole (AtAddress 0x10) ∷ []) (Some (U64 0x10))) }
     ensures full_stack { ComeAlike (with_limits (record no_limits { values = Some 1 }))
         (0x9c ∷ 0x31 ∷ [])
-        (started_steps (CfaAnswer 0x10 ∷ [])) (started_steps (CfaAnswer 0x100000010 ∷ []))
+        (started_steps (NumberAnswer kind.CallFrameCfa 0x10 ∷ []))
+        (started_steps (NumberAnswer kind.CallFrameCfa 0x100000010 ∷ []))
         (RequestReply RequiresCallFrameCfa ∷ FaultReply StackFull ∷ []) (FaultOutcome StackFull)
         (FaultOutcome StackFull) }
     ensures object_address { ComeAlike plain (0x97 ∷ [])
@@ -132,14 +141,14 @@ pub fn called_rows()
         [] []
         [] [] (pieced (word_at (InRegister 0) ∷ [])) }
     ensures asks { IsWorked (call_site [] (0x9c ∷ 0x22 ∷ []) (0x9c ∷ []))
-        [] (given unset (CfaAnswer 1 ∷ CfaAnswer 2 ∷ []))
+        [] (given unset (NumberAnswer kind.CallFrameCfa 1 ∷ NumberAnswer kind.CallFrameCfa 2 ∷ []))
         [] (RequiresCallFrameCfa ∷ RequiresCallFrameCfa ∷ []) (valued 3 3) }
     ensures branches { IsWorked
         (call_site (0x31 ∷ []) (0x22 ∷ []) (0x32 ∷ 0x2f ∷ 0x01 ∷ 0x00 ∷ 0xff ∷ []))
         [] []
         [] [] (valued 3 3) }
     ensures asked_before { IsWorked (call_site (0x9c ∷ []) (0x9c ∷ 0x22 ∷ []) (0x32 ∷ 0x22 ∷ []))
-        (given unset (CfaAnswer 1 ∷ [])) (given unset (CfaAnswer 2 ∷ []))
+        (given unset (NumberAnswer kind.CallFrameCfa 1 ∷ [])) (given unset (NumberAnswer kind.CallFrameCfa 2 ∷ []))
         (RequiresCallFrameCfa ∷ []) (RequiresCallFrameCfa ∷ []) (valued 5 5) }
 {}
 
@@ -162,24 +171,24 @@ pub fn premises_of_high_bits()
         (record unset { object_address = Some 0 }) unset
         [] [] (valued 0 0) (FaultOutcome InvalidPushObjectAddress) }
     ensures numbers_differ { Disagree plain plain Never Never (0x9c ∷ []) unset unset
-        (given unset (CfaAnswer 0 ∷ [])) (given unset (CfaAnswer 1 ∷ []))
+        (given unset (NumberAnswer kind.CallFrameCfa 0 ∷ [])) (given unset (NumberAnswer kind.CallFrameCfa 1 ∷ []))
         (valued 0 0) (valued 1 1) }
     ensures types_of_values_differ { Disagree plain plain Never Never (0x70 ∷ 0x00 ∷ []) unset
         unset
-        (given unset (RegisterAnswer (U8 0) ∷ [])) (given unset (RegisterAnswer (U16 0) ∷ []))
+        (given unset (ValueAnswer kind.Register (U8 0) ∷ [])) (given unset (ValueAnswer kind.Register (U16 0) ∷ []))
         (CompleteOutcome (whole (AtAddress 0) ∷ []) (Some (U8 0)))
         (CompleteOutcome (whole (AtAddress 0) ∷ []) (Some (U16 0))) }
     ensures typed_values_differ_above { Disagree plain plain Never Never (0x70 ∷ 0x00 ∷ []) unset
         unset
-        (given unset (RegisterAnswer (U64 0) ∷ []))
-        (given unset (RegisterAnswer (U64 0x100000000) ∷ []))
+        (given unset (ValueAnswer kind.Register (U64 0) ∷ []))
+        (given unset (ValueAnswer kind.Register (U64 0x100000000) ∷ []))
         (CompleteOutcome (whole (AtAddress 0) ∷ []) (Some (U64 0)))
         (CompleteOutcome (whole (AtAddress 0x100000000) ∷ []) (Some (U64 0x100000000))) }
     ensures texts_differ { Disagree plain plain Never Never (0x98 ∷ 0x05 ∷ 0x00 ∷ []) unset unset
         (given unset (calls (0x30 ∷ []) ∷ [])) (given unset (calls (0x31 ∷ []) ∷ []))
         (valued 0 0) (valued 1 1) }
     ensures types_differ { Disagree plain plain Never Never (0x30 ∷ 0xa8 ∷ 0x05 ∷ []) unset unset
-        (given unset (BaseTypeAnswer kind.U8 ∷ [])) (given unset (BaseTypeAnswer kind.U16 ∷ []))
+        (given unset (BaseTypeAnswer value_type.U8 ∷ [])) (given unset (BaseTypeAnswer value_type.U16 ∷ []))
         (CompleteOutcome (whole (AtAddress 0) ∷ []) (Some (U8 0)))
         (CompleteOutcome (whole (AtAddress 0) ∷ []) (Some (U16 0))) }
 {}
@@ -214,7 +223,8 @@ pub fn premises_of_inlining()
         (at_most 3) (given (at_most 3) (calls (0x2f ∷ 0x00 ∷ 0x00 ∷ []) ∷ [])) [] (valued 1 1)
         (FaultOutcome TooManyIterations) }
     ensures call_is_not_reached { EndUnlike plain (0x9c ∷ 0x98 ∷ 0x05 ∷ 0x00 ∷ []) (0x9c ∷ 0x31 ∷ [])
-        unset (given unset (calls (0x31 ∷ []) ∷ CfaAnswer 0 ∷ [])) (given unset (CfaAnswer 0 ∷ []))
+        unset (given unset (calls (0x31 ∷ []) ∷ NumberAnswer kind.CallFrameCfa 0 ∷ []))
+        (given unset (NumberAnswer kind.CallFrameCfa 0 ∷ []))
         (RequestOutcome RequiresCallFrameCfa (open_at (0x9c ∷ 0x98 ∷ 0x05 ∷ 0x00 ∷ []) 1 ∷ []))
         (valued 1 1) }
     ensures maximum_is_set_at_the_answer { EndUnlike plain (0x98 ∷ 0x05 ∷ 0x00 ∷ [])

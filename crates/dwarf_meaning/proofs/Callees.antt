@@ -1,18 +1,20 @@
 -- The texts that are open in a request are the text that is run and callees, which were answered.
 use Rattle.std.proofs.Common.{ℕ, zero, suc, ◌≡◌, ◌<◌, inl, inr, List, [], ◌∷◌, length, Option, Some, None, Result, Ok, Err, arith, refl, sym, subst, ◌==◌}
+use Rattle.std.proofs.lemmas.Bool.{cond_both}
 use Rattle.dwarf_base.specs.Faults.{Fault}
 use Rattle.dwarf_base.specs.Reads.{Text}
 use Rattle.dwarf_value.specs.declared.types.Value.{Value}
 use Rattle.dwarf_meaning.specs.Operations.{Operation}
 use Rattle.dwarf_meaning.specs.Locations.{Location}
-use Rattle.dwarf_meaning.specs.Requests.{Request, Waiting, LocationAnswer, Input}
-use Rattle.dwarf_meaning.specs.Acts.{Use, PushesAnswer, Calls, FaultUse, WrongKind, use_of}
+use Rattle.dwarf_meaning.specs.Requests.{Request, OnAnswer, LocationAnswer, Input}
+use Rattle.dwarf_meaning.specs.Kinds.{kind_of_request, kind_of_answer, is_same_kind}
+use Rattle.dwarf_meaning.specs.Acts.{Use, PushesAnswer, Calls, FaultUse, use_of}
 use Rattle.dwarf_meaning.specs.Stores.{Setup, address_bits, Store, Last, Nothing, Plain, Pieced, Pushed, Called, Located, push_value, push_caller, Next, Goes, RequestNext, FaultNext}
-use Rattle.dwarf_meaning.specs.Run.{Position, End, CompleteEnd, RequestEnd, FaultEnd, Course, only_end, Continues, return_to_caller, after_push, enter_callee, run_callee, after_answer, with_input, await_answer, after_operation, read, can_count, counted, do_operation, turn_counted, turn_located, turn_by, turn, out_of_turns, run_for, enough, run}
+use Rattle.dwarf_meaning.specs.Run.{Position, End, CompleteEnd, RequestEnd, FaultEnd, Course, Continues, return_to_caller, after_push, enter_callee, run_callee, after_answer, with_input, await_answer, after_operation, read, can_count, counted, do_operation, turn_counted, turn_located, turn_by, turn, out_of_turns, run_for, enough, run}
 use Rattle.dwarf_meaning.specs.Meaning.{completion_of, has_pieces, finish_value, finish_by, First, fresh, with_initial, outcome_of_end, course_of, meaning}
 use Rattle.dwarf_meaning.specs.RunLaws.{IsAnswered, IsCallee, Open, alone, calling, EndOpen, OutcomeOpen}
 use Rattle.dwarf_meaning.specs.Refusals.{Refusal}
-use Rattle.dwarf_meaning.proofs.Choices.{if_both, top_both}
+use Rattle.dwarf_meaning.proofs.Choices.{top_both}
 use Rattle.dwarf_meaning.proofs.Effects.{IsUseOf, use_is}
 
 -- the answers of these inputs are among all of them
@@ -57,21 +59,22 @@ module _ (all : List Input) where
         opens_entered position depth callee inputs (push_caller setup depth s)
         (record { answered = a; some_bytes = subst (λ (bs : List ℕ). 0 < length bs) (sym e) (omega arith) }) k
 
-    opens_used : (setup : Setup) (position : Position) (depth : ℕ) (input : Input) (u : Use) (s : Store) (inputs : List Input) (unanswered : Course) → IsUseOf input.answer (length s.values) u → Known all (input ∷ inputs) → Ends position.text unanswered.end → Ends position.text (after_answer go setup position depth u s inputs unanswered).end
-    opens_used setup position depth input (PushesAnswer rest value) s inputs unanswered c k h = opens_resumed position depth inputs (push_value setup value (record s { values = rest; last = Pushed })) k.1
-    opens_used setup position depth input (Calls callee) s inputs unanswered e k h = opens_called setup position depth callee callee.bytes s inputs refl (k.0 callee e) k.1
-    opens_used setup position depth input (FaultUse fault) s inputs unanswered c k h = tt
-    opens_used setup position depth input WrongKind s inputs unanswered c k h = h
+    opens_used : (setup : Setup) (position : Position) (depth : ℕ) (input : Input) (u : Use) (s : Store) (inputs : List Input) → IsUseOf input.answer (length s.values) u → Known all (input ∷ inputs) → Ends position.text (after_answer go setup position depth u s inputs).end
+    opens_used setup position depth input (PushesAnswer rest value) s inputs c k = opens_resumed position depth inputs (push_value setup value (record s { values = rest; last = Pushed })) k.1
+    opens_used setup position depth input (Calls callee) s inputs e k = opens_called setup position depth callee callee.bytes s inputs refl (k.0 callee e) k.1
+    opens_used setup position depth input (FaultUse fault) s inputs c k = tt
 
-    opens_asked : (setup : Setup) (position : Position) (depth : ℕ) (request : Request) (waiting : Waiting) (s : Store) (inputs : List Input) → Known all inputs → Ends position.text (await_answer go setup position depth request waiting s inputs).end
-    opens_asked setup position depth request waiting s [] k = alone position
-    opens_asked setup position depth request waiting s (input ∷ inputs) k =
-        opens_used setup position depth input (use_of (address_bits setup) waiting input.answer s.values) (with_input input s) inputs (only_end (RequestEnd request (position ∷ []) (input ∷ inputs)))
-        (use_is (address_bits setup) waiting input.answer s.values) k (alone position)
+    opens_asked : (setup : Setup) (position : Position) (depth : ℕ) (request : Request) (on_answer : OnAnswer) (s : Store) (inputs : List Input) → Known all inputs → Ends position.text (await_answer go setup position depth request on_answer s inputs).end
+    opens_asked setup position depth request on_answer s [] k = alone position
+    opens_asked setup position depth request on_answer s (input ∷ inputs) k =
+        cond_both (is_same_kind (kind_of_request request) (kind_of_answer input.answer)) _ _ (λ (c : Course). Ends position.text c.end)
+        (λ fits. opens_used setup position depth input (use_of (address_bits setup) on_answer input.answer s.values) (with_input input s) inputs
+        (use_is (address_bits setup) on_answer input.answer s.values) k)
+        (λ other. alone position)
 
     opens_led : (setup : Setup) (text : Text) (depth place : ℕ) (inputs : List Input) (next : Next) → Known all inputs → Ends text (after_operation go setup text depth place inputs next).end
     opens_led setup text depth place inputs (Goes to s) k = opens text to depth s inputs k
-    opens_led setup text depth place inputs (RequestNext request waiting s) k = opens_asked setup (record { text = text; place = place }) depth request waiting s inputs k
+    opens_led setup text depth place inputs (RequestNext request on_answer s) k = opens_asked setup (record { text = text; place = place }) depth request on_answer s inputs k
     opens_led setup text depth place inputs (FaultNext fault) k = tt
 
     opens_does : (setup : Setup) (text : Text) (depth : ℕ) (s : Store) (inputs : List Input) (r : Result (Operation × List ℕ) Fault) → Known all inputs → Ends text (do_operation go setup text depth s inputs r).end
@@ -80,7 +83,7 @@ module _ (all : List Input) where
 
     opens_counts : (setup : Setup) (text : Text) (place depth : ℕ) (s : Store) (inputs : List Input) → Known all inputs → Ends text (turn_counted go setup text place depth s inputs).end
     opens_counts setup text place depth s inputs k =
-        if_both (λ (c : Course). Ends text c.end) (can_count s) _ _ (λ can. opens_does setup text depth (counted s) inputs (read setup text place) k) (λ e. tt)
+        cond_both (can_count s) _ _ (λ (c : Course). Ends text c.end) (λ can. opens_does setup text depth (counted s) inputs (read setup text place) k) (λ e. tt)
 
     opens_held : (setup : Setup) (text : Text) (depth : ℕ) (location : Location) (s : Store) (inputs : List Input) (r : Result (Operation × List ℕ) Fault) → Known all inputs → Ends text (turn_located go setup text depth location s inputs r).end
     opens_held setup text depth location s inputs (Ok x) k = opens_led setup text depth _ inputs _ k
@@ -96,7 +99,7 @@ module _ (all : List Input) where
 
     opens_turn : (setup : Setup) → Opens (turn go setup)
     opens_turn setup text place depth s inputs k =
-        if_both (λ (c : Course). Ends text c.end) (place == length text.bytes) _ _ (λ e. k) (λ e. opens_by setup text place depth s inputs s.last k)
+        cond_both (place == length text.bytes) _ _ (λ (c : Course). Ends text c.end) (λ e. k) (λ e. opens_by setup text place depth s inputs s.last k)
 
   opens_run_for : (turns : ℕ) (setup : Setup) → Opens (run_for turns setup)
   unfolding run_for
@@ -120,12 +123,12 @@ module _ (inputs : List Input) (text : Text) where
   value_open setup s = top_both (OutcomeOpen inputs text) s.values _ _ tt (λ x rest e. completed_open (Some x) _)
 
   finish_open : (setup : Setup) (s : Store) (last : Last) → OutcomeOpen inputs text (finish_by setup s last)
-  finish_open setup s (Located location) = if_both (OutcomeOpen inputs text) (has_pieces s.pieces) _ _ (λ e. tt) (λ e. completed_open None _)
-  finish_open setup s Plain = if_both (OutcomeOpen inputs text) (has_pieces s.pieces) _ _ (λ e. tt) (λ e. value_open setup s)
-  finish_open setup s Pushed = if_both (OutcomeOpen inputs text) (has_pieces s.pieces) _ _ (λ e. tt) (λ e. value_open setup s)
-  finish_open setup s Nothing = if_both (OutcomeOpen inputs text) (has_pieces s.pieces) _ _ (λ e. tt) (λ e. value_open setup s)
-  finish_open setup s Pieced = if_both (OutcomeOpen inputs text) (has_pieces s.pieces) _ _ (λ e. tt) (λ e. value_open setup s)
-  finish_open setup s Called = if_both (OutcomeOpen inputs text) (has_pieces s.pieces) _ _ (λ e. tt) (λ e. value_open setup s)
+  finish_open setup s (Located location) = cond_both (has_pieces s.pieces) _ _ (OutcomeOpen inputs text) (λ e. tt) (λ e. completed_open None _)
+  finish_open setup s Plain = cond_both (has_pieces s.pieces) _ _ (OutcomeOpen inputs text) (λ e. tt) (λ e. value_open setup s)
+  finish_open setup s Pushed = cond_both (has_pieces s.pieces) _ _ (OutcomeOpen inputs text) (λ e. tt) (λ e. value_open setup s)
+  finish_open setup s Nothing = cond_both (has_pieces s.pieces) _ _ (OutcomeOpen inputs text) (λ e. tt) (λ e. value_open setup s)
+  finish_open setup s Pieced = cond_both (has_pieces s.pieces) _ _ (OutcomeOpen inputs text) (λ e. tt) (λ e. value_open setup s)
+  finish_open setup s Called = cond_both (has_pieces s.pieces) _ _ (OutcomeOpen inputs text) (λ e. tt) (λ e. value_open setup s)
 
   ended_open : (setup : Setup) (end : End) → Ends inputs text end → OutcomeOpen inputs text (outcome_of_end setup end)
   ended_open setup (CompleteEnd s left) h = finish_open setup s s.last

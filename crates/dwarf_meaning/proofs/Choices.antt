@@ -1,23 +1,11 @@
 -- The words of the definitions, case by case.
-use Rattle.std.proofs.Common.{suc, length, ◌≡◌, refl, ap, Bool, true, false, List, [], ◌∷◌, Option, Some, None, Result, Ok, Err, cond}
+use Rattle.std.proofs.Common.{suc, length, ◌≡◌, refl, ap, List, [], ◌∷◌, Option, Some, None, Result, Ok, Err}
 use Rattle.dwarf_base.specs.declared.errors.Error.{Error}
 use Rattle.dwarf_base.specs.Faults.{Fault, fault_of}
 use Rattle.dwarf_value.specs.declared.types.Value.{Value}
 use Rattle.dwarf_meaning.specs.Acts.{on_top, on_some, on_result, result_of}
 
-pub if_true : {A : Type 0} (b : Bool) (x y : A) → b ≡ true → cond b x y ≡ x
-if_true true x y e = refl
-if_true false x y e = cc
-
-pub if_false : {A : Type 0} (b : Bool) (x y : A) → b ≡ false → cond b x y ≡ y
-if_false true x y e = cc
-if_false false x y e = refl
-
 -- ---- what holds of both holds of the choice
-
-pub if_both : {A : Type 0} (P : A → Type 0) (b : Bool) (x y : A) → (b ≡ true → P x) → (b ≡ false → P y) → P (cond b x y)
-if_both P true x y p q = p refl
-if_both P false x y p q = q refl
 
 pub top_both : {A : Type 0} (P : A → Type 0) (values : List Value) (none : A) (go : Value → List Value → A) → P none → ((x : Value) (rest : List Value) → length values ≡ suc (length rest) → P (go x rest)) → P (on_top values none go)
 unfolding on_top

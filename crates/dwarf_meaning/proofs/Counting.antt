@@ -1,17 +1,18 @@
 -- Each operation of a run's path is counted once, and none beyond a bound on the maxima.
-use Rattle.std.proofs.Common.{ℕ, zero, suc, ◌≡◌, ◌+◌, ◌≤◌, ◌<◌, Bool, true, false, List, [], ◌∷◌, ◌++◌, length, Result, Ok, Err, arith, subst, ◌==◌, length-append, cond, ◌-◌}
+use Rattle.std.proofs.Common.{ℕ, zero, suc, ◌≡◌, ◌+◌, ◌≤◌, ◌<◌, List, [], ◌∷◌, ◌++◌, length, Result, Ok, Err, arith, subst, ◌==◌, length-append, ◌-◌}
+use Rattle.std.proofs.lemmas.Bool.{cond_both}
 use Rattle.std.proofs.lemmas.Bool.Decides.{nat_tests}
 use Rattle.dwarf_base.specs.Faults.{Fault}
 use Rattle.dwarf_base.specs.declared.errors.Error.TheVariants.{TooManyIterations}
 use Rattle.dwarf_base.specs.Reads.{Text}
 use Rattle.dwarf_meaning.specs.Operations.{Operation}
 use Rattle.dwarf_meaning.specs.Locations.{Location}
-use Rattle.dwarf_meaning.specs.Requests.{Request, Waiting, Input}
-use Rattle.dwarf_meaning.specs.Acts.{Use, PushesAnswer, Calls, FaultUse, WrongKind, use_of, act}
+use Rattle.dwarf_meaning.specs.Requests.{Request, OnAnswer, Input}
+use Rattle.dwarf_meaning.specs.Kinds.{kind_of_request, kind_of_answer, is_same_kind}
+use Rattle.dwarf_meaning.specs.Acts.{Use, PushesAnswer, Calls, FaultUse, use_of, act}
 use Rattle.dwarf_meaning.specs.Stores.{Setup, address_bits, Store, Last, Nothing, Plain, Pieced, Pushed, Called, Located, Next, Goes, RequestNext, FaultNext}
 use Rattle.dwarf_meaning.specs.Run.{Position, End, CompleteEnd, RequestEnd, FaultEnd, Course, only_end, add_to_path, add_request, append_course, Continues, return_to_caller, after_push, enter_callee, run_callee, after_answer, with_input, await_answer, after_operation, read, most, can_count, counted, do_operation, turn_counted, piece_ended_by, turn_located, turn_by, turn, out_of_turns, run_for, enough, run}
 use Rattle.dwarf_meaning.specs.RunLaws.{AllMaxima, MaximaWithin, EndCounts, EndCountWithin, EndMaximumWithin, CountsWithin}
-use Rattle.dwarf_meaning.proofs.Choices.{if_both}
 use Rattle.dwarf_meaning.proofs.Counts.{OnStore, OnNext, Tally, tally_of, HasTally, OnPiece, tally-push_value, tally-push_caller, tally-done, both-holds}
 
 -- what is known of each maximum, and the bound on counts that it gives
@@ -48,9 +49,6 @@ module _ (bound : ℕ) (Fits : ℕ → Type 0) where
 
   counted_failed : (n : ℕ) (fault : Fault) → n ≤ bound → Counted bound Fits n (only_end (FaultEnd fault))
   counted_failed n fault h = record { few = omega (arith, h); at_end = tt }
-
-  counted_if : (n : ℕ) (b : Bool) (x y : Course) → (b ≡ true → Counted bound Fits n x) → (b ≡ false → Counted bound Fits n y) → Counted bound Fits n (cond b x y)
-  counted_if n = if_both (Counted bound Fits n)
 
   counted_joined : (n : ℕ) (first second : Course) → Counted bound Fits (n + length first.path) second → Counted bound Fits n (append_course first second)
   counted_joined n first second h =
@@ -89,25 +87,26 @@ module _ (bound : ℕ) (Fits : ℕ → Type 0) where
     counted_called setup position depth callee [] s inputs a = counting position.text position.place depth (record s { last = Called }) inputs a
     counted_called setup position depth callee (byte ∷ bytes) s inputs a = counted_entered (tally_of s) position depth callee inputs _ (tally-push_caller setup depth s) a
 
-    counted_used : (setup : Setup) (position : Position) (depth : ℕ) (u : Use) (s : Store) (inputs : List Input) (unanswered : Course) → Allowed bound Fits (tally_of s) inputs → Counted bound Fits s.count unanswered → Counted bound Fits s.count (after_answer go setup position depth u s inputs unanswered)
-    counted_used setup position depth (PushesAnswer rest value) s inputs unanswered a h =
+    counted_used : (setup : Setup) (position : Position) (depth : ℕ) (u : Use) (s : Store) (inputs : List Input) → Allowed bound Fits (tally_of s) inputs → Counted bound Fits s.count (after_answer go setup position depth u s inputs)
+    counted_used setup position depth (PushesAnswer rest value) s inputs a =
         counted_resumed (tally_of s) position depth inputs _ (tally-push_value setup value (record s { values = rest; last = Pushed })) a
-    counted_used setup position depth (Calls callee) s inputs unanswered a h = counted_called setup position depth callee callee.bytes s inputs a
-    counted_used setup position depth (FaultUse fault) s inputs unanswered a h = counted_failed s.count fault a.count
-    counted_used setup position depth WrongKind s inputs unanswered a h = h
+    counted_used setup position depth (Calls callee) s inputs a = counted_called setup position depth callee callee.bytes s inputs a
+    counted_used setup position depth (FaultUse fault) s inputs a = counted_failed s.count fault a.count
 
-    counted_asked : (setup : Setup) (position : Position) (depth : ℕ) (request : Request) (waiting : Waiting) (s : Store) (inputs : List Input) → Allowed bound Fits (tally_of s) inputs → Counted bound Fits s.count (await_answer go setup position depth request waiting s inputs)
-    counted_asked setup position depth request waiting s [] a = record { few = omega (arith, a.count); at_end = tt }
-    counted_asked setup position depth request waiting s (input ∷ inputs) a =
-        counted_used setup position depth (use_of (address_bits setup) waiting input.answer s.values) (with_input input s) inputs (only_end (RequestEnd request (position ∷ []) (input ∷ inputs)))
-        (record { count = a.count; maximum = a.others.0; others = a.others.1 }) (record { few = omega (arith, a.count); at_end = tt })
+    counted_asked : (setup : Setup) (position : Position) (depth : ℕ) (request : Request) (on_answer : OnAnswer) (s : Store) (inputs : List Input) → Allowed bound Fits (tally_of s) inputs → Counted bound Fits s.count (await_answer go setup position depth request on_answer s inputs)
+    counted_asked setup position depth request on_answer s [] a = record { few = omega (arith, a.count); at_end = tt }
+    counted_asked setup position depth request on_answer s (input ∷ inputs) a =
+        cond_both (is_same_kind (kind_of_request request) (kind_of_answer input.answer)) _ _ (Counted bound Fits s.count)
+        (λ fits. counted_used setup position depth (use_of (address_bits setup) on_answer input.answer s.values) (with_input input s) inputs
+        (record { count = a.count; maximum = a.others.0; others = a.others.1 }))
+        (λ other. record { few = omega (arith, a.count); at_end = tt })
 
     counted_led : (setup : Setup) (text : Text) (depth place : ℕ) (inputs : List Input) (n : Tally) (next : Next) → OnNext (HasTally n) next → Allowed bound Fits n inputs → Counted bound Fits n.count (after_operation go setup text depth place inputs next)
     counted_led setup text depth place inputs n (Goes to s) h a = counted_from n text to depth s inputs h a
-    counted_led setup text depth place inputs n (RequestNext request waiting s) h a =
+    counted_led setup text depth place inputs n (RequestNext request on_answer s) h a =
         let position : Position = record { text = text; place = place } in
-        subst (λ (k : Tally). Allowed bound Fits k inputs → Counted bound Fits k.count (add_request request (await_answer go setup position depth request waiting s inputs))) h
-        (λ allowed. let c = counted_asked setup position depth request waiting s inputs allowed in record { few = c.few; at_end = c.at_end })
+        subst (λ (k : Tally). Allowed bound Fits k inputs → Counted bound Fits k.count (add_request request (await_answer go setup position depth request on_answer s inputs))) h
+        (λ allowed. let c = counted_asked setup position depth request on_answer s inputs allowed in record { few = c.few; at_end = c.at_end })
         a
     counted_led setup text depth place inputs n (FaultNext fault) h a = counted_failed n.count fault a.count
 
@@ -117,7 +116,7 @@ module _ (bound : ℕ) (Fits : ℕ → Type 0) where
 
     counted_counts : (setup : Setup) (text : Text) (place depth : ℕ) (s : Store) (inputs : List Input) → Allowed bound Fits (tally_of s) inputs → Counted bound Fits s.count (turn_counted go setup text place depth s inputs)
     counted_counts setup text place depth s inputs a =
-        counted_if s.count (can_count s) _ _
+        cond_both (can_count s) _ _ (Counted bound Fits s.count)
         (λ can. let below = bounded.below s.maximum a.maximum s.count (grind (arith, nat_tests)) (grind (arith, nat_tests)) in
         counted_passing s.count _ _ (counted_does setup text depth (counted s) inputs (read setup text place)
         (record { count = omega (arith, below); maximum = a.maximum; others = a.others })))
@@ -125,7 +124,7 @@ module _ (bound : ℕ) (Fits : ℕ → Type 0) where
 
     piece_tally : (n : Tally) (next : Next) → OnPiece n next → OnNext (HasTally n) next
     piece_tally n (Goes to s) h = h.tally
-    piece_tally n (RequestNext request waiting s) h = absurd h
+    piece_tally n (RequestNext request on_answer s) h = absurd h
     piece_tally n (FaultNext fault) h = tt
 
     counted_held : (setup : Setup) (text : Text) (depth : ℕ) (location : Location) (s : Store) (inputs : List Input) (r : Result (Operation × List ℕ) Fault) → Allowed bound Fits (tally_of s) inputs → Counted bound Fits s.count (turn_located go setup text depth location s inputs r)
@@ -142,7 +141,7 @@ module _ (bound : ℕ) (Fits : ℕ → Type 0) where
 
     counted_turn : (setup : Setup) → Counting (turn go setup)
     counted_turn setup text place depth s inputs a =
-        counted_if s.count (place == length text.bytes) _ _
+        cond_both (place == length text.bytes) _ _ (Counted bound Fits s.count)
         (λ e. record { few = omega (arith, a.count); at_end = record { count = omega arith; maximum = a.maximum; others = a.others } })
         (λ e. counted_by setup text place depth s inputs s.last a)
 

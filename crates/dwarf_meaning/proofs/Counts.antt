@@ -1,5 +1,6 @@
 -- What an operation does, a piece after a location and an answer leave the count and the settings as they are.
 use Rattle.std.proofs.Common.{ℕ, ◌≡◌, nat_lt, List, [], ◌∷◌, ◌++◌, length, Option, Some, None, Result, Ok, Err, refl, ◌∙◌}
+use Rattle.std.proofs.lemmas.Bool.{cond_both}
 use Rattle.dwarf_base.specs.Faults.{Fault, ◌>>=◌}
 use Rattle.dwarf_value.specs.declared.types.Value.{Value}
 use Rattle.dwarf_meaning.specs.Locations.{Location, Piece}
@@ -7,7 +8,6 @@ use Rattle.dwarf_meaning.specs.Acts.{Act, Pushes, Branches, Locates, EndsPiece, 
 use Rattle.dwarf_meaning.specs.Stores.{Setup, Store, Last, Plain, Pieced, push_value, push_piece, push_caller, push_values, Next, Goes, RequestNext, FaultNext, goes, branch_target, done}
 use Rattle.dwarf_meaning.specs.Run.{end_located}
 use Rattle.dwarf_meaning.specs.Refusals.{Refusal, room}
-use Rattle.dwarf_meaning.proofs.Choices.{if_both}
 
 -- if a store comes of it, P holds of that
 abbrev pub OnStore : (Store → Type 0) → Result Store Fault → Type 0
@@ -17,7 +17,7 @@ OnStore P (Err fault) = Unit {0}
 -- if the run goes on, P holds of what is kept
 abbrev pub OnNext : (Store → Type 0) → Next → Type 0
 OnNext P (Goes place s) = P s
-OnNext P (RequestNext request waiting s) = P s
+OnNext P (RequestNext request on_answer s) = P s
 OnNext P (FaultNext fault) = Unit {0}
 
 -- what only counting and inputs change
@@ -84,16 +84,16 @@ on_goes P place (Err fault) h = tt
 pub tally-done : (setup : Setup) (place len : ℕ) (a : Act) (s : Store) → OnNext (HasTally (tally_of s)) (done setup place len a s)
 tally-done setup place len (Pushes rest pushed) s =
     on_goes (HasTally (tally_of s)) place _ (tally-push_values setup pushed (record s { values = rest; last = Plain }))
-tally-done setup place len (Branches rest target) s = if_both (OnNext (HasTally (tally_of s))) (nat_lt len (branch_target setup place target)) _ _ (λ e. tt) (λ e. refl)
+tally-done setup place len (Branches rest target) s = cond_both (nat_lt len (branch_target setup place target)) _ _ (OnNext (HasTally (tally_of s))) (λ e. tt) (λ e. refl)
 tally-done setup place len (Locates rest location) s = refl
 tally-done setup place len (EndsPiece rest piece) s = on_goes (HasTally (tally_of s)) place _ (tally-push_piece setup piece (record s { values = rest; last = Pieced }))
-tally-done setup place len (RequestAct rest request waiting) s = refl
+tally-done setup place len (RequestAct rest request on_answer) s = refl
 tally-done setup place len (FaultAct fault) s = tt
 
 -- after a location the run goes on after its piece, or fails
 abbrev pub OnPiece : Tally → Next → Type 0
 OnPiece m (Goes place s) = KeepsBoth m Pieced s
-OnPiece m (RequestNext request waiting s) = ⊥
+OnPiece m (RequestNext request on_answer s) = ⊥
 OnPiece m (FaultNext fault) = Unit {0}
 
 piece_goes : (m : Tally) (place : ℕ) (r : Result Store Fault) → OnStore (KeepsBoth m Pieced) r → OnPiece m (goes place r)

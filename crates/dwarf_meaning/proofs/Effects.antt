@@ -1,16 +1,16 @@
 -- What an operation does, and what is done with an answer, in outline.
 use Rattle.std.proofs.Common.{ℕ, suc, ℤ, ◌≡◌, ◌==◌, nat_lt, ◌+◌, ◌*◌, ◌≤◌, ◌⊎◌, inl, inr, true, false, List, [], ◌∷◌, length, Option, Result, Ok, Err, arith, refl}
+use Rattle.std.proofs.lemmas.Bool.{cond_both}
 use Rattle.dwarf_base.specs.declared.errors.Error.{Error}
 use Rattle.dwarf_base.specs.Faults.{Fault}
-use Rattle.dwarf_base.specs.declared.errors.Error.TheVariants.{NotEnoughStackItems}
 use Rattle.dwarf_value.specs.declared.types.Value.{Value}
 use Rattle.dwarf_value.specs.Values.{to_u64_of}
 use Rattle.dwarf_meaning.specs.Operations as operation
 use Rattle.dwarf_meaning.specs.Operations.{Operation}
 use Rattle.dwarf_meaning.specs.Locations.{Location, Empty, InRegister, AtAddress, HoldsValue, HoldsBytes, PointsInto, Piece}
-use Rattle.dwarf_meaning.specs.Requests.{Request, RequiresEntryValue, Waiting, Memory, Register, WasmValue, EntryValue, FrameBase, Tls, CallFrameCfa, ParameterRef, RelocatedAddress, IndexedAddress, AtLocation, TypedLiteral, Convert, Reinterpret, Answer, MemoryAnswer, RegisterAnswer, WasmAnswer, EntryAnswer, FrameBaseAnswer, TlsAnswer, CfaAnswer, ParameterAnswer, RelocatedAnswer, IndexedAnswer, LocationAnswer, BaseTypeAnswer}
-use Rattle.dwarf_meaning.specs.Acts.{on_top, on_result, result_of, Act, Pushes, Branches, Locates, EndsPiece, RequestAct, FaultAct, short, push, unary, binary, act, Use, PushesAnswer, Calls, FaultUse, WrongKind, use_of}
-use Rattle.dwarf_meaning.proofs.Choices.{if_both, top_both, some_both, answer_both}
+use Rattle.dwarf_meaning.specs.Requests.{Request, RequiresEntryValue, OnAnswer, Add, Parse, Answer, ValueAnswer, NumberAnswer, LocationAnswer, BaseTypeAnswer}
+use Rattle.dwarf_meaning.specs.Acts.{on_top, on_result, result_of, Act, Pushes, Branches, Locates, EndsPiece, RequestAct, FaultAct, short, push, unary, binary, act, Use, PushesAnswer, Calls, FaultUse, turn_top, use_of}
+use Rattle.dwarf_meaning.proofs.Choices.{top_both, some_both, answer_both}
 
 -- ---- operations
 
@@ -44,7 +44,7 @@ pub data IsActOf (op : Operation) (n : ℕ) : Act → Type 0 where
   branches : {rest : List Value} {target : ℤ} → length rest ≤ n → IsBranchTo target op → IsActOf op n (Branches rest target)
   locates : {rest : List Value} {location : Location} → length rest ≤ n → IsGivenBy op location → IsActOf op n (Locates rest location)
   ends : {rest : List Value} {piece : Piece} → length rest ≤ n → IsOwnPlace piece.location → IsActOf op n (EndsPiece rest piece)
-  asks : {rest : List Value} {request : Request} {waiting : Waiting} → length rest ≤ n → AsksItsText op request → IsActOf op n (RequestAct rest request waiting)
+  asks : {rest : List Value} {request : Request} {on_answer : OnAnswer} → length rest ≤ n → AsksItsText op request → IsActOf op n (RequestAct rest request on_answer)
   refuses : {fault : Fault} → IsActOf op n (FaultAct fault)
 
 module _ {op : Operation} {n : ℕ} where
@@ -102,15 +102,15 @@ act_is bits object operation.PushObjectAddress values =
     some_both (IsActOf operation.PushObjectAddress (length values)) object _ _ refuses (λ address. push_is values _)
 act_is bits object (operation.Bra target) values =
     top_is values _ (λ x rest e.
-    if_both (IsActOf (operation.Bra target) (length values)) (to_u64_of bits x == 0) _ _ (λ f. pushes (omega (arith, e)) (omega (arith, e))) (λ f. branches (omega (arith, e)) (inl refl)))
+    cond_both (to_u64_of bits x == 0) _ _ (IsActOf (operation.Bra target) (length values)) (λ f. pushes (omega (arith, e)) (omega (arith, e))) (λ f. branches (omega (arith, e)) (inl refl)))
 act_is bits object (operation.Skip target) values = branches (omega arith) (inr refl)
 act_is bits object operation.Nop values = pushes (omega arith) (omega arith)
 act_is bits object (operation.VariableValue offset) values = refuses
 act_is bits object operation.Uninitialized values = refuses
 act_is bits object (operation.Deref base_type size false) values =
-    if_both (IsActOf (operation.Deref base_type size false) (length values)) (nat_lt bits (8 * size)) _ _ (λ e. refuses) (λ e. top_is values _ (λ x rest f. asks (omega (arith, f)) tt))
+    cond_both (nat_lt bits (8 * size)) _ _ (IsActOf (operation.Deref base_type size false) (length values)) (λ e. refuses) (λ e. top_is values _ (λ x rest f. asks (omega (arith, f)) tt))
 act_is bits object (operation.Deref base_type size true) values =
-    if_both (IsActOf (operation.Deref base_type size true) (length values)) (nat_lt bits (8 * size)) _ _ (λ e. refuses)
+    cond_both (nat_lt bits (8 * size)) _ _ (IsActOf (operation.Deref base_type size true) (length values)) (λ e. refuses)
     (λ e. top_is values _ (λ x below f. top_is below _ (λ y rest g. asks (omega (arith, f, g)) tt)))
 act_is bits object (operation.RegisterOffset register offset base_type) values = asks (omega arith) tt
 act_is bits object (operation.FrameOffset offset) values = asks (omega arith) tt
@@ -142,32 +142,23 @@ abbrev pub IsUseOf : Answer → ℕ → Use → Type 0
 IsUseOf answer n (PushesAnswer rest value) = length rest ≤ n
 IsUseOf answer n (Calls text) = answer ≡ LocationAnswer text
 IsUseOf answer n (FaultUse fault) = Unit {0}
-IsUseOf answer n WrongKind = Unit {0}
 
 made_is : (answer : Answer) (n : ℕ) (rest : List Value) (r : Result Value Fault) → length rest ≤ n → IsUseOf answer n (on_result r FaultUse (PushesAnswer rest))
 unfolding on_result
 made_is answer n rest (Ok value) h = h
 made_is answer n rest (Err fault) h = tt
 
-turned_is : (answer : Answer) (values : List Value) (call : Value → Result Value Error) → IsUseOf answer (length values) (on_top values (FaultUse NotEnoughStackItems) (λ x rest. on_result (result_of (call x)) FaultUse (PushesAnswer rest)))
+turned_is : (answer : Answer) (values : List Value) (call : Value → Result Value Error) → IsUseOf answer (length values) (turn_top call values)
 unfolding on_top
 turned_is answer [] call = tt
 turned_is answer (x ∷ rest) call = made_is answer (suc (length rest)) rest (result_of (call x)) (omega arith)
 
-pub use_is : (bits : ℕ) (waiting : Waiting) (answer : Answer) (values : List Value) → IsUseOf answer (length values) (use_of bits waiting answer values)
+pub use_is : (bits : ℕ) (on_answer : OnAnswer) (answer : Answer) (values : List Value) → IsUseOf answer (length values) (use_of bits on_answer answer values)
 unfolding use_of
-use_is bits Memory (MemoryAnswer value) values = omega arith
-use_is bits (Register offset) (RegisterAnswer x) values = made_is (RegisterAnswer x) (length values) values _ (omega arith)
-use_is bits WasmValue (WasmAnswer value) values = omega arith
-use_is bits EntryValue (EntryAnswer value) values = omega arith
-use_is bits (FrameBase offset) (FrameBaseAnswer number) values = omega arith
-use_is bits Tls (TlsAnswer number) values = omega arith
-use_is bits CallFrameCfa (CfaAnswer number) values = omega arith
-use_is bits ParameterRef (ParameterAnswer number) values = omega arith
-use_is bits RelocatedAddress (RelocatedAnswer number) values = omega arith
-use_is bits IndexedAddress (IndexedAnswer number) values = omega arith
-use_is bits AtLocation (LocationAnswer text) values = refl
-use_is bits (TypedLiteral literal) (BaseTypeAnswer value_type) values = made_is (BaseTypeAnswer value_type) (length values) values _ (omega arith)
-use_is bits Convert (BaseTypeAnswer value_type) values = turned_is (BaseTypeAnswer value_type) values _
-use_is bits Reinterpret (BaseTypeAnswer value_type) values = turned_is (BaseTypeAnswer value_type) values _
-use_is bits _ _ values = tt
+use_is bits (Add offset) (ValueAnswer kind x) values = made_is (ValueAnswer kind x) (length values) values _ (omega arith)
+use_is bits _ (ValueAnswer kind value) values = omega arith
+use_is bits (Add offset) (NumberAnswer kind number) values = omega arith
+use_is bits _ (NumberAnswer kind number) values = omega arith
+use_is bits _ (LocationAnswer text) values = refl
+use_is bits (Parse literal) (BaseTypeAnswer value_type) values = made_is (BaseTypeAnswer value_type) (length values) values _ (omega arith)
+use_is bits _ (BaseTypeAnswer value_type) values = turned_is (BaseTypeAnswer value_type) values _

@@ -4,10 +4,11 @@ use Rattle.dwarf_base.specs.Faults.{Fault}
 use Rattle.dwarf_base.specs.Reads.{Text}
 use Rattle.dwarf_meaning.specs.Operations.{Operation}
 use Rattle.dwarf_meaning.specs.Locations.{Location}
-use Rattle.dwarf_meaning.specs.Requests.{Request, Waiting, Input}
-use Rattle.dwarf_meaning.specs.Acts.{Use, PushesAnswer, Calls, FaultUse, WrongKind, use_of}
+use Rattle.dwarf_meaning.specs.Requests.{Request, OnAnswer, Input}
+use Rattle.dwarf_meaning.specs.Kinds.{kind_of_request, kind_of_answer, is_same_kind}
+use Rattle.dwarf_meaning.specs.Acts.{Use, PushesAnswer, Calls, FaultUse, use_of}
 use Rattle.dwarf_meaning.specs.Stores.{Setup, address_bits, Store, Last, Nothing, Plain, Pieced, Pushed, Called, Located, push_value, push_caller, Next, Goes, RequestNext, FaultNext}
-use Rattle.dwarf_meaning.specs.Run.{Position, End, CompleteEnd, RequestEnd, FaultEnd, Course, only_end, add_to_path, add_request, append_course, Continues, return_to_caller, after_push, enter_callee, run_callee, after_answer, with_input, await_answer, after_operation, read, can_count, counted, do_operation, turn_counted, turn_located, turn_by, turn, out_of_turns, run_for, enough, run}
+use Rattle.dwarf_meaning.specs.Run.{Position, End, CompleteEnd, RequestEnd, FaultEnd, Course, add_to_path, add_request, append_course, Continues, return_to_caller, after_push, enter_callee, run_callee, after_answer, with_input, await_answer, after_operation, read, can_count, counted, do_operation, turn_counted, turn_located, turn_by, turn, out_of_turns, run_for, enough, run}
 use Rattle.dwarf_meaning.specs.Meaning.{First, fresh, with_initial, outcome_of_end, course_of, meaning}
 use Rattle.dwarf_meaning.specs.RunLaws.{IsSettled, end_before, course_before, IsOver}
 use Rattle.dwarf_meaning.specs.Refusals.{Refusal}
@@ -51,21 +52,22 @@ module _ (more : List Input) (go : Continues) (extends : Extensible more go) whe
   extends_called setup position depth callee [] s inputs = extends position.text position.place depth (record s { last = Called }) inputs
   extends_called setup position depth callee (byte ∷ bytes) s inputs = extends_entered position depth callee inputs (push_caller setup depth s)
 
-  extends_used : (setup : Setup) (position : Position) (depth : ℕ) (u : Use) (s : Store) (inputs : List Input) (unanswered : Course) → Extends more (after_answer go setup position depth u s inputs unanswered) (after_answer go setup position depth u s (inputs ++ more) (course_before more unanswered))
-  extends_used setup position depth (PushesAnswer rest value) s inputs unanswered = extends_resumed position depth inputs (push_value setup value (record s { values = rest; last = Pushed }))
-  extends_used setup position depth (Calls callee) s inputs unanswered = extends_called setup position depth callee callee.bytes s inputs
-  extends_used setup position depth (FaultUse fault) s inputs unanswered = λ settled. refl
-  extends_used setup position depth WrongKind s inputs unanswered = λ settled. refl
+  extends_used : (setup : Setup) (position : Position) (depth : ℕ) (u : Use) (s : Store) (inputs : List Input) → Extends more (after_answer go setup position depth u s inputs) (after_answer go setup position depth u s (inputs ++ more))
+  extends_used setup position depth (PushesAnswer rest value) s inputs = extends_resumed position depth inputs (push_value setup value (record s { values = rest; last = Pushed }))
+  extends_used setup position depth (Calls callee) s inputs = extends_called setup position depth callee callee.bytes s inputs
+  extends_used setup position depth (FaultUse fault) s inputs = λ settled. refl
 
-  pub extends_asked : (setup : Setup) (position : Position) (depth : ℕ) (request : Request) (waiting : Waiting) (s : Store) (inputs : List Input) → Extends more (await_answer go setup position depth request waiting s inputs) (await_answer go setup position depth request waiting s (inputs ++ more))
-  extends_asked setup position depth request waiting s [] = λ settled. absurd settled
-  extends_asked setup position depth request waiting s (input ∷ inputs) =
-      extends_used setup position depth (use_of (address_bits setup) waiting input.answer s.values) (with_input input s) inputs (only_end (RequestEnd request (position ∷ []) (input ∷ inputs)))
+  pub extends_asked : (setup : Setup) (position : Position) (depth : ℕ) (request : Request) (on_answer : OnAnswer) (s : Store) (inputs : List Input) → Extends more (await_answer go setup position depth request on_answer s inputs) (await_answer go setup position depth request on_answer s (inputs ++ more))
+  extends_asked setup position depth request on_answer s [] = λ settled. absurd settled
+  extends_asked setup position depth request on_answer s (input ∷ inputs) =
+      extends_if more (is_same_kind (kind_of_request request) (kind_of_answer input.answer)) _ _ _ _
+      (extends_used setup position depth (use_of (address_bits setup) on_answer input.answer s.values) (with_input input s) inputs)
+      (λ settled. refl)
 
   extends_led : (setup : Setup) (text : Text) (depth place : ℕ) (inputs : List Input) (next : Next) → Extends more (after_operation go setup text depth place inputs next) (after_operation go setup text depth place (inputs ++ more) next)
   extends_led setup text depth place inputs (Goes to s) settled = extends text to depth s inputs settled
-  extends_led setup text depth place inputs (RequestNext request waiting s) settled =
-      ap (add_request request) (extends_asked setup (record { text = text; place = place }) depth request waiting s inputs settled)
+  extends_led setup text depth place inputs (RequestNext request on_answer s) settled =
+      ap (add_request request) (extends_asked setup (record { text = text; place = place }) depth request on_answer s inputs settled)
   extends_led setup text depth place inputs (FaultNext fault) settled = refl
 
   extends_does : (setup : Setup) (text : Text) (depth : ℕ) (s : Store) (inputs : List Input) (r : Result (Operation × List ℕ) Fault) → Extends more (do_operation go setup text depth s inputs r) (do_operation go setup text depth s (inputs ++ more) r)

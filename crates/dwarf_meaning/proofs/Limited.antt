@@ -1,5 +1,6 @@
 -- Each list stays within its limit, and so do the texts that are open.
 use Rattle.std.proofs.Common.{ℕ, zero, suc, ◌≡◌, ◌≤◌, ◌<◌, List, [], ◌∷◌, ◌++◌, length, Option, Some, None, Result, Ok, Err, arith, refl, subst, ◌==◌, length-append}
+use Rattle.std.proofs.lemmas.Bool.{cond_both}
 use Rattle.std.specs.Prelude.{nat_lt}
 use Rattle.std.proofs.lemmas.Bool.Decides.{nat_tests}
 use Rattle.dwarf_base.specs.Faults.{Fault, ◌>>=◌}
@@ -8,14 +9,14 @@ use Rattle.dwarf_base.specs.Reads.{Text}
 use Rattle.dwarf_value.specs.declared.types.Value.{Value}
 use Rattle.dwarf_meaning.specs.Operations.{Operation}
 use Rattle.dwarf_meaning.specs.Locations.{Location, Piece}
-use Rattle.dwarf_meaning.specs.Requests.{Request, Waiting, Answer, Input}
-use Rattle.dwarf_meaning.specs.Acts.{on_top, Act, Pushes, Branches, Locates, EndsPiece, RequestAct, FaultAct, Use, PushesAnswer, Calls, FaultUse, WrongKind, use_of}
+use Rattle.dwarf_meaning.specs.Requests.{Request, OnAnswer, Answer, Input}
+use Rattle.dwarf_meaning.specs.Kinds.{kind_of_request, kind_of_answer, is_same_kind}
+use Rattle.dwarf_meaning.specs.Acts.{on_top, Act, Pushes, Branches, Locates, EndsPiece, RequestAct, FaultAct, Use, PushesAnswer, Calls, FaultUse, use_of}
 use Rattle.dwarf_meaning.specs.Stores.{IsWithin, Setup, address_bits, Store, Last, Nothing, Plain, Pieced, Pushed, Called, Located, push_value, push_piece, push_caller, push_values, Next, Goes, RequestNext, FaultNext, branch_target, done}
-use Rattle.dwarf_meaning.specs.Run.{Position, End, CompleteEnd, RequestEnd, FaultEnd, Course, only_end, Continues, return_to_caller, after_push, enter_callee, run_callee, after_answer, with_input, await_answer, after_operation, read, can_count, counted, do_operation, turn_counted, piece_ended_by, end_located, turn_located, turn_by, turn, out_of_turns, run_for, enough, run, return_to_callers}
+use Rattle.dwarf_meaning.specs.Run.{Position, End, CompleteEnd, RequestEnd, FaultEnd, Course, Continues, return_to_caller, after_push, enter_callee, run_callee, after_answer, with_input, await_answer, after_operation, read, can_count, counted, do_operation, turn_counted, piece_ended_by, end_located, turn_located, turn_by, turn, out_of_turns, run_for, enough, run, return_to_callers}
 use Rattle.dwarf_meaning.specs.Meaning.{completion_of, has_pieces, whole, finish_value, finish_by, First, fresh, with_initial, outcome_of_end, course_of, meaning}
 use Rattle.dwarf_meaning.specs.RunLaws.{ListsWithin, OpenTexts, EndWithin, OutcomeWithin, outermost}
 use Rattle.dwarf_meaning.specs.Refusals.{Refusal, spent, room}
-use Rattle.dwarf_meaning.proofs.Choices.{if_both}
 use Rattle.dwarf_meaning.proofs.Counts.{OnStore, OnNext, bound_store, on_bound, on_goes}
 use Rattle.dwarf_meaning.proofs.Effects.{IsActOf, pushes, branches, locates, ends, asks, act_is, IsUseOf, use_is}
 
@@ -29,7 +30,7 @@ within_less (Some limit) n m h i = omega (arith, h, i)
 room_within : (limit : Option ℕ) (n : ℕ) (refusal : Refusal) (P : Store → Type 0) (make : Refusal → Store) → (IsWithin limit (suc n) → (left : Refusal) → P (make left)) → OnStore P (room limit n refusal >>= λ left. Ok (make left))
 room_within None n refusal P make h = bound_store P (spent refusal) make (h tt)
 room_within (Some limit) n refusal P make h =
-    if_both (λ (r : Result Refusal Fault). OnStore P (r >>= λ left. Ok (make left))) (nat_lt n limit) (Ok refusal) (Err StackFull)
+    cond_both (nat_lt n limit) (Ok refusal) (Err StackFull) (λ (r : Result Refusal Fault). OnStore P (r >>= λ left. Ok (make left)))
     (λ e. let below : n < limit = grind (arith, nat_tests) in h (omega (arith, below)) refusal)
     (λ e. tt)
 
@@ -72,11 +73,11 @@ module _ (setup : Setup) where
   kept_done place len (Pushes rest pushed) s (pushes l _) h =
       on_goes Kept place _ (kept_values pushed (record s { values = rest; last = Plain }) (record { values = within_less setup.limits.values _ _ l h.values; pieces = h.pieces }))
   kept_done place len (Branches rest target) s (branches l _) h =
-      if_both (OnNext Kept) (nat_lt len (branch_target setup place target)) _ _ (λ e. tt) (λ e. record { values = within_less setup.limits.values _ _ l h.values; pieces = h.pieces })
+      cond_both (nat_lt len (branch_target setup place target)) _ _ (OnNext Kept) (λ e. tt) (λ e. record { values = within_less setup.limits.values _ _ l h.values; pieces = h.pieces })
   kept_done place len (Locates rest location) s (locates l _) h = record { values = within_less setup.limits.values _ _ l h.values; pieces = h.pieces }
   kept_done place len (EndsPiece rest piece) s (ends l _) h =
       on_goes Kept place _ (kept_piece piece (record s { values = rest; last = Pieced }) (record { values = within_less setup.limits.values _ _ l h.values; pieces = h.pieces }))
-  kept_done place len (RequestAct rest request waiting) s (asks l _) h = record { values = within_less setup.limits.values _ _ l h.values; pieces = h.pieces }
+  kept_done place len (RequestAct rest request on_answer) s (asks l _) h = record { values = within_less setup.limits.values _ _ l h.values; pieces = h.pieces }
   kept_done place len (FaultAct fault) s _ h = tt
 
   kept_holds : (location : Location) (place : ℕ) (s : Store) (o : Option (ℕ × Option ℕ)) → Kept s → OnNext Kept (end_located setup location place s o)
@@ -118,22 +119,23 @@ module _ (setup : Setup) where
     limited_called position depth callee [] s inputs d h = limited position.text position.place depth (record s { last = Called }) inputs d (record { values = h.values; pieces = h.pieces })
     limited_called position depth callee (byte ∷ bytes) s inputs d h = limited_entered position depth callee inputs _ d (kept_frame depth s h)
 
-    limited_used : (position : Position) (depth : ℕ) (u : Use) (s : Store) (inputs : List Input) (unanswered : Course) (answer : Answer) → IsWithin setup.limits.callers depth → IsUseOf answer (length s.values) u → Kept s → EndWithin setup.limits position.text depth unanswered.end → EndWithin setup.limits position.text depth (after_answer go setup position depth u s inputs unanswered).end
-    limited_used position depth (PushesAnswer rest value) s inputs unanswered answer d l h i =
+    limited_used : (position : Position) (depth : ℕ) (u : Use) (s : Store) (inputs : List Input) (answer : Answer) → IsWithin setup.limits.callers depth → IsUseOf answer (length s.values) u → Kept s → EndWithin setup.limits position.text depth (after_answer go setup position depth u s inputs).end
+    limited_used position depth (PushesAnswer rest value) s inputs answer d l h =
         limited_resumed position depth inputs _ d (kept_value value (record s { values = rest; last = Pushed }) (record { values = within_less setup.limits.values _ _ l h.values; pieces = h.pieces }))
-    limited_used position depth (Calls callee) s inputs unanswered answer d k h i = limited_called position depth callee callee.bytes s inputs d h
-    limited_used position depth (FaultUse fault) s inputs unanswered answer d k h i = tt
-    limited_used position depth WrongKind s inputs unanswered answer d k h i = i
+    limited_used position depth (Calls callee) s inputs answer d k h = limited_called position depth callee callee.bytes s inputs d h
+    limited_used position depth (FaultUse fault) s inputs answer d k h = tt
 
-    limited_asked : (position : Position) (depth : ℕ) (request : Request) (waiting : Waiting) (s : Store) (inputs : List Input) → IsWithin setup.limits.callers depth → Kept s → EndWithin setup.limits position.text depth (await_answer go setup position depth request waiting s inputs).end
-    limited_asked position depth request waiting s [] d h = one_open position depth d
-    limited_asked position depth request waiting s (input ∷ inputs) d h =
-        limited_used position depth (use_of (address_bits setup) waiting input.answer s.values) (with_input input s) inputs (only_end (RequestEnd request (position ∷ []) (input ∷ inputs))) input.answer d
-        (use_is (address_bits setup) waiting input.answer s.values) (record { values = h.values; pieces = h.pieces }) (one_open position depth d)
+    limited_asked : (position : Position) (depth : ℕ) (request : Request) (on_answer : OnAnswer) (s : Store) (inputs : List Input) → IsWithin setup.limits.callers depth → Kept s → EndWithin setup.limits position.text depth (await_answer go setup position depth request on_answer s inputs).end
+    limited_asked position depth request on_answer s [] d h = one_open position depth d
+    limited_asked position depth request on_answer s (input ∷ inputs) d h =
+        cond_both (is_same_kind (kind_of_request request) (kind_of_answer input.answer)) _ _ (λ (c : Course). EndWithin setup.limits position.text depth c.end)
+        (λ fits. limited_used position depth (use_of (address_bits setup) on_answer input.answer s.values) (with_input input s) inputs input.answer d
+        (use_is (address_bits setup) on_answer input.answer s.values) (record { values = h.values; pieces = h.pieces }))
+        (λ other. one_open position depth d)
 
     limited_led : (text : Text) (depth place : ℕ) (inputs : List Input) (next : Next) → IsWithin setup.limits.callers depth → OnNext Kept next → EndWithin setup.limits text depth (after_operation go setup text depth place inputs next).end
     limited_led text depth place inputs (Goes to s) d h = limited text to depth s inputs d h
-    limited_led text depth place inputs (RequestNext request waiting s) d h = limited_asked (record { text = text; place = place }) depth request waiting s inputs d h
+    limited_led text depth place inputs (RequestNext request on_answer s) d h = limited_asked (record { text = text; place = place }) depth request on_answer s inputs d h
     limited_led text depth place inputs (FaultNext fault) d h = tt
 
     limited_does : (text : Text) (depth : ℕ) (s : Store) (inputs : List Input) (r : Result (Operation × List ℕ) Fault) → IsWithin setup.limits.callers depth → Kept s → EndWithin setup.limits text depth (do_operation go setup text depth s inputs r).end
@@ -143,7 +145,7 @@ module _ (setup : Setup) where
 
     limited_counts : (text : Text) (place depth : ℕ) (s : Store) (inputs : List Input) → IsWithin setup.limits.callers depth → Kept s → EndWithin setup.limits text depth (turn_counted go setup text place depth s inputs).end
     limited_counts text place depth s inputs d h =
-        if_both (λ (c : Course). EndWithin setup.limits text depth c.end) (can_count s) _ _
+        cond_both (can_count s) _ _ (λ (c : Course). EndWithin setup.limits text depth c.end)
         (λ can. limited_does text depth (counted s) inputs (read setup text place) d (record { values = h.values; pieces = h.pieces }))
         (λ e. tt)
 
@@ -161,7 +163,7 @@ module _ (setup : Setup) where
 
     limited_turn : Limited (turn go setup)
     limited_turn text place depth s inputs d h =
-        if_both (λ (c : Course). EndWithin setup.limits text depth c.end) (place == length text.bytes) _ _
+        cond_both (place == length text.bytes) _ _ (λ (c : Course). EndWithin setup.limits text depth c.end)
         (λ e. h) (λ e. limited_by text place depth s inputs s.last d h)
 
   limited_run_for : (turns : ℕ) → Limited (run_for turns setup)
@@ -182,13 +184,13 @@ module _ (setup : Setup) where
       completed_within text (Some x) _ (kept_piece _ (record s { values = rest }) (record { values = within_less setup.limits.values _ _ (omega (arith, l)) h.values; pieces = h.pieces }))
 
   located_within : (text : Text) (location : Location) (s : Store) → Kept s → OutcomeWithin setup.limits text (finish_by setup s (Located location))
-  located_within text location s h = if_both (OutcomeWithin setup.limits text) (has_pieces s.pieces) _ _ (λ e. tt) (λ e. completed_within text None _ (kept_piece (whole location) s h))
+  located_within text location s h = cond_both (has_pieces s.pieces) _ _ (OutcomeWithin setup.limits text) (λ e. tt) (λ e. completed_within text None _ (kept_piece (whole location) s h))
 
   judged_within : (text : Text) (s : Store) → Kept s → OutcomeWithin setup.limits text (finish_by setup s Plain)
-  judged_within text s h = if_both (OutcomeWithin setup.limits text) (has_pieces s.pieces) _ _ (λ e. tt) (λ e. value_within text s s.values (omega arith) h)
+  judged_within text s h = cond_both (has_pieces s.pieces) _ _ (OutcomeWithin setup.limits text) (λ e. tt) (λ e. value_within text s s.values (omega arith) h)
 
   free_within : (text : Text) (s : Store) → Kept s → OutcomeWithin setup.limits text (finish_by setup s Nothing)
-  free_within text s h = if_both (OutcomeWithin setup.limits text) (has_pieces s.pieces) _ _ (λ e. h.pieces) (λ e. value_within text s s.values (omega arith) h)
+  free_within text s h = cond_both (has_pieces s.pieces) _ _ (OutcomeWithin setup.limits text) (λ e. h.pieces) (λ e. value_within text s s.values (omega arith) h)
 
   finish_within : (text : Text) (s : Store) (last : Last) → Kept s → OutcomeWithin setup.limits text (finish_by setup s last)
   finish_within text s (Located location) h = located_within text location s h

@@ -1,15 +1,16 @@
 -- Each request takes one input, in order, but the one that stays open.
 use Rattle.std.proofs.Common.{ℕ, zero, suc, ◌≡◌, ◌+◌, List, [], ◌∷◌, ◌++◌, length, Result, Ok, Err, arith, refl, ap, ◌∙◌, sym, ◌==◌, length-append, append_assoc}
+use Rattle.std.proofs.lemmas.Bool.{cond_both}
 use Rattle.dwarf_base.specs.Faults.{Fault}
 use Rattle.dwarf_base.specs.Reads.{Text}
 use Rattle.dwarf_meaning.specs.Operations.{Operation}
 use Rattle.dwarf_meaning.specs.Locations.{Location}
-use Rattle.dwarf_meaning.specs.Requests.{Request, Waiting, Input}
-use Rattle.dwarf_meaning.specs.Acts.{Use, PushesAnswer, Calls, FaultUse, WrongKind, use_of}
+use Rattle.dwarf_meaning.specs.Requests.{Request, OnAnswer, Input}
+use Rattle.dwarf_meaning.specs.Kinds.{kind_of_request, kind_of_answer, is_same_kind}
+use Rattle.dwarf_meaning.specs.Acts.{Use, PushesAnswer, Calls, FaultUse, use_of}
 use Rattle.dwarf_meaning.specs.Stores.{Setup, address_bits, Store, Last, Nothing, Plain, Pieced, Pushed, Called, Located, push_value, push_caller, Next, Goes, RequestNext, FaultNext}
 use Rattle.dwarf_meaning.specs.Run.{Position, End, CompleteEnd, RequestEnd, FaultEnd, Course, only_end, add_request, Continues, return_to_caller, after_push, enter_callee, run_callee, after_answer, with_input, await_answer, after_operation, read, can_count, counted, do_operation, turn_counted, turn_located, turn_by, turn, out_of_turns, run_for, enough, run}
 use Rattle.dwarf_meaning.specs.RunLaws.{Took, EndTook}
-use Rattle.dwarf_meaning.proofs.Choices.{if_both}
 
 abbrev Taking : List Input → Course → Type 0
 Taking inputs course = EndTook inputs course.requests course.end
@@ -77,22 +78,22 @@ module _ (go : Continues) (takes : Takes go) where
   takes_called setup position depth callee [] s inputs = takes position.text position.place depth (record s { last = Called }) inputs
   takes_called setup position depth callee (byte ∷ bytes) s inputs = takes_entered position depth callee inputs (push_caller setup depth s)
 
-  takes_used : (setup : Setup) (position : Position) (depth : ℕ) (request : Request) (input : Input) (u : Use) (s : Store) (inputs : List Input) (unanswered : Course) → Taking (input ∷ inputs) (add_request request unanswered) → Taking (input ∷ inputs) (add_request request (after_answer go setup position depth u s inputs unanswered))
-  takes_used setup position depth request input (PushesAnswer rest value) s inputs unanswered h =
+  takes_used : (setup : Setup) (position : Position) (depth : ℕ) (request : Request) (input : Input) (u : Use) (s : Store) (inputs : List Input) → Taking (input ∷ inputs) (add_request request (after_answer go setup position depth u s inputs))
+  takes_used setup position depth request input (PushesAnswer rest value) s inputs =
       taking_next request input inputs _ _ (takes_resumed position depth inputs (push_value setup value (record s { values = rest; last = Pushed })))
-  takes_used setup position depth request input (Calls callee) s inputs unanswered h = taking_next request input inputs _ _ (takes_called setup position depth callee callee.bytes s inputs)
-  takes_used setup position depth request input (FaultUse fault) s inputs unanswered h = omega arith
-  takes_used setup position depth request input WrongKind s inputs unanswered h = h
+  takes_used setup position depth request input (Calls callee) s inputs = taking_next request input inputs _ _ (takes_called setup position depth callee callee.bytes s inputs)
+  takes_used setup position depth request input (FaultUse fault) s inputs = omega arith
 
-  takes_asked : (setup : Setup) (position : Position) (depth : ℕ) (request : Request) (waiting : Waiting) (s : Store) (inputs : List Input) → Taking inputs (add_request request (await_answer go setup position depth request waiting s inputs))
-  takes_asked setup position depth request waiting s [] = taking_open request position []
-  takes_asked setup position depth request waiting s (input ∷ inputs) =
-      takes_used setup position depth request input (use_of (address_bits setup) waiting input.answer s.values) (with_input input s) inputs (only_end (RequestEnd request (position ∷ []) (input ∷ inputs)))
-      (taking_open request position (input ∷ inputs))
+  takes_asked : (setup : Setup) (position : Position) (depth : ℕ) (request : Request) (on_answer : OnAnswer) (s : Store) (inputs : List Input) → Taking inputs (add_request request (await_answer go setup position depth request on_answer s inputs))
+  takes_asked setup position depth request on_answer s [] = taking_open request position []
+  takes_asked setup position depth request on_answer s (input ∷ inputs) =
+      cond_both (is_same_kind (kind_of_request request) (kind_of_answer input.answer)) _ _ (λ (c : Course). Taking (input ∷ inputs) (add_request request c))
+      (λ fits. takes_used setup position depth request input (use_of (address_bits setup) on_answer input.answer s.values) (with_input input s) inputs)
+      (λ other. taking_open request position (input ∷ inputs))
 
   takes_led : (setup : Setup) (text : Text) (depth place : ℕ) (inputs : List Input) (next : Next) → Taking inputs (after_operation go setup text depth place inputs next)
   takes_led setup text depth place inputs (Goes to s) = takes text to depth s inputs
-  takes_led setup text depth place inputs (RequestNext request waiting s) = takes_asked setup (record { text = text; place = place }) depth request waiting s inputs
+  takes_led setup text depth place inputs (RequestNext request on_answer s) = takes_asked setup (record { text = text; place = place }) depth request on_answer s inputs
   takes_led setup text depth place inputs (FaultNext fault) = omega arith
 
   takes_does : (setup : Setup) (text : Text) (depth : ℕ) (s : Store) (inputs : List Input) (r : Result (Operation × List ℕ) Fault) → Taking inputs (do_operation go setup text depth s inputs r)
@@ -101,7 +102,7 @@ module _ (go : Continues) (takes : Takes go) where
 
   takes_counts : (setup : Setup) (text : Text) (place depth : ℕ) (s : Store) (inputs : List Input) → Taking inputs (turn_counted go setup text place depth s inputs)
   takes_counts setup text place depth s inputs =
-      if_both (Taking inputs) (can_count s) _ _ (λ can. takes_does setup text depth (counted s) inputs (read setup text place)) (λ e. omega arith)
+      cond_both (can_count s) _ _ (Taking inputs) (λ can. takes_does setup text depth (counted s) inputs (read setup text place)) (λ e. omega arith)
 
   takes_held : (setup : Setup) (text : Text) (depth : ℕ) (location : Location) (s : Store) (inputs : List Input) (r : Result (Operation × List ℕ) Fault) → Taking inputs (turn_located go setup text depth location s inputs r)
   takes_held setup text depth location s inputs (Ok x) = takes_led setup text depth _ inputs _
@@ -117,7 +118,7 @@ module _ (go : Continues) (takes : Takes go) where
 
   takes_turn : (setup : Setup) → Takes (turn go setup)
   takes_turn setup text place depth s inputs =
-      if_both (Taking inputs) (place == length text.bytes) _ _
+      cond_both (place == length text.bytes) _ _ (Taking inputs)
       (λ e. record { taken = []; split = refl; one_each = refl })
       (λ e. takes_by setup text place depth s inputs s.last)
 

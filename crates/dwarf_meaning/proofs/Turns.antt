@@ -1,17 +1,18 @@
 -- Enough turns are enough: a run is one turn, and then a run again.
 use Rattle.std.proofs.Common.{ℕ, zero, suc, ◌≡◌, ◌+◌, ◌-◌, ◌*◌, ◌≤◌, ◌<◌, Bool, true, false, List, [], ◌∷◌, length, Result, Ok, Err, arith, ap, ◌∙◌, sym, refl, subst, ◌==◌, cond}
+use Rattle.std.proofs.lemmas.Bool.{cond-false, cond_both}
 use Rattle.std.proofs.lemmas.Bool.Decides.{nat_tests}
 use Rattle.dwarf_base.specs.Faults.{Fault}
 use Rattle.dwarf_base.specs.declared.errors.Error.TheVariants.{TooManyIterations}
 use Rattle.dwarf_base.specs.Reads.{Text}
 use Rattle.dwarf_meaning.specs.Operations.{Operation}
 use Rattle.dwarf_meaning.specs.Locations.{Location}
-use Rattle.dwarf_meaning.specs.Requests.{Request, Waiting, Input}
-use Rattle.dwarf_meaning.specs.Acts.{Use, PushesAnswer, Calls, FaultUse, WrongKind, use_of, act}
+use Rattle.dwarf_meaning.specs.Requests.{Request, OnAnswer, Input}
+use Rattle.dwarf_meaning.specs.Kinds.{kind_of_request, kind_of_answer, is_same_kind}
+use Rattle.dwarf_meaning.specs.Acts.{Use, PushesAnswer, Calls, FaultUse, use_of, act}
 use Rattle.dwarf_meaning.specs.Stores.{Setup, address_bits, Store, Last, Nothing, Plain, Pieced, Pushed, Called, Located, Next, Goes, RequestNext, FaultNext}
 use Rattle.dwarf_meaning.specs.Run.{Position, End, CompleteEnd, RequestEnd, FaultEnd, Course, only_end, add_to_path, add_request, append_course, Continues, return_to_caller, after_push, enter_callee, run_callee, after_answer, with_input, await_answer, after_operation, read, most, can_count, counted, do_operation, turn_counted, piece_ended_by, turn_located, turn_by, turn, out_of_turns, run_for, enough, run}
 use Rattle.dwarf_meaning.specs.RunLaws.{waits_of, turns_left}
-use Rattle.dwarf_meaning.proofs.Choices.{if_false, if_both}
 use Rattle.dwarf_meaning.proofs.Counts.{OnStore, OnNext, Tally, tally_of, HasTally, OnPiece, tally-push_value, tally-push_caller, tally-done, both-holds}
 
 waits_little : (last : Last) → waits_of last ≤ 1
@@ -70,22 +71,24 @@ module _ (go : Continues) (lowers : Lowers go) where
   lowers_called setup position depth callee [] s inputs = lowers_from (room_at s.count) position.text position.place depth _ inputs (left_at (tally_of s) (record s { last = Called }) refl)
   lowers_called setup position depth callee (byte ∷ bytes) s inputs = lowers_entered (tally_of s) position depth callee inputs _ (tally-push_caller setup depth s)
 
-  lowers_used : (setup : Setup) (position : Position) (depth : ℕ) (u : Use) (s : Store) (inputs : List Input) (course : Course) → EndsWithin (room_at s.count) course.end → EndsWithin (room_at s.count) (after_answer go setup position depth u s inputs course).end
-  lowers_used setup position depth (PushesAnswer rest value) s inputs course h = lowers_resumed (tally_of s) position depth inputs _ (tally-push_value setup value (record s { values = rest; last = Pushed }))
-  lowers_used setup position depth (Calls callee) s inputs course h = lowers_called setup position depth callee callee.bytes s inputs
-  lowers_used setup position depth (FaultUse fault) s inputs course h = tt
-  lowers_used setup position depth WrongKind s inputs course h = h
+  lowers_used : (setup : Setup) (position : Position) (depth : ℕ) (u : Use) (s : Store) (inputs : List Input) → EndsWithin (room_at s.count) (after_answer go setup position depth u s inputs).end
+  lowers_used setup position depth (PushesAnswer rest value) s inputs = lowers_resumed (tally_of s) position depth inputs _ (tally-push_value setup value (record s { values = rest; last = Pushed }))
+  lowers_used setup position depth (Calls callee) s inputs = lowers_called setup position depth callee callee.bytes s inputs
+  lowers_used setup position depth (FaultUse fault) s inputs = tt
 
-  lowers_asked : (setup : Setup) (position : Position) (depth : ℕ) (request : Request) (waiting : Waiting) (s : Store) (inputs : List Input) → EndsWithin (room_at s.count) (await_answer go setup position depth request waiting s inputs).end
-  lowers_asked setup position depth request waiting s [] = tt
-  lowers_asked setup position depth request waiting s (input ∷ inputs) = lowers_used setup position depth (use_of (address_bits setup) waiting input.answer s.values) (with_input input s) inputs (only_end (RequestEnd request (position ∷ []) (input ∷ inputs))) tt
+  lowers_asked : (setup : Setup) (position : Position) (depth : ℕ) (request : Request) (on_answer : OnAnswer) (s : Store) (inputs : List Input) → EndsWithin (room_at s.count) (await_answer go setup position depth request on_answer s inputs).end
+  lowers_asked setup position depth request on_answer s [] = tt
+  lowers_asked setup position depth request on_answer s (input ∷ inputs) =
+      cond_both (is_same_kind (kind_of_request request) (kind_of_answer input.answer)) _ _ (λ (c : Course). EndsWithin (room_at s.count) c.end)
+      (λ fits. lowers_used setup position depth (use_of (address_bits setup) on_answer input.answer s.values) (with_input input s) inputs)
+      (λ other. tt)
 
   -- from where n operations are counted
   lowers_led : (setup : Setup) (text : Text) (depth place : ℕ) (inputs : List Input) (n : Tally) (next : Next) → OnNext (HasTally n) next → EndsWithin (room_at n.count) (after_operation go setup text depth place inputs next).end
   lowers_led setup text depth place inputs n (Goes to s) h = lowers_from (room_at n.count) text to depth s inputs (left_at n s h)
-  lowers_led setup text depth place inputs n (RequestNext request waiting s) h =
-      subst (λ (k : Tally). EndsWithin (room_at k.count) (await_answer go setup (record { text = text; place = place }) depth request waiting s inputs).end) h
-      (lowers_asked setup (record { text = text; place = place }) depth request waiting s inputs)
+  lowers_led setup text depth place inputs n (RequestNext request on_answer s) h =
+      subst (λ (k : Tally). EndsWithin (room_at k.count) (await_answer go setup (record { text = text; place = place }) depth request on_answer s inputs).end) h
+      (lowers_asked setup (record { text = text; place = place }) depth request on_answer s inputs)
   lowers_led setup text depth place inputs n (FaultNext fault) h = tt
 
   lowers_does : (setup : Setup) (text : Text) (depth : ℕ) (s : Store) (inputs : List Input) (r : Result (Operation × List ℕ) Fault) → EndsWithin (room_at s.count) (do_operation go setup text depth s inputs r).end
@@ -94,7 +97,7 @@ module _ (go : Continues) (lowers : Lowers go) where
 
   lowers_counts : (setup : Setup) (text : Text) (place depth : ℕ) (s : Store) (inputs : List Input) → EndsWithin (turns_left s) (turn_counted go setup text place depth s inputs).end
   lowers_counts setup text place depth s inputs =
-      if_both (λ (c : Course). EndsWithin (turns_left s) c.end) (can_count s) _ _
+      cond_both (can_count s) _ _ (λ (c : Course). EndsWithin (turns_left s) c.end)
       (λ can. let below = below_most s can in ends_more (room_at (s.count + 1)) (turns_left s) _ (omega arith) (lowers_does setup text depth (counted s) inputs (read setup text place)))
       (λ e. tt)
 
@@ -104,7 +107,7 @@ module _ (go : Continues) (lowers : Lowers go) where
       let none : waits_of s.last ≡ 0 = ap waits_of h.last in
       let count : s.count ≡ n.count = ap (λ (k : Tally). k.count) h.tally in
       lowers_from m text to depth s inputs (omega (arith, count, none, i))
-  lowers_piece setup text depth place inputs n (RequestNext request waiting s) h m i = absurd h
+  lowers_piece setup text depth place inputs n (RequestNext request on_answer s) h m i = absurd h
   lowers_piece setup text depth place inputs n (FaultNext fault) h m i = tt
 
   lowers_held : (setup : Setup) (text : Text) (depth : ℕ) (location : Location) (s : Store) (inputs : List Input) (r : Result (Operation × List ℕ) Fault) (m : ℕ) → 2 * (most - s.count) ≤ m → EndsWithin m (turn_located go setup text depth location s inputs r).end
@@ -121,7 +124,7 @@ module _ (go : Continues) (lowers : Lowers go) where
 
   pub lowers_turn : (setup : Setup) → Lowers (turn go setup)
   lowers_turn setup text place depth s inputs =
-      if_both (λ (c : Course). EndsWithin (turns_left s) c.end) (place == length text.bytes) _ _ (λ e. omega arith) (λ e. lowers_by setup text place depth s inputs s.last refl)
+      cond_both (place == length text.bytes) _ _ (λ (c : Course). EndsWithin (turns_left s) c.end) (λ e. omega arith) (λ e. lowers_by setup text place depth s inputs s.last refl)
 
 pub lowers_run : (turns : ℕ) (setup : Setup) → Lowers (run_for turns setup)
 unfolding run_for
@@ -155,21 +158,22 @@ module _ (go other : Continues) (m : ℕ) (alike : Alike m go other) (lowers : L
       alike position.text position.place depth (record s { last = Called }) inputs (omega (arith, left_at (tally_of s) (record s { last = Called }) refl, i))
   alike_called setup position depth callee (byte ∷ bytes) s inputs i = alike_entered (tally_of s) position depth callee inputs _ (tally-push_caller setup depth s) i
 
-  alike_used : (setup : Setup) (position : Position) (depth : ℕ) (u : Use) (s : Store) (inputs : List Input) (course : Course) → room_at s.count ≤ m → after_answer go setup position depth u s inputs course ≡ after_answer other setup position depth u s inputs course
-  alike_used setup position depth (PushesAnswer rest value) s inputs course i = alike_resumed (tally_of s) position depth inputs _ (tally-push_value setup value (record s { values = rest; last = Pushed })) i
-  alike_used setup position depth (Calls callee) s inputs course i = alike_called setup position depth callee callee.bytes s inputs i
-  alike_used setup position depth (FaultUse fault) s inputs course i = refl
-  alike_used setup position depth WrongKind s inputs course i = refl
+  alike_used : (setup : Setup) (position : Position) (depth : ℕ) (u : Use) (s : Store) (inputs : List Input) → room_at s.count ≤ m → after_answer go setup position depth u s inputs ≡ after_answer other setup position depth u s inputs
+  alike_used setup position depth (PushesAnswer rest value) s inputs i = alike_resumed (tally_of s) position depth inputs _ (tally-push_value setup value (record s { values = rest; last = Pushed })) i
+  alike_used setup position depth (Calls callee) s inputs i = alike_called setup position depth callee callee.bytes s inputs i
+  alike_used setup position depth (FaultUse fault) s inputs i = refl
 
-  alike_asked : (setup : Setup) (position : Position) (depth : ℕ) (request : Request) (waiting : Waiting) (s : Store) (inputs : List Input) → room_at s.count ≤ m → await_answer go setup position depth request waiting s inputs ≡ await_answer other setup position depth request waiting s inputs
-  alike_asked setup position depth request waiting s [] i = refl
-  alike_asked setup position depth request waiting s (input ∷ inputs) i = alike_used setup position depth (use_of (address_bits setup) waiting input.answer s.values) (with_input input s) inputs (only_end (RequestEnd request (position ∷ []) (input ∷ inputs))) i
+  alike_asked : (setup : Setup) (position : Position) (depth : ℕ) (request : Request) (on_answer : OnAnswer) (s : Store) (inputs : List Input) → room_at s.count ≤ m → await_answer go setup position depth request on_answer s inputs ≡ await_answer other setup position depth request on_answer s inputs
+  alike_asked setup position depth request on_answer s [] i = refl
+  alike_asked setup position depth request on_answer s (input ∷ inputs) i =
+      ap (λ (c : Course). cond (is_same_kind (kind_of_request request) (kind_of_answer input.answer)) c (only_end (RequestEnd request (position ∷ []) (input ∷ inputs))))
+      (alike_used setup position depth (use_of (address_bits setup) on_answer input.answer s.values) (with_input input s) inputs i)
 
   alike_led : (setup : Setup) (text : Text) (depth place : ℕ) (inputs : List Input) (n : Tally) (next : Next) → OnNext (HasTally n) next → room_at n.count ≤ m → after_operation go setup text depth place inputs next ≡ after_operation other setup text depth place inputs next
   alike_led setup text depth place inputs n (Goes to s) h i = alike text to depth s inputs (omega (arith, left_at n s h, i))
-  alike_led setup text depth place inputs n (RequestNext request waiting s) h i =
+  alike_led setup text depth place inputs n (RequestNext request on_answer s) h i =
       let count : s.count ≡ n.count = ap (λ (k : Tally). k.count) h in
-      ap (add_request request) (alike_asked setup (record { text = text; place = place }) depth request waiting s inputs (omega (arith, count, i)))
+      ap (add_request request) (alike_asked setup (record { text = text; place = place }) depth request on_answer s inputs (omega (arith, count, i)))
   alike_led setup text depth place inputs n (FaultNext fault) h i = refl
 
   alike_does : (setup : Setup) (text : Text) (depth : ℕ) (s : Store) (inputs : List Input) (r : Result (Operation × List ℕ) Fault) → room_at s.count ≤ m → do_operation go setup text depth s inputs r ≡ do_operation other setup text depth s inputs r
@@ -192,7 +196,7 @@ module _ (go other : Continues) (m : ℕ) (alike : Alike m go other) (lowers : L
       let none : waits_of s.last ≡ 0 = ap waits_of h.last in
       let count : s.count ≡ n.count = ap (λ (k : Tally). k.count) h.tally in
       alike text to depth s inputs (omega (arith, count, none, i))
-  alike_piece setup text depth place inputs n (RequestNext request waiting s) h i = absurd h
+  alike_piece setup text depth place inputs n (RequestNext request on_answer s) h i = absurd h
   alike_piece setup text depth place inputs n (FaultNext fault) h i = refl
 
   alike_held : (setup : Setup) (text : Text) (depth : ℕ) (location : Location) (s : Store) (inputs : List Input) (r : Result (Operation × List ℕ) Fault) → 2 * (most - s.count) ≤ m → turn_located go setup text depth location s inputs r ≡ turn_located other setup text depth location s inputs r
@@ -216,7 +220,7 @@ module _ (go other : Continues) where
   counted_out_of_turns : (setup : Setup) (text : Text) (place depth : ℕ) (s : Store) (inputs : List Input) → turns_left s ≤ 0 → turn_counted go setup text place depth s inputs ≡ turn_counted other setup text place depth s inputs
   counted_out_of_turns setup text place depth s inputs h =
       let no : can_count s ≡ false = grind (arith, nat_tests) in
-      if_false (can_count s) _ _ no ∙ sym (if_false (can_count s) _ _ no)
+      cond-false (can_count s) _ _ no ∙ sym (cond-false (can_count s) _ _ no)
 
   turn_by_out_of_turns : (setup : Setup) (text : Text) (place depth : ℕ) (s : Store) (inputs : List Input) (last : Last) → waits_of s.last ≡ waits_of last → turns_left s ≤ 0 → turn_by go setup text place depth s inputs last ≡ turn_by other setup text place depth s inputs last
   turn_by_out_of_turns setup text place depth s inputs (Located location) e h = absurd (omega (arith, e, h))

@@ -11,7 +11,7 @@ use Rattle.dwarf_value.specs.Values.{type_of, to_u64_of, from_u64_of, abs_of, ne
 use Rattle.dwarf_meaning.specs.Operations as operation
 use Rattle.dwarf_meaning.specs.Operations.{Operation}
 use Rattle.dwarf_meaning.specs.Locations.{Location, Empty, InRegister, AtAddress, HoldsValue, HoldsBytes, PointsInto, Piece, sized}
-use Rattle.dwarf_meaning.specs.Requests.{Request, RequiresMemory, RequiresRegister, RequiresWasmLocal, RequiresWasmGlobal, RequiresWasmStack, RequiresFrameBase, RequiresTls, RequiresCallFrameCfa, RequiresAtLocation, RequiresEntryValue, RequiresParameterRef, RequiresRelocatedAddress, RequiresIndexedAddress, RequiresBaseType, Waiting, Memory, Register, WasmValue, EntryValue, FrameBase, Tls, CallFrameCfa, ParameterRef, RelocatedAddress, IndexedAddress, AtLocation, TypedLiteral, Convert, Reinterpret, Answer, MemoryAnswer, RegisterAnswer, WasmAnswer, EntryAnswer, FrameBaseAnswer, TlsAnswer, CfaAnswer, ParameterAnswer, RelocatedAnswer, IndexedAnswer, LocationAnswer, BaseTypeAnswer}
+use Rattle.dwarf_meaning.specs.Requests.{Request, RequiresMemory, RequiresRegister, RequiresWasmLocal, RequiresWasmGlobal, RequiresWasmStack, RequiresFrameBase, RequiresTls, RequiresCallFrameCfa, RequiresAtLocation, RequiresEntryValue, RequiresParameterRef, RequiresRelocatedAddress, RequiresIndexedAddress, RequiresBaseType, OnAnswer, Push, Add, Parse, Convert, Reinterpret, Answer, ValueAnswer, NumberAnswer, LocationAnswer, BaseTypeAnswer}
 
 -- What an operation does: `rest` are the values that it leaves of the stack, the top first.
 pub data Act : Type 0 where
@@ -24,7 +24,7 @@ pub data Act : Type 0 where
   -- a piece is ended
   EndsPiece : (rest : List Value) (piece : Piece) → Act
   -- something is asked
-  RequestAct : (rest : List Value) (request : Request) (waiting : Waiting) → Act
+  RequestAct : (rest : List Value) (request : Request) (on_answer : OnAnswer) → Act
   FaultAct : (fault : Fault) → Act
 
 -- ---- words for the tables below
@@ -113,29 +113,29 @@ module _ (bits : ℕ) (object : Option ℕ) where
   act (operation.Deref base_type size false) values =
       if nat_lt bits (8 * size) then FaultAct (InvalidDerefSize size)
       else on_top values short (λ x rest.
-      RequestAct rest (RequiresMemory (to_u64_of bits x) size None base_type) Memory)
+      RequestAct rest (RequiresMemory (to_u64_of bits x) size None base_type) Push)
   act (operation.Deref base_type size true) values =
       if nat_lt bits (8 * size) then FaultAct (InvalidDerefSize size)
       else on_top values short (λ x below. on_top below short (λ y rest.
-      RequestAct rest (RequiresMemory (to_u64_of bits x) size (Some (to_u64_of bits y)) base_type) Memory))
+      RequestAct rest (RequiresMemory (to_u64_of bits x) size (Some (to_u64_of bits y)) base_type) Push))
   act (operation.RegisterOffset register offset base_type) values =
-      RequestAct values (RequiresRegister register base_type) (Register offset)
-  act (operation.FrameOffset offset) values = RequestAct values RequiresFrameBase (FrameBase offset)
-  act operation.TLS values = on_top values short (λ x rest. RequestAct rest (RequiresTls (to_u64_of bits x)) Tls)
-  act operation.CallFrameCFA values = RequestAct values RequiresCallFrameCfa CallFrameCfa
-  act (operation.Call offset) values = RequestAct values (RequiresAtLocation offset) AtLocation
-  act (operation.EntryValue expression) values = RequestAct values (RequiresEntryValue expression) EntryValue
-  act (operation.ParameterRef offset) values = RequestAct values (RequiresParameterRef offset) ParameterRef
-  act (operation.Address address) values = RequestAct values (RequiresRelocatedAddress address) RelocatedAddress
-  act (operation.AddressIndex index) values = RequestAct values (RequiresIndexedAddress index true) IndexedAddress
-  act (operation.ConstantIndex index) values = RequestAct values (RequiresIndexedAddress index false) IndexedAddress
+      RequestAct values (RequiresRegister register base_type) (Add offset)
+  act (operation.FrameOffset offset) values = RequestAct values RequiresFrameBase (Add offset)
+  act operation.TLS values = on_top values short (λ x rest. RequestAct rest (RequiresTls (to_u64_of bits x)) Push)
+  act operation.CallFrameCFA values = RequestAct values RequiresCallFrameCfa Push
+  act (operation.Call offset) values = RequestAct values (RequiresAtLocation offset) Push
+  act (operation.EntryValue expression) values = RequestAct values (RequiresEntryValue expression) Push
+  act (operation.ParameterRef offset) values = RequestAct values (RequiresParameterRef offset) Push
+  act (operation.Address address) values = RequestAct values (RequiresRelocatedAddress address) Push
+  act (operation.AddressIndex index) values = RequestAct values (RequiresIndexedAddress index true) Push
+  act (operation.ConstantIndex index) values = RequestAct values (RequiresIndexedAddress index false) Push
   act (operation.TypedLiteral base_type value) values =
-      RequestAct values (RequiresBaseType base_type) (TypedLiteral value)
+      RequestAct values (RequiresBaseType base_type) (Parse value)
   act (operation.Convert base_type) values = RequestAct values (RequiresBaseType base_type) Convert
   act (operation.Reinterpret base_type) values = RequestAct values (RequiresBaseType base_type) Reinterpret
-  act (operation.WasmLocal index) values = RequestAct values (RequiresWasmLocal index) WasmValue
-  act (operation.WasmGlobal index) values = RequestAct values (RequiresWasmGlobal index) WasmValue
-  act (operation.WasmStack index) values = RequestAct values (RequiresWasmStack index) WasmValue
+  act (operation.WasmLocal index) values = RequestAct values (RequiresWasmLocal index) Push
+  act (operation.WasmGlobal index) values = RequestAct values (RequiresWasmGlobal index) Push
+  act (operation.WasmStack index) values = RequestAct values (RequiresWasmStack index) Push
   act (operation.Register register) values = Locates values (InRegister register)
   act (operation.ImplicitValue bytes) values = Locates values (HoldsBytes bytes)
   act operation.StackValue values = on_top values short (λ x rest. Locates rest (HoldsValue x))
@@ -146,37 +146,30 @@ module _ (bits : ℕ) (object : Option ℕ) where
 
 -- ---- what is done with an answer
 
--- what is done with an answer
+-- what an answer is used for
 pub data Use : Type 0 where
   -- a value is pushed on the rest of the stack
   PushesAnswer : (rest : List Value) (value : Value) → Use
   -- a text is run in the call's place
   Calls : (text : Text) → Use
   FaultUse : (fault : Fault) → Use
-  -- the answer isn't of the kind that is waited for
-  WrongKind : Use
+
+-- the top becomes the result of a call on it
+abbrev pub turn_top : (Value → Result Value Error) → List Value → Use
+turn_top call values = on_top values (FaultUse NotEnoughStackItems)
+    (λ x rest. on_result (result_of (call x)) FaultUse (PushesAnswer rest))
 
 module _ (bits : ℕ) where
-  -- What an answer is used for, by what waits for it; the values are those on the stack. An answer of another kind
-  -- isn't used.
-  unfoldable pub use_of : Waiting → Answer → List Value → Use
-  use_of Memory (MemoryAnswer value) values = PushesAnswer values value
-  use_of (Register offset) (RegisterAnswer x) values =
+  -- what an answer is used for, by what is done with it; the values are those on the stack
+  unfoldable pub use_of : OnAnswer → Answer → List Value → Use
+  use_of (Add offset) (ValueAnswer kind x) values =
       on_result (result_of (add_of bits x (from_u64_of (type_of x) (residue 64 offset)))) FaultUse (PushesAnswer values)
-  use_of WasmValue (WasmAnswer value) values = PushesAnswer values value
-  use_of EntryValue (EntryAnswer value) values = PushesAnswer values value
-  use_of (FrameBase offset) (FrameBaseAnswer number) values =
+  use_of _ (ValueAnswer kind value) values = PushesAnswer values value
+  use_of (Add offset) (NumberAnswer kind number) values =
       PushesAnswer values (Generic (residue 64 (pos number +ℤ offset)))
-  use_of Tls (TlsAnswer number) values = PushesAnswer values (Generic number)
-  use_of CallFrameCfa (CfaAnswer number) values = PushesAnswer values (Generic number)
-  use_of ParameterRef (ParameterAnswer number) values = PushesAnswer values (Generic number)
-  use_of RelocatedAddress (RelocatedAnswer number) values = PushesAnswer values (Generic number)
-  use_of IndexedAddress (IndexedAnswer number) values = PushesAnswer values (Generic number)
-  use_of AtLocation (LocationAnswer text) values = Calls text
-  use_of (TypedLiteral literal) (BaseTypeAnswer value_type) values =
+  use_of _ (NumberAnswer kind number) values = PushesAnswer values (Generic number)
+  use_of _ (LocationAnswer text) values = Calls text
+  use_of (Parse literal) (BaseTypeAnswer value_type) values =
       on_result (parse_of value_type literal.is_big literal.bytes) FaultUse (PushesAnswer values)
-  use_of Convert (BaseTypeAnswer value_type) values = on_top values (FaultUse NotEnoughStackItems)
-      (λ x rest. on_result (result_of (convert_of bits value_type x)) FaultUse (PushesAnswer rest))
-  use_of Reinterpret (BaseTypeAnswer value_type) values = on_top values (FaultUse NotEnoughStackItems)
-      (λ x rest. on_result (result_of (reinterpret_of bits value_type x)) FaultUse (PushesAnswer rest))
-  use_of _ _ values = WrongKind
+  use_of Convert (BaseTypeAnswer value_type) values = turn_top (convert_of bits value_type) values
+  use_of _ (BaseTypeAnswer value_type) values = turn_top (reinterpret_of bits value_type) values

@@ -20,7 +20,7 @@ initial_due _ = 0
 
 -- 1 if an answer is still to come: a value, or a called text and its caller
 abbrev pub answer_due : Status → ℕ
-answer_due (RequestStatus request waiting) = 1
+answer_due (RequestStatus request on_answer) = 1
 answer_due _ = 0
 
 -- how many items the three lists hold together, with those that are due

@@ -4,6 +4,7 @@ use Rattle.dwarf_base.specs.Reads.{Text}
 use Rattle.dwarf_value.specs.declared.types.Value.{Value}
 use Rattle.dwarf_value.specs.declared.types.ValueType.{ValueType}
 use Rattle.dwarf_meaning.specs.Operations.{DieReference}
+use Rattle.dwarf_meaning.specs.declared.kinds.WaitingKind.{WaitingKind}
 
 -- what is asked
 pub data Request : Type 0 where
@@ -22,35 +23,22 @@ pub data Request : Type 0 where
   RequiresIndexedAddress : (index : ℕ) (relocate : Bool) → Request
   RequiresBaseType : (base_type : ℕ) → Request
 
--- What an open request keeps: which answer it waits for, and what is to be done with it.
-pub data Waiting : Type 0 where
-  Memory : Waiting
-  Register : (offset : ℤ) → Waiting
-  WasmValue : Waiting
-  EntryValue : Waiting
-  FrameBase : (offset : ℤ) → Waiting
-  Tls : Waiting
-  CallFrameCfa : Waiting
-  ParameterRef : Waiting
-  RelocatedAddress : Waiting
-  IndexedAddress : Waiting
-  AtLocation : Waiting
-  TypedLiteral : (value : Text) → Waiting
-  Convert : Waiting
-  Reinterpret : Waiting
+-- what is done with the answer to a request
+pub data OnAnswer : Type 0 where
+  -- a value or a number is pushed as it is, and a text is run
+  Push : OnAnswer
+  -- the sum with this offset is pushed
+  Add : (offset : ℤ) → OnAnswer
+  -- these bytes are pushed as a value of the type
+  Parse : (literal : Text) → OnAnswer
+  -- the top becomes a value of the type: by its number, or by its bits
+  Convert : OnAnswer
+  Reinterpret : OnAnswer
 
--- an answer of each kind
+-- an answer: a value or a number of the kind that was asked for, a text, or a type
 pub data Answer : Type 0 where
-  MemoryAnswer : (value : Value) → Answer
-  RegisterAnswer : (value : Value) → Answer
-  WasmAnswer : (value : Value) → Answer
-  EntryAnswer : (value : Value) → Answer
-  FrameBaseAnswer : (number : ℕ) → Answer
-  TlsAnswer : (number : ℕ) → Answer
-  CfaAnswer : (number : ℕ) → Answer
-  ParameterAnswer : (number : ℕ) → Answer
-  RelocatedAnswer : (number : ℕ) → Answer
-  IndexedAnswer : (number : ℕ) → Answer
+  ValueAnswer : (kind : WaitingKind) (value : Value) → Answer
+  NumberAnswer : (kind : WaitingKind) (number : ℕ) → Answer
   LocationAnswer : (text : Text) → Answer
   BaseTypeAnswer : (value_type : ValueType) → Answer
 

@@ -4,7 +4,7 @@ use Rattle.dwarf_base.specs.declared.errors.Error.{Error}
 use Rattle.dwarf_base.specs.Faults.{fault_of}
 use Rattle.dwarf_base.specs.Reads.{Text}
 use Rattle.dwarf_value.specs.declared.types.Value.{Value}
-use Rattle.dwarf_meaning.specs.Requests.{Request, Waiting, Input}
+use Rattle.dwarf_meaning.specs.Requests.{Request, OnAnswer, Input}
 use Rattle.dwarf_meaning.specs.Stores.{Setup, Store}
 use Rattle.dwarf_meaning.specs.Run.{Position, Course, after_push, await_answer, run, return_to_callers}
 use Rattle.dwarf_meaning.specs.Meaning.{Outcome, FaultOutcome, CompleteOutcome, outcome_of_end, with_initial}
@@ -14,7 +14,7 @@ use Rattle.dwarf_meaning.specs.Refusals.{Refusal, before_input}
 pub data Status : Type 0 where
   Start : (initial_value : Option ℕ) → Status
   Running : Status
-  RequestStatus : Request → Waiting → Status
+  RequestStatus : Request → OnAnswer → Status
   CompleteStatus : (value : Option Value) → Status
   FaultStatus : Error → Status
 
@@ -54,9 +54,9 @@ total_by x s inputs (Start initial_value) =
     (with_initial x.setup initial_value s))
 total_by x s inputs Running =
     total_of_course x.store.count x.setup x.callers (run x.setup x.text x.place (length x.callers) s inputs)
-total_by x s inputs (RequestStatus request waiting) =
+total_by x s inputs (RequestStatus request on_answer) =
     total_of_course x.store.count x.setup x.callers
-    (await_answer (run x.setup) x.setup (record { text = x.text; place = x.place }) (length x.callers) request waiting s
+    (await_answer (run x.setup) x.setup (record { text = x.text; place = x.place }) (length x.callers) request on_answer s
     inputs)
 total_by x s inputs (CompleteStatus value) = record { outcome = CompleteOutcome s.pieces value; count = x.store.count }
 total_by x s inputs (FaultStatus error) = record { outcome = FaultOutcome (fault_of error); count = x.store.count }

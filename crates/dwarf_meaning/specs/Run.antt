@@ -7,8 +7,9 @@ use Rattle.dwarf_meaning.specs.Operations as operation
 use Rattle.dwarf_meaning.specs.Operations.{Operation}
 use Rattle.dwarf_meaning.specs.Locations.{Location, sized}
 use Rattle.dwarf_meaning.specs.Decoding.{operation_at}
-use Rattle.dwarf_meaning.specs.Requests.{Request, Waiting, Input}
-use Rattle.dwarf_meaning.specs.Acts.{act, Use, PushesAnswer, Calls, FaultUse, WrongKind, use_of}
+use Rattle.dwarf_meaning.specs.Requests.{Request, OnAnswer, Input}
+use Rattle.dwarf_meaning.specs.Kinds.{kind_of_request, kind_of_answer, is_same_kind}
+use Rattle.dwarf_meaning.specs.Acts.{act, Use, PushesAnswer, Calls, FaultUse, use_of}
 use Rattle.dwarf_meaning.specs.Stores.{Setup, address_bits, Store, Last, Pieced, Pushed, Called, Located, push_value, push_piece, push_caller, Next, Goes, RequestNext, FaultNext, goes, done}
 use Rattle.dwarf_meaning.specs.Refusals.{taken}
 
@@ -113,26 +114,26 @@ module _ (go : Continues) where
       run_callee callee (byte ∷ bytes) s inputs = enter_callee position depth callee inputs (push_caller setup depth s)
 
       -- what an answer is used for
-      abbrev pub after_answer : Use → Store → List Input → Course → Course
-      after_answer (PushesAnswer rest value) s inputs unanswered =
+      abbrev pub after_answer : Use → Store → List Input → Course
+      after_answer (PushesAnswer rest value) s inputs =
           after_push position depth inputs (push_value setup value (record s { values = rest; last = Pushed }))
-      after_answer (Calls callee) s inputs unanswered = run_callee callee callee.bytes s inputs
-      after_answer (FaultUse fault) s inputs unanswered = only_end (FaultEnd fault)
-      after_answer WrongKind s inputs unanswered = unanswered
+      after_answer (Calls callee) s inputs = run_callee callee callee.bytes s inputs
+      after_answer (FaultUse fault) s inputs = only_end (FaultEnd fault)
 
       -- a request takes the next input; it stays open if there is none, or none of its kind
-      abbrev pub await_answer : Request → Waiting → Store → List Input → Course
-      await_answer request waiting s [] = only_end (RequestEnd request (position ∷ []) [])
-      await_answer request waiting s (input ∷ inputs) =
-          after_answer (use_of (address_bits setup) waiting input.answer s.values) (with_input input s) inputs
-          (only_end (RequestEnd request (position ∷ []) (input ∷ inputs)))
+      abbrev pub await_answer : Request → OnAnswer → Store → List Input → Course
+      await_answer request on_answer s [] = only_end (RequestEnd request (position ∷ []) [])
+      await_answer request on_answer s (input ∷ inputs) =
+          if is_same_kind (kind_of_request request) (kind_of_answer input.answer)
+          then after_answer (use_of (address_bits setup) on_answer input.answer s.values) (with_input input s) inputs
+          else only_end (RequestEnd request (position ∷ []) (input ∷ inputs))
 
     module _ (text : Text) where
       -- on at the place that an operation led to, or by the answer to its request
       abbrev pub after_operation : (depth place : ℕ) → List Input → Next → Course
       after_operation depth place inputs (Goes to s) = go text to depth s inputs
-      after_operation depth place inputs (RequestNext request waiting s) =
-          add_request request (await_answer (record { text = text; place = place }) depth request waiting s inputs)
+      after_operation depth place inputs (RequestNext request on_answer s) =
+          add_request request (await_answer (record { text = text; place = place }) depth request on_answer s inputs)
       after_operation depth place inputs (FaultNext fault) = only_end (FaultEnd fault)
 
       -- the operation that was read is done

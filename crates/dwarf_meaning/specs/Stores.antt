@@ -7,7 +7,7 @@ use Rattle.dwarf_base.specs.declared.errors.Error.TheVariants.{BadBranchTarget}
 use Rattle.dwarf_base.specs.Numbers.{residue}
 use Rattle.dwarf_value.specs.declared.types.Value.{Value}
 use Rattle.dwarf_meaning.specs.Locations.{Location, Piece}
-use Rattle.dwarf_meaning.specs.Requests.{Request, Waiting}
+use Rattle.dwarf_meaning.specs.Requests.{Request, OnAnswer}
 use Rattle.dwarf_meaning.specs.Acts.{Act, Pushes, Branches, Locates, EndsPiece, RequestAct, FaultAct}
 use Rattle.dwarf_meaning.specs.Refusals.{Limits, Refusal, room}
 
@@ -88,7 +88,7 @@ module _ (setup : Setup) where
 -- what an operation leads to: a place of its text, a request, or a fault
 pub data Next : Type 0 where
   Goes : (place : ℕ) → Store → Next
-  RequestNext : Request → Waiting → Store → Next
+  RequestNext : Request → OnAnswer → Store → Next
   FaultNext : Fault → Next
 
 -- on at this place, if the pushes found room
@@ -112,5 +112,5 @@ module _ (setup : Setup) (place len : ℕ) where
       branch len (branch_target setup place target) (record s { values = rest; last = Plain })
   done (Locates rest location) s = Goes place (record s { values = rest; last = Located location })
   done (EndsPiece rest piece) s = goes place (push_piece setup piece (record s { values = rest; last = Pieced }))
-  done (RequestAct rest request waiting) s = RequestNext request waiting (record s { values = rest })
+  done (RequestAct rest request on_answer) s = RequestNext request on_answer (record s { values = rest })
   done (FaultAct fault) s = FaultNext fault

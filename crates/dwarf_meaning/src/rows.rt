@@ -4,7 +4,8 @@ ghost use Rattle.dwarf_value.specs.declared.types.Value.TheVariants.{Generic};
 ghost use Rattle.dwarf_meaning.specs.Operations.{UnitRef};
 ghost use Rattle.dwarf_meaning.specs.Locations.{InRegister, AtAddress};
 ghost use Rattle.dwarf_meaning.specs.Stores.{Store, Goes, FaultNext, branch, branch_target};
-ghost use Rattle.dwarf_meaning.specs.Requests.{RequiresCallFrameCfa, RequiresAtLocation, RequiresRelocatedAddress, RegisterAnswer, CfaAnswer, RelocatedAnswer};
+ghost use Rattle.dwarf_meaning.specs.declared.kinds.WaitingKind.TheVariants as kind;
+ghost use Rattle.dwarf_meaning.specs.Requests.{RequiresCallFrameCfa, RequiresAtLocation, RequiresRelocatedAddress, ValueAnswer, NumberAnswer};
 ghost use Rattle.dwarf_meaning.specs.Refusals.{Never, After};
 ghost use Rattle.dwarf_meaning.specs.Meaning.{RequestOutcome, FaultOutcome, meaning};
 ghost use Rattle.dwarf_meaning.specs.Rows.{text, no_limits, with_limits, plain, at_most, unset, given, calls, open_at, word_at, valued, pieced};
@@ -81,9 +82,9 @@ pub fn worked_rows()
         (open_at (0x31 ∷ 0x93 ∷ 0x04 ∷ 0x03 ∷ 0x10 ∷ 0x00 ∷ 0x00 ∷ 0x00 ∷ []) 8 ∷ []) }
     ensures address_after_piece { meaning plain Never
         (text (0x31 ∷ 0x93 ∷ 0x04 ∷ 0x03 ∷ 0x10 ∷ 0x00 ∷ 0x00 ∷ 0x00 ∷ [])) unset
-        (given unset (RelocatedAnswer 0x10 ∷ [])) ≡ FaultOutcome InvalidPiece }
+        (given unset (NumberAnswer kind.RelocatedAddress 0x10 ∷ [])) ≡ FaultOutcome InvalidPiece }
     ensures frame_address_after_piece { meaning plain Never (text (0x31 ∷ 0x93 ∷ 0x04 ∷ 0x9c ∷ []))
-        unset (given unset (CfaAnswer 1 ∷ [])) ≡ FaultOutcome InvalidPiece }
+        unset (given unset (NumberAnswer kind.CallFrameCfa 1 ∷ [])) ≡ FaultOutcome InvalidPiece }
     ensures call_of_nothing_after_piece { meaning plain Never
         (text (0x31 ∷ 0x93 ∷ 0x04 ∷ 0x98 ∷ 0x05 ∷ 0x00 ∷ [])) unset (given unset (calls [] ∷ []))
         ≡ pieced (word_at (AtAddress 1) ∷ []) }
@@ -92,19 +93,19 @@ pub fn worked_rows()
         (given unset (calls (0x96 ∷ []) ∷ [])) ≡ FaultOutcome InvalidPiece }
     ensures called_frame_address_after_piece { meaning plain Never
         (text (0x31 ∷ 0x93 ∷ 0x04 ∷ 0x98 ∷ 0x05 ∷ 0x00 ∷ [])) unset
-        (given unset (calls (0x9c ∷ []) ∷ CfaAnswer 1 ∷ [])) ≡ FaultOutcome InvalidPiece }
+        (given unset (calls (0x9c ∷ []) ∷ NumberAnswer kind.CallFrameCfa 1 ∷ [])) ≡ FaultOutcome InvalidPiece }
     ensures call_of_nothing_last { meaning plain Never
         (text (0x31 ∷ 0x93 ∷ 0x04 ∷ 0x9c ∷ 0x98 ∷ 0x05 ∷ 0x00 ∷ [])) unset
-        (given unset (CfaAnswer 1 ∷ calls [] ∷ [])) ≡ pieced (word_at (AtAddress 1) ∷ []) }
+        (given unset (NumberAnswer kind.CallFrameCfa 1 ∷ calls [] ∷ [])) ≡ pieced (word_at (AtAddress 1) ∷ []) }
     ensures piece_last { meaning plain Never (text (0x31 ∷ 0x93 ∷ 0x04 ∷ 0x9c ∷ 0x93 ∷ 0x04 ∷ []))
-        unset (given unset (CfaAnswer 2 ∷ []))
+        unset (given unset (NumberAnswer kind.CallFrameCfa 2 ∷ []))
         ≡ pieced (word_at (AtAddress 1) ∷ word_at (AtAddress 2) ∷ []) }
     ensures frame_address { meaning plain Never (text (0x9c ∷ [])) unset
-        (given unset (CfaAnswer 1 ∷ [])) ≡ valued 1 1 }
+        (given unset (NumberAnswer kind.CallFrameCfa 1 ∷ [])) ≡ valued 1 1 }
     ensures register_offset { meaning plain Never (text (0x70 ∷ 0x7f ∷ [])) unset
-        (given unset (RegisterAnswer (Generic 0) ∷ [])) ≡ valued 0xffffffff 0xffffffff }
+        (given unset (ValueAnswer kind.Register (Generic 0) ∷ [])) ≡ valued 0xffffffff 0xffffffff }
     ensures register_offset_of_high_bits { meaning plain Never (text (0x70 ∷ 0x7f ∷ [])) unset
-        (given unset (RegisterAnswer (Generic 0x500000000) ∷ [])) ≡ valued 0xffffffff 0xffffffff }
+        (given unset (ValueAnswer kind.Register (Generic 0x500000000) ∷ [])) ≡ valued 0xffffffff 0xffffffff }
     ensures two_values_of_two { meaning (with_limits (record no_limits { values = Some 2 })) Never
         (text (0x31 ∷ 0x32 ∷ [])) unset [] ≡ valued 2 2 }
     ensures three_values_of_two { meaning (with_limits (record no_limits { values = Some 2 })) Never
@@ -118,8 +119,8 @@ pub fn worked_rows()
     ensures asks_before_refusal { meaning plain (After 1 0) (text (0x31 ∷ 0x9c ∷ [])) unset []
         ≡ RequestOutcome RequiresCallFrameCfa (open_at (0x31 ∷ 0x9c ∷ []) 2 ∷ []) }
     ensures answer_refused { meaning plain (After 1 0) (text (0x31 ∷ 0x9c ∷ [])) unset
-        (given unset (CfaAnswer 1 ∷ [])) ≡ FaultOutcome StackFull }
+        (given unset (NumberAnswer kind.CallFrameCfa 1 ∷ [])) ≡ FaultOutcome StackFull }
     ensures answer_of_another_kind { meaning plain Never (text (0x9c ∷ [])) unset
-        (given unset (RelocatedAnswer 1 ∷ []))
+        (given unset (NumberAnswer kind.RelocatedAddress 1 ∷ []))
         ≡ RequestOutcome RequiresCallFrameCfa (open_at (0x9c ∷ []) 1 ∷ []) }
 {}

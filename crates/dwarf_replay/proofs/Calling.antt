@@ -5,7 +5,7 @@ use Rattle.dwarf_base.specs.declared.errors.Error.{Error}
 use Rattle.dwarf_base.specs.Faults.{Fault, fault_of}
 use Rattle.dwarf_base.specs.Reads.{Text}
 use Rattle.dwarf_value.specs.declared.types.Value.{Value}
-use Rattle.dwarf_meaning.specs.Requests.{Request, Waiting, Answer, Input}
+use Rattle.dwarf_meaning.specs.Requests.{Request, OnAnswer, Answer, Input}
 use Rattle.dwarf_meaning.specs.Kinds.{kind_of_request, kind_of_answer}
 use Rattle.dwarf_meaning.specs.Stores.{Setup}
 use Rattle.dwarf_meaning.specs.Run.{Position}
@@ -86,7 +86,7 @@ module _ (first : State) where
     }
 
     called_by : (status : Status) → new.status ≡ status → MayPick first.setup.limits (before_inputs n h.refusal) → Holds first now new → SpendsInAll (initial_items now.settings.initial_value) first new → ((r : Refusal) → (IsLater r ⊎ (r ≡ h.refusal)) → told ≡ reply (totals r []).outcome → Tells first (steps ++ step ∷ []) (given ++ told ∷ []) now (before_inputs n r)) → WentBy first (steps ++ step ∷ []) (given ++ told ∷ []) new status
-    called_by (RequestStatus request waiting) e may holds spent walked =
+    called_by (RequestStatus request on_answer) e may holds spent walked =
         called_going (subst WaitsOrIsComplete (sym e) tt) holds spent (λ r l. walked r (inl l))
     called_by (CompleteStatus value) e may holds spent walked =
         called_going (subst WaitsOrIsComplete (sym e) tt) holds spent (λ r l. walked r (inl l))
@@ -170,15 +170,15 @@ module _ (first : State) (steps : List Step) (given : List Reply) (x new : State
       }
 
   -- an answer to an open request
-  goes_on : (told : Reply) (answer : Answer) (request : Request) (waiting : Waiting) → x.status ≡ RequestStatus request waiting → kind_of_request request ≡ kind_of_answer answer → Going first steps given x → Follows x (total_after x (input_of x answer)) told new → Went first (steps ++ Resume answer ∷ []) (given ++ told ∷ []) new
-  goes_on told answer request waiting e kind w h =
+  goes_on : (told : Reply) (answer : Answer) (request : Request) (on_answer : OnAnswer) → x.status ≡ RequestStatus request on_answer → kind_of_request request ≡ kind_of_answer answer → Going first steps given x → Follows x (total_after x (input_of x answer)) told new → Went first (steps ++ Resume answer ∷ []) (given ++ told ∷ []) new
+  goes_on told answer request on_answer e kind w h =
       let input = input_of x answer in
       let settings = w.told.settings in
       let now : Told = record { settings = settings; first = w.told.first; inputs = w.told.inputs ++ input ∷ [] } in
       let position : Position = record { text = x.text; place = x.place } in
       let is : (r : Refusal) → outcome_of first.setup (before_inputs w.taken (before_input r)) first.text w.told ≡ Some (RequestOutcome request (position ∷ x.callers)) = λ r.
       going_outcome first steps given x w (before_input r) (later_before r)
-      ∙ ap (λ (t : Total). Some t.outcome) (total_open (before_input r) x request waiting e) in
+      ∙ ap (λ (t : Total). Some t.outcome) (total_open (before_input r) x request on_answer e) in
       let input_is : record { object_address = settings.object_address; maximum = settings.maximum; answer = answer } ≡ input =
       ap (λ (a : Option ℕ). record { object_address = a; maximum = settings.maximum; answer = answer }) (sym w.holds.object_address)
       ∙ ap (λ (m : ℕ). record { object_address = x.store.object_address; maximum = m; answer = answer }) (sym w.holds.maximum) in
@@ -218,11 +218,11 @@ module _ {R O P : Type 0} (text : R → Text) (number : O → ℕ) (first : Stat
       let replied : Went first (steps ++ Evaluate ∷ []) (given ++ reply_of text number told ∷ []) x =
       subst (λ (t : Result (EvaluationResult R O P) Error). Went first (steps ++ Evaluate ∷ []) (given ++ reply_of text number t ∷ []) x) (sym h.0) again in
       subst (Went first (steps ++ Evaluate ∷ []) (given ++ reply_of text number told ∷ [])) (sym h.1) replied
-  evaluates (RequestStatus request waiting) e told w h c = absurd c
+  evaluates (RequestStatus request on_answer) e told w h c = absurd c
   evaluates Running e told w h c = absurd w
 
   resumes : (status : Status) → x.status ≡ status → (answer : Answer) (told : Result (EvaluationResult R O P) Error) → WentBy first steps given x status → Resumes text number (input_of x answer) x new told status → IsOpenFor (kind_of_answer answer) status → Went first (steps ++ Resume answer ∷ []) (given ++ reply_of text number told ∷ []) new
-  resumes (RequestStatus request waiting) e answer told w h k = goes_on first steps given x new (reply_of text number told) answer request waiting e k w h
+  resumes (RequestStatus request on_answer) e answer told w h k = goes_on first steps given x new (reply_of text number told) answer request on_answer e k w h
   resumes (FaultStatus error) e answer told w h k =
       let again : Went first (steps ++ Resume answer ∷ []) (given ++ FaultReply (fault_of error) ∷ []) x =
       subst (WentBy first (steps ++ Resume answer ∷ []) (given ++ FaultReply (fault_of error) ∷ []) x) (sym e)

@@ -53,7 +53,7 @@ module _ (first : State) (steps : List Step) (given : List Reply) (x : State) (P
   -- what has to hold of what was told, by where the evaluation stands
   abbrev Wanted : Status → Type 0
   Wanted (Start initial_value) = (told : Told) → told.first ≡ None → told.settings.initial_value ≡ initial_value → P told None
-  Wanted (RequestStatus request waiting) = (told : Told) (settings : First) (positions : List Position) → told.first ≡ Some settings → P told (Some (RequestOutcome request positions))
+  Wanted (RequestStatus request on_answer) = (told : Told) (settings : First) (positions : List Position) → told.first ≡ Some settings → P told (Some (RequestOutcome request positions))
   Wanted (CompleteStatus value) = (told : Told) (settings : First) → told.first ≡ Some settings → P told (Some (CompleteOutcome x.store.pieces value))
   Wanted (FaultStatus error) = (told : Told) (settings : First) → told.first ≡ Some settings → P told (Some (FaultOutcome (fault_of error)))
   Wanted Running = Unit {0}
@@ -65,11 +65,11 @@ module _ (first : State) (steps : List Step) (given : List Reply) (x : State) (P
   led_by (Start initial_value) e w wanted =
       led w.told Never None (w.walked Never) tt (ap (outcome_from first.setup Never first.text w.told.inputs) w.started) (e ∙ ap Start (sym w.initial), are_set w.told w.holds) w.spent
       (subst (Leaves first steps given w.told x) (sym e) (unbegun_leaves first steps given x initial_value w)) (wanted w.told w.started w.initial)
-  led_by (RequestStatus request waiting) e w wanted =
+  led_by (RequestStatus request on_answer) e w wanted =
       let position : Position = record { text = x.text; place = x.place } in
       led w.told (before_inputs w.taken Never) (Some (RequestOutcome request (position ∷ x.callers))) (w.walked Never tt) (may_inputs first.setup.limits w.taken Never tt)
       (going_outcome first steps given x w Never tt
-      ∙ ap (λ (t : Total). Some t.outcome) (total_open Never x request waiting e))
+      ∙ ap (λ (t : Total). Some t.outcome) (total_open Never x request on_answer e))
       (subst (IsInRequest request (position ∷ x.callers) x) (sym e) (refl, refl), are_set w.told w.holds)
       w.spent
       (subst (Leaves first steps given w.told x) (sym e) (going_leaves first steps given x w))
@@ -93,7 +93,7 @@ module _ (first : State) (steps : List Step) (given : List Reply) (x : State) (P
 -- all steps were done
 wanted_all : (x : State) (first : State) (steps : List Step) (given : List Reply) (status : Status) → Wanted first steps given x (λ told outcome. Unit {0}) status
 wanted_all x first steps given (Start initial_value) = λ told s i. tt
-wanted_all x first steps given (RequestStatus request waiting) = λ told settings positions s. tt
+wanted_all x first steps given (RequestStatus request on_answer) = λ told settings positions s. tt
 wanted_all x first steps given (CompleteStatus value) = λ told settings s. tt
 wanted_all x first steps given (FaultStatus error) = λ told settings s. tt
 wanted_all x first steps given Running = tt
@@ -108,27 +108,27 @@ Misplaced step told outcome = Allows told outcome step → ⊥
 
 wanted_not : (first : State) (steps : List Step) (given : List Reply) (x : State) (step : Step) (status : Status) → (MayTake step status → ⊥) → Wanted first steps given x (Misplaced step) status
 wanted_not first steps given x (InitialValue number) (Start initial_value) h = λ told s i a. h (ap Start (sym i ∙ a.initial_value))
-wanted_not first steps given x (InitialValue number) (RequestStatus request waiting) h = λ told settings positions s a. some_not_none settings (sym s ∙ a.first)
+wanted_not first steps given x (InitialValue number) (RequestStatus request on_answer) h = λ told settings positions s a. some_not_none settings (sym s ∙ a.first)
 wanted_not first steps given x (InitialValue number) (CompleteStatus value) h = λ told settings s a. some_not_none settings (sym s ∙ a.first)
 wanted_not first steps given x (InitialValue number) (FaultStatus error) h = λ told settings s a. some_not_none settings (sym s ∙ a.first)
 wanted_not first steps given x (InitialValue number) Running h = tt
 wanted_not first steps given x (ObjectAddress address) (Start initial_value) h = absurd (h tt)
-wanted_not first steps given x (ObjectAddress address) (RequestStatus request waiting) h = absurd (h tt)
+wanted_not first steps given x (ObjectAddress address) (RequestStatus request on_answer) h = absurd (h tt)
 wanted_not first steps given x (ObjectAddress address) (CompleteStatus value) h = absurd (h tt)
 wanted_not first steps given x (ObjectAddress address) (FaultStatus error) h = absurd (h tt)
 wanted_not first steps given x (ObjectAddress address) Running h = tt
 wanted_not first steps given x (MaxIterations maximum) (Start initial_value) h = absurd (h tt)
-wanted_not first steps given x (MaxIterations maximum) (RequestStatus request waiting) h = absurd (h tt)
+wanted_not first steps given x (MaxIterations maximum) (RequestStatus request on_answer) h = absurd (h tt)
 wanted_not first steps given x (MaxIterations maximum) (CompleteStatus value) h = absurd (h tt)
 wanted_not first steps given x (MaxIterations maximum) (FaultStatus error) h = absurd (h tt)
 wanted_not first steps given x (MaxIterations maximum) Running h = tt
 wanted_not first steps given x Evaluate (Start initial_value) h = absurd (h tt)
-wanted_not first steps given x Evaluate (RequestStatus request waiting) h = λ told settings positions s a. a
+wanted_not first steps given x Evaluate (RequestStatus request on_answer) h = λ told settings positions s a. a
 wanted_not first steps given x Evaluate (CompleteStatus value) h = absurd (h tt)
 wanted_not first steps given x Evaluate (FaultStatus error) h = absurd (h tt)
 wanted_not first steps given x Evaluate Running h = tt
 wanted_not first steps given x (Resume answer) (Start initial_value) h = λ told s i a. a
-wanted_not first steps given x (Resume answer) (RequestStatus request waiting) h = λ told settings positions s a. h a
+wanted_not first steps given x (Resume answer) (RequestStatus request on_answer) h = λ told settings positions s a. h a
 wanted_not first steps given x (Resume answer) (CompleteStatus value) h = λ told settings s a. a
 wanted_not first steps given x (Resume answer) (FaultStatus error) h = absurd (h tt)
 wanted_not first steps given x (Resume answer) Running h = tt

@@ -1,7 +1,7 @@
 -- Settings, one more step each.
 use Rattle.std.proofs.Common.{ℕ, ◌≡◌, List, [], ◌∷◌, ◌++◌, length, Option, Some, None, ap, ◌∙◌, sym, refl, subst}
 use Rattle.std.proofs.lemmas.List.{append-nil}
-use Rattle.dwarf_meaning.specs.Requests.{Request, Waiting, Input}
+use Rattle.dwarf_meaning.specs.Requests.{Request, OnAnswer, Input}
 use Rattle.dwarf_meaning.specs.Refusals.{Refusal, before_inputs}
 use Rattle.dwarf_meaning.specs.Meaning.{Outcome, meaning}
 use Rattle.dwarf_meaning.specs.Rest.{State, Status, Start, Running, RequestStatus, CompleteStatus, FaultStatus, with_refusal, Total, total_by, total}
@@ -21,12 +21,12 @@ module _ (first : State) where
   abbrev set_to : Option ℕ → ℕ → State → State
   set_to object maximum x = record x { store = record x.store { object_address = object; maximum = maximum } }
 
-  waits_set : (object : Option ℕ) (maximum : ℕ) (r : Refusal) (x : State) (inputs : List Input) (request : Request) (waiting : Waiting) → total_by (set_to object maximum x) (with_refusal r (set_to object maximum x).store) inputs (RequestStatus request waiting) ≡ total_by x (with_refusal r x.store) inputs (RequestStatus request waiting)
-  waits_set object maximum r x [] request waiting = refl
-  waits_set object maximum r x (input ∷ inputs) request waiting = refl
+  waits_set : (object : Option ℕ) (maximum : ℕ) (r : Refusal) (x : State) (inputs : List Input) (request : Request) (on_answer : OnAnswer) → total_by (set_to object maximum x) (with_refusal r (set_to object maximum x).store) inputs (RequestStatus request on_answer) ≡ total_by x (with_refusal r x.store) inputs (RequestStatus request on_answer)
+  waits_set object maximum r x [] request on_answer = refl
+  waits_set object maximum r x (input ∷ inputs) request on_answer = refl
 
   total_set_by : (object : Option ℕ) (maximum : ℕ) (r : Refusal) (x : State) (inputs : List Input) (status : Status) → WaitsOrIsComplete status → total_by (set_to object maximum x) (with_refusal r (set_to object maximum x).store) inputs status ≡ total_by x (with_refusal r x.store) inputs status
-  total_set_by object maximum r x inputs (RequestStatus request waiting) h = waits_set object maximum r x inputs request waiting
+  total_set_by object maximum r x inputs (RequestStatus request on_answer) h = waits_set object maximum r x inputs request on_answer
   total_set_by object maximum r x inputs (CompleteStatus value) h = refl
   total_set_by object maximum r x inputs (Start initial_value) h = absurd h
   total_set_by object maximum r x inputs (FaultStatus error) h = absurd h
@@ -89,7 +89,7 @@ module _ (first : State) where
       holds = s.holds w.told w.holds;
       spent = set_spent w.told w.spent;
     }
-    set_by (RequestStatus request waiting) e w = set_going (subst WaitsOrIsComplete (sym e) tt) w
+    set_by (RequestStatus request on_answer) e w = set_going (subst WaitsOrIsComplete (sym e) tt) w
     set_by (CompleteStatus value) e w = set_going (subst WaitsOrIsComplete (sym e) tt) w
     set_by (FaultStatus error) e w = record {
       told = s.tells w.told;

@@ -55,7 +55,7 @@ pub record Over (first : State) (steps : List Step) (given : List Reply) (x : St
 
 abbrev pub WentBy : State → List Step → List Reply → State → Status → Type 0
 WentBy first steps given x (Start initial_value) = Unstarted first steps given x initial_value
-WentBy first steps given x (RequestStatus request waiting) = Going first steps given x
+WentBy first steps given x (RequestStatus request on_answer) = Going first steps given x
 WentBy first steps given x (CompleteStatus value) = Going first steps given x
 WentBy first steps given x (FaultStatus error) = Over first steps given x error
 WentBy first steps given x Running = ⊥

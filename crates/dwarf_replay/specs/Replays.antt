@@ -39,7 +39,7 @@ told_at x = record { settings = first_of x None; first = None; inputs = [] }
 
 -- it waits in this request, with these texts open
 abbrev pub IsInRequest : Request → List Position → State → Status → Type 0
-IsInRequest request positions x (RequestStatus open_request waiting) =
+IsInRequest request positions x (RequestStatus open_request on_answer) =
     (open_request ≡ request) × (positions ≡ record { text = x.text; place = x.place } ∷ x.callers)
 IsInRequest request positions x _ = ⊥
 
@@ -86,7 +86,7 @@ pub record IsLeft (old : State) (steps : List meaning.Step) (replies : List Repl
 -- what is left, by the status
 abbrev pub Leaves : State → List meaning.Step → List Reply → Told → State → Status → Type 0
 Leaves old steps replies told new (Start initial_value) = IsUnbegun old steps replies told new
-Leaves old steps replies told new (RequestStatus request waiting) = IsLeft old steps replies told new
+Leaves old steps replies told new (RequestStatus request on_answer) = IsLeft old steps replies told new
 Leaves old steps replies told new (CompleteStatus value) = IsLeft old steps replies told new
 Leaves old steps replies told new (FaultStatus error) = Unit {0}
 Leaves old steps replies told new Running = ⊥

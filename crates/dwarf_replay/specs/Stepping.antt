@@ -2,6 +2,7 @@
 use Rattle.std.specs.Prelude.{ℕ, ◌≡◌, Some, None, Result}
 use Rattle.dwarf_base.specs.declared.errors.Error.{Error}
 use Rattle.dwarf_base.specs.Reads.{Text}
+use Rattle.dwarf_meaning.specs.declared.kinds.WaitingKind.TheVariants as kind
 use Rattle.dwarf_meaning.specs.Kinds.{kind_of_answer}
 use Rattle.dwarf_meaning.specs.Requests as requests
 use Rattle.dwarf_meaning.specs.Rest.{State, Status, Start}
@@ -21,16 +22,16 @@ step_of text (step.InitialValue number) = meaning.InitialValue number
 step_of text (step.ObjectAddress address) = meaning.ObjectAddress address
 step_of text (step.MaxIterations maximum) = meaning.MaxIterations maximum
 step_of text step.Evaluate = meaning.Evaluate
-step_of text (step.Memory value) = meaning.Resume (requests.MemoryAnswer value)
-step_of text (step.Register value) = meaning.Resume (requests.RegisterAnswer value)
-step_of text (step.WasmValue value) = meaning.Resume (requests.WasmAnswer value)
-step_of text (step.EntryValue value) = meaning.Resume (requests.EntryAnswer value)
-step_of text (step.FrameBase number) = meaning.Resume (requests.FrameBaseAnswer number)
-step_of text (step.Tls number) = meaning.Resume (requests.TlsAnswer number)
-step_of text (step.CallFrameCfa number) = meaning.Resume (requests.CfaAnswer number)
-step_of text (step.ParameterRef number) = meaning.Resume (requests.ParameterAnswer number)
-step_of text (step.RelocatedAddress number) = meaning.Resume (requests.RelocatedAnswer number)
-step_of text (step.IndexedAddress number) = meaning.Resume (requests.IndexedAnswer number)
+step_of text (step.Memory value) = meaning.Resume (requests.ValueAnswer kind.Memory value)
+step_of text (step.Register value) = meaning.Resume (requests.ValueAnswer kind.Register value)
+step_of text (step.WasmValue value) = meaning.Resume (requests.ValueAnswer kind.WasmValue value)
+step_of text (step.EntryValue value) = meaning.Resume (requests.ValueAnswer kind.EntryValue value)
+step_of text (step.FrameBase number) = meaning.Resume (requests.NumberAnswer kind.FrameBase number)
+step_of text (step.Tls number) = meaning.Resume (requests.NumberAnswer kind.Tls number)
+step_of text (step.CallFrameCfa number) = meaning.Resume (requests.NumberAnswer kind.CallFrameCfa number)
+step_of text (step.ParameterRef number) = meaning.Resume (requests.NumberAnswer kind.ParameterRef number)
+step_of text (step.RelocatedAddress number) = meaning.Resume (requests.NumberAnswer kind.RelocatedAddress number)
+step_of text (step.IndexedAddress number) = meaning.Resume (requests.NumberAnswer kind.IndexedAddress number)
 step_of text (step.AtLocation expression) = meaning.Resume (requests.LocationAnswer (text expression))
 step_of text (step.BaseType value_type) = meaning.Resume (requests.BaseTypeAnswer value_type)
 

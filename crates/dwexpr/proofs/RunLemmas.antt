@@ -28,7 +28,7 @@ use Rattle.dwexpr.specs.inner.Replayed.{HasLine, ending_of}
 
 asking_ending : (request : Request) (positions : List Position) (x : State) (status : Status) → IsInRequest request positions x status
     → standing x status ≡ record { text = []; status = 0 }
-asking_ending request positions x (RequestStatus open_request waiting) h = refl
+asking_ending request positions x (RequestStatus open_request on_answer) h = refl
 asking_ending request positions x (Start initial_value) h = absurd h
 asking_ending request positions x (CompleteStatus value) h = absurd h
 asking_ending request positions x (FaultStatus error) h = absurd h
@@ -38,7 +38,7 @@ stopped_ending : (fault : Fault) (x : State) (status : Status) → IsInFault fau
     → standing x status ≡ record { text = []; status = 1 }
 stopped_ending fault x (FaultStatus error) h = refl
 stopped_ending fault x (Start initial_value) h = absurd h
-stopped_ending fault x (RequestStatus request waiting) h = absurd h
+stopped_ending fault x (RequestStatus request on_answer) h = absurd h
 stopped_ending fault x (CompleteStatus value) h = absurd h
 stopped_ending fault x Running h = absurd h
 

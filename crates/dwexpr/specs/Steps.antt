@@ -2,6 +2,8 @@
 use Rattle.std.specs.Prelude.{ℕ, ◌≡◌, IsSome, Vec, map, suc, codes, bytes_eq, Bool, List, [], ◌∷◌, Option, Some, None, option_and_then, option_map, Result, Ok, Err, if◌then◌else◌}
 use Rattle.std.specs.Str.{is_utf8}
 use Rattle.dwarf_base.specs.EndianSlice.{slice_text}
+use Rattle.dwarf_meaning.specs.declared.kinds.WaitingKind.{WaitingKind}
+use Rattle.dwarf_meaning.specs.declared.kinds.WaitingKind.TheVariants as kind
 use Rattle.dwarf_meaning.specs.Requests as requests
 use Rattle.dwarf_meaning.specs.Steps.{Step, InitialValue, ObjectAddress, MaxIterations, Evaluate, Resume}
 use Rattle.dwarf_replay.specs.Stepping.{step_of}
@@ -14,24 +16,30 @@ use Rattle.dwexpr.specs.declared.steps.StepsFault.TheVariants as fault
 use Rattle.dwexpr.specs.declared.steps.OwnedStep.{OwnedStep}
 use Rattle.dwexpr.specs.declared.steps.OwnedStep.TheVariants as owned
 
+-- an answer of a kind that a value answers, with the value of the word
+abbrev pub value_step : WaitingKind → (word : List ℕ) → Option Step
+value_step kind word = option_map (λ v. Resume (requests.ValueAnswer kind v)) (value_in word)
+
+-- an answer of a kind that a number answers, with the number of the word
+abbrev pub number_step : WaitingKind → (word : List ℕ) → Option Step
+number_step kind word = option_map (λ n. Resume (requests.NumberAnswer kind n)) (number_in word)
+
 -- the steps whose word is a number, a value or a type
 abbrev pub plain_step_in : (name word : List ℕ) → Option Step
 plain_step_in name word =
     if bytes_eq name (codes "initial") then option_map InitialValue (number_in word)
     else if bytes_eq name (codes "object") then option_map ObjectAddress (number_in word)
     else if bytes_eq name (codes "max") then option_map MaxIterations (option_and_then (below 32) (number_in word))
-    else if bytes_eq name (codes "memory") then option_map (λ v. Resume (requests.MemoryAnswer v)) (value_in word)
-    else if bytes_eq name (codes "register") then option_map (λ v. Resume (requests.RegisterAnswer v)) (value_in word)
-    else if bytes_eq name (codes "wasm") then option_map (λ v. Resume (requests.WasmAnswer v)) (value_in word)
-    else if bytes_eq name (codes "entry") then option_map (λ v. Resume (requests.EntryAnswer v)) (value_in word)
-    else if bytes_eq name (codes "frame") then option_map (λ n. Resume (requests.FrameBaseAnswer n)) (number_in word)
-    else if bytes_eq name (codes "tls") then option_map (λ n. Resume (requests.TlsAnswer n)) (number_in word)
-    else if bytes_eq name (codes "cfa") then option_map (λ n. Resume (requests.CfaAnswer n)) (number_in word)
-    else if bytes_eq name (codes "parameter")
-    then option_map (λ n. Resume (requests.ParameterAnswer n)) (number_in word)
-    else if bytes_eq name (codes "relocated")
-    then option_map (λ n. Resume (requests.RelocatedAnswer n)) (number_in word)
-    else if bytes_eq name (codes "indexed") then option_map (λ n. Resume (requests.IndexedAnswer n)) (number_in word)
+    else if bytes_eq name (codes "memory") then value_step kind.Memory word
+    else if bytes_eq name (codes "register") then value_step kind.Register word
+    else if bytes_eq name (codes "wasm") then value_step kind.WasmValue word
+    else if bytes_eq name (codes "entry") then value_step kind.EntryValue word
+    else if bytes_eq name (codes "frame") then number_step kind.FrameBase word
+    else if bytes_eq name (codes "tls") then number_step kind.Tls word
+    else if bytes_eq name (codes "cfa") then number_step kind.CallFrameCfa word
+    else if bytes_eq name (codes "parameter") then number_step kind.ParameterRef word
+    else if bytes_eq name (codes "relocated") then number_step kind.RelocatedAddress word
+    else if bytes_eq name (codes "indexed") then number_step kind.IndexedAddress word
     else if bytes_eq name (codes "type") then option_map (λ t. Resume (requests.BaseTypeAnswer t)) (type_in word)
     else None
 

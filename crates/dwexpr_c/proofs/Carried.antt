@@ -1,18 +1,20 @@
 -- Each block that an evaluation gives is a block of an operation of one of its texts.
 use Rattle.std.proofs.Common.{ℕ, zero, suc, ◌==◌, subst, List, [], ◌∷◌, ◌++◌, length, Option, Some, None, Result, Ok, Err, nat_lt}
+use Rattle.std.proofs.lemmas.Bool.{cond_both}
 use Rattle.dwarf_base.specs.Faults.{Fault}
 use Rattle.dwarf_base.specs.Reads.{Text}
 use Rattle.dwarf_value.specs.declared.types.Value.{Value}
 use Rattle.dwarf_value.specs.declared.types.Value.TheVariants.{Generic}
 use Rattle.dwarf_meaning.specs.Operations.{Operation}
 use Rattle.dwarf_meaning.specs.Locations.{Location, HoldsBytes, Piece}
-use Rattle.dwarf_meaning.specs.Requests.{Request, Waiting, Answer, LocationAnswer, Input}
-use Rattle.dwarf_meaning.specs.Acts.{Act, Pushes, Branches, Locates, EndsPiece, RequestAct, FaultAct, Use, PushesAnswer, Calls, FaultUse, WrongKind, use_of}
+use Rattle.dwarf_meaning.specs.Kinds.{kind_of_request, kind_of_answer, is_same_kind}
+use Rattle.dwarf_meaning.specs.Requests.{Request, OnAnswer, Answer, LocationAnswer, Input}
+use Rattle.dwarf_meaning.specs.Acts.{Act, Pushes, Branches, Locates, EndsPiece, RequestAct, FaultAct, Use, PushesAnswer, Calls, FaultUse, use_of}
 use Rattle.dwarf_meaning.specs.Stores.{Setup, address_bits, Store, Last, Nothing, Plain, Pieced, Pushed, Called, Located, push_value, push_piece, push_caller, push_values, Next, Goes, RequestNext, FaultNext, goes, done, branch_target}
-use Rattle.dwarf_meaning.specs.Run.{Position, End, CompleteEnd, RequestEnd, FaultEnd, Course, only_end, Continues, return_to_caller, after_push, enter_callee, run_callee, after_answer, with_input, await_answer, after_operation, read, can_count, counted, do_operation, turn_counted, piece_ended_by, end_located, turn_located, turn_by, turn, out_of_turns, run_for, enough}
+use Rattle.dwarf_meaning.specs.Run.{Position, End, CompleteEnd, RequestEnd, FaultEnd, Course, Continues, return_to_caller, after_push, enter_callee, run_callee, after_answer, with_input, await_answer, after_operation, read, can_count, counted, do_operation, turn_counted, piece_ended_by, end_located, turn_located, turn_by, turn, out_of_turns, run_for, enough}
 use Rattle.dwarf_meaning.specs.Meaning.{Outcome, RequestOutcome, FaultOutcome, CompleteOutcome, completion_of, has_pieces, whole, finish_value, finish_by, First, fresh, with_initial, outcome_of_end, meaning}
 use Rattle.dwarf_meaning.specs.Refusals.{Refusal, room}
-use Rattle.dwarf_meaning.proofs.Choices.{if_both, top_both}
+use Rattle.dwarf_meaning.proofs.Choices.{top_both}
 use Rattle.dwarf_meaning.proofs.Counts.{OnStore, bound_store, on_bound}
 use Rattle.dwarf_meaning.proofs.Effects.{IsActOf, IsOwnPlace, locates, ends, asks, act_is, IsUseOf, use_is}
 use Rattle.dwexpr_c.specs.Operations.{block_in}
@@ -43,16 +45,16 @@ OnRequest Q _ = Unit {0}
 abbrev OnAct : (List ℕ → Type 0) → Act → Type 0
 OnAct Q (Locates rest location) = OnLocation Q location
 OnAct Q (EndsPiece rest piece) = OnLocation Q piece.location
-OnAct Q (RequestAct rest request waiting) = OnRequest Q request
+OnAct Q (RequestAct rest request on_answer) = OnRequest Q request
 OnAct Q _ = Unit {0}
 
-abbrev pub OnAnswer : (Text → Type 0) → Answer → Type 0
-OnAnswer P (LocationAnswer text) = P text
-OnAnswer P _ = Unit {0}
+abbrev pub OnGiven : (Text → Type 0) → Answer → Type 0
+OnGiven P (LocationAnswer text) = P text
+OnGiven P _ = Unit {0}
 
 abbrev pub OnInputs : (Text → Type 0) → List Input → Type 0
 OnInputs P [] = Unit {0}
-OnInputs P (input ∷ inputs) = OnAnswer P input.answer × OnInputs P inputs
+OnInputs P (input ∷ inputs) = OnGiven P input.answer × OnInputs P inputs
 
 abbrev OnUse : (Text → Type 0) → Use → Type 0
 OnUse P (Calls text) = P text
@@ -81,7 +83,7 @@ module _ (Q : List ℕ → Type 0) where
   act_holds : (op : Operation) {n : ℕ} (a : Act) → IsActOf op n a → OnBlock Q (block_in op) → OnAct Q a
   act_holds op (Locates rest (HoldsBytes text)) (locates l e) h = subst (λ (o : Operation). OnBlock Q (block_in o)) e h
   act_holds op (EndsPiece rest piece) (ends l w) h = own_holds piece.location w
-  act_holds op (RequestAct rest (asked_for.RequiresEntryValue text) waiting) (asks l e) h = subst (λ (o : Operation). OnBlock Q (block_in o)) e h
+  act_holds op (RequestAct rest (asked_for.RequiresEntryValue text) on_answer) (asks l e) h = subst (λ (o : Operation). OnBlock Q (block_in o)) e h
   act_holds op _ d h = tt
 
   -- ---- what is kept
@@ -113,7 +115,7 @@ module _ (Q : List ℕ → Type 0) where
 
   abbrev OnNext : Next → Type 0
   OnNext (Goes place s) = Holds Q s
-  OnNext (RequestNext request waiting s) = OnRequest Q request × Holds Q s
+  OnNext (RequestNext request on_answer s) = OnRequest Q request × Holds Q s
   OnNext (FaultNext fault) = Unit {0}
 
   goes_holds : (place : ℕ) (r : Result Store Fault) → OnStore (Holds Q) r → OnNext (goes place r)
@@ -124,11 +126,11 @@ module _ (Q : List ℕ → Type 0) where
   done_holds setup place len (Pushes rest pushed) s a h =
       goes_holds place _ (values_hold setup pushed (record s { values = rest; last = Plain }) (record { pieces = h.pieces; last = tt }))
   done_holds setup place len (Branches rest target) s a h =
-      if_both OnNext (nat_lt len (branch_target setup place target)) _ _ (λ e. tt) (λ e. record { pieces = h.pieces; last = tt })
+      cond_both (nat_lt len (branch_target setup place target)) _ _ OnNext (λ e. tt) (λ e. record { pieces = h.pieces; last = tt })
   done_holds setup place len (Locates rest location) s a h = record { pieces = h.pieces; last = a }
   done_holds setup place len (EndsPiece rest piece) s a h =
       goes_holds place _ (piece_holds setup piece (record s { values = rest; last = Pieced }) (record { pieces = h.pieces; last = tt }) a)
-  done_holds setup place len (RequestAct rest request waiting) s a h = (a, record { pieces = h.pieces; last = h.last })
+  done_holds setup place len (RequestAct rest request on_answer) s a h = (a, record { pieces = h.pieces; last = h.last })
   done_holds setup place len (FaultAct fault) s a h = tt
 
   piece_next : (setup : Setup) (location : Location) (place : ℕ) (s : Store) (o : Option (ℕ × Option ℕ)) → OnLocation Q location → Holds Q s → OnNext (end_located setup location place s o)
@@ -139,11 +141,10 @@ module _ (Q : List ℕ → Type 0) where
 -- ---- answers
 
 module _ (P : Text → Type 0) where
-  use_holds : (answer : Answer) (n : ℕ) (u : Use) → IsUseOf answer n u → OnAnswer P answer → OnUse P u
+  use_holds : (answer : Answer) (n : ℕ) (u : Use) → IsUseOf answer n u → OnGiven P answer → OnUse P u
   use_holds answer n (PushesAnswer rest value) e h = tt
-  use_holds answer n (Calls text) e h = subst (OnAnswer P) e h
+  use_holds answer n (Calls text) e h = subst (OnGiven P) e h
   use_holds answer n (FaultUse fault) e h = tt
-  use_holds answer n WrongKind e h = tt
 
 -- ---- runs
 
@@ -182,23 +183,24 @@ module _ (P : Text → Type 0) (Q : List ℕ → Type 0) where
     called_carries position depth callee (byte ∷ bytes) s inputs p c h i =
         entered_carries position depth callee inputs _ p c (frame_holds Q setup depth s h) i
 
-    used_carries : (position : Position) (depth : ℕ) (u : Use) (s : Store) (inputs : List Input) (unanswered : Course) → P position.text → OnUse P u → Holds Q s → OnInputs P inputs → OnEnd unanswered.end → OnEnd (after_answer go setup position depth u s inputs unanswered).end
-    used_carries position depth (PushesAnswer rest value) s inputs unanswered p u h i e =
+    used_carries : (position : Position) (depth : ℕ) (u : Use) (s : Store) (inputs : List Input) → P position.text → OnUse P u → Holds Q s → OnInputs P inputs → OnEnd (after_answer go setup position depth u s inputs).end
+    used_carries position depth (PushesAnswer rest value) s inputs p u h i =
         resumed_carries position depth inputs _ p (value_holds Q setup value (record s { values = rest; last = Pushed }) (record { pieces = h.pieces; last = tt })) i
-    used_carries position depth (Calls callee) s inputs unanswered p u h i e = called_carries position depth callee callee.bytes s inputs p u h i
-    used_carries position depth (FaultUse fault) s inputs unanswered p u h i e = tt
-    used_carries position depth WrongKind s inputs unanswered p u h i e = e
+    used_carries position depth (Calls callee) s inputs p u h i = called_carries position depth callee callee.bytes s inputs p u h i
+    used_carries position depth (FaultUse fault) s inputs p u h i = tt
 
-    asked_carries : (position : Position) (depth : ℕ) (request : Request) (waiting : Waiting) (s : Store) (inputs : List Input) → P position.text → OnRequest Q request → Holds Q s → OnInputs P inputs → OnEnd (await_answer go setup position depth request waiting s inputs).end
-    asked_carries position depth request waiting s [] p r h i = r
-    asked_carries position depth request waiting s (input ∷ inputs) p r h i =
-        used_carries position depth (use_of (address_bits setup) waiting input.answer s.values) (with_input input s) inputs (only_end (RequestEnd request (position ∷ []) (input ∷ inputs)))
-        p (use_holds P input.answer (length s.values) _ (use_is (address_bits setup) waiting input.answer s.values) i.0) (record { pieces = h.pieces; last = h.last }) i.1 r
+    asked_carries : (position : Position) (depth : ℕ) (request : Request) (on_answer : OnAnswer) (s : Store) (inputs : List Input) → P position.text → OnRequest Q request → Holds Q s → OnInputs P inputs → OnEnd (await_answer go setup position depth request on_answer s inputs).end
+    asked_carries position depth request on_answer s [] p r h i = r
+    asked_carries position depth request on_answer s (input ∷ inputs) p r h i =
+        cond_both (is_same_kind (kind_of_request request) (kind_of_answer input.answer)) _ _ (λ (c : Course). OnEnd c.end)
+        (λ fits. used_carries position depth (use_of (address_bits setup) on_answer input.answer s.values) (with_input input s) inputs
+        p (use_holds P input.answer (length s.values) _ (use_is (address_bits setup) on_answer input.answer s.values) i.0) (record { pieces = h.pieces; last = h.last }) i.1)
+        (λ other. r)
 
     after_operation_carries : (text : Text) (depth place : ℕ) (inputs : List Input) (next : Next) → P text → OnNext Q next → OnInputs P inputs → OnEnd (after_operation go setup text depth place inputs next).end
     after_operation_carries text depth place inputs (Goes to s) p h i = carries text to depth s inputs p h i
-    after_operation_carries text depth place inputs (RequestNext request waiting s) p h i =
-        asked_carries (record { text = text; place = place }) depth request waiting s inputs p h.0 h.1 i
+    after_operation_carries text depth place inputs (RequestNext request on_answer s) p h i =
+        asked_carries (record { text = text; place = place }) depth request on_answer s inputs p h.0 h.1 i
     after_operation_carries text depth place inputs (FaultNext fault) p h i = tt
 
     does_carries : (text : Text) (depth : ℕ) (s : Store) (inputs : List Input) (r : Result (Operation × List ℕ) Fault) → P text → OnRead Q r → Holds Q s → OnInputs P inputs → OnEnd (do_operation go setup text depth s inputs r).end
@@ -208,7 +210,7 @@ module _ (P : Text → Type 0) (Q : List ℕ → Type 0) where
 
     counts_carries : (text : Text) (place depth : ℕ) (s : Store) (inputs : List Input) → P text → Holds Q s → OnInputs P inputs → OnEnd (turn_counted go setup text place depth s inputs).end
     counts_carries text place depth s inputs p h i =
-        if_both (λ (c : Course). OnEnd c.end) (can_count s) _ _
+        cond_both (can_count s) _ _ (λ (c : Course). OnEnd c.end)
         (λ e. does_carries text depth (counted s) inputs (read setup text place) p (reads text place p) (record { pieces = h.pieces; last = h.last }) i)
         (λ e. tt)
 
@@ -227,7 +229,7 @@ module _ (P : Text → Type 0) (Q : List ℕ → Type 0) where
 
     turn_carries : Carries (turn go setup)
     turn_carries text place depth s inputs p h i =
-        if_both (λ (c : Course). OnEnd c.end) (place == length text.bytes) _ _ (λ e. (h, i))
+        cond_both (place == length text.bytes) _ _ (λ (c : Course). OnEnd c.end) (λ e. (h, i))
         (λ e. by_carries text place depth s inputs s.last p h.last h i)
 
   run_for_carries : (turns : ℕ) (setup : Setup) → Reads setup → Carries (run_for turns setup)
@@ -247,14 +249,14 @@ module _ (P : Text → Type 0) (Q : List ℕ → Type 0) where
       (λ x rest e. completed_holds (Some x) _ (piece_holds Q setup _ (record s { values = rest }) (record { pieces = h.pieces; last = h.last }) tt))
 
   judged_ends : (setup : Setup) (s : Store) → Holds Q s → OnOutcome Q (finish_by setup s Plain)
-  judged_ends setup s h = if_both (OnOutcome Q) (has_pieces s.pieces) _ _ (λ e. tt) (λ e. value_ends setup s h)
+  judged_ends setup s h = cond_both (has_pieces s.pieces) _ _ (OnOutcome Q) (λ e. tt) (λ e. value_ends setup s h)
 
   free_ends : (setup : Setup) (s : Store) → Holds Q s → OnOutcome Q (finish_by setup s Nothing)
-  free_ends setup s h = if_both (OnOutcome Q) (has_pieces s.pieces) _ _ (λ e. h.pieces) (λ e. value_ends setup s h)
+  free_ends setup s h = cond_both (has_pieces s.pieces) _ _ (OnOutcome Q) (λ e. h.pieces) (λ e. value_ends setup s h)
 
   finish_holds : (setup : Setup) (s : Store) (last : Last) → Holds Q s → OnLast Q last → OnOutcome Q (finish_by setup s last)
   finish_holds setup s (Located location) h l =
-      if_both (OnOutcome Q) (has_pieces s.pieces) _ _ (λ e. tt) (λ e. completed_holds None _ (piece_holds Q setup (whole location) s h l))
+      cond_both (has_pieces s.pieces) _ _ (OnOutcome Q) (λ e. tt) (λ e. completed_holds None _ (piece_holds Q setup (whole location) s h l))
   finish_holds setup s Plain h l = judged_ends setup s h
   finish_holds setup s Pushed h l = judged_ends setup s h
   finish_holds setup s Nothing h l = free_ends setup s h

@@ -38,7 +38,7 @@ module _ (texts : List DwexprText) (numbers : List DwexprStep) (first new : Stat
   finishes_as status e f = subst (FinishesOutcome texts (length numbers) new.store.pieces out after old places) e f
 
   asked_as : (request : Request) (positions : List _) (status : Status) → new.status ≡ status → IsInRequest request positions new status → ShowsStatus texts status out → FinishesOutcome texts (length numbers) new.store.pieces out after old places status → ShowsRequest texts request after × (places ≡ old)
-  asked_as request positions (RequestStatus other waiting) e a s f =
+  asked_as request positions (RequestStatus other on_answer) e a s f =
       let shown : ShowsRequest texts request out = subst (λ (r : Request). ShowsRequest texts r out) a.0 s in
       (subst (ShowsRequest texts request) (sym f.0) shown, f.1)
   asked_as request positions (Start initial_value) e a s f = absurd a

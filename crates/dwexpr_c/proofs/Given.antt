@@ -1,6 +1,7 @@
 -- Each block that an evaluation gives is at some place of the texts that the caller gave.
-use Rattle.std.proofs.Common.{ℕ, zero, suc, ◌≡◌, ◌∙◌, ◌+◌, ◌≤◌, ◌==◌, ◌^◌, nat_lt, Bool, true, false, cond, List, [], ◌∷◌, ◌++◌, map, take, drop, length, slice_get, Option, Some, None, Result, Ok, Err, refl, sym, ap, subst, arith, length-append}
+use Rattle.std.proofs.Common.{ℕ, zero, suc, ◌≡◌, ◌∙◌, ◌+◌, ◌≤◌, ◌==◌, ◌^◌, nat_lt, Bool, List, [], ◌∷◌, ◌++◌, map, take, drop, length, slice_get, Option, Some, None, Result, Ok, Err, refl, sym, ap, subst, arith, length-append}
 use Rattle.std.specs.List.{slice_range}
+use Rattle.std.proofs.lemmas.Bool.{cond_both}
 use Rattle.std.proofs.lemmas.List.{take-append-drop}
 use Rattle.dwarf_base.specs.Faults.{Fault}
 use Rattle.dwarf_base.specs.Reads.{Text}
@@ -8,6 +9,7 @@ use Rattle.dwarf_value.specs.declared.types.Value.{Value}
 use Rattle.dwarf_value.specs.declared.types.ValueType.{ValueType}
 use Rattle.dwarf_meaning.specs.Operations.{Operation}
 use Rattle.dwarf_meaning.specs.Locations.{Location, Empty, InRegister, AtAddress, HoldsValue, HoldsBytes, PointsInto, Piece}
+use Rattle.dwarf_meaning.specs.declared.kinds.WaitingKind.{WaitingKind}
 use Rattle.dwarf_meaning.specs.Requests as requests
 use Rattle.dwarf_meaning.specs.Requests.{Request, Answer, Input}
 use Rattle.dwarf_meaning.specs.Meaning.{Outcome, RequestOutcome, FaultOutcome, CompleteOutcome, First}
@@ -18,7 +20,6 @@ use Rattle.dwarf_meaning.specs.Stores.{Setup}
 use Rattle.dwarf_meaning.specs.Refusals.{Refusal, Never}
 use Rattle.dwarf_meaning.proofs.Decoded.{operation_begins}
 use Rattle.dwarf_replay.specs.Replays.{told_at}
-use Rattle.dwexpr_c.specs.Codes.{bad_step_code}
 use Rattle.dwexpr_c.specs.Evaluated.{comes_of}
 use Rattle.dwexpr_c.specs.Operations.{block_in}
 use Rattle.dwexpr_c.specs.Steps.{step_coded, with_value, with_type, with_text}
@@ -29,7 +30,7 @@ use Rattle.dwexpr_c.specs.inner.Runs.{given_at}
 use Rattle.dwexpr_c.specs.declared.steps.DwexprStep.{DwexprStep}
 use Rattle.dwexpr_c.specs.declared.steps.DwexprText.{DwexprText}
 use Rattle.dwexpr_c.proofs.Blocks.{EndIn, operation_ends, slice_between}
-use Rattle.dwexpr_c.proofs.Carried.{OnBlock, OnRead, OnLocation, OnPieces, OnRequest, OnAnswer, OnInputs, OnOutcome, Reads, meaning_holds}
+use Rattle.dwexpr_c.proofs.Carried.{OnBlock, OnRead, OnLocation, OnPieces, OnRequest, OnGiven, OnInputs, OnOutcome, Reads, meaning_holds}
 
 record IsSomewhere (texts : List DwexprText) (block : List ℕ) : Type 0 where
   text : ℕ
@@ -89,7 +90,7 @@ module _ (texts : List DwexprText) where
   -- ---- what the steps tell
 
   abbrev OnStep : Step → Type 0
-  OnStep (Resume answer) = OnAnswer P answer
+  OnStep (Resume answer) = OnGiven P answer
   OnStep _ = Unit {0}
 
   abbrev OnSteps : List Step → Type 0
@@ -103,17 +104,13 @@ module _ (texts : List DwexprText) where
   record IsSaid (r : Result Step ℕ) : Type 0 where
     on : OnSaid r
 
-  either : (b : Bool) (x y : Result Step ℕ) → IsSaid x → IsSaid y → IsSaid (cond b x y)
-  either true x y h k = h
-  either false x y h k = k
-
   -- it names no text
   none_named : (step : Result Step ℕ) → OnSaid step → IsSaid step
   none_named step h = record { on = h }
 
-  on_value : (answer : Value → Answer) (o : Option Value) → ((value : Value) → OnAnswer P (answer value)) → IsSaid (with_value answer o)
-  on_value answer None h = record { on = tt }
-  on_value answer (Some value) h = record { on = h value }
+  on_value : (kind : WaitingKind) (o : Option Value) → IsSaid (with_value kind o)
+  on_value kind None = record { on = tt }
+  on_value kind (Some value) = record { on = tt }
 
   on_type : (o : Option ValueType) → IsSaid (with_type o)
   on_type None = record { on = tt }
@@ -125,39 +122,23 @@ module _ (texts : List DwexprText) where
 
   on_said : (big : Bool) (step : DwexprStep) → IsSaid (step_coded big texts step)
   on_said big step =
-      let t16 : Result Step ℕ = cond (step.kind == 16) (with_type (type_coded step.value_type)) (Err bad_step_code) in
-      let s16 : IsSaid t16 = either (step.kind == 16) (with_type (type_coded step.value_type)) (Err bad_step_code) (on_type (type_coded step.value_type)) (none_named (Err bad_step_code) tt) in
-      let t15 : Result Step ℕ = cond (step.kind == 15) (with_text big (slice_get texts step.text)) t16 in
-      let s15 : IsSaid t15 = either (step.kind == 15) (with_text big (slice_get texts step.text)) t16 (on_text big step.text (slice_get texts step.text) refl) s16 in
-      let t14 : Result Step ℕ = cond (step.kind == 14) (Ok (Resume (requests.IndexedAnswer step.number))) t15 in
-      let s14 : IsSaid t14 = either (step.kind == 14) (Ok (Resume (requests.IndexedAnswer step.number))) t15 (none_named (Ok (Resume (requests.IndexedAnswer step.number))) tt) s15 in
-      let t13 : Result Step ℕ = cond (step.kind == 13) (Ok (Resume (requests.RelocatedAnswer step.number))) t14 in
-      let s13 : IsSaid t13 = either (step.kind == 13) (Ok (Resume (requests.RelocatedAnswer step.number))) t14 (none_named (Ok (Resume (requests.RelocatedAnswer step.number))) tt) s14 in
-      let t12 : Result Step ℕ = cond (step.kind == 12) (Ok (Resume (requests.ParameterAnswer step.number))) t13 in
-      let s12 : IsSaid t12 = either (step.kind == 12) (Ok (Resume (requests.ParameterAnswer step.number))) t13 (none_named (Ok (Resume (requests.ParameterAnswer step.number))) tt) s13 in
-      let t11 : Result Step ℕ = cond (step.kind == 11) (Ok (Resume (requests.CfaAnswer step.number))) t12 in
-      let s11 : IsSaid t11 = either (step.kind == 11) (Ok (Resume (requests.CfaAnswer step.number))) t12 (none_named (Ok (Resume (requests.CfaAnswer step.number))) tt) s12 in
-      let t10 : Result Step ℕ = cond (step.kind == 10) (Ok (Resume (requests.TlsAnswer step.number))) t11 in
-      let s10 : IsSaid t10 = either (step.kind == 10) (Ok (Resume (requests.TlsAnswer step.number))) t11 (none_named (Ok (Resume (requests.TlsAnswer step.number))) tt) s11 in
-      let t9 : Result Step ℕ = cond (step.kind == 9) (Ok (Resume (requests.FrameBaseAnswer step.number))) t10 in
-      let s9 : IsSaid t9 = either (step.kind == 9) (Ok (Resume (requests.FrameBaseAnswer step.number))) t10 (none_named (Ok (Resume (requests.FrameBaseAnswer step.number))) tt) s10 in
-      let t8 : Result Step ℕ = cond (step.kind == 8) (with_value requests.EntryAnswer (value_coded step.value_type step.number)) t9 in
-      let s8 : IsSaid t8 = either (step.kind == 8) (with_value requests.EntryAnswer (value_coded step.value_type step.number)) t9 (on_value requests.EntryAnswer (value_coded step.value_type step.number) (λ v. tt)) s9 in
-      let t7 : Result Step ℕ = cond (step.kind == 7) (with_value requests.WasmAnswer (value_coded step.value_type step.number)) t8 in
-      let s7 : IsSaid t7 = either (step.kind == 7) (with_value requests.WasmAnswer (value_coded step.value_type step.number)) t8 (on_value requests.WasmAnswer (value_coded step.value_type step.number) (λ v. tt)) s8 in
-      let t6 : Result Step ℕ = cond (step.kind == 6) (with_value requests.RegisterAnswer (value_coded step.value_type step.number)) t7 in
-      let s6 : IsSaid t6 = either (step.kind == 6) (with_value requests.RegisterAnswer (value_coded step.value_type step.number)) t7 (on_value requests.RegisterAnswer (value_coded step.value_type step.number) (λ v. tt)) s7 in
-      let t5 : Result Step ℕ = cond (step.kind == 5) (with_value requests.MemoryAnswer (value_coded step.value_type step.number)) t6 in
-      let s5 : IsSaid t5 = either (step.kind == 5) (with_value requests.MemoryAnswer (value_coded step.value_type step.number)) t6 (on_value requests.MemoryAnswer (value_coded step.value_type step.number) (λ v. tt)) s6 in
-      let t4 : Result Step ℕ = cond (step.kind == 4) (Ok Evaluate) t5 in
-      let s4 : IsSaid t4 = either (step.kind == 4) (Ok Evaluate) t5 (none_named (Ok Evaluate) tt) s5 in
-      let t3 : Result Step ℕ = cond (step.kind == 3) (cond (nat_lt step.number (2 ^ 32)) (Ok (MaxIterations step.number)) (Err bad_step_code)) t4 in
-      let s3 : IsSaid t3 = either (step.kind == 3) (cond (nat_lt step.number (2 ^ 32)) (Ok (MaxIterations step.number)) (Err bad_step_code)) t4 (either (nat_lt step.number (2 ^ 32)) (Ok (MaxIterations step.number)) (Err bad_step_code) (none_named (Ok (MaxIterations step.number)) tt) (none_named (Err bad_step_code) tt)) s4 in
-      let t2 : Result Step ℕ = cond (step.kind == 2) (Ok (ObjectAddress step.number)) t3 in
-      let s2 : IsSaid t2 = either (step.kind == 2) (Ok (ObjectAddress step.number)) t3 (none_named (Ok (ObjectAddress step.number)) tt) s3 in
-      let t1 : Result Step ℕ = cond (step.kind == 1) (Ok (InitialValue step.number)) t2 in
-      let s1 : IsSaid t1 = either (step.kind == 1) (Ok (InitialValue step.number)) t2 (none_named (Ok (InitialValue step.number)) tt) s2 in
-      s1
+      let value = value_coded step.value_type step.number in
+      cond_both (step.kind == 1) _ _ IsSaid (λ e. none_named _ tt) (λ e.
+      cond_both (step.kind == 2) _ _ IsSaid (λ e. none_named _ tt) (λ e.
+      cond_both (step.kind == 3) _ _ IsSaid (λ e. cond_both (nat_lt step.number (2 ^ 32)) _ _ IsSaid (λ e. none_named _ tt) (λ e. none_named _ tt)) (λ e.
+      cond_both (step.kind == 4) _ _ IsSaid (λ e. none_named _ tt) (λ e.
+      cond_both (step.kind == 5) _ _ IsSaid (λ e. on_value _ value) (λ e.
+      cond_both (step.kind == 6) _ _ IsSaid (λ e. on_value _ value) (λ e.
+      cond_both (step.kind == 7) _ _ IsSaid (λ e. on_value _ value) (λ e.
+      cond_both (step.kind == 8) _ _ IsSaid (λ e. on_value _ value) (λ e.
+      cond_both (step.kind == 9) _ _ IsSaid (λ e. none_named _ tt) (λ e.
+      cond_both (step.kind == 10) _ _ IsSaid (λ e. none_named _ tt) (λ e.
+      cond_both (step.kind == 11) _ _ IsSaid (λ e. none_named _ tt) (λ e.
+      cond_both (step.kind == 12) _ _ IsSaid (λ e. none_named _ tt) (λ e.
+      cond_both (step.kind == 13) _ _ IsSaid (λ e. none_named _ tt) (λ e.
+      cond_both (step.kind == 14) _ _ IsSaid (λ e. none_named _ tt) (λ e.
+      cond_both (step.kind == 15) _ _ IsSaid (λ e. on_text big step.text (slice_get texts step.text) refl) (λ e.
+      cond_both (step.kind == 16) _ _ IsSaid (λ e. on_type (type_coded step.value_type)) (λ e. none_named _ tt))))))))))))))))
 
   on_steps : (big : Bool) (numbers : List DwexprStep) (steps : List Step) → map (step_coded big texts) numbers ≡ map Ok steps → OnSteps steps
   on_steps big [] [] e = tt
@@ -168,11 +149,11 @@ module _ (texts : List DwexprText) where
       let more : map (step_coded big texts) numbers ≡ map Ok steps = cc in
       (subst OnSaid one (on_said big number).on, on_steps big numbers steps more)
 
-  snoc_inputs : (inputs : List Input) (input : Input) → OnInputs P inputs → OnAnswer P input.answer → OnInputs P (inputs ++ input ∷ [])
+  snoc_inputs : (inputs : List Input) (input : Input) → OnInputs P inputs → OnGiven P input.answer → OnInputs P (inputs ++ input ∷ [])
   snoc_inputs [] input h i = (i, tt)
   snoc_inputs (first ∷ inputs) input h i = (h.0, snoc_inputs inputs input h.1 i)
 
-  on_heard : (settings : First) (inputs : List Input) (answer : Answer) (o : Option Outcome) → OnInputs P inputs → OnAnswer P answer → OnInputs P (heard settings inputs answer o)
+  on_heard : (settings : First) (inputs : List Input) (answer : Answer) (o : Option Outcome) → OnInputs P inputs → OnGiven P answer → OnInputs P (heard settings inputs answer o)
   on_heard settings inputs answer None h a = h
   on_heard settings inputs answer (Some (RequestOutcome request positions)) h a = snoc_inputs inputs _ h a
   on_heard settings inputs answer (Some (FaultOutcome fault)) h a = h

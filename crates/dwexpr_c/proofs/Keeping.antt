@@ -32,11 +32,11 @@ module _ (x new : State) where
     evaluate_keeps (Start initial_value) h = h.kept.setup
     evaluate_keeps (CompleteStatus value) h = same_keeps h.1
     evaluate_keeps (FaultStatus error) h = same_keeps h.1
-    evaluate_keeps (RequestStatus request waiting) h = absurd h
+    evaluate_keeps (RequestStatus request on_answer) h = absurd h
     evaluate_keeps Running h = absurd h
 
     resume_keeps : (answer : requests.Answer) (status : Status) → IsOpenFor (kind_of_answer answer) status → Resumes text_of_placed (λ x. x) (input_of x answer) x new told status → new.setup ≡ x.setup
-    resume_keeps answer (RequestStatus request waiting) asking h = h.kept.setup
+    resume_keeps answer (RequestStatus request on_answer) asking h = h.kept.setup
     resume_keeps answer (FaultStatus error) asking h = same_keeps h.1
     resume_keeps answer (Start initial_value) asking h = absurd asking
     resume_keeps answer (CompleteStatus value) asking h = absurd asking

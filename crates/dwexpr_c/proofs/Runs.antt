@@ -46,12 +46,12 @@ module _ (x new : State) (told : Result (EvaluationResult Placed ℕ ℕ) Error)
   told_evaluated (CompleteStatus value) e s closed h =
       let stays : new.status ≡ CompleteStatus value = ap (λ (z : State). z.status) h.1 ∙ e in
       subst (λ (t : Status). IsReplied (reply_of text_of_placed (λ x. x) told) t) (sym stays) (ap (λ (t : Result (EvaluationResult Placed ℕ ℕ) Error). reply_of text_of_placed (λ x. x) t) h.0)
-  told_evaluated (RequestStatus request waiting) e s closed h = absurd closed
+  told_evaluated (RequestStatus request on_answer) e s closed h = absurd closed
   told_evaluated (FaultStatus error) e s closed h = absurd s
   told_evaluated Running e s closed h = absurd s
 
   told_resumed : (answer : requests.Answer) (status : Status) → ShowsStatus texts status out → IsOpenFor (kind_of_answer answer) status → Resumes text_of_placed (λ x. x) (input_of x answer) x new told status → IsReplied (reply_of text_of_placed (λ x. x) told) new.status
-  told_resumed answer (RequestStatus request waiting) s asking h = h.status
+  told_resumed answer (RequestStatus request on_answer) s asking h = h.status
   told_resumed answer (Start initial_value) s asking h = absurd asking
   told_resumed answer (CompleteStatus value) s asking h = absurd asking
   told_resumed answer (FaultStatus error) s asking h = absurd s
@@ -65,7 +65,7 @@ module _ (x new : State) (told : Result (EvaluationResult Placed ℕ ℕ) Error)
   told_by_call (MaxIterations maximum) s h = absurd h
 
 shows_told : (texts : List DwexprText) (out : DwexprOutcome) (reply : Reply) (status : Status) → IsReplied reply status → ShowsReply texts reply out → ShowsStatus texts status out
-shows_told texts out reply (RequestStatus request waiting) e h = subst (λ (r : Reply). ShowsReply texts r out) e h
+shows_told texts out reply (RequestStatus request on_answer) e h = subst (λ (r : Reply). ShowsReply texts r out) e h
 shows_told texts out reply (CompleteStatus value) e h = subst (λ (r : Reply). ShowsReply texts r out) e h
 shows_told texts out reply (FaultStatus error) e h = absurd (subst (λ (r : Reply). ShowsReply texts r out) e h)
 shows_told texts out reply (Start initial_value) e h = absurd e
@@ -88,7 +88,7 @@ no_fault texts told x (Some (RequestOutcome request positions)) status out e s h
 no_fault texts told x (Some (CompleteOutcome pieces value)) status out e s h = tt
 no_fault texts told x (Some (FaultOutcome fault)) (FaultStatus error) out e s h = absurd s
 no_fault texts told x (Some (FaultOutcome fault)) (Start initial_value) out e s h = absurd (subst (IsInFault fault) e h)
-no_fault texts told x (Some (FaultOutcome fault)) (RequestStatus request waiting) out e s h = absurd (subst (IsInFault fault) e h)
+no_fault texts told x (Some (FaultOutcome fault)) (RequestStatus request on_answer) out e s h = absurd (subst (IsInFault fault) e h)
 no_fault texts told x (Some (FaultOutcome fault)) (CompleteStatus value) out e s h = absurd (subst (IsInFault fault) e h)
 no_fault texts told x (Some (FaultOutcome fault)) Running out e s h = absurd (subst (IsInFault fault) e h)
 
@@ -103,7 +103,7 @@ stands_at_fault : (told : Told) (x : State) (o : Option Outcome) (fault : Fault)
 stands_at_fault told x o fault (FaultStatus error) e t h =
     let same : fault_of error ≡ fault = cc in
     stopped_by told x o error e h ∙ ap (λ (f : Fault). Some (FaultOutcome f)) same
-stands_at_fault told x o fault (RequestStatus request waiting) e t h = absurd (let s : FaultReply fault ≡ RequestReply request = t in cc)
+stands_at_fault told x o fault (RequestStatus request on_answer) e t h = absurd (let s : FaultReply fault ≡ RequestReply request = t in cc)
 stands_at_fault told x o fault (CompleteStatus value) e t h = absurd (let s : FaultReply fault ≡ CompleteReply = t in cc)
 stands_at_fault told x o fault (Start initial_value) e t h = absurd t
 stands_at_fault told x o fault Running e t h = absurd t
@@ -113,17 +113,17 @@ abbrev BlockNowhere : List DwexprText → Option Outcome → Type 0
 BlockNowhere texts (Some (RequestOutcome request positions)) = AsksNowhere texts (RequestReply request)
 BlockNowhere texts _ = ⊥
 
-waiting_asks : (texts : List DwexprText) (told : Told) (x : State) (o : Option Outcome) (request : Request) (waiting : requests.Waiting) → x.status ≡ RequestStatus request waiting → AsksNowhere texts (RequestReply request) → StandsAt told x o → BlockNowhere texts o
-waiting_asks texts told x None request waiting e a h = absurd (let s : RequestStatus request waiting ≡ Start told.settings.initial_value = sym e ∙ h.0 in cc)
-waiting_asks texts told x (Some (RequestOutcome other positions)) request waiting e a h =
-    let is : IsInRequest other positions x (RequestStatus request waiting) = subst (IsInRequest other positions x) e h.0 in
+request_asks : (texts : List DwexprText) (told : Told) (x : State) (o : Option Outcome) (request : Request) (on_answer : requests.OnAnswer) → x.status ≡ RequestStatus request on_answer → AsksNowhere texts (RequestReply request) → StandsAt told x o → BlockNowhere texts o
+request_asks texts told x None request on_answer e a h = absurd (let s : RequestStatus request on_answer ≡ Start told.settings.initial_value = sym e ∙ h.0 in cc)
+request_asks texts told x (Some (RequestOutcome other positions)) request on_answer e a h =
+    let is : IsInRequest other positions x (RequestStatus request on_answer) = subst (IsInRequest other positions x) e h.0 in
     subst (λ (r : Request). AsksNowhere texts (RequestReply r)) is.0 a
-waiting_asks texts told x (Some (FaultOutcome fault)) request waiting e a h = absurd (subst (IsInFault fault) e h)
-waiting_asks texts told x (Some (CompleteOutcome pieces value)) request waiting e a h = absurd (let s : RequestStatus request waiting ≡ CompleteStatus value = sym e ∙ h.0 in cc)
+request_asks texts told x (Some (FaultOutcome fault)) request on_answer e a h = absurd (subst (IsInFault fault) e h)
+request_asks texts told x (Some (CompleteOutcome pieces value)) request on_answer e a h = absurd (let s : RequestStatus request on_answer ≡ CompleteStatus value = sym e ∙ h.0 in cc)
 
 -- it stands at the block that is asked about
 stands_at_block : (texts : List DwexprText) (told : Told) (x : State) (o : Option Outcome) (reply : Reply) (status : Status) → x.status ≡ status → IsReplied reply status → AsksNowhere texts reply → StandsAt told x o → BlockNowhere texts o
-stands_at_block texts told x o reply (RequestStatus request waiting) e t a h = waiting_asks texts told x o request waiting e (subst (AsksNowhere texts) t a) h
+stands_at_block texts told x o reply (RequestStatus request on_answer) e t a h = request_asks texts told x o request on_answer e (subst (AsksNowhere texts) t a) h
 stands_at_block texts told x o reply (CompleteStatus value) e t a h = absurd (subst (AsksNowhere texts) t a)
 stands_at_block texts told x o reply (FaultStatus error) e t a h = absurd (subst (AsksNowhere texts) t a)
 stands_at_block texts told x o reply (Start initial_value) e t a h = absurd t

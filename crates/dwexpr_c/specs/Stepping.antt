@@ -68,7 +68,7 @@ DoesStep texts said old new before after (Err end) = Stops texts said old new en
 -- the outcome shows where an evaluation without a fault stands
 abbrev pub ShowsStatus : List DwexprText → Status → DwexprOutcome → Type 0
 ShowsStatus texts (Start initial_value) out = out ≡ blank_outcome
-ShowsStatus texts (RequestStatus request waiting) out = ShowsRequest texts request out
+ShowsStatus texts (RequestStatus request on_answer) out = ShowsRequest texts request out
 ShowsStatus texts (CompleteStatus value) out = out ≡ request_outcome 1 0
 ShowsStatus texts _ out = ⊥
 

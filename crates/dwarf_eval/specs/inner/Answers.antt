@@ -1,7 +1,7 @@
 -- What a machine is given, and what it waits for.
 use Rattle.std.specs.Prelude.{◌≡◌}
 use Rattle.dwarf_base.specs.Reads.{Text}
-use Rattle.dwarf_meaning.specs.Kinds.{kind_of_request, kind_of_waiting}
+use Rattle.dwarf_meaning.specs.Kinds.{kind_of_request}
 use Rattle.dwarf_meaning.specs.Inputs.{IsFresh}
 use Rattle.dwarf_meaning.specs.declared.kinds.WaitingKind.{WaitingKind}
 use Rattle.dwarf_meaning.specs.declared.kinds.WaitingKind.TheVariants as kind
@@ -15,42 +15,49 @@ use Rattle.dwarf_eval.specs.declared.run.states.OnAnswer.{OnAnswer}
 
 -- what a machine is given, as an answer
 abbrev pub answer_of : {R : Type 0} → (R → Text) → Given R → requests.Answer
-answer_of text (given.Memory value) = requests.MemoryAnswer value
-answer_of text (given.Register value) = requests.RegisterAnswer value
-answer_of text (given.WasmValue value) = requests.WasmAnswer value
-answer_of text (given.EntryValue value) = requests.EntryAnswer value
-answer_of text (given.FrameBase number) = requests.FrameBaseAnswer number
-answer_of text (given.Tls number) = requests.TlsAnswer number
-answer_of text (given.CallFrameCfa number) = requests.CfaAnswer number
-answer_of text (given.ParameterRef number) = requests.ParameterAnswer number
-answer_of text (given.RelocatedAddress number) = requests.RelocatedAnswer number
-answer_of text (given.IndexedAddress number) = requests.IndexedAnswer number
+answer_of text (given.Memory value) = requests.ValueAnswer kind.Memory value
+answer_of text (given.Register value) = requests.ValueAnswer kind.Register value
+answer_of text (given.WasmValue value) = requests.ValueAnswer kind.WasmValue value
+answer_of text (given.EntryValue value) = requests.ValueAnswer kind.EntryValue value
+answer_of text (given.FrameBase number) = requests.NumberAnswer kind.FrameBase number
+answer_of text (given.Tls number) = requests.NumberAnswer kind.Tls number
+answer_of text (given.CallFrameCfa number) = requests.NumberAnswer kind.CallFrameCfa number
+answer_of text (given.ParameterRef number) = requests.NumberAnswer kind.ParameterRef number
+answer_of text (given.RelocatedAddress number) = requests.NumberAnswer kind.RelocatedAddress number
+answer_of text (given.IndexedAddress number) = requests.NumberAnswer kind.IndexedAddress number
 answer_of text (given.AtLocation expression) = requests.LocationAnswer (text expression)
 answer_of text (given.BaseType value_type) = requests.BaseTypeAnswer value_type
 
+-- an answer of this kind is pushed as it is, or run, unless its requests say what else is done with it
+abbrev pub IsFor : WaitingKind → requests.OnAnswer → Type 0
+IsFor kind.Register on_answer = Unit {0}
+IsFor kind.FrameBase on_answer = Unit {0}
+IsFor kind.BaseType on_answer = Unit {0}
+IsFor _ on_answer = on_answer ≡ requests.Push
+
 -- a request of this kind is open
 abbrev pub IsWaitingFor : WaitingKind → rest.Status → Type 0
-IsWaitingFor kind (RequestStatus request waiting) = kind_of_waiting waiting ≡ kind
+IsWaitingFor kind (RequestStatus request on_answer) = (kind_of_request request ≡ kind) × IsFor kind on_answer
 IsWaitingFor kind _ = ⊥
 
--- the open request waits to do this with its answer
-abbrev pub IsWaitingTo : requests.Waiting → rest.Status → Type 0
-IsWaitingTo wanted (RequestStatus request waiting) = waiting ≡ wanted
-IsWaitingTo wanted _ = ⊥
+-- a request of this kind is open, to do this with its answer
+abbrev pub IsWaitingTo : WaitingKind → requests.OnAnswer → rest.Status → Type 0
+IsWaitingTo kind wanted (RequestStatus request on_answer) = (kind_of_request request ≡ kind) × (on_answer ≡ wanted)
+IsWaitingTo kind wanted _ = ⊥
 
 -- this is what is done with the answer to the open request, if it isn't pushed as it is
 abbrev pub IsDoneWith : {R : Type 0} → (R → Text) → OnAnswer R → rest.Status → Type 0
-IsDoneWith text on_answer (RequestStatus request waiting) =
-    (kind_of_waiting waiting ≡ kind.Register → waiting ≡ requests.Register (offset_of on_answer))
-    × (kind_of_waiting waiting ≡ kind.FrameBase → waiting ≡ requests.FrameBase (offset_of on_answer))
-    × (kind_of_waiting waiting ≡ kind.BaseType → waiting ≡ typed_by text on_answer)
+IsDoneWith text on_answer (RequestStatus request wanted) =
+    (kind_of_request request ≡ kind.Register → wanted ≡ requests.Add (offset_of on_answer))
+    × (kind_of_request request ≡ kind.FrameBase → wanted ≡ requests.Add (offset_of on_answer))
+    × (kind_of_request request ≡ kind.BaseType → wanted ≡ typed_by text on_answer)
 IsDoneWith text on_answer _ = Unit {0}
 
--- by the status: an evaluation at the start is fresh, an open request waits for an answer of the kind that it asks for,
+-- by the status: an evaluation at the start is fresh, what is done with the answer to an open request is for its kind,
 -- and none runs
 abbrev pub IsAtRestBy : rest.State → rest.Status → Type 0
 IsAtRestBy x (Start initial_value) = IsFresh x initial_value
-IsAtRestBy x (RequestStatus request waiting) = kind_of_waiting waiting ≡ kind_of_request request
+IsAtRestBy x (RequestStatus request on_answer) = IsFor (kind_of_request request) on_answer
 IsAtRestBy x Running = ⊥
 IsAtRestBy x _ = Unit {0}
 

@@ -48,39 +48,29 @@ offset_of (on.Add offset) = offset
 offset_of _ = pos 0
 
 -- what is done with a base type
-abbrev pub typed_by : {R : Type 0} → (R → Text) → OnAnswer R → requests.Waiting
-typed_by text (on.Parse value) = requests.TypedLiteral (text value)
+abbrev pub typed_by : {R : Type 0} → (R → Text) → OnAnswer R → requests.OnAnswer
+typed_by text (on.Parse literal) = requests.Parse (text literal)
 typed_by text on.Convert = requests.Convert
 typed_by text _ = requests.Reinterpret
 
 -- what is done with the answer to what a result asks
-abbrev pub waiting_of : {R O P : Type 0} → (R → Text) → EvaluationResult R O P → OnAnswer R → requests.Waiting
-waiting_of text (result.RequiresRegister register base_type) on_answer = requests.Register (offset_of on_answer)
-waiting_of text (result.RequiresWasmLocal index) on_answer = requests.WasmValue
-waiting_of text (result.RequiresWasmGlobal index) on_answer = requests.WasmValue
-waiting_of text (result.RequiresWasmStack index) on_answer = requests.WasmValue
-waiting_of text result.RequiresFrameBase on_answer = requests.FrameBase (offset_of on_answer)
-waiting_of text (result.RequiresTls index) on_answer = requests.Tls
-waiting_of text result.RequiresCallFrameCfa on_answer = requests.CallFrameCfa
-waiting_of text (result.RequiresAtLocation offset) on_answer = requests.AtLocation
-waiting_of text (result.RequiresEntryValue expression) on_answer = requests.EntryValue
-waiting_of text (result.RequiresParameterRef offset) on_answer = requests.ParameterRef
-waiting_of text (result.RequiresRelocatedAddress address) on_answer = requests.RelocatedAddress
-waiting_of text (result.RequiresIndexedAddress index relocate) on_answer = requests.IndexedAddress
-waiting_of text (result.RequiresBaseType base_type) on_answer = typed_by text on_answer
-waiting_of text _ on_answer = requests.Memory
+abbrev pub done_with : {R O P : Type 0} → (R → Text) → EvaluationResult R O P → OnAnswer R → requests.OnAnswer
+done_with text (result.RequiresRegister register base_type) on_answer = requests.Add (offset_of on_answer)
+done_with text result.RequiresFrameBase on_answer = requests.Add (offset_of on_answer)
+done_with text (result.RequiresBaseType base_type) on_answer = typed_by text on_answer
+done_with text _ on_answer = requests.Push
 
 -- complete without a value, or in this request
-abbrev pub replied_status : Option requests.Request → requests.Waiting → Status
-replied_status None waiting = CompleteStatus None
-replied_status (Some request) waiting = RequestStatus request waiting
+abbrev pub replied_status : Option requests.Request → requests.OnAnswer → Status
+replied_status None on_answer = CompleteStatus None
+replied_status (Some request) on_answer = RequestStatus request on_answer
 
 -- where the code stands, as the definitions have it
 abbrev pub status_of : {R O P : Type 0} → (R → Text) → (O → ℕ) → EvaluationState R O P → OnAnswer R → Status
 status_of text number (state.Start initial_value) on_answer = Start initial_value
 status_of text number state.Running on_answer = Running
 status_of text number (state.Replied replied) on_answer =
-    replied_status (request_in text number replied) (waiting_of text replied on_answer)
+    replied_status (request_in text number replied) (done_with text replied on_answer)
 status_of text number (state.Complete value) on_answer = CompleteStatus (Some value)
 status_of text number (state.Failed error) on_answer = FaultStatus error
 

@@ -11,7 +11,7 @@ use Rattle.dwarf_value.specs.Values.{to_u64_of}
 use Rattle.dwarf_meaning.specs.Operations.{Operation}
 use Rattle.dwarf_meaning.specs.Operations as operation
 use Rattle.dwarf_meaning.specs.Locations.{Location, Piece, sized}
-use Rattle.dwarf_meaning.specs.Requests.{Request, Waiting, Answer, Input}
+use Rattle.dwarf_meaning.specs.Requests.{Request, OnAnswer, Answer, Input}
 use Rattle.dwarf_meaning.specs.Acts.{Act, RequestAct, act}
 use Rattle.dwarf_meaning.specs.RunLaws.{waits_of}
 use Rattle.dwarf_meaning.specs.Stores.{address_bits, Store, Last, Plain, Pieced, Located, push_value, push_values, push_piece, push_caller, Next, Goes, RequestNext, FaultNext, done}
@@ -159,9 +159,9 @@ pub record LeadsToPlace (f : Store → Next) (old new : State) : Type 0 where
   pub alone : new ≡ with_store new.store (with_place new.place old)
 
 -- f leads to a request
-pub record LeadsToRequest (f : Store → Next) (request : Request) (waiting : Waiting) (old new : State) : Type 0 where
-  pub steps : Steps f old.store (RequestNext request waiting) new.store
-  pub alone : new ≡ with_store new.store (with_status (RequestStatus request waiting) old)
+pub record LeadsToRequest (f : Store → Next) (request : Request) (on_answer : OnAnswer) (old new : State) : Type 0 where
+  pub steps : Steps f old.store (RequestNext request on_answer) new.store
+  pub alone : new ≡ with_store new.store (with_status (RequestStatus request on_answer) old)
 
 -- f leads to the fault for some refusal
 pub record LeadsToFault (f : Store → Next) (error : Error) (old new : State) : Type 0 where
@@ -170,7 +170,7 @@ pub record LeadsToFault (f : Store → Next) (error : Error) (old new : State) :
 
 abbrev pub LeadsBy : (Store → Next) → State → State → Status → Type 0
 LeadsBy f old new Running = LeadsToPlace f old new
-LeadsBy f old new (RequestStatus request waiting) = LeadsToRequest f request waiting old new
+LeadsBy f old new (RequestStatus request on_answer) = LeadsToRequest f request on_answer old new
 LeadsBy f old new (FaultStatus error) = LeadsToFault f error old new
 LeadsBy f old new _ = ⊥
 
@@ -183,9 +183,9 @@ abbrev pub Performs : Act → State → State → Type 0
 Performs a old new = Leads (done_at a old) old new
 
 -- a request was opened, if there is one
-abbrev pub Asks : Option Request → Waiting → State → State → Type 0
-Asks (Some request) waiting old new = Performs (RequestAct old.store.values request waiting) old new
-Asks None waiting old new = Unit {0}
+abbrev pub Asks : Option Request → OnAnswer → State → State → Type 0
+Asks (Some request) on_answer old new = Performs (RequestAct old.store.values request on_answer) old new
+Asks None on_answer old new = Unit {0}
 
 -- a piece after a location: it is ended, or the state keeps the fault
 abbrev pub EndsLocated : Location → Option (ℕ × Option ℕ) → State → State → Type 0
@@ -198,7 +198,7 @@ EndsLocated location None old new = new ≡ with_status (FaultStatus (InvalidExp
 
 -- 1 if a call ends in a request or in completion
 abbrev pub replies_by : Status → ℕ
-replies_by (RequestStatus request waiting) = 1
+replies_by (RequestStatus request on_answer) = 1
 replies_by (CompleteStatus value) = 1
 replies_by _ = 0
 

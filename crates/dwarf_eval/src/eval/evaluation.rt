@@ -253,7 +253,7 @@ impl<R: Reader + Copy, S: EvaluationStorage<R>> Evaluation<R, S> {
     pub fn resume_with_memory(&mut self, value: Value) -> Result<EvaluationResult<R>>
         requires { IsOpenFor kind.Memory self.old.status }
         ensures { AnswersWith R.text R.Offset.number
-            (requests.MemoryAnswer value) self.old self.new result }
+            (requests.ValueAnswer kind.Memory value) self.old self.new result }
     {
         self.resume(Given::Memory(value))
     }
@@ -268,7 +268,7 @@ impl<R: Reader + Copy, S: EvaluationStorage<R>> Evaluation<R, S> {
     pub fn resume_with_register(&mut self, value: Value) -> Result<EvaluationResult<R>>
         requires { IsOpenFor kind.Register self.old.status }
         ensures { AnswersWith R.text R.Offset.number
-            (requests.RegisterAnswer value) self.old self.new result }
+            (requests.ValueAnswer kind.Register value) self.old self.new result }
     {
         self.resume(Given::Register(value))
     }
@@ -284,7 +284,7 @@ impl<R: Reader + Copy, S: EvaluationStorage<R>> Evaluation<R, S> {
     pub fn resume_with_wasm_value(&mut self, value: Value) -> Result<EvaluationResult<R>>
         requires { IsOpenFor kind.WasmValue self.old.status }
         ensures { AnswersWith R.text R.Offset.number
-            (requests.WasmAnswer value) self.old self.new result }
+            (requests.ValueAnswer kind.WasmValue value) self.old self.new result }
     {
         self.resume(Given::WasmValue(value))
     }
@@ -299,7 +299,7 @@ impl<R: Reader + Copy, S: EvaluationStorage<R>> Evaluation<R, S> {
     pub fn resume_with_entry_value(&mut self, value: Value) -> Result<EvaluationResult<R>>
         requires { IsOpenFor kind.EntryValue self.old.status }
         ensures { AnswersWith R.text R.Offset.number
-            (requests.EntryAnswer value) self.old self.new result }
+            (requests.ValueAnswer kind.EntryValue value) self.old self.new result }
     {
         self.resume(Given::EntryValue(value))
     }
@@ -314,7 +314,7 @@ impl<R: Reader + Copy, S: EvaluationStorage<R>> Evaluation<R, S> {
     pub fn resume_with_frame_base(&mut self, frame_base: u64) -> Result<EvaluationResult<R>>
         requires { IsOpenFor kind.FrameBase self.old.status }
         ensures { AnswersWith R.text R.Offset.number
-            (requests.FrameBaseAnswer frame_base) self.old self.new result }
+            (requests.NumberAnswer kind.FrameBase frame_base) self.old self.new result }
     {
         self.resume(Given::FrameBase(frame_base))
     }
@@ -329,7 +329,7 @@ impl<R: Reader + Copy, S: EvaluationStorage<R>> Evaluation<R, S> {
     pub fn resume_with_tls(&mut self, value: u64) -> Result<EvaluationResult<R>>
         requires { IsOpenFor kind.Tls self.old.status }
         ensures { AnswersWith R.text R.Offset.number
-            (requests.TlsAnswer value) self.old self.new result }
+            (requests.NumberAnswer kind.Tls value) self.old self.new result }
     {
         self.resume(Given::Tls(value))
     }
@@ -344,7 +344,7 @@ impl<R: Reader + Copy, S: EvaluationStorage<R>> Evaluation<R, S> {
     pub fn resume_with_call_frame_cfa(&mut self, cfa: u64) -> Result<EvaluationResult<R>>
         requires { IsOpenFor kind.CallFrameCfa self.old.status }
         ensures { AnswersWith R.text R.Offset.number
-            (requests.CfaAnswer cfa) self.old self.new result }
+            (requests.NumberAnswer kind.CallFrameCfa cfa) self.old self.new result }
     {
         self.resume(Given::CallFrameCfa(cfa))
     }
@@ -375,7 +375,7 @@ impl<R: Reader + Copy, S: EvaluationStorage<R>> Evaluation<R, S> {
     pub fn resume_with_parameter_ref(&mut self, parameter_value: u64) -> Result<EvaluationResult<R>>
         requires { IsOpenFor kind.ParameterRef self.old.status }
         ensures { AnswersWith R.text R.Offset.number
-            (requests.ParameterAnswer parameter_value) self.old self.new result }
+            (requests.NumberAnswer kind.ParameterRef parameter_value) self.old self.new result }
     {
         self.resume(Given::ParameterRef(parameter_value))
     }
@@ -390,7 +390,7 @@ impl<R: Reader + Copy, S: EvaluationStorage<R>> Evaluation<R, S> {
     pub fn resume_with_relocated_address(&mut self, address: u64) -> Result<EvaluationResult<R>>
         requires { IsOpenFor kind.RelocatedAddress self.old.status }
         ensures { AnswersWith R.text R.Offset.number
-            (requests.RelocatedAnswer address) self.old self.new result }
+            (requests.NumberAnswer kind.RelocatedAddress address) self.old self.new result }
     {
         self.resume(Given::RelocatedAddress(address))
     }
@@ -405,7 +405,7 @@ impl<R: Reader + Copy, S: EvaluationStorage<R>> Evaluation<R, S> {
     pub fn resume_with_indexed_address(&mut self, address: u64) -> Result<EvaluationResult<R>>
         requires { IsOpenFor kind.IndexedAddress self.old.status }
         ensures { AnswersWith R.text R.Offset.number
-            (requests.IndexedAnswer address) self.old self.new result }
+            (requests.NumberAnswer kind.IndexedAddress address) self.old self.new result }
     {
         self.resume(Given::IndexedAddress(address))
     }

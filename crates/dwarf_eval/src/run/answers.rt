@@ -29,7 +29,7 @@ impl<R: Reader + Copy, S: EvaluationStorage<R>> Machine<R, S> {
     #[inline(always)]
     fn take_register(&mut self, value: Value)
         requires { IsWaitingFor kind.Register self.old.status }
-        ensures { Takes (requests.RegisterAnswer value) self.old self.new }
+        ensures { Takes (requests.ValueAnswer kind.Register value) self.old self.new }
     {
         let offset = self.on_answer().offset();
         self.take_offset(value, offset);
@@ -38,8 +38,8 @@ impl<R: Reader + Copy, S: EvaluationStorage<R>> Machine<R, S> {
     /// Pushes the value of a register, plus the offset in its type.
     #[inline(always)]
     fn take_offset(&mut self, value: Value, offset: i64)
-        requires { IsWaitingTo (requests.Register offset) self.old.status }
-        ensures { Takes (requests.RegisterAnswer value) self.old self.new }
+        requires { IsWaitingTo kind.Register (requests.Add offset) self.old.status }
+        ensures { Takes (requests.ValueAnswer kind.Register value) self.old self.new }
     {
         match self.sum(value, offset.cast_unsigned()) {
             Ok(sum) => self.push_answer(sum),
@@ -51,7 +51,7 @@ impl<R: Reader + Copy, S: EvaluationStorage<R>> Machine<R, S> {
     #[inline(always)]
     fn take_frame_base(&mut self, frame_base: u64)
         requires { IsWaitingFor kind.FrameBase self.old.status }
-        ensures { Takes (requests.FrameBaseAnswer frame_base) self.old self.new }
+        ensures { Takes (requests.NumberAnswer kind.FrameBase frame_base) self.old self.new }
     {
         let offset = self.on_answer().offset();
         self.take_frame_offset(frame_base, offset);
@@ -60,8 +60,8 @@ impl<R: Reader + Copy, S: EvaluationStorage<R>> Machine<R, S> {
     /// Pushes the sum of the frame base and the offset.
     #[inline(always)]
     fn take_frame_offset(&mut self, frame_base: u64, offset: i64)
-        requires { IsWaitingTo (requests.FrameBase offset) self.old.status }
-        ensures { Takes (requests.FrameBaseAnswer frame_base) self.old self.new }
+        requires { IsWaitingTo kind.FrameBase (requests.Add offset) self.old.status }
+        ensures { Takes (requests.NumberAnswer kind.FrameBase frame_base) self.old self.new }
     {
         self.push_answer(Value::Generic(frame_base.wrapping_add(offset.cast_unsigned())));
     }
@@ -81,7 +81,7 @@ impl<R: Reader + Copy, S: EvaluationStorage<R>> Machine<R, S> {
 
     /// Pushes the literal's bytes as a value of the type.
     fn take_literal(&mut self, base_type: ValueType, literal: R)
-        requires { IsWaitingTo (requests.TypedLiteral (R.text literal)) self.old.status }
+        requires { IsWaitingTo kind.BaseType (requests.Parse (R.text literal)) self.old.status }
         ensures { Takes (requests.BaseTypeAnswer base_type) self.old self.new }
     {
         match Value::parse(base_type, literal) {
@@ -92,7 +92,7 @@ impl<R: Reader + Copy, S: EvaluationStorage<R>> Machine<R, S> {
 
     /// Converts the top to the type.
     fn take_conversion(&mut self, base_type: ValueType)
-        requires { IsWaitingTo requests.Convert self.old.status }
+        requires { IsWaitingTo kind.BaseType requests.Convert self.old.status }
         ensures { Takes (requests.BaseTypeAnswer base_type) self.old self.new }
     {
         let Some(value) = self.pop() else {
@@ -107,7 +107,7 @@ impl<R: Reader + Copy, S: EvaluationStorage<R>> Machine<R, S> {
 
     /// Takes the bits on top as a value of the type.
     fn take_reinterpretation(&mut self, base_type: ValueType)
-        requires { IsWaitingTo requests.Reinterpret self.old.status }
+        requires { IsWaitingTo kind.BaseType requests.Reinterpret self.old.status }
         ensures { Takes (requests.BaseTypeAnswer base_type) self.old self.new }
     {
         let Some(value) = self.pop() else {

@@ -8,7 +8,7 @@ ghost use Rattle.dwarf_base.specs.declared.errors.Error.TheVariants.{NotEnoughSt
 ghost use Rattle.dwarf_value.specs.Values.{add_of, from_u64_of, to_u64_of, type_of};
 ghost use Rattle.dwarf_meaning.specs.Inputs.{with_status};
 ghost use Rattle.dwarf_eval.specs.Evaluation.{request_in};
-ghost use Rattle.dwarf_eval.specs.inner.Machine.{IsAlike, waiting_of};
+ghost use Rattle.dwarf_eval.specs.inner.Machine.{IsAlike, done_with};
 ghost use Rattle.dwarf_eval.specs.declared.run.states.EvaluationState.TheVariants as states;
 ghost use Rattle.dwarf_eval.specs.declared.run.states.OnAnswer.TheVariants as on;
 ghost use Rattle.dwarf_op.specs.Views.{location_of};
@@ -405,7 +405,7 @@ impl<R: Reader + Copy, S: EvaluationStorage<R>> Machine<R, S> {
     pub(crate) fn ask(&mut self, request: EvaluationResult<R>)
         requires { IsAlike R.text R.Offset.number (states.Replied request) }
         ensures { Asks (request_in R.text R.Offset.number request)
-            (waiting_of R.text request on.Push) self.old self.new }
+            (done_with R.text request on.Push) self.old self.new }
     {
         self.enter(EvaluationState::Replied(request));
     }
@@ -414,7 +414,7 @@ impl<R: Reader + Copy, S: EvaluationStorage<R>> Machine<R, S> {
     #[inline(always)]
     pub(crate) fn ask_to(&mut self, on_answer: OnAnswer<R>, request: EvaluationResult<R>)
         ensures { Asks (request_in R.text R.Offset.number request)
-            (waiting_of R.text request on_answer) self.old self.new }
+            (done_with R.text request on_answer) self.old self.new }
     {
         self.request(request, on_answer);
     }

@@ -3,10 +3,12 @@ use Rattle.dwarf_base.specs.Leb.{uleb_at, sleb_at}
 use Rattle.dwarf_base.specs.Reads.{fixed_at}
 use Rattle.dwarf_base.specs.declared.errors.Error.TheVariants.{StackFull, TooManyIterations, NotEnoughStackItems, InvalidPushObjectAddress}
 use Rattle.dwarf_value.specs.declared.types.Value.TheVariants.{U8, U16, U64}
-use Rattle.dwarf_value.specs.declared.types.ValueType.TheVariants as kind
+use Rattle.dwarf_value.specs.declared.types.ValueType.TheVariants as value_type
 use Rattle.dwarf_value.specs.Values.{type_of, bit_size_of, is_signed, is_same, word_integer, integer_of, value_of}
 use Rattle.dwarf_meaning.specs.Locations.{AtAddress}
-use Rattle.dwarf_meaning.specs.Requests.{RegisterAnswer, CfaAnswer, BaseTypeAnswer}
+use Rattle.dwarf_meaning.specs.declared.kinds.WaitingKind.TheVariants as kind
+use Rattle.dwarf_meaning.specs.Requests.{ValueAnswer, NumberAnswer, BaseTypeAnswer}
+use Rattle.dwarf_meaning.specs.Kinds.{is_same_kind}
 use Rattle.dwarf_meaning.specs.Acts.{on_top, on_some, on_result, result_of, act, use_of}
 use Rattle.dwarf_meaning.specs.Decoding.{operation_at}
 use Rattle.dwarf_meaning.specs.Opcodes.{row_of}
@@ -20,7 +22,7 @@ use Rattle.dwarf_laws.proofs.Disagreement.{agree_alike, natural}
 use Rattle.dwarf_laws.proofs.rows.premises_of_high_bits.Goals as goal
 
 pub returns : goal.returns
-unfolding uleb_at sleb_at fixed_at type_of bit_size_of is_signed is_same word_integer integer_of value_of on_top on_some on_result result_of act use_of operation_at row_of push_value push_piece push_caller most run_for
+unfolding uleb_at sleb_at fixed_at type_of bit_size_of is_signed is_same word_integer integer_of value_of on_top on_some on_result result_of act use_of is_same_kind operation_at row_of push_value push_piece push_caller most run_for
 returns c = record {
   limits_differ = record {
     one_comes = in_twenty plain Never (text (0x31 ∷ [])) unset [] (valued 1 1) (λ more. refl);
@@ -51,25 +53,30 @@ returns c = record {
     differ = λ h. agree_alike 32 _ _ h;
   };
   numbers_differ = record {
-    one_comes = in_twenty plain Never (text (0x9c ∷ [])) unset (given unset (CfaAnswer 0 ∷ [])) (valued 0 0) (λ more. refl);
-    other_comes = in_twenty plain Never (text (0x9c ∷ [])) unset (given unset (CfaAnswer 1 ∷ [])) (valued 1 1) (λ more. refl);
+    one_comes =
+        in_twenty plain Never (text (0x9c ∷ [])) unset (given unset (NumberAnswer kind.CallFrameCfa 0 ∷ []))
+        (valued 0 0) (λ more. refl);
+    other_comes =
+        in_twenty plain Never (text (0x9c ∷ [])) unset (given unset (NumberAnswer kind.CallFrameCfa 1 ∷ []))
+        (valued 1 1) (λ more. refl);
     differ = λ h. let e = ap natural (agree_alike 32 _ _ h).integers in omega (arith, e);
   };
   types_of_values_differ = record {
     one_comes =
-        in_twenty plain Never (text (0x70 ∷ 0x00 ∷ [])) unset (given unset (RegisterAnswer (U8 0) ∷ []))
+        in_twenty plain Never (text (0x70 ∷ 0x00 ∷ [])) unset (given unset (ValueAnswer kind.Register (U8 0) ∷ []))
         (CompleteOutcome (whole (AtAddress 0) ∷ []) (Some (U8 0))) (λ more. refl);
     other_comes =
-        in_twenty plain Never (text (0x70 ∷ 0x00 ∷ [])) unset (given unset (RegisterAnswer (U16 0) ∷ []))
+        in_twenty plain Never (text (0x70 ∷ 0x00 ∷ [])) unset (given unset (ValueAnswer kind.Register (U16 0) ∷ []))
         (CompleteOutcome (whole (AtAddress 0) ∷ []) (Some (U16 0))) (λ more. refl);
     differ = λ h. let e = (agree_alike 32 _ _ h).types in cc;
   };
   typed_values_differ_above = record {
     one_comes =
-        in_twenty plain Never (text (0x70 ∷ 0x00 ∷ [])) unset (given unset (RegisterAnswer (U64 0) ∷ []))
+        in_twenty plain Never (text (0x70 ∷ 0x00 ∷ [])) unset (given unset (ValueAnswer kind.Register (U64 0) ∷ []))
         (CompleteOutcome (whole (AtAddress 0) ∷ []) (Some (U64 0))) (λ more. refl);
     other_comes =
-        in_twenty plain Never (text (0x70 ∷ 0x00 ∷ [])) unset (given unset (RegisterAnswer (U64 0x100000000) ∷ []))
+        in_twenty plain Never (text (0x70 ∷ 0x00 ∷ [])) unset
+        (given unset (ValueAnswer kind.Register (U64 0x100000000) ∷ []))
         (CompleteOutcome (whole (AtAddress 0x100000000) ∷ []) (Some (U64 0x100000000))) (λ more. refl);
     differ = λ h. let e = ap natural (agree_alike 32 _ _ h).integers in omega (arith, e);
   };
@@ -84,10 +91,10 @@ returns c = record {
   };
   types_differ = record {
     one_comes =
-        in_twenty plain Never (text (0x30 ∷ 0xa8 ∷ 0x05 ∷ [])) unset (given unset (BaseTypeAnswer kind.U8 ∷ []))
+        in_twenty plain Never (text (0x30 ∷ 0xa8 ∷ 0x05 ∷ [])) unset (given unset (BaseTypeAnswer value_type.U8 ∷ []))
         (CompleteOutcome (whole (AtAddress 0) ∷ []) (Some (U8 0))) (λ more. refl);
     other_comes =
-        in_twenty plain Never (text (0x30 ∷ 0xa8 ∷ 0x05 ∷ [])) unset (given unset (BaseTypeAnswer kind.U16 ∷ []))
+        in_twenty plain Never (text (0x30 ∷ 0xa8 ∷ 0x05 ∷ [])) unset (given unset (BaseTypeAnswer value_type.U16 ∷ []))
         (CompleteOutcome (whole (AtAddress 0) ∷ []) (Some (U16 0))) (λ more. refl);
     differ = λ h. let e = (agree_alike 32 _ _ h).types in cc;
   };

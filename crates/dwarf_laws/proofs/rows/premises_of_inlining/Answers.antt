@@ -5,7 +5,9 @@ use Rattle.dwarf_base.specs.declared.errors.Error.TheVariants.{StackFull, TooMan
 use Rattle.dwarf_value.specs.Values.{type_of, bit_size_of, is_signed, is_same, word_integer, integer_of, value_of}
 use Rattle.dwarf_meaning.specs.Operations.{UnitRef}
 use Rattle.dwarf_meaning.specs.Locations.{AtAddress}
-use Rattle.dwarf_meaning.specs.Requests.{RequiresCallFrameCfa, RequiresAtLocation, CfaAnswer, LocationAnswer}
+use Rattle.dwarf_meaning.specs.declared.kinds.WaitingKind.TheVariants as kind
+use Rattle.dwarf_meaning.specs.Requests.{RequiresCallFrameCfa, RequiresAtLocation, NumberAnswer, LocationAnswer}
+use Rattle.dwarf_meaning.specs.Kinds.{is_same_kind}
 use Rattle.dwarf_meaning.specs.Acts.{on_top, on_some, on_result, result_of, act, use_of}
 use Rattle.dwarf_meaning.specs.Decoding.{operation_at}
 use Rattle.dwarf_meaning.specs.Opcodes.{row_of}
@@ -19,7 +21,7 @@ use Rattle.dwarf_laws.proofs.Disagreement.{end_ended, number_of}
 use Rattle.dwarf_laws.proofs.rows.premises_of_inlining.Goals as goal
 
 pub returns : goal.returns
-unfolding uleb_at sleb_at fixed_at type_of bit_size_of is_signed is_same word_integer integer_of value_of on_top on_some on_result result_of act use_of operation_at row_of push_value push_piece push_caller most run_for
+unfolding uleb_at sleb_at fixed_at type_of bit_size_of is_signed is_same word_integer integer_of value_of on_top on_some on_result result_of act use_of is_same_kind operation_at row_of push_value push_piece push_caller most run_for
 returns c = record {
   callers_have_a_limit = record {
     outer_comes =
@@ -68,10 +70,11 @@ returns c = record {
   call_is_not_reached = record {
     outer_comes =
         in_twenty plain Never (text (0x9c ∷ 0x98 ∷ 0x05 ∷ 0x00 ∷ [])) unset
-        (given unset (calls (0x31 ∷ []) ∷ CfaAnswer 0 ∷ []))
+        (given unset (calls (0x31 ∷ []) ∷ NumberAnswer kind.CallFrameCfa 0 ∷ []))
         (RequestOutcome RequiresCallFrameCfa (open_at (0x9c ∷ 0x98 ∷ 0x05 ∷ 0x00 ∷ []) 1 ∷ [])) (λ more. refl);
     inlined_comes =
-        in_twenty plain Never (text (0x9c ∷ 0x31 ∷ [])) unset (given unset (CfaAnswer 0 ∷ [])) (valued 1 1) (λ more. refl);
+        in_twenty plain Never (text (0x9c ∷ 0x31 ∷ [])) unset (given unset (NumberAnswer kind.CallFrameCfa 0 ∷ []))
+        (valued 1 1) (λ more. refl);
     differ = λ h. end_ended _ _ h;
   };
   maximum_is_set_at_the_answer = record {

@@ -6,7 +6,9 @@ use Rattle.dwarf_value.specs.declared.types.Value.TheVariants.{Generic}
 use Rattle.dwarf_value.specs.Values.{type_of, bit_size_of, is_signed, is_same, word_integer, integer_of, value_of}
 use Rattle.dwarf_meaning.specs.Operations.{UnitRef}
 use Rattle.dwarf_meaning.specs.Locations.{InRegister, AtAddress}
-use Rattle.dwarf_meaning.specs.Requests.{RequiresCallFrameCfa, RequiresAtLocation, RequiresRelocatedAddress, RegisterAnswer, CfaAnswer, RelocatedAnswer}
+use Rattle.dwarf_meaning.specs.declared.kinds.WaitingKind.TheVariants as kind
+use Rattle.dwarf_meaning.specs.Requests.{RequiresCallFrameCfa, RequiresAtLocation, RequiresRelocatedAddress, ValueAnswer, NumberAnswer}
+use Rattle.dwarf_meaning.specs.Kinds.{is_same_kind}
 use Rattle.dwarf_meaning.specs.Acts.{on_top, on_some, on_result, result_of, act, use_of}
 use Rattle.dwarf_meaning.specs.Decoding.{operation_at}
 use Rattle.dwarf_meaning.specs.Opcodes.{row_of}
@@ -19,7 +21,7 @@ use Rattle.dwarf_meaning.proofs.FewTurns.{in_twenty}
 use Rattle.dwarf_meaning.proofs.rows.worked_rows.Goals as goal
 
 pub returns : goal.returns
-unfolding uleb_at sleb_at fixed_at type_of bit_size_of is_signed is_same word_integer integer_of value_of on_top on_some on_result result_of act use_of operation_at row_of push_value push_piece push_caller most run_for
+unfolding uleb_at sleb_at fixed_at type_of bit_size_of is_signed is_same word_integer integer_of value_of on_top on_some on_result result_of act use_of is_same_kind operation_at row_of push_value push_piece push_caller most run_for
 returns c = record {
   sum = in_twenty plain Never (text (0x33 ∷ 0x35 ∷ 0x22 ∷ [])) unset [] (valued 8 8) (λ more. refl);
   nothing = in_twenty plain Never (text []) unset [] (FaultOutcome NotEnoughStackItems) (λ more. refl);
@@ -48,22 +50,22 @@ returns c = record {
   literal_behind_location = in_twenty plain Never (text (0x50 ∷ 0x31 ∷ [])) unset [] (FaultOutcome (InvalidExpressionTerminator 1)) (λ more. refl);
   longer_literal_behind_location = in_twenty plain Never (text (0x50 ∷ 0x08 ∷ 0x07 ∷ [])) unset [] (FaultOutcome (InvalidExpressionTerminator 2)) (λ more. refl);
   address_asks = in_twenty plain Never (text (0x31 ∷ 0x93 ∷ 0x04 ∷ 0x03 ∷ 0x10 ∷ 0x00 ∷ 0x00 ∷ 0x00 ∷ [])) unset [] (RequestOutcome (RequiresRelocatedAddress 0x10) (open_at (0x31 ∷ 0x93 ∷ 0x04 ∷ 0x03 ∷ 0x10 ∷ 0x00 ∷ 0x00 ∷ 0x00 ∷ []) 8 ∷ [])) (λ more. refl);
-  address_after_piece = in_twenty plain Never (text (0x31 ∷ 0x93 ∷ 0x04 ∷ 0x03 ∷ 0x10 ∷ 0x00 ∷ 0x00 ∷ 0x00 ∷ [])) unset (given unset (RelocatedAnswer 0x10 ∷ [])) (FaultOutcome InvalidPiece) (λ more. refl);
-  frame_address_after_piece = in_twenty plain Never (text (0x31 ∷ 0x93 ∷ 0x04 ∷ 0x9c ∷ [])) unset (given unset (CfaAnswer 1 ∷ [])) (FaultOutcome InvalidPiece) (λ more. refl);
+  address_after_piece = in_twenty plain Never (text (0x31 ∷ 0x93 ∷ 0x04 ∷ 0x03 ∷ 0x10 ∷ 0x00 ∷ 0x00 ∷ 0x00 ∷ [])) unset (given unset (NumberAnswer kind.RelocatedAddress 0x10 ∷ [])) (FaultOutcome InvalidPiece) (λ more. refl);
+  frame_address_after_piece = in_twenty plain Never (text (0x31 ∷ 0x93 ∷ 0x04 ∷ 0x9c ∷ [])) unset (given unset (NumberAnswer kind.CallFrameCfa 1 ∷ [])) (FaultOutcome InvalidPiece) (λ more. refl);
   call_of_nothing_after_piece = in_twenty plain Never (text (0x31 ∷ 0x93 ∷ 0x04 ∷ 0x98 ∷ 0x05 ∷ 0x00 ∷ [])) unset (given unset (calls [] ∷ [])) (pieced (word_at (AtAddress 1) ∷ [])) (λ more. refl);
   call_of_nop_after_piece = in_twenty plain Never (text (0x31 ∷ 0x93 ∷ 0x04 ∷ 0x98 ∷ 0x05 ∷ 0x00 ∷ [])) unset (given unset (calls (0x96 ∷ []) ∷ [])) (FaultOutcome InvalidPiece) (λ more. refl);
-  called_frame_address_after_piece = in_twenty plain Never (text (0x31 ∷ 0x93 ∷ 0x04 ∷ 0x98 ∷ 0x05 ∷ 0x00 ∷ [])) unset (given unset (calls (0x9c ∷ []) ∷ CfaAnswer 1 ∷ [])) (FaultOutcome InvalidPiece) (λ more. refl);
-  call_of_nothing_last = in_twenty plain Never (text (0x31 ∷ 0x93 ∷ 0x04 ∷ 0x9c ∷ 0x98 ∷ 0x05 ∷ 0x00 ∷ [])) unset (given unset (CfaAnswer 1 ∷ calls [] ∷ [])) (pieced (word_at (AtAddress 1) ∷ [])) (λ more. refl);
-  piece_last = in_twenty plain Never (text (0x31 ∷ 0x93 ∷ 0x04 ∷ 0x9c ∷ 0x93 ∷ 0x04 ∷ [])) unset (given unset (CfaAnswer 2 ∷ [])) (pieced (word_at (AtAddress 1) ∷ word_at (AtAddress 2) ∷ [])) (λ more. refl);
-  frame_address = in_twenty plain Never (text (0x9c ∷ [])) unset (given unset (CfaAnswer 1 ∷ [])) (valued 1 1) (λ more. refl);
-  register_offset = in_twenty plain Never (text (0x70 ∷ 0x7f ∷ [])) unset (given unset (RegisterAnswer (Generic 0) ∷ [])) (valued 0xffffffff 0xffffffff) (λ more. refl);
-  register_offset_of_high_bits = in_twenty plain Never (text (0x70 ∷ 0x7f ∷ [])) unset (given unset (RegisterAnswer (Generic 0x500000000) ∷ [])) (valued 0xffffffff 0xffffffff) (λ more. refl);
+  called_frame_address_after_piece = in_twenty plain Never (text (0x31 ∷ 0x93 ∷ 0x04 ∷ 0x98 ∷ 0x05 ∷ 0x00 ∷ [])) unset (given unset (calls (0x9c ∷ []) ∷ NumberAnswer kind.CallFrameCfa 1 ∷ [])) (FaultOutcome InvalidPiece) (λ more. refl);
+  call_of_nothing_last = in_twenty plain Never (text (0x31 ∷ 0x93 ∷ 0x04 ∷ 0x9c ∷ 0x98 ∷ 0x05 ∷ 0x00 ∷ [])) unset (given unset (NumberAnswer kind.CallFrameCfa 1 ∷ calls [] ∷ [])) (pieced (word_at (AtAddress 1) ∷ [])) (λ more. refl);
+  piece_last = in_twenty plain Never (text (0x31 ∷ 0x93 ∷ 0x04 ∷ 0x9c ∷ 0x93 ∷ 0x04 ∷ [])) unset (given unset (NumberAnswer kind.CallFrameCfa 2 ∷ [])) (pieced (word_at (AtAddress 1) ∷ word_at (AtAddress 2) ∷ [])) (λ more. refl);
+  frame_address = in_twenty plain Never (text (0x9c ∷ [])) unset (given unset (NumberAnswer kind.CallFrameCfa 1 ∷ [])) (valued 1 1) (λ more. refl);
+  register_offset = in_twenty plain Never (text (0x70 ∷ 0x7f ∷ [])) unset (given unset (ValueAnswer kind.Register (Generic 0) ∷ [])) (valued 0xffffffff 0xffffffff) (λ more. refl);
+  register_offset_of_high_bits = in_twenty plain Never (text (0x70 ∷ 0x7f ∷ [])) unset (given unset (ValueAnswer kind.Register (Generic 0x500000000) ∷ [])) (valued 0xffffffff 0xffffffff) (λ more. refl);
   two_values_of_two = in_twenty (with_limits (record no_limits { values = Some 2 })) Never (text (0x31 ∷ 0x32 ∷ [])) unset [] (valued 2 2) (λ more. refl);
   three_values_of_two = in_twenty (with_limits (record no_limits { values = Some 2 })) Never (text (0x31 ∷ 0x32 ∷ 0x33 ∷ [])) unset [] (FaultOutcome StackFull) (λ more. refl);
   second_push_refused = in_twenty plain (After 0 1) (text (0x31 ∷ 0x32 ∷ [])) unset [] (FaultOutcome StackFull) (λ more. refl);
   piece_refused = in_twenty plain (After 0 1) (text (0x31 ∷ [])) unset [] (FaultOutcome StackFull) (λ more. refl);
   later_push_refused = in_twenty plain (After 0 2) (text (0x31 ∷ [])) unset [] (valued 1 1) (λ more. refl);
   asks_before_refusal = in_twenty plain (After 1 0) (text (0x31 ∷ 0x9c ∷ [])) unset [] (RequestOutcome RequiresCallFrameCfa (open_at (0x31 ∷ 0x9c ∷ []) 2 ∷ [])) (λ more. refl);
-  answer_refused = in_twenty plain (After 1 0) (text (0x31 ∷ 0x9c ∷ [])) unset (given unset (CfaAnswer 1 ∷ [])) (FaultOutcome StackFull) (λ more. refl);
-  answer_of_another_kind = in_twenty plain Never (text (0x9c ∷ [])) unset (given unset (RelocatedAnswer 1 ∷ [])) (RequestOutcome RequiresCallFrameCfa (open_at (0x9c ∷ []) 1 ∷ [])) (λ more. refl);
+  answer_refused = in_twenty plain (After 1 0) (text (0x31 ∷ 0x9c ∷ [])) unset (given unset (NumberAnswer kind.CallFrameCfa 1 ∷ [])) (FaultOutcome StackFull) (λ more. refl);
+  answer_of_another_kind = in_twenty plain Never (text (0x9c ∷ [])) unset (given unset (NumberAnswer kind.RelocatedAddress 1 ∷ [])) (RequestOutcome RequiresCallFrameCfa (open_at (0x9c ∷ []) 1 ∷ [])) (λ more. refl);
 }

@@ -12,7 +12,7 @@ pub returns-then-is_empty : goal.returns-then-is_empty
 returns-then-is_empty g c =
     let now = open_for kind.AtLocation c.args.self.now.status c.requires in
     let text = g.R.Reader.text c.args.callee in
-    empty_takes c.args.self.now now.request now.waiting now.is (LocationAnswer text) text c.mark_called.new.self (location_calls _ c.args.self.now.store.values now.waiting text now.fits)
+    empty_takes c.args.self.now now.request now.on_answer now.is (LocationAnswer text) now.fits text c.mark_called.new.self (location_calls _ c.args.self.now.store.values now.on_answer text)
     (no_bytes text.bytes (sym c.is_empty.ensures ∙ c.if-is_empty.true)) (c.mark_called.ensures ∙ ap (with_last Called) c.enter.ensures)
 
 pub returns : goal.returns
@@ -20,5 +20,5 @@ returns g c =
     let now = open_for kind.AtLocation c.args.self.now.status c.requires in
     let text = g.R.Reader.text c.args.callee in
     let some = some_bytes text.bytes (sym c.is_empty.ensures ∙ c.if-is_empty.false) in
-    text_takes c.args.self.now now.request now.waiting now.is (LocationAnswer text) text some.0 some.1 (location_calls _ c.args.self.now.store.values now.waiting text now.fits) some.2
+    text_takes c.args.self.now now.request now.on_answer now.is (LocationAnswer text) now.fits text some.0 some.1 (location_calls _ c.args.self.now.store.values now.on_answer text) some.2
     c.enter.new.self c.push_caller.new.self c.push_caller.result c.enter.ensures c.push_caller.ensures

@@ -23,20 +23,20 @@ record InFirst (shorter first : List ℕ) : Type 0 where
   whole : shorter ++ (byte ∷ lost) ≡ first
 
 record InSecond (shorter first second : List ℕ) (byte : ℕ) (lost : List ℕ) : Type 0 where
-  behind : List ℕ
-  front : shorter ≡ first ++ behind
-  whole : behind ++ (byte ∷ lost) ≡ second
+  beyond : List ℕ
+  front : shorter ≡ first ++ beyond
+  whole : beyond ++ (byte ∷ lost) ≡ second
 
 where_cut : (shorter first second : List ℕ) (byte : ℕ) (lost : List ℕ) → shorter ++ (byte ∷ lost) ≡ first ++ second
     → InFirst shorter first ⊎ InSecond shorter first second byte lost
-where_cut shorter [] second byte lost h = inr (record { behind = shorter; front = refl; whole = h })
+where_cut shorter [] second byte lost h = inr (record { beyond = shorter; front = refl; whole = h })
 where_cut [] (x ∷ first) second byte lost h = inl (record { byte = x; lost = first; whole = refl })
 where_cut (y ∷ shorter) (x ∷ first) second byte lost h =
     let head : y ≡ x = cc in
     let tail : shorter ++ (byte ∷ lost) ≡ first ++ second = cc in
     elim (where_cut shorter first second byte lost tail) [
       | inl p ↦ inl (record { byte = p.byte; lost = p.lost; whole = rw (head, p.whole) refl })
-      | inr p ↦ inr (record { behind = p.behind; front = rw (head, p.front) refl; whole = p.whole })
+      | inr p ↦ inr (record { beyond = p.beyond; front = rw (head, p.front) refl; whole = p.whole })
     ]
 
 -- one read, and then another by what the first gave
@@ -54,7 +54,7 @@ fronts_then {A} {B} read next reads nexts = record {
           whatever_follows = λ more. rw (append_assoc one.front two.front more, one.spells.whatever_follows (two.front ++ more)) (two.spells.whatever_follows more);
           cut_off = λ shorter byte lost e. elim (where_cut shorter one.front two.front byte lost e) [
             | inl q ↦ rw (one.spells.cut_off shorter q.byte q.lost q.whole) refl
-            | inr q ↦ rw (q.front, one.spells.whatever_follows q.behind) (two.spells.cut_off q.behind byte lost q.whole)
+            | inr q ↦ rw (q.front, one.spells.whatever_follows q.beyond) (two.spells.cut_off q.beyond byte lost q.whole)
           ];
         };
       };

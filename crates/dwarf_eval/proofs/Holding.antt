@@ -67,13 +67,13 @@ module _ (x : State) (location : Location) (runs : x.status ≡ Running) (inside
     pub held_unread : read x.setup x.text x.place ≡ Err (fault_of error) → Turns x new
     held_unread e = read_falls (λ inputs. held_total Never inputs (Err (fault_of error)) e ∙ course_failed x.store.count x.setup x.callers (fault_of error))
 
-  module _ (op : Operation) (behind : List ℕ) (was : read x.setup x.text x.place ≡ Ok (op, behind)) where
+  module _ (op : Operation) (beyond : List ℕ) (was : read x.setup x.text x.place ≡ Ok (op, beyond)) where
     abbrev place_then : ℕ
-    place_then = length x.text.bytes - length behind
+    place_then = length x.text.bytes - length beyond
 
     held_after_operation : (r : Refusal) (inputs : List Input) (o : Option (ℕ × Option ℕ)) (next : Next) → piece_ended_by op ≡ o → end_located x.setup location place_then (with_refusal r x.store) o ≡ next → total x r inputs ≡ total_of_course x.store.count x.setup x.callers (after_operation (run x.setup) x.setup x.text (length x.callers) place_then inputs next)
     held_after_operation r inputs o next e f =
-        held_total r inputs (Ok (op, behind)) was
+        held_total r inputs (Ok (op, beyond)) was
         ∙ (ap (λ (p : Option (ℕ × Option ℕ)). total_of_course x.store.count x.setup x.callers (after_operation (run x.setup) x.setup x.text (length x.callers) place_then inputs (end_located x.setup location place_then (with_refusal r x.store) p))) e
         ∙ ap (λ (n : Next). total_of_course x.store.count x.setup x.callers (after_operation (run x.setup) x.setup x.text (length x.callers) place_then inputs n)) f)
 
@@ -149,11 +149,11 @@ module _ (x : State) (location : Location) (runs : x.status ≡ Running) (inside
 
 -- ---- as the machine does it
 
-module _ (x : State) (location : Location) (runs : x.status ≡ Running) (inside : x.place < length x.text.bytes) (waits : x.store.last ≡ Located location) (behind new : State) where
-  pub hold_unread : (error : Error) → read x.setup x.text x.place ≡ Err (fault_of error) → behind ≡ read_to behind.place x → new ≡ with_status (FaultStatus error) behind → Turns x new
-  hold_unread error was moved is = held_unread x location runs inside waits behind.place new error (is ∙ ap (with_status (FaultStatus error)) moved) was
+module _ (x : State) (location : Location) (runs : x.status ≡ Running) (inside : x.place < length x.text.bytes) (waits : x.store.last ≡ Located location) (beyond new : State) where
+  pub hold_unread : (error : Error) → read x.setup x.text x.place ≡ Err (fault_of error) → beyond ≡ read_to beyond.place x → new ≡ with_status (FaultStatus error) beyond → Turns x new
+  hold_unread error was moved is = held_unread x location runs inside waits beyond.place new error (is ∙ ap (with_status (FaultStatus error)) moved) was
 
-  pub hold_turns : (op : Operation) → ReadsOperation op x behind → EndsLocated location (piece_ended_by op) behind new → Turns x new
+  pub hold_turns : (op : Operation) → ReadsOperation op x beyond → EndsLocated location (piece_ended_by op) beyond new → Turns x new
   hold_turns op r h =
-      held_turns x location runs inside waits op r.behind r.was new (piece_ended_by op) refl
+      held_turns x location runs inside waits op r.beyond r.was new (piece_ended_by op) refl
       (subst (λ (z : State). EndsLocated location (piece_ended_by op) z new) r.moved h)

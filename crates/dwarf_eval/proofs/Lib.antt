@@ -23,7 +23,7 @@ pub mod Finishing
 pub mod Holding
 pub mod AnswerUses
 pub mod Resuming
-pub mod Behind
+pub mod Placing
 pub mod Loads
 pub mod Endings
 pub mod Spending

@@ -81,13 +81,13 @@ total_open r x request on_answer e =
     total_waits r x [] request on_answer e ∙ course_open x.store.count x.setup x.callers request (record { text = x.text; place = x.place } ∷ []) []
 
 -- what is put in front of a course stays there once its callers' rest follows
-returned_behind : (setup : Setup) (f : Course → Course)
+returned_beyond : (setup : Setup) (f : Course → Course)
     → ((caller : Position) (depth : ℕ) (course : Course) → return_to_caller (run setup) caller depth (f course) (f course).end ≡ f (return_to_caller (run setup) caller depth course course.end))
     → (callers : List Position) (course : Course) → return_to_callers setup callers (f course) ≡ f (return_to_callers setup callers course)
-returned_behind setup f back [] course = refl
-returned_behind setup f back (caller ∷ callers) course =
+returned_beyond setup f back [] course = refl
+returned_beyond setup f back (caller ∷ callers) course =
     ap (return_to_callers setup callers) (back caller (length callers) course)
-    ∙ returned_behind setup f back callers (return_to_caller (run setup) caller (length callers) course course.end)
+    ∙ returned_beyond setup f back callers (return_to_caller (run setup) caller (length callers) course course.end)
 
 -- an operation is counted
 counted_back : (setup : Setup) (caller position : Position) (depth : ℕ) (course : Course) (end : End) → return_to_caller (run setup) caller depth (add_to_path position course) end ≡ add_to_path position (return_to_caller (run setup) caller depth course end)
@@ -100,7 +100,7 @@ course_counted n setup callers position course =
     let whole : Course = return_to_callers setup callers course in
     let k : ℕ = length whole.path in
     let e : n + suc k ≡ n + 1 + k = omega arith in
-    ap (alone n setup) (returned_behind setup (add_to_path position) (λ caller depth between. counted_back setup caller position depth between between.end) callers course) ∙ ap (closed (outcome_of_end setup whole.end)) e
+    ap (alone n setup) (returned_beyond setup (add_to_path position) (λ caller depth between. counted_back setup caller position depth between between.end) callers course) ∙ ap (closed (outcome_of_end setup whole.end)) e
 
 -- a request is no part of a total
 asked_back : (setup : Setup) (caller : Position) (request : Request) (depth : ℕ) (course : Course) (end : End) → return_to_caller (run setup) caller depth (add_request request course) end ≡ add_request request (return_to_caller (run setup) caller depth course end)
@@ -110,4 +110,4 @@ asked_back setup caller request depth course (FaultEnd fault) = refl
 
 pub course_asked : (n : ℕ) (setup : Setup) (callers : List Position) (request : Request) (course : Course) → total_of_course n setup callers (add_request request course) ≡ total_of_course n setup callers course
 course_asked n setup callers request course =
-    ap (alone n setup) (returned_behind setup (add_request request) (λ caller depth between. asked_back setup caller request depth between between.end) callers course)
+    ap (alone n setup) (returned_beyond setup (add_request request) (λ caller depth between. asked_back setup caller request depth between between.end) callers course)

@@ -74,8 +74,8 @@ falls_turns x new error runs failed falls = record {
 }
 
 -- if the operation was read
-abbrev pub behind_op : State → ℕ → State
-behind_op x place = read_to place (with_store (counted x.store) x)
+abbrev pub beyond_op : State → ℕ → State
+beyond_op x place = read_to place (with_store (counted x.store) x)
 
 module _ (x : State) (ready : IsReady x) where
   ready_total : (r : Refusal) (inputs : List Input) → total x r inputs ≡ total_of_course x.store.count x.setup x.callers (turn_counted (run x.setup) x.setup x.text x.place (length x.callers) (with_refusal r x.store) inputs)
@@ -111,7 +111,7 @@ module _ (x : State) (ready : IsReady x) where
         ∙ (course_counted x.store.count x.setup x.callers position course
         ∙ ap (λ (y : Result (Operation × List ℕ) Fault). total_of_course (x.store.count + 1) x.setup x.callers (do_operation (run x.setup) x.setup x.text (length x.callers) (counted (with_refusal r x.store)) inputs y)) e))
 
-    pub ready_unread : (new : State) (error : Error) (place : ℕ) → read x.setup x.text x.place ≡ Err (fault_of error) → new ≡ with_status (FaultStatus error) (behind_op x place) → Turns x new
+    pub ready_unread : (new : State) (error : Error) (place : ℕ) → read x.setup x.text x.place ≡ Err (fault_of error) → new ≡ with_status (FaultStatus error) (beyond_op x place) → Turns x new
     ready_unread new error place e is =
         let failed : new.status ≡ FaultStatus error = ap (λ (z : State). z.status) is in
         let count : new.store.count ≡ x.store.count + 1 = ap (λ (z : State). z.store.count) is in
@@ -128,16 +128,16 @@ module _ (x : State) (ready : IsReady x) where
           spends = fallen_spends x new error (ap faults_in ready.runs) failed (omega (arith, callers)) (omega (arith, count)) (omega (arith, lists)) (omega (arith, decodings, count)) (ap (λ (z : State). z.store.pieces) is) (omega (arith, decodings, count)) (omega (arith, decodings, count));
         })
 
-    module _ (op : Operation) (behind : List ℕ) (was : read x.setup x.text x.place ≡ Ok (op, behind)) where
+    module _ (op : Operation) (beyond : List ℕ) (was : read x.setup x.text x.place ≡ Ok (op, beyond)) where
       abbrev place_then : ℕ
-      place_then = length x.text.bytes - length behind
+      place_then = length x.text.bytes - length beyond
 
       abbrev there : State
-      there = behind_op x place_then
+      there = beyond_op x place_then
 
       ready_after_operation : (r : Refusal) (inputs : List Input) (next : Next) → done_at (act_of there op) there (with_refusal r there.store) ≡ next → total x r inputs ≡ total_of_course (x.store.count + 1) x.setup x.callers (after_operation (run x.setup) x.setup x.text (length x.callers) place_then inputs next)
       ready_after_operation r inputs next e =
-          ready_read r inputs (Ok (op, behind)) was
+          ready_read r inputs (Ok (op, beyond)) was
           ∙ ap (λ (n : Next). total_of_course (x.store.count + 1) x.setup x.callers (after_operation (run x.setup) x.setup x.text (length x.callers) place_then inputs n)) e
 
       ready_fails : (new : State) (error : Error) → new.status ≡ FaultStatus error → LeadsToFault (done_at (act_of there op) there) error there new → Turns x new
@@ -237,13 +237,13 @@ module _ (x : State) (ready : IsReady x) where
       ready_performs new h = ready_by new new.status refl h
 
 -- the operation at the place, counted, read and done
-pub counted_turns : (x mid behind new : State) (op : Operation) → IsReady x → CountsOne x mid true → ReadsOperation op mid behind → Performs (act_of behind op) behind new → Turns x new
-counted_turns x mid behind new op ready can reads h =
-    let read_there : ReadsOperation op (with_store (counted x.store) x) behind = subst (λ (z : State). ReadsOperation op z behind) can.1 reads in
-    ready_performs x ready can.0 op read_there.behind read_there.was new (subst (λ (z : State). Performs (act_of z op) z new) read_there.moved h)
+pub counted_turns : (x mid beyond new : State) (op : Operation) → IsReady x → CountsOne x mid true → ReadsOperation op mid beyond → Performs (act_of beyond op) beyond new → Turns x new
+counted_turns x mid beyond new op ready can reads h =
+    let read_there : ReadsOperation op (with_store (counted x.store) x) beyond = subst (λ (z : State). ReadsOperation op z beyond) can.1 reads in
+    ready_performs x ready can.0 op read_there.beyond read_there.was new (subst (λ (z : State). Performs (act_of z op) z new) read_there.moved h)
 
 -- the operation at the place, counted, which can't be read
-pub unread_turns : (x mid behind new : State) (error : Error) → IsReady x → CountsOne x mid true → read mid.setup mid.text mid.place ≡ Err (fault_of error) → behind ≡ read_to behind.place mid → new ≡ with_status (FaultStatus error) behind → Turns x new
-unread_turns x mid behind new error ready can was moved is =
-    ready_unread x ready can.0 new error behind.place (subst (λ (z : State). read z.setup z.text z.place ≡ Err (fault_of error)) can.1 was)
-    (is ∙ ap (with_status (FaultStatus error)) (moved ∙ ap (read_to behind.place) can.1))
+pub unread_turns : (x mid beyond new : State) (error : Error) → IsReady x → CountsOne x mid true → read mid.setup mid.text mid.place ≡ Err (fault_of error) → beyond ≡ read_to beyond.place mid → new ≡ with_status (FaultStatus error) beyond → Turns x new
+unread_turns x mid beyond new error ready can was moved is =
+    ready_unread x ready can.0 new error beyond.place (subst (λ (z : State). read z.setup z.text z.place ≡ Err (fault_of error)) can.1 was)
+    (is ∙ ap (with_status (FaultStatus error)) (moved ∙ ap (read_to beyond.place) can.1))

@@ -68,15 +68,15 @@ done x steps replies new h k n =
 
 -- ---- the law, over plain texts
 
-module _ (setup : Setup) (site : CallSite) (offset : DieReference) (told : Told) (start behind : List Step) (first : First) where
+module _ (setup : Setup) (site : CallSite) (offset : DieReference) (told : Told) (start beyond : List Step) (first : First) where
   abbrev at_call : Told
   at_call = tells told start
 
   abbrev later : List Input
-  later = added at_call.settings behind
+  later = added at_call.settings beyond
 
   abbrev all_steps : List Step
-  all_steps = start ++ (Resume (LocationAnswer (called site)) ∷ behind)
+  all_steps = start ++ (Resume (LocationAnswer (called site)) ∷ beyond)
 
   abbrev means_outer : Outcome
   means_outer = meaning setup Never (outer site) first (with_answer site first at_call.inputs later)
@@ -107,53 +107,53 @@ module _ (setup : Setup) (site : CallSite) (offset : DieReference) (told : Told)
 
     outer_inputs : (tells told all_steps).inputs ≡ with_answer site first at_call.inputs later
     outer_inputs =
-        ap (λ (t : Told). t.inputs) (tells_more told start (Resume (LocationAnswer (called site)) ∷ behind))
-        ∙ (tells_inputs at_call (Resume (LocationAnswer (called site)) ∷ behind) ∙ ap
+        ap (λ (t : Told). t.inputs) (tells_more told start (Resume (LocationAnswer (called site)) ∷ beyond))
+        ∙ (tells_inputs at_call (Resume (LocationAnswer (called site)) ∷ beyond) ∙ ap
         (λ (i : Input). at_call.inputs ++ (i ∷ later)) same_answer)
 
     outer_first : (tells told all_steps).first ≡ Some first
     outer_first =
-        ap (λ (t : Told). t.first) (tells_more told start (Resume (LocationAnswer (called site)) ∷ behind))
-        ∙ tells_first at_call (Resume (LocationAnswer (called site)) ∷ behind) first started
+        ap (λ (t : Told). t.first) (tells_more told start (Resume (LocationAnswer (called site)) ∷ beyond))
+        ∙ tells_first at_call (Resume (LocationAnswer (called site)) ∷ beyond) first started
 
-    inlined_inputs : (tells told (start ++ behind)).inputs ≡ at_call.inputs ++ later
-    inlined_inputs = ap (λ (t : Told). t.inputs) (tells_more told start behind) ∙ tells_inputs at_call behind
+    inlined_inputs : (tells told (start ++ beyond)).inputs ≡ at_call.inputs ++ later
+    inlined_inputs = ap (λ (t : Told). t.inputs) (tells_more told start beyond) ∙ tells_inputs at_call beyond
 
-    inlined_first : (tells told (start ++ behind)).first ≡ Some first
-    inlined_first = ap (λ (t : Told). t.first) (tells_more told start behind) ∙ tells_first at_call behind first started
+    inlined_first : (tells told (start ++ beyond)).first ≡ Some first
+    inlined_first = ap (λ (t : Told). t.first) (tells_more told start beyond) ∙ tells_first at_call beyond first started
 
     outer_comes : outcome_of setup Never (outer site) (tells told all_steps) ≡ Some means_outer
     outer_comes =
         ap (λ (o : Option First). outcome_from setup Never (outer site) (tells told all_steps).inputs o) outer_first
         ∙ ap (λ (inputs : List Input). Some (meaning setup Never (outer site) first inputs)) outer_inputs
 
-    inlined_comes : outcome_of setup Never (inlined site) (tells told (start ++ behind)) ≡ Some means_inlined
+    inlined_comes : outcome_of setup Never (inlined site) (tells told (start ++ beyond)) ≡ Some means_inlined
     inlined_comes =
-        ap (λ (o : Option First). outcome_from setup Never (inlined site) (tells told (start ++ behind)).inputs o) inlined_first
+        ap (λ (o : Option First). outcome_from setup Never (inlined site) (tells told (start ++ beyond)).inputs o) inlined_first
         ∙ ap (λ (inputs : List Input). Some (meaning setup Never (inlined site) first inputs)) inlined_inputs
 
     ends : (new other : State)
         → (((fault : Fault) → means_outer ≢ FaultOutcome fault) → inlining.EndAlike means_outer means_inlined)
         → Done setup (outer site) told all_steps new → ((error : Error) → new.status ≢ FaultStatus error)
-        → Done setup (inlined site) told (start ++ behind) other → StatesEndAlike new other
+        → Done setup (inlined site) told (start ++ beyond) other → StatesEndAlike new other
     ends new other law d sound d' =
         let clear = sound_outcome new _ _ d.stands sound in
         let outer_told = told_is setup Never (outer site) told all_steps d.allowed clear in
         let outer_is = ap (λ (t : Told). outcome_of setup Never (outer site) t) outer_told ∙ outer_comes in
         let alike = law (λ fault e. clear fault (outer_is ∙ ap Some e)) in
         let inlined_told =
-        told_comes setup Never (inlined site) told (start ++ behind) d'.allowed
+        told_comes setup Never (inlined site) told (start ++ beyond) d'.allowed
         (λ fault e. no_fault means_outer means_inlined alike fault (let same = sym inlined_comes ∙ e in cc))
         in
         let inlined_is = ap (λ (t : Told). outcome_of setup Never (inlined site) t) inlined_told ∙ inlined_comes in
         end_alike new other (after_steps setup Never (outer site) told all_steps)
-        (after_steps setup Never (inlined site) told (start ++ behind)) means_outer means_inlined alike
+        (after_steps setup Never (inlined site) told (start ++ beyond)) means_outer means_inlined alike
         (subst (λ (o : Option Outcome). StandsAt (after_steps setup Never (outer site) told all_steps) new o) outer_is d.stands)
-        (subst (λ (o : Option Outcome). StandsAt (after_steps setup Never (inlined site) told (start ++ behind)) other
+        (subst (λ (o : Option Outcome). StandsAt (after_steps setup Never (inlined site) told (start ++ beyond)) other
         o) inlined_is d'.stands)
 
 pub inlined_replays : InlinedReplay
-inlined_replays x y new other site offset start behind replies given h k n sound l m =
+inlined_replays x y new other site offset start beyond replies given h k n sound l m =
     let y_free = subst HasNoLimits h.setups h.no_limits in
     let same_told : told_at y ≡ told_at x =
     ap (λ (o : Option ℕ). record {
@@ -172,35 +172,35 @@ inlined_replays x y new other site offset start behind replies given h k n sound
     (sym h.maximum)
     in
     let first_done =
-    subst (λ (t : Text). Done x.setup t (told_at x) (start ++ (Resume (LocationAnswer (called site)) ∷ behind)) new) h.outer_text
-    (done x (start ++ (Resume (LocationAnswer (called site)) ∷ behind)) replies new h.no_limits k n)
+    subst (λ (t : Text). Done x.setup t (told_at x) (start ++ (Resume (LocationAnswer (called site)) ∷ beyond)) new) h.outer_text
+    (done x (start ++ (Resume (LocationAnswer (called site)) ∷ beyond)) replies new h.no_limits k n)
     in
     let second_done =
-    subst (λ (s : Setup). Done s (inlined site) (told_at x) (start ++ behind) other) (sym h.setups)
-    (subst (λ (t : Text). Done y.setup t (told_at x) (start ++ behind) other) h.inlined_text
-    (subst (λ (t : Told). Done y.setup y.text t (start ++ behind) other) same_told
-    (done y (start ++ behind) given other y_free l m)))
+    subst (λ (s : Setup). Done s (inlined site) (told_at x) (start ++ beyond) other) (sym h.setups)
+    (subst (λ (t : Text). Done y.setup t (told_at x) (start ++ beyond) other) h.inlined_text
+    (subst (λ (t : Told). Done y.setup y.text t (start ++ beyond) other) same_told
+    (done y (start ++ beyond) given other y_free l m)))
     in
     let at_call : h.told ≡ tells (told_at x) start =
     sym h.told_is
     ∙ (ap (λ (t : Text). after_steps x.setup Never t (told_at x) start) h.outer_text
-    ∙ told_before x.setup Never (outer site) (told_at x) start (Resume (LocationAnswer (called site)) ∷ behind)
+    ∙ told_before x.setup Never (outer site) (told_at x) start (Resume (LocationAnswer (called site)) ∷ beyond)
     first_done.allowed (sound_outcome new _ _ first_done.stands sound))
     in
-    ends x.setup site offset (told_at x) start behind h.first
+    ends x.setup site offset (told_at x) start beyond h.first
     (subst (λ (t : Told). t.first ≡ Some h.first) at_call h.is_started)
     (subst (λ (t : Told). t.settings.object_address ≡ (in_force h.first t.inputs).object_address) at_call h.object_in_force)
     (subst (λ (t : Told). t.settings.maximum ≡ (in_force h.first t.inputs).maximum) at_call h.maximum_in_force) new other
     (λ faultless. (inlines x.setup site offset h.first (tells (told_at x) start).inputs
-    (added (tells (told_at x) start).settings behind) h.requests h.no_limits h.stands h.inlinable
+    (added (tells (told_at x) start).settings beyond) h.requests h.no_limits h.stands h.inlinable
     (subst (λ (t : Told). LeadsToCall x.setup site offset h.first t.inputs h.requests) at_call h.leads) faultless).ends)
     first_done sound second_done
 
 -- ---- the premises, of fresh evaluations
 
-pub may_inline : (site : CallSite) (inputs : List Input) (behind : List Request) (outcome : Outcome) → IsWorked site [] inputs [] behind outcome
+pub may_inline : (site : CallSite) (inputs : List Input) (beyond : List Request) (outcome : Outcome) → IsWorked site [] inputs [] beyond outcome
     → MayInline (fresh_at (outer site)) (fresh_at (inlined site)) site (UnitRef 5) (Evaluate ∷ [])
-may_inline site inputs behind outcome h =
+may_inline site inputs beyond outcome h =
     record {
       no_limits = h.no_limits;
       setups = refl;

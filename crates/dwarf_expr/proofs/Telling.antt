@@ -15,7 +15,7 @@ use Rattle.dwarf_laws.specs.TwoRuns.{NoneIsFull}
 use Rattle.dwarf_laws.specs.Inlining.{HasNoLimits}
 use Rattle.dwarf_laws.proofs.Unrefused.{meaning_calm}
 use Rattle.dwarf_laws.proofs.Inlined.{no_limits}
-use Rattle.dwarf_laws.proofs.Evaluations.{none_full_behind, clear_after}
+use Rattle.dwarf_laws.proofs.Evaluations.{none_full_beyond, clear_after}
 
 -- ---- what steps tell
 
@@ -220,8 +220,8 @@ module _ (setup : Setup) (free_lists : HasNoLimits setup) (refusal : Refusal) (t
       let clear_now = clear_after (Unit {0}) setup refusal text told step (replies_of setup refusal text now steps)
       (λ free. c) (λ free. n) in
       let rest = unrefused now steps (clear_now tt) a.1
-      (none_full_behind (step_replies step (outcome_of setup refusal text now)) (replies_of setup refusal text now steps) n) in
-      let behind : after_steps setup Never text now steps ≡ after_steps setup Never text (after_step setup Never text told step) steps =
+      (none_full_beyond (step_replies step (outcome_of setup refusal text now)) (replies_of setup refusal text now steps) n) in
+      let beyond : after_steps setup Never text now steps ≡ after_steps setup Never text (after_step setup Never text told step) steps =
       ap (λ (t : Told). after_steps setup Never text t steps) same_now
       in
       record {
@@ -229,6 +229,6 @@ module _ (setup : Setup) (free_lists : HasNoLimits setup) (refusal : Refusal) (t
           subst (λ (o : Option Outcome). Allows told o step) same a.0,
           subst (λ (t : Told). AllAllowed setup Never text t steps) same_now rest.allowed,
         );
-        told_same = rest.told_same ∙ behind;
-        comes_same = rest.comes_same ∙ ap (λ (t : Told). outcome_of setup Never text t) behind;
+        told_same = rest.told_same ∙ beyond;
+        comes_same = rest.comes_same ∙ ap (λ (t : Told). outcome_of setup Never text t) beyond;
       }

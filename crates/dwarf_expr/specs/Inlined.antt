@@ -43,10 +43,10 @@ pub data StatesEndAlike (x y : State) : Type 0 where
 -- push was refused.
 abbrev pub InlinedReplay : Type 0
 InlinedReplay =
-    (x y new other : State) (site : CallSite) (offset : DieReference) (start behind : List Step)
+    (x y new other : State) (site : CallSite) (offset : DieReference) (start rest : List Step)
     (replies given : List Reply)
     → MayInline x y site offset start
-    → Walks x (start ++ (Resume (LocationAnswer (called site)) ∷ behind)) replies new
+    → Walks x (start ++ (Resume (LocationAnswer (called site)) ∷ rest)) replies new
     → NoneIsFull replies → ((error : Error) → new.status ≢ FaultStatus error)
-    → Walks y (start ++ behind) given other → NoneIsFull given
+    → Walks y (start ++ rest) given other → NoneIsFull given
     → StatesEndAlike new other

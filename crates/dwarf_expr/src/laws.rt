@@ -40,8 +40,8 @@ pub fn two_replays()
 /// fresh evaluations of the worked texts, those of `called_rows`.
 pub fn inlined_replay()
     ensures ends { InlinedReplay }
-    ensures met { (site : CallSite) (later : List Input) (behind : List Request) (outcome : Outcome)
-        → IsWorked site [] later [] behind outcome
+    ensures met { (site : CallSite) (later : List Input) (after : List Request) (outcome : Outcome)
+        → IsWorked site [] later [] after outcome
         → MayInline (fresh_at (outer site)) (fresh_at (inlined site)) site (UnitRef 5)
         (Evaluate ∷ []) }
 {}

@@ -26,7 +26,7 @@ use Rattle.dwarf_meaning.proofs.Decoded.{spelled_operation, whole_operation}
 use Rattle.dwarf_laws.proofs.Jumps.{straight_jumps, act_jumps}
 use Rattle.dwarf_laws.proofs.Calm.{free, calm}
 use Rattle.dwarf_laws.proofs.Texts.{stands, StraightFrom, straight_step}
-use Rattle.dwarf_laws.proofs.Later.{AsksBehind, OpenBehind, run_later}
+use Rattle.dwarf_laws.proofs.Later.{AsksBeyond, OpenBeyond, run_later}
 use Rattle.dwarf_laws.proofs.Phase as phase
 use Rattle.dwarf_laws.proofs.Phase.{last_place, last_snoc, positions_of, open_some, turn_leads}
 
@@ -46,11 +46,11 @@ module _ (encoding : Encoding) (bits : ℕ) (A K B : List ℕ) (big : Bool) (off
   abbrev call : Request
   call = RequiresAtLocation offset
 
-  abbrev behind_call : Position
-  behind_call = record { text = outer; place = length A + length K }
+  abbrev after_call : Position
+  after_call = record { text = outer; place = length A + length K }
 
   abbrev AtCall : End → Type 0
-  AtCall end = end ≡ RequestEnd call (behind_call ∷ []) []
+  AtCall end = end ≡ RequestEnd call (after_call ∷ []) []
 
   some_call : 0 < length K
   some_call = (whole_operation encoding bits big K (operation.Call offset) spelled).some_bytes
@@ -68,10 +68,10 @@ module _ (encoding : Encoding) (bits : ℕ) (A K B : List ℕ) (big : Bool) (off
   abbrev pub call_course : Store → List Input → Course
   call_course t inputs =
       add_to_path (record { text = outer; place = length A })
-      (add_request call (await_answer (run S) S behind_call 0 call Push (counted (calm t)) inputs))
+      (add_request call (await_answer (run S) S after_call 0 call Push (counted (calm t)) inputs))
 
   does_call : (s : Store) (inputs : List Input) → do_operation (run S) S outer 0 s inputs (read S outer (length A)) ≡ add_request
-      call (await_answer (run S) S behind_call 0 call Push s inputs)
+      call (await_answer (run S) S after_call 0 call Push s inputs)
   unfolding act
   does_call s inputs =
       ap (do_operation (run S) S outer 0 s inputs) read_call
@@ -88,7 +88,7 @@ module _ (encoding : Encoding) (bits : ℕ) (A K B : List ℕ) (big : Bool) (off
           cond-true (can_count (calm t)) _ _ e ∙ ap (add_to_path (record { text = outer; place = length A }))
           (does_call (counted (calm t)) inputs)
       by_test false e =
-          let x : FaultEnd TooManyIterations ≡ RequestEnd call (behind_call ∷ []) [] = sym
+          let x : FaultEnd TooManyIterations ≡ RequestEnd call (after_call ∷ []) [] = sym
           (ap (λ (c : Course). c.end) (cond-false (can_count (calm t))
           (add_to_path (record { text = outer; place = length A })
           (do_operation (run S) S outer 0 (counted (calm t)) before (read S outer (length A))))
@@ -98,7 +98,7 @@ module _ (encoding : Encoding) (bits : ℕ) (A K B : List ℕ) (big : Bool) (off
   held_call : (location : Location) (s : Store) (inputs : List Input)
       → AtCall (turn_located (run S) S outer 0 location s inputs (read S outer (length A))).end → ⊥
   held_call location s inputs at_call =
-      let x : FaultEnd (InvalidExpressionTerminator (length (A ++ (K ++ B)) - length B - 1)) ≡ RequestEnd call (behind_call ∷ []) [] = sym (ap (λ r. (turn_located (run S) S outer 0 location s inputs r).end) read_call) ∙ at_call in
+      let x : FaultEnd (InvalidExpressionTerminator (length (A ++ (K ++ B)) - length B - 1)) ≡ RequestEnd call (after_call ∷ []) [] = sym (ap (λ r. (turn_located (run S) S outer 0 location s inputs r).end) read_call) ∙ at_call in
       cc
 
   by_call : (last : Last) (t : Store) (before : List Input)
@@ -124,8 +124,8 @@ module _ (encoding : Encoding) (bits : ℕ) (A K B : List ℕ) (big : Bool) (off
   call_turn t before at_call inputs =
       opened t inputs ∙ by_call t.last t before (sym (ap (λ (c : Course). c.end) (opened t before)) ∙ at_call) inputs
 
-  pub straight_behind : StraightFrom encoding bits outer (length A) → StraightFrom encoding bits outer (length A + length K)
-  straight_behind h =
+  pub straight_beyond : StraightFrom encoding bits outer (length A) → StraightFrom encoding bits outer (length A + length K)
+  straight_beyond h =
       subst (λ (k : ℕ). StraightFrom encoding bits outer k) call_place
       (straight_step encoding bits outer (length A) (operation.Call offset) B read_call h).1
 
@@ -134,24 +134,24 @@ module _ (encoding : Encoding) (bits : ℕ) (A K B : List ℕ) (big : Bool) (off
   module _ (straight : StraightFrom encoding bits outer (length A + length K)) where
     later_not : (s : Store) (inputs : List Input) → AtCall (run S outer (length A + length K) 0 s inputs).end → ⊥
     later_not s inputs at_call =
-        let o : OpenBehind outer (length A + length K) (behind_call ∷ []) = subst
-        (AsksBehind outer (length A + length K)) at_call
+        let o : OpenBeyond outer (length A + length K) (after_call ∷ []) = subst
+        (AsksBeyond outer (length A + length K)) at_call
         (run_later encoding bits outer (length A + length K) (length A + length K) 0 s inputs (omega arith) straight) in
         let e : length A + length K ≡ o.place = ap last_place o.is ∙ last_snoc o.inner
         (record { text = outer; place = o.place }) in
         omega (arith, e, o.later)
 
     back_not : (callee : Text) (s : Store) (inputs : List Input) (c : Course) (end : End) → EndOpen inputs callee end
-        → AtCall (return_to_caller (run S) behind_call 0 c end).end → ⊥
+        → AtCall (return_to_caller (run S) after_call 0 c end).end → ⊥
     back_not callee s inputs c (CompleteEnd u left) o at_call = later_not u left at_call
     back_not callee s inputs c (RequestEnd request positions left) o at_call =
-        let e : length (positions ++ behind_call ∷ []) ≡ 1 = ap (λ (end : End). length (positions_of end)) at_call in
+        let e : length (positions ++ after_call ∷ []) ≡ 1 = ap (λ (end : End). length (positions_of end)) at_call in
         let some : 0 < length positions = open_some inputs callee positions o in
-        omega (arith, e, some, length-append positions (behind_call ∷ []))
-    back_not callee s inputs c (FaultEnd fault) o at_call = let x : FaultEnd fault ≡ RequestEnd call (behind_call ∷ []) [] = at_call in cc
+        omega (arith, e, some, length-append positions (after_call ∷ []))
+    back_not callee s inputs c (FaultEnd fault) o at_call = let x : FaultEnd fault ≡ RequestEnd call (after_call ∷ []) [] = at_call in cc
 
     called_not : (callee : Text) (bytes : List ℕ) (s : Store) (inputs : List Input)
-        → AtCall (run_callee (run S) S behind_call 0 callee bytes (calm s) inputs).end → ⊥
+        → AtCall (run_callee (run S) S after_call 0 callee bytes (calm s) inputs).end → ⊥
     unfolding push_caller
     called_not callee [] s inputs at_call = later_not _ inputs at_call
     called_not callee (byte ∷ bytes) s inputs at_call =
@@ -159,14 +159,14 @@ module _ (encoding : Encoding) (bits : ℕ) (A K B : List ℕ) (big : Bool) (off
         (run_open S callee 0 1 (calm s) inputs) at_call
 
     used_not : (u : Use) (s : Store) (inputs : List Input)
-        → AtCall (after_answer (run S) S behind_call 0 u (calm s) inputs).end → ⊥
+        → AtCall (after_answer (run S) S after_call 0 u (calm s) inputs).end → ⊥
     unfolding push_value
     used_not (PushesAnswer rest value) s inputs at_call = later_not _ inputs at_call
     used_not (Calls callee) s inputs at_call = called_not callee callee.bytes s inputs at_call
-    used_not (FaultUse fault) s inputs at_call = let x : FaultEnd fault ≡ RequestEnd call (behind_call ∷ []) [] = at_call in cc
+    used_not (FaultUse fault) s inputs at_call = let x : FaultEnd fault ≡ RequestEnd call (after_call ∷ []) [] = at_call in cc
 
     asked_not : (t : Store) (input : Input) (inputs : List Input)
-        → AtCall (await_answer (run S) S behind_call 0 call Push (counted (calm t)) (input ∷ inputs)).end → ⊥
+        → AtCall (await_answer (run S) S after_call 0 call Push (counted (calm t)) (input ∷ inputs)).end → ⊥
     asked_not t input inputs =
         cond_both (is_same_kind (kind_of_request call) (kind_of_answer input.answer)) _ _ (λ (c : Course). AtCall c.end → ⊥)
         (λ fits. used_not (use_of (address_bits S) Push input.answer t.values) (record t
@@ -196,7 +196,7 @@ module _ (encoding : Encoding) (bits : ℕ) (A K B : List ℕ) (big : Bool) (off
     from todo ops splitting.none p e le straight =
         let x : length (drop p A) ≡ 0 = ap length e in
         let l : p ≡ length A = omega (arith, x, length-drop p A, le) in
-        subst From (sym l) (from_call (straight_behind (subst (λ (k : ℕ). StraightFrom encoding bits outer k) l straight)))
+        subst From (sym l) (from_call (straight_beyond (subst (λ (k : ℕ). StraightFrom encoding bits outer k) l straight)))
     from todo ops (splitting.one_more front rest op ops' s more) p e le straight =
         let reads : (X : List ℕ) → read S (record { bytes = A ++ X; is_big = big }) p ≡ Ok (op, rest ++ X) = λ X.
         ap (λ (xs : List ℕ). read S (record { bytes = xs; is_big = big }) 0)
@@ -212,7 +212,7 @@ module _ (encoding : Encoding) (bits : ℕ) (A K B : List ℕ) (big : Bool) (off
         (arith, length-append A X, length-append rest X, few) in
         let p' = length A - length rest in
         turn_leads encoding bits A K B big offset spelled target p' (omega (arith, some_call))
-        (from rest ops' more p' st.behind (omega arith)
+        (from rest ops' more p' st.beyond (omega arith)
         (subst (λ (k : ℕ). StraightFrom encoding bits outer k) (place (K ++ B)) step.1))
         p op rest reads (let a = st.within in let b = st.some in
         omega (arith, a, b)) place (λ bits' object values. act_jumps (λ z. ⊥) bits' object op values

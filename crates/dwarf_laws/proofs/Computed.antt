@@ -11,7 +11,7 @@ use Rattle.dwarf_meaning.specs.Steps.{Step, Evaluate, Resume, Told, outcome_of, 
 use Rattle.dwarf_meaning.specs.Rows.{text, plain, unset, given}
 use Rattle.dwarf_meaning.specs.Refusals.{Never}
 use Rattle.dwarf_meaning.proofs.FewTurns.{outcome_for, twenty, in_twenty}
-use Rattle.dwarf_laws.specs.Inlining.{CallSite, outer, inlined, behind_call, with_answer, StandsIn, IsInlinable}
+use Rattle.dwarf_laws.specs.Inlining.{CallSite, outer, inlined, after_call, with_answer, StandsIn, IsInlinable}
 use Rattle.dwarf_laws.specs.Rows.{resumes, started_steps, ComeTo, IsWorked}
 
 module _ (setup : Setup) (text : Text) where
@@ -177,17 +177,17 @@ asks_in_twenty text inputs requests h =
     subst (λ (turns : ℕ). (course_for turns text inputs).requests ≡ requests) (sym enough_twenty) (h (enough - 20))
 
 -- a called text, of few turns in both texts
-pub worked : (site : CallSite) (earlier later : List Input) (before behind : List Request) (outcome : Outcome)
+pub worked : (site : CallSite) (earlier later : List Input) (before beyond : List Request) (outcome : Outcome)
     → StandsIn plain site (UnitRef 5) → IsInlinable plain site
-    → Ends (outer site) earlier (RequestEnd (RequiresAtLocation (UnitRef 5)) (behind_call site ∷ []) [])
+    → Ends (outer site) earlier (RequestEnd (RequiresAtLocation (UnitRef 5)) (after_call site ∷ []) [])
     → Asks (outer site) earlier (before ++ (RequiresAtLocation (UnitRef 5) ∷ []))
     → ((fault : Fault) → outcome ≢ FaultOutcome fault)
     → ((more : ℕ) → outcome_for (twenty more) plain Never (outer site) unset (with_answer site unset earlier later) ≡ outcome)
     → ((more : ℕ) → outcome_for (twenty more) plain Never (inlined site) unset (earlier ++ later) ≡ outcome)
-    → Asks (outer site) (with_answer site unset earlier later) (before ++ (RequiresAtLocation (UnitRef 5) ∷ behind))
-    → Asks (inlined site) (earlier ++ later) (before ++ behind)
-    → IsWorked site earlier later before behind outcome
-worked site earlier later before behind outcome stands fits ends asks sound h k i j =
+    → Asks (outer site) (with_answer site unset earlier later) (before ++ (RequiresAtLocation (UnitRef 5) ∷ beyond))
+    → Asks (inlined site) (earlier ++ later) (before ++ beyond)
+    → IsWorked site earlier later before beyond outcome
+worked site earlier later before beyond outcome stands fits ends asks sound h k i j =
     let comes = in_twenty plain Never (outer site) unset (with_answer site unset earlier later) outcome h in
     record {
       no_limits = record { values = refl; callers = refl; pieces = refl };

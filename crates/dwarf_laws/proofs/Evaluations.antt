@@ -127,9 +127,9 @@ module _ (w : ℕ) where
   same_step_replies o o' x y h evaluate = same_reply o o' h
   same_step_replies o o' x y h (resume k) = same_reply o o' h
 
-pub none_full_behind : (xs ys : List Reply) → NoneIsFull (xs ++ ys) → NoneIsFull ys
-none_full_behind [] ys h = h
-none_full_behind (x ∷ xs) ys h = none_full_behind xs ys h.1
+pub none_full_beyond : (xs ys : List Reply) → NoneIsFull (xs ++ ys) → NoneIsFull ys
+none_full_beyond [] ys h = h
+none_full_beyond (x ∷ xs) ys h = none_full_beyond xs ys h.1
 
 -- ---- all steps
 
@@ -214,13 +214,13 @@ module _ (Free : Type 0) (setup : Setup) (limits : Limits) (premise : Free ⊎ (
       t_now.inputs c_now d_now in
       let allows = now.next x y a in
       let rest = alike_steps xs ys told_now told_now' as' t_now c_now d_now
-      (λ free. none_full_behind _ _ (h free)) (λ free. none_full_behind _ _ (k free)) in
+      (λ free. none_full_beyond _ _ (h free)) (λ free. none_full_beyond _ _ (k free)) in
       let reply_now = same_step_replies w _ _ x y o_now a in
-      let replies_behind = rest.replies in
+      let replies_beyond = rest.replies in
       record {
         allowed = (λ i. (allows.0 i.0, rest.allowed.0 i.1), λ i. (allows.1 i.0, rest.allowed.1 i.1));
         replies = ap (λ (l : List Reply). l ++ replies_of setup refusal text told_now xs) reply_now
-            ∙ ap (λ (l : List Reply). step_replies y (outcome_of other another text told_now') ++ l) replies_behind;
+            ∙ ap (λ (l : List Reply). step_replies y (outcome_of other another text told_now') ++ l) replies_beyond;
         stand = rest.stand;
       }
 
@@ -236,7 +236,7 @@ two_runs setup limits refusal another text told second steps others width t p (i
 two_runs setup limits refusal another text told second steps others width t p (inr e) =
     alike_steps (Unit {0}) setup limits (inl tt) width refusal another (inl tt) text steps others told second p t
     (clear_start setup refusal text told _ e.0) (clear_start (record setup { limits = limits }) another text second _ e.1)
-    (λ free. none_full_behind _ _ e.0) (λ free. none_full_behind _ _ e.1)
+    (λ free. none_full_beyond _ _ e.0) (λ free. none_full_beyond _ _ e.1)
 
 -- with nothing told on either side the premise holds
 pub nothing_told : (w : ℕ) → AgreeingTold w untold untold

@@ -22,9 +22,9 @@ use Rattle.dwarf_meaning.proofs.Decoded.{spelled_operation}
 use Rattle.std.proofs.Math.Seq.{drop-append_seam}
 use Rattle.dwarf_laws.proofs.Calm.{free, calm, ahead}
 use Rattle.dwarf_laws.proofs.Mirror.{Fits, AsksToo, MirrorsAt, at_end, mirror}
-use Rattle.dwarf_laws.proofs.Texts.{AllStraight, straight_items, StraightFrom, callee_aligned, InCallee, behind_aligned, Beside}
+use Rattle.dwarf_laws.proofs.Texts.{AllStraight, straight_items, StraightFrom, callee_aligned, InCallee, beyond_aligned, Beside}
 use Rattle.dwarf_laws.proofs.Phase.{Reached, leads_as}
-use Rattle.dwarf_laws.proofs.Calling.{call_course, call_turn, straight_behind, from}
+use Rattle.dwarf_laws.proofs.Calling.{call_course, call_turn, straight_beyond, from}
 
 -- ---- settings
 
@@ -75,13 +75,13 @@ module _ (encoding : Encoding) (bits : ℕ) where
   EndsAt front (RequestEnd request positions inputs) requests end = AsksToo front request inputs requests end
   EndsAt front (FaultEnd fault) requests end = Unit {0}
 
-  ends_behind : (more front : List Request) (end : End) (requests : List Request) (end' : End)
+  ends_beyond : (more front : List Request) (end : End) (requests : List Request) (end' : End)
       → EndsAt front end requests end' → EndsAt (more ++ front) end (more ++ requests) end'
-  ends_behind more front (CompleteEnd s inputs) requests end' h =
+  ends_beyond more front (CompleteEnd s inputs) requests end' h =
       record { store = h.store; is = h.is; same = ap (λ (l : List Request). more ++ l) h.same; last = h.last }
-  ends_behind more front (RequestEnd request positions inputs) requests end' h =
+  ends_beyond more front (RequestEnd request positions inputs) requests end' h =
       record { positions = h.positions; same = ap (λ (l : List Request). more ++ l) h.same; is = h.is }
-  ends_behind more front (FaultEnd fault) requests end' h = tt
+  ends_beyond more front (FaultEnd fault) requests end' h = tt
 
   settled : (target : First) (T : Text) (front : List Request) (end : End) (requests : List Request) (end' : End)
       → MirrorsAt encoding bits target 1 T (length T.bytes) 0 front end requests end' → EndsAt front end requests end'
@@ -149,7 +149,7 @@ module _ (encoding : Encoding) (bits : ℕ) where
     C = site.callee
 
     abbrev B : List ℕ
-    B = site.behind
+    B = site.beyond
 
     abbrev outer : Text
     outer = inlining.outer site
@@ -160,8 +160,8 @@ module _ (encoding : Encoding) (bits : ℕ) where
     abbrev callee : Text
     callee = inlining.called site
 
-    abbrev behind_call : Position
-    behind_call = inlining.behind_call site
+    abbrev after_call : Position
+    after_call = inlining.after_call site
 
     straight_all : StraightFrom encoding bits outer 0
     straight_all =
@@ -179,19 +179,19 @@ module _ (encoding : Encoding) (bits : ℕ) where
           { beyond = 0; first = omega arith; second = omega arith; straight = straight } in
           settled target inlined x.requests x.end y.requests y.end
           (mirror encoding bits target 1 outer inlined (Beside encoding bits A K C B site.is_big)
-          (length inlined.bytes) (behind_aligned encoding bits A K C B site.is_big target 1) (length A + length K)
+          (length inlined.bytes) (beyond_aligned encoding bits A K C B site.is_big target 1) (length A + length K)
           (length A + length C) 0 0 t inputs b f)
 
       back_ends : (c : Course) (end : End) (y : Course)
           → MirrorsAt encoding bits target 1 inlined (length A + length C) 0 c.requests end y.requests y.end
-          → let x = return_to_caller (run S) behind_call 0 c end in EndsAt x.requests x.end y.requests y.end
+          → let x = return_to_caller (run S) after_call 0 c end in EndsAt x.requests x.end y.requests y.end
       back_ends c (FaultEnd fault) y h = tt
       back_ends c (RequestEnd request positions inputs) y h = h
       back_ends c (CompleteEnd s inputs) y h =
           let first = run S outer (length A + length K) 0 (ahead 1 h.store) inputs in
           let second = run S inlined (length A + length C) 0 (calm h.store) inputs in
           let both : EndsAt (c.requests ++ first.requests) first.end (c.requests ++ second.requests) second.end =
-          ends_behind c.requests first.requests first.end second.requests second.end (after_callee h.store inputs h.fits) in
+          ends_beyond c.requests first.requests first.end second.requests second.end (after_callee h.store inputs h.fits) in
           subst (λ (u : Store). let x = run S outer (length A + length K) 0 u inputs in
           EndsAt (c.requests ++ x.requests) x.end y.requests y.end) (sym h.is)
           (subst (λ (l : List Request). EndsAt (c.requests ++ first.requests) first.end l y.end) (sym h.goes_on.requests)
@@ -200,7 +200,7 @@ module _ (encoding : Encoding) (bits : ℕ) where
 
       -- the callee in its call's place, and what follows
       callee_ends : (t : Store) (inputs : List Input) → Fits target inputs t.object_address t.maximum
-          → let c = run S callee 0 1 (ahead 1 t) inputs in let x = return_to_caller (run S) behind_call 0 c c.end in
+          → let c = run S callee 0 1 (ahead 1 t) inputs in let x = return_to_caller (run S) after_call 0 c c.end in
           let y = run S inlined (length A) 0 (calm t) inputs in EndsAt x.requests x.end y.requests y.end
       callee_ends t inputs f =
           let c = run S callee 0 1 (ahead 1 t) inputs in
@@ -211,13 +211,13 @@ module _ (encoding : Encoding) (bits : ℕ) where
 
     -- the outer run from the call on, with the answer
     answered_call : (t : Store) (settings : First) (inputs : List Input)
-        → await_answer (run S) S behind_call 0 (RequiresAtLocation offset) Push (counted (calm t))
+        → await_answer (run S) S after_call 0 (RequiresAtLocation offset) Push (counted (calm t))
         (answered site settings ∷ inputs)
         ≡ (let u : Store = record t { object_address = settings.object_address; maximum = settings.maximum } in
-        let c = run S callee 0 1 (ahead 1 u) inputs in return_to_caller (run S) behind_call 0 c c.end)
+        let c = run S callee 0 1 (ahead 1 u) inputs in return_to_caller (run S) after_call 0 c c.end)
     unfolding use_of is_same_kind
     answered_call t settings inputs =
-        enters behind_call callee C (record t
+        enters after_call callee C (record t
         { object_address = settings.object_address; maximum = settings.maximum }) inputs fit.some
 
     -- ---- the whole
@@ -272,7 +272,7 @@ module _ (encoding : Encoding) (bits : ℕ) where
 
       straight : StraightFrom encoding bits outer (length A + length K)
       straight =
-          straight_behind encoding bits A K B site.is_big offset stands.spelled
+          straight_beyond encoding bits A K B site.is_big offset stands.spelled
           (subst (λ (xs : List ℕ). AllStraight (items_at encoding bits (record { bytes = xs; is_big = site.is_big })))
           (sym (drop-append_seam A (K ++ B)))
           (straight_after encoding bits site.is_big A stands.ahead stands.joined (K ++ B) straight_all))
@@ -297,7 +297,7 @@ module _ (encoding : Encoding) (bits : ℕ) where
 
         module _ (later : List Input) where
           abbrev callee_course : Store → Course
-          callee_course u = let c = run S callee 0 1 (ahead 1 u) later in return_to_caller (run S) behind_call 0 c c.end
+          callee_course u = let c = run S callee 0 1 (ahead 1 u) later in return_to_caller (run S) after_call 0 c c.end
 
           abbrev first_rest : Course
           first_rest = callee_course r.store

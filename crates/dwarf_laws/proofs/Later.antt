@@ -40,16 +40,16 @@ leads_holds setup location place s (Some piece) = leads_goes place _
 leads_holds setup location place s None = tt
 
 -- the outermost open text stands at a later place
-pub record OpenBehind (T : Text) (q : ℕ) (positions : List Position) : Type 0 where
+pub record OpenBeyond (T : Text) (q : ℕ) (positions : List Position) : Type 0 where
   pub inner : List Position
   pub place : ℕ
   pub is : positions ≡ inner ++ record { text = T; place = place } ∷ []
   pub later : q < place
 
-abbrev pub AsksBehind : Text → ℕ → End → Type 0
-AsksBehind T q (CompleteEnd s inputs) = Unit {0}
-AsksBehind T q (RequestEnd request positions inputs) = OpenBehind T q positions
-AsksBehind T q (FaultEnd fault) = Unit {0}
+abbrev pub AsksBeyond : Text → ℕ → End → Type 0
+AsksBeyond T q (CompleteEnd s inputs) = Unit {0}
+AsksBeyond T q (RequestEnd request positions inputs) = OpenBeyond T q positions
+AsksBeyond T q (FaultEnd fault) = Unit {0}
 
 module _ (encoding : Encoding) (bits : ℕ) (T : Text) (q : ℕ) where
   abbrev S : Setup
@@ -58,58 +58,58 @@ module _ (encoding : Encoding) (bits : ℕ) (T : Text) (q : ℕ) where
   abbrev pub Later : Continues → Type 0
   Later go =
       (p d : ℕ) (s : Store) (inputs : List Input) → q ≤ p → StraightFrom encoding bits T p
-      → AsksBehind T q (go T p d s inputs).end
+      → AsksBeyond T q (go T p d s inputs).end
 
   module _ (go : Continues) (H : Later go) (p : ℕ) (after : q < p) (straight : StraightFrom encoding bits T p) (d : ℕ) where
     abbrev here : Position
     here = record { text = T; place = p }
 
-    goes_later : (s : Store) (inputs : List Input) → AsksBehind T q (go T p d s inputs).end
+    goes_later : (s : Store) (inputs : List Input) → AsksBeyond T q (go T p d s inputs).end
     goes_later s inputs = H p d s inputs (omega (arith, after)) straight
 
-    back_later : (c : Course) (end : End) → AsksBehind T q (return_to_caller go here d c end).end
+    back_later : (c : Course) (end : End) → AsksBeyond T q (return_to_caller go here d c end).end
     back_later c (CompleteEnd s inputs) = goes_later s inputs
     back_later c (RequestEnd request positions inputs) = record { inner = positions; place = p; is = refl; later = after }
     back_later c (FaultEnd fault) = tt
 
-    resumed_later : (inputs : List Input) (r : Result Store Fault) → AsksBehind T q (after_push go here d inputs r).end
+    resumed_later : (inputs : List Input) (r : Result Store Fault) → AsksBeyond T q (after_push go here d inputs r).end
     resumed_later inputs (Ok s) = goes_later s inputs
     resumed_later inputs (Err fault) = tt
 
     entered_later : (callee : Text) (inputs : List Input) (r : Result Store Fault)
-        → AsksBehind T q (enter_callee go here d callee inputs r).end
+        → AsksBeyond T q (enter_callee go here d callee inputs r).end
     entered_later callee inputs (Ok s) = let course = go callee 0 (suc d) s inputs in back_later course course.end
     entered_later callee inputs (Err fault) = tt
 
     called_later : (callee : Text) (bytes : List ℕ) (s : Store) (inputs : List Input)
-        → AsksBehind T q (run_callee go S here d callee bytes s inputs).end
+        → AsksBeyond T q (run_callee go S here d callee bytes s inputs).end
     called_later callee [] s inputs = goes_later (record s { last = Called }) inputs
     called_later callee (byte ∷ bytes) s inputs = entered_later callee inputs (push_caller S d s)
 
-    used_later : (u : Use) (s : Store) (inputs : List Input) → AsksBehind T q (after_answer go S here d u s inputs).end
+    used_later : (u : Use) (s : Store) (inputs : List Input) → AsksBeyond T q (after_answer go S here d u s inputs).end
     used_later (PushesAnswer rest value) s inputs =
         resumed_later inputs (push_value S value (record s { values = rest; last = Pushed }))
     used_later (Calls callee) s inputs = called_later callee callee.bytes s inputs
     used_later (FaultUse fault) s inputs = tt
 
     asked_later : (request : Request) (on_answer : OnAnswer) (s : Store) (inputs : List Input)
-        → AsksBehind T q (await_answer go S here d request on_answer s inputs).end
+        → AsksBeyond T q (await_answer go S here d request on_answer s inputs).end
     asked_later request on_answer s [] = record { inner = []; place = p; is = refl; later = after }
     asked_later request on_answer s (input ∷ inputs) =
         cond_both (is_same_kind (kind_of_request request) (kind_of_answer input.answer)) _ _
-        (λ (c : Course). AsksBehind T q c.end)
+        (λ (c : Course). AsksBeyond T q c.end)
         (λ fits. used_later (use_of (address_bits S) on_answer input.answer s.values) (with_input input s) inputs)
         (λ other. record { inner = []; place = p; is = refl; later = after })
 
-    after_operation_later : (inputs : List Input) (next : Next) → LeadsTo p next → AsksBehind T q (after_operation go S T d p inputs next).end
-    after_operation_later inputs (Goes to s) e = subst (λ (k : ℕ). AsksBehind T q (go T k d s inputs).end) (sym e) (goes_later s inputs)
+    after_operation_later : (inputs : List Input) (next : Next) → LeadsTo p next → AsksBeyond T q (after_operation go S T d p inputs next).end
+    after_operation_later inputs (Goes to s) e = subst (λ (k : ℕ). AsksBeyond T q (go T k d s inputs).end) (sym e) (goes_later s inputs)
     after_operation_later inputs (RequestNext request on_answer s) e = asked_later request on_answer s inputs
     after_operation_later inputs (FaultNext fault) e = tt
 
   module _ (go : Continues) (H : Later go) (p d : ℕ) (s : Store) (inputs : List Input) (from : q ≤ p)
       (straight : StraightFrom encoding bits T p) where
     does_later : (u : Store) (r : Result (Operation × List ℕ) Fault) → read S T p ≡ r
-        → AsksBehind T q (do_operation go S T d u inputs r).end
+        → AsksBeyond T q (do_operation go S T d u inputs r).end
     does_later u (Err fault) e = tt
     does_later u (Ok x) e =
         let st = stands encoding bits T p x.0 x.1 e in
@@ -120,7 +120,7 @@ module _ (encoding : Encoding) (bits : ℕ) (T : Text) (q : ℕ) where
         (straight_jumps (λ z. ⊥) x.0 step.0)))
 
     held_later : (location : Location) (r : Result (Operation × List ℕ) Fault) → read S T p ≡ r
-        → AsksBehind T q (turn_located go S T d location s inputs r).end
+        → AsksBeyond T q (turn_located go S T d location s inputs r).end
     held_later location (Err fault) e = tt
     held_later location (Ok x) e =
         let st = stands encoding bits T p x.0 x.1 e in
@@ -128,12 +128,12 @@ module _ (encoding : Encoding) (bits : ℕ) (T : Text) (q : ℕ) where
         after_operation_later go H (length T.bytes - length x.1) (let a = st.place in let b = st.some in
         omega (arith, a, b, from)) step.1 d inputs _ (leads_holds S location _ s (piece_ended_by x.0))
 
-    counts_later : AsksBehind T q (turn_counted go S T p d s inputs).end
+    counts_later : AsksBeyond T q (turn_counted go S T p d s inputs).end
     counts_later =
-        cond_both (can_count s) _ _ (λ (c : Course). AsksBehind T q c.end)
+        cond_both (can_count s) _ _ (λ (c : Course). AsksBeyond T q c.end)
         (λ e. does_later (counted s) (read S T p) refl) (λ e. tt)
 
-    by_later : (last : Last) → AsksBehind T q (turn_by go S T p d s inputs last).end
+    by_later : (last : Last) → AsksBeyond T q (turn_by go S T p d s inputs last).end
     by_later (Located location) = held_later location (read S T p) refl
     by_later Nothing = counts_later
     by_later Plain = counts_later
@@ -141,8 +141,8 @@ module _ (encoding : Encoding) (bits : ℕ) (T : Text) (q : ℕ) where
     by_later Pushed = counts_later
     by_later Called = counts_later
 
-    turn_later : AsksBehind T q (turn go S T p d s inputs).end
-    turn_later = cond_both (p == length T.bytes) _ _ (λ (c : Course). AsksBehind T q c.end) (λ e. tt) (λ e. by_later s.last)
+    turn_later : AsksBeyond T q (turn go S T p d s inputs).end
+    turn_later = cond_both (p == length T.bytes) _ _ (λ (c : Course). AsksBeyond T q c.end) (λ e. tt) (λ e. by_later s.last)
 
   later_for : (turns : ℕ) → Later (run_for turns S)
   unfolding run_for

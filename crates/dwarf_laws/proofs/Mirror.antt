@@ -100,9 +100,9 @@ module _ (encoding : Encoding) (bits : ℕ) (target : First) (n : ℕ) where
       run_turn S T (length T.bytes) d s inputs ∙ cond-true (length T.bytes == length T.bytes) _ _ (grind (arith, nat_tests))
 
   module _ (T' : Text) (stop d' : ℕ) where
-    behind : (more front : List Request) (end : End) (requests : List Request) (end' : End)
+    beyond : (more front : List Request) (end : End) (requests : List Request) (end' : End)
         → MirrorsAt T' stop d' front end requests end' → MirrorsAt T' stop d' (more ++ front) end (more ++ requests) end'
-    behind more front (CompleteEnd s inputs) requests end' h = record {
+    beyond more front (CompleteEnd s inputs) requests end' h = record {
       store = h.store;
       is = h.is;
       fits = h.fits;
@@ -113,9 +113,9 @@ module _ (encoding : Encoding) (bits : ℕ) (target : First) (n : ℕ) where
             end = h.goes_on.end;
           };
     }
-    behind more front (RequestEnd request positions inputs) requests end' h =
+    beyond more front (RequestEnd request positions inputs) requests end' h =
         record { positions = h.positions; same = ap (λ (l : List Request). more ++ l) h.same; is = h.is }
-    behind more front (FaultEnd fault) requests end' h = tt
+    beyond more front (FaultEnd fault) requests end' h = tt
 
   module _ (go : Continues) (H : GoMirrors go) (T T' : Text) (Al : ℕ → ℕ → Type 0) (stop : ℕ)
       (al : Alignment T T' Al stop) (d d' : ℕ) where
@@ -149,7 +149,7 @@ module _ (encoding : Encoding) (bits : ℕ) (target : First) (n : ℕ) where
         ∙ (ap (λ (x : Course). c.requests ++ x.requests) over ∙ append-nil c.requests) in
         let inner = go T q d (ahead n h.store) inputs in
         let outer = run S T' q' d' (calm h.store) inputs in
-        let joins : MirrorsAt T' stop d' (c.requests ++ inner.requests) inner.end (c.requests ++ outer.requests) outer.end = behind T' stop d' c.requests inner.requests inner.end outer.requests outer.end (goes_mirror q q' h.store inputs a h.fits) in
+        let joins : MirrorsAt T' stop d' (c.requests ++ inner.requests) inner.end (c.requests ++ outer.requests) outer.end = beyond T' stop d' c.requests inner.requests inner.end outer.requests outer.end (goes_mirror q q' h.store inputs a h.fits) in
         subst (λ (e : End). Here (return_to_caller go (at T q) d c (CompleteEnd s inputs)) (return_to_caller (run S) (at T' q') d' c' e)) (sym e)
         (subst (λ (u : Store). Here (append_course c (go T q d u inputs)) (append_course c' outer)) (sym h.is)
         (subst (λ (l : List Request). MirrorsAt T' stop d' (c.requests ++ inner.requests) inner.end
@@ -196,7 +196,7 @@ module _ (encoding : Encoding) (bits : ℕ) (target : First) (n : ℕ) where
     after_operation_mirror place place' inputs object maximum x y a f (request_both {request = request} {on_answer = on_answer} t o m) =
         let first = await_answer go S (at T place) d request on_answer (ahead n t) inputs in
         let second = await_answer (run S) S (at T' place') d' request on_answer (calm t) inputs in
-        behind T' stop d' (request ∷ []) first.requests first.end second.requests second.end
+        beyond T' stop d' (request ∷ []) first.requests first.end second.requests second.end
         (asked_mirror place place' request on_answer t inputs a
         (subst (λ k. Fits target inputs k t.maximum) (sym o) (subst (λ k. Fits target inputs object k) (sym m) f)))
     after_operation_mirror place place' inputs object maximum x y a f fails_both = tt

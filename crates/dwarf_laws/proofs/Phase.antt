@@ -103,11 +103,11 @@ module _ (encoding : Encoding) (bits : ℕ) where
     abbrev pub call : Request
     call = RequiresAtLocation offset
 
-    abbrev pub behind_call : Position
-    behind_call = record { text = outer; place = length A + length K }
+    abbrev pub after_call : Position
+    after_call = record { text = outer; place = length A + length K }
 
     abbrev pub AtCall : End → Type 0
-    AtCall end = end ≡ RequestEnd call (behind_call ∷ []) []
+    AtCall end = end ≡ RequestEnd call (after_call ∷ []) []
 
     -- with this much asked, each run comes to the call's place, whatever stands there
     pub record Reached (R : List ℕ → List Input → List Request) (E : List ℕ → List Input → End) : Type 0 where
@@ -138,9 +138,9 @@ module _ (encoding : Encoding) (bits : ℕ) where
               };
         }
 
-    reached_behind : (more : List Request) (R : List ℕ → List Input → List Request) (E : List ℕ → List Input → End)
+    reached_beyond : (more : List Request) (R : List ℕ → List Input → List Request) (E : List ℕ → List Input → End)
         → Reached R E → Reached (λ X rest. more ++ R X rest) E
-    reached_behind more R E r = record {
+    reached_beyond more R E r = record {
       front = more ++ r.front;
       store = r.store;
       fits = r.fits;
@@ -150,7 +150,7 @@ module _ (encoding : Encoding) (bits : ℕ) where
     }
 
     leads_failed : (fault : Fault) (f : List ℕ → List Input → Course) → Leads (only_end (FaultEnd fault)) f
-    leads_failed fault f e = absurd (let x : FaultEnd fault ≡ RequestEnd call (behind_call ∷ []) [] = e in cc)
+    leads_failed fault f e = absurd (let x : FaultEnd fault ≡ RequestEnd call (after_call ∷ []) [] = e in cc)
 
     leads_if : (b : Bool) (x y : Course) (f g : List ℕ → List Input → Course) → Leads x f → Leads y g
         → Leads (cond b x y) (λ X more. cond b (f X more) (g X more))
@@ -216,7 +216,7 @@ module _ (encoding : Encoding) (bits : ℕ) where
           (ap (λ (u : Store). append_course c (run S outer p 0 u left)) k.is)
           (λ X more. ap (λ (x : Course). return_to_caller (run S) (at X) 0 x x.end) (longer more) ∙ ap
           (return_to_caller (run S) (at X) 0 (course_before more c)) (ended_so more))
-          (λ at_call. reached_behind c.requests _ _ (H k.store left k.fits at_call))
+          (λ at_call. reached_beyond c.requests _ _ (H k.store left k.fits at_call))
 
       called_leads : (callee : Text) (bytes : List ℕ) (t : Store) (inputs : List Input)
           → Fits target inputs t.object_address t.maximum
@@ -252,7 +252,7 @@ module _ (encoding : Encoding) (bits : ℕ) where
       after_operation_leads inputs object maximum next f (goes_calm t o m) =
           H t inputs (subst (λ k. Fits target inputs k t.maximum) (sym o) (subst (λ k. Fits target inputs object k) (sym m) f))
       after_operation_leads inputs object maximum next f (request_calm {request = request} {on_answer = on_answer} t o m) = λ at_call.
-          reached_behind (request ∷ []) _ _ (asked_leads request on_answer t inputs
+          reached_beyond (request ∷ []) _ _ (asked_leads request on_answer t inputs
           (subst (λ k. Fits target inputs k t.maximum) (sym o) (subst (λ k. Fits target inputs object k) (sym m) f)) at_call)
       after_operation_leads inputs object maximum next f (fails_calm {fault = fault}) = leads_failed fault (λ X more. only_end (FaultEnd fault))
 

@@ -62,7 +62,7 @@ module _ (encoding : Encoding) (bits : ℕ) where
     pub place : length T.bytes - length rest ≡ p + size
     pub within : p + size ≤ length T.bytes
     pub left : length rest ≤ length (drop p T.bytes)
-    pub behind : drop (length T.bytes - length rest) T.bytes ≡ rest
+    pub beyond : drop (length T.bytes - length rest) T.bytes ≡ rest
 
   pub stands : (T : Text) (p : ℕ) (op : Operation) (rest : List ℕ) → read S T p ≡ Ok (op, rest) → Stands T p rest
   stands T p op rest e =
@@ -78,7 +78,7 @@ module _ (encoding : Encoding) (bits : ℕ) where
         place = place;
         within = omega (arith, shorter, whole, left);
         left = omega (arith, shorter);
-        behind =
+        beyond =
             ap (λ (k : ℕ). drop k T.bytes) place
             ∙ (sym (drop-drop (length b.front) p T.bytes)
             ∙ (ap (λ (xs : List ℕ). drop (length b.front) xs) (sym b.whole) ∙ drop-append_seam b.front rest));
@@ -94,7 +94,7 @@ module _ (encoding : Encoding) (bits : ℕ) where
       let st = stands T p op rest e in (
         both.0,
         subst (λ (xs : List ℕ). AllStraight
-            (items_at encoding bits (record { bytes = xs; is_big = T.is_big }))) (sym st.behind) both.1,
+            (items_at encoding bits (record { bytes = xs; is_big = T.is_big }))) (sym st.beyond) both.1,
       )
 
   module _ (A K C B : List ℕ) (big : Bool) where
@@ -163,8 +163,8 @@ module _ (encoding : Encoding) (bits : ℕ) where
     drop_second : (m : ℕ) → drop (length A + (length C + m)) (A ++ (C ++ B)) ≡ drop m B
     drop_second m = drop-append-add A (C ++ B) (length C + m) ∙ drop-append-add C B m
 
-    pub behind_aligned : (target : _) (n : ℕ) → Alignment encoding bits target n outer inlined Beside (length (A ++ (C ++ B)))
-    behind_aligned target n = record {
+    pub beyond_aligned : (target : _) (n : ℕ) → Alignment encoding bits target n outer inlined Beside (length (A ++ (C ++ B)))
+    beyond_aligned target n = record {
       ends = λ p p' h e. let x = h.first in let y = h.second in omega (arith, inlined_length, outer_length, x, y, e);
       inside = λ p p' h e. let x = h.first in let y = h.second in let k = outer_length in let l = inlined_length in
           grind (arith, nat_tests);

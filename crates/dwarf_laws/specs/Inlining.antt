@@ -20,13 +20,13 @@ use Rattle.dwarf_meaning.specs.Refusals.{Never}
 pub record CallSite : Type 0 where
   pub before : List ℕ
   pub call : List ℕ
-  pub behind : List ℕ
+  pub beyond : List ℕ
   pub callee : List ℕ
   pub is_big : Bool
 
 -- the text with the call
 abbrev pub outer : CallSite → Text
-outer site = record { bytes = site.before ++ (site.call ++ site.behind); is_big = site.is_big }
+outer site = record { bytes = site.before ++ (site.call ++ site.beyond); is_big = site.is_big }
 
 -- the text that the call is answered by
 abbrev pub called : CallSite → Text
@@ -34,11 +34,11 @@ called site = record { bytes = site.callee; is_big = site.is_big }
 
 -- the text with the called bytes in the place of the call's
 abbrev pub inlined : CallSite → Text
-inlined site = record { bytes = site.before ++ (site.callee ++ site.behind); is_big = site.is_big }
+inlined site = record { bytes = site.before ++ (site.callee ++ site.beyond); is_big = site.is_big }
 
 -- the outer text, at the place after the call
-abbrev pub behind_call : CallSite → Position
-behind_call site = record { text = outer site; place = length site.before + length site.call }
+abbrev pub after_call : CallSite → Position
+after_call site = record { text = outer site; place = length site.before + length site.call }
 
 -- ---- the inputs
 
@@ -99,7 +99,7 @@ pub record IsInlinable (setup : Setup) (site : CallSite) : Type 0 where
 pub record LeadsToCall (setup : Setup) (site : CallSite) (offset : DieReference) (first : First)
     (earlier : List Input) (requests : List Request) : Type 0 where
   pub end : (course_of setup Never (outer site) first earlier).end
-      ≡ RequestEnd (RequiresAtLocation offset) (behind_call site ∷ []) []
+      ≡ RequestEnd (RequiresAtLocation offset) (after_call site ∷ []) []
   pub asked : (course_of setup Never (outer site) first earlier).requests ≡ requests ++ (RequiresAtLocation offset ∷ [])
 
 -- ---- what is said

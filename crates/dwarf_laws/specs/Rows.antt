@@ -37,13 +37,13 @@ pub record ComeAlike (setup : Setup) (bytes : List ℕ) (steps others : List Ste
 -- ---- called texts
 
 -- the call of the entry at offset 5, between other bytes, and the bytes that it is answered by
-abbrev pub call_site : (before behind callee : List ℕ) → CallSite
-call_site before behind callee =
-    record { before = before; call = 0x98 ∷ 0x05 ∷ 0x00 ∷ []; behind = behind; callee = callee; is_big = false }
+abbrev pub call_site : (before beyond callee : List ℕ) → CallSite
+call_site before beyond callee =
+    record { before = before; call = 0x98 ∷ 0x05 ∷ 0x00 ∷ []; beyond = beyond; callee = callee; is_big = false }
 
 -- Every premise of the law holds, with nothing set; the outcomes of both texts; and what they ask, before the call and
 -- after it.
-pub record IsWorked (site : CallSite) (earlier later : List Input) (before behind : List Request)
+pub record IsWorked (site : CallSite) (earlier later : List Input) (before after : List Request)
     (outcome : Outcome) : Type 0 where
   pub no_limits : HasNoLimits plain
   pub stands : StandsIn plain site (UnitRef 5)
@@ -55,8 +55,8 @@ pub record IsWorked (site : CallSite) (earlier later : List Input) (before behin
   pub inlined_comes : meaning plain Never (inlined site) unset (earlier ++ later) ≡ outcome
   pub outer_asks :
       (course_of plain Never (outer site) unset (with_answer site unset earlier later)).requests
-      ≡ before ++ (RequiresAtLocation (UnitRef 5) ∷ behind)
-  pub inlined_asks : (course_of plain Never (inlined site) unset (earlier ++ later)).requests ≡ before ++ behind
+      ≡ before ++ (RequiresAtLocation (UnitRef 5) ∷ after)
+  pub inlined_asks : (course_of plain Never (inlined site) unset (earlier ++ later)).requests ≡ before ++ after
 
 -- ---- why the premises stand
 

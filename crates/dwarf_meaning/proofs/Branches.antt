@@ -134,9 +134,9 @@ bytes_before : (front rest : List ℕ) → AreBytes (front ++ rest) → AreBytes
 bytes_before [] rest h = tt
 bytes_before (byte ∷ front) rest h = (h.0, bytes_before front rest h.1)
 
-bytes_behind : (front rest : List ℕ) → AreBytes (front ++ rest) → AreBytes rest
-bytes_behind [] rest h = h
-bytes_behind (byte ∷ front) rest h = bytes_behind front rest h.1
+bytes_beyond : (front rest : List ℕ) → AreBytes (front ++ rest) → AreBytes rest
+bytes_beyond [] rest h = h
+bytes_beyond (byte ∷ front) rest h = bytes_beyond front rest h.1
 
 near_operands : (context : Context) (row : Row) (bytes : List ℕ) (op : Operation) (rest : List ℕ) → NearRow row → AreBytes bytes → operands_at context row bytes ≡ Ok (op, rest) → BranchesNear op
 near_operands context (Makes made) bytes op rest near h e = subst BranchesNear (pair_same made op bytes rest e).0 near
@@ -144,22 +144,22 @@ near_operands context (Unsigned form next) bytes op rest near h e =
     let w = went (unsigned_at context form bytes) (λ x. operands_at context (next x.0) x.1) (op, rest) e in
     let s = (reads_unsigned context form).found bytes w.value w.left w.here in
     let k : AreBytes (s.front ++ w.left) = subst AreBytes (sym s.whole) h in
-    near_operands context (next w.value) w.left op rest (near w.value) (bytes_behind s.front w.left k) w.more
+    near_operands context (next w.value) w.left op rest (near w.value) (bytes_beyond s.front w.left k) w.more
 near_operands context (Signed (SignedFixed size) next) bytes op rest near h e =
     let w = went (integer_at context.is_big (SignedFixed size) bytes) (λ x. operands_at context (next x.0) x.1) (op, rest) e in
     let s = (reads_integer context.is_big (SignedFixed size)).found bytes w.value w.left w.here in
     let k : AreBytes (s.front ++ w.left) = subst AreBytes (sym s.whole) h in
-    near_operands context (next w.value) w.left op rest (near w.value (near_spelled context.is_big size s.front w.value s.spells (bytes_before s.front w.left k))) (bytes_behind s.front w.left k) w.more
+    near_operands context (next w.value) w.left op rest (near w.value (near_spelled context.is_big size s.front w.value s.spells (bytes_before s.front w.left k))) (bytes_beyond s.front w.left k) w.more
 near_operands context (Signed SignedLeb128 next) bytes op rest near h e =
     let w = went (integer_at context.is_big SignedLeb128 bytes) (λ x. operands_at context (next x.0) x.1) (op, rest) e in
     let s = (reads_integer context.is_big SignedLeb128).found bytes w.value w.left w.here in
     let k : AreBytes (s.front ++ w.left) = subst AreBytes (sym s.whole) h in
-    near_operands context (next w.value) w.left op rest (near w.value) (bytes_behind s.front w.left k) w.more
+    near_operands context (next w.value) w.left op rest (near w.value) (bytes_beyond s.front w.left k) w.more
 near_operands context (Block size next) bytes op rest near h e =
     let w = went (split_at size bytes) (λ x. operands_at context (next (block_of context x.0)) x.1) (op, rest) e in
     let s = (reads_block size).found bytes w.value w.left w.here in
     let k : AreBytes (s.front ++ w.left) = subst AreBytes (sym s.whole) h in
-    near_operands context (next (block_of context w.value)) w.left op rest (near (block_of context w.value)) (bytes_behind s.front w.left k) w.more
+    near_operands context (next (block_of context w.value)) w.left op rest (near (block_of context w.value)) (bytes_beyond s.front w.left k) w.more
 near_operands context (Invalid opcode) bytes op rest near h e = absurd cc
 
 near_operation : (encoding : Encoding) (bits : ℕ) (big : Bool) (bytes : List ℕ) (op : Operation) (rest : List ℕ) → AreBytes bytes → operation_at encoding bits (record { bytes = bytes; is_big = big }) ≡ Ok (op, rest) → BranchesNear op

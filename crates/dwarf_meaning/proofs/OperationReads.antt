@@ -17,16 +17,16 @@ use Rattle.dwarf_meaning.proofs.NumberReads.{reads_unsigned, reads_integer}
 
 data Place (before : List ℕ) (byte : ℕ) (after front rest : List ℕ) : Type 0 where
   inside : (tail : List ℕ) → front ≡ before ++ (byte ∷ tail) → Place before byte after front rest
-  behind : (tail : List ℕ) → before ≡ front ++ tail → rest ≡ tail ++ (byte ∷ after) → Place before byte after front rest
+  beyond : (tail : List ℕ) → before ≡ front ++ tail → rest ≡ tail ++ (byte ∷ after) → Place before byte after front rest
 
 place_more : (y x : ℕ) (before : List ℕ) (byte : ℕ) (after front rest : List ℕ) → x ≡ y → Place before byte after front rest → Place (y ∷ before) byte after (x ∷ front) rest
 place_more y x before byte after front rest same (inside tail e) =
     inside tail (ap (λ (xs : List ℕ). x ∷ xs) e ∙ ap (λ (n : ℕ). n ∷ (before ++ (byte ∷ tail))) same)
-place_more y x before byte after front rest same (behind tail e f) =
-    behind tail (ap (λ (xs : List ℕ). y ∷ xs) e ∙ ap (λ (n : ℕ). n ∷ (front ++ tail)) (sym same)) f
+place_more y x before byte after front rest same (beyond tail e f) =
+    beyond tail (ap (λ (xs : List ℕ). y ∷ xs) e ∙ ap (λ (n : ℕ). n ∷ (front ++ tail)) (sym same)) f
 
 place_of : (before : List ℕ) (byte : ℕ) (after front rest : List ℕ) → before ++ (byte ∷ after) ≡ front ++ rest → Place before byte after front rest
-place_of before byte after [] rest e = behind before refl (sym e)
+place_of before byte after [] rest e = beyond before refl (sym e)
 place_of [] byte after (x ∷ front) rest e =
     let same : x ≡ byte = cc in
     inside front (ap (λ (n : ℕ). n ∷ front) same)
@@ -152,7 +152,7 @@ operands_cut_off context row bytes op (spelling.unsigned form next first others 
     let step = λ (r : Reading ℕ). r >>= λ x. operands_at context (next x.0) x.1 in
     elim (place_of before byte after first others e) [
       | inside tail f ↦ ap step ((reads_unsigned context form).cut_off before byte tail value (subst (λ (bs : List ℕ). spelling.SpellsUnsigned context form bs value) f here))
-      | behind tail f g ↦
+      | beyond tail f g ↦
           ap (operands_at context (Unsigned form next)) f
           ∙ (ap step ((reads_unsigned context form).gives first value tail here) ∙ operands_cut_off context (next value) others made there tail byte after (sym g))
     ]
@@ -160,7 +160,7 @@ operands_cut_off context row bytes op (spelling.signed form next first others va
     let step = λ (r : Reading ℤ). r >>= λ x. operands_at context (next x.0) x.1 in
     elim (place_of before byte after first others e) [
       | inside tail f ↦ ap step ((reads_integer context.is_big form).cut_off before byte tail value (subst (λ (bs : List ℕ). spelling.SpellsInteger context.is_big form bs value) f here))
-      | behind tail f g ↦
+      | beyond tail f g ↦
           ap (operands_at context (Signed form next)) f
           ∙ (ap step ((reads_integer context.is_big form).gives first value tail here) ∙ operands_cut_off context (next value) others made there tail byte after (sym g))
     ]
@@ -168,7 +168,7 @@ operands_cut_off context row bytes op (spelling.block next first others made the
     let step = λ (r : Reading (List ℕ)). r >>= λ x. operands_at context (next (block_of context x.0)) x.1 in
     elim (place_of before byte after first others e) [
       | inside tail f ↦ ap step ((reads_block (length first)).cut_off before byte tail first (subst (λ (bs : List ℕ). SpellsBlock (length first) bs first) f (block first)))
-      | behind tail f g ↦
+      | beyond tail f g ↦
           ap (operands_at context (Block (length first) next)) f
           ∙ (ap step ((reads_block (length first)).gives first first tail (block first)) ∙ operands_cut_off context (next (block_of context first)) others made there tail byte after (sym g))
     ]

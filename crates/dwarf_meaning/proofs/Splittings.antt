@@ -28,8 +28,8 @@ module _ (encoding : Encoding) (bits : ℕ) (big : Bool) where
   within most = items_within most encoding bits big
 
   same_after : (n m : ℕ) (bytes : List ℕ) → ((rest : List ℕ) → length rest < length bytes → within n rest ≡ within m rest) → (r : Reading Operation) → operation_at encoding bits (text bytes) ≡ r → item_then r (within n) ≡ item_then r (within m)
-  same_after n m bytes behind (Ok x) e = ap (λ (items : Items). Ok x.0 ∷ items) (behind x.1 (operation_shortens encoding bits (text bytes) x.0 x.1 e))
-  same_after n m bytes behind (Err fault) e = refl
+  same_after n m bytes beyond (Ok x) e = ap (λ (items : Items). Ok x.0 ∷ items) (beyond x.1 (operation_shortens encoding bits (text bytes) x.0 x.1 e))
+  same_after n m bytes beyond (Err fault) e = refl
 
   -- what is read doesn't depend on how many items are allowed, if they are enough
   enough : (n m : ℕ) (bytes : List ℕ) → length bytes ≤ n → length bytes ≤ m → within n bytes ≡ within m bytes
@@ -71,10 +71,10 @@ module _ (encoding : Encoding) (bits : ℕ) (big : Bool) where
     splits : Splitting encoding bits big bytes ops fault
 
   split_after : (byte : ℕ) (bytes : List ℕ) → ((rest : List ℕ) → length rest < length (byte ∷ bytes) → SomeSplitting rest) → (r : Reading Operation) → operation_at encoding bits (text (byte ∷ bytes)) ≡ r → SomeSplitting (byte ∷ bytes)
-  split_after byte bytes behind (Err fault) e = record { ops = []; fault = Some fault; splits = splitting.faults byte bytes fault ((reads_operation encoding bits big).refused (byte ∷ bytes) fault e) }
-  split_after byte bytes behind (Ok x) e =
+  split_after byte bytes beyond (Err fault) e = record { ops = []; fault = Some fault; splits = splitting.faults byte bytes fault ((reads_operation encoding bits big).refused (byte ∷ bytes) fault e) }
+  split_after byte bytes beyond (Ok x) e =
       let b = operation_begins encoding bits (text (byte ∷ bytes)) x.0 x.1 e in
-      let more = behind x.1 (operation_shortens encoding bits (text (byte ∷ bytes)) x.0 x.1 e) in
+      let more = beyond x.1 (operation_shortens encoding bits (text (byte ∷ bytes)) x.0 x.1 e) in
       record {
         ops = x.0 ∷ more.ops;
         fault = more.fault;

@@ -72,9 +72,9 @@ pub fn worked_rows()
         (calls (0x98 ∷ 0x01 ∷ 0x00 ∷ []) ∷ calls (0x98 ∷ 0x01 ∷ 0x00 ∷ []) ∷ calls
         (0x98 ∷ 0x01 ∷ 0x00 ∷ []) ∷ calls (0x98 ∷ 0x01 ∷ 0x00 ∷ []) ∷ calls
         (0x98 ∷ 0x01 ∷ 0x00 ∷ []) ∷ [])) ≡ FaultOutcome StackFull }
-    ensures literal_behind_location { meaning plain Never (text (0x50 ∷ 0x31 ∷ [])) unset []
+    ensures literal_after_location { meaning plain Never (text (0x50 ∷ 0x31 ∷ [])) unset []
         ≡ FaultOutcome (InvalidExpressionTerminator 1) }
-    ensures longer_literal_behind_location { meaning plain Never (text (0x50 ∷ 0x08 ∷ 0x07 ∷ []))
+    ensures longer_literal_after_location { meaning plain Never (text (0x50 ∷ 0x08 ∷ 0x07 ∷ []))
         unset [] ≡ FaultOutcome (InvalidExpressionTerminator 2) }
     ensures address_asks { meaning plain Never
         (text (0x31 ∷ 0x93 ∷ 0x04 ∷ 0x03 ∷ 0x10 ∷ 0x00 ∷ 0x00 ∷ 0x00 ∷ [])) unset []

@@ -19,7 +19,7 @@ use Rattle.dwarf_replay.specs.declared.steps.Answer.{Answer}
 use Rattle.dwarf_replay.specs.declared.steps.Replayed.{Replayed}
 use Rattle.dwarf_replay.specs.declared.steps.Replayed.TheVariants as replayed
 use Rattle.dwarf_replay.specs.declared.steps.Step.{Step}
-use Rattle.dwexpr.specs.Evaluates.{EvaluatesSteps, EvaluatesSaid, behind_replies, outcome_ending, bad_steps}
+use Rattle.dwexpr.specs.Evaluates.{EvaluatesSteps, EvaluatesSaid, after_replies, outcome_ending, bad_steps}
 use Rattle.dwexpr.specs.Steps.{ReadsSteps}
 use Rattle.dwexpr.specs.declared.steps.StepsFault.{StepsFault}
 use Rattle.dwexpr.specs.declared.steps.StepsFault.TheVariants as fault
@@ -51,13 +51,13 @@ stands_ending told x (Some (CompleteOutcome pieces value)) h = ap (standing x) h
 
 pub evaluates_to : {R O P : Type 0} (text : R → Text) (number : O → ℕ) (limit : Option ℕ) (old new : State) (steps : List (Step R))
     (given : List (Answer R O P)) (ended : Replayed R O P) → Replays text number limit old steps given new ended
-    → EvaluatesSteps old.setup old.text (told_at old) (steps_of text steps) (behind_replies (replies_in text number given) (ending_of new ended))
+    → EvaluatesSteps old.setup old.text (told_at old) (steps_of text steps) (after_replies (replies_in text number given) (ending_of new ended))
 evaluates_to text number limit old new steps given replayed.Done w = inl (record {
   refusal = w.refusal;
   replies = replies_in text number given;
   now = w.told;
   done = w.tells;
-  ending_is = ap (behind_replies _) (stands_ending w.told new _ w.stands);
+  ending_is = ap (after_replies _) (stands_ending w.told new _ w.stands);
 })
 evaluates_to text number limit old new steps given (replayed.Misplaced index) w = inr (inl (record {
   refusal = w.walks.refusal;
@@ -74,7 +74,7 @@ evaluates_to text number limit old new steps given (replayed.NoRoom index answer
   refusal = w.walks.refusal;
   index = index;
   allowed = w.walks.tells.allowed;
-  ending_is = ap (λ z. behind_replies z no_memory) w.before;
+  ending_is = ap (λ z. after_replies z no_memory) w.before;
 }))
 
 -- the same of a setup, a text and what was told, in other words

@@ -26,8 +26,8 @@ outcome_ending (Some (FaultOutcome fault)) = record { text = []; status = 1 }
 outcome_ending (Some (CompleteOutcome pieces value)) = complete_ending pieces value
 
 -- the replies, one a line, and what is after them
-abbrev pub behind_replies : List Reply → Ending → Ending
-behind_replies replies ending = record ending { text = reply_lines replies ++ ending.text }
+abbrev pub after_replies : List Reply → Ending → Ending
+after_replies replies ending = record ending { text = reply_lines replies ++ ending.text }
 
 -- each step was done, for some push that memory was refused to, or for none
 pub record AllDone (setup : Setup) (text : Text) (told : Told) (steps : List Step) (ending : Ending) : Type 0 where
@@ -35,7 +35,7 @@ pub record AllDone (setup : Setup) (text : Text) (told : Told) (steps : List Ste
   pub replies : List Reply
   pub now : Told
   pub done : AreDone setup refusal text told steps replies now
-  pub ending_is : ending ≡ behind_replies replies (outcome_ending (outcome_of setup refusal text now))
+  pub ending_is : ending ≡ after_replies replies (outcome_ending (outcome_of setup refusal text now))
 
 -- the steps before one were done, and that one isn't allowed
 pub record EndsMisplaced (setup : Setup) (text : Text) (told : Told) (steps : List Step) (ending : Ending)
@@ -48,7 +48,7 @@ pub record EndsMisplaced (setup : Setup) (text : Text) (told : Told) (steps : Li
   pub step : Step
   pub is_next : slice_get steps index ≡ Some step
   pub not_allowed : Allows now (outcome_of setup refusal text now) step → ⊥
-  pub ending_is : ending ≡ behind_replies replies (misplaced index)
+  pub ending_is : ending ≡ after_replies replies (misplaced index)
 
 -- the steps up to one were done, and there was no memory for its reply
 pub record EndsWithoutMemory (setup : Setup) (text : Text) (told : Told) (steps : List Step) (ending : Ending)
@@ -56,7 +56,7 @@ pub record EndsWithoutMemory (setup : Setup) (text : Text) (told : Told) (steps 
   pub refusal : Refusal
   pub index : ℕ
   pub allowed : AllAllowed setup refusal text told (take (suc index) steps)
-  pub ending_is : ending ≡ behind_replies (replies_of setup refusal text told (take index steps)) no_memory
+  pub ending_is : ending ≡ after_replies (replies_of setup refusal text told (take index steps)) no_memory
 
 -- what the steps come to: one of the three
 abbrev pub EvaluatesSteps : Setup → Text → Told → List Step → Ending → Type 0

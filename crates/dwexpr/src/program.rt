@@ -5,7 +5,7 @@ ghost use Rattle.dwarf_base.specs.ByteOrder.{is_big_of};
 ghost use Rattle.dwarf_op.specs.Views.{piece_of};
 ghost use Rattle.dwarf_replay.specs.Replays.{replies_in, steps_of};
 ghost use Rattle.dwarf_meaning.specs.Steps.{untold};
-ghost use Rattle.dwexpr.specs.Evaluates.{EvaluatesSteps, EvaluatesLines, behind_replies, bad_steps, unlimited_setup};
+ghost use Rattle.dwexpr.specs.Evaluates.{EvaluatesSteps, EvaluatesLines, after_replies, bad_steps, unlimited_setup};
 ghost use Rattle.dwexpr_text.specs.Lines.{listing_of, piece_lines, reply_lines};
 ghost use Rattle.dwexpr.specs.Program.{EndsFor, EvaluatesInput, Exits, without_words};
 ghost use Rattle.dwexpr_text.specs.Endings as runs;
@@ -113,7 +113,7 @@ fn print_replay<A: Allocator + Copy, W: Write>(
 ) -> io::Result<u8>
     requires { HasLine replayed }
     ensures { WritesEnding (W.contents output.old) (W.contents output.new)
-        (behind_replies (replies_in slice_text (λ x. x) answers.now)
+        (after_replies (replies_in slice_text (λ x. x) answers.now)
         (ending_of evaluation.now replayed.entry)) result }
 {
     print_replies(output, answers)?;

@@ -264,15 +264,15 @@ module _ (texts : List DwexprText) (all : List DwexprStep) (index : ℕ) (at : D
 
     misplaced_at : (step : Step) → (MayTake step x.status → ⊥) → Allows (told_by given r.steps) (comes_of given r.steps) step → ⊥
     misplaced_at step h =
-        let behind = r.steps ++ step ∷ [] in
-        let there : slice_get behind (length r.steps) ≡ Some step = at_seam r.steps step in
-        let front : take (length r.steps) behind ≡ r.steps = take-append_seam r.steps (step ∷ []) in
-        let w = walks_to first behind (length r.steps) r.replies x step there (subst (λ (l : List Step). Went first l r.replies x) (sym front) r.went) h in
+        let beyond = r.steps ++ step ∷ [] in
+        let there : slice_get beyond (length r.steps) ≡ Some step = at_seam r.steps step in
+        let front : take (length r.steps) beyond ≡ r.steps = take-append_seam r.steps (step ∷ []) in
+        let w = walks_to first beyond (length r.steps) r.replies x step there (subst (λ (l : List Step). Went first l r.replies x) (sym front) r.went) h in
         let same : w.step ≡ step = some_same w.step step (sym w.is_next ∙ there) in
-        let refused : Refuses first w.walks.refusal w.step (take (length r.steps) behind) =
+        let refused : Refuses first w.walks.refusal w.step (take (length r.steps) beyond) =
         subst (λ (t : Told). Allows t (outcome_of first.setup w.walks.refusal first.text t) w.step → ⊥) (sym w.walks.tells.told_is) w.misplaced
         in
-        refused_as first w.walks.refusal w.step step (take (length r.steps) behind) r.steps (none_free first.setup.limits w.walks.refusal limits w.walks.may) same front refused
+        refused_as first w.walks.refusal w.step step (take (length r.steps) beyond) r.steps (none_free first.setup.limits w.walks.refusal limits w.walks.may) same front refused
 
     nowhere_never : (step : Step) → step_coded first.text.is_big texts at ≡ Ok step → (o : Option Outcome) → comes_of given (r.steps ++ step ∷ []) ≡ o → BlockNowhere texts o → ⊥
     nowhere_never step one (Some (RequestOutcome request positions)) e a =

@@ -6,7 +6,7 @@ use Rattle.dwarf_base.specs.declared.common.Encoding.{Encoding}
 use Rattle.dwarf_base.specs.Faults.{Fault}
 use Rattle.dwarf_meaning.specs.Decoding.{operation_at}
 use Rattle.dwarf_meaning.specs.Operations.{Operation}
-use Rattle.dwexpr_text.specs.Lines.{Listing, Lists, behind, fault_line, listing_within, operation_name}
+use Rattle.dwexpr_text.specs.Lines.{Listing, Lists, after_line, fault_line, listing_within, operation_name}
 use Rattle.dwexpr_text.specs.Endings.{Ending, WritesEnding}
 use Rattle.dwexpr_text.specs.Writing.{AppendsFront, bytes_word, line}
 use Rattle.dwexpr_text.proofs.Fronts.{Written, appends_both, begun, last_of, more_of, refused_in}
@@ -18,7 +18,7 @@ pub next_listed : (most : ℕ) (encoding : Encoding) (big at_big : Bool) (place 
     → name ≡ operation_name op
     → (fewer : ℕ) × (length rest < length bytes → length rest ≤ fewer)
     × (listing_within most encoding big place bytes
-    ≡ behind (line (decimal place) (bytes_word spelled ∷ name ∷ [])) (listing_within fewer encoding big (place + size) rest))
+    ≡ after_line (line (decimal place) (bytes_word spelled ∷ name ∷ [])) (listing_within fewer encoding big (place + size) rest))
 next_listed most encoding big at_big place size [] rest spelled name op e h some enough f g k = cc some
 next_listed zero encoding big at_big place size (byte ∷ bytes) rest spelled name op e h some enough f g k = absurd (omega (arith, enough))
 next_listed (suc most) encoding big at_big place size (byte ∷ bytes) rest spelled name op e h some enough f g k =
@@ -59,9 +59,9 @@ pub ends_refused : {E F : Type 0} (a b c : Option (List ℕ)) (ending : Ending) 
 ends_refused a b c ending x rest (Ok u) h k refused = absurd (true≢false (sym refused.0))
 ends_refused a b c ending x rest (Err u) h k refused = refused_in {T = ℕ} a b c ending.text x rest (Err u) h k refused
 
-pub ends_behind : {E : Type 0} (a b c : Option (List ℕ)) (first : List ℕ) (ending : Ending) (r : Result ℕ E)
+pub ends_beyond : {E : Type 0} (a b c : Option (List ℕ)) (first : List ℕ) (ending : Ending) (r : Result ℕ E)
     → Appends a b first → WritesEnding b c ending r
     → WritesEnding a c (record ending { text = first ++ ending.text }) r
-ends_behind a b c first ending (Ok u) h k = (appends_both a b c first ending.text (first ++ ending.text) refl h k.0, k.1)
-ends_behind a b c first ending (Err u) h k =
+ends_beyond a b c first ending (Ok u) h k = (appends_both a b c first ending.text (first ++ ending.text) refl h k.0, k.1)
+ends_beyond a b c first ending (Err u) h k =
     last_of {T = ℕ} a b c (first ++ ending.text) ending.text (Err u) (more_of a a b (first ++ ending.text) first ending.text (begun a (first ++ ending.text)) h) k

@@ -189,13 +189,13 @@ pub record Listing : Type 0 where
   pub is_whole : Bool
 
 -- a line before the listing
-abbrev pub behind : List ℕ → Listing → Listing
-behind first listing = record listing { text = first ++ listing.text }
+abbrev pub after_line : List ℕ → Listing → Listing
+after_line first listing = record listing { text = first ++ listing.text }
 
 -- what is read at the front, and then what is listed after it
 abbrev pub listing_then : (place : ℕ) → List ℕ → Result (Operation × List ℕ) Fault → (ℕ → List ℕ → Listing) → Listing
 listing_then place bytes (Ok x) next =
-    let size = length bytes - length x.1 in behind (operation_line place (take size bytes) x.0)
+    let size = length bytes - length x.1 in after_line (operation_line place (take size bytes) x.0)
     (next (place + size) x.1)
 listing_then place bytes (Err fault) next =
     record { text = line (decimal place) (codes "fault" ∷ fault_words fault); is_whole = false }

@@ -30,7 +30,7 @@ impl<'input, Endian: Endianity> EndianSlice<'input, Endian> {
     ///
     /// # Panics
     ///
-    /// If the place is behind the end.
+    /// If the place is after the end.
     #[inline]
     pub fn split_at(&self, idx: usize) -> (Self, Self) {
         (self.range_to(..idx), self.range_from(idx..))
@@ -42,7 +42,7 @@ impl<'input, Endian: Endianity> EndianSlice<'input, Endian> {
         self.slice.iter().position(|it| *it == byte)
     }
 
-    /// How far the bytes begin behind the start of `base`, of which they are a part.
+    /// How far the bytes begin after the start of `base`, of which they are a part.
     ///
     /// # Panics
     ///

@@ -545,7 +545,7 @@ impl<R: Reader> OperationIter<R> {
         next.map(Some)
     }
 
-    /// How far the next operation is behind the start of the expression; after a fault the whole length.
+    /// How far the next operation is after the start of the expression; after a fault the whole length.
     pub fn offset_from(&self, expression: &Expression<R>) -> R::Offset {
         self.input.offset_from(&expression.0)
     }

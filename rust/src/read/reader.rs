@@ -58,13 +58,13 @@ pub trait Reader: Debug + Clone + sealed::Bytes {
     /// `UnexpectedEof`, if there are fewer.
     fn truncate(&mut self, len: Self::Offset) -> Result<()>;
 
-    /// How far the bytes begin behind the start of `base`, of which they are a part.
+    /// How far the bytes begin after the start of `base`, of which they are a part.
     fn offset_from(&self, base: &Self) -> Self::Offset;
 
     /// The place in memory where the bytes begin.
     fn offset_id(&self) -> ReaderOffsetId;
 
-    /// How far this place is behind the start of the bytes; `None` if it is outside of them.
+    /// How far this place is after the start of the bytes; `None` if it is outside of them.
     fn lookup_offset_id(&self, id: ReaderOffsetId) -> Option<Self::Offset>;
 
     /// The bytes that are left, which are borrowed.

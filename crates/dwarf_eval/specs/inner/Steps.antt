@@ -133,9 +133,9 @@ read_to place x = record x { place = place; decodings = x.decodings + 1 }
 
 -- the operation at the place was read
 pub record ReadsOperation (op : Operation) (old new : State) : Type 0 where
-  pub behind : List ℕ
-  pub was : read old.setup old.text old.place ≡ Ok (op, behind)
-  pub moved : new ≡ read_to (length old.text.bytes - length behind) old
+  pub beyond : List ℕ
+  pub was : read old.setup old.text old.place ≡ Ok (op, beyond)
+  pub moved : new ≡ read_to (length old.text.bytes - length beyond) old
 
 -- ---- operations
 

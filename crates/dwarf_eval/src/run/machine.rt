@@ -399,7 +399,7 @@ impl<R: Reader + Copy, S: EvaluationStorage<R>> Machine<R, S> {
         ensures ok { IfOk result
             (λ operation. ReadsOperation (operation_of R.text R.Offset.number operation)
             (at (R.text left.old).bytes self.old) (at (R.text left.new).bytes self.new)) }
-        ensures behind { OnOk result (0 < (at (R.text left.new).bytes self.new).place) }
+        ensures beyond { OnOk result (0 < (at (R.text left.new).bytes self.new).place) }
         ensures err { IfErr result
             (λ e. read self.old.setup self.old.text (at (R.text left.old).bytes self.old).place
             ≡ Err (fault_of e)) }
@@ -416,7 +416,7 @@ impl<R: Reader + Copy, S: EvaluationStorage<R>> Machine<R, S> {
         ensures ok { IfOk result
             (λ operation. ReadsOperation (operation_of R.text R.Offset.number operation)
             self.old self.new) }
-        ensures behind { OnOk result (0 < self.new.place) }
+        ensures beyond { OnOk result (0 < self.new.place) }
         ensures err { IfErr result
             (λ e. read self.old.setup self.old.text self.old.place ≡ Err (fault_of e)) }
         ensures alone { self.new ≡ read_to self.new.place self.old }

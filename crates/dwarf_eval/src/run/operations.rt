@@ -24,7 +24,7 @@ use dwarf_value::Value;
 impl<R: Reader + Copy, S: EvaluationStorage<R>> Machine<R, S> {
     /// Does an operation, before what is left of the text.
     #[inline(always)]
-    #[tactic(auto, using(crate::proofs::Behind::left_there))]
+    #[tactic(auto, using(crate::proofs::Placing::left_there))]
     pub(crate) fn operate(&mut self, operation: Operation<R>, left: &mut R)
         requires runs { self.old.status ≡ Running }
         requires rest { IsLeftOf (R.text left.old) self.old.text }

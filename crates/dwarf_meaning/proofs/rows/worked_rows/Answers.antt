@@ -47,8 +47,8 @@ returns c = record {
   callee_ends_in_location = in_twenty plain Never (text (0x98 ∷ 0x05 ∷ 0x00 ∷ 0x31 ∷ [])) unset (given unset (calls (0x50 ∷ []) ∷ [])) (FaultOutcome (InvalidExpressionTerminator 3)) (λ more. refl);
   four_calls_of_itself = in_twenty (with_limits (record no_limits { callers = Some 4 })) Never (text (0x98 ∷ 0x01 ∷ 0x00 ∷ [])) unset (given unset (calls (0x98 ∷ 0x01 ∷ 0x00 ∷ []) ∷ calls (0x98 ∷ 0x01 ∷ 0x00 ∷ []) ∷ calls (0x98 ∷ 0x01 ∷ 0x00 ∷ []) ∷ calls (0x98 ∷ 0x01 ∷ 0x00 ∷ []) ∷ [])) (RequestOutcome (RequiresAtLocation (UnitRef 1)) (open_at (0x98 ∷ 0x01 ∷ 0x00 ∷ []) 3 ∷ open_at (0x98 ∷ 0x01 ∷ 0x00 ∷ []) 3 ∷ open_at (0x98 ∷ 0x01 ∷ 0x00 ∷ []) 3 ∷ open_at (0x98 ∷ 0x01 ∷ 0x00 ∷ []) 3 ∷ open_at (0x98 ∷ 0x01 ∷ 0x00 ∷ []) 3 ∷ [])) (λ more. refl);
   five_calls_of_itself = in_twenty (with_limits (record no_limits { callers = Some 4 })) Never (text (0x98 ∷ 0x01 ∷ 0x00 ∷ [])) unset (given unset (calls (0x98 ∷ 0x01 ∷ 0x00 ∷ []) ∷ calls (0x98 ∷ 0x01 ∷ 0x00 ∷ []) ∷ calls (0x98 ∷ 0x01 ∷ 0x00 ∷ []) ∷ calls (0x98 ∷ 0x01 ∷ 0x00 ∷ []) ∷ calls (0x98 ∷ 0x01 ∷ 0x00 ∷ []) ∷ [])) (FaultOutcome StackFull) (λ more. refl);
-  literal_behind_location = in_twenty plain Never (text (0x50 ∷ 0x31 ∷ [])) unset [] (FaultOutcome (InvalidExpressionTerminator 1)) (λ more. refl);
-  longer_literal_behind_location = in_twenty plain Never (text (0x50 ∷ 0x08 ∷ 0x07 ∷ [])) unset [] (FaultOutcome (InvalidExpressionTerminator 2)) (λ more. refl);
+  literal_after_location = in_twenty plain Never (text (0x50 ∷ 0x31 ∷ [])) unset [] (FaultOutcome (InvalidExpressionTerminator 1)) (λ more. refl);
+  longer_literal_after_location = in_twenty plain Never (text (0x50 ∷ 0x08 ∷ 0x07 ∷ [])) unset [] (FaultOutcome (InvalidExpressionTerminator 2)) (λ more. refl);
   address_asks = in_twenty plain Never (text (0x31 ∷ 0x93 ∷ 0x04 ∷ 0x03 ∷ 0x10 ∷ 0x00 ∷ 0x00 ∷ 0x00 ∷ [])) unset [] (RequestOutcome (RequiresRelocatedAddress 0x10) (open_at (0x31 ∷ 0x93 ∷ 0x04 ∷ 0x03 ∷ 0x10 ∷ 0x00 ∷ 0x00 ∷ 0x00 ∷ []) 8 ∷ [])) (λ more. refl);
   address_after_piece = in_twenty plain Never (text (0x31 ∷ 0x93 ∷ 0x04 ∷ 0x03 ∷ 0x10 ∷ 0x00 ∷ 0x00 ∷ 0x00 ∷ [])) unset (given unset (NumberAnswer kind.RelocatedAddress 0x10 ∷ [])) (FaultOutcome InvalidPiece) (λ more. refl);
   frame_address_after_piece = in_twenty plain Never (text (0x31 ∷ 0x93 ∷ 0x04 ∷ 0x9c ∷ [])) unset (given unset (NumberAnswer kind.CallFrameCfa 1 ∷ [])) (FaultOutcome InvalidPiece) (λ more. refl);

@@ -2,7 +2,7 @@ use Rattle.std.proofs.Common.{sym, ◌∙◌, subst}
 use Rattle.dwarf_base.specs.EndianSlice.{slice_text}
 use Rattle.dwarf_replay.specs.Replays.{replies_in, steps_of}
 use Rattle.dwarf_meaning.specs.Steps.{untold}
-use Rattle.dwexpr.specs.Evaluates.{EvaluatesSteps, behind_replies, unlimited_setup}
+use Rattle.dwexpr.specs.Evaluates.{EvaluatesSteps, after_replies, unlimited_setup}
 use Rattle.dwexpr.specs.inner.Replayed.{ending_of}
 use Rattle.dwexpr.proofs.RunLemmas.{evaluates_as, evaluates_to, text_as, text_by, told_as}
 use Rattle.dwexpr.proofs.program.evaluate.Goals as goal
@@ -11,9 +11,9 @@ pub returns : goal.returns
 returns g c =
     let fresh = c.new-evaluation.ensures in
     let ended = ending_of c.replay-replayed.new.eval c.replay-replayed.result in (
-      behind_replies (replies_in slice_text (λ x. x) c.as_slice.result.now) ended,
+      after_replies (replies_in slice_text (λ x. x) c.as_slice.result.now) ended,
       subst
-          (λ z. EvaluatesSteps (unlimited_setup c.args.reading.encoding) (text_by c.args.bytes.now c.args.reading.order) untold (steps_of slice_text c.args.steps.now) (behind_replies (replies_in slice_text (λ x. x) z) ended))
+          (λ z. EvaluatesSteps (unlimited_setup c.args.reading.encoding) (text_by c.args.bytes.now c.args.reading.order) untold (steps_of slice_text c.args.steps.now) (after_replies (replies_in slice_text (λ x. x) z) ended))
           (sym c.as_slice.ensures.value)
           (evaluates_as _ _ _ _ _ _ _ _ fresh.setup (fresh.text ∙ text_as _ _ _ _ c.new-text.ensures.bytes c.new-text.ensures.order)
           (told_as c.new-evaluation.result fresh.object_address fresh.maximum)

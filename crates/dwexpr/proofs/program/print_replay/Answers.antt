@@ -3,7 +3,7 @@ use Rattle.dwarf_replay.specs.Replays.{replies_in}
 use Rattle.dwexpr_text.specs.Lines.{reply_lines}
 use Rattle.dwexpr.specs.inner.Replayed.{ending_of}
 use Rattle.dwexpr_text.proofs.Fronts.{begun}
-use Rattle.dwexpr_text.proofs.ListingLemmas.{ends_behind, ends_refused}
+use Rattle.dwexpr_text.proofs.ListingLemmas.{ends_beyond, ends_refused}
 use Rattle.dwexpr.proofs.program.print_replay.Goals as goal
 
 pub returns-in_err-print_replies : goal.returns-in_err-print_replies
@@ -13,5 +13,5 @@ returns-in_err-print_replies g c =
 
 pub returns : goal.returns
 returns g c =
-    ends_behind _ _ _ (reply_lines (replies_in slice_text (λ x. x) c.args.answers.now)) (ending_of c.args.evaluation.now c.args.replayed) _
+    ends_beyond _ _ _ (reply_lines (replies_in slice_text (λ x. x) c.args.answers.now)) (ending_of c.args.evaluation.now c.args.replayed) _
     c.in_ok-print_replies.ensures c.print_end.ensures

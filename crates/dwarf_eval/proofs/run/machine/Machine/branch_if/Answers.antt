@@ -8,7 +8,7 @@ use Rattle.dwarf_meaning.specs.Rest.{State}
 use Rattle.dwarf_meaning.specs.Stores.{address_bits}
 use Rattle.dwarf_eval.specs.inner.Steps.{Performs, PopsNumber, at}
 use Rattle.dwarf_eval.proofs.ActCases.{none_bra, zero_bra, some_bra}
-use Rattle.dwarf_eval.proofs.Behind.{performs_at}
+use Rattle.dwarf_eval.proofs.Placing.{performs_at}
 use Rattle.dwarf_eval.proofs.Performances.{performs_as, performs_low, performs_refuses}
 use Rattle.dwarf_eval.proofs.Staying.{fewer_one, stays_number}
 use Rattle.dwarf_eval.proofs.run.machine.Machine.branch_if.Goals as goal

@@ -2,7 +2,7 @@ use Rattle.std.proofs.Common.{rules}
 use Rattle.dwarf_meaning.specs.Acts.{act}
 use Rattle.dwarf_eval.specs.inner.Steps.{IsNoBranch, act_of}
 use Rattle.dwarf_op.specs.Views.{operation_of}
-use Rattle.dwarf_eval.proofs.Behind.{left_there, performs_there}
+use Rattle.dwarf_eval.proofs.Placing.{left_there, performs_there}
 use Rattle.dwarf_eval.proofs.run.machine.Machine.operate.Goals as goal
 
 pub returns-in-Skip-clause-performs : goal.returns-in-Skip-clause-performs

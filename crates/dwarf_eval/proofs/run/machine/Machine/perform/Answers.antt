@@ -14,19 +14,19 @@ returns-then-not-count-clause-turns g c =
 pub returns-in-Ok-clause-turns : goal.returns-in-Ok-clause-turns
 returns-in-Ok-clause-turns g c =
     let before = (g.R.Reader.text c.args.left.now).bytes in
-    let behind = (g.R.Reader.text c.decode.new.left).bytes in
+    let beyond = (g.R.Reader.text c.decode.new.left).bytes in
     let after = (g.R.Reader.text c.operate.new.left).bytes in
     let can = subst (λ (b : Bool). CountsOne c.args.self.now c.count.new.self b) c.if-not-count.false c.count.ensures in
-    counted_turns (at before c.args.self.now) (at before c.count.new.self) (at behind c.decode.new.self) (at after c.operate.new.self)
+    counted_turns (at before c.args.self.now) (at before c.count.new.self) (at beyond c.decode.new.self) (at after c.operate.new.self)
     (operation_of g.R.Reader.text g.R.Offset.ReaderOffset.number c.in-Ok.operation)
     c.requires.ready (counted_there before c.args.self.now c.count.new.self can) c.in-Ok.ensures.ok c.operate.ensures.performs
 
 pub returns-in-Err-clause-turns : goal.returns-in-Err-clause-turns
 returns-in-Err-clause-turns g c =
     let before = (g.R.Reader.text c.args.left.now).bytes in
-    let behind = (g.R.Reader.text c.decode.new.left).bytes in
+    let beyond = (g.R.Reader.text c.decode.new.left).bytes in
     let can = subst (λ (b : Bool). CountsOne c.args.self.now c.count.new.self b) c.if-not-count.false c.count.ensures in
-    unread_turns (at before c.args.self.now) (at before c.count.new.self) (at behind c.decode.new.self) (at behind c.fail.new.self)
+    unread_turns (at before c.args.self.now) (at before c.count.new.self) (at beyond c.decode.new.self) (at beyond c.fail.new.self)
     c.in-Err.error c.requires.ready (counted_there before c.args.self.now c.count.new.self can) c.in-Err.ensures.err
-    (subst (λ (z : State). at behind z ≡ read_to (at behind z).place (at before c.count.new.self)) (sym c.decode.ensures.alone) refl)
-    (ap (at behind) c.fail.ensures)
+    (subst (λ (z : State). at beyond z ≡ read_to (at beyond z).place (at before c.count.new.self)) (sym c.decode.ensures.alone) refl)
+    (ap (at beyond) c.fail.ensures)

@@ -46,8 +46,8 @@ done_moved setup place was len (EndsPiece rest piece) s h = goes_moved place was
 done_moved setup place was len (RequestAct rest request on_answer) s h = refl
 done_moved setup place was len (FaultAct fault) s h = refl
 
-stays_behind : (place : ℕ) (old new : State) → Stays 0 old new → Stays 0 (with_place place old) (with_place place new)
-stays_behind place old new h = record {
+stays_beyond : (place : ℕ) (old new : State) → Stays 0 old new → Stays 0 (with_place place old) (with_place place new)
+stays_beyond place old new h = record {
   kept = record { setup = h.kept.setup; object_address = h.kept.object_address; maximum = h.kept.maximum };
   text = h.text;
   callers = h.callers;
@@ -61,34 +61,34 @@ module _ (a : Act) (place : ℕ) (old new : State) (still : IsStill a) where
   moves : (s : Store) (next : Next) → done_at a old s ≡ next → done_at a (with_place place old) s ≡ moved place next
   moves s next e = done_moved old.setup place old.place (length old.text.bytes) a s still ∙ ap (moved place) e
 
-  behind_by : (status : Status) → LeadsBy (done_at a old) old new status → LeadsBy (done_at a (with_place place old)) (with_place place old) (with_place place new) status
-  behind_by Running h = record {
+  beyond_by : (status : Status) → LeadsBy (done_at a old) old new status → LeadsBy (done_at a (with_place place old)) (with_place place old) (with_place place new) status
+  beyond_by Running h = record {
     steps = record {
       pushes = h.steps.pushes;
       same = λ r. moves (with_refusal (before_pushes h.steps.pushes r) old.store) (Goes new.place (with_refusal r new.store)) (h.steps.same r);
     };
     alone = ap (with_place place) h.alone;
   }
-  behind_by (RequestStatus request on_answer) h = record {
+  beyond_by (RequestStatus request on_answer) h = record {
     steps = record {
       pushes = h.steps.pushes;
       same = λ r. moves (with_refusal (before_pushes h.steps.pushes r) old.store) (RequestNext request on_answer (with_refusal r new.store)) (h.steps.same r);
     };
     alone = ap (with_place place) h.alone;
   }
-  behind_by (FaultStatus error) h = record {
+  beyond_by (FaultStatus error) h = record {
     gets = record { refusal = h.gets.refusal; may = h.gets.may; same = moves (with_refusal h.gets.refusal old.store) _ h.gets.same };
-    stays = stays_behind place old new h.stays;
+    stays = stays_beyond place old new h.stays;
   }
-  behind_by (Start initial_value) h = absurd h
-  behind_by (CompleteStatus value) h = absurd h
+  beyond_by (Start initial_value) h = absurd h
+  beyond_by (CompleteStatus value) h = absurd h
 
 -- the same before what is left of the text
 pub performs_at : (a : Act) (left : List ℕ) (old new : State) → IsStill a → Performs a old new → Performs a (at left old) (at left new)
 performs_at a left old new still h =
     let place = length old.text.bytes - length left in
     subst (λ (text : Text). Performs a (at left old) (with_place (length text.bytes - length left) new)) (sym (performs_text a old new h))
-    (behind_by a place old new still new.status h)
+    (beyond_by a place old new still new.status h)
 
 -- ---- the operations that take no branch
 

@@ -36,7 +36,7 @@ pub(crate) fn kind_of<R: Reader + Copy>(replied: EvaluationResult<R>) -> Option<
 }
 
 /// What the state replies to the caller.
-#[inline(never)]
+#[inline(always)]
 pub(crate) fn reply<R: Reader + Copy, S: EvaluationStorage<R>>(
     machine: &Machine<R, S>,
 ) -> Result<EvaluationResult<R>>

@@ -35,9 +35,8 @@ pub(crate) struct Machine<R: Reader + Copy, S: EvaluationStorage<R>> {
     object_address: Option<u64>,
     max_iterations: u32,
     iteration: u32,
-    // The running text, and what is left of it.
-    bytecode: R,
-    pc: R,
+    // What is left of the running text, and the whole of it, as a caller is kept: it is copied as a whole then.
+    running: (R, R),
     last: LastOperation,
     // The location that waits for its piece, if the last operation gave one.
     location: Location<R>,
@@ -62,15 +61,15 @@ impl<R: Reader + Copy, S: EvaluationStorage<R>> Model for Machine<R, S> {
       status = status_of R.text R.Offset.number e.state e.on_answer;
       setup = setup_of e.encoding R.Offset.BITS (S.Stack.limit e.stack)
           (S.ExpressionStack.limit e.expression_stack) (S.Result.limit e.pieces);
-      text = R.text e.bytecode;
-      place = place_of (R.text e.bytecode) (R.text e.pc);
+      text = R.text e.running.1;
+      place = place_of (R.text e.running.1) (R.text e.running.0);
       callers = callers_of R.text (S.ExpressionStack.items e.expression_stack);
       store = store_of R.text R.Offset.number (S.Stack.items e.stack) (S.Result.items e.pieces)
           e.iteration e.object_address e.max_iterations e.last e.location;
       decodings = e.decodings.count;
     } };
 
-    ghost invariant = { λ e. IsSound R.text e.encoding e.addr_mask e.bytecode e.pc
+    ghost invariant = { λ e. IsSound R.text e.encoding e.addr_mask e.running.1 e.running.0
         (S.ExpressionStack.items e.expression_stack) };
 }
 
@@ -303,7 +302,7 @@ impl<R: Reader + Copy, S: EvaluationStorage<R>> Machine<R, S> {
         ensures ends { result ≡ true → self.now.place ≡ length self.now.text.bytes }
         ensures inside { result ≡ false → self.now.place < length self.now.text.bytes }
     {
-        self.pc.is_empty()
+        self.running.0.is_empty()
     }
 
     /// Whether there are pieces.
@@ -344,7 +343,7 @@ impl<R: Reader + Copy, S: EvaluationStorage<R>> Machine<R, S> {
     pub(crate) fn place(&self) -> R::Offset
         ensures value { R.Offset.number result ≡ self.now.place }
     {
-        self.pc.offset_from(&self.bytecode)
+        self.running.0.offset_from(&self.running.1)
     }
 
     /// The place that is before what is left of the running text.
@@ -354,7 +353,7 @@ impl<R: Reader + Copy, S: EvaluationStorage<R>> Machine<R, S> {
         ensures value { R.Offset.number result ≡ (at (R.text left).bytes self.now).place }
         ensures bits { self.now.setup.offset_bits ≡ R.Offset.BITS }
     {
-        left.offset_from(&self.bytecode)
+        left.offset_from(&self.running.1)
     }
 
     /// What is left of the running text.
@@ -363,7 +362,7 @@ impl<R: Reader + Copy, S: EvaluationStorage<R>> Machine<R, S> {
         ensures rest { IsLeftOf (R.text result) self.now.text }
         ensures here { at (R.text result).bytes self.now ≡ self.now }
     {
-        self.pc
+        self.running.0
     }
 
     /// Goes to what is left of the running text.
@@ -372,7 +371,7 @@ impl<R: Reader + Copy, S: EvaluationStorage<R>> Machine<R, S> {
         requires { IsLeftOf (R.text left) self.old.text }
         ensures { self.new ≡ at (R.text left).bytes self.old }
     {
-        self.pc = left;
+        self.running.0 = left;
     }
 
     /// Reads an operation, and counts that. Nothing else of an evaluation decodes, and nothing else raises the count.
@@ -421,7 +420,7 @@ impl<R: Reader + Copy, S: EvaluationStorage<R>> Machine<R, S> {
             (λ e. read self.old.setup self.old.text self.old.place ≡ Err (fault_of e)) }
         ensures alone { self.new ≡ read_to self.new.place self.old }
     {
-        Self::read_operation(&mut self.pc, &mut self.decodings, self.encoding)
+        Self::read_operation(&mut self.running.0, &mut self.decodings, self.encoding)
     }
 
     /// Goes to a place of the running text, or keeps the fault of a place that it doesn't have.
@@ -432,7 +431,7 @@ impl<R: Reader + Copy, S: EvaluationStorage<R>> Machine<R, S> {
             (at (R.text left.new).bytes self.new) result }
         ensures rest { IsLeftOf (R.text left.new) self.new.text }
     {
-        let mut target = self.bytecode;
+        let mut target = self.running.1;
         let Ok(()) = target.skip(place) else {
             self.fail(Error::BadBranchTarget(place.into_u64()));
             return false;
@@ -445,13 +444,11 @@ impl<R: Reader + Copy, S: EvaluationStorage<R>> Machine<R, S> {
     pub(crate) fn push_caller(&mut self, callee: R) -> bool
         ensures { TriesToEnter (R.text callee) self.old self.new result }
     {
-        let caller = (self.pc, self.bytecode);
-        let Ok(()) = self.expression_stack.push(caller) else {
+        let Ok(()) = self.expression_stack.push(self.running) else {
             self.fail_full();
             return false;
         };
-        self.pc = callee;
-        self.bytecode = callee;
+        self.running = (callee, callee);
         true
     }
 
@@ -462,8 +459,7 @@ impl<R: Reader + Copy, S: EvaluationStorage<R>> Machine<R, S> {
         let Some(caller) = self.expression_stack.pop() else {
             return false;
         };
-        self.pc = caller.0;
-        self.bytecode = caller.1;
+        self.running = caller;
         true
     }
 
@@ -521,8 +517,7 @@ impl<R: Reader + Copy, S: EvaluationStorage<R>> Machine<R, S> {
         self.object_address = None;
         self.max_iterations = u32::MAX;
         self.iteration = 0;
-        self.bytecode = bytecode;
-        self.pc = bytecode;
+        self.running = (bytecode, bytecode);
         self.last = LastOperation::Nothing;
         self.decodings = Ticks::new();
     }
@@ -558,8 +553,7 @@ impl<R: Reader + Copy, S: EvaluationStorage<R>> Machine<R, S> {
             object_address: None,
             max_iterations: u32::MAX,
             iteration: 0,
-            bytecode,
-            pc: bytecode,
+            running: (bytecode, bytecode),
             last: LastOperation::Nothing,
             location: Location::Empty,
             on_answer: OnAnswer::Push,

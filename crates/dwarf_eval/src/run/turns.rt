@@ -147,6 +147,7 @@ impl<R: Reader + Copy, S: EvaluationStorage<R>> Machine<R, S> {
     }
 
     /// Ends the run: with the pieces, if its last operation may follow them, or else with one piece.
+    #[inline(never)]
     fn finish(&mut self)
         requires { self.old.status ≡ Running }
         ensures { Closes (waits_of self.old.store.last) (finish self.old.setup) self.old self.new }

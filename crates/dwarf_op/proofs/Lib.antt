@@ -3,3 +3,4 @@ pub mod OneByte
 pub mod Rows
 pub mod ShortLeb
 pub mod Blocks
+mod ShortPieces

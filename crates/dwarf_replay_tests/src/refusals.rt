@@ -1,5 +1,5 @@
 //! Each push of an evaluation is refused in turn, and each growth of its lists and of the answers.
-ghost use Rattle.std.specs.Prelude.{◌≡◌, [], None};
+ghost use Rattle.std.specs.Prelude.{◌≡◌, [], None, false};
 
 use crate::allocators::{NEVER, RefusesGrowth};
 use crate::evaluation::{COMPLETE, SMALL, Slice, little, replayed};
@@ -29,6 +29,8 @@ impl<T: Copy> ArrayLike for RefusesOne<T> {
 
     ghost limit = { λ _. None };
 
+    ghost has_memory = { λ _. false };
+
     fn len(&self) -> usize {
         self.items.len()
     }
@@ -43,6 +45,10 @@ impl<T: Copy> ArrayLike for RefusesOne<T> {
 
     fn pop(&mut self) -> Option<T> {
         self.items.pop()
+    }
+
+    fn has_room(&self) -> bool {
+        false
     }
 
     fn push(&mut self, item: T) -> Result<(), T> {

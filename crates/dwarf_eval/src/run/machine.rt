@@ -1,4 +1,4 @@
-ghost use Rattle.std.specs.Prelude.{◌≡◌, ◌<◌, ◌≤◌, ◌+◌, ◌*◌, ℕ, [], None, Some, Err, map, length, slice_get, false, true, OnOk, IfOk, IfErr};
+ghost use Rattle.std.specs.Prelude.{◌≡◌, ◌<◌, ◌≤◌, ◌+◌, ◌*◌, ℕ, [], None, Some, Err, map, length, slice_get, false, true, OnOk, OnSome, IfOk, IfErr, IfNone, IfSome};
 ghost use Rattle.dwarf_base.specs.Reads.{IsLeftOf, Reads};
 ghost use Rattle.dwarf_base.specs.Faults.{fault_of};
 ghost use Rattle.dwarf_base.specs.declared.errors.Error.TheVariants.{StackFull, TooManyIterations};
@@ -374,7 +374,8 @@ impl<R: Reader + Copy, S: EvaluationStorage<R>> Machine<R, S> {
         self.running.0 = left;
     }
 
-    /// Reads an operation, and counts that. Nothing else of an evaluation decodes, and nothing else raises the count.
+    /// Reads an operation, and counts that. But for `decode_short_piece`, nothing else of an evaluation decodes, and
+    /// nothing else raises the count.
     #[inline(always)]
     fn read_operation(
         left: &mut R,
@@ -421,6 +422,25 @@ impl<R: Reader + Copy, S: EvaluationStorage<R>> Machine<R, S> {
         ensures alone { self.new ≡ read_to self.new.place self.old }
     {
         Self::read_operation(&mut self.running.0, &mut self.decodings, self.encoding)
+    }
+
+    /// Reads the operation at the place, counts that and goes after it, if it is a piece whose size takes one byte and
+    /// for which there is memory.
+    #[inline(always)]
+    pub(crate) fn decode_short_piece(&mut self) -> Option<Operation<R>>
+        ensures some { IfSome result
+            (λ operation. ReadsOperation (operation_of R.text R.Offset.number operation)
+            self.old self.new) }
+        ensures beyond { OnSome result (0 < self.new.place) }
+        ensures alone { OnSome result (self.new ≡ read_to self.new.place self.old) }
+        ensures none { IfNone result (self.new ≡ self.old) }
+    {
+        if !self.pieces.has_room() {
+            return None;
+        }
+        let operation = Operation::parse_short_piece(&mut self.running.0)?;
+        self.decodings.tick();
+        Some(operation)
     }
 
     /// Goes to a place of the running text, or keeps the fault of a place that it doesn't have.

@@ -95,9 +95,9 @@ impl<R: Reader + Copy, S: EvaluationStorage<R>> Machine<R, S> {
         });
     }
 
-    /// Reads the piece of a location that waits for it.
+    /// Reads the piece of a location that waits for it, whatever comes.
     #[inline(never)]
-    fn hold(&mut self)
+    fn hold_any(&mut self)
         requires runs { self.old.status ≡ Running }
         requires inside { self.old.place < length self.old.text.bytes }
         requires waits { is_free self.old.store.last ≡ false }
@@ -110,6 +110,23 @@ impl<R: Reader + Copy, S: EvaluationStorage<R>> Machine<R, S> {
             }
             Err(error) => self.fail(error),
         }
+    }
+
+    /// Reads the piece of a location that waits for it. A short one for which there is memory takes no call, so nothing
+    /// has to be kept over one.
+    #[inline(never)]
+    fn hold(&mut self)
+        requires runs { self.old.status ≡ Running }
+        requires inside { self.old.place < length self.old.text.bytes }
+        requires waits { is_free self.old.store.last ≡ false }
+        ensures { Turns self.old self.new }
+    {
+        let Some(operation) = self.decode_short_piece() else {
+            self.hold_any();
+            return;
+        };
+        let location = self.location();
+        self.end_located(location, operation);
     }
 
     /// Ends the run.

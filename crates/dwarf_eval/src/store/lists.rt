@@ -1,4 +1,4 @@
-ghost use Rattle.std.specs.Prelude.{◌≡◌, ℕ, List, [], ◌∷◌, ◌++◌, Option, Some, None, length, slice_get, option_to_list, OnOk, OnErr, IfErr, IfNone};
+ghost use Rattle.std.specs.Prelude.{◌≡◌, ℕ, List, [], ◌∷◌, ◌++◌, Option, Some, None, length, slice_get, option_to_list, nat_lt, vec_capacity, vec_len, Bool, true, IsOk, OnOk, OnErr, IfErr, IfNone};
 ghost use Rattle.dwarf_eval.specs.Lists.{HasRoom, MayRefuse};
 ghost use Rattle.dwarf_meaning.specs.Stores.{IsWithin};
 
@@ -15,6 +15,9 @@ pub trait ArrayLike: Drop {
 
     // The most items that it can hold, if there is such a number.
     ghost limit: { Self → Option ℕ };
+
+    // Whether it has the memory for one more item.
+    ghost has_memory: { Self → Bool };
 
     /// How many items there are, never more than the limit.
     fn len(&self) -> usize
@@ -35,6 +38,10 @@ pub trait ArrayLike: Drop {
         ensures empty { IfNone result (items self.old ≡ []) }
         ensures limit { limit self.new ≡ limit self.old };
 
+    /// Whether it has the memory for one more item, so that the next `push` takes none and succeeds.
+    fn has_room(&self) -> bool
+        ensures { result ≡ has_memory self.now };
+
     /// Adds an item at the end, or hands it back and leaves the list as it was: with a limit exactly if
     /// the list is at it, without one only if memory was refused.
     fn push(&mut self, item: Self::Item) -> Result<(), Self::Item>
@@ -43,6 +50,7 @@ pub trait ArrayLike: Drop {
         ensures returned { IfErr result (λ back. back ≡ item) }
         ensures room { OnOk result (HasRoom (limit self.old) (length (items self.old))) }
         ensures full { OnErr result (MayRefuse (limit self.old) (length (items self.old))) }
+        ensures memory { has_memory self.old ≡ true → IsOk result }
         ensures limit { limit self.new ≡ limit self.old };
 }
 
@@ -52,6 +60,8 @@ impl<T: Copy, A: Allocator> ArrayLike for Vec<T, A> {
     ghost items = { λ v. v.items };
 
     ghost limit = { λ _. None };
+
+    ghost has_memory = { λ v. nat_lt (vec_len v) (vec_capacity v) };
 
     #[inline(always)]
     fn len(&self) -> usize {
@@ -74,6 +84,11 @@ impl<T: Copy, A: Allocator> ArrayLike for Vec<T, A> {
     }
 
     #[inline(always)]
+    fn has_room(&self) -> bool {
+        self.len() < self.capacity()
+    }
+
+    #[inline(always)]
     fn push(&mut self, item: T) -> Result<(), T> {
         Vec::push(self, item).map_err(|failed| failed.value)
     }
@@ -85,6 +100,8 @@ impl<T: Copy + Default, const CAP: usize> ArrayLike for ArrayVec<T, CAP> {
     ghost items = { λ v. v.items };
 
     ghost limit = { λ _. Some CAP };
+
+    ghost has_memory = { λ v. nat_lt (length v.items) CAP };
 
     #[inline(always)]
     fn len(&self) -> usize {
@@ -104,6 +121,11 @@ impl<T: Copy + Default, const CAP: usize> ArrayLike for ArrayVec<T, CAP> {
     #[inline(always)]
     fn pop(&mut self) -> Option<T> {
         ArrayVec::pop(self)
+    }
+
+    #[inline(always)]
+    fn has_room(&self) -> bool {
+        !ArrayVec::is_full(self)
     }
 
     #[inline(always)]

@@ -1,5 +1,5 @@
 -- Lists that may have a limit.
-use Rattle.std.specs.Prelude.{ℕ, ◌<◌, ◌≡◌, Option, Some, None}
+use Rattle.std.specs.Prelude.{ℕ, ◌<◌, ◌≡◌, List, Option, Some, None}
 
 -- a list of n items has room for one more, as far as its limit goes
 abbrev pub HasRoom : Option ℕ → ℕ → Type 0
@@ -10,3 +10,8 @@ HasRoom (Some limit) n = n < limit
 abbrev pub MayRefuse : Option ℕ → ℕ → Type 0
 MayRefuse None n = Unit {0}
 MayRefuse (Some limit) n = n ≡ limit
+
+-- a list over lent memory: what it holds, and how many items it can hold
+pub record Lent (X : Type 0) : Type 0 where
+  pub items : List X
+  pub capacity : ℕ

@@ -8,7 +8,7 @@ use dwarf_base::{
 };
 use dwarf_eval::eval::{Evaluation, Status, WaitingKind};
 use dwarf_eval::op::{DieReference, EvaluationResult, Expression, Location, Piece};
-use dwarf_eval::store::{ArrayLike, EvaluationStorage, StoreOnHeap};
+use dwarf_eval::store::{ArrayLike, EvaluationStorage, SliceVec, StoreInSlices, StoreOnHeap};
 use dwarf_replay::{Answer, Replayed, Step, replay};
 use dwarf_value::Value::{self, Generic};
 use dwarf_value::ValueType;
@@ -356,6 +356,24 @@ fn restarts(rt: HostRuntime) {
     let mut eval = Evaluation::new(alloc, little(&[]), SMALL);
     for case in &RESTARTED {
         expect_restarted(&rt, alloc, &mut eval, case);
+    }
+}
+
+// The same over slices that are lent.
+#[test]
+fn restarts_over_slices(rt: HostRuntime) {
+    let mut values = [Generic(0); 4];
+    let mut callers = [(little(&[]), little(&[])); 4];
+    let mut pieces = [whole(Location::Empty); 4];
+    let mut eval: Evaluation<Slice<'static>, StoreInSlices<'_>> = Evaluation::new_in(
+        little(&[]),
+        SMALL,
+        SliceVec::new(&mut values),
+        SliceVec::new(&mut callers),
+        SliceVec::new(&mut pieces),
+    );
+    for case in &RESTARTED {
+        expect_restarted(&rt, rt.alloc(), &mut eval, case);
     }
 }
 

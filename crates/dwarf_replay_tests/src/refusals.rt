@@ -35,10 +35,6 @@ impl<T: Copy> ArrayLike for RefusesOne<T> {
         self.items.len()
     }
 
-    fn get(&self, index: usize) -> Option<T> {
-        self.items.as_slice().get(index).copied()
-    }
-
     fn as_slice(&self) -> &[T] {
         self.items.as_slice()
     }

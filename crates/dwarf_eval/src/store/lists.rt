@@ -25,8 +25,12 @@ pub trait ArrayLike: Drop {
         ensures within { IsWithin (limit self.now) (length (items self.now)) };
 
     /// The item at an index, or `None` after the last one.
+    #[inline(always)]
     fn get(&self, index: usize) -> Option<Self::Item>
-        ensures { result ≡ slice_get (items self.now) index };
+        ensures { result ≡ slice_get (items self.now) index }
+    {
+        self.as_slice().get(index).copied()
+    }
 
     /// The items.
     fn as_slice(&self) -> &[Self::Item]
@@ -69,11 +73,6 @@ impl<T: Copy, A: Allocator> ArrayLike for Vec<T, A> {
     }
 
     #[inline(always)]
-    fn get(&self, index: usize) -> Option<T> {
-        self.as_slice().get(index).copied()
-    }
-
-    #[inline(always)]
     fn as_slice(&self) -> &[T] {
         Vec::as_slice(self)
     }
@@ -106,11 +105,6 @@ impl<T: Copy + Default, const CAP: usize> ArrayLike for ArrayVec<T, CAP> {
     #[inline(always)]
     fn len(&self) -> usize {
         ArrayVec::len(self)
-    }
-
-    #[inline(always)]
-    fn get(&self, index: usize) -> Option<T> {
-        self.as_slice().get(index).copied()
     }
 
     #[inline(always)]

@@ -1,4 +1,5 @@
 use super::lists::ArrayLike;
+use super::slices::SliceVec;
 use dwarf_base::Reader;
 use dwarf_op::Piece;
 use dwarf_value::Value;
@@ -26,4 +27,15 @@ impl<R: Reader + Copy, A: Allocator> EvaluationStorage<R> for StoreOnHeap<A> {
     type ExpressionStack = Vec<(R, R), A>;
 
     type Result = Vec<Piece<R>, A>;
+}
+
+/// Lists over slices that the caller lends.
+pub struct StoreInSlices<'a>(PhantomData<&'a ()>);
+
+impl<'a, R: Reader + Copy + 'a> EvaluationStorage<R> for StoreInSlices<'a> {
+    type Stack = SliceVec<'a, Value>;
+
+    type ExpressionStack = SliceVec<'a, (R, R)>;
+
+    type Result = SliceVec<'a, Piece<R>>;
 }

@@ -1,0 +1,74 @@
+ghost use Rattle.std.specs.Prelude.{◌≡◌, [], length, nat_lt, Some};
+
+use super::lists::ArrayLike;
+use std::marker::Model;
+
+/// A list over a slice that its caller lends. Its capacity is chosen at run time, and nothing is allocated or set to
+/// zero.
+#[derive(Drop)]
+pub struct SliceVec<'a, T> {
+    slots: &'a mut [T],
+    len: usize,
+}
+
+impl<'a, T> Model for SliceVec<'a, T> {
+    ghost use Rattle.std.specs.Prelude.{◌≤◌, length, take};
+    ghost use Rattle.dwarf_eval.specs.Lists.{Lent};
+
+    ghost Value = { Lent T };
+
+    ghost view = { λ v. record { items = take v.len v.slots.now; capacity = length v.slots.now } };
+
+    ghost invariant = { λ v. v.len ≤ length v.slots.now };
+}
+
+impl<'a, T> SliceVec<'a, T> {
+    /// An empty list over these slots.
+    pub fn new(slots: &'a mut [T]) -> Self
+        ensures items { result.items ≡ [] }
+        ensures capacity { result.capacity ≡ length slots.old }
+    {
+        SliceVec { slots, len: 0 }
+    }
+}
+
+impl<'a, T: Copy> ArrayLike for SliceVec<'a, T> {
+    type Item = T;
+
+    ghost items = { λ v. v.items };
+
+    ghost limit = { λ v. Some v.capacity };
+
+    ghost has_memory = { λ v. nat_lt (length v.items) v.capacity };
+
+    #[inline(always)]
+    fn len(&self) -> usize {
+        self.len
+    }
+
+    #[inline(always)]
+    fn as_slice(&self) -> &[T] {
+        &self.slots[..self.len]
+    }
+
+    #[inline(always)]
+    fn pop(&mut self) -> Option<T> {
+        self.len = self.len.checked_sub(1)?;
+        Some(self.slots[self.len])
+    }
+
+    #[inline(always)]
+    fn has_room(&self) -> bool {
+        self.len < self.slots.len()
+    }
+
+    #[inline(always)]
+    fn push(&mut self, item: T) -> Result<(), T> {
+        if !self.has_room() {
+            return Err(item);
+        }
+        self.slots[self.len] = item;
+        self.len += 1;
+        Ok(())
+    }
+}

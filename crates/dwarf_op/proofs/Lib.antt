@@ -3,4 +3,3 @@ pub mod OneByte
 pub mod Rows
 pub mod ShortLeb
 pub mod Blocks
-mod ShortPieces

@@ -1,5 +1,5 @@
 -- What operations and their operands stand for, once a reader is seen as a text and an offset as a number.
-use Rattle.std.specs.Prelude.{ℕ, Bool, false, List, ◌∷◌, ◌==◌, ◌&&◌, nat_lt}
+use Rattle.std.specs.Prelude.{ℕ}
 use Rattle.dwarf_base.specs.Reads.{Text}
 use Rattle.dwarf_meaning.specs.Locations as locations
 use Rattle.dwarf_meaning.specs.Operations as meaning
@@ -92,8 +92,3 @@ module _ {R O P : Type 0} (text : R → Text) (number : O → ℕ) where
     bit_offset = piece.bit_offset;
     location = location_of piece.location;
   }
-
--- whether the bytes begin with `DW_OP_piece` and a size of one byte (DWARF 5, section 2.6.1.2)
-abbrev pub begins_short_piece : List ℕ → Bool
-begins_short_piece (opcode ∷ size ∷ rest) = opcode == 0x93 && nat_lt size 128
-begins_short_piece _ = false

@@ -1,12 +1,12 @@
 //! Reading the operation at the front of a text.
 
-ghost use Rattle.std.specs.Prelude.{◌≡◌, ◌<◌, length, is_some, Ok, OnOk, OnSome, IfNone, IfSome};
+ghost use Rattle.std.specs.Prelude.{◌≡◌, ◌<◌, length, OnOk};
 ghost use Rattle.dwarf_base.specs.declared.common.Encoding.{Encoding};
-ghost use Rattle.dwarf_base.specs.Reads.{IsLeftOf, Reads};
+ghost use Rattle.dwarf_base.specs.Reads.{Reads};
 ghost use Rattle.dwarf_meaning.specs.Decoding.{operation_at};
 ghost use Rattle.dwarf_op.specs.Entries.{entry_row, operands_in, rare_row};
 ghost use Rattle.dwarf_op.specs.Entries as entries;
-ghost use Rattle.dwarf_op.specs.Views.{begins_short_piece, operation_of};
+ghost use Rattle.dwarf_op.specs.Views.{operation_of};
 
 use crate::opcodes::{Entry, FromOffset, Offset, Plain, Rare, entry_at};
 use crate::operands::{
@@ -417,36 +417,5 @@ impl<R: Reader + Copy> Operation<R> {
     {
         let opcode = bytes.read_u8()?;
         read_operands(entry_at(opcode), opcode, bytes, encoding)
-    }
-
-    /// Reads a `DW_OP_piece` whose size takes one byte, as `parse` does. If `bytes` doesn't begin with one it gives
-    /// `None` and reads nothing. A place where a piece is expected reads most of them so, without a call.
-    #[tactic(auto, using(crate::proofs::ShortPieces::short_piece, dwarf_base::proofs::Suffixes::suffix_trans))]
-    #[inline(always)]
-    pub fn parse_short_piece(bytes: &mut R) -> Option<Operation<R>>
-        ensures found { is_some result ≡ begins_short_piece (R.text bytes.old).bytes }
-        ensures reads { (encoding : Encoding) → IfSome result
-            (λ operation. operation_at encoding R.Offset.BITS (R.text bytes.old)
-            ≡ Ok (operation_of R.text R.Offset.number operation, (R.text bytes.new).bytes)) }
-        ensures less { OnSome result
-            (length (R.text bytes.new).bytes < length (R.text bytes.old).bytes) }
-        ensures rest { IsLeftOf (R.text bytes.new) (R.text bytes.old) }
-        ensures unread { IfNone result (bytes.new ≡ bytes.old) }
-    {
-        let mut rest = *bytes;
-        let Ok(opcode) = rest.read_u8() else {
-            return None;
-        };
-        let Ok(size) = rest.read_u8() else {
-            return None;
-        };
-        if opcode != constants::DW_OP_piece.0 || size >= 128 {
-            return None;
-        }
-        *bytes = rest;
-        Some(Operation::Piece {
-            size_in_bits: 8 * u64::from(size),
-            bit_offset: None,
-        })
     }
 }

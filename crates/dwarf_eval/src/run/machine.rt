@@ -1,4 +1,4 @@
-ghost use Rattle.std.specs.Prelude.{◌≡◌, ◌<◌, ◌≤◌, ◌+◌, ◌*◌, ℕ, [], None, Some, Err, map, length, slice_get, false, true, OnOk, OnSome, IfOk, IfErr, IfNone, IfSome};
+ghost use Rattle.std.specs.Prelude.{◌≡◌, ◌<◌, ◌≤◌, ◌+◌, ◌*◌, ℕ, [], None, Some, Err, map, length, slice_get, false, true, OnOk, IfOk, IfErr};
 ghost use Rattle.dwarf_base.specs.Reads.{IsLeftOf, Reads};
 ghost use Rattle.dwarf_base.specs.Faults.{fault_of};
 ghost use Rattle.dwarf_base.specs.declared.errors.Error.TheVariants.{StackFull, TooManyIterations};
@@ -21,7 +21,7 @@ use crate::op::EvaluationResult;
 use crate::run::states::{EvaluationState, LastOperation, OnAnswer};
 use crate::run::ticks::Ticks;
 use crate::store::{ArrayLike, EvaluationStorage};
-use dwarf_base::{Encoding, Error, Reader, ReaderOffset, Result};
+use dwarf_base::{Encoding, Error, Reader, ReaderOffset, Result, constants};
 use dwarf_op::{Location, Operation, Piece};
 use dwarf_value::Value;
 use std::marker::Model;
@@ -374,8 +374,7 @@ impl<R: Reader + Copy, S: EvaluationStorage<R>> Machine<R, S> {
         self.running.0 = left;
     }
 
-    /// Reads an operation, and counts that. But for `decode_short_piece`, nothing else of an evaluation decodes, and
-    /// nothing else raises the count.
+    /// Reads an operation, and counts that. Nothing else of an evaluation decodes, and nothing else raises the count.
     #[inline(always)]
     fn read_operation(
         left: &mut R,
@@ -409,8 +408,8 @@ impl<R: Reader + Copy, S: EvaluationStorage<R>> Machine<R, S> {
         Self::read_operation(left, &mut self.decodings, self.encoding)
     }
 
-    /// Reads the operation at the place, and goes after it. The reader moves where it is kept: a copy of it would be
-    /// written back in parts, and then read as a whole.
+    /// Reads the operation at the place, and goes after it. What is left of the text is a local meanwhile, so a caller
+    /// that knows the opcode needs no table of them.
     #[inline(always)]
     pub(crate) fn decode_here(&mut self) -> Result<Operation<R>>
         ensures ok { IfOk result
@@ -421,26 +420,32 @@ impl<R: Reader + Copy, S: EvaluationStorage<R>> Machine<R, S> {
             (λ e. read self.old.setup self.old.text self.old.place ≡ Err (fault_of e)) }
         ensures alone { self.new ≡ read_to self.new.place self.old }
     {
-        Self::read_operation(&mut self.running.0, &mut self.decodings, self.encoding)
+        let mut left = self.running.0;
+        let operation = Self::read_operation(&mut left, &mut self.decodings, self.encoding);
+        self.running.0 = left;
+        operation
     }
 
-    /// Reads the operation at the place, counts that and goes after it, if it is a piece whose size takes one byte and
-    /// for which there is memory.
+    /// Whether a piece whose size takes one byte comes next, if the text is in memory. Nothing depends on it but speed.
     #[inline(always)]
-    pub(crate) fn decode_short_piece(&mut self) -> Option<Operation<R>>
-        ensures some { IfSome result
-            (λ operation. ReadsOperation (operation_of R.text R.Offset.number operation)
-            self.old self.new) }
-        ensures beyond { OnSome result (0 < self.new.place) }
-        ensures alone { OnSome result (self.new ≡ read_to self.new.place self.old) }
-        ensures none { IfNone result (self.new ≡ self.old) }
-    {
-        if !self.pieces.has_room() {
-            return None;
+    pub(crate) fn is_at_short_piece(&self) -> bool {
+        if !R::IN_MEMORY {
+            return false;
         }
-        let operation = Operation::parse_short_piece(&mut self.running.0)?;
-        self.decodings.tick();
-        Some(operation)
+        let mut left = self.running.0;
+        let Ok(opcode) = left.read_u8() else {
+            return false;
+        };
+        let Ok(size) = left.read_u8() else {
+            return false;
+        };
+        opcode == constants::DW_OP_piece.0 && size < 128
+    }
+
+    /// Whether there is memory for one more piece. Nothing depends on it but speed.
+    #[inline(always)]
+    pub(crate) fn has_room_for_piece(&self) -> bool {
+        self.pieces.has_room()
     }
 
     /// Goes to a place of the running text, or keeps the fault of a place that it doesn't have.

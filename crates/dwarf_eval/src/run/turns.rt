@@ -1,10 +1,11 @@
-ghost use Rattle.std.specs.Prelude.{◌≡◌, ◌<◌, length, false};
+ghost use Rattle.std.specs.Prelude.{◌≡◌, ◌<◌, Some, length, false};
 ghost use Rattle.dwarf_base.specs.Reads.{IsLeftOf};
 ghost use Rattle.dwarf_meaning.specs.Meaning.{whole as meant_whole, finish, finish_value};
 ghost use Rattle.dwarf_meaning.specs.Inputs.{with_status};
 ghost use Rattle.dwarf_meaning.specs.Rest.{Running, Start, CompleteStatus};
 ghost use Rattle.dwarf_meaning.specs.Run.{piece_ended_by};
 ghost use Rattle.dwarf_meaning.specs.RunLaws.{waits_of};
+ghost use Rattle.dwarf_meaning.specs.Stores.{Located};
 ghost use Rattle.dwarf_op.specs.Views.{operation_of, location_of, piece_of};
 ghost use Rattle.dwarf_eval.specs.inner.Steps.{Closes, Comes, CompletesWith, EndsLocated, HasReply, IsReady, Turns, at, goes_on, is_free, total};
 
@@ -71,12 +72,41 @@ impl<R: Reader + Copy, S: EvaluationStorage<R>> Machine<R, S> {
         self.go_to(left);
     }
 
-    /// Ends the piece of a location that waits for it, if the operation that was read ends one.
+    /// Adds the piece of the location that waits for it.
     #[inline(always)]
-    fn end_located(&mut self, location: Location<R>, operation: Operation<R>)
-        requires { 0 < self.old.place }
-        ensures { EndsLocated (location_of R.text R.Offset.number location)
-            (piece_ended_by (operation_of R.text R.Offset.number operation)) self.old self.new }
+    fn push_located(&mut self, size_in_bits: u64, bit_offset: Option<u64>)
+        requires { is_free self.old.store.last ≡ false }
+        ensures { (location : _) → self.old.store.last ≡ Located location →
+            EndsLocated location (Some (size_in_bits, bit_offset)) self.old self.new }
+    {
+        let location = self.location();
+        self.mark_pieced();
+        self.push_piece(Piece {
+            size_in_bits: Some(size_in_bits),
+            bit_offset,
+            location,
+        });
+    }
+
+    /// The same, if there may be no memory for it yet.
+    #[cold]
+    #[inline(never)]
+    fn grow_and_push_located(&mut self, size_in_bits: u64, bit_offset: Option<u64>)
+        requires { is_free self.old.store.last ≡ false }
+        ensures { (location : _) → self.old.store.last ≡ Located location →
+            EndsLocated location (Some (size_in_bits, bit_offset)) self.old self.new }
+    {
+        self.push_located(size_in_bits, bit_offset);
+    }
+
+    /// Ends the piece of the location that waits for it, if the operation that was read ends one.
+    #[inline(always)]
+    fn end_located(&mut self, operation: Operation<R>)
+        requires after { 0 < self.old.place }
+        requires waits { is_free self.old.store.last ≡ false }
+        ensures { (location : _) → self.old.store.last ≡ Located location →
+            EndsLocated location (piece_ended_by (operation_of R.text R.Offset.number operation))
+            self.old self.new }
     {
         let Operation::Piece {
             size_in_bits,
@@ -87,15 +117,28 @@ impl<R: Reader + Copy, S: EvaluationStorage<R>> Machine<R, S> {
             self.fail(Error::InvalidExpressionTerminator(place - 1));
             return;
         };
-        self.mark_pieced();
-        self.push_piece(Piece {
-            size_in_bits: Some(size_in_bits),
-            bit_offset,
-            location,
-        });
+        if self.has_room_for_piece() {
+            self.push_located(size_in_bits, bit_offset);
+        } else {
+            self.grow_and_push_located(size_in_bits, bit_offset);
+        }
     }
 
-    /// Reads the piece of a location that waits for it, whatever comes.
+    /// Reads the piece of a location that waits for it.
+    #[inline(always)]
+    fn read_held(&mut self)
+        requires runs { self.old.status ≡ Running }
+        requires inside { self.old.place < length self.old.text.bytes }
+        requires waits { is_free self.old.store.last ≡ false }
+        ensures { Turns self.old self.new }
+    {
+        match self.decode_here() {
+            Ok(operation) => self.end_located(operation),
+            Err(error) => self.fail(error),
+        }
+    }
+
+    /// The same, whatever operation comes.
     #[inline(never)]
     fn hold_any(&mut self)
         requires runs { self.old.status ≡ Running }
@@ -103,17 +146,10 @@ impl<R: Reader + Copy, S: EvaluationStorage<R>> Machine<R, S> {
         requires waits { is_free self.old.store.last ≡ false }
         ensures { Turns self.old self.new }
     {
-        match self.decode_here() {
-            Ok(operation) => {
-                let location = self.location();
-                self.end_located(location, operation);
-            }
-            Err(error) => self.fail(error),
-        }
+        self.read_held();
     }
 
-    /// Reads the piece of a location that waits for it. A short one for which there is memory takes no call, so nothing
-    /// has to be kept over one.
+    /// The same, with a way of its own for a short piece: it takes no call, so no register is saved.
     #[inline(never)]
     fn hold(&mut self)
         requires runs { self.old.status ≡ Running }
@@ -121,12 +157,11 @@ impl<R: Reader + Copy, S: EvaluationStorage<R>> Machine<R, S> {
         requires waits { is_free self.old.store.last ≡ false }
         ensures { Turns self.old self.new }
     {
-        let Some(operation) = self.decode_short_piece() else {
+        if self.is_at_short_piece() {
+            self.read_held();
+        } else {
             self.hold_any();
-            return;
-        };
-        let location = self.location();
-        self.end_located(location, operation);
+        }
     }
 
     /// Ends the run.

@@ -1,25 +1,23 @@
 -- A call answers what the meaning gives, and what is left is what the meaning gives for the inputs to come.
-use Rattle.std.proofs.Common.{ℕ, zero, suc, ◌≡◌, List, [], ◌∷◌, length, Result, Option, true, false, ap, ◌∙◌, sym, refl, subst}
+use Rattle.std.proofs.Common.{ℕ, zero, suc, ◌≡◌, List, [], ◌∷◌, Result, true, false, ap, ◌∙◌, sym, refl, subst, arith}
 use Rattle.std.proofs.lemmas.Bool.{false≢true, true≢false}
 use Rattle.dwarf_base.specs.declared.errors.Error.{Error}
 use Rattle.dwarf_base.specs.Faults.{Fault, fault_of}
 use Rattle.dwarf_base.specs.Reads.{Text}
 use Rattle.dwarf_meaning.specs.Requests.{Input}
-use Rattle.dwarf_meaning.specs.Stores.{Store}
-use Rattle.dwarf_meaning.specs.Run.{Position, after_push, run}
-use Rattle.dwarf_meaning.specs.Meaning.{with_initial, meaning}
-use Rattle.dwarf_meaning.specs.Rest.{State, Status, Start, Running, RequestStatus, CompleteStatus, FaultStatus, with_refusal, Total, total_of_course, total_by, total, total_after}
+use Rattle.dwarf_meaning.specs.Bounds.{faults_in}
+use Rattle.dwarf_meaning.specs.Rest.{State, Status, Start, Running, RequestStatus, CompleteStatus, FaultStatus, with_refusal, Total, total_by, total, total_after}
 use Rattle.dwarf_meaning.specs.Steps.{Reply, reply}
 use Rattle.dwarf_meaning.specs.Refusals.{Refusal, Never, After, before_pushes, IsLater}
-use Rattle.dwarf_eval.specs.Evaluation.{Follows, IsEndedBy, IsFresh, WaitsOrIsComplete, IsReplied, Resumes, means, reply_of}
+use Rattle.dwarf_eval.specs.Evaluation.{Follows, IsReplied, Resumes, reply_of}
 use Rattle.dwarf_eval.specs.Permits.{IsOpenFor}
-use Rattle.dwarf_eval.specs.inner.Answers.{IsAtRestBy, IsFor, IsWaitingFor}
+use Rattle.dwarf_eval.specs.inner.Answers.{IsAtRestBy, IsEndedBy, IsFor, IsWaitingFor}
 use Rattle.dwarf_eval.specs.declared.op.results.EvaluationResult.{EvaluationResult}
 use Rattle.dwarf_meaning.specs.declared.kinds.WaitingKind.{WaitingKind}
 use Rattle.dwarf_eval.specs.inner.Steps.{has_failed, Reaches, Falls, ComesBy, Comes}
 use Rattle.dwarf_eval.proofs.Refusals.{before_never, before_later}
-use Rattle.dwarf_eval.proofs.Totals.{started_total, course_open, total_start}
-pub use Rattle.dwarf_eval.proofs.Totals.{total_open, total_complete}
+use Rattle.dwarf_eval.proofs.Totals.{course_open}
+pub use Rattle.dwarf_eval.proofs.Totals.{total_open, total_complete, total_meaning}
 
 told_by : (r : Refusal) (x : State) (told : Reply) (status : Status) → IsReplied told status → told ≡ reply (total_by x (with_refusal r x.store) [] status).outcome
 told_by r x told (RequestStatus request on_answer) h =
@@ -47,21 +45,21 @@ module _ (old : State) (totals : Refusal → List Input → Total) (new : State)
   later_total h r inputs l = ap (λ (q : Refusal). totals q inputs) (sym (later_before h.pushes r l)) ∙ h.same r inputs
 
   -- nothing more is counted in a request that waits for an input, or at the end
-  open_count : (status : Status) → new.status ≡ status → WaitsOrIsComplete status → (total new Never []).count ≡ new.store.count
-  open_count (RequestStatus request on_answer) e o = ap (λ (z : Total). z.count) (total_open Never new request on_answer e)
-  open_count (CompleteStatus value) e o = ap (λ (z : Total). z.count) (total_complete Never new [] value e)
-  open_count Running e o = absurd o
-  open_count (Start initial_value) e o = absurd o
-  open_count (FaultStatus error) e o = absurd o
+  open_count : (status : Status) → new.status ≡ status → faults_in status ≡ 0 → IsReplied told status → (total new Never []).count ≡ new.store.count
+  open_count (RequestStatus request on_answer) e o t = ap (λ (z : Total). z.count) (total_open Never new request on_answer e)
+  open_count (CompleteStatus value) e o t = ap (λ (z : Total). z.count) (total_complete Never new [] value e)
+  open_count (FaultStatus error) e o t = omega (arith, o)
+  open_count Running e o t = absurd t
+  open_count (Start initial_value) e o t = absurd t
 
-  came_follows : WaitsOrIsComplete new.status → Reaches old totals new → IsReplied told new.status → Follows old totals told new
+  came_follows : faults_in new.status ≡ 0 → Reaches old totals new → IsReplied told new.status → Follows old totals told new
   came_follows o h t =
       let here : total new Never [] ≡ totals Never [] = sym (later_total h Never [] tt) in
       record {
         refusal = Never;
         may = tt;
         reply = told_total Never new told t ∙ ap (λ (z : Total). reply z.outcome) here;
-        count = sym (open_count new.status refl o) ∙ ap (λ (z : Total). z.count) here;
+        count = sym (open_count new.status refl o t) ∙ ap (λ (z : Total). z.count) here;
         status = t;
         more = λ open_now r inputs l. later_total h r inputs l;
         kept = h.kept;
@@ -69,20 +67,20 @@ module _ (old : State) (totals : Refusal → List Input → Total) (new : State)
       }
 
   fell_follows : (error : Error) → new.status ≡ FaultStatus error → Falls old totals (fault_of error) new → IsReplied told new.status → Follows old totals told new
-  fell_follows error failed h t = record {
+  fell_follows error failed h t = let one : faults_in new.status ≡ 1 = ap faults_in failed in record {
     refusal = h.refusal;
     may = h.may;
     reply = subst (IsReplied told) failed t ∙ sym (ap (λ (z : Total). reply z.outcome) (h.same []));
     count = sym (ap (λ (z : Total). z.count) (h.same []));
     status = t;
-    more = λ open_now r inputs l. absurd (subst WaitsOrIsComplete failed open_now);
+    more = λ open_now r inputs l. absurd (let none = open_now in omega (arith, one, none));
     kept = h.kept;
     spends = h.spends;
   }
 
   follows_by : (status : Status) → new.status ≡ status → ComesBy old totals new status → IsReplied told new.status → Follows old totals told new
-  follows_by (RequestStatus request on_answer) e h t = came_follows (subst WaitsOrIsComplete (sym e) tt) h t
-  follows_by (CompleteStatus value) e h t = came_follows (subst WaitsOrIsComplete (sym e) tt) h t
+  follows_by (RequestStatus request on_answer) e h t = came_follows (ap faults_in e) h t
+  follows_by (CompleteStatus value) e h t = came_follows (ap faults_in e) h t
   follows_by (FaultStatus error) e h t = fell_follows error e h t
   follows_by Running e h t = absurd (subst (IsReplied told) e t)
   follows_by (Start initial_value) e h t = absurd h
@@ -90,40 +88,6 @@ module _ (old : State) (totals : Refusal → List Input → Total) (new : State)
   -- a call that replies answers its outcome
   pub comes_follow : Comes old totals new → IsReplied told new.status → Follows old totals told new
   comes_follow h t = follows_by new.status refl h t
-
--- ---- `evaluate` from the start
-
--- the total of a text from its beginning
-abbrev begun : State → List Input → Result Store Fault → Total
-begun x inputs z = total_of_course x.store.count x.setup [] (after_push (run x.setup) (record { text = x.text; place = 0 }) 0 inputs z)
-
-begun_started : (x : State) (inputs : List Input) (z : Result Store Fault) → x.place ≡ 0 → x.callers ≡ [] → begun x inputs z ≡ started_total x inputs z
-begun_started x inputs z place callers =
-    ap (λ (p : ℕ). total_of_course x.store.count x.setup [] (after_push (run x.setup) (record { text = x.text; place = p }) 0 inputs z)) (sym place)
-    ∙ ap (λ (fs : List Position). total_of_course x.store.count x.setup fs (after_push (run x.setup) (record { text = x.text; place = x.place }) (length fs) inputs z)) (sym callers)
-
-meaning_total : (x : State) (initial_value : Option ℕ) → x.status ≡ Start initial_value → IsFresh x initial_value → (r : Refusal) (inputs : List Input) → means x initial_value r inputs ≡ total x r inputs
-unfolding meaning
-meaning_total x initial_value starts is r inputs =
-    ap (λ (s : Store). begun x inputs (with_initial x.setup initial_value (with_refusal r s))) (sym is.store)
-    ∙ (begun_started x inputs (with_initial x.setup initial_value (with_refusal r x.store)) is.place is.callers
-    ∙ sym (total_start r x inputs initial_value starts))
-
--- the meaning is the outcome of a fresh evaluation
-pub start_follows : (x new : State) (told : Reply) (initial_value : Option ℕ) → x.status ≡ Start initial_value → IsFresh x initial_value → Comes x (total x) new → IsReplied told new.status → Follows x (means x initial_value) told new
-start_follows x new told initial_value starts is h t =
-    let follows = comes_follow x (total x) new told h t in
-    let first = meaning_total x initial_value starts is follows.refusal [] in
-    record {
-      refusal = follows.refusal;
-      may = follows.may;
-      reply = follows.reply ∙ sym (ap (λ (z : Total). reply z.outcome) first);
-      count = follows.count ∙ sym (ap (λ (z : Total). z.count) first);
-      status = follows.status;
-      more = λ open_now r inputs l. meaning_total x initial_value starts is r inputs ∙ follows.more open_now r inputs l;
-      kept = follows.kept;
-      spends = follows.spends;
-    }
 
 -- ---- a resume, by whether a fault was met
 

@@ -6,9 +6,10 @@ use Rattle.dwarf_value.specs.declared.types.Value.{Value}
 use Rattle.dwarf_meaning.specs.Requests.{Request, OnAnswer, Input}
 use Rattle.dwarf_meaning.specs.Stores.{Setup, Store}
 use Rattle.dwarf_meaning.specs.Run.{Position, Course, End, CompleteEnd, RequestEnd, FaultEnd, only_end, add_to_path, add_request, return_to_caller, after_push, run, await_answer, return_to_callers}
-use Rattle.dwarf_meaning.specs.Meaning.{Outcome, RequestOutcome, FaultOutcome, CompleteOutcome, outcome_of_end, finish, with_initial}
-use Rattle.dwarf_meaning.specs.Rest.{State, Status, Start, Running, RequestStatus, CompleteStatus, with_refusal, Total, total_of_course, total_by, total}
+use Rattle.dwarf_meaning.specs.Meaning.{Outcome, RequestOutcome, FaultOutcome, CompleteOutcome, outcome_of_end, finish, with_initial, meaning}
+use Rattle.dwarf_meaning.specs.Rest.{State, Status, Start, Running, RequestStatus, CompleteStatus, with_refusal, Total, total_of_course, first_of, total_by, total}
 use Rattle.dwarf_meaning.specs.Refusals.{Refusal}
+use Rattle.dwarf_meaning.specs.Inputs.{IsFresh}
 
 abbrev pub closed : Outcome → ℕ → Total
 closed outcome n = record { outcome = outcome; count = n }
@@ -37,8 +38,26 @@ total_waits r x inputs request on_answer = total_by_status r x inputs (RequestSt
 pub total_complete : (r : Refusal) (x : State) (inputs : List Input) (value : Option Value) → x.status ≡ CompleteStatus value → total x r inputs ≡ closed (CompleteOutcome x.store.pieces value) x.store.count
 total_complete r x inputs value = total_by_status r x inputs (CompleteStatus value)
 
-pub total_start : (r : Refusal) (x : State) (inputs : List Input) (initial_value : Option ℕ) → x.status ≡ Start initial_value → total x r inputs ≡ started_total x inputs (with_initial x.setup initial_value (with_refusal r x.store))
-total_start r x inputs initial_value = total_by_status r x inputs (Start initial_value)
+-- the total of a text from its beginning
+abbrev begun : State → List Input → Result Store Fault → Total
+begun x inputs z = total_of_course x.store.count x.setup [] (after_push (run x.setup) (record { text = x.text; place = 0 }) 0 inputs z)
+
+begun_started : (x : State) (inputs : List Input) (z : Result Store Fault) → x.place ≡ 0 → x.callers ≡ [] → begun x inputs z ≡ started_total x inputs z
+begun_started x inputs z place callers =
+    ap (λ (p : ℕ). total_of_course x.store.count x.setup [] (after_push (run x.setup) (record { text = x.text; place = p }) 0 inputs z)) (sym place)
+    ∙ ap (λ (fs : List Position). total_of_course x.store.count x.setup fs (after_push (run x.setup) (record { text = x.text; place = x.place }) (length fs) inputs z)) (sym callers)
+
+-- a fresh evaluation begins where it stands
+pub total_start : (r : Refusal) (x : State) (inputs : List Input) (initial_value : Option ℕ) → x.status ≡ Start initial_value → IsFresh x initial_value → total x r inputs ≡ started_total x inputs (with_initial x.setup initial_value (with_refusal r x.store))
+total_start r x inputs initial_value starts is =
+    total_by_status r x inputs (Start initial_value) starts
+    ∙ (ap (λ (s : Store). begun x inputs (with_initial x.setup initial_value (with_refusal r s))) (sym is.store)
+    ∙ begun_started x inputs (with_initial x.setup initial_value (with_refusal r x.store)) is.place is.callers)
+
+-- at the start the outcome is the meaning
+pub total_meaning : (r : Refusal) (x : State) (inputs : List Input) (initial_value : Option ℕ) → x.status ≡ Start initial_value → (total x r inputs).outcome ≡ meaning x.setup r x.text (first_of x initial_value) inputs
+unfolding meaning
+total_meaning r x inputs initial_value starts = ap (λ (z : Total). z.outcome) (total_by_status r x inputs (Start initial_value) starts)
 
 -- ---- a course and its callers
 

@@ -1,25 +1,18 @@
 -- What a call of an evaluation replies: the nested meaning, and what is left of it.
-pub use Rattle.dwarf_meaning.specs.Inputs.{input_of, Keeps, with_status, first_of, IsFresh, with_object, with_maximum}
-use Rattle.std.specs.Prelude.{ℕ, ◌≡◌, ◌+◌, List, [], Option, Some, None, Result, Ok, Err, length}
+pub use Rattle.dwarf_meaning.specs.Inputs.{input_of, Keeps, with_status, IsFresh, with_object, with_maximum}
+use Rattle.std.specs.Prelude.{ℕ, ◌≡◌, List, [], Option, Some, None, Result, Ok, Err}
 use Rattle.dwarf_base.specs.declared.errors.Error.{Error}
 use Rattle.dwarf_base.specs.Faults.{fault_of}
 use Rattle.dwarf_base.specs.Reads.{Text}
 use Rattle.dwarf_value.specs.declared.types.Value.{Value}
 use Rattle.dwarf_meaning.specs.Requests.{Request, RequiresMemory, RequiresRegister, RequiresWasmLocal, RequiresWasmGlobal, RequiresWasmStack, RequiresFrameBase, RequiresTls, RequiresCallFrameCfa, RequiresAtLocation, RequiresEntryValue, RequiresParameterRef, RequiresRelocatedAddress, RequiresIndexedAddress, RequiresBaseType, Input}
 use Rattle.dwarf_meaning.specs.Refusals.{IsLater, MayPick, Refusal}
-use Rattle.dwarf_meaning.specs.Meaning.{course_of, meaning}
 use Rattle.dwarf_meaning.specs.Rest.{State, Status, Start, RequestStatus, CompleteStatus, FaultStatus, Total, total, total_after}
 use Rattle.dwarf_meaning.specs.Steps.{Reply, CompleteReply, RequestReply, FaultReply, reply}
 use Rattle.dwarf_op.specs.Views.{reference_of}
-use Rattle.dwarf_meaning.specs.Bounds.{Spends}
+use Rattle.dwarf_meaning.specs.Bounds.{Spends, faults_in}
 use Rattle.dwarf_eval.specs.declared.op.results.EvaluationResult.{EvaluationResult}
 use Rattle.dwarf_eval.specs.declared.op.results.EvaluationResult.TheVariants as result
-
--- it waits or is complete
-abbrev pub WaitsOrIsComplete : Status → Type 0
-WaitsOrIsComplete (RequestStatus request on_answer) = Unit {0}
-WaitsOrIsComplete (CompleteStatus value) = Unit {0}
-WaitsOrIsComplete _ = ⊥
 
 -- ---- replies
 
@@ -64,14 +57,8 @@ IsReplied replied (CompleteStatus value) = replied ≡ CompleteReply
 IsReplied replied (FaultStatus error) = replied ≡ FaultReply (fault_of error)
 IsReplied replied _ = ⊥
 
--- after the end the result is completion, and after a fault that fault
-abbrev pub IsEndedBy : {R O P : Type 0} → Result (EvaluationResult R O P) Error → Status → Type 0
-IsEndedBy replied (CompleteStatus value) = replied ≡ Ok result.Complete
-IsEndedBy replied (FaultStatus error) = replied ≡ Err error
-IsEndedBy replied _ = Unit {0}
-
 -- For some refusal, or for none, a call replied as `totals` gives it and counted as many operations; the setup and the
--- settings stay; and as long as it isn't over, the total of the new state is what `totals` gives, for all inputs to
+-- settings stay; and as long as no fault was met, the total of the new state is what `totals` gives, for all inputs to
 -- come.
 pub record Follows (old : State) (totals : Refusal → List Input → Total) (replied : Reply) (new : State) : Type 0 where
   pub refusal : Refusal
@@ -79,24 +66,16 @@ pub record Follows (old : State) (totals : Refusal → List Input → Total) (re
   pub reply : replied ≡ reply (totals refusal []).outcome
   pub count : new.store.count ≡ (totals refusal []).count
   pub status : IsReplied replied new.status
-  pub more : WaitsOrIsComplete new.status → (r : Refusal) (inputs : List Input) → IsLater r
+  pub more : faults_in new.status ≡ 0 → (r : Refusal) (inputs : List Input) → IsLater r
       → totals r inputs ≡ total new r inputs
   pub kept : Keeps old new
   pub spends : Spends old new
-
--- a fresh evaluation, with this initial value: its meaning, and as many operations more as there are on its path
-abbrev pub means : State → Option ℕ → Refusal → List Input → Total
-means x initial_value r inputs = record {
-  outcome = meaning x.setup r x.text (first_of x initial_value) inputs;
-  count = x.store.count + length (course_of x.setup r x.text (first_of x initial_value) inputs).path;
-}
 
 module _ {R O P : Type 0} (text : R → Text) (number : O → ℕ) where
   -- `evaluate`: at the start it replies the meaning; after that it replies what it replied, and changes nothing; it
   -- isn't called in a request, nor does anything run between calls
   abbrev pub Evaluates : State → State → Result (EvaluationResult R O P) Error → Status → Type 0
-  Evaluates old new replied (Start initial_value) =
-      Follows old (means old initial_value) (reply_of text number replied) new
+  Evaluates old new replied (Start initial_value) = Follows old (total old) (reply_of text number replied) new
   Evaluates old new replied (CompleteStatus value) = (replied ≡ Ok result.Complete) × (new ≡ old)
   Evaluates old new replied (FaultStatus error) = (replied ≡ Err error) × (new ≡ old)
   Evaluates old new replied _ = ⊥

@@ -2,8 +2,8 @@
 use Rattle.std.specs.Prelude.{ℕ, ◌≡◌, [], Option}
 use Rattle.dwarf_meaning.specs.Requests.{Answer, Input}
 use Rattle.dwarf_meaning.specs.Refusals.{Never}
-use Rattle.dwarf_meaning.specs.Meaning.{First, fresh}
-use Rattle.dwarf_meaning.specs.Rest.{State, Status}
+use Rattle.dwarf_meaning.specs.Meaning.{fresh}
+use Rattle.dwarf_meaning.specs.Rest.{State, Status, first_of}
 
 -- an answer, with the settings as they stand
 abbrev pub input_of : State → Answer → Input
@@ -18,11 +18,6 @@ pub record Keeps (old new : State) : Type 0 where
 -- the same state, but for the status
 abbrev pub with_status : Status → State → State
 with_status status x = record x { status = status }
-
--- the settings as they stand when the evaluation starts
-abbrev pub first_of : State → Option ℕ → First
-first_of x initial_value =
-    record { initial_value = initial_value; object_address = x.store.object_address; maximum = x.store.maximum }
 
 -- nothing is done yet
 pub record IsFresh (x : State) (initial_value : Option ℕ) : Type 0 where

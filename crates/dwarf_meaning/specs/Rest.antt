@@ -1,13 +1,13 @@
 -- What is left to do of an evaluation that has come to some state (DWARF 5, sections 2.5 and 2.5.1.5).
-use Rattle.std.specs.Prelude.{ℕ, ◌+◌, List, ◌∷◌, Option, length}
+use Rattle.std.specs.Prelude.{ℕ, ◌+◌, List, [], ◌∷◌, Option, length}
 use Rattle.dwarf_base.specs.declared.errors.Error.{Error}
 use Rattle.dwarf_base.specs.Faults.{fault_of}
 use Rattle.dwarf_base.specs.Reads.{Text}
 use Rattle.dwarf_value.specs.declared.types.Value.{Value}
 use Rattle.dwarf_meaning.specs.Requests.{Request, OnAnswer, Input}
 use Rattle.dwarf_meaning.specs.Stores.{Setup, Store}
-use Rattle.dwarf_meaning.specs.Run.{Position, Course, after_push, await_answer, run, return_to_callers}
-use Rattle.dwarf_meaning.specs.Meaning.{Outcome, FaultOutcome, CompleteOutcome, outcome_of_end, with_initial}
+use Rattle.dwarf_meaning.specs.Run.{Position, Course, await_answer, run, return_to_callers}
+use Rattle.dwarf_meaning.specs.Meaning.{Outcome, FaultOutcome, CompleteOutcome, First, outcome_of_end, course_of}
 use Rattle.dwarf_meaning.specs.Refusals.{Refusal, before_input}
 
 -- where an evaluation stands
@@ -46,12 +46,15 @@ total_of_course n setup callers course =
     let whole = return_to_callers setup callers course in
     record { outcome = outcome_of_end setup whole.end; count = n + length whole.path }
 
--- the total, by the status: the run begins, if the initial value found room, or goes on, or takes the first input
+-- the settings as they stand when the evaluation starts
+abbrev pub first_of : State → Option ℕ → First
+first_of x initial_value =
+    record { initial_value = initial_value; object_address = x.store.object_address; maximum = x.store.maximum }
+
+-- the total, by the status: at the start that of the meaning; else the run goes on, or takes the first input
 abbrev pub total_by : State → Store → List Input → Status → Total
 total_by x s inputs (Start initial_value) =
-    total_of_course x.store.count x.setup x.callers
-    (after_push (run x.setup) (record { text = x.text; place = x.place }) (length x.callers) inputs
-    (with_initial x.setup initial_value s))
+    total_of_course x.store.count x.setup [] (course_of x.setup s.refusal x.text (first_of x initial_value) inputs)
 total_by x s inputs Running =
     total_of_course x.store.count x.setup x.callers (run x.setup x.text x.place (length x.callers) s inputs)
 total_by x s inputs (RequestStatus request on_answer) =

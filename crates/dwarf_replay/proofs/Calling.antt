@@ -10,16 +10,16 @@ use Rattle.dwarf_meaning.specs.Kinds.{kind_of_request, kind_of_answer}
 use Rattle.dwarf_meaning.specs.Stores.{Setup}
 use Rattle.dwarf_meaning.specs.Run.{Position}
 use Rattle.dwarf_meaning.specs.Meaning.{Outcome, RequestOutcome, FaultOutcome, CompleteOutcome, First, meaning}
-use Rattle.dwarf_meaning.specs.Rest.{State, Status, Start, Running, RequestStatus, CompleteStatus, FaultStatus, Total, total, total_after}
+use Rattle.dwarf_meaning.specs.Rest.{State, Status, Start, Running, RequestStatus, CompleteStatus, FaultStatus, Total, first_of, total, total_after}
 use Rattle.dwarf_meaning.specs.Steps.{Step, InitialValue, ObjectAddress, MaxIterations, Evaluate, Resume, Told, Reply, CompleteReply, FaultReply, reply, replies, IsEvaluable, Awaits, Allows, begun, after, outcome_of, outcome_from, step_replies}
 use Rattle.dwarf_meaning.specs.Refusals.{Refusal, IsLater, before_inputs, MayPick, before_input}
-use Rattle.dwarf_eval.specs.Evaluation.{IsReplied, Follows, first_of, means, IsClosed, Evaluates, Resumes, reply_of, WaitsOrIsComplete, input_of}
+use Rattle.dwarf_eval.specs.Evaluation.{IsReplied, Follows, IsClosed, Evaluates, Resumes, reply_of, input_of}
 use Rattle.dwarf_eval.specs.Permits.{IsOpenFor}
 use Rattle.dwarf_replay.specs.Stepping.{HasReplied}
 use Rattle.dwarf_replay.specs.Replays.{Tells}
 use Rattle.dwarf_eval.specs.declared.op.results.EvaluationResult.{EvaluationResult}
-use Rattle.dwarf_meaning.specs.Bounds.{SpendsInAll, initial_items}
-use Rattle.dwarf_eval.proofs.Following.{told_total, total_open, total_complete}
+use Rattle.dwarf_meaning.specs.Bounds.{SpendsInAll, faults_in, initial_items}
+use Rattle.dwarf_eval.proofs.Following.{told_total, total_open, total_complete, total_meaning}
 use Rattle.dwarf_eval.proofs.CallSpending.{spent_more}
 use Rattle.dwarf_replay.proofs.Telling.{walked_more}
 use Rattle.dwarf_replay.proofs.Standings.{Holds, Unstarted, Going, Over, WentBy, Went, later_before, may_inputs}
@@ -57,7 +57,7 @@ module _ (first : State) where
         ap (λ (t : Reply). given ++ t ∷ []) e
         ∙ ap (λ (l : List Reply). given ++ l) (sym (answers_one (totals r []).outcome) ∙ ap (step_replies step) (sym (called_outcome r)))
 
-    called_going : WaitsOrIsComplete new.status → Holds first now new → SpendsInAll (initial_items now.settings.initial_value) first new → ((r : Refusal) → IsLater r → told ≡ reply (totals r []).outcome → Tells first (steps ++ step ∷ []) (given ++ told ∷ []) now (before_inputs n r)) → Going first (steps ++ step ∷ []) (given ++ told ∷ []) new
+    called_going : faults_in new.status ≡ 0 → Holds first now new → SpendsInAll (initial_items now.settings.initial_value) first new → ((r : Refusal) → IsLater r → told ≡ reply (totals r []).outcome → Tells first (steps ++ step ∷ []) (given ++ told ∷ []) now (before_inputs n r)) → Going first (steps ++ step ∷ []) (given ++ told ∷ []) new
     called_going o holds spent walked = record {
       told = now;
       taken = n;
@@ -87,9 +87,9 @@ module _ (first : State) where
 
     called_by : (status : Status) → new.status ≡ status → MayPick first.setup.limits (before_inputs n h.refusal) → Holds first now new → SpendsInAll (initial_items now.settings.initial_value) first new → ((r : Refusal) → (IsLater r ⊎ (r ≡ h.refusal)) → told ≡ reply (totals r []).outcome → Tells first (steps ++ step ∷ []) (given ++ told ∷ []) now (before_inputs n r)) → WentBy first (steps ++ step ∷ []) (given ++ told ∷ []) new status
     called_by (RequestStatus request on_answer) e may holds spent walked =
-        called_going (subst WaitsOrIsComplete (sym e) tt) holds spent (λ r l. walked r (inl l))
+        called_going (ap faults_in e) holds spent (λ r l. walked r (inl l))
     called_by (CompleteStatus value) e may holds spent walked =
-        called_going (subst WaitsOrIsComplete (sym e) tt) holds spent (λ r l. walked r (inl l))
+        called_going (ap faults_in e) holds spent (λ r l. walked r (inl l))
     called_by (FaultStatus error) e may holds spent walked = called_over error e may spent (walked h.refusal (inr refl) h.reply)
     called_by (Start initial_value) e may holds spent walked = absurd (subst (IsReplied told) e h.status)
     called_by Running e may holds spent walked = absurd (subst (IsReplied told) e h.status)
@@ -98,21 +98,22 @@ module _ (first : State) where
 
 module _ (first : State) (steps : List Step) (given : List Reply) (x new : State) where
   -- `evaluate` at the start
-  starts : (told : Reply) (initial_value : Option ℕ) → Unstarted first steps given x initial_value → Follows x (means x initial_value) told new → Went first (steps ++ Evaluate ∷ []) (given ++ told ∷ []) new
-  starts told initial_value w h =
+  starts : (told : Reply) (initial_value : Option ℕ) → x.status ≡ Start initial_value → Unstarted first steps given x initial_value → Follows x (total x) told new → Went first (steps ++ Evaluate ∷ []) (given ++ told ∷ []) new
+  starts told initial_value e w h =
       let settings = w.told.settings in
       let now : Told = record { settings = settings; first = Some settings; inputs = w.told.inputs } in
       let settings_are : first_of x initial_value ≡ settings =
       ap (λ (v : Option ℕ). record { initial_value = v; object_address = x.store.object_address; maximum = x.store.maximum }) (sym w.initial)
       ∙ (ap (λ (a : Option ℕ). record { initial_value = settings.initial_value; object_address = a; maximum = x.store.maximum }) w.holds.object_address
       ∙ ap (λ (m : ℕ). record { initial_value = settings.initial_value; object_address = settings.object_address; maximum = m }) w.holds.maximum) in
-      let means_is : (r : Refusal) (inputs : List Input) → (means x initial_value r inputs).outcome ≡ meaning first.setup (before_inputs 0 r) first.text settings (now.inputs ++ inputs) = λ r inputs.
-      ap (λ (s : Setup). meaning s r x.text (first_of x initial_value) inputs) w.holds.setup
+      let means_is : (r : Refusal) (inputs : List Input) → (total x r inputs).outcome ≡ meaning first.setup (before_inputs 0 r) first.text settings (now.inputs ++ inputs) = λ r inputs.
+      total_meaning r x inputs initial_value e
+      ∙ ap (λ (s : Setup). meaning s r x.text (first_of x initial_value) inputs) w.holds.setup
       ∙ (ap (λ (t : Text). meaning first.setup r t (first_of x initial_value) inputs) w.text
       ∙ (ap (λ (f : First). meaning first.setup r first.text f inputs) settings_are
       ∙ ap (λ (is : List Input). meaning first.setup r first.text settings (is ++ inputs)) (sym w.inputs))) in
       let unstarted : (r : Refusal) → outcome_of first.setup r first.text w.told ≡ None = λ r. ap (outcome_from first.setup r first.text w.told.inputs) w.started in
-      called_by first steps given Evaluate x new told (means x initial_value) h now 0 settings refl (ap length w.inputs) means_is (λ o. refl) new.status refl
+      called_by first steps given Evaluate x new told (total x) h now 0 settings refl (ap length w.inputs) means_is (λ o. refl) new.status refl
       (subst (λ (s : Setup). MayPick s.limits h.refusal) w.holds.setup h.may)
       (record {
         setup = h.kept.setup ∙ w.holds.setup;
@@ -123,7 +124,7 @@ module _ (first : State) (steps : List Step) (given : List Reply) (x new : State
       (λ r l e. walked_more first steps given (given ++ told ∷ []) Evaluate r w.told now (w.walked r)
       (subst IsEvaluable (sym (unstarted r)) tt)
       (ap (λ (f : Option First). record { settings = settings; first = Some (begun settings f); inputs = w.told.inputs }) w.started)
-      (called_replies first steps given Evaluate x new told (means x initial_value) h now 0 settings refl (ap length w.inputs) means_is (λ o. refl) r e))
+      (called_replies first steps given Evaluate x new told (total x) h now 0 settings refl (ap length w.inputs) means_is (λ o. refl) r e))
 
   begun_already : (told : Told) (settings : First) (o : Option Outcome) → told.first ≡ Some settings → after told o Evaluate ≡ told
   begun_already told settings o e =
@@ -204,7 +205,7 @@ module _ (first : State) (steps : List Step) (given : List Reply) (x new : State
 
 module _ {R O P : Type 0} (text : R → Text) (number : O → ℕ) (first : State) (steps : List Step) (given : List Reply) (x new : State) where
   evaluates : (status : Status) → x.status ≡ status → (told : Result (EvaluationResult R O P) Error) → WentBy first steps given x status → Evaluates text number x new told status → IsClosed status → Went first (steps ++ Evaluate ∷ []) (given ++ reply_of text number told ∷ []) new
-  evaluates (Start initial_value) e told w h c = starts first steps given x new (reply_of text number told) initial_value w h
+  evaluates (Start initial_value) e told w h c = starts first steps given x new (reply_of text number told) initial_value e w h
   evaluates (CompleteStatus value) e told w h c =
       let again : Went first (steps ++ Evaluate ∷ []) (given ++ CompleteReply ∷ []) x =
       subst (WentBy first (steps ++ Evaluate ∷ []) (given ++ CompleteReply ∷ []) x) (sym e) (completes_again first steps given x new value e w) in

@@ -6,13 +6,19 @@ use Rattle.dwarf_meaning.specs.Refusals.{Refusal, before_inputs}
 use Rattle.dwarf_meaning.specs.Meaning.{Outcome, meaning}
 use Rattle.dwarf_meaning.specs.Rest.{State, Status, Start, Running, RequestStatus, CompleteStatus, FaultStatus, with_refusal, Total, total_by, total}
 use Rattle.dwarf_meaning.specs.Steps.{Step, InitialValue, ObjectAddress, MaxIterations, Evaluate, Resume, Told, Reply, Allows, after, step_replies}
-use Rattle.dwarf_eval.specs.Evaluation.{with_object, with_maximum, WaitsOrIsComplete, with_status}
+use Rattle.dwarf_eval.specs.Evaluation.{with_object, with_maximum, with_status}
 use Rattle.dwarf_replay.specs.Stepping.{IsSet}
 use Rattle.dwarf_replay.specs.Replays.{Tells}
 use Rattle.dwarf_meaning.specs.Bounds.{Spends, SpendsInAll, initial_items}
 use Rattle.dwarf_eval.proofs.CallSpending.{setting_spends, spent_initial, spent_more}
 use Rattle.dwarf_replay.proofs.Telling.{outcome, walked_more}
 use Rattle.dwarf_replay.proofs.Standings.{Holds, Unstarted, Going, WentBy, Went}
+
+-- a request is open, or the evaluation is complete
+abbrev IsOpenOrComplete : Status → Type 0
+IsOpenOrComplete (RequestStatus request on_answer) = Unit {0}
+IsOpenOrComplete (CompleteStatus value) = Unit {0}
+IsOpenOrComplete _ = ⊥
 
 module _ (first : State) where
   -- ---- settings
@@ -25,14 +31,14 @@ module _ (first : State) where
   waits_set object maximum r x [] request on_answer = refl
   waits_set object maximum r x (input ∷ inputs) request on_answer = refl
 
-  total_set_by : (object : Option ℕ) (maximum : ℕ) (r : Refusal) (x : State) (inputs : List Input) (status : Status) → WaitsOrIsComplete status → total_by (set_to object maximum x) (with_refusal r (set_to object maximum x).store) inputs status ≡ total_by x (with_refusal r x.store) inputs status
+  total_set_by : (object : Option ℕ) (maximum : ℕ) (r : Refusal) (x : State) (inputs : List Input) (status : Status) → IsOpenOrComplete status → total_by (set_to object maximum x) (with_refusal r (set_to object maximum x).store) inputs status ≡ total_by x (with_refusal r x.store) inputs status
   total_set_by object maximum r x inputs (RequestStatus request on_answer) h = waits_set object maximum r x inputs request on_answer
   total_set_by object maximum r x inputs (CompleteStatus value) h = refl
   total_set_by object maximum r x inputs (Start initial_value) h = absurd h
   total_set_by object maximum r x inputs (FaultStatus error) h = absurd h
   total_set_by object maximum r x inputs Running h = absurd h
 
-  total_set : (object : Option ℕ) (maximum : ℕ) (r : Refusal) (x : State) (inputs : List Input) → WaitsOrIsComplete x.status → total (set_to object maximum x) r inputs ≡ total x r inputs
+  total_set : (object : Option ℕ) (maximum : ℕ) (r : Refusal) (x : State) (inputs : List Input) → IsOpenOrComplete x.status → total (set_to object maximum x) r inputs ≡ total x r inputs
   unfolding total
   total_set object maximum r x inputs h = total_set_by object maximum r x inputs x.status h
 
@@ -62,7 +68,7 @@ module _ (first : State) where
         walked_more first steps given given step r told (s.tells told) w (s.allowed told _) (s.after_is told _)
         (sym (append-nil given) ∙ ap (λ (l : List Reply). given ++ l) (sym (s.quiet (outcome first r (s.tells told)))))
 
-    set_going : WaitsOrIsComplete x.status → Going first steps given x → Going first (steps ++ step ∷ []) given new
+    set_going : IsOpenOrComplete x.status → Going first steps given x → Going first (steps ++ step ∷ []) given new
     set_going o w = record {
       told = s.tells w.told;
       taken = w.taken;
@@ -89,8 +95,8 @@ module _ (first : State) where
       holds = s.holds w.told w.holds;
       spent = set_spent w.told w.spent;
     }
-    set_by (RequestStatus request on_answer) e w = set_going (subst WaitsOrIsComplete (sym e) tt) w
-    set_by (CompleteStatus value) e w = set_going (subst WaitsOrIsComplete (sym e) tt) w
+    set_by (RequestStatus request on_answer) e w = set_going (subst IsOpenOrComplete (sym e) tt) w
+    set_by (CompleteStatus value) e w = set_going (subst IsOpenOrComplete (sym e) tt) w
     set_by (FaultStatus error) e w = record {
       told = s.tells w.told;
       refusal = w.refusal;

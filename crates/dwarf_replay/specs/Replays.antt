@@ -6,11 +6,11 @@ use Rattle.dwarf_meaning.specs.Requests.{Request, Input}
 use Rattle.dwarf_meaning.specs.Refusals.{Refusal, IsLater, before_inputs, MayPick}
 use Rattle.dwarf_meaning.specs.Run.{Position}
 use Rattle.dwarf_meaning.specs.Meaning.{Outcome, RequestOutcome, FaultOutcome, CompleteOutcome}
-use Rattle.dwarf_meaning.specs.Rest.{State, Status, Start, Running, RequestStatus, CompleteStatus, FaultStatus, total}
+use Rattle.dwarf_meaning.specs.Rest.{State, Status, Start, Running, RequestStatus, CompleteStatus, FaultStatus, first_of, total}
 use Rattle.dwarf_meaning.specs.Steps as meaning
 use Rattle.dwarf_meaning.specs.Steps.{Told, Reply, Allows, AreDone, replies_of, outcome_of, outcome_from}
 use Rattle.dwarf_meaning.specs.Bounds.{initial_items, SpendsInAll}
-use Rattle.dwarf_eval.specs.Evaluation.{first_of, reply_of}
+use Rattle.dwarf_eval.specs.Evaluation.{reply_of}
 use Rattle.dwarf_eval.specs.Lists.{MayRefuse}
 use Rattle.dwarf_replay.specs.Stepping.{step_of}
 use Rattle.dwarf_replay.specs.declared.steps.Step.{Step}

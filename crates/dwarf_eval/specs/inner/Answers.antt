@@ -1,5 +1,6 @@
--- What a machine is given, and what it waits for.
-use Rattle.std.specs.Prelude.{◌≡◌}
+-- What a machine is given, what it waits for, and how it ended.
+use Rattle.std.specs.Prelude.{◌≡◌, Result, Ok, Err}
+use Rattle.dwarf_base.specs.declared.errors.Error.{Error}
 use Rattle.dwarf_base.specs.Reads.{Text}
 use Rattle.dwarf_meaning.specs.Kinds.{kind_of_request}
 use Rattle.dwarf_meaning.specs.Inputs.{IsFresh}
@@ -7,8 +8,10 @@ use Rattle.dwarf_meaning.specs.declared.kinds.WaitingKind.{WaitingKind}
 use Rattle.dwarf_meaning.specs.declared.kinds.WaitingKind.TheVariants as kind
 use Rattle.dwarf_meaning.specs.Requests as requests
 use Rattle.dwarf_meaning.specs.Rest as rest
-use Rattle.dwarf_meaning.specs.Rest.{Start, Running, RequestStatus}
+use Rattle.dwarf_meaning.specs.Rest.{Start, Running, RequestStatus, CompleteStatus, FaultStatus}
 use Rattle.dwarf_eval.specs.inner.Machine.{offset_of, typed_by}
+use Rattle.dwarf_eval.specs.declared.op.results.EvaluationResult.{EvaluationResult}
+use Rattle.dwarf_eval.specs.declared.op.results.EvaluationResult.TheVariants as result
 use Rattle.dwarf_eval.specs.declared.run.states.Given.{Given}
 use Rattle.dwarf_eval.specs.declared.run.states.Given.TheVariants as given
 use Rattle.dwarf_eval.specs.declared.run.states.OnAnswer.{OnAnswer}
@@ -64,3 +67,9 @@ IsAtRestBy x _ = Unit {0}
 -- between calls nothing runs
 abbrev pub IsAtRest : rest.State → Type 0
 IsAtRest x = IsAtRestBy x x.status
+
+-- after the end the result is completion, and after a fault that fault
+abbrev pub IsEndedBy : {R O P : Type 0} → Result (EvaluationResult R O P) Error → rest.Status → Type 0
+IsEndedBy replied (CompleteStatus value) = replied ≡ Ok result.Complete
+IsEndedBy replied (FaultStatus error) = replied ≡ Err error
+IsEndedBy replied _ = Unit {0}

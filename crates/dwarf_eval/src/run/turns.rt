@@ -1,7 +1,7 @@
 ghost use Rattle.std.specs.Prelude.{◌≡◌, ◌<◌, Some, length, false};
 ghost use Rattle.dwarf_base.specs.Reads.{IsLeftOf};
 ghost use Rattle.dwarf_meaning.specs.Meaning.{whole as meant_whole, finish, finish_value};
-ghost use Rattle.dwarf_meaning.specs.Inputs.{with_status};
+ghost use Rattle.dwarf_meaning.specs.Inputs.{IsFresh, with_status};
 ghost use Rattle.dwarf_meaning.specs.Rest.{Running, Start, CompleteStatus};
 ghost use Rattle.dwarf_meaning.specs.Run.{piece_ended_by};
 ghost use Rattle.dwarf_meaning.specs.RunLaws.{waits_of};
@@ -265,7 +265,8 @@ impl<R: Reader + Copy, S: EvaluationStorage<R>> Machine<R, S> {
 
     /// Begins the run.
     fn begin(&mut self, initial_value: Option<u64>)
-        requires { self.old.status ≡ Start initial_value }
+        requires starts { self.old.status ≡ Start initial_value }
+        requires fresh { IsFresh self.old initial_value }
         ensures { Comes self.old (total self.old) self.new }
     {
         self.enter(EvaluationState::Running);
@@ -276,7 +277,8 @@ impl<R: Reader + Copy, S: EvaluationStorage<R>> Machine<R, S> {
 
     /// Begins the run, and runs on to a request, to the end, or to a fault, which it keeps.
     pub(crate) fn start(&mut self, initial_value: Option<u64>)
-        requires { self.old.status ≡ Start initial_value }
+        requires starts { self.old.status ≡ Start initial_value }
+        requires fresh { IsFresh self.old initial_value }
         ensures comes { Comes self.old (total self.old) self.new }
         ensures replies { HasReply self.new.status }
     {

@@ -2,8 +2,8 @@ use Rattle.std.proofs.Common.{◌≡◌, ap, subst, sym, ◌∙◌}
 use Rattle.dwarf_meaning.specs.Kinds.{kind_of_answer}
 use Rattle.dwarf_meaning.specs.Rest.{State, total_after}
 use Rattle.dwarf_eval.specs.Permits.{IsOpenFor}
-use Rattle.dwarf_eval.specs.inner.Answers.{answer_of}
-use Rattle.dwarf_eval.specs.Evaluation.{IsEndedBy, Resumes, reply_of, input_of}
+use Rattle.dwarf_eval.specs.inner.Answers.{IsEndedBy, answer_of}
+use Rattle.dwarf_eval.specs.Evaluation.{Resumes, reply_of, input_of}
 use Rattle.dwarf_eval.specs.inner.Steps.{Comes}
 use Rattle.dwarf_eval.proofs.Following.{comes_follow, failed_again, resumed, waits}
 use Rattle.dwarf_eval.proofs.eval.evaluation.Evaluation.resume.Goals as goal

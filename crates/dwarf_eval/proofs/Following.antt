@@ -2,7 +2,7 @@
 use Rattle.std.proofs.Common.{ℕ, zero, suc, ◌≡◌, List, [], ◌∷◌, Result, true, false, ap, ◌∙◌, sym, refl, subst, arith}
 use Rattle.std.proofs.lemmas.Bool.{false≢true, true≢false}
 use Rattle.dwarf_base.specs.declared.errors.Error.{Error}
-use Rattle.dwarf_base.specs.Faults.{Fault, fault_of}
+use Rattle.dwarf_base.specs.Faults.{fault_of}
 use Rattle.dwarf_base.specs.Reads.{Text}
 use Rattle.dwarf_meaning.specs.Requests.{Input}
 use Rattle.dwarf_meaning.specs.Bounds.{faults_in}

@@ -1,23 +1,21 @@
 -- A location that waits for its piece.
-use Rattle.std.proofs.Common.{ℕ, ◌≡◌, ◌+◌, ◌-◌, ◌<◌, Bool, true, false, List, length, Result, Ok, Err, Option, Some, None, arith, ap, ◌∙◌, sym, refl, subst}
+use Rattle.std.proofs.Common.{ℕ, ◌≡◌, ◌+◌, ◌-◌, ◌<◌, Bool, true, false, List, length, Result, Ok, Err, Option, arith, ap, ◌∙◌, sym, refl, subst}
 use Rattle.dwarf_base.specs.declared.errors.Error.{Error}
 use Rattle.dwarf_base.specs.declared.errors.Error.TheVariants as error
 use Rattle.dwarf_base.specs.Faults.{Fault, fault_of}
 use Rattle.dwarf_base.specs.declared.errors.Error.TheVariants.{InvalidExpressionTerminator}
+use Rattle.dwarf_meaning.specs.Acts.{Act, EndsPiece, FaultAct}
+use Rattle.dwarf_meaning.specs.Operations as operation
 use Rattle.dwarf_meaning.specs.Operations.{Operation}
 use Rattle.dwarf_meaning.specs.Locations.{Location, Piece, sized}
 use Rattle.dwarf_meaning.specs.Requests.{Input}
 use Rattle.dwarf_meaning.specs.RunLaws.{waits_of}
-use Rattle.dwarf_meaning.specs.Stores.{Store, Last, Pieced, Located, push_piece, Next, Goes, FaultNext, goes}
-use Rattle.dwarf_meaning.specs.Run.{after_operation, end_located, turn_located, piece_ended_by, read, run, turn_by}
+use Rattle.dwarf_meaning.specs.Stores.{Store, Last, Pieced, Located, push_piece, Next, Goes, FaultNext, goes, done}
+use Rattle.dwarf_meaning.specs.Run.{after_operation, do_operation, located_act, read, run, turn_by}
 use Rattle.dwarf_meaning.specs.Meaning.{FaultOutcome}
 use Rattle.dwarf_meaning.specs.Rest.{State, Running, FaultStatus, with_refusal, total_of_course}
 use Rattle.dwarf_meaning.specs.Refusals.{Refusal, Never, before_pushes}
 use Rattle.dwarf_meaning.proofs.Counts.{OnStore, KeepsBoth, Tally, tally_of, both-push_piece}
-use Rattle.dwarf_base.specs.Reads.{Text}
-use Rattle.dwarf_op.specs.Views.{operation_of}
-use Rattle.dwarf_op.specs.declared.operations.Operation as code
-use Rattle.dwarf_op.specs.declared.operations.Operation.TheVariants as variant
 use Rattle.dwarf_meaning.specs.Bounds.{piece_due, located_by, endings, located, faults_in}
 use Rattle.dwarf_meaning.specs.Inputs.{with_status}
 use Rattle.dwarf_eval.specs.inner.Steps.{Does, Refused, Tries, ReadsOperation, EndsLocated, total, ComesBy, Turns, read_to, with_last}
@@ -28,20 +26,13 @@ use Rattle.dwarf_eval.proofs.Spending.{fallen_spends, held_spends}
 use Rattle.dwarf_eval.proofs.Totals.{closed, going, total_running, course_failed}
 use Rattle.dwarf_eval.proofs.Turning.{total_inside, effort_running, falls_turns}
 
--- an operation that is no piece ends none
-pub no_piece : {R O P : Type 0} (text : R → Text) (number : O → ℕ) (op : code.Operation R O P)
-    → ((size_in_bits : ℕ) (bit_offset : Option ℕ) → op ≡ variant.Piece size_in_bits bit_offset → ⊥)
-    → piece_ended_by (operation_of text number op) ≡ None
-no_piece text number (variant.Piece size_in_bits bit_offset) other = absurd (other size_in_bits bit_offset refl)
-no_piece text number op other = refl
-
 module _ (x : State) (location : Location) (runs : x.status ≡ Running) (inside : x.place < length x.text.bytes) (waits : x.store.last ≡ Located location) where
-  held_total : (r : Refusal) (inputs : List Input) (z : Result (Operation × List ℕ) Fault) → read x.setup x.text x.place ≡ z → total x r inputs ≡ total_of_course x.store.count x.setup x.callers (turn_located (run x.setup) x.setup x.text (length x.callers) location (with_refusal r x.store) inputs z)
+  held_total : (r : Refusal) (inputs : List Input) (z : Result (Operation × List ℕ) Fault) → read x.setup x.text x.place ≡ z → total x r inputs ≡ total_of_course x.store.count x.setup x.callers (do_operation (run x.setup) x.setup x.text (length x.callers) (with_refusal r x.store) inputs (located_act location x.store) z)
   held_total r inputs z e =
       let s : Store = with_refusal r x.store in
       total_inside x r inputs runs inside
       ∙ (ap (λ (last : Last). total_of_course x.store.count x.setup x.callers (turn_by (run x.setup) x.setup x.text x.place (length x.callers) s inputs last)) waits
-      ∙ ap (λ (y : Result (Operation × List ℕ) Fault). total_of_course x.store.count x.setup x.callers (turn_located (run x.setup) x.setup x.text (length x.callers) location s inputs y)) e)
+      ∙ ap (λ (y : Result (Operation × List ℕ) Fault). total_of_course x.store.count x.setup x.callers (do_operation (run x.setup) x.setup x.text (length x.callers) s inputs (located_act location x.store) y)) e)
 
   waited : waits_of x.store.last ≡ 1
   waited = ap waits_of waits
@@ -71,20 +62,23 @@ module _ (x : State) (location : Location) (runs : x.status ≡ Running) (inside
     abbrev place_then : ℕ
     place_then = length x.text.bytes - length beyond
 
-    held_after_operation : (r : Refusal) (inputs : List Input) (o : Option (ℕ × Option ℕ)) (next : Next) → piece_ended_by op ≡ o → end_located x.setup location place_then (with_refusal r x.store) o ≡ next → total x r inputs ≡ total_of_course x.store.count x.setup x.callers (after_operation (run x.setup) x.setup x.text (length x.callers) place_then inputs next)
-    held_after_operation r inputs o next e f =
+    abbrev acted : Act
+    acted = located_act location x.store place_then op
+
+    held_after_operation : (r : Refusal) (inputs : List Input) (a : Act) (next : Next) → acted ≡ a → done x.setup place_then (length x.text.bytes) a (with_refusal r x.store) ≡ next → total x r inputs ≡ total_of_course x.store.count x.setup x.callers (after_operation (run x.setup) x.setup x.text (length x.callers) place_then inputs next)
+    held_after_operation r inputs a next e f =
         held_total r inputs (Ok (op, beyond)) was
-        ∙ (ap (λ (p : Option (ℕ × Option ℕ)). total_of_course x.store.count x.setup x.callers (after_operation (run x.setup) x.setup x.text (length x.callers) place_then inputs (end_located x.setup location place_then (with_refusal r x.store) p))) e
+        ∙ (ap (λ (b : Act). total_of_course x.store.count x.setup x.callers (after_operation (run x.setup) x.setup x.text (length x.callers) place_then inputs (done x.setup place_then (length x.text.bytes) b (with_refusal r x.store)))) e
         ∙ ap (λ (n : Next). total_of_course x.store.count x.setup x.callers (after_operation (run x.setup) x.setup x.text (length x.callers) place_then inputs n)) f)
 
-    held_other : (new : State) → piece_ended_by op ≡ None → new ≡ with_status (FaultStatus (error.InvalidExpressionTerminator (place_then - 1))) (read_to place_then x) → Turns x new
+    held_other : (new : State) → acted ≡ FaultAct (InvalidExpressionTerminator (place_then - 1)) → new ≡ with_status (FaultStatus (error.InvalidExpressionTerminator (place_then - 1))) (read_to place_then x) → Turns x new
     held_other new none is =
         read_falls place_then new (error.InvalidExpressionTerminator (place_then - 1)) is
-        (λ inputs. held_after_operation Never inputs None (FaultNext (InvalidExpressionTerminator (place_then - 1))) none refl ∙ course_failed x.store.count x.setup x.callers (InvalidExpressionTerminator (place_then - 1)))
+        (λ inputs. held_after_operation Never inputs _ (FaultNext (InvalidExpressionTerminator (place_then - 1))) none refl ∙ course_failed x.store.count x.setup x.callers (InvalidExpressionTerminator (place_then - 1)))
 
-    module _ (size : ℕ × Option ℕ) (some : piece_ended_by op ≡ Some size) where
+    module _ (size_in_bits : ℕ) (bit_offset : Option ℕ) (some : acted ≡ EndsPiece x.store.values (sized size_in_bits bit_offset location)) where
       abbrev piece : Piece
-      piece = sized size.0 size.1 location
+      piece = sized size_in_bits bit_offset location
 
       abbrev mid : State
       mid = with_last Pieced (read_to place_then x)
@@ -108,7 +102,7 @@ module _ (x : State) (location : Location) (runs : x.status ≡ Running) (inside
             comes = subst (ComesBy x (total x) new) (sym still) (record {
               pushes = d.steps.pushes;
               same = λ r inputs.
-                  held_after_operation (before_pushes d.steps.pushes r) inputs (Some size) (Goes place_then (with_refusal r new.store)) some (ap (goes place_then) (d.steps.same r))
+                  held_after_operation (before_pushes d.steps.pushes r) inputs _ (Goes place_then (with_refusal r new.store)) some (ap (goes place_then) (d.steps.same r))
                   ∙ (ap (λ (n : ℕ). going (record mid { store = record mid.store { count = n } }) (with_refusal r new.store) inputs) (sym count)
                   ∙ sym (total_running r new inputs still ∙ ap (λ (z : State). going z (with_refusal r new.store) inputs) d.alone));
               kept = record {
@@ -133,7 +127,7 @@ module _ (x : State) (location : Location) (runs : x.status ≡ Running) (inside
             refusal = h.gets.refusal;
             may = h.gets.may;
             same = λ inputs.
-                held_after_operation h.gets.refusal inputs (Some size) (FaultNext (fault_of h.error)) some (ap (goes place_then) h.gets.same)
+                held_after_operation h.gets.refusal inputs _ (FaultNext (fault_of h.error)) some (ap (goes place_then) h.gets.same)
                 ∙ (course_failed x.store.count x.setup x.callers (fault_of h.error) ∙ ap (closed (FaultOutcome (fault_of h.error))) (sym count));
             kept = record { setup = h.stays.kept.setup; object_address = h.stays.kept.object_address; maximum = h.stays.kept.maximum };
             spends = fallen_spends x new h.error (ap faults_in runs) h.failed (omega (arith, callers)) (omega (arith, count)) (omega (arith, items)) (omega (arith, decodings, count, due, waited)) h.stays.pieces (omega (arith, decodings, count)) (omega (arith, decodings, count));
@@ -143,17 +137,15 @@ module _ (x : State) (location : Location) (runs : x.status ≡ Running) (inside
       piece_turns new true h = piece_turned new h
       piece_turns new false h = piece_falls new h
 
-    pub held_turns : (new : State) (o : Option (ℕ × Option ℕ)) → piece_ended_by op ≡ o → EndsLocated location o (read_to place_then x) new → Turns x new
-    held_turns new None e h = held_other new e h
-    held_turns new (Some size) e h = piece_turns size e new h.0 h.1
-
 -- ---- as the machine does it
 
 module _ (x : State) (location : Location) (runs : x.status ≡ Running) (inside : x.place < length x.text.bytes) (waits : x.store.last ≡ Located location) (beyond new : State) where
   pub hold_unread : (error : Error) → read x.setup x.text x.place ≡ Err (fault_of error) → beyond ≡ read_to beyond.place x → new ≡ with_status (FaultStatus error) beyond → Turns x new
   hold_unread error was moved is = held_unread x location runs inside waits beyond.place new error (is ∙ ap (with_status (FaultStatus error)) moved) was
 
-  pub hold_turns : (op : Operation) → ReadsOperation op x beyond → EndsLocated location (piece_ended_by op) beyond new → Turns x new
-  hold_turns op r h =
-      held_turns x location runs inside waits op r.beyond r.was new (piece_ended_by op) refl
-      (subst (λ (z : State). EndsLocated location (piece_ended_by op) z new) r.moved h)
+  hold_read : (op : Operation) (left : List ℕ) → read x.setup x.text x.place ≡ Ok (op, left) → EndsLocated location op (read_to (length x.text.bytes - length left) x) new → Turns x new
+  hold_read (operation.Piece size_in_bits bit_offset) left was h = piece_turns x location runs inside waits (operation.Piece size_in_bits bit_offset) left was size_in_bits bit_offset refl new h.0 h.1
+  hold_read op left was h = held_other x location runs inside waits op left was new refl h
+
+  pub hold_turns : (op : Operation) → ReadsOperation op x beyond → EndsLocated location op beyond new → Turns x new
+  hold_turns op r h = hold_read op r.beyond r.was (subst (λ (z : State). EndsLocated location op z new) r.moved h)

@@ -15,6 +15,8 @@ use Rattle.dwarf_meaning.specs.Locations.{Location, AtAddress, Piece}
 use Rattle.dwarf_meaning.specs.Requests.{Request, RequiresMemory, RequiresTls, OnAnswer, Push, Add, Parse, Convert, Answer}
 use Rattle.dwarf_meaning.specs.Kinds.{kind_of_answer}
 use Rattle.dwarf_meaning.specs.Acts.{on_top, on_result, result_of, Act, Pushes, Branches, Locates, EndsPiece, RequestAct, FaultAct, short, unary, binary, act, Use, PushesAnswer, Calls, FaultUse, use_of}
+use Rattle.dwarf_meaning.specs.Stores.{Store}
+use Rattle.dwarf_meaning.specs.Run.{located_act}
 use Rattle.dwarf_laws.specs.Agreement as agreeing
 use Rattle.dwarf_laws.specs.Agreement.{Pairwise, none, more, Both, nothing, something, AgreeingNumbers, AgreeingAnswers, AgreeingLocations, same, AgreeingPieces}
 use Rattle.dwarf_laws.proofs.Pairs.{get_both, if_pair, top_pair, some_pair, answer_pair, read_pair, answers_agree}
@@ -31,6 +33,13 @@ pub data AgreeingActs (w : ℕ) : Act → Act → Type 0 where
   asks : {rest rest' : List Value} {request : Request} {on_answer : OnAnswer} → Pairwise (Agree w) rest rest'
       → AgreeingActs w (RequestAct rest request on_answer) (RequestAct rest' request on_answer)
   refuses : {fault : Fault} → AgreeingActs w (FaultAct fault) (FaultAct fault)
+
+-- after locations that agree
+pub located_both : (w : ℕ) (s t : Store) {location location' : Location} → AgreeingLocations w location location'
+    → Pairwise (Agree w) s.values t.values → (place : ℕ) (op : Operation)
+    → AgreeingActs w (located_act location s place op) (located_act location' t place op)
+located_both w s t l v place (operation.Piece size_in_bits bit_offset) = ends v (record { sizes = refl; offsets = refl; locations = l })
+located_both w s t l v place op = refuses
 
 pub data AgreeingUses (w : ℕ) : Use → Use → Type 0 where
   gives : {rest rest' : List Value} {x x' : Value} → Pairwise (Agree w) rest rest' → Agree w x x'

@@ -17,7 +17,7 @@ use Rattle.dwarf_meaning.specs.Requests.{Request, RequiresAtLocation, Push, Inpu
 use Rattle.dwarf_meaning.specs.Kinds.{kind_of_request, kind_of_answer, is_same_kind}
 use Rattle.dwarf_meaning.specs.Acts.{act, Use, PushesAnswer, Calls, FaultUse, use_of}
 use Rattle.dwarf_meaning.specs.Stores.{Setup, address_bits, Store, Last, Nothing, Plain, Pieced, Pushed, Called, Located, push_value, push_caller, done}
-use Rattle.dwarf_meaning.specs.Run.{Position, End, CompleteEnd, RequestEnd, FaultEnd, Course, only_end, add_to_path, add_request, return_to_caller, run_callee, after_answer, await_answer, after_operation, read, can_count, counted, do_operation, turn_counted, turn_located, turn_by, run}
+use Rattle.dwarf_meaning.specs.Run.{Position, End, CompleteEnd, RequestEnd, FaultEnd, Course, only_end, add_to_path, add_request, return_to_caller, run_callee, after_answer, await_answer, after_operation, read, can_count, counted, do_operation, turn_counted, counted_act, located_act, turn_by, run}
 use Rattle.dwarf_meaning.specs.Meaning.{First}
 use Rattle.dwarf_meaning.specs.RunLaws.{EndOpen}
 use Rattle.dwarf_meaning.proofs.Turns.{run_turn}
@@ -70,11 +70,11 @@ module _ (encoding : Encoding) (bits : ℕ) (A K B : List ℕ) (big : Bool) (off
       add_to_path (record { text = outer; place = length A })
       (add_request call (await_answer (run S) S after_call 0 call Push (counted (calm t)) inputs))
 
-  does_call : (s : Store) (inputs : List Input) → do_operation (run S) S outer 0 s inputs (read S outer (length A)) ≡ add_request
+  does_call : (s : Store) (inputs : List Input) → do_operation (run S) S outer 0 s inputs (counted_act S s) (read S outer (length A)) ≡ add_request
       call (await_answer (run S) S after_call 0 call Push s inputs)
   unfolding act
   does_call s inputs =
-      ap (do_operation (run S) S outer 0 s inputs) read_call
+      ap (do_operation (run S) S outer 0 s inputs (counted_act S s)) read_call
       ∙ ap (λ (k : ℕ). after_operation (run S) S outer 0 k inputs
       (done S k (length (A ++ (K ++ B))) (act (address_bits S) s.object_address (operation.Call offset) s.values)
       s)) call_place
@@ -91,14 +91,14 @@ module _ (encoding : Encoding) (bits : ℕ) (A K B : List ℕ) (big : Bool) (off
           let x : FaultEnd TooManyIterations ≡ RequestEnd call (after_call ∷ []) [] = sym
           (ap (λ (c : Course). c.end) (cond-false (can_count (calm t))
           (add_to_path (record { text = outer; place = length A })
-          (do_operation (run S) S outer 0 (counted (calm t)) before (read S outer (length A))))
+          (do_operation (run S) S outer 0 (counted (calm t)) before (counted_act S t) (read S outer (length A))))
           (only_end (FaultEnd TooManyIterations)) e)) ∙ at_call in
           absurd cc
 
   held_call : (location : Location) (s : Store) (inputs : List Input)
-      → AtCall (turn_located (run S) S outer 0 location s inputs (read S outer (length A))).end → ⊥
+      → AtCall (do_operation (run S) S outer 0 s inputs (located_act location s) (read S outer (length A))).end → ⊥
   held_call location s inputs at_call =
-      let x : FaultEnd (InvalidExpressionTerminator (length (A ++ (K ++ B)) - length B - 1)) ≡ RequestEnd call (after_call ∷ []) [] = sym (ap (λ r. (turn_located (run S) S outer 0 location s inputs r).end) read_call) ∙ at_call in
+      let x : FaultEnd (InvalidExpressionTerminator (length (A ++ (K ++ B)) - length B - 1)) ≡ RequestEnd call (after_call ∷ []) [] = sym (ap (λ r. (do_operation (run S) S outer 0 s inputs (located_act location s) r).end) read_call) ∙ at_call in
       cc
 
   by_call : (last : Last) (t : Store) (before : List Input)

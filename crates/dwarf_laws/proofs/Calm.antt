@@ -1,16 +1,18 @@
 -- Without limits and refusals nothing that is kept depends on the count.
-use Rattle.std.proofs.Common.{ℕ, ◌+◌, ◌≡◌, ◌≤◌, ℤ, false, List, [], ◌∷◌, ◌++◌, Option, Some, None, Result, Ok, refl, sym, subst, arith, nat_lt}
+use Rattle.std.proofs.Common.{ℕ, ◌+◌, ◌≡◌, ◌≤◌, ℤ, false, List, [], ◌∷◌, ◌++◌, Option, None, Result, Ok, refl, sym, subst, arith, nat_lt}
 use Rattle.std.proofs.lemmas.Bool.{cond-false, cond_both}
 use Rattle.std.proofs.lemmas.Bool.Decides.{nat_tests}
 use Rattle.dwarf_base.specs.declared.common.Encoding.{Encoding}
 use Rattle.dwarf_base.specs.Faults.{Fault}
 use Rattle.dwarf_base.specs.declared.errors.Error.TheVariants.{BadBranchTarget}
 use Rattle.dwarf_value.specs.declared.types.Value.{Value}
-use Rattle.dwarf_meaning.specs.Locations.{Location}
+use Rattle.dwarf_meaning.specs.Operations as operation
+use Rattle.dwarf_meaning.specs.Operations.{Operation}
+use Rattle.dwarf_meaning.specs.Locations.{Location, sized}
 use Rattle.dwarf_meaning.specs.Requests.{Request, OnAnswer}
 use Rattle.dwarf_meaning.specs.Acts.{Act, Pushes, Branches, Locates, EndsPiece, RequestAct, FaultAct}
 use Rattle.dwarf_meaning.specs.Stores.{Setup, Store, Plain, Pieced, Located, push_value, push_piece, push_values, Next, Goes, RequestNext, FaultNext, goes, done, branch_target, branch}
-use Rattle.dwarf_meaning.specs.Run.{end_located}
+use Rattle.dwarf_meaning.specs.Run.{located_act}
 use Rattle.dwarf_meaning.specs.Refusals.{Never}
 use Rattle.dwarf_laws.proofs.Jumps.{Jumping, pushes, branches, locates, ends, asks, refuses}
 
@@ -95,13 +97,10 @@ module _ (encoding : Encoding) (bits : ℕ) where
     done_both (RequestAct rest request on_answer) t al asks = request_both (record t { values = rest }) refl refl
     done_both (FaultAct fault) t al refuses = fails_both
 
-    pub holds_both : (location : Location) (t : Store) (o : Option (ℕ × Option ℕ)) → Al place place'
-        → NextBoth n Al t.object_address t.maximum (end_located S location place (ahead n t) o) (end_located S location place' (calm t) o)
+    pub located_both : (location : Location) (t : Store) (op : Operation) → Al place place'
+        → NextBoth n Al t.object_address t.maximum (done S place len (located_act location t place op) (ahead n t))
+        (done S place' len' (located_act location t place' op) (calm t))
     unfolding push_piece
-    holds_both location t (Some piece) al =
-        goes_both (record t {
-          last = Pieced;
-          pieces = t.pieces ++ record
-              { size_in_bits = Some piece.0; bit_offset = piece.1; location = location } ∷ [];
-        }) al refl refl
-    holds_both location t None al = fails_both
+    located_both location t (operation.Piece size_in_bits bit_offset) al =
+        goes_both (record t { last = Pieced; pieces = t.pieces ++ sized size_in_bits bit_offset location ∷ [] }) al refl refl
+    located_both location t op al = fails_both

@@ -10,7 +10,6 @@ use Rattle.dwarf_meaning.specs.Locations.{Location, Piece}
 use Rattle.dwarf_meaning.specs.Requests.{Request, OnAnswer}
 use Rattle.dwarf_meaning.specs.Acts.{Act}
 use Rattle.dwarf_meaning.specs.Stores.{Setup, address_bits, Store, Last, Nothing, Plain, Pieced, Pushed, Called, Located, push_value, push_piece, push_caller, push_values, Next, Goes, RequestNext, FaultNext, goes, done}
-use Rattle.dwarf_meaning.specs.Run.{end_located}
 use Rattle.dwarf_meaning.specs.Refusals.{Limits, Refusal, Never, After, spent, room}
 use Rattle.dwarf_laws.specs.Agreement.{Pairwise, none, more, Both, AgreeingNumbers, AgreeingLocations, AgreeingPieces}
 use Rattle.dwarf_laws.proofs.Pairs.{same_length, snoc_both, if_pair}
@@ -220,11 +219,3 @@ module _ (Free : Type 0) (setup : Setup) (limits : Limits) (premise : Free ⊎ (
   done_both place len a b s t (ends r p) h = goes_both place _ _ (push_piece_both _ _ _ _ p (changed h r both_pieced))
   done_both place len a b s t (asks r) h = request_next (changed h r h.last)
   done_both place len a b s t refuses h = fails
-
-  pub holds_both : (location location' : Location) (place : ℕ) (s t : Store) (piece : Option (ℕ × Option ℕ))
-      → AgreeingLocations w location location' → AgreeingStores Free w s t
-      → AgreeingNexts Free w (end_located setup location place s piece) (end_located other location' place t piece)
-  holds_both location location' place s t (Some piece) l h =
-      goes_both place _ _ (push_piece_both _ _ _ _ (record { sizes = refl; offsets = refl; locations = l })
-      (changed h h.values both_pieced))
-  holds_both location location' place s t None l h = fails

@@ -1,17 +1,17 @@
 -- A text with no branches asks at ever later places.
-use Rattle.std.proofs.Common.{ℕ, zero, suc, ◌-◌, ◌≡◌, ◌≤◌, ◌<◌, List, [], ◌∷◌, ◌++◌, length, Option, Some, None, Result, Ok, Err, refl, sym, subst, ◌==◌, arith}
+use Rattle.std.proofs.Common.{ℕ, zero, suc, ◌-◌, ◌≡◌, ◌≤◌, ◌<◌, List, [], ◌∷◌, ◌++◌, length, Result, Ok, Err, refl, sym, subst, ◌==◌, arith}
 use Rattle.std.proofs.lemmas.Bool.{cond_both}
 use Rattle.dwarf_base.specs.declared.common.Encoding.{Encoding}
 use Rattle.dwarf_base.specs.Faults.{Fault}
 use Rattle.dwarf_base.specs.Reads.{Text}
 use Rattle.dwarf_meaning.specs.Operations.{Operation}
-use Rattle.dwarf_meaning.specs.Locations.{Location}
 use Rattle.dwarf_meaning.specs.Requests.{Request, OnAnswer, Input}
 use Rattle.dwarf_meaning.specs.Kinds.{kind_of_request, kind_of_answer, is_same_kind}
 use Rattle.dwarf_meaning.specs.Acts.{Act, Pushes, Branches, Locates, EndsPiece, RequestAct, FaultAct, Use, PushesAnswer, Calls, FaultUse, use_of}
 use Rattle.dwarf_meaning.specs.Stores.{Setup, address_bits, Store, Last, Nothing, Plain, Pieced, Pushed, Called, Located, push_value, push_caller, Next, Goes, RequestNext, FaultNext, goes, done}
-use Rattle.dwarf_meaning.specs.Run.{Position, End, CompleteEnd, RequestEnd, FaultEnd, Course, Continues, return_to_caller, after_push, enter_callee, run_callee, after_answer, with_input, await_answer, after_operation, read, can_count, counted, do_operation, turn_counted, piece_ended_by, end_located, turn_located, turn_by, turn, out_of_turns, run_for, enough, run}
-use Rattle.dwarf_laws.proofs.Jumps.{Jumping, pushes, branches, locates, ends, asks, refuses, straight_jumps, act_jumps}
+use Rattle.dwarf_meaning.specs.Run.{Position, End, CompleteEnd, RequestEnd, FaultEnd, Course, Continues, return_to_caller, after_push, enter_callee, run_callee, after_answer, with_input, await_answer, after_operation, read, can_count, counted, do_operation, turn_counted, counted_act, located_act, turn_by, turn, out_of_turns, run_for, enough, run}
+use Rattle.dwarf_laws.specs.Inlining.{IsStraight}
+use Rattle.dwarf_laws.proofs.Jumps.{Jumping, pushes, branches, locates, ends, asks, refuses, straight_jumps, act_jumps, located_jumps}
 use Rattle.dwarf_laws.proofs.Calm.{free}
 use Rattle.dwarf_laws.proofs.Texts.{stands, StraightFrom, straight_step}
 
@@ -33,11 +33,6 @@ leads_done setup place len (Locates rest location) s locates = refl
 leads_done setup place len (EndsPiece rest piece) s ends = leads_goes place _
 leads_done setup place len (RequestAct rest request on_answer) s asks = tt
 leads_done setup place len (FaultAct fault) s refuses = tt
-
-pub leads_holds : (setup : Setup) (location : Location) (place : ℕ) (s : Store) (o : Option (ℕ × Option ℕ))
-    → LeadsTo place (end_located setup location place s o)
-leads_holds setup location place s (Some piece) = leads_goes place _
-leads_holds setup location place s None = tt
 
 -- the outermost open text stands at a later place
 pub record OpenBeyond (T : Text) (q : ℕ) (positions : List Position) : Type 0 where
@@ -108,33 +103,27 @@ module _ (encoding : Encoding) (bits : ℕ) (T : Text) (q : ℕ) where
 
   module _ (go : Continues) (H : Later go) (p d : ℕ) (s : Store) (inputs : List Input) (from : q ≤ p)
       (straight : StraightFrom encoding bits T p) where
-    does_later : (u : Store) (r : Result (Operation × List ℕ) Fault) → read S T p ≡ r
-        → AsksBeyond T q (do_operation go S T d u inputs r).end
-    does_later u (Err fault) e = tt
-    does_later u (Ok x) e =
+    does_later : (u : Store) (act_at : ℕ → Operation → Act) (r : Result (Operation × List ℕ) Fault)
+        → ((place : ℕ) (op : Operation) → IsStraight op → Jumping (λ z. ⊥) (act_at place op)) → read S T p ≡ r
+        → AsksBeyond T q (do_operation go S T d u inputs act_at r).end
+    does_later u act_at (Err fault) jumps e = tt
+    does_later u act_at (Ok x) jumps e =
         let st = stands encoding bits T p x.0 x.1 e in
         let step = straight_step encoding bits T p x.0 x.1 e straight in
         after_operation_later go H (length T.bytes - length x.1) (let a = st.place in let b = st.some in
         omega (arith, a, b, from)) step.1 d inputs _
-        (leads_done S _ _ _ u (act_jumps (λ z. ⊥) (address_bits S) u.object_address x.0 u.values
-        (straight_jumps (λ z. ⊥) x.0 step.0)))
-
-    held_later : (location : Location) (r : Result (Operation × List ℕ) Fault) → read S T p ≡ r
-        → AsksBeyond T q (turn_located go S T d location s inputs r).end
-    held_later location (Err fault) e = tt
-    held_later location (Ok x) e =
-        let st = stands encoding bits T p x.0 x.1 e in
-        let step = straight_step encoding bits T p x.0 x.1 e straight in
-        after_operation_later go H (length T.bytes - length x.1) (let a = st.place in let b = st.some in
-        omega (arith, a, b, from)) step.1 d inputs _ (leads_holds S location _ s (piece_ended_by x.0))
+        (leads_done S _ _ _ u (jumps _ x.0 step.0))
 
     counts_later : AsksBeyond T q (turn_counted go S T p d s inputs).end
     counts_later =
         cond_both (can_count s) _ _ (λ (c : Course). AsksBeyond T q c.end)
-        (λ e. does_later (counted s) (read S T p) refl) (λ e. tt)
+        (λ e. does_later (counted s) (counted_act S s) (read S T p)
+        (λ place op straight. act_jumps (λ z. ⊥) (address_bits S) s.object_address op s.values
+        (straight_jumps (λ z. ⊥) op straight)) refl) (λ e. tt)
 
     by_later : (last : Last) → AsksBeyond T q (turn_by go S T p d s inputs last).end
-    by_later (Located location) = held_later location (read S T p) refl
+    by_later (Located location) =
+        does_later s (located_act location s) (read S T p) (λ place op straight. located_jumps (λ z. ⊥) location s place op) refl
     by_later Nothing = counts_later
     by_later Plain = counts_later
     by_later Pieced = counts_later

@@ -13,13 +13,13 @@ use Rattle.dwarf_meaning.specs.Requests.{Request, OnAnswer, Input}
 use Rattle.dwarf_meaning.specs.Kinds.{kind_of_request, kind_of_answer, is_same_kind}
 use Rattle.dwarf_meaning.specs.Acts.{act, Use, PushesAnswer, Calls, FaultUse, use_of}
 use Rattle.dwarf_meaning.specs.Stores.{Setup, address_bits, Store, Last, Nothing, Plain, Pieced, Pushed, Called, Located, push_value, push_caller, Next}
-use Rattle.dwarf_meaning.specs.Run.{Position, End, CompleteEnd, RequestEnd, FaultEnd, Course, only_end, add_to_path, append_course, Continues, return_to_caller, run_callee, after_answer, await_answer, after_operation, read, can_count, counted, do_operation, turn_counted, piece_ended_by, turn_located, turn_by, turn, out_of_turns, run_for, enough, run}
+use Rattle.dwarf_meaning.specs.Run.{Position, End, CompleteEnd, RequestEnd, FaultEnd, Course, only_end, add_to_path, append_course, Continues, return_to_caller, run_callee, after_answer, await_answer, after_operation, read, can_count, counted, do_operation, turn_counted, counted_act, located_act, turn_by, turn, out_of_turns, run_for, enough, run}
 use Rattle.dwarf_meaning.specs.Meaning.{First}
 use Rattle.dwarf_laws.specs.Inlining.{in_force}
 use Rattle.dwarf_meaning.proofs.Turns.{run_turn}
 use Rattle.dwarf_laws.proofs.Pairs.{if_pair}
 use Rattle.dwarf_laws.proofs.Jumps.{AllJumps, every_jump, act_jumps}
-use Rattle.dwarf_laws.proofs.Calm.{free, calm, ahead, NextBoth, goes_both, request_both, fails_both, Lands, done_both, holds_both}
+use Rattle.dwarf_laws.proofs.Calm.{free, calm, ahead, NextBoth, goes_both, request_both, fails_both, Lands, done_both, located_both}
 
 -- the settings that will be in force once the inputs are taken
 abbrev pub Fits : First → List Input → (object : Option ℕ) (maximum : ℕ) → Type 0
@@ -203,26 +203,26 @@ module _ (encoding : Encoding) (bits : ℕ) (target : First) (n : ℕ) where
 
     does_mirror : (p p' : ℕ) (t : Store) (inputs : List Input) (r : Result (Operation × List ℕ) Fault) → Al p p'
         → Fits target inputs t.object_address t.maximum → read S T p ≡ r
-        → Here (do_operation go S T d (ahead n t) inputs r) (do_operation (run S) S T' d' (calm t) inputs (read S T' p'))
+        → Here (do_operation go S T d (ahead n t) inputs (counted_act S t) r) (do_operation (run S) S T' d' (calm t) inputs (counted_act S t) (read S T' p'))
     does_mirror p p' t inputs (Err fault) a f e = tt
     does_mirror p p' t inputs (Ok x) a f e =
         let too = al.reads p p' a x.0 x.1 e in
-        subst (λ (r : Result (Operation × List ℕ) Fault). Here (do_operation go S T d (ahead n t) inputs (Ok x))
-        (do_operation (run S) S T' d' (calm t) inputs r)) (sym too.same)
+        subst (λ (r : Result (Operation × List ℕ) Fault). Here (do_operation go S T d (ahead n t) inputs (counted_act S t) (Ok x))
+        (do_operation (run S) S T' d' (calm t) inputs (counted_act S t) r)) (sym too.same)
         (after_operation_mirror _ _ inputs t.object_address t.maximum _ _ too.next f
         (done_both encoding bits n Al _ _ _ _ (act (address_bits S) t.object_address x.0 t.values) t too.next
         (act_jumps _ (address_bits S) t.object_address x.0 t.values too.jumps)))
 
     held_mirror : (p p' : ℕ) (location : Location) (t : Store) (inputs : List Input)
         (r : Result (Operation × List ℕ) Fault) → Al p p' → Fits target inputs t.object_address t.maximum → read S T p ≡ r
-        → Here (turn_located go S T d location (ahead n t) inputs r) (turn_located (run S) S T' d' location (calm t) inputs (read S T' p'))
+        → Here (do_operation go S T d (ahead n t) inputs (located_act location t) r) (do_operation (run S) S T' d' (calm t) inputs (located_act location t) (read S T' p'))
     held_mirror p p' location t inputs (Err fault) a f e = tt
     held_mirror p p' location t inputs (Ok x) a f e =
         let too = al.reads p p' a x.0 x.1 e in
-        subst (λ (r : Result (Operation × List ℕ) Fault). Here (turn_located go S T d location (ahead n t) inputs (Ok x))
-        (turn_located (run S) S T' d' location (calm t) inputs r)) (sym too.same)
+        subst (λ (r : Result (Operation × List ℕ) Fault). Here (do_operation go S T d (ahead n t) inputs (located_act location t) (Ok x))
+        (do_operation (run S) S T' d' (calm t) inputs (located_act location t) r)) (sym too.same)
         (after_operation_mirror _ _ inputs t.object_address t.maximum _ _ too.next f
-        (holds_both encoding bits n Al (length T.bytes) (length T'.bytes) _ _ location t (piece_ended_by x.0) too.next))
+        (located_both encoding bits n Al (length T.bytes) (length T'.bytes) _ _ location t x.0 too.next))
 
     counted_ahead : (t : Store) → ahead n (record t { count = t.count + 1 }) ≡ counted (ahead n t)
     counted_ahead t =
@@ -236,14 +236,14 @@ module _ (encoding : Encoding) (bits : ℕ) (target : First) (n : ℕ) where
     counts_mirror p p' t inputs a f =
         cond_both (can_count (ahead n t)) _ _ (λ (c : Course). Here c (turn_counted (run S) S T' p' d' (calm t) inputs))
         (λ can.
-        let first = add_to_path (at T p) (do_operation go S T d (counted (ahead n t)) inputs (read S T p)) in
-        let inner : Here first (do_operation (run S) S T' d' (counted (calm t)) inputs (read S T' p')) = subst
-        (λ (s : Store). Here (do_operation go S T d s inputs (read S T p))
-        (do_operation (run S) S T' d' (counted (calm t)) inputs (read S T' p'))) (counted_ahead t)
+        let first = add_to_path (at T p) (do_operation go S T d (counted (ahead n t)) inputs (counted_act S t) (read S T p)) in
+        let inner : Here first (do_operation (run S) S T' d' (counted (calm t)) inputs (counted_act S t) (read S T' p')) = subst
+        (λ (s : Store). Here (do_operation go S T d s inputs (counted_act S t) (read S T p))
+        (do_operation (run S) S T' d' (counted (calm t)) inputs (counted_act S t) (read S T' p'))) (counted_ahead t)
         (does_mirror p p' (record t { count = t.count + 1 }) inputs (read S T p) a f refl) in
         subst (λ (c : Course). Here first c) (sym
         (cond-true (can_count (calm t))
-        (add_to_path (at T' p') (do_operation (run S) S T' d' (counted (calm t)) inputs (read S T' p')))
+        (add_to_path (at T' p') (do_operation (run S) S T' d' (counted (calm t)) inputs (counted_act S t) (read S T' p')))
         (only_end (FaultEnd TooManyIterations)) (can_too t can))) inner)
         (λ e. tt)
 

@@ -1,5 +1,5 @@
 -- Before a call both runs are the same.
-use Rattle.std.proofs.Common.{ℕ, ◌+◌, ◌-◌, ◌≡◌, ◌<◌, Bool, true, false, List, [], ◌∷◌, ◌++◌, length, Option, Some, None, Result, Ok, refl, sym, ap, subst, ◌∙◌, ◌==◌, arith, append_assoc, length-append, cond}
+use Rattle.std.proofs.Common.{ℕ, ◌+◌, ◌-◌, ◌≡◌, ◌<◌, Bool, true, false, List, [], ◌∷◌, ◌++◌, length, Option, Result, Ok, refl, sym, ap, subst, ◌∙◌, ◌==◌, arith, append_assoc, length-append, cond}
 use Rattle.std.proofs.lemmas.Bool.{cond-false}
 use Rattle.std.proofs.lemmas.Bool.Decides.{nat_tests}
 use Rattle.dwarf_base.specs.declared.common.Encoding.{Encoding}
@@ -8,18 +8,17 @@ use Rattle.dwarf_base.specs.declared.errors.Error.TheVariants.{TooManyIterations
 use Rattle.dwarf_base.specs.Reads.{Text}
 use Rattle.dwarf_meaning.specs.Operations as operation
 use Rattle.dwarf_meaning.specs.Operations.{Operation, DieReference}
-use Rattle.dwarf_meaning.specs.Locations.{Location}
 use Rattle.dwarf_meaning.specs.Spelling.{Spells}
 use Rattle.dwarf_meaning.specs.Requests.{Request, RequiresAtLocation, OnAnswer, Input}
 use Rattle.dwarf_meaning.specs.Kinds.{kind_of_request, kind_of_answer, is_same_kind}
 use Rattle.dwarf_meaning.specs.Acts.{Act, Pushes, Branches, Locates, EndsPiece, RequestAct, FaultAct, act, Use, PushesAnswer, Calls, FaultUse, use_of}
 use Rattle.dwarf_meaning.specs.Stores.{Setup, address_bits, Store, Last, Nothing, Plain, Pieced, Pushed, Called, Located, push_value, push_piece, push_caller, Next, Goes, RequestNext, FaultNext, goes, done}
-use Rattle.dwarf_meaning.specs.Run.{Position, End, CompleteEnd, RequestEnd, FaultEnd, Course, only_end, append_course, return_to_caller, run_callee, after_answer, await_answer, after_operation, read, can_count, do_operation, turn_counted, piece_ended_by, end_located, turn_located, turn_by, run}
+use Rattle.dwarf_meaning.specs.Run.{Position, End, CompleteEnd, RequestEnd, FaultEnd, Course, only_end, append_course, return_to_caller, run_callee, after_answer, await_answer, after_operation, read, can_count, do_operation, turn_counted, counted_act, located_act, turn_by, run}
 use Rattle.dwarf_meaning.specs.Meaning.{First}
 use Rattle.dwarf_meaning.specs.RunLaws.{IsSettled, end_before, course_before, Open, alone, calling}
 use Rattle.dwarf_meaning.proofs.Turns.{run_turn}
 use Rattle.dwarf_meaning.proofs.Inputs.{extends_run}
-use Rattle.dwarf_laws.proofs.Jumps.{Jumping, pushes, branches, locates, ends, asks, refuses}
+use Rattle.dwarf_laws.proofs.Jumps.{Jumping, pushes, branches, locates, ends, asks, refuses, located_jumps}
 use Rattle.dwarf_laws.proofs.Calm.{free, calm, ahead, piled, piles_calm}
 use Rattle.dwarf_laws.proofs.Mirror.{Fits, GoesOn, Rests, MirrorsAt, mirror_same}
 
@@ -79,17 +78,6 @@ module _ (encoding : Encoding) (bits : ℕ) where
       goes_calm (record t { values = rest; last = Pieced; pieces = t.pieces ++ piece ∷ [] }) refl refl
   done_calm place len (RequestAct rest request on_answer) t asks = request_calm (record t { values = rest }) refl refl
   done_calm place len (FaultAct fault) t refuses = fails_calm
-
-  holds_calm : (location : Location) (place : ℕ) (t : Store) (o : Option (ℕ × Option ℕ))
-      → NextCalm t.object_address t.maximum place (end_located S location place (calm t) o)
-  unfolding push_piece
-  holds_calm location place t (Some piece) =
-      goes_calm (record t {
-        last = Pieced;
-        pieces = t.pieces ++ record
-            { size_in_bits = Some piece.0; bit_offset = piece.1; location = location } ∷ [];
-      }) refl refl
-  holds_calm location place t None = fails_calm
 
   module _ (A K B : List ℕ) (big : Bool) (offset : DieReference)
       (spelled : Spells encoding bits big K (operation.Call offset)) (target : First) where
@@ -261,21 +249,25 @@ module _ (encoding : Encoding) (bits : ℕ) where
           (reads : (X : List ℕ) → read S (text X) q ≡ Ok (op, rest ++ X)) (inside : q < length A)
           (place : (X : List ℕ) → length (A ++ X) - length (rest ++ X) ≡ p)
           (straight : (bits' : ℕ) (object : Option ℕ) (values : List _) → Jumping (λ z. ⊥) (act bits' object op values)) where
-        does_is : (X : List ℕ) (s : Store) (inputs : List Input)
-            → do_operation (run S) S (text X) 0 s inputs (read S (text X) q) ≡ after_operation (run S) S (text X) 0 p inputs
-            (done S p 0 (act (address_bits S) s.object_address op s.values) s)
-        does_is X s inputs =
-            let a = act (address_bits S) s.object_address op s.values in
-            ap (do_operation (run S) S (text X) 0 s inputs) (reads X)
-            ∙ (ap (λ (k : ℕ). after_operation (run S) S (text X) 0 k inputs (done S k (length (A ++ X)) a s)) (place X)
-            ∙ ap (after_operation (run S) S (text X) 0 p inputs) (same_len S p (length (A ++ X)) 0 a s (straight _ _ _)))
+        module _ (act_at : ℕ → Operation → Act) (jumps : (k : ℕ) → Jumping (λ z. ⊥) (act_at k op)) where
+          does_is : (X : List ℕ) (s : Store) (inputs : List Input)
+              → do_operation (run S) S (text X) 0 s inputs act_at (read S (text X) q) ≡ after_operation (run S) S (text X) 0 p inputs
+              (done S p 0 (act_at p op) s)
+          does_is X s inputs =
+              ap (do_operation (run S) S (text X) 0 s inputs act_at) (reads X)
+              ∙ (ap (λ (k : ℕ). after_operation (run S) S (text X) 0 k inputs (done S k (length (A ++ X)) (act_at k op) s)) (place X)
+              ∙ ap (after_operation (run S) S (text X) 0 p inputs) (same_len S p (length (A ++ X)) 0 (act_at p op) s (jumps p)))
 
-        held_is : (X : List ℕ) (location : Location) (s : Store) (inputs : List Input)
-            → turn_located (run S) S (text X) 0 location s inputs (read S (text X) q) ≡ after_operation (run S) S (text X) 0 p inputs
-            (end_located S location p s (piece_ended_by op))
-        held_is X location s inputs =
-            ap (turn_located (run S) S (text X) 0 location s inputs) (reads X)
-            ∙ ap (λ (k : ℕ). after_operation (run S) S (text X) 0 k inputs (end_located S location k s (piece_ended_by op))) (place X)
+          does_leads : (u : Store) (inputs : List Input) → Fits target inputs u.object_address u.maximum
+              → Leads (do_operation (run S) S outer 0 (calm u) inputs act_at (read S outer q))
+              (λ X more. do_operation (run S) S (text X) 0 (calm u) (inputs ++ more) act_at (read S (text X) q))
+          does_leads u inputs f =
+              leads_as (after_operation (run S) S outer 0 p inputs (done S p 0 (act_at p op) (calm u)))
+              (do_operation (run S) S outer 0 (calm u) inputs act_at (read S outer q))
+              (λ X more. after_operation (run S) S (text X) 0 p (inputs ++ more) (done S p 0 (act_at p op) (calm u)))
+              (λ X more. do_operation (run S) S (text X) 0 (calm u) (inputs ++ more) act_at (read S (text X) q))
+              (does_is (K ++ B) (calm u) inputs) (λ X more. does_is X (calm u) (inputs ++ more))
+              (after_operation_leads inputs u.object_address u.maximum _ f (done_calm p 0 (act_at p op) u (jumps p)))
 
         counts_leads : (t : Store) (inputs : List Input) → Fits target inputs t.object_address t.maximum
             → Leads (turn_counted (run S) S outer q 0 (calm t) inputs)
@@ -283,31 +275,14 @@ module _ (encoding : Encoding) (bits : ℕ) where
         counts_leads t inputs f =
             let u : Store = record t { count = t.count + 1 } in
             leads_if (can_count (calm t)) _ _ _ _
-            (leads_as (after_operation (run S) S outer 0 p inputs
-            (done S p 0 (act (address_bits S) u.object_address op u.values) (calm u)))
-            (do_operation (run S) S outer 0 (calm u) inputs (read S outer q))
-            (λ X more. after_operation (run S) S (text X) 0 p (inputs ++ more)
-            (done S p 0 (act (address_bits S) u.object_address op u.values) (calm u)))
-            (λ X more. do_operation (run S) S (text X) 0 (calm u) (inputs ++ more) (read S (text X) q))
-            (does_is (K ++ B) (calm u) inputs) (λ X more. does_is X (calm u) (inputs ++ more))
-            (after_operation_leads inputs u.object_address u.maximum _ f (done_calm p 0 _ u (straight _ _ _))))
+            (does_leads (counted_act S t) (λ k. straight _ _ _) u inputs f)
             (leads_failed TooManyIterations (λ X more. only_end (FaultEnd TooManyIterations)))
-
-        held_leads : (location : Location) (t : Store) (inputs : List Input) → Fits target inputs t.object_address t.maximum
-            → Leads (turn_located (run S) S outer 0 location (calm t) inputs (read S outer q))
-            (λ X more. turn_located (run S) S (text X) 0 location (calm t) (inputs ++ more) (read S (text X) q))
-        held_leads location t inputs f =
-            leads_as (after_operation (run S) S outer 0 p inputs (end_located S location p (calm t) (piece_ended_by op)))
-            (turn_located (run S) S outer 0 location (calm t) inputs (read S outer q))
-            (λ X more. after_operation (run S) S (text X) 0 p (inputs ++ more) (end_located S location p (calm t) (piece_ended_by op)))
-            (λ X more. turn_located (run S) S (text X) 0 location (calm t) (inputs ++ more) (read S (text X) q))
-            (held_is (K ++ B) location (calm t) inputs) (λ X more. held_is X location (calm t) (inputs ++ more))
-            (after_operation_leads inputs t.object_address t.maximum _ f (holds_calm location p t (piece_ended_by op)))
 
         by_leads : (last : Last) (t : Store) (inputs : List Input) → Fits target inputs t.object_address t.maximum
             → Leads (turn_by (run S) S outer q 0 (calm t) inputs last)
             (λ X more. turn_by (run S) S (text X) q 0 (calm t) (inputs ++ more) last)
-        by_leads (Located location) t inputs f = held_leads location t inputs f
+        by_leads (Located location) t inputs f =
+            does_leads (located_act location t) (λ k. located_jumps (λ z. ⊥) location t k op) t inputs f
         by_leads Nothing t inputs f = counts_leads t inputs f
         by_leads Plain t inputs f = counts_leads t inputs f
         by_leads Pieced t inputs f = counts_leads t inputs f

@@ -5,17 +5,16 @@ use Rattle.dwarf_base.specs.declared.errors.Error.TheVariants.{StackFull}
 use Rattle.dwarf_base.specs.Reads.{Text}
 use Rattle.dwarf_value.specs.Laws.{IsWidth}
 use Rattle.dwarf_meaning.specs.Operations.{Operation}
-use Rattle.dwarf_meaning.specs.Locations.{Location}
 use Rattle.dwarf_meaning.specs.Requests.{Request, OnAnswer, Input}
 use Rattle.dwarf_meaning.specs.Kinds.{kind_of_request, is_same_kind}
-use Rattle.dwarf_meaning.specs.Acts.{Use}
+use Rattle.dwarf_meaning.specs.Acts.{Act, Use}
 use Rattle.dwarf_meaning.specs.Stores.{Setup, address_bits, Store, Last, Next}
-use Rattle.dwarf_meaning.specs.Run.{Position, End, CompleteEnd, RequestEnd, FaultEnd, Course, only_end, add_to_path, add_request, append_course, Continues, return_to_caller, after_push, enter_callee, run_callee, after_answer, with_input, await_answer, after_operation, read, can_count, counted, do_operation, turn_counted, piece_ended_by, turn_located, turn_by, turn, out_of_turns, run_for, enough, run}
+use Rattle.dwarf_meaning.specs.Run.{Position, End, CompleteEnd, RequestEnd, FaultEnd, Course, only_end, add_to_path, add_request, append_course, Continues, return_to_caller, after_push, enter_callee, run_callee, after_answer, with_input, await_answer, after_operation, read, can_count, counted, do_operation, turn_counted, counted_act, turn_by, turn, out_of_turns, run_for, enough, run}
 use Rattle.dwarf_meaning.specs.Refusals.{Limits, taken}
-use Rattle.dwarf_laws.specs.Agreement.{Pairwise, none, more, AgreeingInputs, AgreeingLocations}
+use Rattle.dwarf_laws.specs.Agreement.{Pairwise, none, more, AgreeingInputs}
 use Rattle.dwarf_laws.proofs.Pairs.{if_pair}
-use Rattle.dwarf_laws.proofs.Actions.{AgreeingUses, gives, calls, denies, act_both, same_kinds, use_both}
-use Rattle.dwarf_laws.proofs.Holdings.{AgreeingLasts, both_nothing, both_plain, both_pieced, both_pushed, both_called, both_located, AgreeingStores, AgreeingResults, stores, refusals, result_first, result_second, AgreeingNexts, goes_on, request_next, fails, next_first, next_second, map_free, changed, push_value_both, push_frame_both, done_both, holds_both}
+use Rattle.dwarf_laws.proofs.Actions.{AgreeingActs, located_both, AgreeingUses, gives, calls, denies, act_both, same_kinds, use_both}
+use Rattle.dwarf_laws.proofs.Holdings.{AgreeingLasts, both_nothing, both_plain, both_pieced, both_pushed, both_called, both_located, AgreeingStores, AgreeingResults, stores, refusals, result_first, result_second, AgreeingNexts, goes_on, request_next, fails, next_first, next_second, map_free, changed, push_value_both, push_frame_both, done_both}
 
 pub data AgreeingEnds (Free : Type 0) (w : ℕ) : End → End → Type 0 where
   finish_both : {s t : Store} {inputs inputs' : List Input} → AgreeingStores Free w s t
@@ -158,14 +157,14 @@ module _ (Free : Type 0) (setup : Setup) (limits : Limits) (premise : Free ⊎ (
     after_operation_both text depth place inputs inputs' n n' i (next_first free) = course_first free refl
     after_operation_both text depth place inputs inputs' n n' i (next_second free) = course_second free refl
 
-    does_both : (text : Text) (depth : ℕ) (s t : Store) (inputs inputs' : List Input)
-        (r : Result (Operation × List ℕ) Fault) → AgreeingStores Free w s t → Pairwise (AgreeingInputs w) inputs inputs'
-        → AgreeingCourses Free w (do_operation go setup text depth s inputs r) (do_operation go' other text depth t inputs' r)
-    does_both text depth s t inputs inputs' (Ok x) h i =
+    does_both : (text : Text) (depth : ℕ) (s t : Store) (inputs inputs' : List Input) (act_at act_at' : ℕ → Operation → Act)
+        (r : Result (Operation × List ℕ) Fault) → ((place : ℕ) (op : Operation) → AgreeingActs w (act_at place op) (act_at' place op))
+        → AgreeingStores Free w s t → Pairwise (AgreeingInputs w) inputs inputs'
+        → AgreeingCourses Free w (do_operation go setup text depth s inputs act_at r) (do_operation go' other text depth t inputs' act_at' r)
+    does_both text depth s t inputs inputs' act_at act_at' (Ok x) acts h i =
         after_operation_both text depth _ inputs inputs' _ _ i
-        (done_both Free setup limits premise _ (length text.bytes) _ _ s t
-        (act_both w s.object_address t.object_address x.0 s.values t.values h.object_address h.values) h)
-    does_both text depth s t inputs inputs' (Err fault) h i = ended_both Free w _ _ fail_both
+        (done_both Free setup limits premise _ (length text.bytes) _ _ s t (acts _ x.0) h)
+    does_both text depth s t inputs inputs' act_at act_at' (Err fault) acts h i = ended_both Free w _ _ fail_both
 
     counted_both : (s t : Store) → AgreeingStores Free w s t → AgreeingStores Free w (counted s) (counted t)
     counted_both s t h =
@@ -189,24 +188,16 @@ module _ (Free : Type 0) (setup : Setup) (limits : Limits) (premise : Free ⊎ (
     counts_both text place depth s t inputs inputs' h i =
         if_pair (AgreeingCourses Free w) (can_count s) (can_count t) _ _ _ _ (same_can s t h)
         (passing_both Free w (record { text = text; place = place }) _ _
-        (does_both text depth (counted s) (counted t) inputs inputs' (read setup text place) (counted_both s t h) i))
+        (does_both text depth (counted s) (counted t) inputs inputs' (counted_act setup s) (counted_act other t) (read setup text place)
+        (λ after op. act_both w s.object_address t.object_address op s.values t.values h.object_address h.values)
+        (counted_both s t h) i))
         (ended_both Free w _ _ fail_both)
-
-    held_both : (text : Text) (depth : ℕ) (location location' : Location) (s t : Store) (inputs inputs' : List Input)
-        (r : Result (Operation × List ℕ) Fault) → AgreeingLocations w location location' → AgreeingStores Free w s t
-        → Pairwise (AgreeingInputs w) inputs inputs'
-        → AgreeingCourses Free w (turn_located go setup text depth location s inputs r)
-        (turn_located go' other text depth location' t inputs' r)
-    held_both text depth location location' s t inputs inputs' (Ok x) l h i =
-        after_operation_both text depth _ inputs inputs' _ _ i
-        (holds_both Free setup limits premise location location' _ s t (piece_ended_by x.0) l h)
-    held_both text depth location location' s t inputs inputs' (Err fault) l h i = ended_both Free w _ _ fail_both
 
     by_both : (text : Text) (place depth : ℕ) (s t : Store) (inputs inputs' : List Input) (l m : Last)
         → AgreeingLasts w l m → AgreeingStores Free w s t → Pairwise (AgreeingInputs w) inputs inputs'
         → AgreeingCourses Free w (turn_by go setup text place depth s inputs l) (turn_by go' other text place depth t inputs' m)
     by_both text place depth s t inputs inputs' l m (both_located k) h i =
-        held_both text depth _ _ s t inputs inputs' (read setup text place) k h i
+        does_both text depth s t inputs inputs' _ _ (read setup text place) (located_both w s t k h.values) h i
     by_both text place depth s t inputs inputs' l m both_nothing h i = counts_both text place depth s t inputs inputs' h i
     by_both text place depth s t inputs inputs' l m both_plain h i = counts_both text place depth s t inputs inputs' h i
     by_both text place depth s t inputs inputs' l m both_pieced h i = counts_both text place depth s t inputs inputs' h i

@@ -11,7 +11,7 @@ use Rattle.dwarf_meaning.specs.Requests.{Request, OnAnswer, Input}
 use Rattle.dwarf_meaning.specs.Kinds.{kind_of_request, kind_of_answer, is_same_kind}
 use Rattle.dwarf_meaning.specs.Acts.{on_top, Act, Pushes, Branches, Locates, EndsPiece, RequestAct, FaultAct, Use, PushesAnswer, Calls, FaultUse, use_of}
 use Rattle.dwarf_meaning.specs.Stores.{Setup, address_bits, Store, Last, Nothing, Plain, Pieced, Pushed, Called, Located, push_value, push_piece, push_caller, push_values, Next, Goes, RequestNext, FaultNext, goes, done}
-use Rattle.dwarf_meaning.specs.Run.{Position, End, CompleteEnd, RequestEnd, FaultEnd, Course, only_end, add_to_path, add_request, append_course, Continues, return_to_caller, after_push, enter_callee, run_callee, after_answer, with_input, await_answer, after_operation, read, can_count, counted, do_operation, turn_counted, piece_ended_by, end_located, turn_located, turn_by, turn, out_of_turns, run_for, enough}
+use Rattle.dwarf_meaning.specs.Run.{Position, End, CompleteEnd, RequestEnd, FaultEnd, Course, only_end, add_to_path, add_request, append_course, Continues, return_to_caller, after_push, enter_callee, run_callee, after_answer, with_input, await_answer, after_operation, read, can_count, counted, do_operation, turn_counted, counted_act, located_act, turn_by, turn, out_of_turns, run_for, enough}
 use Rattle.dwarf_meaning.specs.Meaning.{Outcome, FaultOutcome, completion_of, finish_value, finish_by, First, fresh, with_initial, outcome_of_end, meaning, has_pieces, CompleteOutcome, whole}
 use Rattle.dwarf_meaning.specs.Refusals.{Refusal, Never}
 use Rattle.dwarf_laws.proofs.Pairs.{if_pair}
@@ -113,13 +113,6 @@ module _ (encoding : Encoding) (bits : ℕ) where
   done_calm place len (RequestAct rest request on_answer) s = request_next
   done_calm place len (FaultAct fault) s = fails
 
-  holds_calm : (location : Location) (place : ℕ) (s : Store) (o : Option (ℕ × Option ℕ))
-      → CalmNexts (end_located S location place s o) (end_located S location place (calm s) o)
-  holds_calm location place s (Some piece) =
-      goes_calm place _ _ (piece_calm (record
-      { size_in_bits = Some piece.0; bit_offset = piece.1; location = location }) (record s { last = Pieced }))
-  holds_calm location place s None = fails
-
   module _ (go go' : Continues) (H : GoCalm go go') where
     back_ends : (position : Position) (depth : ℕ) (c c' : Course) (e e' : End) → c.path ≡ c'.path → c.requests ≡ c'.requests
         → CalmEnds e e'
@@ -175,27 +168,22 @@ module _ (encoding : Encoding) (bits : ℕ) where
     after_operation_calm text depth place inputs n n' fails = ended_calm _ _ fail_calm
     after_operation_calm text depth place inputs n n' no_next = full refl
 
-    does_calm : (text : Text) (depth : ℕ) (s : Store) (inputs : List Input) (r : Result (Operation × List ℕ) Fault)
-        → Calms (do_operation go S text depth s inputs r) (do_operation go' S text depth (calm s) inputs r)
-    does_calm text depth s inputs (Ok x) = after_operation_calm text depth _ inputs _ _ (done_calm _ (length text.bytes) _ s)
-    does_calm text depth s inputs (Err fault) = ended_calm _ _ fail_calm
+    does_calm : (text : Text) (depth : ℕ) (s : Store) (inputs : List Input) (act_at : ℕ → Operation → Act)
+        (r : Result (Operation × List ℕ) Fault)
+        → Calms (do_operation go S text depth s inputs act_at r) (do_operation go' S text depth (calm s) inputs act_at r)
+    does_calm text depth s inputs act_at (Ok x) = after_operation_calm text depth _ inputs _ _ (done_calm _ (length text.bytes) _ s)
+    does_calm text depth s inputs act_at (Err fault) = ended_calm _ _ fail_calm
 
     counts_calm : (text : Text) (place depth : ℕ) (s : Store) (inputs : List Input)
         → Calms (turn_counted go S text place depth s inputs) (turn_counted go' S text place depth (calm s) inputs)
     counts_calm text place depth s inputs =
         if_pair Calms (can_count s) (can_count s) _ _ _ _ refl
         (passing_calm (record { text = text; place = place }) _ _
-        (does_calm text depth (counted s) inputs (read S text place))) (ended_calm _ _ fail_calm)
-
-    held_calm : (text : Text) (depth : ℕ) (location : Location) (s : Store) (inputs : List Input)
-        (r : Result (Operation × List ℕ) Fault)
-        → Calms (turn_located go S text depth location s inputs r) (turn_located go' S text depth location (calm s) inputs r)
-    held_calm text depth location s inputs (Ok x) = after_operation_calm text depth _ inputs _ _ (holds_calm location _ s (piece_ended_by x.0))
-    held_calm text depth location s inputs (Err fault) = ended_calm _ _ fail_calm
+        (does_calm text depth (counted s) inputs (counted_act S s) (read S text place))) (ended_calm _ _ fail_calm)
 
     by_calm : (text : Text) (place depth : ℕ) (s : Store) (inputs : List Input) (l : Last)
         → Calms (turn_by go S text place depth s inputs l) (turn_by go' S text place depth (calm s) inputs l)
-    by_calm text place depth s inputs (Located location) = held_calm text depth location s inputs (read S text place)
+    by_calm text place depth s inputs (Located location) = does_calm text depth s inputs (located_act location s) (read S text place)
     by_calm text place depth s inputs Nothing = counts_calm text place depth s inputs
     by_calm text place depth s inputs Plain = counts_calm text place depth s inputs
     by_calm text place depth s inputs Pieced = counts_calm text place depth s inputs

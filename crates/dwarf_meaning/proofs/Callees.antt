@@ -5,12 +5,11 @@ use Rattle.dwarf_base.specs.Faults.{Fault}
 use Rattle.dwarf_base.specs.Reads.{Text}
 use Rattle.dwarf_value.specs.declared.types.Value.{Value}
 use Rattle.dwarf_meaning.specs.Operations.{Operation}
-use Rattle.dwarf_meaning.specs.Locations.{Location}
 use Rattle.dwarf_meaning.specs.Requests.{Request, OnAnswer, LocationAnswer, Input}
 use Rattle.dwarf_meaning.specs.Kinds.{kind_of_request, kind_of_answer, is_same_kind}
-use Rattle.dwarf_meaning.specs.Acts.{Use, PushesAnswer, Calls, FaultUse, use_of}
+use Rattle.dwarf_meaning.specs.Acts.{Act, Use, PushesAnswer, Calls, FaultUse, use_of}
 use Rattle.dwarf_meaning.specs.Stores.{Setup, address_bits, Store, Last, Nothing, Plain, Pieced, Pushed, Called, Located, push_value, push_caller, Next, Goes, RequestNext, FaultNext}
-use Rattle.dwarf_meaning.specs.Run.{Position, End, CompleteEnd, RequestEnd, FaultEnd, Course, Continues, return_to_caller, after_push, enter_callee, run_callee, after_answer, with_input, await_answer, after_operation, read, can_count, counted, do_operation, turn_counted, turn_located, turn_by, turn, out_of_turns, run_for, enough, run}
+use Rattle.dwarf_meaning.specs.Run.{Position, End, CompleteEnd, RequestEnd, FaultEnd, Course, Continues, return_to_caller, after_push, enter_callee, run_callee, after_answer, with_input, await_answer, after_operation, read, can_count, counted, do_operation, turn_counted, counted_act, located_act, turn_by, turn, out_of_turns, run_for, enough, run}
 use Rattle.dwarf_meaning.specs.Meaning.{completion_of, has_pieces, finish_value, finish_by, First, fresh, with_initial, outcome_of_end, course_of, meaning}
 use Rattle.dwarf_meaning.specs.RunLaws.{IsAnswered, IsCallee, Open, alone, calling, EndOpen, OutcomeOpen}
 use Rattle.dwarf_meaning.specs.Refusals.{Refusal}
@@ -77,20 +76,16 @@ module _ (all : List Input) where
     opens_led setup text depth place inputs (RequestNext request on_answer s) k = opens_asked setup (record { text = text; place = place }) depth request on_answer s inputs k
     opens_led setup text depth place inputs (FaultNext fault) k = tt
 
-    opens_does : (setup : Setup) (text : Text) (depth : ℕ) (s : Store) (inputs : List Input) (r : Result (Operation × List ℕ) Fault) → Known all inputs → Ends text (do_operation go setup text depth s inputs r).end
-    opens_does setup text depth s inputs (Ok x) k = opens_led setup text depth _ inputs _ k
-    opens_does setup text depth s inputs (Err fault) k = tt
+    opens_does : (setup : Setup) (text : Text) (depth : ℕ) (s : Store) (inputs : List Input) (act_at : ℕ → Operation → Act) (r : Result (Operation × List ℕ) Fault) → Known all inputs → Ends text (do_operation go setup text depth s inputs act_at r).end
+    opens_does setup text depth s inputs act_at (Ok x) k = opens_led setup text depth _ inputs _ k
+    opens_does setup text depth s inputs act_at (Err fault) k = tt
 
     opens_counts : (setup : Setup) (text : Text) (place depth : ℕ) (s : Store) (inputs : List Input) → Known all inputs → Ends text (turn_counted go setup text place depth s inputs).end
     opens_counts setup text place depth s inputs k =
-        cond_both (can_count s) _ _ (λ (c : Course). Ends text c.end) (λ can. opens_does setup text depth (counted s) inputs (read setup text place) k) (λ e. tt)
-
-    opens_held : (setup : Setup) (text : Text) (depth : ℕ) (location : Location) (s : Store) (inputs : List Input) (r : Result (Operation × List ℕ) Fault) → Known all inputs → Ends text (turn_located go setup text depth location s inputs r).end
-    opens_held setup text depth location s inputs (Ok x) k = opens_led setup text depth _ inputs _ k
-    opens_held setup text depth location s inputs (Err fault) k = tt
+        cond_both (can_count s) _ _ (λ (c : Course). Ends text c.end) (λ can. opens_does setup text depth (counted s) inputs (counted_act setup s) (read setup text place) k) (λ e. tt)
 
     opens_by : (setup : Setup) (text : Text) (place depth : ℕ) (s : Store) (inputs : List Input) (last : Last) → Known all inputs → Ends text (turn_by go setup text place depth s inputs last).end
-    opens_by setup text place depth s inputs (Located location) k = opens_held setup text depth location s inputs (read setup text place) k
+    opens_by setup text place depth s inputs (Located location) k = opens_does setup text depth s inputs (located_act location s) (read setup text place) k
     opens_by setup text place depth s inputs Nothing k = opens_counts setup text place depth s inputs k
     opens_by setup text place depth s inputs Plain k = opens_counts setup text place depth s inputs k
     opens_by setup text place depth s inputs Pieced k = opens_counts setup text place depth s inputs k

@@ -6,14 +6,13 @@ use Rattle.dwarf_base.specs.Faults.{Fault}
 use Rattle.dwarf_base.specs.declared.errors.Error.TheVariants.{TooManyIterations}
 use Rattle.dwarf_base.specs.Reads.{Text}
 use Rattle.dwarf_meaning.specs.Operations.{Operation}
-use Rattle.dwarf_meaning.specs.Locations.{Location}
 use Rattle.dwarf_meaning.specs.Requests.{Request, OnAnswer, Input}
 use Rattle.dwarf_meaning.specs.Kinds.{kind_of_request, kind_of_answer, is_same_kind}
-use Rattle.dwarf_meaning.specs.Acts.{Use, PushesAnswer, Calls, FaultUse, use_of, act}
+use Rattle.dwarf_meaning.specs.Acts.{Act, Use, PushesAnswer, Calls, FaultUse, use_of}
 use Rattle.dwarf_meaning.specs.Stores.{Setup, address_bits, Store, Last, Nothing, Plain, Pieced, Pushed, Called, Located, Next, Goes, RequestNext, FaultNext}
-use Rattle.dwarf_meaning.specs.Run.{Position, End, CompleteEnd, RequestEnd, FaultEnd, Course, only_end, add_to_path, add_request, append_course, Continues, return_to_caller, after_push, enter_callee, run_callee, after_answer, with_input, await_answer, after_operation, read, most, can_count, counted, do_operation, turn_counted, piece_ended_by, turn_located, turn_by, turn, out_of_turns, run_for, enough, run}
+use Rattle.dwarf_meaning.specs.Run.{Position, End, CompleteEnd, RequestEnd, FaultEnd, Course, only_end, add_to_path, add_request, append_course, Continues, return_to_caller, after_push, enter_callee, run_callee, after_answer, with_input, await_answer, after_operation, read, most, can_count, counted, do_operation, turn_counted, counted_act, located_act, turn_by, turn, out_of_turns, run_for, enough, run}
 use Rattle.dwarf_meaning.specs.RunLaws.{AllMaxima, MaximaWithin, EndCounts, EndCountWithin, EndMaximumWithin, CountsWithin}
-use Rattle.dwarf_meaning.proofs.Counts.{OnStore, OnNext, Tally, tally_of, HasTally, OnPiece, tally-push_value, tally-push_caller, tally-done, both-holds}
+use Rattle.dwarf_meaning.proofs.Counts.{OnStore, OnNext, Tally, tally_of, HasTally, tally-push_value, tally-push_caller, tally-done}
 
 -- what is known of each maximum, and the bound on counts that it gives
 pub record Bounded (bound : ℕ) (Fits : ℕ → Type 0) : Type 0 where
@@ -110,29 +109,20 @@ module _ (bound : ℕ) (Fits : ℕ → Type 0) where
         a
     counted_led setup text depth place inputs n (FaultNext fault) h a = counted_failed n.count fault a.count
 
-    counted_does : (setup : Setup) (text : Text) (depth : ℕ) (s : Store) (inputs : List Input) (r : Result (Operation × List ℕ) Fault) → Allowed bound Fits (tally_of s) inputs → Counted bound Fits s.count (do_operation go setup text depth s inputs r)
-    counted_does setup text depth s inputs (Ok x) a = counted_led setup text depth _ inputs (tally_of s) _ (tally-done setup (length text.bytes - length x.1) (length text.bytes) (act (address_bits setup) s.object_address x.0 s.values) s) a
-    counted_does setup text depth s inputs (Err fault) a = counted_failed s.count fault a.count
+    counted_does : (setup : Setup) (text : Text) (depth : ℕ) (s : Store) (inputs : List Input) (act_at : ℕ → Operation → Act) (r : Result (Operation × List ℕ) Fault) → Allowed bound Fits (tally_of s) inputs → Counted bound Fits s.count (do_operation go setup text depth s inputs act_at r)
+    counted_does setup text depth s inputs act_at (Ok x) a = counted_led setup text depth _ inputs (tally_of s) _ (tally-done setup (length text.bytes - length x.1) (length text.bytes) (act_at (length text.bytes - length x.1) x.0) s) a
+    counted_does setup text depth s inputs act_at (Err fault) a = counted_failed s.count fault a.count
 
     counted_counts : (setup : Setup) (text : Text) (place depth : ℕ) (s : Store) (inputs : List Input) → Allowed bound Fits (tally_of s) inputs → Counted bound Fits s.count (turn_counted go setup text place depth s inputs)
     counted_counts setup text place depth s inputs a =
         cond_both (can_count s) _ _ (Counted bound Fits s.count)
         (λ can. let below = bounded.below s.maximum a.maximum s.count (grind (arith, nat_tests)) (grind (arith, nat_tests)) in
-        counted_passing s.count _ _ (counted_does setup text depth (counted s) inputs (read setup text place)
+        counted_passing s.count _ _ (counted_does setup text depth (counted s) inputs (counted_act setup s) (read setup text place)
         (record { count = omega (arith, below); maximum = a.maximum; others = a.others })))
         (λ e. counted_failed s.count TooManyIterations a.count)
 
-    piece_tally : (n : Tally) (next : Next) → OnPiece n next → OnNext (HasTally n) next
-    piece_tally n (Goes to s) h = h.tally
-    piece_tally n (RequestNext request on_answer s) h = absurd h
-    piece_tally n (FaultNext fault) h = tt
-
-    counted_held : (setup : Setup) (text : Text) (depth : ℕ) (location : Location) (s : Store) (inputs : List Input) (r : Result (Operation × List ℕ) Fault) → Allowed bound Fits (tally_of s) inputs → Counted bound Fits s.count (turn_located go setup text depth location s inputs r)
-    counted_held setup text depth location s inputs (Ok x) a = counted_led setup text depth _ inputs (tally_of s) _ (piece_tally (tally_of s) _ (both-holds setup location _ s (piece_ended_by x.0))) a
-    counted_held setup text depth location s inputs (Err fault) a = counted_failed s.count fault a.count
-
     counted_by : (setup : Setup) (text : Text) (place depth : ℕ) (s : Store) (inputs : List Input) (last : Last) → Allowed bound Fits (tally_of s) inputs → Counted bound Fits s.count (turn_by go setup text place depth s inputs last)
-    counted_by setup text place depth s inputs (Located location) a = counted_held setup text depth location s inputs (read setup text place) a
+    counted_by setup text place depth s inputs (Located location) a = counted_does setup text depth s inputs (located_act location s) (read setup text place) a
     counted_by setup text place depth s inputs Nothing a = counted_counts setup text place depth s inputs a
     counted_by setup text place depth s inputs Plain a = counted_counts setup text place depth s inputs a
     counted_by setup text place depth s inputs Pieced a = counted_counts setup text place depth s inputs a

@@ -1,12 +1,14 @@
 -- What an operation does, a piece after a location and an answer leave the count and the settings as they are.
-use Rattle.std.proofs.Common.{ℕ, ◌≡◌, nat_lt, List, [], ◌∷◌, ◌++◌, length, Option, Some, None, Result, Ok, Err, refl, ◌∙◌}
+use Rattle.std.proofs.Common.{ℕ, ◌≡◌, nat_lt, List, [], ◌∷◌, ◌++◌, length, Option, Result, Ok, Err, refl, ◌∙◌}
 use Rattle.std.proofs.lemmas.Bool.{cond_both}
 use Rattle.dwarf_base.specs.Faults.{Fault, ◌>>=◌}
 use Rattle.dwarf_value.specs.declared.types.Value.{Value}
-use Rattle.dwarf_meaning.specs.Locations.{Location, Piece}
+use Rattle.dwarf_meaning.specs.Operations as operation
+use Rattle.dwarf_meaning.specs.Operations.{Operation}
+use Rattle.dwarf_meaning.specs.Locations.{Location, Piece, sized}
 use Rattle.dwarf_meaning.specs.Acts.{Act, Pushes, Branches, Locates, EndsPiece, RequestAct, FaultAct}
 use Rattle.dwarf_meaning.specs.Stores.{Setup, Store, Last, Plain, Pieced, push_value, push_piece, push_caller, push_values, Next, Goes, RequestNext, FaultNext, goes, branch_target, done}
-use Rattle.dwarf_meaning.specs.Run.{end_located}
+use Rattle.dwarf_meaning.specs.Run.{located_act}
 use Rattle.dwarf_meaning.specs.Refusals.{Refusal, room}
 
 -- if a store comes of it, P holds of that
@@ -100,6 +102,6 @@ piece_goes : (m : Tally) (place : ℕ) (r : Result Store Fault) → OnStore (Kee
 piece_goes m place (Ok s) h = h
 piece_goes m place (Err fault) h = tt
 
-pub both-holds : (setup : Setup) (location : Location) (place : ℕ) (s : Store) (o : Option (ℕ × Option ℕ)) → OnPiece (tally_of s) (end_located setup location place s o)
-both-holds setup location place s (Some piece) = piece_goes (tally_of s) place _ (both-push_piece setup _ (record s { last = Pieced }))
-both-holds setup location place s None = tt
+pub both-located : (setup : Setup) (location : Location) (place len : ℕ) (s : Store) (op : Operation) → OnPiece (tally_of s) (done setup place len (located_act location s place op) s)
+both-located setup location place len s (operation.Piece size_in_bits bit_offset) = piece_goes (tally_of s) place _ (both-push_piece setup (sized size_in_bits bit_offset location) (record s { last = Pieced }))
+both-located setup location place len s op = tt

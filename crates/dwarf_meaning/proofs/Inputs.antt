@@ -3,12 +3,11 @@ use Rattle.std.proofs.Common.{ℕ, zero, suc, ◌≡◌, Bool, true, false, List
 use Rattle.dwarf_base.specs.Faults.{Fault}
 use Rattle.dwarf_base.specs.Reads.{Text}
 use Rattle.dwarf_meaning.specs.Operations.{Operation}
-use Rattle.dwarf_meaning.specs.Locations.{Location}
 use Rattle.dwarf_meaning.specs.Requests.{Request, OnAnswer, Input}
 use Rattle.dwarf_meaning.specs.Kinds.{kind_of_request, kind_of_answer, is_same_kind}
-use Rattle.dwarf_meaning.specs.Acts.{Use, PushesAnswer, Calls, FaultUse, use_of}
+use Rattle.dwarf_meaning.specs.Acts.{Act, Use, PushesAnswer, Calls, FaultUse, use_of}
 use Rattle.dwarf_meaning.specs.Stores.{Setup, address_bits, Store, Last, Nothing, Plain, Pieced, Pushed, Called, Located, push_value, push_caller, Next, Goes, RequestNext, FaultNext}
-use Rattle.dwarf_meaning.specs.Run.{Position, End, CompleteEnd, RequestEnd, FaultEnd, Course, add_to_path, add_request, append_course, Continues, return_to_caller, after_push, enter_callee, run_callee, after_answer, with_input, await_answer, after_operation, read, can_count, counted, do_operation, turn_counted, turn_located, turn_by, turn, out_of_turns, run_for, enough, run}
+use Rattle.dwarf_meaning.specs.Run.{Position, End, CompleteEnd, RequestEnd, FaultEnd, Course, add_to_path, add_request, append_course, Continues, return_to_caller, after_push, enter_callee, run_callee, after_answer, with_input, await_answer, after_operation, read, can_count, counted, do_operation, turn_counted, counted_act, located_act, turn_by, turn, out_of_turns, run_for, enough, run}
 use Rattle.dwarf_meaning.specs.Meaning.{First, fresh, with_initial, outcome_of_end, course_of, meaning}
 use Rattle.dwarf_meaning.specs.RunLaws.{IsSettled, end_before, course_before, IsOver}
 use Rattle.dwarf_meaning.specs.Refusals.{Refusal}
@@ -70,23 +69,19 @@ module _ (more : List Input) (go : Continues) (extends : Extensible more go) whe
       ap (add_request request) (extends_asked setup (record { text = text; place = place }) depth request on_answer s inputs settled)
   extends_led setup text depth place inputs (FaultNext fault) settled = refl
 
-  extends_does : (setup : Setup) (text : Text) (depth : ℕ) (s : Store) (inputs : List Input) (r : Result (Operation × List ℕ) Fault) → Extends more (do_operation go setup text depth s inputs r) (do_operation go setup text depth s (inputs ++ more) r)
-  extends_does setup text depth s inputs (Ok x) = extends_led setup text depth _ inputs _
-  extends_does setup text depth s inputs (Err fault) = λ settled. refl
+  extends_does : (setup : Setup) (text : Text) (depth : ℕ) (s : Store) (inputs : List Input) (act_at : ℕ → Operation → Act) (r : Result (Operation × List ℕ) Fault) → Extends more (do_operation go setup text depth s inputs act_at r) (do_operation go setup text depth s (inputs ++ more) act_at r)
+  extends_does setup text depth s inputs act_at (Ok x) = extends_led setup text depth _ inputs _
+  extends_does setup text depth s inputs act_at (Err fault) = λ settled. refl
 
   extends_counts : (setup : Setup) (text : Text) (place depth : ℕ) (s : Store) (inputs : List Input) → Extends more (turn_counted go setup text place depth s inputs) (turn_counted go setup text place depth s (inputs ++ more))
   extends_counts setup text place depth s inputs =
       let position : Position = record { text = text; place = place } in
       extends_if more (can_count s) _ _ _ _
-      (λ settled. ap (add_to_path position) (extends_does setup text depth (counted s) inputs (read setup text place) settled))
+      (λ settled. ap (add_to_path position) (extends_does setup text depth (counted s) inputs (counted_act setup s) (read setup text place) settled))
       (λ settled. refl)
 
-  extends_held : (setup : Setup) (text : Text) (depth : ℕ) (location : Location) (s : Store) (inputs : List Input) (r : Result (Operation × List ℕ) Fault) → Extends more (turn_located go setup text depth location s inputs r) (turn_located go setup text depth location s (inputs ++ more) r)
-  extends_held setup text depth location s inputs (Ok x) = extends_led setup text depth _ inputs _
-  extends_held setup text depth location s inputs (Err fault) = λ settled. refl
-
   extends_by : (setup : Setup) (text : Text) (place depth : ℕ) (s : Store) (inputs : List Input) (last : Last) → Extends more (turn_by go setup text place depth s inputs last) (turn_by go setup text place depth s (inputs ++ more) last)
-  extends_by setup text place depth s inputs (Located location) = extends_held setup text depth location s inputs (read setup text place)
+  extends_by setup text place depth s inputs (Located location) = extends_does setup text depth s inputs (located_act location s) (read setup text place)
   extends_by setup text place depth s inputs Nothing = extends_counts setup text place depth s inputs
   extends_by setup text place depth s inputs Plain = extends_counts setup text place depth s inputs
   extends_by setup text place depth s inputs Pieced = extends_counts setup text place depth s inputs

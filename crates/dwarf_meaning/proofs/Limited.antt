@@ -7,13 +7,14 @@ use Rattle.dwarf_base.specs.Faults.{Fault, ◌>>=◌}
 use Rattle.dwarf_base.specs.declared.errors.Error.TheVariants.{StackFull}
 use Rattle.dwarf_base.specs.Reads.{Text}
 use Rattle.dwarf_value.specs.declared.types.Value.{Value}
+use Rattle.dwarf_meaning.specs.Operations as operation
 use Rattle.dwarf_meaning.specs.Operations.{Operation}
-use Rattle.dwarf_meaning.specs.Locations.{Location, Piece}
+use Rattle.dwarf_meaning.specs.Locations.{Location, Piece, sized}
 use Rattle.dwarf_meaning.specs.Requests.{Request, OnAnswer, Answer, Input}
 use Rattle.dwarf_meaning.specs.Kinds.{kind_of_request, kind_of_answer, is_same_kind}
 use Rattle.dwarf_meaning.specs.Acts.{on_top, Act, Pushes, Branches, Locates, EndsPiece, RequestAct, FaultAct, Use, PushesAnswer, Calls, FaultUse, use_of}
 use Rattle.dwarf_meaning.specs.Stores.{IsWithin, Setup, address_bits, Store, Last, Nothing, Plain, Pieced, Pushed, Called, Located, push_value, push_piece, push_caller, push_values, Next, Goes, RequestNext, FaultNext, branch_target, done}
-use Rattle.dwarf_meaning.specs.Run.{Position, End, CompleteEnd, RequestEnd, FaultEnd, Course, Continues, return_to_caller, after_push, enter_callee, run_callee, after_answer, with_input, await_answer, after_operation, read, can_count, counted, do_operation, turn_counted, piece_ended_by, end_located, turn_located, turn_by, turn, out_of_turns, run_for, enough, run, return_to_callers}
+use Rattle.dwarf_meaning.specs.Run.{Position, End, CompleteEnd, RequestEnd, FaultEnd, Course, Continues, return_to_caller, after_push, enter_callee, run_callee, after_answer, with_input, await_answer, after_operation, read, can_count, counted, do_operation, turn_counted, counted_act, located_act, turn_by, turn, out_of_turns, run_for, enough, run, return_to_callers}
 use Rattle.dwarf_meaning.specs.Meaning.{completion_of, has_pieces, whole, finish_value, finish_by, First, fresh, with_initial, outcome_of_end, course_of, meaning}
 use Rattle.dwarf_meaning.specs.RunLaws.{ListsWithin, OpenTexts, EndWithin, OutcomeWithin, outermost}
 use Rattle.dwarf_meaning.specs.Refusals.{Refusal, spent, room}
@@ -80,9 +81,10 @@ module _ (setup : Setup) where
   kept_done place len (RequestAct rest request on_answer) s (asks l _) h = record { values = within_less setup.limits.values _ _ l h.values; pieces = h.pieces }
   kept_done place len (FaultAct fault) s _ h = tt
 
-  kept_holds : (location : Location) (place : ℕ) (s : Store) (o : Option (ℕ × Option ℕ)) → Kept s → OnNext Kept (end_located setup location place s o)
-  kept_holds location place s (Some piece) h = on_goes Kept place _ (kept_piece _ (record s { last = Pieced }) (record { values = h.values; pieces = h.pieces }))
-  kept_holds location place s None h = tt
+  kept_located : (location : Location) (s : Store) → Kept s → (place len : ℕ) (op : Operation) → OnNext Kept (done setup place len (located_act location s place op) s)
+  kept_located location s h place len (operation.Piece size_in_bits bit_offset) =
+      on_goes Kept place _ (kept_piece (sized size_in_bits bit_offset location) (record s { last = Pieced }) (record { values = h.values; pieces = h.pieces }))
+  kept_located location s h place len op = tt
 
   -- ---- runs
 
@@ -138,23 +140,19 @@ module _ (setup : Setup) where
     limited_led text depth place inputs (RequestNext request on_answer s) d h = limited_asked (record { text = text; place = place }) depth request on_answer s inputs d h
     limited_led text depth place inputs (FaultNext fault) d h = tt
 
-    limited_does : (text : Text) (depth : ℕ) (s : Store) (inputs : List Input) (r : Result (Operation × List ℕ) Fault) → IsWithin setup.limits.callers depth → Kept s → EndWithin setup.limits text depth (do_operation go setup text depth s inputs r).end
-    limited_does text depth s inputs (Ok x) d h =
-        limited_led text depth _ inputs _ d (kept_done _ _ _ s (act_is (address_bits setup) s.object_address x.0 s.values) h)
-    limited_does text depth s inputs (Err fault) d h = tt
+    limited_does : (text : Text) (depth : ℕ) (s : Store) (inputs : List Input) (act_at : ℕ → Operation → Act) (r : Result (Operation × List ℕ) Fault) → IsWithin setup.limits.callers depth → ((place len : ℕ) (op : Operation) → OnNext Kept (done setup place len (act_at place op) s)) → EndWithin setup.limits text depth (do_operation go setup text depth s inputs act_at r).end
+    limited_does text depth s inputs act_at (Ok x) d h = limited_led text depth _ inputs _ d (h _ _ x.0)
+    limited_does text depth s inputs act_at (Err fault) d h = tt
 
     limited_counts : (text : Text) (place depth : ℕ) (s : Store) (inputs : List Input) → IsWithin setup.limits.callers depth → Kept s → EndWithin setup.limits text depth (turn_counted go setup text place depth s inputs).end
     limited_counts text place depth s inputs d h =
         cond_both (can_count s) _ _ (λ (c : Course). EndWithin setup.limits text depth c.end)
-        (λ can. limited_does text depth (counted s) inputs (read setup text place) d (record { values = h.values; pieces = h.pieces }))
+        (λ can. limited_does text depth (counted s) inputs (counted_act setup s) (read setup text place) d
+        (λ place len op. kept_done place len _ (counted s) (act_is (address_bits setup) s.object_address op s.values) (record { values = h.values; pieces = h.pieces })))
         (λ e. tt)
 
-    limited_held : (text : Text) (depth : ℕ) (location : Location) (s : Store) (inputs : List Input) (r : Result (Operation × List ℕ) Fault) → IsWithin setup.limits.callers depth → Kept s → EndWithin setup.limits text depth (turn_located go setup text depth location s inputs r).end
-    limited_held text depth location s inputs (Ok x) d h = limited_led text depth _ inputs _ d (kept_holds location _ s (piece_ended_by x.0) h)
-    limited_held text depth location s inputs (Err fault) d h = tt
-
     limited_by : (text : Text) (place depth : ℕ) (s : Store) (inputs : List Input) (last : Last) → IsWithin setup.limits.callers depth → Kept s → EndWithin setup.limits text depth (turn_by go setup text place depth s inputs last).end
-    limited_by text place depth s inputs (Located location) d h = limited_held text depth location s inputs (read setup text place) d h
+    limited_by text place depth s inputs (Located location) d h = limited_does text depth s inputs (located_act location s) (read setup text place) d (kept_located location s h)
     limited_by text place depth s inputs Nothing d h = limited_counts text place depth s inputs d h
     limited_by text place depth s inputs Plain d h = limited_counts text place depth s inputs d h
     limited_by text place depth s inputs Pieced d h = limited_counts text place depth s inputs d h

@@ -4,12 +4,11 @@ use Rattle.std.proofs.lemmas.Bool.{cond_both}
 use Rattle.dwarf_base.specs.Faults.{Fault}
 use Rattle.dwarf_base.specs.Reads.{Text}
 use Rattle.dwarf_meaning.specs.Operations.{Operation}
-use Rattle.dwarf_meaning.specs.Locations.{Location}
 use Rattle.dwarf_meaning.specs.Requests.{Request, OnAnswer, Input}
 use Rattle.dwarf_meaning.specs.Kinds.{kind_of_request, kind_of_answer, is_same_kind}
-use Rattle.dwarf_meaning.specs.Acts.{Use, PushesAnswer, Calls, FaultUse, use_of}
+use Rattle.dwarf_meaning.specs.Acts.{Act, Use, PushesAnswer, Calls, FaultUse, use_of}
 use Rattle.dwarf_meaning.specs.Stores.{Setup, address_bits, Store, Last, Nothing, Plain, Pieced, Pushed, Called, Located, push_value, push_caller, Next, Goes, RequestNext, FaultNext}
-use Rattle.dwarf_meaning.specs.Run.{Position, End, CompleteEnd, RequestEnd, FaultEnd, Course, only_end, add_request, Continues, return_to_caller, after_push, enter_callee, run_callee, after_answer, with_input, await_answer, after_operation, read, can_count, counted, do_operation, turn_counted, turn_located, turn_by, turn, out_of_turns, run_for, enough, run}
+use Rattle.dwarf_meaning.specs.Run.{Position, End, CompleteEnd, RequestEnd, FaultEnd, Course, only_end, add_request, Continues, return_to_caller, after_push, enter_callee, run_callee, after_answer, with_input, await_answer, after_operation, read, can_count, counted, do_operation, turn_counted, counted_act, located_act, turn_by, turn, out_of_turns, run_for, enough, run}
 use Rattle.dwarf_meaning.specs.RunLaws.{Took, EndTook}
 
 abbrev Taking : List Input → Course → Type 0
@@ -96,20 +95,16 @@ module _ (go : Continues) (takes : Takes go) where
   takes_led setup text depth place inputs (RequestNext request on_answer s) = takes_asked setup (record { text = text; place = place }) depth request on_answer s inputs
   takes_led setup text depth place inputs (FaultNext fault) = omega arith
 
-  takes_does : (setup : Setup) (text : Text) (depth : ℕ) (s : Store) (inputs : List Input) (r : Result (Operation × List ℕ) Fault) → Taking inputs (do_operation go setup text depth s inputs r)
-  takes_does setup text depth s inputs (Ok x) = takes_led setup text depth _ inputs _
-  takes_does setup text depth s inputs (Err fault) = omega arith
+  takes_does : (setup : Setup) (text : Text) (depth : ℕ) (s : Store) (inputs : List Input) (act_at : ℕ → Operation → Act) (r : Result (Operation × List ℕ) Fault) → Taking inputs (do_operation go setup text depth s inputs act_at r)
+  takes_does setup text depth s inputs act_at (Ok x) = takes_led setup text depth _ inputs _
+  takes_does setup text depth s inputs act_at (Err fault) = omega arith
 
   takes_counts : (setup : Setup) (text : Text) (place depth : ℕ) (s : Store) (inputs : List Input) → Taking inputs (turn_counted go setup text place depth s inputs)
   takes_counts setup text place depth s inputs =
-      cond_both (can_count s) _ _ (Taking inputs) (λ can. takes_does setup text depth (counted s) inputs (read setup text place)) (λ e. omega arith)
-
-  takes_held : (setup : Setup) (text : Text) (depth : ℕ) (location : Location) (s : Store) (inputs : List Input) (r : Result (Operation × List ℕ) Fault) → Taking inputs (turn_located go setup text depth location s inputs r)
-  takes_held setup text depth location s inputs (Ok x) = takes_led setup text depth _ inputs _
-  takes_held setup text depth location s inputs (Err fault) = omega arith
+      cond_both (can_count s) _ _ (Taking inputs) (λ can. takes_does setup text depth (counted s) inputs (counted_act setup s) (read setup text place)) (λ e. omega arith)
 
   takes_by : (setup : Setup) (text : Text) (place depth : ℕ) (s : Store) (inputs : List Input) (last : Last) → Taking inputs (turn_by go setup text place depth s inputs last)
-  takes_by setup text place depth s inputs (Located location) = takes_held setup text depth location s inputs (read setup text place)
+  takes_by setup text place depth s inputs (Located location) = takes_does setup text depth s inputs (located_act location s) (read setup text place)
   takes_by setup text place depth s inputs Nothing = takes_counts setup text place depth s inputs
   takes_by setup text place depth s inputs Plain = takes_counts setup text place depth s inputs
   takes_by setup text place depth s inputs Pieced = takes_counts setup text place depth s inputs

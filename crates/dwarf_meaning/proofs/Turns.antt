@@ -9,11 +9,11 @@ use Rattle.dwarf_meaning.specs.Operations.{Operation}
 use Rattle.dwarf_meaning.specs.Locations.{Location}
 use Rattle.dwarf_meaning.specs.Requests.{Request, OnAnswer, Input}
 use Rattle.dwarf_meaning.specs.Kinds.{kind_of_request, kind_of_answer, is_same_kind}
-use Rattle.dwarf_meaning.specs.Acts.{Use, PushesAnswer, Calls, FaultUse, use_of, act}
+use Rattle.dwarf_meaning.specs.Acts.{Act, Use, PushesAnswer, Calls, FaultUse, use_of}
 use Rattle.dwarf_meaning.specs.Stores.{Setup, address_bits, Store, Last, Nothing, Plain, Pieced, Pushed, Called, Located, Next, Goes, RequestNext, FaultNext}
-use Rattle.dwarf_meaning.specs.Run.{Position, End, CompleteEnd, RequestEnd, FaultEnd, Course, only_end, add_to_path, add_request, append_course, Continues, return_to_caller, after_push, enter_callee, run_callee, after_answer, with_input, await_answer, after_operation, read, most, can_count, counted, do_operation, turn_counted, piece_ended_by, turn_located, turn_by, turn, out_of_turns, run_for, enough, run}
+use Rattle.dwarf_meaning.specs.Run.{Position, End, CompleteEnd, RequestEnd, FaultEnd, Course, only_end, add_to_path, add_request, append_course, Continues, return_to_caller, after_push, enter_callee, run_callee, after_answer, with_input, await_answer, after_operation, read, most, can_count, counted, do_operation, turn_counted, counted_act, located_act, turn_by, turn, out_of_turns, run_for, enough, run}
 use Rattle.dwarf_meaning.specs.RunLaws.{waits_of, turns_left}
-use Rattle.dwarf_meaning.proofs.Counts.{OnStore, OnNext, Tally, tally_of, HasTally, OnPiece, tally-push_value, tally-push_caller, tally-done, both-holds}
+use Rattle.dwarf_meaning.proofs.Counts.{OnStore, OnNext, Tally, tally_of, HasTally, OnPiece, tally-push_value, tally-push_caller, tally-done, both-located}
 
 waits_little : (last : Last) → waits_of last ≤ 1
 waits_little Nothing = omega arith
@@ -91,14 +91,14 @@ module _ (go : Continues) (lowers : Lowers go) where
       (lowers_asked setup (record { text = text; place = place }) depth request on_answer s inputs)
   lowers_led setup text depth place inputs n (FaultNext fault) h = tt
 
-  lowers_does : (setup : Setup) (text : Text) (depth : ℕ) (s : Store) (inputs : List Input) (r : Result (Operation × List ℕ) Fault) → EndsWithin (room_at s.count) (do_operation go setup text depth s inputs r).end
-  lowers_does setup text depth s inputs (Ok x) = lowers_led setup text depth _ inputs (tally_of s) _ (tally-done setup (length text.bytes - length x.1) (length text.bytes) (act (address_bits setup) s.object_address x.0 s.values) s)
-  lowers_does setup text depth s inputs (Err fault) = tt
+  lowers_does : (setup : Setup) (text : Text) (depth : ℕ) (s : Store) (inputs : List Input) (act_at : ℕ → Operation → Act) (r : Result (Operation × List ℕ) Fault) → EndsWithin (room_at s.count) (do_operation go setup text depth s inputs act_at r).end
+  lowers_does setup text depth s inputs act_at (Ok x) = lowers_led setup text depth _ inputs (tally_of s) _ (tally-done setup (length text.bytes - length x.1) (length text.bytes) (act_at (length text.bytes - length x.1) x.0) s)
+  lowers_does setup text depth s inputs act_at (Err fault) = tt
 
   lowers_counts : (setup : Setup) (text : Text) (place depth : ℕ) (s : Store) (inputs : List Input) → EndsWithin (turns_left s) (turn_counted go setup text place depth s inputs).end
   lowers_counts setup text place depth s inputs =
       cond_both (can_count s) _ _ (λ (c : Course). EndsWithin (turns_left s) c.end)
-      (λ can. let below = below_most s can in ends_more (room_at (s.count + 1)) (turns_left s) _ (omega arith) (lowers_does setup text depth (counted s) inputs (read setup text place)))
+      (λ can. let below = below_most s can in ends_more (room_at (s.count + 1)) (turns_left s) _ (omega arith) (lowers_does setup text depth (counted s) inputs (counted_act setup s) (read setup text place)))
       (λ e. tt)
 
   -- after a location
@@ -110,8 +110,8 @@ module _ (go : Continues) (lowers : Lowers go) where
   lowers_piece setup text depth place inputs n (RequestNext request on_answer s) h m i = absurd h
   lowers_piece setup text depth place inputs n (FaultNext fault) h m i = tt
 
-  lowers_held : (setup : Setup) (text : Text) (depth : ℕ) (location : Location) (s : Store) (inputs : List Input) (r : Result (Operation × List ℕ) Fault) (m : ℕ) → 2 * (most - s.count) ≤ m → EndsWithin m (turn_located go setup text depth location s inputs r).end
-  lowers_held setup text depth location s inputs (Ok x) m h = lowers_piece setup text depth _ inputs (tally_of s) _ (both-holds setup location _ s (piece_ended_by x.0)) m h
+  lowers_held : (setup : Setup) (text : Text) (depth : ℕ) (location : Location) (s : Store) (inputs : List Input) (r : Result (Operation × List ℕ) Fault) (m : ℕ) → 2 * (most - s.count) ≤ m → EndsWithin m (do_operation go setup text depth s inputs (located_act location s) r).end
+  lowers_held setup text depth location s inputs (Ok x) m h = lowers_piece setup text depth _ inputs (tally_of s) _ (both-located setup location _ (length text.bytes) s x.0) m h
   lowers_held setup text depth location s inputs (Err fault) m h = tt
 
   lowers_by : (setup : Setup) (text : Text) (place depth : ℕ) (s : Store) (inputs : List Input) (last : Last) → waits_of s.last ≡ waits_of last → EndsWithin (turns_left s) (turn_by go setup text place depth s inputs last).end
@@ -176,19 +176,19 @@ module _ (go other : Continues) (m : ℕ) (alike : Alike m go other) (lowers : L
       ap (add_request request) (alike_asked setup (record { text = text; place = place }) depth request on_answer s inputs (omega (arith, count, i)))
   alike_led setup text depth place inputs n (FaultNext fault) h i = refl
 
-  alike_does : (setup : Setup) (text : Text) (depth : ℕ) (s : Store) (inputs : List Input) (r : Result (Operation × List ℕ) Fault) → room_at s.count ≤ m → do_operation go setup text depth s inputs r ≡ do_operation other setup text depth s inputs r
-  alike_does setup text depth s inputs (Ok x) i = alike_led setup text depth _ inputs (tally_of s) _ (tally-done setup (length text.bytes - length x.1) (length text.bytes) (act (address_bits setup) s.object_address x.0 s.values) s) i
-  alike_does setup text depth s inputs (Err fault) i = refl
+  alike_does : (setup : Setup) (text : Text) (depth : ℕ) (s : Store) (inputs : List Input) (act_at : ℕ → Operation → Act) (r : Result (Operation × List ℕ) Fault) → room_at s.count ≤ m → do_operation go setup text depth s inputs act_at r ≡ do_operation other setup text depth s inputs act_at r
+  alike_does setup text depth s inputs act_at (Ok x) i = alike_led setup text depth _ inputs (tally_of s) _ (tally-done setup (length text.bytes - length x.1) (length text.bytes) (act_at (length text.bytes - length x.1) x.0) s) i
+  alike_does setup text depth s inputs act_at (Err fault) i = refl
 
   alike_counts : (setup : Setup) (text : Text) (place depth : ℕ) (s : Store) (inputs : List Input) → turns_left s ≤ suc m → turn_counted go setup text place depth s inputs ≡ turn_counted other setup text place depth s inputs
   alike_counts setup text place depth s inputs h =
       alike_by_test (can_count s) refl
     where
-      alike_by_test : (b : Bool) → can_count s ≡ b → cond b (add_to_path (record { text = text; place = place }) (do_operation go setup text depth (counted s) inputs (read setup text place))) (only_end (FaultEnd TooManyIterations)) ≡ cond b (add_to_path (record { text = text; place = place }) (do_operation other setup text depth (counted s) inputs (read setup text place))) (only_end (FaultEnd TooManyIterations))
+      alike_by_test : (b : Bool) → can_count s ≡ b → cond b (add_to_path (record { text = text; place = place }) (do_operation go setup text depth (counted s) inputs (counted_act setup s) (read setup text place))) (only_end (FaultEnd TooManyIterations)) ≡ cond b (add_to_path (record { text = text; place = place }) (do_operation other setup text depth (counted s) inputs (counted_act setup s) (read setup text place))) (only_end (FaultEnd TooManyIterations))
       alike_by_test true e =
           let below = below_most s e in
           ap (add_to_path (record { text = text; place = place }))
-          (alike_does setup text depth (counted s) inputs (read setup text place) (omega arith))
+          (alike_does setup text depth (counted s) inputs (counted_act setup s) (read setup text place) (omega arith))
       alike_by_test false e = refl
 
   alike_piece : (setup : Setup) (text : Text) (depth place : ℕ) (inputs : List Input) (n : Tally) (next : Next) → OnPiece n next → 2 * (most - n.count) ≤ m → after_operation go setup text depth place inputs next ≡ after_operation other setup text depth place inputs next
@@ -199,8 +199,8 @@ module _ (go other : Continues) (m : ℕ) (alike : Alike m go other) (lowers : L
   alike_piece setup text depth place inputs n (RequestNext request on_answer s) h i = absurd h
   alike_piece setup text depth place inputs n (FaultNext fault) h i = refl
 
-  alike_held : (setup : Setup) (text : Text) (depth : ℕ) (location : Location) (s : Store) (inputs : List Input) (r : Result (Operation × List ℕ) Fault) → 2 * (most - s.count) ≤ m → turn_located go setup text depth location s inputs r ≡ turn_located other setup text depth location s inputs r
-  alike_held setup text depth location s inputs (Ok x) h = alike_piece setup text depth _ inputs (tally_of s) _ (both-holds setup location _ s (piece_ended_by x.0)) h
+  alike_held : (setup : Setup) (text : Text) (depth : ℕ) (location : Location) (s : Store) (inputs : List Input) (r : Result (Operation × List ℕ) Fault) → 2 * (most - s.count) ≤ m → do_operation go setup text depth s inputs (located_act location s) r ≡ do_operation other setup text depth s inputs (located_act location s) r
+  alike_held setup text depth location s inputs (Ok x) h = alike_piece setup text depth _ inputs (tally_of s) _ (both-located setup location _ (length text.bytes) s x.0) h
   alike_held setup text depth location s inputs (Err fault) h = refl
 
   alike_by : (setup : Setup) (text : Text) (place depth : ℕ) (s : Store) (inputs : List Input) (last : Last) → waits_of s.last ≡ waits_of last → turns_left s ≤ suc m → turn_by go setup text place depth s inputs last ≡ turn_by other setup text place depth s inputs last

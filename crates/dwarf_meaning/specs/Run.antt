@@ -1,5 +1,5 @@
 -- A run of an expression, in which a called expression is run in its call's place (DWARF 5, section 2.5).
-use Rattle.std.specs.Prelude.{Bool, ℕ, zero, suc, ◌+◌, ◌-◌, ◌*◌, List, [], ◌∷◌, ◌++◌, Option, Some, None, Result, Ok, Err, length, drop, nat_lt, ◌&&◌, ◌==◌, if◌then◌else◌}
+use Rattle.std.specs.Prelude.{Bool, ℕ, zero, suc, ◌+◌, ◌-◌, ◌*◌, List, [], ◌∷◌, ◌++◌, Result, Ok, Err, length, drop, nat_lt, ◌&&◌, ◌==◌, if◌then◌else◌}
 use Rattle.dwarf_base.specs.Faults.{Fault}
 use Rattle.dwarf_base.specs.declared.errors.Error.TheVariants.{InvalidExpressionTerminator, TooManyIterations}
 use Rattle.dwarf_base.specs.Reads.{Text}
@@ -9,8 +9,8 @@ use Rattle.dwarf_meaning.specs.Locations.{Location, sized}
 use Rattle.dwarf_meaning.specs.Decoding.{operation_at}
 use Rattle.dwarf_meaning.specs.Requests.{Request, OnAnswer, Input}
 use Rattle.dwarf_meaning.specs.Kinds.{kind_of_request, kind_of_answer, is_same_kind}
-use Rattle.dwarf_meaning.specs.Acts.{act, Use, PushesAnswer, Calls, FaultUse, use_of}
-use Rattle.dwarf_meaning.specs.Stores.{Setup, address_bits, Store, Last, Pieced, Pushed, Called, Located, push_value, push_piece, push_caller, Next, Goes, RequestNext, FaultNext, goes, done}
+use Rattle.dwarf_meaning.specs.Acts.{Act, EndsPiece, FaultAct, act, Use, PushesAnswer, Calls, FaultUse, use_of}
+use Rattle.dwarf_meaning.specs.Stores.{Setup, address_bits, Store, Last, Pushed, Called, Located, push_value, push_caller, Next, Goes, RequestNext, FaultNext, done}
 use Rattle.dwarf_meaning.specs.Refusals.{taken}
 
 -- a text and a place in it
@@ -74,16 +74,15 @@ can_count s = nat_lt s.count s.maximum && nat_lt s.count most
 abbrev pub counted : Store → Store
 counted s = record s { count = s.count + 1 }
 
--- the size and the offset of a piece, in bits, if the operation ends one
-abbrev pub piece_ended_by : Operation → Option (ℕ × Option ℕ)
-piece_ended_by (operation.Piece size_in_bits bit_offset) = Some (size_in_bits, bit_offset)
-piece_ended_by _ = None
+-- what an operation that is counted does; `place` is the one after it
+abbrev pub counted_act : Setup → Store → (place : ℕ) → Operation → Act
+counted_act setup s place op = act (address_bits setup) s.object_address op s.values
 
--- After a location comes its piece, and nothing else; `place` is the one after the operation.
-abbrev pub end_located : Setup → Location → (place : ℕ) → Store → Option (ℕ × Option ℕ) → Next
-end_located setup location place s (Some piece) =
-    goes place (push_piece setup (sized piece.0 piece.1 location) (record s { last = Pieced }))
-end_located setup location place s None = FaultNext (InvalidExpressionTerminator (place - 1))
+-- what the operation after a location does: it ends the piece there, and none else may follow
+abbrev pub located_act : Location → Store → (place : ℕ) → Operation → Act
+located_act location s place (operation.Piece size_in_bits bit_offset) =
+    EndsPiece s.values (sized size_in_bits bit_offset location)
+located_act location s place _ = FaultAct (InvalidExpressionTerminator (place - 1))
 
 module _ (go : Continues) where
   module _ (position : Position) (depth : ℕ) where
@@ -137,31 +136,25 @@ module _ (go : Continues) where
       after_operation depth place inputs (FaultNext fault) = only_end (FaultEnd fault)
 
       -- the operation that was read is done
-      abbrev pub do_operation : (depth : ℕ) → Store → List Input → Result (Operation × List ℕ) Fault → Course
-      do_operation depth s inputs (Ok x) =
+      abbrev pub do_operation : (depth : ℕ) → Store → List Input → (ℕ → Operation → Act)
+          → Result (Operation × List ℕ) Fault → Course
+      do_operation depth s inputs act_at (Ok x) =
           let place = length text.bytes - length x.1 in
-          after_operation depth place inputs
-          (done setup place (length text.bytes) (act (address_bits setup) s.object_address x.0 s.values) s)
-      do_operation depth s inputs (Err fault) = only_end (FaultEnd fault)
+          after_operation depth place inputs (done setup place (length text.bytes) (act_at place x.0) s)
+      do_operation depth s inputs act_at (Err fault) = only_end (FaultEnd fault)
 
       -- one more operation is counted, and done
       abbrev pub turn_counted : (place depth : ℕ) → Store → List Input → Course
       turn_counted place depth s inputs =
           if can_count s
           then add_to_path (record { text = text; place = place })
-          (do_operation depth (counted s) inputs (read setup text place))
+          (do_operation depth (counted s) inputs (counted_act setup s) (read setup text place))
           else only_end (FaultEnd TooManyIterations)
 
-      -- the operation that was read ends the location's piece, and isn't counted
-      abbrev pub turn_located : (depth : ℕ) → Location → Store → List Input → Result (Operation × List ℕ) Fault → Course
-      turn_located depth location s inputs (Ok x) =
-          let place = length text.bytes - length x.1 in
-          after_operation depth place inputs (end_located setup location place s (piece_ended_by x.0))
-      turn_located depth location s inputs (Err fault) = only_end (FaultEnd fault)
-
-      -- a turn by the last operation: after a location, or one that is counted
+      -- a turn by the last operation: after a location, with nothing counted, or one that is counted
       abbrev pub turn_by : (place depth : ℕ) → Store → List Input → Last → Course
-      turn_by place depth s inputs (Located location) = turn_located depth location s inputs (read setup text place)
+      turn_by place depth s inputs (Located location) =
+          do_operation depth s inputs (located_act location s) (read setup text place)
       turn_by place depth s inputs _ = turn_counted place depth s inputs
 
       -- the next operation, or the end of the text

@@ -5,13 +5,14 @@ use Rattle.dwarf_base.specs.Faults.{Fault}
 use Rattle.dwarf_base.specs.Reads.{Text}
 use Rattle.dwarf_value.specs.declared.types.Value.{Value}
 use Rattle.dwarf_value.specs.declared.types.Value.TheVariants.{Generic}
+use Rattle.dwarf_meaning.specs.Operations as operation
 use Rattle.dwarf_meaning.specs.Operations.{Operation}
 use Rattle.dwarf_meaning.specs.Locations.{Location, HoldsBytes, Piece}
 use Rattle.dwarf_meaning.specs.Kinds.{kind_of_request, kind_of_answer, is_same_kind}
 use Rattle.dwarf_meaning.specs.Requests.{Request, OnAnswer, Answer, LocationAnswer, Input}
 use Rattle.dwarf_meaning.specs.Acts.{Act, Pushes, Branches, Locates, EndsPiece, RequestAct, FaultAct, Use, PushesAnswer, Calls, FaultUse, use_of}
 use Rattle.dwarf_meaning.specs.Stores.{Setup, address_bits, Store, Last, Nothing, Plain, Pieced, Pushed, Called, Located, push_value, push_piece, push_caller, push_values, Next, Goes, RequestNext, FaultNext, goes, done, branch_target}
-use Rattle.dwarf_meaning.specs.Run.{Position, End, CompleteEnd, RequestEnd, FaultEnd, Course, Continues, return_to_caller, after_push, enter_callee, run_callee, after_answer, with_input, await_answer, after_operation, read, can_count, counted, do_operation, turn_counted, piece_ended_by, end_located, turn_located, turn_by, turn, out_of_turns, run_for, enough}
+use Rattle.dwarf_meaning.specs.Run.{Position, End, CompleteEnd, RequestEnd, FaultEnd, Course, Continues, return_to_caller, after_push, enter_callee, run_callee, after_answer, with_input, await_answer, after_operation, read, can_count, counted, do_operation, turn_counted, counted_act, located_act, turn_by, turn, out_of_turns, run_for, enough}
 use Rattle.dwarf_meaning.specs.Meaning.{Outcome, RequestOutcome, FaultOutcome, CompleteOutcome, completion_of, has_pieces, whole, finish_value, finish_by, First, fresh, with_initial, outcome_of_end, meaning}
 use Rattle.dwarf_meaning.specs.Refusals.{Refusal, room}
 use Rattle.dwarf_meaning.proofs.Choices.{top_both}
@@ -133,10 +134,9 @@ module _ (Q : List ℕ → Type 0) where
   done_holds setup place len (RequestAct rest request on_answer) s a h = (a, record { pieces = h.pieces; last = h.last })
   done_holds setup place len (FaultAct fault) s a h = tt
 
-  piece_next : (setup : Setup) (location : Location) (place : ℕ) (s : Store) (o : Option (ℕ × Option ℕ)) → OnLocation Q location → Holds Q s → OnNext (end_located setup location place s o)
-  piece_next setup location place s (Some piece) l h =
-      goes_holds place _ (piece_holds setup _ (record s { last = Pieced }) (record { pieces = h.pieces; last = tt }) l)
-  piece_next setup location place s None l h = tt
+  located_on : (location : Location) (s : Store) (place : ℕ) (op : Operation) → OnLocation Q location → OnAct Q (located_act location s place op)
+  located_on location s place (operation.Piece size_in_bits bit_offset) l = l
+  located_on location s place op l = tt
 
 -- ---- answers
 
@@ -203,7 +203,7 @@ module _ (P : Text → Type 0) (Q : List ℕ → Type 0) where
         asked_carries (record { text = text; place = place }) depth request on_answer s inputs p h.0 h.1 i
     after_operation_carries text depth place inputs (FaultNext fault) p h i = tt
 
-    does_carries : (text : Text) (depth : ℕ) (s : Store) (inputs : List Input) (r : Result (Operation × List ℕ) Fault) → P text → OnRead Q r → Holds Q s → OnInputs P inputs → OnEnd (do_operation go setup text depth s inputs r).end
+    does_carries : (text : Text) (depth : ℕ) (s : Store) (inputs : List Input) (r : Result (Operation × List ℕ) Fault) → P text → OnRead Q r → Holds Q s → OnInputs P inputs → OnEnd (do_operation go setup text depth s inputs (counted_act setup s) r).end
     does_carries text depth s inputs (Ok x) p b h i =
         after_operation_carries text depth _ inputs _ p (done_holds Q setup _ _ _ s (act_holds Q x.0 _ (act_is (address_bits setup) s.object_address x.0 s.values) b) h) i
     does_carries text depth s inputs (Err fault) p b h i = tt
@@ -214,9 +214,9 @@ module _ (P : Text → Type 0) (Q : List ℕ → Type 0) where
         (λ e. does_carries text depth (counted s) inputs (read setup text place) p (reads text place p) (record { pieces = h.pieces; last = h.last }) i)
         (λ e. tt)
 
-    held_carries : (text : Text) (depth : ℕ) (location : Location) (s : Store) (inputs : List Input) (r : Result (Operation × List ℕ) Fault) → P text → OnLocation Q location → Holds Q s → OnInputs P inputs → OnEnd (turn_located go setup text depth location s inputs r).end
+    held_carries : (text : Text) (depth : ℕ) (location : Location) (s : Store) (inputs : List Input) (r : Result (Operation × List ℕ) Fault) → P text → OnLocation Q location → Holds Q s → OnInputs P inputs → OnEnd (do_operation go setup text depth s inputs (located_act location s) r).end
     held_carries text depth location s inputs (Ok x) p l h i =
-        after_operation_carries text depth _ inputs _ p (piece_next Q setup location _ s (piece_ended_by x.0) l h) i
+        after_operation_carries text depth _ inputs _ p (done_holds Q setup _ _ _ s (located_on Q location s _ x.0 l) h) i
     held_carries text depth location s inputs (Err fault) p l h i = tt
 
     by_carries : (text : Text) (place depth : ℕ) (s : Store) (inputs : List Input) (last : Last) → P text → OnLast Q last → Holds Q s → OnInputs P inputs → OnEnd (turn_by go setup text place depth s inputs last).end

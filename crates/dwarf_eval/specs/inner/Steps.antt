@@ -188,11 +188,10 @@ Asks (Some request) on_answer old new = Performs (RequestAct old.store.values re
 Asks None on_answer old new = Unit {0}
 
 -- a piece after a location: it is ended, or the state keeps the fault
-abbrev pub EndsLocated : Location → Option (ℕ × Option ℕ) → State → State → Type 0
-EndsLocated location (Some size) old new =
-    Tried 0 (push_piece old.setup (sized size.0 size.1 location))
-    (with_last Pieced old) new
-EndsLocated location None old new = new ≡ with_status (FaultStatus (InvalidExpressionTerminator (old.place - 1))) old
+abbrev pub EndsLocated : Location → Operation → State → State → Type 0
+EndsLocated location (operation.Piece size_in_bits bit_offset) old new =
+    Tried 0 (push_piece old.setup (sized size_in_bits bit_offset location)) (with_last Pieced old) new
+EndsLocated location _ old new = new ≡ with_status (FaultStatus (InvalidExpressionTerminator (old.place - 1))) old
 
 -- ---- turns
 

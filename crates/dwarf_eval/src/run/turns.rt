@@ -1,9 +1,9 @@
-ghost use Rattle.std.specs.Prelude.{◌≡◌, ◌<◌, Some, length, false};
+ghost use Rattle.std.specs.Prelude.{◌≡◌, ◌<◌, length, false};
 ghost use Rattle.dwarf_base.specs.Reads.{IsLeftOf};
+ghost use Rattle.dwarf_meaning.specs.Operations as meant;
 ghost use Rattle.dwarf_meaning.specs.Meaning.{whole as meant_whole, finish, finish_value};
 ghost use Rattle.dwarf_meaning.specs.Inputs.{IsFresh, with_status};
 ghost use Rattle.dwarf_meaning.specs.Rest.{Running, Start, CompleteStatus};
-ghost use Rattle.dwarf_meaning.specs.Run.{piece_ended_by};
 ghost use Rattle.dwarf_meaning.specs.RunLaws.{waits_of};
 ghost use Rattle.dwarf_meaning.specs.Stores.{Located};
 ghost use Rattle.dwarf_op.specs.Views.{operation_of, location_of, piece_of};
@@ -77,7 +77,7 @@ impl<R: Reader + Copy, S: EvaluationStorage<R>> Machine<R, S> {
     fn push_located(&mut self, size_in_bits: u64, bit_offset: Option<u64>)
         requires { is_free self.old.store.last ≡ false }
         ensures { (location : _) → self.old.store.last ≡ Located location →
-            EndsLocated location (Some (size_in_bits, bit_offset)) self.old self.new }
+            EndsLocated location (meant.Piece size_in_bits bit_offset) self.old self.new }
     {
         let location = self.location();
         self.mark_pieced();
@@ -94,7 +94,7 @@ impl<R: Reader + Copy, S: EvaluationStorage<R>> Machine<R, S> {
     fn grow_and_push_located(&mut self, size_in_bits: u64, bit_offset: Option<u64>)
         requires { is_free self.old.store.last ≡ false }
         ensures { (location : _) → self.old.store.last ≡ Located location →
-            EndsLocated location (Some (size_in_bits, bit_offset)) self.old self.new }
+            EndsLocated location (meant.Piece size_in_bits bit_offset) self.old self.new }
     {
         self.push_located(size_in_bits, bit_offset);
     }
@@ -105,8 +105,7 @@ impl<R: Reader + Copy, S: EvaluationStorage<R>> Machine<R, S> {
         requires after { 0 < self.old.place }
         requires waits { is_free self.old.store.last ≡ false }
         ensures { (location : _) → self.old.store.last ≡ Located location →
-            EndsLocated location (piece_ended_by (operation_of R.text R.Offset.number operation))
-            self.old self.new }
+            EndsLocated location (operation_of R.text R.Offset.number operation) self.old self.new }
     {
         let Operation::Piece {
             size_in_bits,

@@ -1,4 +1,4 @@
-use Rattle.std.proofs.Common.{ap, ◌∙◌, sym}
+use Rattle.std.proofs.Common.{ap, ◌∙◌}
 use Rattle.dwarf_meaning.specs.Rest.{State}
 use Rattle.dwarf_op.specs.Views.{operation_of}
 use Rattle.dwarf_eval.proofs.Holding.{hold_unread, hold_turns}

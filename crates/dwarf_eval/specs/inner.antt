@@ -1,4 +1,5 @@
 pub mod Answers
+pub mod Bounds
 pub mod Machine
 pub mod Operators
 pub mod Steps

@@ -8,8 +8,7 @@ use Rattle.dwarf_meaning.specs.Meaning.{FaultOutcome, First, meaning}
 use Rattle.dwarf_meaning.specs.Rest.{State, Status, Start, Running, RequestStatus, CompleteStatus, FaultStatus, total}
 use Rattle.dwarf_meaning.specs.Steps.{Step, Told, Reply}
 use Rattle.dwarf_replay.specs.Replays.{told_at, Tells}
-use Rattle.dwarf_meaning.specs.Bounds.{SpendsInAll, initial_items}
-use Rattle.dwarf_eval.proofs.CallSpending.{spent_here}
+use Rattle.dwarf_meaning.specs.Bounds.{IsBounded}
 
 -- ---- what some steps came to
 
@@ -28,7 +27,7 @@ pub record Unstarted (first : State) (steps : List Step) (given : List Reply) (x
   pub initial : told.settings.initial_value ≡ initial_value
   pub text : x.text ≡ first.text
   pub holds : Holds first told x
-  pub spent : SpendsInAll (initial_items told.settings.initial_value) first x
+  pub bounds : IsBounded first → IsBounded x
 
 -- it waits or is complete: what is left of it is what the meaning gives, for all inputs to come
 pub record Going (first : State) (steps : List Step) (given : List Reply) (x : State) : Type 0 where
@@ -40,7 +39,7 @@ pub record Going (first : State) (steps : List Step) (given : List Reply) (x : S
   pub started : told.first ≡ Some settings
   pub rest_is : (r : Refusal) (inputs : List Input) → IsLater r → meaning first.setup (before_inputs taken r) first.text settings (told.inputs ++ inputs) ≡ (total x r inputs).outcome
   pub holds : Holds first told x
-  pub spent : SpendsInAll (initial_items told.settings.initial_value) first x
+  pub bounds : IsBounded first → IsBounded x
 
 -- it met a fault, for some refusal
 pub record Over (first : State) (steps : List Step) (given : List Reply) (x : State) (error : Error) : Type 0 where
@@ -51,7 +50,7 @@ pub record Over (first : State) (steps : List Step) (given : List Reply) (x : St
   pub settings : First
   pub started : told.first ≡ Some settings
   pub fails : meaning first.setup refusal first.text settings told.inputs ≡ FaultOutcome (fault_of error)
-  pub spent : SpendsInAll (initial_items told.settings.initial_value) first x
+  pub bounds : IsBounded first → IsBounded x
 
 abbrev pub WentBy : State → List Step → List Reply → State → Status → Type 0
 WentBy first steps given x (Start initial_value) = Unstarted first steps given x initial_value
@@ -74,7 +73,7 @@ went_at_first x e =
       initial = refl;
       text = refl;
       holds = record { setup = refl; object_address = refl; maximum = refl };
-      spent = spent_here x;
+      bounds = λ b. b;
     })
 
 -- ---- refusals

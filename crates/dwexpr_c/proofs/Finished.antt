@@ -1,8 +1,7 @@
 -- What is shown at the end, from where the evaluation stands.
-use Rattle.std.proofs.Common.{ℕ, ◌≡◌, ◌∙◌, inl, inr, Bool, List, [], ◌∷◌, Option, Some, None, length, slice_get, refl, sym, ap, subst}
+use Rattle.std.proofs.Common.{ℕ, ◌≡◌, ◌∙◌, inl, inr, List, [], Option, Some, None, length, refl, sym, ap, subst}
 use Rattle.dwarf_base.specs.declared.common.Encoding.{Encoding}
 use Rattle.dwarf_base.specs.Reads.{Text}
-use Rattle.dwarf_meaning.specs.Steps.{untold}
 use Rattle.dwarf_meaning.specs.Locations.{Piece}
 use Rattle.dwarf_meaning.specs.Meaning.{Outcome, RequestOutcome, FaultOutcome, CompleteOutcome}
 use Rattle.dwarf_meaning.specs.Requests.{Request}
@@ -10,17 +9,14 @@ use Rattle.dwarf_meaning.specs.Rest.{State, Status, Start, Running, RequestStatu
 use Rattle.dwarf_meaning.specs.Stores.{Setup}
 use Rattle.dwarf_meaning.specs.Run.{most}
 use Rattle.dwarf_replay.specs.Replays.{StandsAt, IsInRequest, told_at}
-use Rattle.dwexpr_c.specs.Evaluated.{EvaluatesGiven, EvaluatesFirst, Beginning, ShowsOutcome, comes_of, limited_setup, told_by}
+use Rattle.dwexpr_c.specs.Evaluated.{EvaluatesGiven, Beginning, ShowsOutcome, beginning, comes_of, limited_setup, told_by}
 use Rattle.dwexpr_c.specs.Outcomes.{ShowsRequest}
-use Rattle.dwexpr_c.specs.Texts.{TextAt}
 use Rattle.dwexpr_c.specs.Places.{IsGiven}
-use Rattle.dwexpr_c.specs.Held.{HasTaken, StandsAfter, StandsAfterFirst}
-use Rattle.dwexpr_c.specs.inner.Runs.{EvaluatesFound, StandsAfterFound, given_at}
+use Rattle.dwexpr_c.specs.Held.{HasTaken}
+use Rattle.dwexpr_c.specs.inner.Runs.{given_at}
 use Rattle.dwexpr_c.specs.Stepping.{FinishesOutcome, ShowsStatus}
-use Rattle.dwexpr_c.specs.declared.held.Held.{Held}
 use Rattle.dwexpr_c.specs.declared.outcomes.DwexprOutcome.{DwexprOutcome}
 use Rattle.dwexpr_c.specs.declared.pieces.DwexprPiece.{DwexprPiece}
-use Rattle.dwexpr_c.specs.declared.places.Placed.{Placed}
 use Rattle.dwexpr_c.specs.declared.steps.DwexprStep.{DwexprStep}
 use Rattle.dwexpr_c.specs.declared.steps.DwexprText.{DwexprText}
 use Rattle.dwexpr_c.proofs.Given.{pieces_somewhere}
@@ -68,27 +64,9 @@ module _ (texts : List DwexprText) (numbers : List DwexprStep) (first new : Stat
   all_done f = finished (comes_of given ran.steps) refl ran.stands f
 
 -- a fresh evaluation
-pub given_is : (first : State) (texts : List DwexprText) (encoding : Encoding) (text : Text) → first.setup ≡ limited_setup encoding → first.text ≡ text → first.store.object_address ≡ None → first.store.maximum ≡ most → given_at first texts ≡ record { setup = limited_setup encoding; text = text; told = untold; texts = texts }
+pub given_is : (first : State) (texts : List DwexprText) (encoding : Encoding) (text : Text) → first.setup ≡ limited_setup encoding → first.text ≡ text → first.store.object_address ≡ None → first.store.maximum ≡ most → given_at first texts ≡ beginning encoding text texts
 given_is first texts encoding text s t o m =
     ap (λ (z : Setup). record { setup = z; text = first.text; told = told_at first; texts = texts }) s
     ∙ (ap (λ (z : Text). record { setup = limited_setup encoding; text = z; told = told_at first; texts = texts }) t
     ∙ (ap (λ (z : Option ℕ). record { setup = limited_setup encoding; text = text; told = record { settings = record { initial_value = None; object_address = z; maximum = first.store.maximum }; first = None; inputs = [] }; texts = texts }) o
     ∙ ap (λ (z : ℕ). record { setup = limited_setup encoding; text = text; told = record { settings = record { initial_value = None; object_address = None; maximum = z }; first = None; inputs = [] }; texts = texts }) m))
-
--- ---- the first of the texts
-
-pub first_found : (encoding : Encoding) (big : Bool) (texts : List DwexprText) (numbers : List DwexprStep) (out : DwexprOutcome) (old new : List DwexprPiece) (found : Option Placed) → TextAt big (slice_get texts 0) found → EvaluatesFound encoding texts numbers out old new found → EvaluatesFirst encoding big texts numbers out old new
-first_found encoding big [] numbers out old new None h e = e
-first_found encoding big [] numbers out old new (Some placed) h e = absurd cc
-first_found encoding big (text ∷ texts) numbers out old new None h e = absurd (let f = h.1 in cc)
-first_found encoding big (text ∷ texts) numbers out old new (Some placed) h e =
-    subst (λ (t : Text). EvaluatesGiven (record { setup = limited_setup encoding; text = t; told = untold; texts = text ∷ texts }) numbers out old new) h.0 e
-
-pub stands_first : (encoding : Encoding) (big : Bool) (texts : List DwexprText) (numbers : List DwexprStep) (before after : Held) (out : DwexprOutcome) (found : Option Placed) → TextAt big (slice_get texts 0) found → StandsAfterFound encoding texts numbers before after out found → StandsAfterFirst encoding big texts numbers before after out
-stands_first encoding big [] numbers before after out None h s = s
-stands_first encoding big [] numbers before after out (Some placed) h s = absurd cc
-stands_first encoding big (text ∷ texts) numbers before after out None h s = absurd (let f = h.1 in cc)
-stands_first encoding big (text ∷ texts) numbers before after out (Some placed) h s = (
-  s.0 ∙ ap (λ (t : Text). t.is_big) h.0,
-  subst (λ (t : Text). StandsAfter (record { setup = limited_setup encoding; text = t; told = untold; texts = text ∷ texts }) numbers after.evaluation out) h.0 s.1,
-)

@@ -1,6 +1,7 @@
 -- Each block that an evaluation gives is at some place of the texts that the caller gave.
 use Rattle.std.proofs.Common.{ℕ, zero, suc, ◌≡◌, ◌∙◌, ◌+◌, ◌≤◌, ◌==◌, ◌^◌, nat_lt, Bool, List, [], ◌∷◌, ◌++◌, map, take, drop, length, slice_get, Option, Some, None, Result, Ok, Err, refl, sym, ap, subst, arith, length-append}
 use Rattle.std.specs.List.{slice_range}
+use Rattle.std.specs.Option.{option_map}
 use Rattle.std.proofs.lemmas.Bool.{cond_both}
 use Rattle.std.proofs.lemmas.List.{take-append-drop}
 use Rattle.dwarf_base.specs.Faults.{Fault}
@@ -23,7 +24,7 @@ use Rattle.dwarf_replay.specs.Replays.{told_at}
 use Rattle.dwexpr_c.specs.Evaluated.{comes_of}
 use Rattle.dwexpr_c.specs.Operations.{block_in}
 use Rattle.dwexpr_c.specs.Steps.{step_coded, with_value, with_type, with_text}
-use Rattle.dwexpr_c.specs.Texts.{IsPlaced}
+use Rattle.dwexpr_c.specs.Texts.{IsPlaced, text_in}
 use Rattle.dwexpr_c.specs.Values.{type_coded, value_coded}
 use Rattle.dwexpr_c.specs.Places.{IsGiven, AsksNowhere, HoldsNowhere, SomeNowhere}
 use Rattle.dwexpr_c.specs.inner.Runs.{given_at}
@@ -116,7 +117,7 @@ module _ (texts : List DwexprText) where
   on_type None = record { on = tt }
   on_type (Some t) = record { on = tt }
 
-  on_text : (big : Bool) (index : ℕ) (o : Option DwexprText) → slice_get texts index ≡ o → IsSaid (with_text big o)
+  on_text : (big : Bool) (index : ℕ) (o : Option DwexprText) → slice_get texts index ≡ o → IsSaid (with_text (option_map (text_in big) o))
   on_text big index None e = record { on = tt }
   on_text big index (Some text) e = record { on = record { index = index; at = text; is_there = e; same = refl } }
 

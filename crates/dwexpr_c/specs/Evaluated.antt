@@ -1,5 +1,5 @@
 -- What the steps of a caller in C come to (DWARF 5, sections 2.5 and 2.6).
-use Rattle.std.specs.Prelude.{ℕ, ◌≡◌, ◌⊎◌, ◌++◌, Bool, List, [], ◌∷◌, map, take, slice_get, Option, Some, None, Result, Ok, Err, length}
+use Rattle.std.specs.Prelude.{ℕ, ◌≡◌, ◌⊎◌, ◌++◌, List, [], ◌∷◌, map, take, slice_get, Option, Some, None, Result, Ok, Err, length}
 use Rattle.dwarf_base.specs.declared.common.Encoding.{Encoding}
 use Rattle.dwarf_base.specs.Faults.{Fault}
 use Rattle.dwarf_base.specs.Reads.{Text}
@@ -11,7 +11,6 @@ use Rattle.dwexpr_c.specs.Codes.{bad_text_code, misplaced_code}
 use Rattle.dwexpr_c.specs.Outcomes.{ShowsRequest, complete_outcome, ended_outcome, fault_outcome, blank_outcome}
 use Rattle.dwexpr_c.specs.Pieces.{AreWritten}
 use Rattle.dwexpr_c.specs.Steps.{step_coded}
-use Rattle.dwexpr_c.specs.Texts.{text_in}
 use Rattle.dwexpr_c.specs.declared.outcomes.DwexprOutcome.{DwexprOutcome}
 use Rattle.dwexpr_c.specs.declared.pieces.DwexprPiece.{DwexprPiece}
 use Rattle.dwexpr_c.specs.declared.steps.DwexprStep.{DwexprStep}
@@ -32,10 +31,9 @@ pub record Beginning : Type 0 where
   pub told : Told
   pub texts : List DwexprText
 
--- the first of a caller's texts, before any step
-abbrev pub beginning : Encoding → (big : Bool) → (first : DwexprText) → (texts : List DwexprText) → Beginning
-beginning encoding big first texts =
-    record { setup = limited_setup encoding; text = text_in big first; told = untold; texts = texts }
+-- an expression before any step
+abbrev pub beginning : Encoding → Text → List DwexprText → Beginning
+beginning encoding text texts = record { setup = limited_setup encoding; text = text; told = untold; texts = texts }
 
 -- what was told once the steps are done
 abbrev pub told_by : Beginning → List Step → Told
@@ -107,9 +105,9 @@ abbrev pub EvaluatesGiven : Beginning → List DwexprStep → DwexprOutcome → 
 EvaluatesGiven given numbers out old new =
     IsDone given numbers out old new ⊎ (IsCutShort given numbers out × (new ≡ old))
 
--- the first of the texts is evaluated
-abbrev pub EvaluatesFirst : Encoding → (big : Bool) → List DwexprText → List DwexprStep → DwexprOutcome
+-- the first of the texts is evaluated, if there is one
+abbrev pub EvaluatesFirst : Encoding → (first : Option Text) → List DwexprText → List DwexprStep → DwexprOutcome
     → (old new : List DwexprPiece) → Type 0
-EvaluatesFirst encoding big [] numbers out old new = (out ≡ ended_outcome bad_text_code 0 0) × (new ≡ old)
-EvaluatesFirst encoding big (text ∷ texts) numbers out old new =
-    EvaluatesGiven (beginning encoding big text (text ∷ texts)) numbers out old new
+EvaluatesFirst encoding None texts numbers out old new = (out ≡ ended_outcome bad_text_code 0 0) × (new ≡ old)
+EvaluatesFirst encoding (Some text) texts numbers out old new =
+    EvaluatesGiven (beginning encoding text texts) numbers out old new

@@ -1,7 +1,8 @@
 -- Where an evaluation stands that is held between the calls of a caller in C (DWARF 5, section 2.5).
-use Rattle.std.specs.Prelude.{◌≡◌, ◌⊎◌, Bool, List, [], ◌∷◌, Result, Ok, Err, Option, None, Some}
+use Rattle.std.specs.Prelude.{◌≡◌, ◌⊎◌, List, Result, Ok, Err, Option, None, Some}
 use Rattle.dwarf_base.specs.declared.common.Encoding.{Encoding}
 use Rattle.dwarf_base.specs.ByteOrder.{is_big_of}
+use Rattle.dwarf_base.specs.Reads.{Text}
 use Rattle.dwarf_meaning.specs.Rest.{State}
 use Rattle.dwarf_meaning.specs.Steps.{Step}
 use Rattle.dwarf_replay.specs.Replays.{StandsAt}
@@ -48,19 +49,18 @@ abbrev pub StandsAfter : Beginning → List DwexprStep → (new : State) → Dwe
 StandsAfter given numbers new out = HasTaken given numbers new ⊎ HasStopped given numbers new out
 
 -- it stands where the steps of the first of the texts lead; without a text it is as it was
-abbrev pub StandsAfterFirst : Encoding → (big : Bool) → List DwexprText → List DwexprStep → (before after : Held)
-    → DwexprOutcome → Type 0
-StandsAfterFirst encoding big [] numbers before after out = after ≡ before
-StandsAfterFirst encoding big (text ∷ texts) numbers before after out =
-    (is_big_of after.order ≡ big) × StandsAfter (beginning encoding big text (text ∷ texts)) numbers after.evaluation
-    out
+abbrev pub StandsAfterFirst : Encoding → (first : Option Text) → List DwexprText → List DwexprStep
+    → (before after : Held) → DwexprOutcome → Type 0
+StandsAfterFirst encoding None texts numbers before after out = after ≡ before
+StandsAfterFirst encoding (Some text) texts numbers before after out =
+    (is_big_of after.order ≡ text.is_big) × StandsAfter (beginning encoding text texts) numbers after.evaluation out
 
 -- the same of a handle
-abbrev pub Starts : Encoding → (big : Bool) → List DwexprText → List DwexprStep → (before after : Option Held)
-    → DwexprOutcome → Type 0
-Starts encoding big texts numbers (Some before) (Some after) out =
-    StandsAfterFirst encoding big texts numbers before after out
-Starts encoding big texts numbers _ _ out = ⊥
+abbrev pub Starts : Encoding → (first : Option Text) → List DwexprText → List DwexprStep
+    → (before after : Option Held) → DwexprOutcome → Type 0
+Starts encoding first texts numbers (Some before) (Some after) out =
+    StandsAfterFirst encoding first texts numbers before after out
+Starts encoding first texts numbers _ _ out = ⊥
 
 -- ---- after a resume
 

@@ -1,5 +1,6 @@
 -- The steps that a caller may name by numbers (DWARF 5, section 2.5).
-use Rattle.std.specs.Prelude.{ℕ, ◌==◌, ◌^◌, Bool, List, Option, Some, None, Result, Ok, Err, slice_get, nat_lt, if◌then◌else◌}
+use Rattle.std.specs.Prelude.{ℕ, ◌==◌, ◌^◌, Bool, List, Option, Some, None, Result, Ok, Err, nat_lt, if◌then◌else◌}
+use Rattle.dwarf_base.specs.Reads.{Text}
 use Rattle.dwarf_meaning.specs.declared.kinds.WaitingKind.{WaitingKind}
 use Rattle.dwarf_meaning.specs.declared.kinds.WaitingKind.TheVariants as kind
 use Rattle.dwarf_meaning.specs.Requests as requests
@@ -7,7 +8,7 @@ use Rattle.dwarf_meaning.specs.Steps as meaning
 use Rattle.dwarf_value.specs.declared.types.Value.{Value}
 use Rattle.dwarf_value.specs.declared.types.ValueType.{ValueType}
 use Rattle.dwexpr_c.specs.Codes.{bad_step_code, bad_text_code}
-use Rattle.dwexpr_c.specs.Texts.{text_in}
+use Rattle.dwexpr_c.specs.Texts.{text_at}
 use Rattle.dwexpr_c.specs.Values.{type_coded, value_coded}
 use Rattle.dwexpr_c.specs.declared.steps.DwexprText.{DwexprText}
 use Rattle.dwexpr_c.specs.declared.steps.DwexprStep.{DwexprStep}
@@ -23,9 +24,9 @@ with_type None = Err bad_step_code
 with_type (Some t) = Ok (meaning.Resume (requests.BaseTypeAnswer t))
 
 -- an answer with a text, if the index has one
-abbrev pub with_text : (big : Bool) → Option DwexprText → Result meaning.Step ℕ
-with_text big None = Err bad_text_code
-with_text big (Some text) = Ok (meaning.Resume (requests.LocationAnswer (text_in big text)))
+abbrev pub with_text : Option Text → Result meaning.Step ℕ
+with_text None = Err bad_text_code
+with_text (Some text) = Ok (meaning.Resume (requests.LocationAnswer text))
 
 -- the step that the numbers say, or the code if they say none
 abbrev pub step_coded : (big : Bool) → List DwexprText → DwexprStep → Result meaning.Step ℕ
@@ -45,6 +46,6 @@ step_coded big texts step =
     else if step.kind == 12 then Ok (meaning.Resume (requests.NumberAnswer kind.ParameterRef step.number))
     else if step.kind == 13 then Ok (meaning.Resume (requests.NumberAnswer kind.RelocatedAddress step.number))
     else if step.kind == 14 then Ok (meaning.Resume (requests.NumberAnswer kind.IndexedAddress step.number))
-    else if step.kind == 15 then with_text big (slice_get texts step.text)
+    else if step.kind == 15 then with_text (text_at big texts step.text)
     else if step.kind == 16 then with_type (type_coded step.value_type)
     else Err bad_step_code

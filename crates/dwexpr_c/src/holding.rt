@@ -6,6 +6,7 @@ ghost use Rattle.dwexpr_c.specs.Evaluated.{EvaluatesFirst};
 ghost use Rattle.dwexpr_c.specs.Held.{HasCapacities, HasResumed, IsBegun, Resumes, Starts};
 ghost use Rattle.dwexpr_c.specs.Outcomes.{ended_outcome};
 ghost use Rattle.dwexpr_c.specs.Owned.{held_row};
+ghost use Rattle.dwexpr_c.specs.Texts.{text_at};
 
 use crate::encodings::DwexprEncoding;
 use crate::evaluating::{do_step, show_status};
@@ -70,11 +71,11 @@ pub extern "C" fn dwexpr_evaluation_start(
         → (outcome.new ≡ ended_outcome bad_encoding_code 0 0) × (pieces.new ≡ pieces.old)
         × (evaluation.new.held ≡ evaluation.old.held) }
     ensures evaluates { IsEncoding encoding
-        → EvaluatesFirst (encoding_in encoding) (is_big_in encoding) texts.now steps.now outcome.new
-        pieces.old pieces.new }
+        → EvaluatesFirst (encoding_in encoding) (text_at (is_big_in encoding) texts.now 0) texts.now
+        steps.now outcome.new pieces.old pieces.new }
     ensures starts { IsEncoding encoding
-        → Starts (encoding_in encoding) (is_big_in encoding) texts.now steps.now evaluation.old.held
-        evaluation.new.held outcome.new }
+        → Starts (encoding_in encoding) (text_at (is_big_in encoding) texts.now 0) texts.now
+        steps.now evaluation.old.held evaluation.new.held outcome.new }
 {
     start(evaluation.get(), texts, encoding, steps, outcome, pieces);
     outcome.code

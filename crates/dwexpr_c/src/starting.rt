@@ -1,13 +1,12 @@
-ghost use Rattle.std.specs.Prelude.{◌≡◌, ◌<◌, ◌≤◌, IfSome};
+ghost use Rattle.std.specs.Prelude.{◌≡◌, ◌<◌, ◌≤◌, IfSome, option_map};
 ghost use Rattle.dwarf_base.specs.ByteOrder.{is_big_of};
 ghost use Rattle.dwexpr_c.specs.Codes.{bad_encoding_code};
 ghost use Rattle.dwexpr_c.specs.Encodings.{IsEncoding, encoding_in, is_big_in};
-ghost use Rattle.dwexpr_c.specs.Evaluated.{EvaluatesGiven, EvaluatesFirst};
+ghost use Rattle.dwexpr_c.specs.Evaluated.{EvaluatesGiven, EvaluatesFirst, beginning};
 ghost use Rattle.dwexpr_c.specs.Held.{HasCapacities, StandsAfter, StandsAfterFirst};
 ghost use Rattle.dwexpr_c.specs.Outcomes.{ended_outcome};
 ghost use Rattle.dwexpr_c.specs.Places.{IsGiven};
-ghost use Rattle.dwexpr_c.specs.Texts.{text_of_placed};
-ghost use Rattle.dwexpr_c.specs.inner.Runs.{EvaluatesFound, StandsAfterFound, beginning_at};
+ghost use Rattle.dwexpr_c.specs.Texts.{text_at, text_of_placed};
 
 use crate::encodings::{DwexprEncoding, Reading, reading_of};
 use crate::evaluating::evaluate_steps;
@@ -34,10 +33,12 @@ fn start_text<'a>(
     requires order { (text_of_placed text).is_big ≡ is_big_of reading.order }
     requires given { IsGiven texts.now (text_of_placed text).bytes }
     ensures capacities { HasCapacities held.new.evaluation }
-    ensures evaluates { EvaluatesGiven (beginning_at reading.encoding text.entry texts.now) steps.now
-        outcome.new places.old places.new }
+    ensures evaluates { EvaluatesGiven
+        (beginning reading.encoding (text_of_placed text.entry) texts.now) steps.now outcome.new
+        places.old places.new }
     ensures order { is_big_of held.new.order ≡ (text_of_placed text.entry).is_big }
-    ensures stands { StandsAfter (beginning_at reading.encoding text.entry texts.now) steps.now
+    ensures stands { StandsAfter
+        (beginning reading.encoding (text_of_placed text.entry) texts.now) steps.now
         held.new.evaluation outcome.new }
 {
     held.order = reading.order;
@@ -68,10 +69,10 @@ fn start_found<'a>(
     requires order { IfSome found (λ text. (text_of_placed text).is_big ≡ is_big_of reading.order) }
     requires given { IfSome found (λ text. IsGiven texts.now (text_of_placed text).bytes) }
     ensures capacities { HasCapacities held.new.evaluation }
-    ensures evaluates { EvaluatesFound reading.encoding texts.now steps.now outcome.new places.old
-        places.new found.entry }
-    ensures stands { StandsAfterFound reading.encoding texts.now steps.now held.old held.new
-        outcome.new found.entry }
+    ensures evaluates { EvaluatesFirst reading.encoding (option_map text_of_placed found.entry)
+        texts.now steps.now outcome.new places.old places.new }
+    ensures stands { StandsAfterFirst reading.encoding (option_map text_of_placed found.entry)
+        texts.now steps.now held.old held.new outcome.new }
 {
     match found {
         None => *outcome = show_end(plain(BAD_TEXT), 0),
@@ -92,10 +93,12 @@ fn start_first<'a>(
     requires some { 0 < reading.encoding.address_size }
     requires fits { reading.encoding.address_size ≤ 8 }
     ensures capacities { HasCapacities held.new.evaluation }
-    ensures evaluates { EvaluatesFirst reading.encoding (is_big_of reading.order) texts.now steps.now
-        outcome.new places.old places.new }
-    ensures stands { StandsAfterFirst reading.encoding (is_big_of reading.order) texts.now steps.now
-        held.old held.new outcome.new }
+    ensures evaluates { EvaluatesFirst reading.encoding
+        (text_at (is_big_of reading.order) texts.now 0) texts.now steps.now outcome.new places.old
+        places.new }
+    ensures stands { StandsAfterFirst reading.encoding
+        (text_at (is_big_of reading.order) texts.now 0) texts.now steps.now held.old held.new
+        outcome.new }
 {
     let found = text_at(texts, reading.order, 0);
     start_found(held, texts, found, reading, steps, outcome, places);
@@ -116,11 +119,11 @@ pub(crate) fn start<'a>(
         → (outcome.new ≡ ended_outcome bad_encoding_code 0 0) × (places.new ≡ places.old)
         × (held.new ≡ held.old) }
     ensures evaluates { IsEncoding numbers
-        → EvaluatesFirst (encoding_in numbers) (is_big_in numbers) texts.now steps.now outcome.new
-        places.old places.new }
+        → EvaluatesFirst (encoding_in numbers) (text_at (is_big_in numbers) texts.now 0) texts.now
+        steps.now outcome.new places.old places.new }
     ensures stands { IsEncoding numbers
-        → StandsAfterFirst (encoding_in numbers) (is_big_in numbers) texts.now steps.now held.old
-        held.new outcome.new }
+        → StandsAfterFirst (encoding_in numbers) (text_at (is_big_in numbers) texts.now 0) texts.now
+        steps.now held.old held.new outcome.new }
 {
     match reading_of(numbers) {
         None => *outcome = show_end(plain(BAD_ENCODING), 0),
@@ -146,8 +149,8 @@ pub extern "C" fn dwexpr_evaluate(
     ensures encoding { (IsEncoding encoding → ⊥)
         → (outcome.new ≡ ended_outcome bad_encoding_code 0 0) × (pieces.new ≡ pieces.old) }
     ensures evaluates { IsEncoding encoding
-        → EvaluatesFirst (encoding_in encoding) (is_big_in encoding) texts.now steps.now outcome.new
-        pieces.old pieces.new }
+        → EvaluatesFirst (encoding_in encoding) (text_at (is_big_in encoding) texts.now 0) texts.now
+        steps.now outcome.new pieces.old pieces.new }
 {
     start(&mut unstarted(), texts, encoding, steps, outcome, pieces);
     outcome.code

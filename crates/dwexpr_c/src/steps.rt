@@ -1,10 +1,10 @@
-ghost use Rattle.std.specs.Prelude.{◌≡◌, Some, None, IfSome, IfNone, IfOk, IfErr, Ok, Err, ok_or, slice_get, length, true, false};
+ghost use Rattle.std.specs.Prelude.{◌≡◌, Some, None, IfSome, IfNone, IfOk, IfErr, Ok, Err, ok_or, option_map, length, true, false};
 ghost use Rattle.dwarf_base.specs.ByteOrder.{is_big_of};
 ghost use Rattle.dwarf_replay.specs.Stepping as stepping;
 ghost use Rattle.dwexpr_c.specs.Codes.{bad_step_code};
 ghost use Rattle.dwexpr_c.specs.Steps.{step_coded};
 ghost use Rattle.dwexpr_c.specs.Values.{value_coded};
-ghost use Rattle.dwexpr_c.specs.Texts.{IsPlaced, TextAt, text_of_placed};
+ghost use Rattle.dwexpr_c.specs.Texts.{IsPlaced, text_at, text_of_placed};
 ghost use Rattle.dwexpr_c.specs.Places.{IsAt, IsGiven, IsNotAt, IsNotIn, IsNowhere};
 
 use crate::faults::{BAD_STEP, BAD_TEXT};
@@ -62,7 +62,7 @@ pub(crate) fn text_at<'a>(
     order: RunTimeEndian,
     index: usize,
 ) -> Option<Placed<'a>>
-    ensures text { TextAt (is_big_of order) (slice_get texts.now index) result }
+    ensures text { option_map text_of_placed result ≡ text_at (is_big_of order) texts.now index }
     ensures order { IfSome result (λ placed. (text_of_placed placed).is_big ≡ is_big_of order) }
     ensures given { IfSome result (λ placed. IsGiven texts.now (text_of_placed placed).bytes) }
 {

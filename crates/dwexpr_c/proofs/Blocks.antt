@@ -1,6 +1,7 @@
 -- The block of an operation is the last part of its bytes.
 use Rattle.std.proofs.Common.{ℕ, ◌≡◌, ◌∙◌, ◌-◌, ◌+◌, ℤ, Bool, List, [], ◌∷◌, ◌++◌, length, take, drop, Option, Some, None, Result, Ok, Err, ◌<◌, arith, refl, sym, ap, subst, append_assoc, length-append}
 use Rattle.std.specs.List.{slice_range}
+use Rattle.std.specs.Option.{IfSome}
 use Rattle.std.proofs.Math.Seq.{drop-append_seam, drop-append-add, take-append_seam}
 use Rattle.std.proofs.lemmas.List.{take-append-drop, length-take-le}
 use Rattle.dwarf_base.specs.Faults.{Fault}
@@ -13,7 +14,7 @@ use Rattle.dwarf_meaning.specs.Decoding.{operation_at}
 use Rattle.dwarf_meaning.specs.Spelling.{SpellsOperands, Spells}
 use Rattle.dwarf_meaning.specs.Spelling as spelling
 use Rattle.dwarf_meaning.proofs.Decoded.{operation_begins}
-use Rattle.dwexpr_c.specs.Decoded.{Decodes, HasBlock, IsBlockAt, with_block}
+use Rattle.dwexpr_c.specs.Decoded.{Decodes, IsBlockAt, with_block}
 use Rattle.dwexpr_c.specs.Operations.{block_in, operands_of}
 use Rattle.dwexpr_c.specs.declared.operations.DwexprOperation.{DwexprOperation}
 use Rattle.dwarf_meaning.proofs.Lines.{OnLines, ◌⊳◌, wasm_holds, row_holds}
@@ -174,7 +175,7 @@ module _ (encoding : Encoding) (bits : ℕ) (big : Bool) (bytes : List ℕ) (off
   left = record { bytes = drop offset bytes; is_big = big }
 
   -- the place that is shown of an operation's block
-  placed_by : (op : Operation) (rest : List ℕ) (block : Option (List ℕ)) → offset < length bytes → operation_at encoding bits left ≡ Ok (op, rest) → block_in op ≡ block → (shown : DwexprOperation) → shown ≡ record (with_block (offset + (length left.bytes - length rest)) block (operands_of op)) { offset = offset; opcode = opcode; size = length left.bytes - length rest } → HasBlock bytes shown block
+  placed_by : (op : Operation) (rest : List ℕ) (block : Option (List ℕ)) → offset < length bytes → operation_at encoding bits left ≡ Ok (op, rest) → block_in op ≡ block → (shown : DwexprOperation) → shown ≡ record (with_block (offset + (length left.bytes - length rest)) block (operands_of op)) { offset = offset; opcode = opcode; size = length left.bytes - length rest } → IfSome block (λ block. slice_range bytes shown.block_offset (shown.block_offset + shown.block_length) ≡ block)
   placed_by op rest None inside read e shown is = tt
   placed_by op rest (Some block) inside read e shown is =
       let begins = operation_begins encoding bits left op rest read in

@@ -24,7 +24,7 @@ use Rattle.dwarf_replay.specs.Replays.{told_at}
 use Rattle.dwexpr_c.specs.Evaluated.{comes_of}
 use Rattle.dwexpr_c.specs.Operations.{block_in}
 use Rattle.dwexpr_c.specs.Steps.{step_coded, with_value, with_type, with_text}
-use Rattle.dwexpr_c.specs.Texts.{IsPlaced, text_in}
+use Rattle.dwexpr_c.specs.Texts.{IsAt, IsPlaced, text_in}
 use Rattle.dwexpr_c.specs.Values.{type_coded, value_coded}
 use Rattle.dwexpr_c.specs.Places.{IsGiven, AsksNowhere, HoldsNowhere, SomeNowhere}
 use Rattle.dwexpr_c.specs.inner.Runs.{given_at}
@@ -36,7 +36,7 @@ use Rattle.dwexpr_c.proofs.Carried.{OnBlock, OnRead, OnLocation, OnPieces, OnReq
 record IsSomewhere (texts : List DwexprText) (block : List ℕ) : Type 0 where
   text : ℕ
   offset : ℕ
-  placed : IsPlaced texts text offset (length block) block
+  placed : IsPlaced texts text offset block
 
 module _ (texts : List DwexprText) where
   abbrev P : Text → Type 0
@@ -72,8 +72,7 @@ module _ (texts : List DwexprText) where
           placed = record {
             at = given.at;
             is_there = given.is_there;
-            inside = subst (λ (xs : List ℕ). offset + length block ≤ length xs) (sym given.same) inside;
-            same = subst (λ (xs : List ℕ). slice_range xs offset (offset + length block) ≡ block) (sym given.same) same;
+            placed = subst (λ (xs : List ℕ). IsAt xs offset block) (sym given.same) (inside, same);
           };
         }
 

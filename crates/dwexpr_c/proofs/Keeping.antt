@@ -9,7 +9,7 @@ use Rattle.dwarf_eval.specs.Evaluation.{Evaluates, Resumes, input_of}
 use Rattle.dwarf_eval.specs.Permits.{IsOpenFor}
 use Rattle.dwarf_eval.specs.declared.op.results.EvaluationResult.{EvaluationResult}
 use Rattle.dwarf_replay.specs.Stepping.{HasReplied, IsSet}
-use Rattle.dwexpr_c.specs.Stepping.{DoesStep, Stops, Takes}
+use Rattle.dwexpr_c.specs.Stepping.{DoesStep, Stops}
 use Rattle.dwexpr_c.specs.Texts.{text_of_placed}
 use Rattle.dwexpr_c.specs.declared.faults.FaultNumbers.{FaultNumbers}
 use Rattle.dwexpr_c.specs.declared.outcomes.DwexprOutcome.{DwexprOutcome}
@@ -50,11 +50,6 @@ module _ (x new : State) where
     reply_keeps (MaxIterations maximum) h = absurd h
 
   module _ (texts : List DwexprText) where
-    take_keeps : (said : Result Step ℕ) (before after : DwexprOutcome) → Takes texts said x new before after → new.setup ≡ x.setup
-    take_keeps (Ok step) before after (inl h) = set_keeps step h.0
-    take_keeps (Ok step) before after (inr h) = reply_keeps (Ok h.told) step h.called
-    take_keeps (Err code) before after h = absurd h
-
     pub stop_keeps : (said : Result Step ℕ) (end : FaultNumbers) → Stops texts said x new end → new.setup ≡ x.setup
     stop_keeps (Ok step) end (inl h) = same_keeps h.same
     stop_keeps (Ok step) end (inr (inl h)) = reply_keeps (Err h.error) step h.called
@@ -62,5 +57,7 @@ module _ (x new : State) where
     stop_keeps (Err code) end h = same_keeps h.1
 
     pub step_keeps : (said : Result Step ℕ) (before after : DwexprOutcome) (ended : Result (Unit {0}) FaultNumbers) → DoesStep texts said x new before after ended → new.setup ≡ x.setup
-    step_keeps said before after (Ok _) h = take_keeps said before after h
     step_keeps said before after (Err end) h = stop_keeps said end h
+    step_keeps (Ok step) before after (Ok _) (inl h) = set_keeps step h.0
+    step_keeps (Ok step) before after (Ok _) (inr h) = reply_keeps (Ok h.told) step h.called
+    step_keeps (Err code) before after (Ok _) h = absurd h

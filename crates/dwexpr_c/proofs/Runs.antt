@@ -28,7 +28,7 @@ use Rattle.dwexpr_c.specs.Texts.{text_of_placed}
 use Rattle.dwexpr_c.specs.Held.{HasStopped, HasTaken}
 use Rattle.dwexpr_c.specs.inner.Runs.{given_at}
 use Rattle.dwexpr_c.specs.Places.{AsksNowhere, IsGiven}
-use Rattle.dwexpr_c.specs.Stepping.{DoesStep, ShowsStatus, Stops, Takes}
+use Rattle.dwexpr_c.specs.Stepping.{DoesStep, ShowsStatus, Stops}
 use Rattle.dwexpr_c.specs.declared.faults.FaultNumbers.{FaultNumbers}
 use Rattle.dwexpr_c.specs.declared.outcomes.DwexprOutcome.{DwexprOutcome}
 use Rattle.dwexpr_c.specs.declared.places.Placed.{Placed}
@@ -214,7 +214,7 @@ module _ (texts : List DwexprText) (all : List DwexprStep) (index : ℕ) (at : D
       ∙ sym (map-append Ok steps (step ∷ [])))))
 
   module _ (x new : State) (out : DwexprOutcome) (r : Reached texts (take index all) first x out) where
-    next_by : (now : DwexprOutcome) (o : Result Step ℕ) → step_coded first.text.is_big texts at ≡ o → Takes texts o x new out now → Reached texts (take (suc index) all) first new now
+    next_by : (now : DwexprOutcome) (o : Result Step ℕ) → step_coded first.text.is_big texts at ≡ o → DoesStep texts o x new out now (Ok tt) → Reached texts (take (suc index) all) first new now
     next_by now (Ok step) one (inl h) =
         subst (Reached texts (take (suc index) all) first new) (sym h.1)
         (record {

@@ -1,23 +1,19 @@
 -- What a decoding gives a caller in C (DWARF 5, sections 2.5 and 7.7.1).
-use Rattle.std.specs.Prelude.{ℕ, ◌+◌, ◌-◌, ◌≡◌, List, Option, Some, None, Result, Ok, Err, length, slice_range}
+use Rattle.std.specs.Prelude.{ℕ, ◌+◌, ◌-◌, ◌≡◌, List, Option, Some, None, Result, Ok, Err, IfOk, IfSome, length, slice_range}
 use Rattle.dwarf_base.specs.Faults.{Fault}
 use Rattle.dwarf_meaning.specs.Operations.{Operation}
 use Rattle.dwexpr_c.specs.declared.operations.DwexprOperation.{DwexprOperation}
 use Rattle.dwexpr_c.specs.Codes.{code_of_fault, number_of_fault}
 use Rattle.dwexpr_c.specs.Operations.{blank_operation, operands_of, block_in}
 
--- nothing was decoded at this offset, for an argument that isn't allowed
-abbrev pub disallowed : (offset code : ℕ) → DwexprOperation
-disallowed offset code = record blank_operation { offset = offset; fault = code }
+-- nothing was decoded at this offset, and the code says why
+abbrev pub undecoded : (offset code : ℕ) → DwexprOperation
+undecoded offset code = record blank_operation { offset = offset; fault = code }
 
 -- a fault was met after this opcode
 abbrev pub faulted : (offset opcode : ℕ) → Fault → DwexprOperation
-faulted offset opcode fault = record blank_operation {
-  offset = offset;
-  opcode = opcode;
-  fault = code_of_fault fault;
-  detail = number_of_fault fault;
-}
+faulted offset opcode fault =
+    record (undecoded offset (code_of_fault fault)) { opcode = opcode; detail = number_of_fault fault }
 
 -- a block is the last part of its operation, which ends here
 abbrev pub with_block : (end : ℕ) → Option (List ℕ) → DwexprOperation → DwexprOperation
@@ -34,13 +30,8 @@ abbrev pub Decodes : (offset opcode left : ℕ) → Result (Operation × List �
 Decodes offset opcode left (Ok read) shown = shown ≡ decoded offset opcode (left - length read.1) read.0
 Decodes offset opcode left (Err fault) shown = shown ≡ faulted offset opcode fault
 
--- the bytes at the place that is shown are the operation's block
-abbrev pub HasBlock : (bytes : List ℕ) → DwexprOperation → Option (List ℕ) → Type 0
-HasBlock bytes shown None = Unit {0}
-HasBlock bytes shown (Some block) =
-    slice_range bytes shown.block_offset (shown.block_offset + shown.block_length) ≡ block
-
--- the bytes at the place that is shown are the block of what was read
+-- the bytes at the place that is shown are the block of what was read, if it has one
 abbrev pub IsBlockAt : (bytes : List ℕ) → DwexprOperation → Result (Operation × List ℕ) Fault → Type 0
-IsBlockAt bytes shown (Ok read) = HasBlock bytes shown (block_in read.0)
-IsBlockAt bytes shown (Err fault) = Unit {0}
+IsBlockAt bytes shown answer =
+    let at = slice_range bytes shown.block_offset (shown.block_offset + shown.block_length) in
+    IfOk answer (λ read. IfSome (block_in read.0) (λ block. at ≡ block))

@@ -55,13 +55,6 @@ StandsAfterFirst encoding None texts numbers before after out = after ≡ before
 StandsAfterFirst encoding (Some text) texts numbers before after out =
     (is_big_of after.order ≡ text.is_big) × StandsAfter (beginning encoding text texts) numbers after.evaluation out
 
--- the same of a handle
-abbrev pub Starts : Encoding → (first : Option Text) → List DwexprText → List DwexprStep
-    → (before after : Option Held) → DwexprOutcome → Type 0
-Starts encoding first texts numbers (Some before) (Some after) out =
-    StandsAfterFirst encoding first texts numbers before after out
-Starts encoding first texts numbers _ _ out = ⊥
-
 -- ---- after a resume
 
 -- what is shown of the step, by how it ended
@@ -79,9 +72,3 @@ pub record HasResumed (texts : List DwexprText) (number : DwexprStep) (before af
   pub does : DoesStep texts (step_coded (is_big_of before.order) texts number) before.evaluation after.evaluation
       blank_outcome told ended
   pub shown : Shows texts after.evaluation told ended out old new
-
--- the same of a handle
-abbrev pub Resumes : List DwexprText → DwexprStep → (before after : Option Held) → DwexprOutcome
-    → (old new : List DwexprPiece) → Type 0
-Resumes texts number (Some before) (Some after) out old new = HasResumed texts number before after out old new
-Resumes texts number _ _ out old new = ⊥

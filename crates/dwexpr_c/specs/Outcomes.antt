@@ -74,7 +74,7 @@ request_shown (requests.RequiresWasmStack index) = request_outcome 15 index
 abbrev pub ShowsBlock : List DwexprText → List ℕ → (shown out : DwexprOutcome) → Type 0
 ShowsBlock texts block shown out =
     (out ≡ record shown { block_text = out.block_text; block_offset = out.block_offset; block_length = length block })
-    × IsPlaced texts out.block_text out.block_offset (length block) block
+    × IsPlaced texts out.block_text out.block_offset block
 
 -- the outcome shows a request, with the place of its block
 abbrev pub ShowsRequest : List DwexprText → Request → DwexprOutcome → Type 0

@@ -1,29 +1,20 @@
 -- The pieces of a variable, as a caller in C sees them (DWARF 5, section 2.6.1).
-use Rattle.std.specs.Prelude.{ℕ, ◌≡◌, ◌<◌, ◌≤◌, pos, List, Option, Some, None, length, slice_get}
+use Rattle.std.specs.Prelude.{ℕ, ◌≡◌, ◌<◌, ◌≤◌, pos, List, Option, Some, is_some, length, slice_get, unwrap_or}
 use Rattle.dwarf_meaning.specs.Locations.{Location, Empty, InRegister, AtAddress, HoldsValue, HoldsBytes, PointsInto, Piece}
+use Rattle.dwexpr_c.specs.Operations.{flag_of}
 use Rattle.dwexpr_c.specs.Texts.{IsPlaced}
 use Rattle.dwexpr_c.specs.Values.{shown_value}
 use Rattle.dwexpr_c.specs.declared.pieces.DwexprPiece.{DwexprPiece}
 use Rattle.dwexpr_c.specs.declared.steps.DwexprText.{DwexprText}
 
--- 1 if there is a number
-abbrev pub has : Option ℕ → ℕ
-has None = 0
-has (Some number) = 1
-
--- the number, or 0
-abbrev pub or_zero : Option ℕ → ℕ
-or_zero None = 0
-or_zero (Some number) = number
-
 -- the kind and the sizes; all else is 0
 abbrev pub sized : (kind : ℕ) → (size_in_bits bit_offset : Option ℕ) → DwexprPiece
 sized kind size_in_bits bit_offset = record {
   kind = kind;
-  has_size = has size_in_bits;
-  size_in_bits = or_zero size_in_bits;
-  bit_offset = or_zero bit_offset;
-  has_bit_offset = has bit_offset;
+  has_size = flag_of (is_some size_in_bits);
+  size_in_bits = unwrap_or size_in_bits 0;
+  bit_offset = unwrap_or bit_offset 0;
+  has_bit_offset = flag_of (is_some bit_offset);
   value_type = 0;
   number = 0;
   byte_offset = pos 0;
@@ -36,7 +27,7 @@ sized kind size_in_bits bit_offset = record {
 abbrev pub ShowsBytes : List DwexprText → List ℕ → (shown out : DwexprPiece) → Type 0
 ShowsBytes texts block shown out =
     (out ≡ record shown { block_text = out.block_text; block_offset = out.block_offset; block_length = length block })
-    × IsPlaced texts out.block_text out.block_offset (length block) block
+    × IsPlaced texts out.block_text out.block_offset block
 
 -- the place shows a location, with its size and offset
 abbrev pub ShowsLocation : List DwexprText → (size_in_bits bit_offset : Option ℕ) → Location → DwexprPiece → Type 0

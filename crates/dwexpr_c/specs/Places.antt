@@ -1,18 +1,10 @@
 -- Where in a caller's texts the bytes of a block are, if anywhere.
-use Rattle.std.specs.Prelude.{ℕ, ◌+◌, ◌≡◌, ◌≤◌, List, Some, length, slice_get, slice_range}
+use Rattle.std.specs.Prelude.{ℕ, ◌≡◌, List, Some, slice_get}
 use Rattle.dwarf_meaning.specs.Locations.{Location, HoldsBytes, Piece}
 use Rattle.dwarf_meaning.specs.Requests as requests
 use Rattle.dwarf_meaning.specs.Steps.{Reply, RequestReply}
 use Rattle.dwexpr_c.specs.Texts.{IsPlaced}
 use Rattle.dwexpr_c.specs.declared.steps.DwexprText.{DwexprText}
-
--- the block is at this place of a text
-abbrev pub IsAt : (text : List ℕ) (place : ℕ) (block : List ℕ) → Type 0
-IsAt text place block = (place + length block ≤ length text) × (slice_range text place (place + length block) ≡ block)
-
--- the block is at no place of a text
-abbrev pub IsNotIn : (text block : List ℕ) → Type 0
-IsNotIn text block = (place : ℕ) → IsAt text place block → ⊥
 
 -- these are the bytes of one of the texts
 pub record IsGiven (texts : List DwexprText) (bytes : List ℕ) : Type 0 where
@@ -21,13 +13,9 @@ pub record IsGiven (texts : List DwexprText) (bytes : List ℕ) : Type 0 where
   pub is_there : slice_get texts index ≡ Some at
   pub same : at.bytes.now ≡ bytes
 
--- the block is at no place of the text at this index
-abbrev pub IsNotAt : List DwexprText → (text : ℕ) → (block : List ℕ) → Type 0
-IsNotAt texts text block = (offset : ℕ) → IsPlaced texts text offset (length block) block → ⊥
-
--- it is at no place of any text
+-- the block is at no place of any text
 abbrev pub IsNowhere : List DwexprText → (block : List ℕ) → Type 0
-IsNowhere texts block = (text : ℕ) → IsNotAt texts text block
+IsNowhere texts block = (text offset : ℕ) → IsPlaced texts text offset block → ⊥
 
 -- a block is asked about that is nowhere
 abbrev pub AsksNowhere : List DwexprText → Reply → Type 0

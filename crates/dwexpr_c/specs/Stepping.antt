@@ -48,22 +48,19 @@ pub record NotTaken (step : Step) (old new : State) (end : FaultNumbers) : Type 
   pub not_taken : MayTake step old.status → ⊥
   pub shown : end ≡ plain_end misplaced_code
 
--- the step that the numbers say was taken
-abbrev pub Takes : List DwexprText → Result Step ℕ → (old new : State) → (before after : DwexprOutcome) → Type 0
-Takes texts (Ok step) old new before after = (IsSet step old new × (after ≡ before)) ⊎ Replied texts step old new after
-Takes texts (Err code) old new before after = ⊥
-
--- it ended the evaluation, or the numbers say none
+-- the step ended the evaluation, or the numbers say none
 abbrev pub Stops : List DwexprText → Result Step ℕ → (old new : State) → FaultNumbers → Type 0
 Stops texts (Ok step) old new end =
     NotTaken step old new end ⊎ (Failed step old new end ⊎ Unplaced texts step old new end)
 Stops texts (Err code) old new end = (end ≡ plain_end code) × (new ≡ old)
 
--- its outcome
+-- the step that the numbers say ended the evaluation, or was taken
 abbrev pub DoesStep : List DwexprText → Result Step ℕ → (old new : State) → (before after : DwexprOutcome)
     → Result (Unit {0}) FaultNumbers → Type 0
-DoesStep texts said old new before after (Ok _) = Takes texts said old new before after
 DoesStep texts said old new before after (Err end) = Stops texts said old new end
+DoesStep texts (Ok step) old new before after (Ok _) =
+    (IsSet step old new × (after ≡ before)) ⊎ Replied texts step old new after
+DoesStep texts (Err code) old new before after (Ok _) = ⊥
 
 -- the outcome shows where an evaluation without a fault stands
 abbrev pub ShowsStatus : List DwexprText → Status → DwexprOutcome → Type 0

@@ -16,9 +16,12 @@ text_in big text = record { bytes = text.bytes.now; is_big = big }
 abbrev pub text_at : (big : Bool) → List DwexprText → (index : ℕ) → Option Text
 text_at big texts index = option_map (text_in big) (slice_get texts index)
 
--- the bytes at this place of that text are the block
-pub record IsPlaced (texts : List DwexprText) (text offset size : ℕ) (block : List ℕ) : Type 0 where
+-- the block is at this place of a text
+abbrev pub IsAt : (text : List ℕ) (place : ℕ) (block : List ℕ) → Type 0
+IsAt text place block = (place + length block ≤ length text) × (slice_range text place (place + length block) ≡ block)
+
+-- the block is at this place of the text at that index
+pub record IsPlaced (texts : List DwexprText) (text offset : ℕ) (block : List ℕ) : Type 0 where
   pub at : DwexprText
   pub is_there : slice_get texts text ≡ Some at
-  pub inside : offset + size ≤ length at.bytes.now
-  pub same : slice_range at.bytes.now offset (offset + size) ≡ block
+  pub placed : IsAt at.bytes.now offset block

@@ -2,7 +2,7 @@ ghost use Rattle.std.specs.Prelude.{◌≡◌, ◌<◌, ◌≤◌, length, drop,
 ghost use Rattle.dwarf_base.specs.ByteOrder.{is_big_of};
 ghost use Rattle.dwarf_meaning.specs.Decoding.{operation_at};
 ghost use Rattle.dwexpr_c.specs.Codes.{bad_encoding_code, bad_offset_code};
-ghost use Rattle.dwexpr_c.specs.Decoded.{Decodes, IsBlockAt, disallowed};
+ghost use Rattle.dwexpr_c.specs.Decoded.{Decodes, IsBlockAt, undecoded};
 ghost use Rattle.dwexpr_c.specs.Encodings.{IsEncoding, encoding_in, is_big_in};
 
 use crate::encodings::{DwexprEncoding, Reading, reading_of};
@@ -41,9 +41,9 @@ pub extern "C" fn dwexpr_decode(
 ) -> u32
     ensures code { result ≡ operation.new.fault }
     ensures encoding { (IsEncoding encoding → ⊥)
-        → operation.new ≡ disallowed offset bad_encoding_code }
+        → operation.new ≡ undecoded offset bad_encoding_code }
     ensures offset { IsEncoding encoding → length bytes.now ≤ offset
-        → operation.new ≡ disallowed offset bad_offset_code }
+        → operation.new ≡ undecoded offset bad_offset_code }
     ensures decodes { IsEncoding encoding → offset < length bytes.now
         → Decodes offset (slice_index bytes.now offset) (length (drop offset bytes.now))
         (operation_at (encoding_in encoding) 64

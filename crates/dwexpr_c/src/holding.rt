@@ -1,9 +1,9 @@
 ghost use Rattle.std.specs.Mem.{type_size};
-ghost use Rattle.std.specs.Prelude.{◌≡◌, None};
+ghost use Rattle.std.specs.Prelude.{◌≡◌, IsSomeAnd, None};
 ghost use Rattle.dwexpr_c.specs.Codes.{bad_encoding_code};
 ghost use Rattle.dwexpr_c.specs.Encodings.{IsEncoding, encoding_in, is_big_in};
 ghost use Rattle.dwexpr_c.specs.Evaluated.{EvaluatesFirst};
-ghost use Rattle.dwexpr_c.specs.Held.{HasCapacities, HasResumed, IsBegun, Resumes, Starts};
+ghost use Rattle.dwexpr_c.specs.Held.{HasCapacities, HasResumed, IsBegun, StandsAfterFirst};
 ghost use Rattle.dwexpr_c.specs.Outcomes.{ended_outcome};
 ghost use Rattle.dwexpr_c.specs.Owned.{held_row};
 ghost use Rattle.dwexpr_c.specs.Texts.{text_at};
@@ -74,8 +74,10 @@ pub extern "C" fn dwexpr_evaluation_start(
         → EvaluatesFirst (encoding_in encoding) (text_at (is_big_in encoding) texts.now 0) texts.now
         steps.now outcome.new pieces.old pieces.new }
     ensures starts { IsEncoding encoding
-        → Starts (encoding_in encoding) (text_at (is_big_in encoding) texts.now 0) texts.now
-        steps.now evaluation.old.held evaluation.new.held outcome.new }
+        → IsSomeAnd evaluation.old.held
+        (λ before. IsSomeAnd evaluation.new.held
+        (λ after. StandsAfterFirst (encoding_in encoding) (text_at (is_big_in encoding) texts.now 0)
+        texts.now steps.now before after outcome.new)) }
 {
     start(evaluation.get(), texts, encoding, steps, outcome, pieces);
     outcome.code
@@ -97,8 +99,9 @@ pub extern "C" fn dwexpr_evaluation_resume(
     requires { IsBegun evaluation.old.held }
     ensures begun { IsBegun evaluation.new.held }
     ensures code { result ≡ outcome.new.code }
-    ensures resumes { Resumes texts.now step evaluation.old.held evaluation.new.held outcome.new
-        pieces.old pieces.new }
+    ensures resumes { IsSomeAnd evaluation.old.held
+        (λ before. IsSomeAnd evaluation.new.held
+        (λ after. HasResumed texts.now step before after outcome.new pieces.old pieces.new)) }
 {
     resume(evaluation.get(), texts, step, outcome, pieces);
     outcome.code

@@ -2,7 +2,7 @@ ghost use Rattle.std.specs.Prelude.{◌≡◌, ◌+◌, ◌-◌, ◌^◌, ◌<�
 ghost use Rattle.dwarf_base.specs.ByteOrder.{is_big_of};
 ghost use Rattle.dwarf_base.specs.EndianSlice.{slice_text};
 ghost use Rattle.dwarf_op.specs.Views.{operation_of};
-ghost use Rattle.dwexpr_c.specs.Decoded.{decoded, faulted, disallowed, with_block};
+ghost use Rattle.dwexpr_c.specs.Decoded.{decoded, faulted, undecoded, with_block};
 ghost use Rattle.dwexpr_c.specs.Operations.{block_in, numbered, operands_of, of_kind, signed_operand, typed};
 
 use crate::faults::{FaultNumbers, OK};
@@ -65,7 +65,7 @@ const NOTHING: DwexprOperation = DwexprOperation {
 
 /// What is shown if an argument isn't allowed.
 pub(crate) fn disallow(offset: usize, code: u32) -> DwexprOperation
-    ensures { result ≡ disallowed offset code }
+    ensures { result ≡ undecoded offset code }
 {
     DwexprOperation {
         offset,
@@ -77,7 +77,7 @@ pub(crate) fn disallow(offset: usize, code: u32) -> DwexprOperation
 /// What is shown of a fault.
 pub(crate) fn show_fault(offset: usize, opcode: u8, fault: FaultNumbers) -> DwexprOperation
     ensures { result
-        ≡ record (disallowed offset fault.code) { opcode = opcode; detail = fault.number } }
+        ≡ record (undecoded offset fault.code) { opcode = opcode; detail = fault.number } }
 {
     DwexprOperation {
         opcode: u32::from(opcode),

@@ -1,6 +1,7 @@
-ghost use Rattle.std.specs.Prelude.{◌≡◌, IfSome, IfNone, true, false, map, slice_get};
+ghost use Rattle.std.specs.Prelude.{◌≡◌, IfSome, IfNone, is_some, true, false, map, slice_get, unwrap_or};
 ghost use Rattle.dwarf_op.specs.Views.{location_of, piece_of};
-ghost use Rattle.dwexpr_c.specs.Pieces.{AreWritten, ShowsLocation, ShowsPiece, has, or_zero, sized};
+ghost use Rattle.dwexpr_c.specs.Operations.{flag_of};
+ghost use Rattle.dwexpr_c.specs.Pieces.{AreWritten, ShowsLocation, ShowsPiece, sized};
 ghost use Rattle.dwexpr_c.specs.Texts.{text_of_placed};
 ghost use Rattle.dwexpr_c.specs.Places.{HoldsNowhere, SomeNowhere};
 
@@ -39,7 +40,7 @@ pub struct DwexprPiece {
 }
 
 fn flag_of(number: Option<u64>) -> u32
-    ensures { result ≡ has number }
+    ensures { result ≡ flag_of (is_some number) }
 {
     match number {
         None => 0,
@@ -48,7 +49,7 @@ fn flag_of(number: Option<u64>) -> u32
 }
 
 fn or_zero(number: Option<u64>) -> u64
-    ensures { result ≡ or_zero number }
+    ensures { result ≡ unwrap_or number 0 }
 {
     match number {
         None => 0,

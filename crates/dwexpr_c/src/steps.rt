@@ -1,11 +1,11 @@
-ghost use Rattle.std.specs.Prelude.{◌≡◌, Some, None, IfSome, IfNone, IfOk, IfErr, Ok, Err, ok_or, option_map, length, true, false};
+ghost use Rattle.std.specs.Prelude.{ℕ, ◌≡◌, Some, None, IfSome, IfNone, IfOk, IfErr, Ok, Err, ok_or, option_map, true, false};
 ghost use Rattle.dwarf_base.specs.ByteOrder.{is_big_of};
 ghost use Rattle.dwarf_replay.specs.Stepping as stepping;
 ghost use Rattle.dwexpr_c.specs.Codes.{bad_step_code};
 ghost use Rattle.dwexpr_c.specs.Steps.{step_coded};
 ghost use Rattle.dwexpr_c.specs.Values.{value_coded};
-ghost use Rattle.dwexpr_c.specs.Texts.{IsPlaced, text_at, text_of_placed};
-ghost use Rattle.dwexpr_c.specs.Places.{IsAt, IsGiven, IsNotAt, IsNotIn, IsNowhere};
+ghost use Rattle.dwexpr_c.specs.Texts.{IsAt, IsPlaced, text_at, text_of_placed};
+ghost use Rattle.dwexpr_c.specs.Places.{IsGiven, IsNowhere};
 
 use crate::faults::{BAD_STEP, BAD_TEXT};
 use crate::places::Placed;
@@ -81,8 +81,7 @@ fn is_there(text: &[u8], place: usize, block: &[u8]) -> bool
 /// Where the bytes should be, if they are there.
 fn expected_place(texts: &[DwexprText<'_>], block: Placed<'_>) -> Option<Place>
     ensures { IfSome result
-        (λ place. IsPlaced texts.now place.text place.offset
-        (length (text_of_placed block.entry).bytes) (text_of_placed block.entry).bytes) }
+        (λ place. IsPlaced texts.now place.text place.offset (text_of_placed block.entry).bytes) }
 {
     let (text, offset) = (block.text(), block.place());
     if is_there(bytes_of(texts.get(text)?), offset, block.bytes()) {
@@ -95,7 +94,7 @@ fn expected_place(texts: &[DwexprText<'_>], block: Placed<'_>) -> Option<Place>
 /// The first place of a text at which the bytes are.
 fn find_in(text: &[u8], block: &[u8]) -> Option<usize>
     ensures some { IfSome result (λ place. IsAt text.now place block.now) }
-    ensures none { IfNone result (IsNotIn text.now block.now) }
+    ensures none { IfNone result ((place : ℕ) → IsAt text.now place block.now → ⊥) }
 {
     for place in 0..text.len() {
         if is_there(text, place, block) {
@@ -111,8 +110,9 @@ fn find_in(text: &[u8], block: &[u8]) -> Option<usize>
 /// The first place of the text at an index at which the bytes are.
 fn find_at(texts: &[DwexprText<'_>], text: usize, block: &[u8]) -> Option<Place>
     ensures some { IfSome result
-        (λ place. IsPlaced texts.now place.text place.offset (length block.now) block.now) }
-    ensures none { IfNone result (IsNotAt texts.now text block.now) }
+        (λ place. IsPlaced texts.now place.text place.offset block.now) }
+    ensures none { IfNone result
+        ((offset : ℕ) → IsPlaced texts.now text offset block.now → ⊥) }
 {
     let offset = find_in(bytes_of(texts.get(text)?), block)?;
     Some(Place { text, offset })
@@ -121,7 +121,7 @@ fn find_at(texts: &[DwexprText<'_>], text: usize, block: &[u8]) -> Option<Place>
 /// The first place of the texts at which the bytes are.
 fn find(texts: &[DwexprText<'_>], block: &[u8]) -> Option<Place>
     ensures some { IfSome result
-        (λ place. IsPlaced texts.now place.text place.offset (length block.now) block.now) }
+        (λ place. IsPlaced texts.now place.text place.offset block.now) }
     ensures none { IfNone result (IsNowhere texts.now block.now) }
 {
     for text in 0..texts.len() {
@@ -136,8 +136,7 @@ fn find(texts: &[DwexprText<'_>], block: &[u8]) -> Option<Place>
 /// same.
 pub(crate) fn place_of(texts: &[DwexprText<'_>], block: Placed<'_>) -> Option<Place>
     ensures some { IfSome result
-        (λ place. IsPlaced texts.now place.text place.offset
-        (length (text_of_placed block.entry).bytes) (text_of_placed block.entry).bytes) }
+        (λ place. IsPlaced texts.now place.text place.offset (text_of_placed block.entry).bytes) }
     ensures none { IfNone result (IsNowhere texts.now (text_of_placed block.entry).bytes) }
 {
     match expected_place(texts, block) {

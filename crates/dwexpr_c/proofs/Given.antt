@@ -21,9 +21,10 @@ use Rattle.dwarf_meaning.specs.Stores.{Setup}
 use Rattle.dwarf_meaning.specs.Refusals.{Refusal, Never}
 use Rattle.dwarf_meaning.proofs.Decoded.{operation_begins}
 use Rattle.dwarf_replay.specs.Replays.{told_at}
+use Rattle.dwexpr_c.specs.Codes.{bad_step_code, bad_text_code}
 use Rattle.dwexpr_c.specs.Evaluated.{comes_of}
 use Rattle.dwexpr_c.specs.Operations.{block_in}
-use Rattle.dwexpr_c.specs.Steps.{step_coded, with_value, with_type, with_text}
+use Rattle.dwexpr_c.specs.Steps.{resume_or, step_coded}
 use Rattle.dwexpr_c.specs.Texts.{IsAt, IsPlaced, text_in}
 use Rattle.dwexpr_c.specs.Values.{type_coded, value_coded}
 use Rattle.dwexpr_c.specs.Places.{IsGiven, AsksNowhere, HoldsNowhere, SomeNowhere}
@@ -108,15 +109,15 @@ module _ (texts : List DwexprText) where
   none_named : (step : Result Step ℕ) → OnSaid step → IsSaid step
   none_named step h = record { on = h }
 
-  on_value : (kind : WaitingKind) (o : Option Value) → IsSaid (with_value kind o)
+  on_value : (kind : WaitingKind) (o : Option Value) → IsSaid (resume_or (requests.ValueAnswer kind) o bad_step_code)
   on_value kind None = record { on = tt }
   on_value kind (Some value) = record { on = tt }
 
-  on_type : (o : Option ValueType) → IsSaid (with_type o)
+  on_type : (o : Option ValueType) → IsSaid (resume_or requests.BaseTypeAnswer o bad_step_code)
   on_type None = record { on = tt }
   on_type (Some t) = record { on = tt }
 
-  on_text : (big : Bool) (index : ℕ) (o : Option DwexprText) → slice_get texts index ≡ o → IsSaid (with_text (option_map (text_in big) o))
+  on_text : (big : Bool) (index : ℕ) (o : Option DwexprText) → slice_get texts index ≡ o → IsSaid (resume_or requests.LocationAnswer (option_map (text_in big) o) bad_text_code)
   on_text big index None e = record { on = tt }
   on_text big index (Some text) e = record { on = record { index = index; at = text; is_there = e; same = refl } }
 

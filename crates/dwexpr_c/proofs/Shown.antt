@@ -1,11 +1,15 @@
 -- The pieces that were written, one by one.
 use Rattle.std.proofs.Common.{ℕ, zero, suc, ◌≡◌, ◌≢◌, ◌<◌, ◌≤◌, ◌+◌, List, [], ◌∷◌, length, map, set, slice_get, Option, Some, None, refl, sym, ap, subst, ◌∙◌, arith, below_more}
-use Rattle.std.specs.Option.{option_map}
+use Rattle.std.specs.Option.{IfSome, option_map}
 use Rattle.std.proofs.lemmas.Option.{slice_get-map}
 use Rattle.dwarf_meaning.specs.Locations.{Piece}
-use Rattle.dwexpr_c.specs.Pieces.{ShowsPiece, ShownAt}
+use Rattle.dwexpr_c.specs.Pieces.{ShowsPiece}
 use Rattle.dwexpr_c.specs.declared.pieces.DwexprPiece.{DwexprPiece}
 use Rattle.dwexpr_c.specs.declared.steps.DwexprText.{DwexprText}
+
+-- at this index the piece is shown, if there is one
+abbrev pub ShownAt : List DwexprText → Option Piece → Option DwexprPiece → Type 0
+ShownAt texts piece shown = IfSome piece (λ piece. IfSome shown (ShowsPiece texts piece))
 
 same_place : {X : Type 0} (xs : List X) (i : ℕ) (v : X) → i < length xs → slice_get (set xs i v) i ≡ Some v
 same_place [] i v h = absurd (omega arith)

@@ -7,8 +7,8 @@ use Rattle.dwarf_meaning.specs.Stores.{Setup}
 use Rattle.dwarf_meaning.specs.Meaning.{Outcome, RequestOutcome, FaultOutcome, CompleteOutcome}
 use Rattle.dwarf_meaning.specs.Steps.{Step, Told, Allows, AllAllowed, after_steps, outcome_of, untold}
 use Rattle.dwarf_meaning.specs.Refusals.{Limits, Never}
-use Rattle.dwexpr_c.specs.Codes.{bad_text_code, misplaced_code}
-use Rattle.dwexpr_c.specs.Outcomes.{ShowsRequest, complete_outcome, ended_outcome, fault_outcome, blank_outcome}
+use Rattle.dwexpr_c.specs.Codes.{bad_text_code, code_of_fault, misplaced_code, number_of_fault}
+use Rattle.dwexpr_c.specs.Outcomes.{ShowsRequest, complete_outcome, ended_outcome, blank_outcome}
 use Rattle.dwexpr_c.specs.Pieces.{AreWritten}
 use Rattle.dwexpr_c.specs.Steps.{step_coded}
 use Rattle.dwexpr_c.specs.declared.outcomes.DwexprOutcome.{DwexprOutcome}
@@ -84,7 +84,7 @@ pub record MeetsFault (given : Beginning) (before : List Step) (step : Step) (ou
   pub allowed : MayAll given (before ++ step ∷ [])
   pub fault : Fault
   pub comes : comes_of given (before ++ step ∷ []) ≡ Some (FaultOutcome fault)
-  pub shown : out ≡ fault_outcome fault out.step
+  pub shown : out ≡ ended_outcome (code_of_fault fault) (number_of_fault fault) out.step
 
 -- the numbers say no step, or one that ends the evaluation
 abbrev pub EndsByStep : Beginning → (before : List Step) → Result Step ℕ → DwexprOutcome → Type 0

@@ -1,5 +1,5 @@
 -- Where an evaluation stands that is held between the calls of a caller in C (DWARF 5, section 2.5).
-use Rattle.std.specs.Prelude.{◌≡◌, ◌⊎◌, List, Result, Ok, Err, Option, None, Some}
+use Rattle.std.specs.Prelude.{◌≡◌, ◌⊎◌, List, Result, Ok, Err, Option, None, Some, IsSomeAnd}
 use Rattle.dwarf_base.specs.declared.common.Encoding.{Encoding}
 use Rattle.dwarf_base.specs.ByteOrder.{is_big_of}
 use Rattle.dwarf_base.specs.Reads.{Text}
@@ -23,8 +23,7 @@ HasCapacities x = x.setup.limits ≡ capacities
 
 -- there is an evaluation
 abbrev pub IsBegun : Option Held → Type 0
-IsBegun None = ⊥
-IsBegun (Some held) = HasCapacities held.evaluation
+IsBegun handle = IsSomeAnd handle (λ held. HasCapacities held.evaluation)
 
 -- ---- after a start
 

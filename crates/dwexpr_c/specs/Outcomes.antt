@@ -1,12 +1,10 @@
 -- What an evaluation replies, as a caller in C sees it (DWARF 5, sections 2.5 and 2.6).
 use Rattle.std.specs.Prelude.{ℕ, ◌≡◌, List, Option, Some, None, length}
-use Rattle.dwarf_base.specs.Faults.{Fault}
 use Rattle.dwarf_value.specs.declared.types.Value.{Value}
 use Rattle.dwarf_meaning.specs.Operations as operations
 use Rattle.dwarf_meaning.specs.Requests as requests
 use Rattle.dwarf_meaning.specs.Requests.{Request}
 use Rattle.dwarf_meaning.specs.Steps.{Reply, CompleteReply, RequestReply, FaultReply}
-use Rattle.dwexpr_c.specs.Codes.{code_of_fault, number_of_fault}
 use Rattle.dwexpr_c.specs.Operations.{flag_of}
 use Rattle.dwexpr_c.specs.Texts.{IsPlaced}
 use Rattle.dwexpr_c.specs.Values.{shown_value}
@@ -41,10 +39,6 @@ request_outcome request number = record blank_outcome { request = request; numbe
 -- the step at this index ended the evaluation, by this code
 abbrev pub ended_outcome : (code number step : ℕ) → DwexprOutcome
 ended_outcome code number step = record blank_outcome { code = code; detail = number; step = step }
-
--- the step at this index met a fault
-abbrev pub fault_outcome : Fault → (step : ℕ) → DwexprOutcome
-fault_outcome fault step = ended_outcome (code_of_fault fault) (number_of_fault fault) step
 
 -- a request and what it names, but for a block
 abbrev pub request_shown : Request → DwexprOutcome

@@ -1,5 +1,5 @@
 -- The pieces of a variable, as a caller in C sees them (DWARF 5, section 2.6.1).
-use Rattle.std.specs.Prelude.{ℕ, ◌≡◌, ◌<◌, ◌≤◌, pos, List, Option, Some, is_some, length, slice_get, unwrap_or}
+use Rattle.std.specs.Prelude.{ℕ, ◌≡◌, ◌≤◌, pos, IfSome, List, Option, is_some, length, slice_get, unwrap_or}
 use Rattle.dwarf_meaning.specs.Locations.{Location, Empty, InRegister, AtAddress, HoldsValue, HoldsBytes, PointsInto, Piece}
 use Rattle.dwexpr_c.specs.Operations.{flag_of}
 use Rattle.dwexpr_c.specs.Texts.{IsPlaced}
@@ -47,13 +47,8 @@ ShowsLocation texts size offset (PointsInto value byte_offset) out =
 abbrev pub ShowsPiece : List DwexprText → Piece → DwexprPiece → Type 0
 ShowsPiece texts piece out = ShowsLocation texts piece.size_in_bits piece.bit_offset piece.location out
 
--- at this index the piece is shown, if there is one
-abbrev pub ShownAt : List DwexprText → Option Piece → Option DwexprPiece → Type 0
-ShownAt texts (Some piece) (Some shown) = ShowsPiece texts piece shown
-ShownAt texts piece shown = Unit {0}
-
 -- as many pieces were written as there is room for, and nothing after them
 pub record AreWritten (texts : List DwexprText) (pieces : List Piece) (old new : List DwexprPiece) : Type 0 where
   pub room : length new ≡ length old
-  pub shown : (k : ℕ) → k < length pieces → ShownAt texts (slice_get pieces k) (slice_get new k)
+  pub shown : (k : ℕ) → IfSome (slice_get pieces k) (λ piece. IfSome (slice_get new k) (ShowsPiece texts piece))
   pub kept : (k : ℕ) → length pieces ≤ k → slice_get new k ≡ slice_get old k

@@ -1,7 +1,7 @@
 use Rattle.std.proofs.Common.{◌≡◌, ◌<◌, ◌≤◌, ℕ, length, map, slice_get}
 use Rattle.dwarf_op.specs.Views.{piece_of}
-use Rattle.dwexpr_c.specs.Pieces.{ShownAt}
 use Rattle.dwexpr_c.specs.Texts.{text_of_placed}
+use Rattle.dwexpr_c.proofs.Shown.{ShownAt}
 use Rattle.dwexpr_c.proofs.pieces.write_pieces.Given as goal
 
 -- those before this one are shown, and those from it on are as they were

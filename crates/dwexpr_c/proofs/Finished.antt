@@ -11,10 +11,9 @@ use Rattle.dwarf_meaning.specs.Run.{most}
 use Rattle.dwarf_replay.specs.Replays.{StandsAt, IsInRequest, told_at}
 use Rattle.dwexpr_c.specs.Evaluated.{EvaluatesGiven, Beginning, ShowsOutcome, beginning, comes_of, limited_setup, told_by}
 use Rattle.dwexpr_c.specs.Outcomes.{ShowsRequest}
-use Rattle.dwexpr_c.specs.Places.{IsGiven}
 use Rattle.dwexpr_c.specs.Held.{HasTaken}
-use Rattle.dwexpr_c.specs.inner.Runs.{given_at}
-use Rattle.dwexpr_c.specs.Stepping.{FinishesOutcome, ShowsStatus}
+use Rattle.dwexpr_c.specs.inner.Runs.{IsGiven, ShowsStatus, given_at}
+use Rattle.dwexpr_c.specs.Stepping.{FinishesOutcome}
 use Rattle.dwexpr_c.specs.declared.outcomes.DwexprOutcome.{DwexprOutcome}
 use Rattle.dwexpr_c.specs.declared.pieces.DwexprPiece.{DwexprPiece}
 use Rattle.dwexpr_c.specs.declared.steps.DwexprStep.{DwexprStep}

@@ -27,8 +27,8 @@ use Rattle.dwexpr_c.specs.Operations.{block_in}
 use Rattle.dwexpr_c.specs.Steps.{resume_or, step_coded}
 use Rattle.dwexpr_c.specs.Texts.{IsAt, IsPlaced, text_in}
 use Rattle.dwexpr_c.specs.Values.{type_coded, value_coded}
-use Rattle.dwexpr_c.specs.Places.{IsGiven, AsksNowhere, HoldsNowhere, SomeNowhere}
-use Rattle.dwexpr_c.specs.inner.Runs.{given_at}
+use Rattle.dwexpr_c.specs.Places.{AsksNowhere, HoldsNowhere, SomeNowhere}
+use Rattle.dwexpr_c.specs.inner.Runs.{IsGiven, given_at}
 use Rattle.dwexpr_c.specs.declared.steps.DwexprStep.{DwexprStep}
 use Rattle.dwexpr_c.specs.declared.steps.DwexprText.{DwexprText}
 use Rattle.dwexpr_c.proofs.Blocks.{EndIn, operation_ends, slice_between}

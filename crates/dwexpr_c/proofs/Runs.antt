@@ -26,9 +26,9 @@ use Rattle.dwexpr_c.specs.Outcomes.{ShowsReply, ended_outcome, blank_outcome}
 use Rattle.dwexpr_c.specs.Steps.{step_coded}
 use Rattle.dwexpr_c.specs.Texts.{text_of_placed}
 use Rattle.dwexpr_c.specs.Held.{HasStopped, HasTaken}
-use Rattle.dwexpr_c.specs.inner.Runs.{given_at}
-use Rattle.dwexpr_c.specs.Places.{AsksNowhere, IsGiven}
-use Rattle.dwexpr_c.specs.Stepping.{DoesStep, ShowsStatus, Stops}
+use Rattle.dwexpr_c.specs.inner.Runs.{IsGiven, ShowsStatus, given_at}
+use Rattle.dwexpr_c.specs.Places.{AsksNowhere}
+use Rattle.dwexpr_c.specs.Stepping.{DoesStep, Stops}
 use Rattle.dwexpr_c.specs.declared.faults.FaultNumbers.{FaultNumbers}
 use Rattle.dwexpr_c.specs.declared.outcomes.DwexprOutcome.{DwexprOutcome}
 use Rattle.dwexpr_c.specs.declared.places.Placed.{Placed}

@@ -6,13 +6,6 @@ use Rattle.dwarf_meaning.specs.Steps.{Reply, RequestReply}
 use Rattle.dwexpr_c.specs.Texts.{IsPlaced}
 use Rattle.dwexpr_c.specs.declared.steps.DwexprText.{DwexprText}
 
--- these are the bytes of one of the texts
-pub record IsGiven (texts : List DwexprText) (bytes : List ℕ) : Type 0 where
-  pub index : ℕ
-  pub at : DwexprText
-  pub is_there : slice_get texts index ≡ Some at
-  pub same : at.bytes.now ≡ bytes
-
 -- the block is at no place of any text
 abbrev pub IsNowhere : List DwexprText → (block : List ℕ) → Type 0
 IsNowhere texts block = (text offset : ℕ) → IsPlaced texts text offset block → ⊥

@@ -1,15 +1,15 @@
--- What one step of a caller does, and where an evaluation stands.
+-- What one step of a caller does, and what is shown of it.
 use Rattle.std.specs.Prelude.{ℕ, ◌≡◌, ◌⊎◌, List, Result, Ok, Err, length}
 use Rattle.dwarf_base.specs.declared.errors.Error.{Error}
 use Rattle.dwarf_base.specs.Faults.{fault_of}
 use Rattle.dwarf_meaning.specs.Locations.{Piece}
-use Rattle.dwarf_meaning.specs.Rest.{State, Status, Start, RequestStatus, CompleteStatus}
+use Rattle.dwarf_meaning.specs.Rest.{State, Status, CompleteStatus}
 use Rattle.dwarf_meaning.specs.Steps.{Step}
 use Rattle.dwarf_eval.specs.Evaluation.{ok_reply}
 use Rattle.dwarf_eval.specs.declared.op.results.EvaluationResult.{EvaluationResult}
 use Rattle.dwarf_replay.specs.Stepping.{HasReplied, IsSet, MayTake}
 use Rattle.dwexpr_c.specs.Codes.{code_of_fault, number_of_fault, lost_text_code, misplaced_code}
-use Rattle.dwexpr_c.specs.Outcomes.{ShowsReply, ShowsRequest, request_outcome, complete_outcome, ended_outcome, blank_outcome}
+use Rattle.dwexpr_c.specs.Outcomes.{ShowsReply, complete_outcome, ended_outcome}
 use Rattle.dwexpr_c.specs.Pieces.{AreWritten}
 use Rattle.dwexpr_c.specs.Texts.{text_of_placed}
 use Rattle.dwexpr_c.specs.Places.{AsksNowhere, SomeNowhere}
@@ -61,13 +61,6 @@ DoesStep texts said old new before after (Err end) = Stops texts said old new en
 DoesStep texts (Ok step) old new before after (Ok _) =
     (IsSet step old new × (after ≡ before)) ⊎ Replied texts step old new after
 DoesStep texts (Err code) old new before after (Ok _) = ⊥
-
--- the outcome shows where an evaluation without a fault stands
-abbrev pub ShowsStatus : List DwexprText → Status → DwexprOutcome → Type 0
-ShowsStatus texts (Start initial_value) out = out ≡ blank_outcome
-ShowsStatus texts (RequestStatus request on_answer) out = ShowsRequest texts request out
-ShowsStatus texts (CompleteStatus value) out = out ≡ request_outcome 1 0
-ShowsStatus texts _ out = ⊥
 
 -- the outcome gets the pieces and the value of a complete evaluation
 abbrev pub FinishesOutcome : List DwexprText → (count : ℕ) → List Piece → (before after : DwexprOutcome)

@@ -4,11 +4,10 @@ ghost use Rattle.dwarf_op.specs.Views.{piece_of};
 ghost use Rattle.dwarf_meaning.specs.Rest.{CompleteStatus, Start};
 ghost use Rattle.dwexpr_c.specs.Evaluated.{EvaluatesGiven};
 ghost use Rattle.dwexpr_c.specs.Held.{HasCapacities, StandsAfter};
-ghost use Rattle.dwexpr_c.specs.Places.{IsGiven};
 ghost use Rattle.dwexpr_c.specs.Steps.{step_coded};
 ghost use Rattle.dwexpr_c.specs.Stepping.{DoesStep, FinishesOutcome};
 ghost use Rattle.dwexpr_c.specs.Texts.{text_of_placed};
-ghost use Rattle.dwexpr_c.specs.inner.Runs.{Runs, given_at};
+ghost use Rattle.dwexpr_c.specs.inner.Runs.{IsGiven, Runs, given_at};
 
 use crate::faults::{FaultNumbers, LOST_TEXT, MISPLACED, numbers_of, plain};
 use crate::outcomes::{DwexprOutcome, UNTOLD, show_complete, show_end, show_reply};

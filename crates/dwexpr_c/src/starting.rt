@@ -5,8 +5,8 @@ ghost use Rattle.dwexpr_c.specs.Encodings.{IsEncoding, encoding_in, is_big_in};
 ghost use Rattle.dwexpr_c.specs.Evaluated.{EvaluatesGiven, EvaluatesFirst, beginning};
 ghost use Rattle.dwexpr_c.specs.Held.{HasCapacities, StandsAfter, StandsAfterFirst};
 ghost use Rattle.dwexpr_c.specs.Outcomes.{ended_outcome};
-ghost use Rattle.dwexpr_c.specs.Places.{IsGiven};
 ghost use Rattle.dwexpr_c.specs.Texts.{text_at, text_of_placed};
+ghost use Rattle.dwexpr_c.specs.inner.Runs.{IsGiven};
 
 use crate::encodings::{DwexprEncoding, Reading, reading_of};
 use crate::evaluating::evaluate_steps;

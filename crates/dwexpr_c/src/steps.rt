@@ -5,7 +5,8 @@ ghost use Rattle.dwexpr_c.specs.Codes.{bad_step_code};
 ghost use Rattle.dwexpr_c.specs.Steps.{step_coded};
 ghost use Rattle.dwexpr_c.specs.Values.{value_coded};
 ghost use Rattle.dwexpr_c.specs.Texts.{IsAt, IsPlaced, text_at, text_of_placed};
-ghost use Rattle.dwexpr_c.specs.Places.{IsGiven, IsNowhere};
+ghost use Rattle.dwexpr_c.specs.Places.{IsNowhere};
+ghost use Rattle.dwexpr_c.specs.inner.Runs.{IsGiven};
 
 use crate::faults::{BAD_STEP, BAD_TEXT};
 use crate::places::Placed;

@@ -4,6 +4,7 @@ use Rattle.std.specs.List.{slice_range}
 use Rattle.std.specs.Option.{option_map}
 use Rattle.std.proofs.lemmas.Bool.{cond_both}
 use Rattle.std.proofs.lemmas.List.{take-append-drop}
+use Rattle.std.proofs.lemmas.Option.{slice_get_read}
 use Rattle.dwarf_base.specs.Faults.{Fault}
 use Rattle.dwarf_base.specs.Reads.{Text}
 use Rattle.dwarf_value.specs.declared.types.Value.{Value}
@@ -225,4 +226,5 @@ module _ (texts : List DwexprText) where
     -- the bytes of a piece are
     pub pieces_somewhere : (pieces : List Piece) (value : Option Value) → comes_of (given_at first texts) steps ≡ Some (CompleteOutcome pieces value) → SomeNowhere texts pieces → ⊥
     pieces_somewhere pieces value e some =
-        location_somewhere some.piece.location (at_piece pieces some.index some.piece some.is_there (subst OnComes e comes)) some.nowhere
+        let there : slice_get pieces some.0 ≡ Some some.1 = slice_get_read pieces (length pieces) some.0 some.1 refl some.2 (sym some.3) in
+        location_somewhere some.1.location (at_piece pieces some.0 some.1 there (subst OnComes e comes)) some.4

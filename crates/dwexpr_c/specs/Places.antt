@@ -1,5 +1,5 @@
 -- Where in a caller's texts the bytes of a block are, if anywhere.
-use Rattle.std.specs.Prelude.{ℕ, ◌≡◌, List, Some, slice_get}
+use Rattle.std.specs.Prelude.{ℕ, Any, List}
 use Rattle.dwarf_meaning.specs.Locations.{Location, HoldsBytes, Piece}
 use Rattle.dwarf_meaning.specs.Requests as requests
 use Rattle.dwarf_meaning.specs.Steps.{Reply, RequestReply}
@@ -21,8 +21,5 @@ HoldsNowhere texts (HoldsBytes value) = IsNowhere texts value.bytes
 HoldsNowhere texts _ = ⊥
 
 -- one of the pieces has
-pub record SomeNowhere (texts : List DwexprText) (pieces : List Piece) : Type 0 where
-  pub index : ℕ
-  pub piece : Piece
-  pub is_there : slice_get pieces index ≡ Some piece
-  pub nowhere : HoldsNowhere texts piece.location
+abbrev pub SomeNowhere : List DwexprText → List Piece → Type 0
+SomeNowhere texts pieces = Any (λ piece. HoldsNowhere texts piece.location) pieces

@@ -1,5 +1,5 @@
 use Rattle.std.proofs.Common.{◌<◌, ◌≡◌, length, slice_get, Some, arith, ◌∙◌, sym}
-use Rattle.std.proofs.lemmas.Option.{slice_get_within}
+use Rattle.std.proofs.lemmas.Option.{slice_get_within, get_or_from_slice_get}
 use Rattle.dwarf_op.specs.Views.{piece_of}
 use Rattle.dwexpr_c.specs.Texts.{text_of_placed}
 use Rattle.dwexpr_c.proofs.Shown.{kept_next, same_length, seen_at, shown_next}
@@ -25,9 +25,6 @@ returns-in-None-clause-unplaced c e =
     let pieces = c.args.pieces.now in
     let index = c.loop-index.index in
     let there : slice_get pieces index ≡ Some c.in-Some.piece = sym c.in-Some.ensures in
-    record {
-      index = index;
-      piece = piece_of text_of_placed (λ x. x) c.in-Some.piece;
-      is_there = seen_at (piece_of text_of_placed (λ x. x)) pieces index c.in-Some.piece there;
-      nowhere = c.in-None.ensures.none;
-    }
+    let piece = piece_of text_of_placed (λ x. x) c.in-Some.piece in
+    let seen = seen_at (piece_of text_of_placed (λ x. x)) pieces index c.in-Some.piece there in
+    (index, piece, slice_get_within _ index piece seen, get_or_from_slice_get _ index piece piece seen, c.in-None.ensures.none)

@@ -1,7 +1,8 @@
 -- What is printed of an evaluation that was replayed is what its steps come to.
-use Rattle.std.proofs.Common.{◌≡◌, ◌⊎◌, inl, inr, ℕ, List, [], Option, Some, None, refl, ◌∙◌, ap, subst, length, ◌<◌, ◌^◌, arith, ap₂, Result, Ok, Err, Bool}
-use Rattle.std.proofs.lemmas.List.{length-map}
-use Rattle.std.proofs.lemmas.Option.{slice_get_within}
+use Rattle.std.proofs.Common.{◌≡◌, ◌⊎◌, inl, inr, ℕ, zero, suc, List, [], ◌∷◌, take, Option, Some, None, refl, ◌∙◌, ap, sym, subst, length, ◌<◌, ◌^◌, arith, ap₂, Result, Ok, Err, Bool}
+use Rattle.std.proofs.lemmas.List.{length-map, take_all}
+use Rattle.std.proofs.lemmas.Option.{slice_get_within, slice_get_past}
+use Rattle.std.specs.Prelude.{slice_get}
 use Rattle.dwarf_replay.specs.Stepping.{step_of}
 use Rattle.dwarf_base.specs.ByteOrder.{is_big_of}
 use Rattle.dwarf_base.specs.declared.byte_order.RunTimeEndian.{RunTimeEndian}
@@ -12,18 +13,19 @@ use Rattle.dwarf_meaning.specs.Run.{Position, most}
 use Rattle.dwarf_meaning.specs.Meaning.{Outcome, RequestOutcome, FaultOutcome, CompleteOutcome}
 use Rattle.dwarf_meaning.specs.Rest.{State, Status, Start, Running, RequestStatus, CompleteStatus, FaultStatus}
 use Rattle.dwarf_meaning.specs.Stores.{Setup}
+use Rattle.dwarf_meaning.specs.Refusals.{Refusal}
 use Rattle.dwarf_meaning.specs.Steps as meaning
-use Rattle.dwarf_meaning.specs.Steps.{Allows, Told, outcome_of, untold}
+use Rattle.dwarf_meaning.specs.Steps.{Allows, AllAllowed, AreDone, Told, after_step, after_steps, outcome_of, untold}
 use Rattle.dwarf_replay.specs.Replays.{IsInRequest, IsInFault, Replays, StandsAt, replies_in, steps_of, told_at}
 use Rattle.dwarf_replay.specs.declared.steps.Answer.{Answer}
 use Rattle.dwarf_replay.specs.declared.steps.Replayed.{Replayed}
 use Rattle.dwarf_replay.specs.declared.steps.Replayed.TheVariants as replayed
 use Rattle.dwarf_replay.specs.declared.steps.Step.{Step}
-use Rattle.dwexpr.specs.Evaluates.{EvaluatesSteps, EvaluatesSaid, after_replies, outcome_ending, bad_steps}
+use Rattle.dwexpr.specs.Evaluates.{EndsAt, all_done, not_allowed, without_memory, EvaluatesSteps, EvaluatesSaid, after_replies, outcome_ending, bad_steps}
 use Rattle.dwexpr.specs.Steps.{ReadsSteps}
 use Rattle.dwexpr.specs.declared.steps.StepsFault.{StepsFault}
 use Rattle.dwexpr.specs.declared.steps.StepsFault.TheVariants as fault
-use Rattle.dwexpr_text.specs.Endings.{Ending, no_memory, standing}
+use Rattle.dwexpr_text.specs.Endings.{Ending, misplaced, no_memory, standing}
 use Rattle.dwexpr.specs.inner.Replayed.{HasLine, ending_of}
 
 asking_ending : (request : Request) (positions : List Position) (x : State) (status : Status) → IsInRequest request positions x status
@@ -49,33 +51,66 @@ stands_ending told x (Some (RequestOutcome request positions)) h = asking_ending
 stands_ending told x (Some (FaultOutcome fault)) h = stopped_ending fault x x.status h
 stands_ending told x (Some (CompleteOutcome pieces value)) h = ap (standing x) h.0 ∙ ap (λ z. standing (record x { store = record x.store { pieces = z } }) (CompleteStatus value)) h.1
 
+-- of steps that are all allowed up to one, those before it are, and then that one
+allowed_at : (setup : Setup) (refusal : Refusal) (text : Text) (told : Told) (steps : List meaning.Step) (index : ℕ) (step : meaning.Step)
+    → slice_get steps index ≡ Some step → AllAllowed setup refusal text told (take (suc index) steps)
+    → AllAllowed setup refusal text told (take index steps)
+    × Allows (after_steps setup refusal text told (take index steps)) (outcome_of setup refusal text (after_steps setup refusal text told (take index steps))) step
+allowed_at setup refusal text told [] index step e h = absurd (cc)
+allowed_at setup refusal text told (first ∷ steps) zero step e h =
+    let same : first ≡ step = cc in
+    (tt, subst (λ z. Allows told (outcome_of setup refusal text told) z) same h.0)
+allowed_at setup refusal text told (first ∷ steps) (suc index) step e h =
+    let later = allowed_at setup refusal text (after_step setup refusal text told first) steps index step e h.1 in
+    ((h.0, later.0), later.1)
+
 pub evaluates_to : {R O P : Type 0} (text : R → Text) (number : O → ℕ) (limit : Option ℕ) (old new : State) (steps : List (Step R))
     (given : List (Answer R O P)) (ended : Replayed R O P) → Replays text number limit old steps given new ended
     → EvaluatesSteps old.setup old.text (told_at old) (steps_of text steps) (after_replies (replies_in text number given) (ending_of new ended))
-evaluates_to text number limit old new steps given replayed.Done w = inl (record {
-  refusal = w.refusal;
-  replies = replies_in text number given;
-  now = w.told;
-  done = w.tells;
-  ending_is = ap (after_replies _) (stands_ending w.told new _ w.stands);
-})
-evaluates_to text number limit old new steps given (replayed.Misplaced index) w = inr (inl (record {
-  refusal = w.walks.refusal;
-  index = index;
-  replies = replies_in text number given;
-  now = w.walks.told;
-  done = w.walks.tells;
-  step = w.step;
-  is_next = w.is_next;
-  not_allowed = w.misplaced;
-  ending_is = refl;
-}))
-evaluates_to text number limit old new steps given (replayed.NoRoom index answer) w = inr (inr (record {
-  refusal = w.walks.refusal;
-  index = index;
-  allowed = w.walks.tells.allowed;
-  ending_is = ap (λ z. after_replies z no_memory) w.before;
-}))
+evaluates_to text number limit old new steps given replayed.Done w =
+    let all = steps_of text steps in
+    record {
+      refusal = w.refusal;
+      index = length all;
+      replies = replies_in text number given;
+      now = w.told;
+      done =
+          subst (λ z. AreDone old.setup w.refusal old.text (told_at old) z (replies_in text number given) w.told)
+          (sym (take_all (length all) all (omega arith))) w.tells;
+      last = outcome_ending (outcome_of old.setup w.refusal old.text w.told);
+      ends =
+          subst (λ z. EndsAt (length all) w.told (outcome_of old.setup w.refusal old.text w.told) z (outcome_ending (outcome_of old.setup w.refusal old.text w.told)))
+          (sym (slice_get_past all (length all) (omega arith))) all_done;
+      ending_is = ap (after_replies _) (stands_ending w.told new _ w.stands);
+    }
+evaluates_to text number limit old new steps given (replayed.Misplaced index) w =
+    record {
+      refusal = w.walks.refusal;
+      index = index;
+      replies = replies_in text number given;
+      now = w.walks.told;
+      done = w.walks.tells;
+      last = misplaced index;
+      ends =
+          subst (λ z. EndsAt index w.walks.told (outcome_of old.setup w.walks.refusal old.text w.walks.told) z (misplaced index))
+          (sym w.is_next) (not_allowed w.misplaced);
+      ending_is = refl;
+    }
+evaluates_to text number limit old new steps given (replayed.NoRoom index answer) w =
+    let refusal = w.walks.refusal in
+    let now = after_steps old.setup refusal old.text (told_at old) (take index (steps_of text steps)) in
+    let allowed = allowed_at old.setup refusal old.text (told_at old) (steps_of text steps) index w.inside.0 w.inside.1 w.walks.tells.allowed in
+    record {
+      refusal = refusal;
+      index = index;
+      replies = replies_in text number given;
+      now = now;
+      done = record { allowed = allowed.0; replies_are = w.before; told_is = refl };
+      last = no_memory;
+      ends =
+          subst (λ z. EndsAt index now (outcome_of old.setup refusal old.text now) z no_memory) (sym w.inside.1) (without_memory allowed.1);
+      ending_is = refl;
+    }
 
 -- the same of a setup, a text and what was told, in other words
 pub evaluates_as : (setup setup' : Setup) (text text' : Text) (told told' : Told) (steps : List meaning.Step) (ending : Ending)

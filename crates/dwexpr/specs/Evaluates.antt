@@ -1,10 +1,10 @@
 -- What `eval` prints for the steps of its input (DWARF 5, section 2.5).
-use Rattle.std.specs.Prelude.{ℕ, suc, ◌≡◌, ◌⊎◌, ◌++◌, List, [], take, slice_get, Option, Some, None, Result, Ok, Err}
+use Rattle.std.specs.Prelude.{ℕ, ◌≡◌, ◌⊎◌, ◌++◌, List, [], take, slice_get, Option, Some, None, Result, Ok, Err}
 use Rattle.dwarf_base.specs.declared.common.Encoding.{Encoding}
 use Rattle.dwarf_base.specs.Reads.{Text}
 use Rattle.dwarf_meaning.specs.Stores.{Setup}
 use Rattle.dwarf_meaning.specs.Meaning.{Outcome, RequestOutcome, FaultOutcome, CompleteOutcome}
-use Rattle.dwarf_meaning.specs.Steps.{Step, Told, Reply, Allows, AllAllowed, AreDone, replies_of, outcome_of, untold}
+use Rattle.dwarf_meaning.specs.Steps.{Step, Told, Reply, Allows, AreDone, outcome_of, untold}
 use Rattle.dwarf_meaning.specs.Refusals.{Refusal}
 use Rattle.dwexpr_text.specs.Lines.{reply_lines}
 use Rattle.dwexpr.specs.declared.steps.StepsFault.{StepsFault}
@@ -29,40 +29,23 @@ outcome_ending (Some (CompleteOutcome pieces value)) = complete_ending pieces va
 abbrev pub after_replies : List Reply → Ending → Ending
 after_replies replies ending = record ending { text = reply_lines replies ++ ending.text }
 
--- each step was done, for some push that memory was refused to, or for none
-pub record AllDone (setup : Setup) (text : Text) (told : Told) (steps : List Step) (ending : Ending) : Type 0 where
-  pub refusal : Refusal
-  pub replies : List Reply
-  pub now : Told
-  pub done : AreDone setup refusal text told steps replies now
-  pub ending_is : ending ≡ after_replies replies (outcome_ending (outcome_of setup refusal text now))
+-- how it ends, by the step that comes next: there is none; it isn't allowed; or there was no memory for its reply
+pub data EndsAt (index : ℕ) (now : Told) (outcome : Option Outcome) : (next : Option Step) → Ending → Type 0 where
+  all_done : EndsAt index now outcome None (outcome_ending outcome)
+  not_allowed : {step : Step} → (Allows now outcome step → ⊥) → EndsAt index now outcome (Some step) (misplaced index)
+  without_memory : {step : Step} → Allows now outcome step → EndsAt index now outcome (Some step) no_memory
 
--- the steps before one were done, and that one isn't allowed
-pub record EndsMisplaced (setup : Setup) (text : Text) (told : Told) (steps : List Step) (ending : Ending)
+-- the steps before some index were done, for some push that memory was refused to, or for none, and it ended there
+pub record EvaluatesSteps (setup : Setup) (text : Text) (told : Told) (steps : List Step) (ending : Ending)
     : Type 0 where
   pub refusal : Refusal
   pub index : ℕ
   pub replies : List Reply
   pub now : Told
   pub done : AreDone setup refusal text told (take index steps) replies now
-  pub step : Step
-  pub is_next : slice_get steps index ≡ Some step
-  pub not_allowed : Allows now (outcome_of setup refusal text now) step → ⊥
-  pub ending_is : ending ≡ after_replies replies (misplaced index)
-
--- the steps up to one were done, and there was no memory for its reply
-pub record EndsWithoutMemory (setup : Setup) (text : Text) (told : Told) (steps : List Step) (ending : Ending)
-    : Type 0 where
-  pub refusal : Refusal
-  pub index : ℕ
-  pub allowed : AllAllowed setup refusal text told (take (suc index) steps)
-  pub ending_is : ending ≡ after_replies (replies_of setup refusal text told (take index steps)) no_memory
-
--- what the steps come to: one of the three
-abbrev pub EvaluatesSteps : Setup → Text → Told → List Step → Ending → Type 0
-EvaluatesSteps setup text told steps ending =
-    AllDone setup text told steps ending
-    ⊎ (EndsMisplaced setup text told steps ending ⊎ EndsWithoutMemory setup text told steps ending)
+  pub last : Ending
+  pub ends : EndsAt index now (outcome_of setup refusal text now) (slice_get steps index) last
+  pub ending_is : ending ≡ after_replies replies last
 
 -- what lines come to that say these steps, or of which one says none
 abbrev pub EvaluatesSaid : Setup → Text → Result (List Step) ℕ → Ending → Type 0

@@ -18,8 +18,8 @@ use Rattle.dwarf_laws.specs.Agreement.{Pairwise, none, more, Both, nothing, some
 use Rattle.dwarf_laws.specs.TwoRuns.{NoneIsFull, AreAlike}
 use Rattle.dwarf_laws.proofs.Pairs.{same_length, get_both}
 use Rattle.dwarf_laws.proofs.Evaluations.{two_runs}
-use Rattle.dwarf_replay.specs.Replays.{told_at, IsInRequest, IsInFault, StandsAt, Walks, WalksTo, WalksOver}
-use Rattle.dwarf_expr.specs.Twins.{fresh_at, MayReplay, AreComparableReplays, open_texts, StatesStandAlike, unstarted, in_request, in_fault, in_completion, IsFront, BothDone, BothMisplaced, NoneMisplacedAlone, NoRoomBeforeTheEnd, NoRoomBeforeMisplaced, NoRoomOnBoth}
+use Rattle.dwarf_replay.specs.Replays.{told_at, IsInRequest, IsInFault, StandsAt, Walks, WalksTo}
+use Rattle.dwarf_expr.specs.Twins.{fresh_at, MayReplay, AreComparableReplays, open_texts, StatesStandAlike, unstarted, in_request, in_fault, in_completion, IsFront, FindsNoRoom, TwoReplays}
 
 -- ---- fronts of lists
 
@@ -374,75 +374,66 @@ module _ (x y : State) (steps others : List Step) (h : MayReplay x y steps other
       (all_first replies new k) (second_to i given other l)
       (terms k.refusal l.walks.refusal replies given k.may l.walks.may c)
 
-  module _ (n : ℕ) (told : Reply) (free : Option ℕ) (other : State) (given : List Reply)
-      (l : WalksOver n told free y others given other) where
-    over : Second (suc n) l.walks.refusal (given ++ told ∷ []) other
-    over = second (suc n) (given ++ told ∷ []) other l.walks
+  module _ (n : ℕ) (other : State) (given : List Reply) (l : FindsNoRoom n y others given other) where
+    over : Second (suc n) l.3.walks.refusal given other
+    over =
+        subst (λ (k : List Reply). Second (suc n) l.3.walks.refusal k other) (sym l.4)
+        (second (suc n) (l.0 ++ l.1 ∷ []) other l.3.walks)
 
     pub done_over : (new : State) (replies : List Reply) → Walks x steps replies new
-        → AreComparableReplays x y replies (given ++ told ∷ []) → IsFront (given ++ told ∷ []) replies
+        → AreComparableReplays x y replies given → IsFront given replies
     done_over new replies k c =
         let inside : n < length steps = subst (λ (m : ℕ). n < m) (sym (same_length h.agreeing))
-        (slice_get_within others n l.inside.0 l.inside.1) in
-        front (suc n) (length steps) k.refusal l.walks.refusal replies (given ++ told ∷ []) new other (omega arith)
+        (slice_get_within others n l.3.inside.0 l.3.inside.1) in
+        front (suc n) (length steps) k.refusal l.3.walks.refusal replies given new other (omega arith)
         (all_first replies new k) over
-        (terms k.refusal l.walks.refusal replies (given ++ told ∷ []) k.may l.walks.may c)
+        (terms k.refusal l.3.walks.refusal replies given k.may l.3.walks.may c)
 
     pub to_over : (index : ℕ) (new : State) (replies : List Reply) → WalksTo index x steps replies new
-        → AreComparableReplays x y replies (given ++ told ∷ [])
-        → (n < index) × IsFront (given ++ told ∷ []) replies
+        → AreComparableReplays x y replies given
+        → (n < index) × IsFront given replies
     to_over i new replies k c = by_order (order n i)
       where
-        t : Terms k.walks.refusal l.walks.refusal replies (given ++ told ∷ [])
-        t = terms k.walks.refusal l.walks.refusal replies (given ++ told ∷ []) k.walks.may l.walks.may c
+        t : Terms k.walks.refusal l.3.walks.refusal replies given
+        t = terms k.walks.refusal l.3.walks.refusal replies given k.walks.may l.3.walks.may c
 
         late : i ≤ n → ⊥
         late le =
-            not_first i (suc n) k.walks.refusal l.walks.refusal replies (given ++ told ∷ []) new other (omega arith)
+            not_first i (suc n) k.walks.refusal l.3.walks.refusal replies given new other (omega arith)
             (did_to i x steps replies new k) over t
 
-        by_order : Order n i → (n < i) × IsFront (given ++ told ∷ []) replies
+        by_order : Order n i → (n < i) × IsFront given replies
         by_order (below lt) = (
           lt,
-          front (suc n) i k.walks.refusal l.walks.refusal replies (given ++ told ∷ []) new other (omega arith)
+          front (suc n) i k.walks.refusal l.3.walks.refusal replies given new other (omega arith)
               (did_to i x steps replies new k).did over t,
         )
         by_order (same e) = absurd (late (omega arith))
         by_order (above gt) = absurd (late (omega arith))
 
-    pub over_over : (index : ℕ) (answer : Reply) (limit : Option ℕ) (new : State) (replies : List Reply)
-        → WalksOver index answer limit x steps replies new → n ≤ index
-        → AreComparableReplays x y (replies ++ answer ∷ []) (given ++ told ∷ []) → IsFront (given ++ told ∷ []) (replies ++ answer ∷ [])
-    over_over i answer limit new replies k le c =
-        front (suc n) (suc i) k.walks.refusal l.walks.refusal (replies ++ answer ∷ []) (given ++ told ∷ []) new other
-        (omega arith)
-        (did x (take (suc i) steps) (replies ++ answer ∷ []) new k.walks) over
-        (terms k.walks.refusal l.walks.refusal (replies ++ answer ∷ []) (given ++ told ∷ []) k.walks.may l.walks.may c)
+    pub over_over : (index : ℕ) (new : State) (replies : List Reply) → FindsNoRoom index x steps replies new
+        → n ≤ index → AreComparableReplays x y replies given → IsFront given replies
+    over_over i new replies k le c =
+        front (suc n) (suc i) k.3.walks.refusal l.3.walks.refusal replies given new other (omega arith)
+        (subst (λ (r : List Reply). First (suc i) k.3.walks.refusal r new) (sym k.4)
+        (did x (take (suc i) steps) (k.0 ++ k.1 ∷ []) new k.3.walks)) over
+        (terms k.3.walks.refusal l.3.walks.refusal replies given k.3.walks.may l.3.walks.may c)
 
--- ---- the laws
+-- ---- the law
 
-pub both_done : BothDone
-both_done x y new other steps others replies given h = done_done x y steps others h new other replies given
-
-pub both_misplaced : BothMisplaced
-both_misplaced index second x y new other steps others replies given h =
-    to_to x y steps others h index second new other replies given
-
-pub none_misplaced_alone : NoneMisplacedAlone
-none_misplaced_alone index x y new other steps others replies given h c =
-    (to_done x y steps others h index new other replies given c, done_to x y steps others h index new other replies given c)
-
-pub no_room_before_the_end : NoRoomBeforeTheEnd
-no_room_before_the_end second told free x y new other steps others replies given h k l =
-    done_over x y steps others h second told free other given l new replies k
-
-pub no_room_before_misplaced : NoRoomBeforeMisplaced
-no_room_before_misplaced index second told free x y new other steps others replies given h k l =
-    to_over x y steps others h second told free other given l index new replies k
-
-pub no_room_on_both : NoRoomOnBoth
-no_room_on_both index second answer told limit free x y new other steps others replies given h k l =
-    over_over x y steps others h second told free other given l index answer limit new replies k
+pub two_replays : TwoReplays
+two_replays x y new other steps others replies given h c =
+    record {
+      done = λ k l. done_done x y steps others h new other replies given k l c;
+      misplaced = λ index second k l. to_to x y steps others h index second new other replies given k l c;
+      not_alone = λ index. (
+        to_done x y steps others h index new other replies given c,
+        done_to x y steps others h index new other replies given c,
+      );
+      no_room = λ second k l. done_over x y steps others h second other given l new replies k c;
+      no_room_before = λ index second k l. to_over x y steps others h second other given l index new replies k c;
+      no_room_twice = λ index second k l le. over_over x y steps others h second other given l index new replies k le c;
+    }
 
 -- ---- the premises, of fresh evaluations
 

@@ -76,55 +76,37 @@ pub data StatesStandAlike (bits : ℕ) (x y : State) : Type 0 where
 abbrev pub IsFront : List Reply → List Reply → Type 0
 IsFront replies all = (more : List Reply) × (replies ++ more ≡ all)
 
--- all steps were done on both sides: the replies are the same
-abbrev pub BothDone : Type 0
-BothDone =
+-- the steps up to this one were done, and its reply, which is the last of these, found no room
+abbrev pub FindsNoRoom : (index : ℕ) → State → List Step → List Reply → State → Type 0
+FindsNoRoom index old steps replies new =
+    (before : List Reply) × (last : Reply) × (limit : Option ℕ)
+    × WalksOver index last limit old steps before new × (replies ≡ before ++ last ∷ [])
+
+-- What two replays have in common, by how each ended: the same replies, as far as both go, and where both stand.
+pub record ReplayAlike (x y new other : State) (steps others : List Step) (replies given : List Reply) : Type 0 where
+  -- all steps were done on both sides: the replies are the same
+  pub done : Walks x steps replies new → Walks y others given other
+      → (replies ≡ given) × StatesStandAlike (address_bits x.setup) new other
+  -- a step was misplaced on both sides: it is the same step, and the replies before it are the same
+  pub misplaced : (index second : ℕ) → WalksTo index x steps replies new → WalksTo second y others given other
+      → (index ≡ second) × (replies ≡ given) × StatesStandAlike (address_bits x.setup) new other
+  -- no step is misplaced on one side if all were done on the other
+  pub not_alone : (index : ℕ) → (WalksTo index x steps replies new → Walks y others given other → ⊥)
+      × (Walks x steps replies new → WalksTo index y others given other → ⊥)
+  -- A reply found no room on the second side, and all steps were done on the first: the replies of the second, with
+  -- that one, are a front of the first's.
+  pub no_room : (second : ℕ) → Walks x steps replies new → FindsNoRoom second y others given other
+      → IsFront given replies
+  -- The same if a step was misplaced on the first, which then comes later.
+  pub no_room_before : (index second : ℕ) → WalksTo index x steps replies new
+      → FindsNoRoom second y others given other → (second < index) × IsFront given replies
+  -- The same if a reply found no room on the first either, at that step or later.
+  pub no_room_twice : (index second : ℕ) → FindsNoRoom index x steps replies new
+      → FindsNoRoom second y others given other → second ≤ index → IsFront given replies
+
+-- Twins whose replays are comparable replay alike.
+abbrev pub TwoReplays : Type 0
+TwoReplays =
     (x y new other : State) (steps others : List Step) (replies given : List Reply)
-    → MayReplay x y steps others → Walks x steps replies new → Walks y others given other
-    → AreComparableReplays x y replies given
-    → (replies ≡ given) × StatesStandAlike (address_bits x.setup) new other
-
--- a step was misplaced on both sides: it is the same step, and the replies before it are the same
-abbrev pub BothMisplaced : Type 0
-BothMisplaced =
-    (index second : ℕ) (x y new other : State) (steps others : List Step) (replies given : List Reply)
-    → MayReplay x y steps others → WalksTo index x steps replies new → WalksTo second y others given other
-    → AreComparableReplays x y replies given
-    → (index ≡ second) × (replies ≡ given) × StatesStandAlike (address_bits x.setup) new other
-
--- no step is misplaced on one side if all were done on the other
-abbrev pub NoneMisplacedAlone : Type 0
-NoneMisplacedAlone =
-    (index : ℕ) (x y new other : State) (steps others : List Step) (replies given : List Reply)
     → MayReplay x y steps others → AreComparableReplays x y replies given
-    → ((WalksTo index x steps replies new → Walks y others given other → ⊥)
-    × (Walks x steps replies new → WalksTo index y others given other → ⊥))
-
--- A reply found no room on the second side, and all steps were done on the first: the replies of the second, with that
--- one, are a front of the first's.
-abbrev pub NoRoomBeforeTheEnd : Type 0
-NoRoomBeforeTheEnd =
-    (second : ℕ) (told : Reply) (free : Option ℕ) (x y new other : State) (steps others : List Step)
-    (replies given : List Reply)
-    → MayReplay x y steps others → Walks x steps replies new → WalksOver second told free y others given other
-    → AreComparableReplays x y replies (given ++ told ∷ [])
-    → IsFront (given ++ told ∷ []) replies
-
--- The same if a step was misplaced on the first, which then comes later.
-abbrev pub NoRoomBeforeMisplaced : Type 0
-NoRoomBeforeMisplaced =
-    (index second : ℕ) (told : Reply) (free : Option ℕ) (x y new other : State) (steps others : List Step)
-    (replies given : List Reply)
-    → MayReplay x y steps others → WalksTo index x steps replies new → WalksOver second told free y others given other
-    → AreComparableReplays x y replies (given ++ told ∷ [])
-    → (second < index) × IsFront (given ++ told ∷ []) replies
-
--- The same if a reply found no room on the first either, at that step or later.
-abbrev pub NoRoomOnBoth : Type 0
-NoRoomOnBoth =
-    (index second : ℕ) (answer told : Reply) (limit free : Option ℕ) (x y new other : State)
-    (steps others : List Step) (replies given : List Reply)
-    → MayReplay x y steps others → WalksOver index answer limit x steps replies new
-    → WalksOver second told free y others given other → second ≤ index
-    → AreComparableReplays x y (replies ++ answer ∷ []) (given ++ told ∷ [])
-    → IsFront (given ++ told ∷ []) (replies ++ answer ∷ [])
+    → ReplayAlike x y new other steps others replies given

@@ -10,7 +10,7 @@ ghost use Rattle.dwarf_laws.specs.Agreement.{Pairwise, AgreeingSteps};
 ghost use Rattle.dwarf_laws.specs.Inlining.{CallSite, outer, inlined};
 ghost use Rattle.dwarf_laws.specs.Rows.{IsWorked};
 ghost use Rattle.dwarf_expr.specs.Inlined.{MayInline, InlinedReplay};
-ghost use Rattle.dwarf_expr.specs.Twins.{fresh_at, MayReplay, BothDone, BothMisplaced, NoneMisplacedAlone, NoRoomBeforeTheEnd, NoRoomBeforeMisplaced, NoRoomOnBoth};
+ghost use Rattle.dwarf_expr.specs.Twins.{fresh_at, MayReplay, TwoReplays};
 
 pub use dwarf_laws::{
     called_rows, high_bits, inlining, premises_of_high_bits, premises_of_inlining, twin_rows,
@@ -23,12 +23,7 @@ pub use dwarf_value::value_laws;
 /// It does nothing. Its contract is the law, over what `replay` says of each of them, in whatever way each ended; and
 /// that the premises hold of fresh evaluations of one text, as those of `twin_rows`.
 pub fn two_replays()
-    ensures done { BothDone }
-    ensures misplaced { BothMisplaced }
-    ensures not_alone { NoneMisplacedAlone }
-    ensures no_room { NoRoomBeforeTheEnd }
-    ensures no_room_before { NoRoomBeforeMisplaced }
-    ensures no_room_twice { NoRoomOnBoth }
+    ensures alike { TwoReplays }
     ensures met { (text : Text) (steps others : List Step)
         → Pairwise (AgreeingSteps 32) steps others
         → MayReplay (fresh_at text) (fresh_at text) steps others }

@@ -1,5 +1,5 @@
 -- How many pieces ended a location.
-use Rattle.std.proofs.Common.{ℕ, ◌≡◌, ◌+◌, ◌≤◌, List, [], ◌∷◌, ◌++◌, length, Option, Some, None, Result, Ok, Err, arith, ◌∙◌, refl, nat_lt}
+use Rattle.std.proofs.Common.{ℕ, ◌≡◌, ◌+◌, ◌≤◌, List, [], ◌∷◌, ◌++◌, length, Option, Some, None, Result, Ok, Err, arith, ◌∙◌, refl, nat_lt, true}
 use Rattle.std.proofs.lemmas.Bool.{cond_both}
 use Rattle.dwarf_base.specs.Faults.{Fault}
 use Rattle.dwarf_base.specs.declared.errors.Error.TheVariants.{NotEnoughStackItems}
@@ -16,7 +16,7 @@ use Rattle.dwarf_meaning.proofs.Counts.{OnStore, OnNext, bound_store, on_bound, 
 use Rattle.dwarf_meaning.proofs.Effects.{IsActOf, IsGivenBy, IsOwnPlace, locates, ends}
 use Rattle.dwarf_meaning.specs.Bounds.{located_by, ending_by, endings}
 use Rattle.dwarf_eval.specs.inner.Bounds.{located}
-use Rattle.dwarf_eval.specs.inner.Steps.{IsFree}
+use Rattle.dwarf_eval.specs.inner.Steps.{is_free}
 
 located_little : (location : Location) → located_by location ≤ 1
 located_little Empty = omega arith
@@ -35,13 +35,13 @@ located_waits Pushed = omega arith
 located_waits Called = omega arith
 located_waits (Located location) = located_little location
 
-pub free_waits : (last : Last) → IsFree last → waits_of last ≡ 0
+pub free_waits : (last : Last) → is_free last ≡ true → waits_of last ≡ 0
 free_waits Nothing h = refl
 free_waits Plain h = refl
 free_waits Pieced h = refl
 free_waits Pushed h = refl
 free_waits Called h = refl
-free_waits (Located location) h = absurd h
+free_waits (Located location) h = cc
 
 endings_append : (first second : List Piece) → endings (first ++ second) ≡ endings first + endings second
 endings_append [] second = omega arith

@@ -21,7 +21,7 @@ use Rattle.dwarf_meaning.proofs.Counts.{HasTally, OnStore, Tally, tally_of, tall
 use Rattle.dwarf_meaning.proofs.Turns.{run_turn}
 use Rattle.dwarf_meaning.specs.Bounds.{endings, faults_in}
 use Rattle.dwarf_meaning.specs.Inputs.{Keeps}
-use Rattle.dwarf_eval.specs.inner.Steps.{Does, Refused, Stays, Pops, total, ComesBy, GoesBack, Adds, ClosesBy, Closes, IsFree, Turns, with_store, with_values, with_status}
+use Rattle.dwarf_eval.specs.inner.Steps.{Does, Refused, Stays, Pops, total, ComesBy, GoesBack, ClosesBy, Closes, is_free, Turns, with_store, with_values, with_status}
 use Rattle.dwarf_eval.proofs.Reaching.{may_along}
 use Rattle.dwarf_eval.proofs.Endings.{EndsAlike, finish_alike}
 use Rattle.dwarf_eval.proofs.Loads.{Extended, piece_extends}
@@ -38,9 +38,8 @@ module _ (f g : Store → Outcome) (m n : ℕ) (old low new : State) (fits : len
     steps = record { pushes = h.steps.pushes; same = λ r. is (before_pushes h.steps.pushes r) ∙ h.steps.same r };
     alone = h.alone ∙ alone new.store (CompleteStatus value);
     kept = keeps_more old low new fewer.kept h.kept;
-    adds =
-        let items = h.adds.items in
-        record { items = omega (arith, items, fits); count = h.adds.count ∙ fewer.count };
+    count = h.count ∙ fewer.count;
+    items = let items = h.items in omega (arith, items, fits);
   }
   finished_as (FaultStatus error) h = record {
     gets = record { refusal = h.gets.refusal; may = may_along old low h.gets.refusal fewer.kept h.gets.may; same = is h.gets.refusal ∙ h.gets.same };
@@ -60,8 +59,13 @@ piece_keeps setup piece old new d =
     let tally : tally_of new.store ≡ tally_of old.store = subst (OnStore (HasTally (tally_of s))) (d.steps.same Never) (tally-push_piece setup piece s) in
     record { setup = ap (λ (z : State). z.setup) d.alone; initial_values = ap (λ (z : State). z.initial_values) d.alone; object_address = ap (λ (m : Tally). m.object_address) tally; maximum = ap (λ (m : Tally). m.maximum) tally }
 
+-- nothing is counted, and of values and pieces there are this many more at most
+record Adds (more : ℕ) (old new : State) : Type 0 where
+  items : length new.store.values + length new.store.pieces ≤ length old.store.values + length old.store.pieces + more
+  count : new.store.count ≡ old.store.count
+
 -- a piece more
-pub piece_more : (setup : Setup) (piece : Piece) (old new : State) → Does (push_piece setup piece) old new → Adds 1 old new
+piece_more : (setup : Setup) (piece : Piece) (old new : State) → Does (push_piece setup piece) old new → Adds 1 old new
 piece_more setup piece old new d =
     let s : Store = with_refusal (before_pushes d.steps.pushes Never) old.store in
     let added : Extended (length old.store.values) (length old.store.pieces + 1) old.store.count (with_refusal Never new.store) =
@@ -74,6 +78,7 @@ piece_more setup piece old new d =
 pub completes_ok : (value : Option Value) (piece : Piece) (old mid new : State) → Does (push_piece old.setup piece) old mid → new ≡ with_status (CompleteStatus value) mid → Closes 1 (λ s. completion_of value (push_piece old.setup piece s)) old new
 completes_ok value piece old mid new d e =
     let more = piece_more old.setup piece old mid d in
+    let adds : Adds 1 old new = subst (λ (s : Store). Adds 1 old (with_store s new)) (ap (λ (z : State). z.store) (sym e)) (record { items = more.items; count = more.count }) in
     subst (ClosesBy 1 (λ s. completion_of value (push_piece old.setup piece s)) old new) (sym (ap (λ (z : State). z.status) e)) (record {
       steps = record {
         pushes = d.steps.pushes;
@@ -82,7 +87,8 @@ completes_ok value piece old mid new d e =
       alone = e ∙ (ap (with_status (CompleteStatus value)) d.alone ∙ ap (λ (z : State). with_store z.store (with_status (CompleteStatus value) old)) (sym e));
       kept = keeps_more old mid new (piece_keeps old.setup piece old mid d)
           (record { setup = ap (λ (z : State). z.setup) e; initial_values = ap (λ (z : State). z.initial_values) e; object_address = ap (λ (z : State). z.store.object_address) e; maximum = ap (λ (z : State). z.store.maximum) e });
-      adds = subst (λ (s : Store). Adds 1 old (with_store s new)) (ap (λ (z : State). z.store) (sym e)) (record { items = more.items; count = more.count });
+      count = adds.count;
+      items = adds.items;
     })
 
 -- a last piece that is refused
@@ -126,7 +132,8 @@ stands g old new e is =
       };
       alone = is ∙ ap (λ (z : State). with_store z.store (with_status (CompleteStatus None) old)) (sym is);
       kept = record { setup = ap (λ (z : State). z.setup) is; initial_values = ap (λ (z : State). z.initial_values) is; object_address = ap (λ (z : State). z.store.object_address) is; maximum = ap (λ (z : State). z.store.maximum) is };
-      adds = record { items = omega (arith, values, pieces); count = ap (λ (z : State). z.store.count) is };
+      count = ap (λ (z : State). z.store.count) is;
+      items = omega (arith, values, pieces);
     })
 
 -- the end, by the last operation
@@ -137,13 +144,13 @@ finish_as last old new e h =
     (subst (λ (l : Last). Closes (waits_of l) (λ s. finish_by old.setup s l) old new) (sym e) h)
 
 -- with the value on top, without pieces, if no location waits
-pub finish_plain : (last : Last) (old new : State) → old.store.last ≡ last → IsFree last → has_pieces old.store.pieces ≡ false → Closes 0 (finish_value old.setup) old new → Closes (waits_of old.store.last) (finish old.setup) old new
+pub finish_plain : (last : Last) (old new : State) → old.store.last ≡ last → is_free last ≡ true → has_pieces old.store.pieces ≡ false → Closes 0 (finish_value old.setup) old new → Closes (waits_of old.store.last) (finish old.setup) old new
 finish_plain Nothing old new e free none h = finish_as Nothing old new e (closes_else 0 (λ s. CompleteOutcome s.pieces None) (finish_value old.setup) old new none h)
 finish_plain Plain old new e free none h = finish_as Plain old new e (closes_else 0 (λ s. FaultOutcome InvalidPiece) (finish_value old.setup) old new none h)
 finish_plain Pieced old new e free none h = finish_as Pieced old new e (closes_else 0 (λ s. CompleteOutcome s.pieces None) (finish_value old.setup) old new none h)
 finish_plain Pushed old new e free none h = finish_as Pushed old new e (closes_else 0 (λ s. FaultOutcome InvalidPiece) (finish_value old.setup) old new none h)
 finish_plain Called old new e free none h = finish_as Called old new e (closes_else 0 (λ s. CompleteOutcome s.pieces None) (finish_value old.setup) old new none h)
-finish_plain (Located location) old new e free none h = absurd free
+finish_plain (Located location) old new e free none h = cc
 
 -- the value on top is the result
 abbrev pub top_done : Setup → Store → Value → List Value → Outcome
@@ -217,10 +224,10 @@ module _ (x : State) (runs : x.status ≡ Running) (end : x.place ≡ length x.t
       pushes = h.steps.pushes;
       same = λ r inputs.
           outer_total (before_pushes h.steps.pushes r) inputs (CompleteOutcome new.store.pieces value) none (h.steps.same r)
-          ∙ (ap (closed (CompleteOutcome new.store.pieces value)) (sym h.adds.count)
+          ∙ (ap (closed (CompleteOutcome new.store.pieces value)) (sym h.count)
           ∙ sym (total_complete r new inputs value e));
       kept = h.kept;
-      spends = over_spends x new value runs e (ap (λ (z : State). length z.callers) h.alone) h.adds.count (ap (λ (z : State). z.decodings) h.alone) h.adds.items
+      spends = over_spends x new value runs e (ap (λ (z : State). length z.callers) h.alone) h.count (ap (λ (z : State). z.decodings) h.alone) h.items
           (subst (EndsAlike (endings x.store.pieces)) (h.steps.same Never) (finish_alike x.setup (with_refusal (before_pushes h.steps.pushes Never) x.store)));
       nears = nears_by x new Running (CompleteStatus value) runs e (omega arith);
     });

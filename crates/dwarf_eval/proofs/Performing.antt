@@ -5,7 +5,7 @@ use Rattle.dwarf_base.specs.Reads.{IsSuffix}
 use Rattle.dwarf_meaning.specs.Locations.{Location}
 use Rattle.dwarf_meaning.specs.Stores.{Last, Nothing, Plain, Pieced, Pushed, Called, Located}
 use Rattle.dwarf_meaning.specs.Rest.{State, Status, Start, Running, RequestStatus, CompleteStatus, FaultStatus}
-use Rattle.dwarf_eval.specs.inner.Steps.{Comes, CountsOne, IsFree, IsReady, Turns, at, effort, goes_on, is_free, is_running, total}
+use Rattle.dwarf_eval.specs.inner.Steps.{Comes, CountsOne, IsReady, Turns, at, effort, goes_on, is_free, is_running, total}
 use Rattle.dwarf_eval.proofs.Reaching.{comes_here, comes_more}
 use Rattle.dwarf_eval.proofs.Turning.{ready_none}
 
@@ -17,14 +17,6 @@ running_on (RequestStatus request on_answer) h = cc
 running_on (CompleteStatus value) h = cc
 running_on (FaultStatus error) h = cc
 running_on (Start initial_value) h = cc
-
-pub free_on : (last : Last) → is_free last ≡ true → IsFree last
-free_on Nothing h = tt
-free_on Plain h = tt
-free_on Pieced h = tt
-free_on Pushed h = tt
-free_on Called h = tt
-free_on (Located location) h = cc
 
 -- a location waits, if it isn't free of one
 pub located_on : (last : Last) → is_free last ≡ false → (location : Location) × (last ≡ Located location)
@@ -45,7 +37,7 @@ pub ready_on : (x : State) → goes_on x ≡ true → IsReady x
 ready_on x h =
     let parts = on_parts (is_running x.status) (is_free x.store.last) (nat_lt x.place (length x.text.bytes)) h in
     let inside = parts.2 in
-    record { runs = running_on x.status parts.0; inside = grind (arith, nat_tests, inside); free = free_on x.store.last parts.1 }
+    record { runs = running_on x.status parts.0; inside = grind (arith, nat_tests, inside); free = parts.1 }
 
 -- with something left it isn't the end
 pub some_left : (left bytes : List ℕ) → IsSuffix left bytes → nat_lt (length bytes - length left) (length bytes) ≡ not (length left == 0)

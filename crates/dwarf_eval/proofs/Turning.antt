@@ -20,7 +20,7 @@ use Rattle.dwarf_meaning.proofs.Effects.{act_is}
 use Rattle.dwarf_meaning.proofs.Turns.{run_turn, below_most}
 use Rattle.dwarf_meaning.specs.Bounds.{endings, faults_in}
 use Rattle.dwarf_meaning.specs.Inputs.{Keeps}
-use Rattle.dwarf_eval.specs.inner.Steps.{total, CountsOne, ReadsOperation, act_of, done_at, LeadsToPlace, LeadsToRequest, LeadsToFault, LeadsBy, Performs, read_to, with_store, Falls, ComesBy, IsFree, IsReady, Turns, effort, effort_by, with_status}
+use Rattle.dwarf_eval.specs.inner.Steps.{total, CountsOne, ReadsOperation, act_of, done_at, LeadsToPlace, LeadsToRequest, LeadsToFault, LeadsBy, Performs, read_to, with_store, Falls, ComesBy, is_free, IsReady, Turns, effort, effort_by, with_status}
 use Rattle.dwarf_eval.proofs.Endings.{EndsNoMore, done_ends, free_waits}
 use Rattle.dwarf_eval.proofs.Loads.{IsLighter, kept_in, done_lighter}
 use Rattle.dwarf_eval.proofs.Nearing.{nears_by}
@@ -48,13 +48,13 @@ less_counted x new runs still can callers count =
 
 -- ---- the turn
 
-free_turn : (setup : Setup) (text : Text) (place depth : ℕ) (s : Store) (inputs : List Input) (last : Last) → IsFree last → turn_by (run setup) setup text place depth s inputs last ≡ turn_counted (run setup) setup text place depth s inputs
+free_turn : (setup : Setup) (text : Text) (place depth : ℕ) (s : Store) (inputs : List Input) (last : Last) → is_free last ≡ true → turn_by (run setup) setup text place depth s inputs last ≡ turn_counted (run setup) setup text place depth s inputs
 free_turn setup text place depth s inputs Nothing h = refl
 free_turn setup text place depth s inputs Plain h = refl
 free_turn setup text place depth s inputs Pieced h = refl
 free_turn setup text place depth s inputs Pushed h = refl
 free_turn setup text place depth s inputs Called h = refl
-free_turn setup text place depth s inputs (Located location) h = absurd h
+free_turn setup text place depth s inputs (Located location) h = cc
 
 -- what is left inside a text, by its next turn
 pub total_inside : (x : State) (r : Refusal) (inputs : List Input) → x.status ≡ Running → x.place < length x.text.bytes → total x r inputs ≡ total_of_course x.store.count x.setup x.callers (turn_by (run x.setup) x.setup x.text x.place (length x.callers) (with_refusal r x.store) inputs x.store.last)

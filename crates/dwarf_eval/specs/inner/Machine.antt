@@ -25,22 +25,13 @@ use Rattle.dwarf_eval.specs.declared.run.states.EvaluationState.{EvaluationState
 use Rattle.dwarf_eval.specs.declared.run.states.EvaluationState.TheVariants as state
 
 -- of what sort the last operation was, as the definitions have it, with the location if one waits
-abbrev pub last_of : {R O P : Type 0} → (R → Text) → (O → ℕ) → LastOperation → Location R O P → Last
-last_of text number last.Nothing location = Nothing
-last_of text number last.Plain location = Plain
-last_of text number last.Pieced location = Pieced
-last_of text number last.Pushed location = Pushed
-last_of text number last.Called location = Called
-last_of text number last.Located location = Located (location_of text number location)
-
--- the last operation was of this sort
-abbrev pub IsOfSort : LastOperation → Last → Type 0
-IsOfSort last.Nothing x = x ≡ Nothing
-IsOfSort last.Plain x = x ≡ Plain
-IsOfSort last.Pieced x = x ≡ Pieced
-IsOfSort last.Pushed x = x ≡ Pushed
-IsOfSort last.Called x = x ≡ Called
-IsOfSort last.Located x = (location : meant.Location) × (x ≡ Located location)
+abbrev pub last_of : LastOperation → meant.Location → Last
+last_of last.Nothing location = Nothing
+last_of last.Plain location = Plain
+last_of last.Pieced location = Pieced
+last_of last.Pushed location = Pushed
+last_of last.Called location = Called
+last_of last.Located location = Located location
 
 -- the offset that is added to an answer
 abbrev pub offset_of : {R : Type 0} → OnAnswer R → ℤ
@@ -106,7 +97,7 @@ store_of text number values pieces count object_address maximum last location = 
   count = count;
   object_address = object_address;
   maximum = maximum;
-  last = last_of text number last location;
+  last = last_of last (location_of text number location);
   refusal = Never;
 }
 

@@ -241,16 +241,16 @@ HasReply Running = ⊥
 HasReply (Start initial_value) = ⊥
 HasReply _ = Unit {0}
 
--- no location waits
-abbrev pub IsFree : Last → Type 0
-IsFree (Located location) = ⊥
-IsFree _ = Unit {0}
+-- whether no location waits
+abbrev pub is_free : Last → Bool
+is_free (Located location) = false
+is_free _ = true
 
 -- about to do one more operation that is counted
 pub record IsReady (x : State) : Type 0 where
   pub runs : x.status ≡ Running
   pub inside : x.place < length x.text.bytes
-  pub free : IsFree x.store.last
+  pub free : is_free x.store.last ≡ true
 
 -- back in the innermost caller, if there is one
 abbrev pub GoesBack : Bool → State → State → Type 0
@@ -259,18 +259,14 @@ GoesBack true old new =
     × (new ≡ record old { text = f.text; place = f.place; callers = fs })
 GoesBack false old new = (old.callers ≡ []) × (new ≡ old)
 
--- Nothing is counted, and of values and pieces there are this many more at most.
-pub record Adds (more : ℕ) (old new : State) : Type 0 where
-  pub items : length new.store.values + length new.store.pieces
-      ≤ length old.store.values + length old.store.pieces + more
-  pub count : new.store.count ≡ old.store.count
-
 -- the run is over, as f says, with this value, and this many more items at most
 pub record ClosesComplete (more : ℕ) (f : Store → Outcome) (value : Option Value) (old new : State) : Type 0 where
   pub steps : Steps f old.store (λ s. CompleteOutcome s.pieces value) new.store
   pub alone : new ≡ with_store new.store (with_status (CompleteStatus value) old)
   pub kept : Keeps old new
-  pub adds : Adds more old new
+  pub count : new.store.count ≡ old.store.count
+  pub items : length new.store.values + length new.store.pieces
+      ≤ length old.store.values + length old.store.pieces + more
 
 -- f gives the fault for some refusal
 pub record ClosesInFault (f : Store → Outcome) (error : Error) (old new : State) : Type 0 where
@@ -310,10 +306,6 @@ is_running _ = false
 abbrev pub has_failed : Status → Bool
 has_failed (FaultStatus error) = true
 has_failed _ = false
-
-abbrev pub is_free : Last → Bool
-is_free (Located location) = false
-is_free _ = true
 
 -- whether one more operation is counted next
 abbrev pub goes_on : State → Bool

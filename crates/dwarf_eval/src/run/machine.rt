@@ -12,7 +12,7 @@ ghost use Rattle.dwarf_op.specs.Views.{operation_of, location_of, piece_of};
 ghost use Rattle.dwarf_meaning.specs.Bounds.{IsUnspent};
 ghost use Rattle.dwarf_meaning.specs.Inputs.{IsFresh, with_initial_value, with_maximum, with_object};
 ghost use Rattle.dwarf_eval.specs.inner.Answers.{IsDoneWith};
-ghost use Rattle.dwarf_eval.specs.inner.Machine.{IsAlike, IsIn, IsOfSort, status_of};
+ghost use Rattle.dwarf_eval.specs.inner.Machine.{IsAlike, IsIn, last_of, status_of};
 ghost use Rattle.dwarf_eval.specs.declared.run.states.EvaluationState.TheVariants as states;
 ghost use Rattle.dwarf_eval.specs.declared.run.states.OnAnswer.TheVariants as on;
 ghost use Rattle.dwarf_eval.specs.inner.Steps.{CountsOne, GoesBack, Jumps, Pops, PopsGenerics, ReadsOperation, Tries, TriesToEnter, at, has_failed, is_free, is_running, read_to, with_last, with_status};
@@ -223,7 +223,8 @@ impl<R: Reader + Copy, S: EvaluationStorage<R>> Machine<R, S> {
     /// Of what sort the last operation was.
     #[inline(always)]
     pub(crate) fn last(&self) -> LastOperation
-        ensures { IsOfSort result self.now.store.last }
+        ensures { (location : _)
+            × (last_of result location ≡ self.now.store.last) }
     {
         self.last
     }

@@ -4,36 +4,35 @@ use Rattle.dwarf_meaning.specs.Meaning.{FaultOutcome, completion_of, finish_valu
 use Rattle.dwarf_meaning.specs.Stores.{Nothing, Plain, Pieced, Pushed, Called, Located, push_piece}
 use Rattle.dwarf_op.specs.Views.{location_of}
 use Rattle.dwarf_eval.proofs.Finishing.{closes_else, closes_with, finish_as, finish_plain, mixed, stands}
-use Rattle.dwarf_eval.proofs.Performing.{free_on}
 use Rattle.dwarf_eval.proofs.run.machine.Machine.finish.Goals as goal
 
 pub returns-in-Nothing : goal.returns-in-Nothing
 returns-in-Nothing g c =
-    finish_as Nothing c.args.self.now c.end.new.self c.in-Nothing.ensures (stands (finish_value c.args.self.now.setup) c.args.self.now c.end.new.self (sym c.has_pieces.ensures ∙ c.if-has_pieces.true) c.end.ensures)
+    finish_as Nothing c.args.self.now c.end.new.self (sym c.in-Nothing.ensures.1) (stands (finish_value c.args.self.now.setup) c.args.self.now c.end.new.self (sym c.has_pieces.ensures ∙ c.if-has_pieces.true) c.end.ensures)
 
 pub returns-in-Plain : goal.returns-in-Plain
 returns-in-Plain g c =
-    finish_as Plain c.args.self.now c.fail.new.self c.in-Plain.ensures (mixed 0 (finish_value c.args.self.now.setup) c.args.self.now c.fail.new.self (sym c.has_pieces.ensures ∙ c.if-has_pieces.true) c.fail.ensures)
+    finish_as Plain c.args.self.now c.fail.new.self (sym c.in-Plain.ensures.1) (mixed 0 (finish_value c.args.self.now.setup) c.args.self.now c.fail.new.self (sym c.has_pieces.ensures ∙ c.if-has_pieces.true) c.fail.ensures)
 
 pub returns-in-Pieced : goal.returns-in-Pieced
 returns-in-Pieced g c =
-    finish_as Pieced c.args.self.now c.end-in-Pieced.new.self c.in-Pieced.ensures (stands (finish_value c.args.self.now.setup) c.args.self.now c.end-in-Pieced.new.self (sym c.has_pieces.ensures ∙ c.if-has_pieces.true) c.end-in-Pieced.ensures)
+    finish_as Pieced c.args.self.now c.end-in-Pieced.new.self (sym c.in-Pieced.ensures.1) (stands (finish_value c.args.self.now.setup) c.args.self.now c.end-in-Pieced.new.self (sym c.has_pieces.ensures ∙ c.if-has_pieces.true) c.end-in-Pieced.ensures)
 
 pub returns-in-Pushed : goal.returns-in-Pushed
 returns-in-Pushed g c =
-    finish_as Pushed c.args.self.now c.fail-in-Pushed.new.self c.in-Pushed.ensures (mixed 0 (finish_value c.args.self.now.setup) c.args.self.now c.fail-in-Pushed.new.self (sym c.has_pieces.ensures ∙ c.if-has_pieces.true) c.fail-in-Pushed.ensures)
+    finish_as Pushed c.args.self.now c.fail-in-Pushed.new.self (sym c.in-Pushed.ensures.1) (mixed 0 (finish_value c.args.self.now.setup) c.args.self.now c.fail-in-Pushed.new.self (sym c.has_pieces.ensures ∙ c.if-has_pieces.true) c.fail-in-Pushed.ensures)
 
 pub returns-in-Called : goal.returns-in-Called
 returns-in-Called g c =
-    finish_as Called c.args.self.now c.end-in-Called.new.self c.in-Called.ensures (stands (finish_value c.args.self.now.setup) c.args.self.now c.end-in-Called.new.self (sym c.has_pieces.ensures ∙ c.if-has_pieces.true) c.end-in-Called.ensures)
+    finish_as Called c.args.self.now c.end-in-Called.new.self (sym c.in-Called.ensures.1) (stands (finish_value c.args.self.now.setup) c.args.self.now c.end-in-Called.new.self (sym c.has_pieces.ensures ∙ c.if-has_pieces.true) c.end-in-Called.ensures)
 
 pub returns-in-Located : goal.returns-in-Located
 returns-in-Located g c =
-    finish_as (Located c.in-Located.ensures.0) c.args.self.now c.fail-in-Located.new.self c.in-Located.ensures.1 (mixed 1 _ c.args.self.now c.fail-in-Located.new.self (sym c.has_pieces.ensures ∙ c.if-has_pieces.true) c.fail-in-Located.ensures)
+    finish_as (Located c.in-Located.ensures.0) c.args.self.now c.fail-in-Located.new.self (sym c.in-Located.ensures.1) (mixed 1 _ c.args.self.now c.fail-in-Located.new.self (sym c.has_pieces.ensures ∙ c.if-has_pieces.true) c.fail-in-Located.ensures)
 
 pub returns-then-is_free : goal.returns-then-is_free
 returns-then-is_free g c =
-    finish_plain c.args.self.now.store.last c.args.self.now c.finish_value.new.self refl (free_on c.args.self.now.store.last (sym c.is_free.ensures ∙ c.if-is_free.true)) (sym c.has_pieces.ensures ∙ c.if-has_pieces.false) c.finish_value.ensures
+    finish_plain c.args.self.now.store.last c.args.self.now c.finish_value.new.self refl (sym c.is_free.ensures ∙ c.if-is_free.true) (sym c.has_pieces.ensures ∙ c.if-has_pieces.false) c.finish_value.ensures
 
 pub returns : goal.returns
 returns g c =

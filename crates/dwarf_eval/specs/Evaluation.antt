@@ -1,6 +1,6 @@
 -- What a call of an evaluation replies: the nested meaning, and what is left of it.
 pub use Rattle.dwarf_meaning.specs.Inputs.{input_of, Keeps, IsFresh, with_initial_value, with_object, with_maximum}
-use Rattle.std.specs.Prelude.{ℕ, ◌≡◌, List, [], Option, Some, None, Result, Ok, Err}
+use Rattle.std.specs.Prelude.{ℕ, ◌≡◌, List, [], Option, Some, None, option_map, unwrap_or, Result, Ok, Err}
 use Rattle.dwarf_base.specs.declared.errors.Error.{Error}
 use Rattle.dwarf_base.specs.Faults.{fault_of}
 use Rattle.dwarf_base.specs.Reads.{Text}
@@ -15,11 +15,6 @@ use Rattle.dwarf_eval.specs.declared.op.results.EvaluationResult.{EvaluationResu
 use Rattle.dwarf_eval.specs.declared.op.results.EvaluationResult.TheVariants as result
 
 -- ---- replies
-
--- the reply by what is asked: the request, or completion
-abbrev pub reply_by : Option Request → Reply
-reply_by None = CompleteReply
-reply_by (Some request) = RequestReply request
 
 module _ {R O P : Type 0} (text : R → Text) (number : O → ℕ) where
   -- what a result asks, if it isn't completion
@@ -41,9 +36,9 @@ module _ {R O P : Type 0} (text : R → Text) (number : O → ℕ) where
   request_in (result.RequiresIndexedAddress index relocate) = Some (RequiresIndexedAddress (number index.0) relocate)
   request_in (result.RequiresBaseType base_type) = Some (RequiresBaseType (number base_type.0))
 
-  -- the reply of a result
+  -- the reply of a result: what it asks, or completion
   abbrev pub ok_reply : EvaluationResult R O P → Reply
-  ok_reply replied = reply_by (request_in replied)
+  ok_reply replied = unwrap_or (option_map RequestReply (request_in replied)) CompleteReply
 
   -- the reply of a call: a result's, or a fault
   abbrev pub reply_of : Result (EvaluationResult R O P) Error → Reply

@@ -9,13 +9,13 @@ use Rattle.dwarf_meaning.specs.Stores.{Setup}
 use Rattle.dwarf_meaning.specs.Meaning.{Outcome, FaultOutcome, First, meaning}
 use Rattle.dwarf_meaning.specs.Rest.{State, FaultStatus}
 use Rattle.dwarf_meaning.specs.Steps.{Step, Evaluate, Resume, Told, Reply, outcome_from, outcome_of, AllAllowed, after_steps}
-use Rattle.dwarf_meaning.specs.Rows.{unset}
+use Rattle.dwarf_meaning.specs.Rows.{no_limits, unset}
 use Rattle.dwarf_meaning.specs.Refusals.{Never}
 use Rattle.dwarf_laws.specs.Rows.{IsWorked}
 use Rattle.dwarf_laws.specs.TwoRuns.{NoneIsFull}
 use Rattle.dwarf_laws.specs.Inlining as inlining
-use Rattle.dwarf_laws.specs.Inlining.{CallSite, outer, called, inlined, in_force, answered, with_answer, HasNoLimits, LeadsToCall, completions, requests}
-use Rattle.dwarf_laws.proofs.Inlined.{inlines}
+use Rattle.dwarf_laws.specs.Inlining.{CallSite, outer, called, inlined, in_force, with_answer, LeadsToCall, completions, requests}
+use Rattle.dwarf_laws.proofs.Inlined.{answered, inlines}
 use Rattle.dwarf_replay.specs.Replays.{told_at, StandsAt, Walks}
 use Rattle.dwarf_expr.specs.Twins.{fresh_at}
 use Rattle.dwarf_expr.specs.Inlined.{MayInline, StatesEndAlike, in_request, in_completion, InlinedReplay}
@@ -49,7 +49,7 @@ record Done (setup : Setup) (text : Text) (told : Told) (steps : List Step) (new
   stands : StandsAt (after_steps setup Never text told steps) new
       (outcome_of setup Never text (after_steps setup Never text told steps))
 
-done : (x : State) (steps : List Step) (replies : List Reply) (new : State) → HasNoLimits x.setup
+done : (x : State) (steps : List Step) (replies : List Reply) (new : State) → x.setup.limits ≡ no_limits
     → Walks x steps replies new → NoneIsFull replies
     → Done x.setup x.text (told_at x) steps new
 done x steps replies new h k n =
@@ -154,7 +154,7 @@ module _ (setup : Setup) (site : CallSite) (offset : DieReference) (told : Told)
 
 pub inlined_replays : InlinedReplay
 inlined_replays x y new other site offset start beyond replies given h k n sound l m =
-    let y_free = subst HasNoLimits h.setups h.no_limits in
+    let y_free = subst (λ (s : Setup). s.limits ≡ no_limits) h.setups h.unlimited in
     let same_told : told_at y ≡ told_at x =
     ap (λ (o : Option ℕ). record {
       settings = record
@@ -173,7 +173,7 @@ inlined_replays x y new other site offset start beyond replies given h k n sound
     in
     let first_done =
     subst (λ (t : Text). Done x.setup t (told_at x) (start ++ (Resume (LocationAnswer (called site)) ∷ beyond)) new) h.outer_text
-    (done x (start ++ (Resume (LocationAnswer (called site)) ∷ beyond)) replies new h.no_limits k n)
+    (done x (start ++ (Resume (LocationAnswer (called site)) ∷ beyond)) replies new h.unlimited k n)
     in
     let second_done =
     subst (λ (s : Setup). Done s (inlined site) (told_at x) (start ++ beyond) other) (sym h.setups)
@@ -192,7 +192,7 @@ inlined_replays x y new other site offset start beyond replies given h k n sound
     (subst (λ (t : Told). t.settings.object_address ≡ (in_force h.first t.inputs).object_address) at_call h.object_in_force)
     (subst (λ (t : Told). t.settings.maximum ≡ (in_force h.first t.inputs).maximum) at_call h.maximum_in_force) new other
     (λ faultless. (inlines x.setup site offset h.first (tells (told_at x) start).inputs
-    (added (tells (told_at x) start).settings beyond) h.requests h.no_limits h.stands h.inlinable
+    (added (tells (told_at x) start).settings beyond) h.requests h.unlimited h.stands h.inlinable
     (subst (λ (t : Told). LeadsToCall x.setup site offset h.first t.inputs h.requests) at_call h.leads) faultless).ends)
     first_done sound second_done
 
@@ -202,7 +202,7 @@ pub may_inline : (site : CallSite) (inputs : List Input) (beyond : List Request)
     → MayInline (fresh_at (outer site)) (fresh_at (inlined site)) site (UnitRef 5) (Evaluate ∷ [])
 may_inline site inputs beyond outcome h =
     record {
-      no_limits = h.no_limits;
+      unlimited = h.unlimited;
       setups = refl;
       outer_text = refl;
       inlined_text = refl;

@@ -12,9 +12,9 @@ use Rattle.dwarf_meaning.specs.Steps.{Step, InitialValue, ObjectAddress, MaxIter
 use Rattle.dwarf_meaning.specs.Refusals.{Refusal, Never}
 use Rattle.dwarf_meaning.proofs.Inputs.{over_meaning}
 use Rattle.dwarf_laws.specs.TwoRuns.{NoneIsFull}
-use Rattle.dwarf_laws.specs.Inlining.{HasNoLimits}
+use Rattle.dwarf_meaning.specs.Rows.{no_limits}
 use Rattle.dwarf_laws.proofs.Unrefused.{meaning_calm}
-use Rattle.dwarf_laws.proofs.Inlined.{no_limits}
+use Rattle.dwarf_laws.proofs.Inlined.{unlimited}
 use Rattle.dwarf_laws.proofs.Evaluations.{none_full_beyond, clear_after}
 
 -- ---- what steps tell
@@ -180,7 +180,7 @@ module _ (setup : Setup) (refusal : Refusal) (text : Text) where
 
 -- ---- without a refusal
 
-module _ (setup : Setup) (free_lists : HasNoLimits setup) (refusal : Refusal) (text : Text) where
+module _ (setup : Setup) (free_lists : setup.limits ≡ no_limits) (refusal : Refusal) (text : Text) where
   abbrev IsClear : Option Outcome → Type 0
   IsClear o = o ≢ Some (FaultOutcome StackFull)
 
@@ -190,7 +190,7 @@ module _ (setup : Setup) (free_lists : HasNoLimits setup) (refusal : Refusal) (t
   meant first inputs =
       subst (λ (s : Setup). (meaning s refusal text first inputs ≡ FaultOutcome StackFull) ⊎ (meaning s refusal text first
       inputs ≡ meaning s Never text first inputs))
-      (no_limits setup free_lists) (meaning_calm setup.encoding setup.offset_bits refusal text first inputs)
+      (unlimited setup free_lists) (meaning_calm setup.encoding setup.offset_bits refusal text first inputs)
 
   same_or : (o o' : Outcome) → (o ≡ FaultOutcome StackFull) ⊎ (o ≡ o') → IsClear (Some o) → Some o ≡ Some o'
   same_or o o' (inl e) c = absurd (c (ap Some e))

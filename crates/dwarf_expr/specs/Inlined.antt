@@ -8,14 +8,15 @@ use Rattle.dwarf_meaning.specs.Meaning.{First}
 use Rattle.dwarf_meaning.specs.Rest.{State, RequestStatus, CompleteStatus, FaultStatus}
 use Rattle.dwarf_meaning.specs.Steps.{Step, Resume, Told, Reply, after_steps}
 use Rattle.dwarf_meaning.specs.Refusals.{Never}
+use Rattle.dwarf_meaning.specs.Rows.{no_limits}
 use Rattle.dwarf_laws.specs.TwoRuns.{NoneIsFull}
-use Rattle.dwarf_laws.specs.Inlining.{CallSite, outer, called, inlined, in_force, HasNoLimits, StandsIn, IsInlinable, LeadsToCall}
+use Rattle.dwarf_laws.specs.Inlining.{CallSite, outer, called, inlined, in_force, StandsIn, IsInlinable, LeadsToCall}
 use Rattle.dwarf_replay.specs.Replays.{told_at, Walks}
 
 -- Two evaluations without limits, of the outer text and of the inlined one, with the same settings. The steps in
 -- `start` lead the first one to the call, and no setting was changed since its last answer, or since it was started.
 pub record MayInline (x y : State) (site : CallSite) (offset : DieReference) (start : List Step) : Type 0 where
-  pub no_limits : HasNoLimits x.setup
+  pub unlimited : x.setup.limits ≡ no_limits
   pub setups : x.setup ≡ y.setup
   pub outer_text : x.text ≡ outer site
   pub inlined_text : y.text ≡ inlined site

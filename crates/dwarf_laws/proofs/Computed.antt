@@ -1,5 +1,6 @@
 -- Evaluations that are computed, answer by answer.
 use Rattle.std.proofs.Common.{ℕ, ◌-◌, ◌≡◌, ◌≢◌, List, [], ◌∷◌, ◌++◌, Option, Some, None, ap, refl, sym, subst, ◌∙◌}
+use Rattle.std.specs.Prelude.{map, length, ◌+◌}
 use Rattle.dwarf_base.specs.Faults.{Fault}
 use Rattle.dwarf_base.specs.Reads.{Text}
 use Rattle.dwarf_meaning.specs.Operations.{UnitRef}
@@ -11,8 +12,8 @@ use Rattle.dwarf_meaning.specs.Steps.{Step, Evaluate, Resume, Told, outcome_of, 
 use Rattle.dwarf_meaning.specs.Rows.{text, plain, unset, given}
 use Rattle.dwarf_meaning.specs.Refusals.{Never}
 use Rattle.dwarf_meaning.proofs.FewTurns.{outcome_for, twenty, in_twenty}
-use Rattle.dwarf_laws.specs.Inlining.{CallSite, outer, inlined, after_call, with_answer, StandsIn, IsInlinable}
-use Rattle.dwarf_laws.specs.Rows.{resumes, started_steps, ComeTo, IsWorked}
+use Rattle.dwarf_laws.specs.Inlining.{CallSite, outer, inlined, with_answer, StandsIn, IsInlinable}
+use Rattle.dwarf_laws.specs.Rows.{started_steps, ComeTo, IsWorked}
 
 module _ (setup : Setup) (text : Text) where
   -- from what was told, if this comes of it, the steps answer that and lead there
@@ -89,7 +90,7 @@ module _ (setup : Setup) (text : Text) where
 
   come_by : (told : Told) (outcome : Outcome) (xs : List (Answer × Outcome))
       → outcome_of setup Never text told ≡ Some outcome → Computed told outcome xs
-      → ComeFrom told (resumes (answers_in xs)) (replied_to xs) (last_of outcome xs)
+      → ComeFrom told (map Resume (answers_in xs)) (replied_to xs) (last_of outcome xs)
   come_by told outcome [] e h = stays told outcome e
   come_by told outcome (x ∷ xs) e h =
       replies_to told (Some outcome) (Resume x.0) x.1 _ _ _ e (λ p. refl) h.0 h.1
@@ -99,7 +100,7 @@ module _ (setup : Setup) (text : Text) where
   pub starts : (told : Told) (o : Option Outcome) (outcome : Outcome) (xs : List (Answer × Outcome))
       → outcome_of setup Never text told ≡ o → IsEvaluable o
       → outcome_of setup Never text (after told o Evaluate) ≡ Some outcome → Computed (after told o Evaluate) outcome xs
-      → ComeFrom told (Evaluate ∷ resumes (answers_in xs)) (reply outcome ∷ replied_to xs) (last_of outcome xs)
+      → ComeFrom told (Evaluate ∷ map Resume (answers_in xs)) (reply outcome ∷ replied_to xs) (last_of outcome xs)
   starts told o outcome xs e a now h =
       replies_to told o Evaluate outcome _ _ _ e (λ p. refl) a now (come_by (after told o Evaluate) outcome xs now h)
 
@@ -179,7 +180,7 @@ asks_in_twenty text inputs requests h =
 -- a called text, of few turns in both texts
 pub worked : (site : CallSite) (earlier later : List Input) (before beyond : List Request) (outcome : Outcome)
     → StandsIn plain site (UnitRef 5) → IsInlinable plain site
-    → Ends (outer site) earlier (RequestEnd (RequiresAtLocation (UnitRef 5)) (after_call site ∷ []) [])
+    → Ends (outer site) earlier (RequestEnd (RequiresAtLocation (UnitRef 5)) (record { text = outer site; place = length site.before + length site.call } ∷ []) [])
     → Asks (outer site) earlier (before ++ (RequiresAtLocation (UnitRef 5) ∷ []))
     → ((fault : Fault) → outcome ≢ FaultOutcome fault)
     → ((more : ℕ) → outcome_for (twenty more) plain Never (outer site) unset (with_answer site unset earlier later) ≡ outcome)
@@ -190,7 +191,7 @@ pub worked : (site : CallSite) (earlier later : List Input) (before beyond : Lis
 worked site earlier later before beyond outcome stands fits ends asks sound h k i j =
     let comes = in_twenty plain Never (outer site) unset (with_answer site unset earlier later) outcome h in
     record {
-      no_limits = record { values = refl; callers = refl; pieces = refl };
+      unlimited = refl;
       stands = stands;
       inlinable = fits;
       leads = record { end = end_in_twenty (outer site) earlier _ ends; asked = asks_in_twenty (outer site) earlier _ asks };

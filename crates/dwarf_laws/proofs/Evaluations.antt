@@ -1,16 +1,16 @@
 -- Two evaluations of one text, step by step.
 use Rattle.std.proofs.Common.{ℕ, ◌≡◌, ◌≢◌, ap, refl, sym, ◌∙◌, ◌⊎◌, inl, inr, List, [], ◌∷◌, ◌++◌, Option, Some, None}
-use Rattle.std.specs.Prelude.{◌↔◌}
+use Rattle.std.specs.Prelude.{◌↔◌, option_map}
 use Rattle.dwarf_base.specs.declared.errors.Error.TheVariants.{StackFull}
 use Rattle.dwarf_base.specs.Reads.{Text}
 use Rattle.dwarf_value.specs.Laws.{IsWidth}
 use Rattle.dwarf_meaning.specs.Requests.{Answer, Input}
 use Rattle.dwarf_meaning.specs.Stores.{Setup, address_bits}
-use Rattle.dwarf_meaning.specs.Meaning.{Outcome, FaultOutcome, First}
+use Rattle.dwarf_meaning.specs.Meaning.{Outcome, FaultOutcome, First, course_of}
 use Rattle.dwarf_meaning.specs.Steps.{Step, InitialValue, ObjectAddress, MaxIterations, Evaluate, Resume, Told, outcome_from, outcome_of, IsEvaluable, Awaits, IsUntold, Allows, begun, heard, after, Reply, reply, replies, step_replies, after_step, replies_of, untold}
 use Rattle.dwarf_meaning.specs.Refusals.{Limits, Refusal}
 use Rattle.dwarf_laws.specs.Agreement.{Pairwise, none, more, Both, nothing, something, AgreeingAnswers, AgreeingSteps, initial_value, object_address, max_iterations, evaluate, resume, AgreeingFirsts, AgreeingInputs, AgreeingTold, AgreeingOutcomes, requests, faults, completions}
-use Rattle.dwarf_laws.specs.TwoRuns.{NoneIsFull, path_from, StandAlike, AreAlike, TwoRuns}
+use Rattle.dwarf_laws.specs.TwoRuns.{NoneIsFull, StandAlike, AreAlike, TwoRuns}
 use Rattle.dwarf_laws.proofs.Pairs.{snoc_both}
 use Rattle.dwarf_laws.proofs.Actions.{same_kinds}
 use Rattle.dwarf_laws.proofs.Meanings.{meaning_both, path_both}
@@ -176,11 +176,12 @@ module _ (Free : Type 0) (setup : Setup) (limits : Limits) (premise : Free ⊎ (
       → Pairwise (AgreeingInputs w) inputs inputs'
       → IsClearSoFar Free (outcome_from setup refusal text inputs f)
       → IsClearSoFar Free (outcome_from other another text inputs' g)
-      → path_from setup refusal text inputs f ≡ path_from other another text inputs' g
+      → option_map (λ (first : First). (course_of setup refusal text first inputs).path) f
+      ≡ option_map (λ (first : First). (course_of other another text first inputs').path) g
   paths_from f g inputs inputs' nothing i h k = refl
   paths_from f g inputs inputs' (something a) i h k =
-      path_both Free setup limits premise width refusal another same_refusal text _ _ inputs inputs' a i
-      (λ free e. h free (ap Some e)) (λ free e. k free (ap Some e))
+      ap Some (path_both Free setup limits premise width refusal another same_refusal text _ _ inputs inputs' a i
+      (λ free e. h free (ap Some e)) (λ free e. k free (ap Some e)))
 
   -- what agreeing tellings lead to, if no push was refused
   stand_alike : (told told' : Told) → AgreeingTold w told told'

@@ -8,15 +8,16 @@ use Rattle.dwarf_value.specs.declared.types.Value.TheVariants.{Generic}
 use Rattle.dwarf_meaning.specs.Operations.{Operation, DieReference}
 use Rattle.dwarf_meaning.specs.Splitting.{Joined, items_at}
 use Rattle.dwarf_meaning.specs.Splitting as splitting
-use Rattle.dwarf_meaning.specs.Requests.{Request, RequiresAtLocation, Push, Input}
+use Rattle.dwarf_meaning.specs.Requests.{Request, RequiresAtLocation, LocationAnswer, Push, Input}
 use Rattle.dwarf_meaning.specs.Kinds.{is_same_kind}
 use Rattle.dwarf_meaning.specs.Acts.{use_of}
 use Rattle.dwarf_meaning.specs.Stores.{Setup, Store, Last, Nothing, Plain, Pieced, Pushed, Called, Located, push_caller, push_value, push_piece}
 use Rattle.dwarf_meaning.specs.Run.{Position, End, CompleteEnd, RequestEnd, FaultEnd, Course, add_to_path, add_request, return_to_caller, after_push, run_callee, await_answer, counted, run}
 use Rattle.dwarf_meaning.specs.Meaning.{Outcome, RequestOutcome, FaultOutcome, CompleteOutcome, First, finish, finish_by, fresh, with_initial, outcome_of_end, course_of, meaning}
-use Rattle.dwarf_meaning.specs.Refusals.{Never}
+use Rattle.dwarf_meaning.specs.Refusals.{Limits, Never}
+use Rattle.dwarf_meaning.specs.Rows.{no_limits}
 use Rattle.dwarf_laws.specs.Inlining as inlining
-use Rattle.dwarf_laws.specs.Inlining.{CallSite, in_force, answered, with_answer, HasNoLimits, StandsIn, IsInlinable, LeadsToCall, EndAlike, LacksOne, IsInlined, Inlining}
+use Rattle.dwarf_laws.specs.Inlining.{CallSite, in_force, with_answer, StandsIn, IsInlinable, LeadsToCall, EndAlike, IsInlined, Inlining}
 use Rattle.dwarf_meaning.proofs.Splittings.{splitting_items, items_ok}
 use Rattle.dwarf_meaning.proofs.Decoded.{spelled_operation}
 use Rattle.std.proofs.Math.Seq.{drop-append_seam}
@@ -27,6 +28,14 @@ use Rattle.dwarf_laws.proofs.Phase.{Reached, leads_as}
 use Rattle.dwarf_laws.proofs.Calling.{call_course, call_turn, straight_beyond, from}
 
 -- ---- settings
+
+-- the called text as an answer that changes no setting
+abbrev pub answered : CallSite → First → Input
+answered site settings = record {
+  object_address = settings.object_address;
+  maximum = settings.maximum;
+  answer = LocationAnswer (inlining.called site);
+}
 
 keeps_initial : (first : First) (inputs : List Input) → (in_force first inputs).initial_value ≡ first.initial_value
 keeps_initial first [] = refl
@@ -161,7 +170,7 @@ module _ (encoding : Encoding) (bits : ℕ) where
     callee = inlining.called site
 
     abbrev after_call : Position
-    after_call = inlining.after_call site
+    after_call = record { text = outer; place = length A + length K }
 
     straight_all : StraightFrom encoding bits outer 0
     straight_all =
@@ -349,33 +358,22 @@ module _ (encoding : Encoding) (bits : ℕ) where
                 ends =
                     subst (λ (e : End). EndAlike (outcome_of_end S e) (outcome_of_end S short.end)) (sym whole_end)
                     (subst (λ (e : End). EndAlike (outcome_of_end S first_rest.end) (outcome_of_end S e)) (sym short_end) alike_ends);
-                asks = record {
-                  later = first_rest.requests;
-                  with_it = whole_requests;
-                  without_it =
-                      short_requests ∙ ap (λ (l : List Request). requests ++ l)
-                      (same_requests first_rest.requests first_rest.end second_rest.requests second_rest.end rests clean);
-                };
+                after = first_rest.requests;
+                outer_asks = whole_requests;
+                inlined_asks =
+                    short_requests ∙ ap (λ (l : List Request). requests ++ l)
+                    (same_requests first_rest.requests first_rest.end second_rest.requests second_rest.end rests clean);
               }
 
-pub no_limits : (setup : Setup) → HasNoLimits setup → free setup.encoding setup.offset_bits ≡ setup
-no_limits setup h =
-    ap (λ (k : Option ℕ). record setup { limits = record { values = k; callers = None; pieces = None } }) (sym h.values)
-    ∙ (ap (λ (k : Option ℕ). record setup {
-      limits = record
-          { values = setup.limits.values; callers = k; pieces = None };
-    }) (sym h.callers)
-    ∙ ap (λ (k : Option ℕ). record setup {
-      limits = record
-          { values = setup.limits.values; callers = setup.limits.callers; pieces = k };
-    }) (sym h.pieces))
+pub unlimited : (setup : Setup) → setup.limits ≡ no_limits → free setup.encoding setup.offset_bits ≡ setup
+unlimited setup h = ap (λ (limits : Limits). record setup { limits = limits }) (sym h)
 
 pub inlines : Inlining
 inlines setup site offset first earlier later requests h =
     subst (λ (k : Setup). StandsIn k site offset → IsInlinable k site → LeadsToCall k site offset first earlier requests
     → ((fault : Fault) → meaning k Never (inlining.outer site) first (with_answer site first earlier later) ≢ FaultOutcome fault)
     → IsInlined k site offset first earlier later requests)
-    (no_limits setup h)
+    (unlimited setup h)
     (λ stands fit leads faultless. is_inlined setup.encoding setup.offset_bits site offset stands fit first earlier
     requests leads (reached setup.encoding setup.offset_bits site offset stands fit first earlier requests leads)
     later faultless)

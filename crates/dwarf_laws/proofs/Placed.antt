@@ -1,6 +1,7 @@
 -- The premises on a call's place in its text, from what is read of the bytes.
 use Rattle.std.proofs.Common.{◌≡◌, List, [], ◌∷◌, Result, Ok, Err, Option, Some, None, refl, sym, subst, ◌∙◌}
 use Rattle.std.proofs.lemmas.List.{append-nil}
+use Rattle.std.specs.List.{AllByRecursion}
 use Rattle.dwarf_base.specs.Faults.{Fault}
 use Rattle.dwarf_meaning.specs.Operations.{Operation, Call, DieReference}
 use Rattle.dwarf_meaning.specs.Decoding.{operation_at}
@@ -9,7 +10,7 @@ use Rattle.dwarf_meaning.specs.Splitting.{items_of, items_at}
 use Rattle.dwarf_meaning.specs.Stores.{Setup}
 use Rattle.dwarf_meaning.proofs.Decoded.{operation_begins}
 use Rattle.dwarf_meaning.proofs.Splittings.{splits_once, is_splitting}
-use Rattle.dwarf_laws.specs.Inlining.{CallSite, outer, AreStraight, StandsIn}
+use Rattle.dwarf_laws.specs.Inlining.{CallSite, outer, IsStraight, StandsIn}
 use Rattle.dwarf_laws.proofs.Texts.{AllStraight}
 
 -- none of them is a fault
@@ -23,7 +24,7 @@ no_fault [] None h = refl
 no_fault [] (Some fault) h = absurd h
 no_fault (op ∷ ops) fault h = no_fault ops fault h
 
-all_straight : (ops : List Operation) (fault : Option Fault) → AllStraight (items_of ops fault) → AreStraight ops
+all_straight : (ops : List Operation) (fault : Option Fault) → AllStraight (items_of ops fault) → AllByRecursion IsStraight ops
 all_straight [] fault h = tt
 all_straight (op ∷ ops) fault h = (h.0, all_straight ops fault h.1)
 

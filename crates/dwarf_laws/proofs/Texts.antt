@@ -5,6 +5,7 @@ use Rattle.std.proofs.lemmas.Int.{ints}
 use Rattle.std.proofs.lemmas.List.{drop-append-le, drop-drop, length-drop}
 use Rattle.std.proofs.Math.Seq.{drop-append-add, drop-append_seam}
 use native.Mathlib.Nat.{mod-eq_of_lt}
+use Rattle.std.specs.List.{AllByRecursion}
 use Rattle.dwarf_base.specs.declared.common.Encoding.{Encoding}
 use Rattle.dwarf_base.specs.Faults.{Fault}
 use Rattle.dwarf_base.specs.Numbers.{residue}
@@ -14,7 +15,7 @@ use Rattle.dwarf_meaning.specs.Branches.{AreBytes}
 use Rattle.dwarf_meaning.specs.Splitting.{items_of, items_at}
 use Rattle.dwarf_meaning.specs.Stores.{Setup, branch_target}
 use Rattle.dwarf_meaning.specs.Run.{read}
-use Rattle.dwarf_laws.specs.Inlining.{IsStraight, AreStraight}
+use Rattle.dwarf_laws.specs.Inlining.{IsStraight}
 use Rattle.dwarf_meaning.proofs.Decoded.{operation_begins, operation_shortens, operation_before}
 use Rattle.dwarf_meaning.proofs.Splittings.{items_ok}
 use Rattle.dwarf_meaning.proofs.Branches.{branches_near}
@@ -28,7 +29,7 @@ AllStraight [] = Unit {0}
 AllStraight (Ok op ∷ items) = IsStraight op × AllStraight items
 AllStraight (Err fault ∷ items) = Unit {0}
 
-pub straight_items : (ops : List Operation) (fault : Option Fault) → AreStraight ops → AllStraight (items_of ops fault)
+pub straight_items : (ops : List Operation) (fault : Option Fault) → AllByRecursion IsStraight ops → AllStraight (items_of ops fault)
 straight_items [] None h = tt
 straight_items [] (Some fault) h = tt
 straight_items (op ∷ ops) fault h = (h.0, straight_items ops fault h.1)

@@ -1,5 +1,6 @@
 -- A called text may be written in its call's place (DWARF 5, section 2.5.1.5).
-use Rattle.std.specs.Prelude.{ℕ, ◌+◌, ◌^◌, ◌<◌, ◌≡◌, ◌≢◌, Bool, List, [], ◌∷◌, ◌++◌, Option, None, length}
+use Rattle.std.specs.Prelude.{ℕ, ◌+◌, ◌^◌, ◌<◌, ◌≡◌, ◌≢◌, Bool, List, [], ◌∷◌, ◌++◌, Option, length}
+use Rattle.std.specs.List.{AllByRecursion}
 use Rattle.dwarf_base.specs.Faults.{Fault}
 use Rattle.dwarf_base.specs.Reads.{Text}
 use Rattle.dwarf_value.specs.declared.types.Value.{Value}
@@ -13,6 +14,7 @@ use Rattle.dwarf_meaning.specs.Stores.{Setup}
 use Rattle.dwarf_meaning.specs.Run.{Position, RequestEnd}
 use Rattle.dwarf_meaning.specs.Meaning.{Outcome, RequestOutcome, FaultOutcome, CompleteOutcome, First, course_of, meaning}
 use Rattle.dwarf_meaning.specs.Refusals.{Never}
+use Rattle.dwarf_meaning.specs.Rows.{no_limits, given}
 
 -- ---- the texts
 
@@ -36,10 +38,6 @@ called site = record { bytes = site.callee; is_big = site.is_big }
 abbrev pub inlined : CallSite → Text
 inlined site = record { bytes = site.before ++ (site.callee ++ site.beyond); is_big = site.is_big }
 
--- the outer text, at the place after the call
-abbrev pub after_call : CallSite → Position
-after_call site = record { text = outer site; place = length site.before + length site.call }
-
 -- ---- the inputs
 
 -- the settings in force once these inputs are taken
@@ -48,36 +46,18 @@ in_force first [] = first
 in_force first (input ∷ inputs) =
     in_force (record first { object_address = input.object_address; maximum = input.maximum }) inputs
 
--- the called text as an answer that changes no setting
-abbrev pub answered : CallSite → First → Input
-answered site settings = record {
-  object_address = settings.object_address;
-  maximum = settings.maximum;
-  answer = LocationAnswer (called site);
-}
-
--- the inputs of the outer text: the earlier ones, that answer, and the later ones
+-- the inputs of the outer text: the earlier ones, the called text as an answer that changes no setting, the later ones
 abbrev pub with_answer : CallSite → First → (earlier later : List Input) → List Input
-with_answer site first earlier later = earlier ++ (answered site (in_force first earlier) ∷ later)
+with_answer site first earlier later =
+    earlier ++ (given (in_force first earlier) (LocationAnswer (called site) ∷ []) ++ later)
 
 -- ---- the premises
-
--- no list has a limit
-pub record HasNoLimits (setup : Setup) : Type 0 where
-  pub values : setup.limits.values ≡ None
-  pub callers : setup.limits.callers ≡ None
-  pub pieces : setup.limits.pieces ≡ None
 
 -- it is no branch
 abbrev pub IsStraight : Operation → Type 0
 IsStraight (Bra target) = ⊥
 IsStraight (Skip target) = ⊥
 IsStraight _ = Unit {0}
-
--- none of them is a branch
-abbrev pub AreStraight : List Operation → Type 0
-AreStraight [] = Unit {0}
-AreStraight (op ∷ ops) = IsStraight op × AreStraight ops
 
 -- the call is one of the operations that the outer text splits into, and none of them is a branch
 pub record StandsIn (setup : Setup) (site : CallSite) (offset : DieReference) : Type 0 where
@@ -87,7 +67,7 @@ pub record StandsIn (setup : Setup) (site : CallSite) (offset : DieReference) : 
   pub operations : List Operation
   pub fault : Option Fault
   pub splits : Splitting setup.encoding setup.offset_bits site.is_big (outer site).bytes operations fault
-  pub straight : AreStraight operations
+  pub straight : AllByRecursion IsStraight operations
 
 -- The callee has bytes, and no branch of 16 bits wraps in the inlined text.
 pub record IsInlinable (setup : Setup) (site : CallSite) : Type 0 where
@@ -99,7 +79,8 @@ pub record IsInlinable (setup : Setup) (site : CallSite) : Type 0 where
 pub record LeadsToCall (setup : Setup) (site : CallSite) (offset : DieReference) (first : First)
     (earlier : List Input) (requests : List Request) : Type 0 where
   pub end : (course_of setup Never (outer site) first earlier).end
-      ≡ RequestEnd (RequiresAtLocation offset) (after_call site ∷ []) []
+      ≡ RequestEnd (RequiresAtLocation offset)
+      (record { text = outer site; place = length site.before + length site.call } ∷ []) []
   pub asked : (course_of setup Never (outer site) first earlier).requests ≡ requests ++ (RequiresAtLocation offset ∷ [])
 
 -- ---- what is said
@@ -111,27 +92,22 @@ pub data EndAlike : Outcome → Outcome → Type 0 where
   requests : {request : Request} {positions others : List Position}
       → EndAlike (RequestOutcome request positions) (RequestOutcome request others)
 
--- the same requests in the same order, but for this one, which comes after the earlier ones
-pub record LacksOne (request : Request) (earlier whole lacking : List Request) : Type 0 where
-  pub later : List Request
-  pub with_it : whole ≡ earlier ++ (request ∷ later)
-  pub without_it : lacking ≡ earlier ++ later
-
--- The inlined text ends as the outer one does, without the answer of that call, and without its request.
+-- The inlined text ends as the outer one does, without the answer of that call, and asks the same but for its request.
 pub record IsInlined (setup : Setup) (site : CallSite) (offset : DieReference) (first : First)
     (earlier later : List Input) (requests : List Request) : Type 0 where
   pub ends : EndAlike (meaning setup Never (outer site) first (with_answer site first earlier later))
       (meaning setup Never (inlined site) first (earlier ++ later))
-  pub asks : LacksOne (RequiresAtLocation offset) requests
-      (course_of setup Never (outer site) first (with_answer site first earlier later)).requests
-      (course_of setup Never (inlined site) first (earlier ++ later)).requests
+  pub after : List Request
+  pub outer_asks : (course_of setup Never (outer site) first (with_answer site first earlier later)).requests
+      ≡ requests ++ (RequiresAtLocation offset ∷ after)
+  pub inlined_asks : (course_of setup Never (inlined site) first (earlier ++ later)).requests ≡ requests ++ after
 
 -- without limits and refusals, if the outer run meets no fault
 abbrev pub Inlining : Type 0
 Inlining =
     (setup : Setup) (site : CallSite) (offset : DieReference) (first : First) (earlier later : List Input)
     (requests : List Request)
-    → HasNoLimits setup → StandsIn setup site offset → IsInlinable setup site
+    → setup.limits ≡ no_limits → StandsIn setup site offset → IsInlinable setup site
     → LeadsToCall setup site offset first earlier requests
     → ((fault : Fault)
     → meaning setup Never (outer site) first (with_answer site first earlier later) ≢ FaultOutcome fault)

@@ -1,24 +1,19 @@
 -- Words for the worked rows of the two laws: evaluations that are computed (DWARF 5, sections 2.5 and 2.6).
-use Rattle.std.specs.Prelude.{ℕ, ◌≡◌, ◌≢◌, List, [], ◌∷◌, ◌++◌, Some, false}
+use Rattle.std.specs.Prelude.{ℕ, ◌≡◌, ◌≢◌, List, [], ◌∷◌, ◌++◌, Some, false, map}
 use Rattle.dwarf_base.specs.Faults.{Fault}
 use Rattle.dwarf_meaning.specs.Operations.{UnitRef}
 use Rattle.dwarf_meaning.specs.Requests.{Request, RequiresAtLocation, Answer, Input}
 use Rattle.dwarf_meaning.specs.Stores.{Setup}
 use Rattle.dwarf_meaning.specs.Meaning.{Outcome, FaultOutcome, First, course_of, meaning}
 use Rattle.dwarf_meaning.specs.Steps.{Step, Evaluate, Resume, outcome_of, AllAllowed, after_steps, Reply, replies_of, untold}
-use Rattle.dwarf_meaning.specs.Rows.{text, plain, unset}
+use Rattle.dwarf_meaning.specs.Rows.{text, no_limits, plain, unset}
 use Rattle.dwarf_meaning.specs.Refusals.{Refusal, Never}
 use Rattle.dwarf_laws.specs.Agreement.{Pairwise, AgreeingSteps, AgreeingOutcomes}
-use Rattle.dwarf_laws.specs.Inlining.{CallSite, outer, inlined, with_answer, HasNoLimits, StandsIn, IsInlinable, LeadsToCall, EndAlike}
-
--- these answers are given, one after another
-abbrev pub resumes : List Answer → List Step
-resumes [] = []
-resumes (answer ∷ answers) = Resume answer ∷ resumes answers
+use Rattle.dwarf_laws.specs.Inlining.{CallSite, outer, inlined, with_answer, StandsIn, IsInlinable, LeadsToCall, EndAlike}
 
 -- an evaluation is started, and then these answers are given
 abbrev pub started_steps : List Answer → List Step
-started_steps answers = Evaluate ∷ resumes answers
+started_steps answers = Evaluate ∷ map Resume answers
 
 -- Steps from the beginning, each of them allowed: the replies to them, and their outcome.
 pub record ComeTo (setup : Setup) (bytes : List ℕ) (steps : List Step) (replied : List Reply)
@@ -45,7 +40,7 @@ call_site before beyond callee =
 -- after it.
 pub record IsWorked (site : CallSite) (earlier later : List Input) (before after : List Request)
     (outcome : Outcome) : Type 0 where
-  pub no_limits : HasNoLimits plain
+  pub unlimited : plain.limits ≡ no_limits
   pub stands : StandsIn plain site (UnitRef 5)
   pub inlinable : IsInlinable plain site
   pub leads : LeadsToCall plain site (UnitRef 5) unset earlier before

@@ -1,9 +1,9 @@
 -- Bits above an address change nothing that matters (DWARF 5, section 2.5.1).
-use Rattle.std.specs.Prelude.{◌≡◌, ◌≢◌, ◌⊎◌, ◌↔◌, List, [], ◌∷◌, ◌++◌, Option, Some, None}
+use Rattle.std.specs.Prelude.{◌≡◌, ◌≢◌, ◌⊎◌, ◌↔◌, List, ◌++◌, Option, option_map}
+use Rattle.std.specs.List.{AllByRecursion}
 use Rattle.dwarf_base.specs.declared.errors.Error.TheVariants.{StackFull}
 use Rattle.dwarf_base.specs.Reads.{Text}
 use Rattle.dwarf_value.specs.Laws.{IsWidth}
-use Rattle.dwarf_meaning.specs.Requests.{Input}
 use Rattle.dwarf_meaning.specs.Stores.{Setup, address_bits}
 use Rattle.dwarf_meaning.specs.Run.{Position}
 use Rattle.dwarf_meaning.specs.Meaning.{First, course_of}
@@ -13,22 +13,12 @@ use Rattle.dwarf_laws.specs.Agreement.{Pairwise, Both, AgreeingSteps, AgreeingTo
 
 -- no push was refused
 abbrev pub NoneIsFull : List Reply → Type 0
-NoneIsFull [] = Unit {0}
-NoneIsFull (reply ∷ replies) = (reply ≢ FaultReply StackFull) × NoneIsFull replies
+NoneIsFull replies = AllByRecursion (λ (reply : Reply). reply ≢ FaultReply StackFull) replies
 
--- where the operations stand that were counted so far
-abbrev pub path_from : Setup → Refusal → Text → List Input → Option First → List Position
-path_from setup refusal text inputs None = []
-path_from setup refusal text inputs (Some first) = (course_of setup refusal text first inputs).path
-
--- the same of all that was told
-abbrev pub path_of : Setup → Refusal → Text → Told → List Position
-path_of setup refusal text told = path_from setup refusal text told.inputs told.first
-
--- the outcome of all that was told before, once it was started, and the replies to the steps
-abbrev pub all_replies : Setup → Refusal → Text → Told → List Step → List Reply
-all_replies setup refusal text told steps =
-    replies (outcome_of setup refusal text told) ++ replies_of setup refusal text told steps
+-- where the operations stand that were counted so far, once it was started
+abbrev pub path_of : Setup → Refusal → Text → Told → Option (List Position)
+path_of setup refusal text told =
+    option_map (λ (first : First). (course_of setup refusal text first told.inputs).path) told.first
 
 -- Two evaluations of one text stand alike, by what each was told.
 pub record StandAlike (setup other : Setup) (refusal another : Refusal) (text : Text)
@@ -52,13 +42,13 @@ pub record AreAlike (setup other : Setup) (refusal another : Refusal) (text : Te
   pub stand : StandAlike setup other refusal another text
       (after_steps setup refusal text told steps) (after_steps other another text second others)
 
--- the same limits and the same refusal, or no push that was refused
+-- the same limits and the same refusal, or no push that was refused, so far or by the steps
 abbrev pub AreComparable : (setup other : Setup) (refusal another : Refusal) (text : Text) (told second : Told)
     (steps others : List Step) → Type 0
 AreComparable setup other refusal another text told second steps others =
     ((setup.limits ≡ other.limits) × (refusal ≡ another))
-    ⊎ (NoneIsFull (all_replies setup refusal text told steps)
-    × NoneIsFull (all_replies other another text second others))
+    ⊎ (NoneIsFull (replies (outcome_of setup refusal text told) ++ replies_of setup refusal text told steps)
+    × NoneIsFull (replies (outcome_of other another text second) ++ replies_of other another text second others))
 
 -- Agreeing steps, from what was told before, under any limits and refusals. With nothing told on either side
 -- (`untold`) it speaks of whole evaluations.

@@ -22,7 +22,7 @@ module _ {R O P : Type 0} (text : R → Text) (number : O → ℕ) (step : Step)
   pub kept_answer : (answer : Answer R O P) (all : List (Answer R O P)) → IsStepped text number step old new (stepped.Answered answer)
       → all ≡ given ++ answer ∷ []
       → TakesStep text number step limit old given new all (Ok tt)
-  kept_answer answer all h e = inr (record { answer = answer; called = h; kept = e })
+  kept_answer answer all h e = inr (answer, h, e)
 
   pub no_room : (answer back : Answer R O P) (all : List (Answer R O P)) → IsStepped text number step old new (stepped.Answered answer)
       → back ≡ answer → all ≡ given → MayRefuse limit (length given)

@@ -14,7 +14,6 @@ use Rattle.dwarf_meaning.specs.Steps.{Step, InitialValue, ObjectAddress, MaxIter
 use Rattle.dwarf_meaning.specs.Refusals.{Refusal}
 use Rattle.dwarf_eval.specs.Lists.{MayRefuse}
 use Rattle.dwarf_replay.specs.Stepping.{step_of, MayTake, IsSet, HasReplied}
-use Rattle.dwarf_replay.specs.inner.Keeping.{IsKept}
 use Rattle.dwarf_replay.specs.Replays.{told_at, steps_of, reply_in, replies_in, Walks, WalksTo, WalksOver}
 use Rattle.dwarf_replay.specs.declared.steps.Step as code
 use Rattle.dwarf_replay.specs.declared.steps.Answer as kept_answer
@@ -83,7 +82,7 @@ module _ {R : Type 0} (view : R → Text) (all : List (code.Step R)) (index : �
 module _ {R O P : Type 0} (view : R → Text) (number : O → ℕ) (first : State) (all : List (code.Step R)) (index : ℕ) (step : code.Step R) (is_next : slice_get all index ≡ Some step) where
   module _ (given answers_now : List (kept_answer.Answer R O P)) (x new : State) (w : Went first (take index (steps_of view all)) (replies_in view number given) x) where
     -- the step was done, and its answer kept
-    pub kept_on : (IsSet (step_of view step) x new × (answers_now ≡ given)) ⊎ IsKept view number (step_of view step) x given new answers_now → Went first (take (suc index) (steps_of view all)) (replies_in view number answers_now) new
+    pub kept_on : (IsSet (step_of view step) x new × (answers_now ≡ given)) ⊎ ((answer : kept_answer.Answer R O P) × HasReplied view number (step_of view step) x new answer.0 × (answers_now ≡ given ++ answer ∷ [])) → Went first (take (suc index) (steps_of view all)) (replies_in view number answers_now) new
     kept_on (inl h) =
         subst (λ (steps : List Step). Went first steps (replies_in view number answers_now) new) (sym (take_next view all index step is_next))
         (subst (λ (l : List (kept_answer.Answer R O P)). Went first (take index (steps_of view all) ++ step_of view step ∷ []) (replies_in view number l) new) (sym h.1)
@@ -91,8 +90,8 @@ module _ {R O P : Type 0} (view : R → Text) (number : O → ℕ) (first : Stat
     kept_on (inr h) =
         subst (λ (steps : List Step). Went first steps (replies_in view number answers_now) new) (sym (take_next view all index step is_next))
         (subst (λ (l : List Reply). Went first (take index (steps_of view all) ++ step_of view step ∷ []) l new)
-        (sym (ap (replies_in view number) h.kept ∙ map-append (reply_in view number) given (h.answer ∷ [])))
-        (called_went_on view number first (take index (steps_of view all)) (replies_in view number given) x new (step_of view step) h.answer.0 h.called w))
+        (sym (ap (replies_in view number) h.2 ∙ map-append (reply_in view number) given (h.0 ∷ [])))
+        (called_went_on view number first (take index (steps_of view all)) (replies_in view number given) x new (step_of view step) h.0.0 h.1 w))
 
     -- the step isn't allowed
     pub stopped : (new ≡ x) × (MayTake (step_of view step) x.status → ⊥) × (answers_now ≡ given) → WalksTo index first (steps_of view all) (replies_in view number answers_now) new

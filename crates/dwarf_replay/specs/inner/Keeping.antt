@@ -9,18 +9,12 @@ use Rattle.dwarf_replay.specs.declared.steps.Answer.{Answer}
 use Rattle.dwarf_replay.specs.declared.replaying.NotKept.{NotKept}
 use Rattle.dwarf_replay.specs.declared.replaying.NotKept.TheVariants as stop
 
--- a call's reply was kept
-pub record IsKept {R O P : Type 0} (text : R → Text) (number : O → ℕ) (step : Step) (old : State)
-    (given : List (Answer R O P)) (new : State) (all : List (Answer R O P)) : Type 0 where
-  pub answer : Answer R O P
-  pub called : HasReplied text number step old new answer.0
-  pub kept : all ≡ given ++ answer ∷ []
-
 -- a setting was set, or a call's reply was kept; or the step isn't allowed, or its reply found no room
 abbrev pub TakesStep : {R O P : Type 0} → (R → Text) → (O → ℕ) → Step → Option ℕ → State → List (Answer R O P) → State
     → List (Answer R O P) → Result (Unit {0}) (NotKept R O P) → Type 0
-TakesStep text number step limit old given new all (Ok u) =
-    (IsSet step old new × (all ≡ given)) ⊎ IsKept text number step old given new all
+TakesStep {R} {O} {P} text number step limit old given new all (Ok u) =
+    (IsSet step old new × (all ≡ given))
+    ⊎ ((answer : Answer R O P) × HasReplied text number step old new answer.0 × (all ≡ given ++ answer ∷ []))
 TakesStep text number step limit old given new all (Err stop.Misplaced) =
     (new ≡ old) × (MayTake step old.status → ⊥) × (all ≡ given)
 TakesStep text number step limit old given new all (Err (stop.NoRoom answer)) =

@@ -3,6 +3,7 @@ use Rattle.std.proofs.Common.{ℕ, zero, suc, ◌≡◌, ◌<◌, ◌≤◌, ap,
 use Rattle.std.proofs.lemmas.List.{take_all}
 use Rattle.std.proofs.lemmas.Option.{slice_get_within}
 use Rattle.std.specs.Prelude.{slice_get}
+use Rattle.std.specs.List.{AllZip}
 use Rattle.dwarf_base.specs.declared.errors.Error.{Error}
 use Rattle.dwarf_base.specs.Faults.{Fault, fault_of}
 use Rattle.dwarf_base.specs.Reads.{Text}
@@ -14,9 +15,9 @@ use Rattle.dwarf_meaning.specs.Rest.{State, Status, Start, Running, RequestStatu
 use Rattle.dwarf_meaning.specs.Steps.{Step, Told, Reply, outcome_of, Allows, AllAllowed, step_replies, after_step, after_steps, replies_of}
 use Rattle.dwarf_meaning.specs.Refusals.{Limits, Refusal, Never, After, HasFreeList, MayPick}
 use Rattle.dwarf_laws.specs.Agreement as agreeing
-use Rattle.dwarf_laws.specs.Agreement.{Pairwise, none, more, Both, nothing, something, AgreeingNumbers, AgreeingSteps, AgreeingTold, AgreeingOutcomes}
+use Rattle.dwarf_laws.specs.Agreement.{Both, nothing, something, AgreeingNumbers, AgreeingSteps, AgreeingTold, AgreeingOutcomes}
 use Rattle.dwarf_laws.specs.TwoRuns.{NoneIsFull, AreAlike}
-use Rattle.dwarf_laws.proofs.Pairs.{same_length, get_both}
+use Rattle.dwarf_laws.proofs.Pairs.{Pairwise, none, more, zipped, pairs, same_length, get_both}
 use Rattle.dwarf_laws.proofs.Evaluations.{two_runs}
 use Rattle.dwarf_replay.specs.Replays.{told_at, IsInRequest, IsInFault, StandsAt, Walks, WalksTo}
 use Rattle.dwarf_expr.specs.Twins.{fresh_at, MayReplay, AreComparableReplays, open_texts, StatesStandAlike, unstarted, in_request, in_fault, in_completion, IsFront, FindsNoRoom, TwoReplays}
@@ -99,10 +100,10 @@ stand_alike bits x y told told' o o' t (something (agreeing.faults {fault = faul
     let second = stopped_of fault y.status k in
     in_fault first.0 second.0 first.1 second.1 (first.2 ∙ sym second.2)
 stand_alike bits x y told told' o o' t (something (agreeing.completions {pieces = pieces} {others = others} p v)) h k =
-    let q : Pairwise (agreeing.AgreeingPieces bits) x.store.pieces others =
-    subst (λ ps. Pairwise (agreeing.AgreeingPieces bits) ps others) (sym h.1) p
+    let q : AllZip (agreeing.AgreeingPieces bits) x.store.pieces others =
+    subst (λ ps. AllZip (agreeing.AgreeingPieces bits) ps others) (sym h.1) p
     in
-    in_completion _ _ h.0 k.0 v (subst (λ ps. Pairwise (agreeing.AgreeingPieces bits) x.store.pieces ps) (sym k.1) q)
+    in_completion _ _ h.0 k.0 v (subst (λ ps. AllZip (agreeing.AgreeingPieces bits) x.store.pieces ps) (sym k.1) q)
 
 -- ---- steps that were done, of any setup and text
 
@@ -223,8 +224,11 @@ module _ (x y : State) (steps others : List Step) (h : MayReplay x y steps other
               h.twins.maximum;
         };
         first = nothing;
-        inputs = none;
+        inputs = tt;
       }
+
+  paired : Pairwise (AgreeingSteps w) steps others
+  paired = pairs steps others h.agreeing
 
   abbrev First : ℕ → Refusal → List Reply → State → Type 0
   First n refusal replies new = Did x.setup x.text (told_at x) (take n steps) refusal replies new
@@ -261,10 +265,10 @@ module _ (x y : State) (steps others : List Step) (h : MayReplay x y steps other
       → AreAlike x.setup other_setup r r' x.text (told_at x) (told_at y) (take n steps) (take n others)
   alike n a b r r' replies given new new' la lb d d' (inl e) =
       two_runs x.setup y.setup.limits r r' x.text (told_at x) (told_at y) (take n steps) (take n others) h.width
-      told_alike (take_both n h.agreeing) (inl e)
+      told_alike (zipped (take_both n paired)) (inl e)
   alike n a b r r' replies given new new' la lb d d' (inr e) =
       two_runs x.setup y.setup.limits r r' x.text (told_at x) (told_at y) (take n steps) (take n others) h.width
-      told_alike (take_both n h.agreeing)
+      told_alike (zipped (take_both n paired))
       (inr (
         front_is_clear n a x.setup x.text (told_at x) steps r replies new la d e.0,
         front_is_clear n b other_setup
@@ -288,7 +292,7 @@ module _ (x y : State) (steps others : List Step) (h : MayReplay x y steps other
       → Terms r r' replies given → ⊥
   not_first i m r r' replies given new new' l d d' t =
       let a = alike i i m r r' replies given new new' (omega arith) (omega arith) d.did d' t in
-      let s = both_some (AgreeingSteps w) _ _ d.step (get_both (AgreeingSteps w) i h.agreeing) d.is_next in
+      let s = both_some (AgreeingSteps w) _ _ d.step (get_both (AgreeingSteps w) i paired) d.is_next in
       let rest = next_item i m others s.0 s.1 l in
       d.misplaced
       ((a.stand.next d.step s.0 s.2).1
@@ -300,7 +304,7 @@ module _ (x y : State) (steps others : List Step) (h : MayReplay x y steps other
       → Terms r r' replies given → ⊥
   not_second i m r r' replies given new new' l d d' t =
       let a = alike i m i r r' replies given new new' (omega arith) (omega arith) d d'.did t in
-      let s = both_some_back (AgreeingSteps w) _ _ d'.step (get_both (AgreeingSteps w) i h.agreeing) d'.is_next in
+      let s = both_some_back (AgreeingSteps w) _ _ d'.step (get_both (AgreeingSteps w) i paired) d'.is_next in
       let rest = next_item i m steps s.0 s.1 l in
       d'.misplaced
       ((a.stand.next s.0 d'.step s.2).0
@@ -323,7 +327,7 @@ module _ (x y : State) (steps others : List Step) (h : MayReplay x y steps other
       (sym (take_all (length steps) steps (omega arith))) (did x steps replies new k)
 
   all_others : others ≡ take (length steps) others
-  all_others = sym (ap (λ (n : ℕ). take n others) (same_length h.agreeing) ∙ take_all (length others) others (omega arith))
+  all_others = sym (ap (λ (n : ℕ). take n others) (same_length paired) ∙ take_all (length others) others (omega arith))
 
   all_second : (replies : List Reply) (new : State) (k : Walks y others replies new) → Second (length steps) k.refusal replies new
   all_second replies new k =
@@ -370,7 +374,7 @@ module _ (x y : State) (steps others : List Step) (h : MayReplay x y steps other
       → Walks x steps replies new → WalksTo index y others given other → ⊥
   done_to i new other replies given c k l =
       not_second i (length steps) k.refusal l.walks.refusal replies given new other
-      (subst (λ (n : ℕ). i < n) (sym (same_length h.agreeing)) (slice_get_within others i l.step l.is_next))
+      (subst (λ (n : ℕ). i < n) (sym (same_length paired)) (slice_get_within others i l.step l.is_next))
       (all_first replies new k) (second_to i given other l)
       (terms k.refusal l.walks.refusal replies given k.may l.walks.may c)
 
@@ -383,7 +387,7 @@ module _ (x y : State) (steps others : List Step) (h : MayReplay x y steps other
     pub done_over : (new : State) (replies : List Reply) → Walks x steps replies new
         → AreComparableReplays x y replies given → IsFront given replies
     done_over new replies k c =
-        let inside : n < length steps = subst (λ (m : ℕ). n < m) (sym (same_length h.agreeing))
+        let inside : n < length steps = subst (λ (m : ℕ). n < m) (sym (same_length paired))
         (slice_get_within others n l.3.inside.0 l.3.inside.1) in
         front (suc n) (length steps) k.refusal l.3.walks.refusal replies given new other (omega arith)
         (all_first replies new k) over
@@ -437,7 +441,7 @@ two_replays x y new other steps others replies given h c =
 
 -- ---- the premises, of fresh evaluations
 
-pub may_replay : (text : Text) (steps others : List Step) → Pairwise (AgreeingSteps 32) steps others
+pub may_replay : (text : Text) (steps others : List Step) → AllZip (AgreeingSteps 32) steps others
     → MayReplay (fresh_at text) (fresh_at text) steps others
 may_replay text steps others h =
     record {

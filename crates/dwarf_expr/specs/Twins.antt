@@ -1,6 +1,7 @@
 -- Two evaluations of one text, each replayed by its own steps: bits above an address change nothing that matters
 -- (DWARF 5, section 2.5.1).
 use Rattle.std.specs.Prelude.{ℕ, ◌<◌, ◌≤◌, ◌≡◌, ◌⊎◌, List, [], ◌∷◌, ◌++◌, Option, None}
+use Rattle.std.specs.List.{AllZip}
 use Rattle.dwarf_base.specs.declared.errors.Error.{Error}
 use Rattle.dwarf_base.specs.Faults.{fault_of}
 use Rattle.dwarf_base.specs.Reads.{Text}
@@ -15,7 +16,7 @@ use Rattle.dwarf_meaning.specs.Rows.{plain, unset}
 use Rattle.dwarf_meaning.specs.Rest.{State, Start, RequestStatus, CompleteStatus, FaultStatus}
 use Rattle.dwarf_meaning.specs.Steps.{Step, Reply}
 use Rattle.dwarf_meaning.specs.Refusals.{Never, HasFreeList}
-use Rattle.dwarf_laws.specs.Agreement.{Pairwise, Both, AgreeingNumbers, AgreeingSteps, AgreeingPieces}
+use Rattle.dwarf_laws.specs.Agreement.{Both, AgreeingNumbers, AgreeingSteps, AgreeingPieces}
 use Rattle.dwarf_laws.specs.TwoRuns.{NoneIsFull}
 use Rattle.dwarf_replay.specs.Replays.{Walks, WalksTo, WalksOver}
 
@@ -46,7 +47,7 @@ pub record AreTwins (x y : State) : Type 0 where
 pub record MayReplay (x y : State) (steps others : List Step) : Type 0 where
   pub width : IsWidth (address_bits x.setup)
   pub twins : AreTwins x y
-  pub agreeing : Pairwise (AgreeingSteps (address_bits x.setup)) steps others
+  pub agreeing : AllZip (AgreeingSteps (address_bits x.setup)) steps others
 
 -- three limits each, which are equal; or no push that was refused
 abbrev pub AreComparableReplays : (x y : State) → (replies given : List Reply) → Type 0
@@ -69,7 +70,7 @@ pub data StatesStandAlike (bits : ℕ) (x y : State) : Type 0 where
   in_fault : (error other : Error) → x.status ≡ FaultStatus error → y.status ≡ FaultStatus other
       → fault_of error ≡ fault_of other → StatesStandAlike bits x y
   in_completion : (value other : Option Value) → x.status ≡ CompleteStatus value → y.status ≡ CompleteStatus other
-      → Both (Agree bits) value other → Pairwise (AgreeingPieces bits) x.store.pieces y.store.pieces
+      → Both (Agree bits) value other → AllZip (AgreeingPieces bits) x.store.pieces y.store.pieces
       → StatesStandAlike bits x y
 
 -- the first list is a front of the second

@@ -6,7 +6,8 @@ ghost use Rattle.dwarf_meaning.specs.Operations.{UnitRef};
 ghost use Rattle.dwarf_meaning.specs.Requests.{Request, Input};
 ghost use Rattle.dwarf_meaning.specs.Meaning.{Outcome};
 ghost use Rattle.dwarf_meaning.specs.Steps.{Step, Evaluate};
-ghost use Rattle.dwarf_laws.specs.Agreement.{Pairwise, AgreeingSteps};
+ghost use Rattle.std.specs.List.{AllZip};
+ghost use Rattle.dwarf_laws.specs.Agreement.{AgreeingSteps};
 ghost use Rattle.dwarf_laws.specs.Inlining.{CallSite, outer, inlined};
 ghost use Rattle.dwarf_laws.specs.Rows.{IsWorked};
 ghost use Rattle.dwarf_expr.specs.Inlined.{MayInline, InlinedReplay};
@@ -25,7 +26,7 @@ pub use dwarf_value::value_laws;
 pub fn two_replays()
     ensures alike { TwoReplays }
     ensures met { (text : Text) (steps others : List Step)
-        → Pairwise (AgreeingSteps 32) steps others
+        → AllZip (AgreeingSteps 32) steps others
         → MayReplay (fresh_at text) (fresh_at text) steps others }
 {}
 

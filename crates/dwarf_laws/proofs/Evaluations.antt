@@ -1,6 +1,8 @@
 -- Two evaluations of one text, step by step.
 use Rattle.std.proofs.Common.{ℕ, ◌≡◌, ◌≢◌, ap, refl, sym, ◌∙◌, ◌⊎◌, inl, inr, List, [], ◌∷◌, ◌++◌, Option, Some, None}
 use Rattle.std.specs.Prelude.{◌↔◌, option_map}
+use Rattle.std.specs.List.{AllZip}
+use Rattle.std.proofs.lemmas.List.Elements.{AllZip-push}
 use Rattle.dwarf_base.specs.declared.errors.Error.TheVariants.{StackFull}
 use Rattle.dwarf_base.specs.Reads.{Text}
 use Rattle.dwarf_value.specs.Laws.{IsWidth}
@@ -9,9 +11,9 @@ use Rattle.dwarf_meaning.specs.Stores.{Setup, address_bits}
 use Rattle.dwarf_meaning.specs.Meaning.{Outcome, FaultOutcome, First, course_of}
 use Rattle.dwarf_meaning.specs.Steps.{Step, InitialValue, ObjectAddress, MaxIterations, Evaluate, Resume, Told, outcome_from, outcome_of, IsEvaluable, Awaits, IsUntold, Allows, begun, heard, after, Reply, reply, replies, step_replies, after_step, replies_of, untold}
 use Rattle.dwarf_meaning.specs.Refusals.{Limits, Refusal}
-use Rattle.dwarf_laws.specs.Agreement.{Pairwise, none, more, Both, nothing, something, AgreeingAnswers, AgreeingSteps, initial_value, object_address, max_iterations, evaluate, resume, AgreeingFirsts, AgreeingInputs, AgreeingTold, AgreeingOutcomes, requests, faults, completions}
+use Rattle.dwarf_laws.specs.Agreement.{Both, nothing, something, AgreeingAnswers, AgreeingSteps, initial_value, object_address, max_iterations, evaluate, resume, AgreeingFirsts, AgreeingInputs, AgreeingTold, AgreeingOutcomes, requests, faults, completions}
 use Rattle.dwarf_laws.specs.TwoRuns.{NoneIsFull, StandAlike, AreAlike, TwoRuns}
-use Rattle.dwarf_laws.proofs.Pairs.{snoc_both}
+use Rattle.dwarf_laws.proofs.Pairs.{Pairwise, none, more, pairs}
 use Rattle.dwarf_laws.proofs.Actions.{same_kinds}
 use Rattle.dwarf_laws.proofs.Meanings.{meaning_both, path_both}
 
@@ -63,11 +65,11 @@ module _ (w : ℕ) where
   begun_both x y f g a (something b) = b
 
   heard_both : (x y : First) (inputs inputs' : List Input) (a b : Answer) (o o' : Option Outcome)
-      → AgreeingFirsts w x y → Pairwise (AgreeingInputs w) inputs inputs' → AgreeingAnswers w a b
-      → Both (AgreeingOutcomes w) o o' → Pairwise (AgreeingInputs w) (heard x inputs a o) (heard y inputs' b o')
+      → AgreeingFirsts w x y → AllZip (AgreeingInputs w) inputs inputs' → AgreeingAnswers w a b
+      → Both (AgreeingOutcomes w) o o' → AllZip (AgreeingInputs w) (heard x inputs a o) (heard y inputs' b o')
   heard_both x y inputs inputs' a b o o' f i k nothing = i
   heard_both x y inputs inputs' a b o o' f i k (something requests) =
-      snoc_both i (record { object_address = f.object_address; maximum = f.maximum; answer = k })
+      AllZip-push (AgreeingInputs w) _ _ _ _ i (record { object_address = f.object_address; maximum = f.maximum; answer = k })
   heard_both x y inputs inputs' a b o o' f i k (something faults) = i
   heard_both x y inputs inputs' a b o o' f i k (something (completions p v)) = i
 
@@ -163,7 +165,7 @@ module _ (Free : Type 0) (setup : Setup) (limits : Limits) (premise : Free ⊎ (
   other = record setup { limits = limits }
 
   outcomes_from : (f g : Option First) (inputs inputs' : List Input) → Both (AgreeingFirsts w) f g
-      → Pairwise (AgreeingInputs w) inputs inputs'
+      → AllZip (AgreeingInputs w) inputs inputs'
       → IsClearSoFar Free (outcome_from setup refusal text inputs f)
       → IsClearSoFar Free (outcome_from other another text inputs' g)
       → Both (AgreeingOutcomes w) (outcome_from setup refusal text inputs f) (outcome_from other another text inputs' g)
@@ -173,7 +175,7 @@ module _ (Free : Type 0) (setup : Setup) (limits : Limits) (premise : Free ⊎ (
       (λ free e. h free (ap Some e)) (λ free e. k free (ap Some e)))
 
   paths_from : (f g : Option First) (inputs inputs' : List Input) → Both (AgreeingFirsts w) f g
-      → Pairwise (AgreeingInputs w) inputs inputs'
+      → AllZip (AgreeingInputs w) inputs inputs'
       → IsClearSoFar Free (outcome_from setup refusal text inputs f)
       → IsClearSoFar Free (outcome_from other another text inputs' g)
       → option_map (λ (first : First). (course_of setup refusal text first inputs).path) f
@@ -232,10 +234,10 @@ clear_start setup refusal text told rest h = clear_reply (Unit {0}) _ rest (λ f
 
 pub two_runs : TwoRuns
 two_runs setup limits refusal another text told second steps others width t p (inl e) =
-    alike_steps ⊥ setup limits (inr e.0) width refusal another (inr e.1) text steps others told second p t
+    alike_steps ⊥ setup limits (inr e.0) width refusal another (inr e.1) text steps others told second (pairs _ _ p) t
     (λ free. absurd free) (λ free. absurd free) (λ free. absurd free) (λ free. absurd free)
 two_runs setup limits refusal another text told second steps others width t p (inr e) =
-    alike_steps (Unit {0}) setup limits (inl tt) width refusal another (inl tt) text steps others told second p t
+    alike_steps (Unit {0}) setup limits (inl tt) width refusal another (inl tt) text steps others told second (pairs _ _ p) t
     (clear_start setup refusal text told _ e.0) (clear_start (record setup { limits = limits }) another text second _ e.1)
     (λ free. none_full_beyond _ _ e.0) (λ free. none_full_beyond _ _ e.1)
 
@@ -245,5 +247,5 @@ nothing_told w =
     record {
       settings = record { initial_value = nothing; object_address = nothing; maximum = refl };
       first = nothing;
-      inputs = none;
+      inputs = tt;
     }

@@ -11,8 +11,8 @@ use Rattle.dwarf_meaning.specs.Requests.{Request, OnAnswer}
 use Rattle.dwarf_meaning.specs.Acts.{Act}
 use Rattle.dwarf_meaning.specs.Stores.{Setup, address_bits, Store, Last, Nothing, Plain, Pieced, Pushed, Called, Located, push_value, push_piece, push_caller, push_values, Next, Goes, RequestNext, FaultNext, goes, done}
 use Rattle.dwarf_meaning.specs.Refusals.{Limits, Refusal, Never, After, spent, room}
-use Rattle.dwarf_laws.specs.Agreement.{Pairwise, none, more, Both, AgreeingNumbers, AgreeingLocations, AgreeingPieces}
-use Rattle.dwarf_laws.proofs.Pairs.{same_length, snoc_both, if_pair}
+use Rattle.dwarf_laws.specs.Agreement.{Both, AgreeingNumbers, AgreeingLocations, AgreeingPieces}
+use Rattle.dwarf_laws.proofs.Pairs.{Pairwise, none, more, same_length, snoc_both, if_pair}
 use Rattle.dwarf_laws.proofs.Actions.{AgreeingActs, pushes, branches, locates, ends, asks, refuses}
 
 pub data AgreeingLasts (w : ℕ) : Last → Last → Type 0 where

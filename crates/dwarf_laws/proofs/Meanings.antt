@@ -1,5 +1,6 @@
 -- The outcome of two runs of one text.
 use Rattle.std.proofs.Common.{ℕ, ◌≡◌, ◌≢◌, ap, refl, ◌⊎◌, List, Option, Some, None, Result}
+use Rattle.std.specs.List.{AllZip}
 use Rattle.dwarf_base.specs.Faults.{Fault}
 use Rattle.dwarf_base.specs.declared.errors.Error.TheVariants.{StackFull}
 use Rattle.dwarf_base.specs.Reads.{Text}
@@ -13,8 +14,8 @@ use Rattle.dwarf_meaning.specs.Stores.{Setup, address_bits, Store, Last, Nothing
 use Rattle.dwarf_meaning.specs.Run.{End, Course, after_push, run}
 use Rattle.dwarf_meaning.specs.Meaning.{Outcome, FaultOutcome, completion_of, has_pieces, finish_value, finish_by, First, fresh, with_initial, outcome_of_end, course_of, meaning}
 use Rattle.dwarf_meaning.specs.Refusals.{Limits, Refusal}
-use Rattle.dwarf_laws.specs.Agreement.{Pairwise, none, more, Both, nothing, something, AgreeingNumbers, AgreeingFirsts, AgreeingInputs, AgreeingLocations, AgreeingPieces, AgreeingOutcomes, requests, faults, completions}
-use Rattle.dwarf_laws.proofs.Pairs.{if_pair, top_pair}
+use Rattle.dwarf_laws.specs.Agreement.{Both, nothing, something, AgreeingNumbers, AgreeingFirsts, AgreeingInputs, AgreeingLocations, AgreeingPieces, AgreeingOutcomes, requests, faults, completions}
+use Rattle.dwarf_laws.proofs.Pairs.{Pairwise, none, more, zipped, pairs, if_pair, top_pair}
 use Rattle.dwarf_laws.proofs.Actions.{same_addresses}
 use Rattle.dwarf_laws.proofs.Holdings.{AgreeingLasts, both_nothing, both_plain, both_pieced, both_pushed, both_called, both_located, AgreeingStores, AgreeingResults, stores, refusals, result_first, result_second, push_value_both, push_piece_both, changed}
 use Rattle.dwarf_laws.proofs.Runs.{AgreeingEnds, finish_both, ask_both, fail_both, AgreeingCourses, courses, course_first, course_second, run_both}
@@ -51,7 +52,7 @@ module _ (Free : Type 0) (setup : Setup) (limits : Limits) (premise : Free ⊎ (
 
   completed_both : (value value' : Option Value) (r r' : Result Store Fault) → Both (Agree w) value value'
       → AgreeingResults Free w r r' → AgreeUnlessFull Free w (completion_of value r) (completion_of value' r')
-  completed_both value value' r r' a (stores h) = agree (completions h.pieces a)
+  completed_both value value' r r' a (stores h) = agree (completions (zipped h.pieces) a)
   completed_both value value' r r' a refusals = agree faults
   completed_both value value' r r' a (result_first free) = full_first free refl
   completed_both value value' r r' a (result_second free) = full_second free refl
@@ -76,7 +77,7 @@ module _ (Free : Type 0) (setup : Setup) (limits : Limits) (premise : Free ⊎ (
   free_both : (s t : Store) → AgreeingStores Free w s t → AgreeUnlessFull Free w (finish_by setup s Nothing) (finish_by other t Nothing)
   free_both s t h =
       if_pair (AgreeUnlessFull Free w) _ _ _ _ _ _ (same_has w _ _ h.pieces)
-      (agree (completions h.pieces nothing)) (value_both s t h)
+      (agree (completions (zipped h.pieces) nothing)) (value_both s t h)
 
   by_both : (s t : Store) (l m : Last) → AgreeingStores Free w s t → AgreeingLasts w l m
       → AgreeUnlessFull Free w (finish_by setup s l) (finish_by other t m)
@@ -124,24 +125,24 @@ module _ (Free : Type 0) (setup : Setup) (limits : Limits) (premise : Free ⊎ (
           refusal = same_refusal;
         }
 
-    from_both : (inputs inputs' : List Input) (r r' : Result Store Fault) → Pairwise (AgreeingInputs w) inputs inputs'
+    from_both : (inputs inputs' : List Input) (r r' : Result Store Fault) → AllZip (AgreeingInputs w) inputs inputs'
         → AgreeingResults Free w r r' → AgreeingCourses Free w
         (after_push (run setup) (record { text = text; place = 0 }) 0 inputs r)
         (after_push (run other) (record { text = text; place = 0 }) 0 inputs' r')
-    from_both inputs inputs' r r' i (stores h) = run_both Free setup limits premise width text 0 0 _ _ inputs inputs' h i
+    from_both inputs inputs' r r' i (stores h) = run_both Free setup limits premise width text 0 0 _ _ inputs inputs' h (pairs _ _ i)
     from_both inputs inputs' r r' i refusals = courses refl refl fail_both
     from_both inputs inputs' r r' i (result_first free) = course_first free refl
     from_both inputs inputs' r r' i (result_second free) = course_second free refl
 
     course_both : (x y : First) (inputs inputs' : List Input) → AgreeingFirsts w x y
-        → Pairwise (AgreeingInputs w) inputs inputs'
+        → AllZip (AgreeingInputs w) inputs inputs'
         → AgreeingCourses Free w (course_of setup refusal text x inputs) (course_of other another text y inputs')
     course_both x y inputs inputs' a i =
         from_both inputs inputs' _ _ i (initial_both x.initial_value y.initial_value _ _ a.initial_value (fresh_both x y a))
 
     -- agreeing settings and inputs have agreeing meanings, if no push was refused on one side alone
     pub meaning_both : (x y : First) (inputs inputs' : List Input) → AgreeingFirsts w x y
-        → Pairwise (AgreeingInputs w) inputs inputs' → IsClear Free (meaning setup refusal text x inputs)
+        → AllZip (AgreeingInputs w) inputs inputs' → IsClear Free (meaning setup refusal text x inputs)
         → IsClear Free (meaning other another text y inputs')
         → AgreeingOutcomes w (meaning setup refusal text x inputs) (meaning other another text y inputs')
     unfolding meaning
@@ -149,7 +150,7 @@ module _ (Free : Type 0) (setup : Setup) (limits : Limits) (premise : Free ⊎ (
 
     -- and the operations that they count stand at the same places
     pub path_both : (x y : First) (inputs inputs' : List Input) → AgreeingFirsts w x y
-        → Pairwise (AgreeingInputs w) inputs inputs' → IsClear Free (meaning setup refusal text x inputs)
+        → AllZip (AgreeingInputs w) inputs inputs' → IsClear Free (meaning setup refusal text x inputs)
         → IsClear Free (meaning other another text y inputs')
         → (course_of setup refusal text x inputs).path ≡ (course_of other another text y inputs').path
     unfolding meaning

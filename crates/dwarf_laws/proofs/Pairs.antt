@@ -1,6 +1,7 @@
 -- Two lists, options and choices that are related.
 use Rattle.std.proofs.Common.{ℕ, zero, suc, ◌≡◌, ap, refl, subst, Bool, true, false, List, [], ◌∷◌, ◌++◌, length, Option, Result, Ok, Err, cond}
 use Rattle.std.specs.Prelude.{slice_get}
+use Rattle.std.specs.List.{AllZip}
 use Rattle.dwarf_base.specs.declared.errors.Error.{Error}
 use Rattle.dwarf_base.specs.Faults.{Fault}
 use Rattle.dwarf_value.specs.declared.types.Value.{Value}
@@ -8,9 +9,25 @@ use Rattle.dwarf_value.specs.Values.{Agree}
 use Rattle.dwarf_value.specs.Laws.{AgreeingResults, values, errors}
 use Rattle.dwarf_value.proofs.Agreements.{Agree-refl}
 use Rattle.dwarf_meaning.specs.Acts.{on_top, on_some, on_result, result_of}
-use Rattle.dwarf_laws.specs.Agreement.{Pairwise, none, more, Both, nothing, something}
+use Rattle.dwarf_laws.specs.Agreement.{Both, nothing, something}
 
 -- ---- lists and options
+
+-- two lists of one length, related item by item
+pub data Pairwise {A : Type 0} (R : A → A → Type 0) : List A → List A → Type 0 where
+  none : Pairwise R [] []
+  more : {x y : A} {xs ys : List A} → R x y → Pairwise R xs ys → Pairwise R (x ∷ xs) (y ∷ ys)
+
+-- the same, as the definitions say it
+pub zipped : {A : Type 0} {R : A → A → Type 0} {xs ys : List A} → Pairwise R xs ys → AllZip R xs ys
+zipped none = tt
+zipped (more r rs) = (r, zipped rs)
+
+pub pairs : {A : Type 0} {R : A → A → Type 0} (xs ys : List A) → AllZip R xs ys → Pairwise R xs ys
+pairs [] [] h = none
+pairs [] (y ∷ ys) h = absurd h
+pairs (x ∷ xs) [] h = absurd h
+pairs (x ∷ xs) (y ∷ ys) h = more h.0 (pairs xs ys h.1)
 
 pub same_length : {A : Type 0} {R : A → A → Type 0} {xs ys : List A} → Pairwise R xs ys → length xs ≡ length ys
 same_length none = refl

@@ -11,8 +11,8 @@ use Rattle.dwarf_meaning.specs.Acts.{Act, Use}
 use Rattle.dwarf_meaning.specs.Stores.{Setup, address_bits, Store, Last, Next}
 use Rattle.dwarf_meaning.specs.Run.{Position, End, CompleteEnd, RequestEnd, FaultEnd, Course, only_end, add_to_path, add_request, append_course, Continues, return_to_caller, after_push, enter_callee, run_callee, after_answer, with_input, await_answer, after_operation, read, can_count, counted, do_operation, turn_counted, counted_act, turn_by, turn, out_of_turns, run_for, enough, run}
 use Rattle.dwarf_meaning.specs.Refusals.{Limits, taken}
-use Rattle.dwarf_laws.specs.Agreement.{Pairwise, none, more, AgreeingInputs}
-use Rattle.dwarf_laws.proofs.Pairs.{if_pair}
+use Rattle.dwarf_laws.specs.Agreement.{AgreeingInputs}
+use Rattle.dwarf_laws.proofs.Pairs.{Pairwise, none, more, if_pair}
 use Rattle.dwarf_laws.proofs.Actions.{AgreeingActs, located_both, AgreeingUses, gives, calls, denies, act_both, same_kinds, use_both}
 use Rattle.dwarf_laws.proofs.Holdings.{AgreeingLasts, both_nothing, both_plain, both_pieced, both_pushed, both_called, both_located, AgreeingStores, AgreeingResults, stores, refusals, result_first, result_second, AgreeingNexts, goes_on, request_next, fails, next_first, next_second, map_free, changed, push_value_both, push_frame_both, done_both}
 

@@ -1,5 +1,6 @@
 -- What two callers hand in, and what they get, but for the bits above an address (DWARF 5, sections 2.5.1 and 2.6.1).
-use Rattle.std.specs.Prelude.{ℕ, ◌%◌, ◌^◌, ◌≡◌, List, [], ◌∷◌, Option, Some, None}
+use Rattle.std.specs.Prelude.{ℕ, ◌%◌, ◌^◌, ◌≡◌, List, Option, Some, None}
+use Rattle.std.specs.List.{AllZip}
 use Rattle.dwarf_base.specs.Faults.{Fault}
 use Rattle.dwarf_base.specs.Reads.{Text}
 use Rattle.dwarf_value.specs.declared.types.Value.{Value}
@@ -11,11 +12,6 @@ use Rattle.dwarf_meaning.specs.Requests.{Request, Answer, ValueAnswer, NumberAns
 use Rattle.dwarf_meaning.specs.Run.{Position}
 use Rattle.dwarf_meaning.specs.Meaning.{Outcome, RequestOutcome, FaultOutcome, CompleteOutcome, First}
 use Rattle.dwarf_meaning.specs.Steps.{Step, InitialValue, ObjectAddress, MaxIterations, Evaluate, Resume, Told}
-
--- two lists of one length, related item by item
-pub data Pairwise {A : Type 0} (R : A → A → Type 0) : List A → List A → Type 0 where
-  none : Pairwise R [] []
-  more : {x y : A} {xs ys : List A} → R x y → Pairwise R xs ys → Pairwise R (x ∷ xs) (y ∷ ys)
 
 -- nothing twice, or two that are related
 pub data Both {A : Type 0} (R : A → A → Type 0) : Option A → Option A → Type 0 where
@@ -60,7 +56,7 @@ pub record AgreeingInputs (w : ℕ) (first second : Input) : Type 0 where
 pub record AgreeingTold (w : ℕ) (told other : Told) : Type 0 where
   pub settings : AgreeingFirsts w told.settings other.settings
   pub first : Both (AgreeingFirsts w) told.first other.first
-  pub inputs : Pairwise (AgreeingInputs w) told.inputs other.inputs
+  pub inputs : AllZip (AgreeingInputs w) told.inputs other.inputs
 
 -- ---- its outcome
 
@@ -81,5 +77,5 @@ pub data AgreeingOutcomes (w : ℕ) : Outcome → Outcome → Type 0 where
       → AgreeingOutcomes w (RequestOutcome request positions) (RequestOutcome request positions)
   faults : {fault : Fault} → AgreeingOutcomes w (FaultOutcome fault) (FaultOutcome fault)
   completions : {pieces others : List Piece} {value other : Option Value}
-      → Pairwise (AgreeingPieces w) pieces others → Both (Agree w) value other
+      → AllZip (AgreeingPieces w) pieces others → Both (Agree w) value other
       → AgreeingOutcomes w (CompleteOutcome pieces value) (CompleteOutcome others other)

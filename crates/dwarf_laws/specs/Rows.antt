@@ -1,5 +1,6 @@
 -- Words for the worked rows of the two laws: evaluations that are computed (DWARF 5, sections 2.5 and 2.6).
 use Rattle.std.specs.Prelude.{ℕ, ◌≡◌, ◌≢◌, List, [], ◌∷◌, ◌++◌, Some, false, map}
+use Rattle.std.specs.List.{AllZip}
 use Rattle.dwarf_base.specs.Faults.{Fault}
 use Rattle.dwarf_meaning.specs.Operations.{UnitRef}
 use Rattle.dwarf_meaning.specs.Requests.{Request, RequiresAtLocation, Answer, Input}
@@ -8,7 +9,7 @@ use Rattle.dwarf_meaning.specs.Meaning.{Outcome, FaultOutcome, First, course_of,
 use Rattle.dwarf_meaning.specs.Steps.{Step, Evaluate, Resume, outcome_of, AllAllowed, after_steps, Reply, replies_of, untold}
 use Rattle.dwarf_meaning.specs.Rows.{text, no_limits, plain, unset}
 use Rattle.dwarf_meaning.specs.Refusals.{Refusal, Never}
-use Rattle.dwarf_laws.specs.Agreement.{Pairwise, AgreeingSteps, AgreeingOutcomes}
+use Rattle.dwarf_laws.specs.Agreement.{AgreeingSteps, AgreeingOutcomes}
 use Rattle.dwarf_laws.specs.Inlining.{CallSite, outer, inlined, with_answer, StandsIn, IsInlinable, LeadsToCall, EndAlike}
 
 -- an evaluation is started, and then these answers are given
@@ -25,7 +26,7 @@ pub record ComeTo (setup : Setup) (bytes : List ℕ) (steps : List Step) (replie
 -- Two runs by agreeing steps, for addresses of 4 bytes: the same replies, and the outcome of each.
 pub record ComeAlike (setup : Setup) (bytes : List ℕ) (steps others : List Step) (replied : List Reply)
     (outcome other : Outcome) : Type 0 where
-  pub agree : Pairwise (AgreeingSteps 32) steps others
+  pub agree : AllZip (AgreeingSteps 32) steps others
   pub one : ComeTo setup bytes steps replied outcome
   pub another : ComeTo setup bytes others replied other
 

@@ -1,6 +1,6 @@
 -- Bits above an address change nothing that matters (DWARF 5, section 2.5.1).
 use Rattle.std.specs.Prelude.{◌≡◌, ◌≢◌, ◌⊎◌, ◌↔◌, List, ◌++◌, Option, option_map}
-use Rattle.std.specs.List.{AllByRecursion}
+use Rattle.std.specs.List.{AllByRecursion, AllZip}
 use Rattle.dwarf_base.specs.declared.errors.Error.TheVariants.{StackFull}
 use Rattle.dwarf_base.specs.Reads.{Text}
 use Rattle.dwarf_value.specs.Laws.{IsWidth}
@@ -9,7 +9,7 @@ use Rattle.dwarf_meaning.specs.Run.{Position}
 use Rattle.dwarf_meaning.specs.Meaning.{First, course_of}
 use Rattle.dwarf_meaning.specs.Steps.{Step, Told, outcome_of, Allows, AllAllowed, after_steps, Reply, FaultReply, replies, replies_of}
 use Rattle.dwarf_meaning.specs.Refusals.{Limits, Refusal}
-use Rattle.dwarf_laws.specs.Agreement.{Pairwise, Both, AgreeingSteps, AgreeingTold, AgreeingOutcomes}
+use Rattle.dwarf_laws.specs.Agreement.{Both, AgreeingSteps, AgreeingTold, AgreeingOutcomes}
 
 -- no push was refused
 abbrev pub NoneIsFull : List Reply → Type 0
@@ -58,6 +58,6 @@ TwoRuns =
     (steps others : List Step)
     → IsWidth (address_bits setup)
     → AgreeingTold (address_bits setup) told second
-    → Pairwise (AgreeingSteps (address_bits setup)) steps others
+    → AllZip (AgreeingSteps (address_bits setup)) steps others
     → AreComparable setup (record setup { limits = limits }) refusal another text told second steps others
     → AreAlike setup (record setup { limits = limits }) refusal another text told second steps others

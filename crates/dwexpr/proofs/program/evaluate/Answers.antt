@@ -4,8 +4,11 @@ use Rattle.dwarf_replay.specs.Replays.{replies_in, steps_of}
 use Rattle.dwarf_meaning.specs.Steps.{untold}
 use Rattle.dwexpr.specs.Evaluates.{EvaluatesSteps, after_replies, unlimited_setup}
 use Rattle.dwexpr.specs.inner.Replayed.{ending_of}
-use Rattle.dwexpr.proofs.RunLemmas.{evaluates_as, evaluates_to, text_as, text_by, told_as}
+use Rattle.dwexpr.proofs.RunLemmas.{evaluates_as, evaluates_to, has_line, text_as, text_by, told_as}
 use Rattle.dwexpr.proofs.program.evaluate.Goals as goal
+
+pub print_replay-requires : goal.print_replay-requires
+print_replay-requires g c = has_line slice_text (λ x. x) _ _ _ _ _ _ c.requires.few c.replay-replayed.ensures.replays
 
 pub returns : goal.returns
 returns g c =

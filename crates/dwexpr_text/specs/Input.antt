@@ -1,16 +1,13 @@
 -- The lines of an input.
-use Rattle.std.specs.Prelude.{ℕ, zero, suc, List, [], ◌∷◌, length, Option, Some, None}
+use Rattle.std.specs.Prelude.{ℕ, zero, suc, List, [], ◌∷◌, length}
+use Rattle.std.specs.Option.{option_map_or}
 use Rattle.std.specs.Str.Lines.{strip_carriage_return}
 use Rattle.dwexpr_text.specs.Values.{cut_at}
 
--- A line ends at a line feed (10), which a carriage return may precede, or at the end of the input. What follows it.
-abbrev pub line_and_rest : List ℕ → Option (List ℕ × List ℕ) → List ℕ × List ℕ
-line_and_rest input None = (input, [])
-line_and_rest input (Some parts) = (strip_carriage_return parts.0, parts.1)
-
--- the first line, and what follows it
+-- the first line, and what follows it: a line ends at a line feed (10), which a carriage return may precede, or with
+-- the input
 abbrev pub first_line : List ℕ → List ℕ × List ℕ
-first_line input = line_and_rest input (cut_at 10 input)
+first_line input = option_map_or (λ parts. (strip_carriage_return parts.0, parts.1)) (cut_at 10 input) (input, [])
 
 -- up to this many lines
 abbrev pub lines_within : (most : ℕ) → List ℕ → List (List ℕ)

@@ -1,8 +1,9 @@
 -- The lines that the program prints.
-use Rattle.std.specs.Prelude.{ℕ, ◌≡◌, zero, suc, ◌+◌, ◌-◌, Bool, true, false, codes, List, [], ◌∷◌, ◌++◌, map, length, take, Option, Some, None, Result, Ok, Err, decimal}
+use Rattle.std.specs.Prelude.{ℕ, ◌≡◌, zero, suc, ◌+◌, ◌-◌, Bool, true, false, codes, List, [], ◌∷◌, ◌++◌, map, length, take, if◌then◌else◌, Option, Result, Ok, Err, decimal}
 use Rattle.std.specs.Fmt.{signed_decimal}
 use Rattle.std.specs.Io.KnownBytes.{Appends}
 use Rattle.std.specs.List.{concat}
+use Rattle.std.specs.Option.{option_map_or}
 use Rattle.dwarf_base.specs.declared.common.Encoding.{Encoding}
 use Rattle.dwarf_base.specs.declared.errors.Error.TheVariants as fault
 use Rattle.dwarf_base.specs.Faults.{Fault}
@@ -47,20 +48,11 @@ fault_line fault = line (codes "fault") (fault_words fault)
 
 -- ---- requests
 
--- the space of an address, if one is named
-abbrev pub space_word : Option ℕ → List ℕ
-space_word None = codes "none"
-space_word (Some space) = hexadecimal space
-
--- whether an index's address is to be relocated
-abbrev pub relocate_word : Bool → List ℕ
-relocate_word true = codes "relocate"
-relocate_word false = codes "keep"
-
 -- the line of a request
 abbrev pub request_line : Request → List ℕ
 request_line (RequiresMemory address size space base_type) =
-    line (codes "memory") (hexadecimal address ∷ decimal size ∷ space_word space ∷ decimal base_type ∷ [])
+    line (codes "memory") (hexadecimal address ∷ decimal size ∷ option_map_or hexadecimal space (codes "none")
+    ∷ decimal base_type ∷ [])
 request_line (RequiresRegister register base_type) = line (codes "register") (decimal register ∷ decimal base_type ∷ [])
 request_line (RequiresWasmLocal index) = line (codes "wasm-local") (decimal index ∷ [])
 request_line (RequiresWasmGlobal index) = line (codes "wasm-global") (decimal index ∷ [])
@@ -75,7 +67,7 @@ request_line (RequiresEntryValue expression) = line (codes "entry") (bytes_word 
 request_line (RequiresParameterRef offset) = line (codes "parameter") (decimal offset ∷ [])
 request_line (RequiresRelocatedAddress address) = line (codes "relocated") (hexadecimal address ∷ [])
 request_line (RequiresIndexedAddress index relocate) =
-    line (codes "indexed") (decimal index ∷ relocate_word relocate ∷ [])
+    line (codes "indexed") (decimal index ∷ (if relocate then codes "relocate" else codes "keep") ∷ [])
 request_line (RequiresBaseType base_type) = line (codes "type") (decimal base_type ∷ [])
 
 -- what a call replies
@@ -85,11 +77,6 @@ reply_line (RequestReply request) = request_line request
 reply_line (FaultReply fault) = fault_line fault
 
 -- ---- what comes out
-
--- a number, if there is one
-abbrev pub number_or_none : Option ℕ → List ℕ
-number_or_none None = codes "none"
-number_or_none (Some number) = decimal number
 
 -- where a piece is, or what it holds
 abbrev pub location_words : Location → List (List ℕ)
@@ -103,13 +90,12 @@ location_words (PointsInto value byte_offset) = codes "pointer" ∷ decimal valu
 -- the line of a piece
 abbrev pub piece_line : Piece → List ℕ
 piece_line piece =
-    line (codes "piece") (number_or_none piece.size_in_bits ∷ number_or_none piece.bit_offset
-    ∷ location_words piece.location)
+    line (codes "piece") (option_map_or decimal piece.size_in_bits (codes "none")
+    ∷ option_map_or decimal piece.bit_offset (codes "none") ∷ location_words piece.location)
 
 -- the line after the pieces
 abbrev pub value_line : Option Value → List ℕ
-value_line None = line (codes "value") (codes "none" ∷ [])
-value_line (Some value) = line (codes "value") (value_word value ∷ [])
+value_line value = line (codes "value") (option_map_or value_word value (codes "none") ∷ [])
 
 -- one line after another
 abbrev pub reply_lines : List Reply → List ℕ

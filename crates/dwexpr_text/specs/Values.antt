@@ -1,6 +1,7 @@
 -- The numbers, types and values in the lines that `eval` reads.
 use Rattle.std.specs.Prelude.{ℕ, ◌-◌, ◌^◌, ◌==◌, ◌&&◌, nat_eq, nat_lt, codes, bytes_eq, slice_index, Bool, true, List, [], ◌∷◌, length, drop, Option, Some, None, option_and_then, option_map, if◌then◌else◌, ℤ, pos, negsuc, neg_ℤ}
 use Rattle.std.specs.List.{position_or_len, before_first, after_first, starts_with}
+use Rattle.std.specs.Map.{lookup}
 use Rattle.std.specs.Char.{is_digit}
 use Rattle.std.specs.Str.Parse.{digits_value}
 use Rattle.dwarf_value.specs.declared.types.Value.{Value}
@@ -48,16 +49,9 @@ integer_in word =
 -- T: the name of a type
 abbrev pub type_in : List ℕ → Option ValueType
 type_in word =
-    if bytes_eq word (codes "generic") then Some type.Generic
-    else if bytes_eq word (codes "i8") then Some type.I8
-    else if bytes_eq word (codes "u8") then Some type.U8
-    else if bytes_eq word (codes "i16") then Some type.I16
-    else if bytes_eq word (codes "u16") then Some type.U16
-    else if bytes_eq word (codes "i32") then Some type.I32
-    else if bytes_eq word (codes "u32") then Some type.U32
-    else if bytes_eq word (codes "i64") then Some type.I64
-    else if bytes_eq word (codes "u64") then Some type.U64
-    else None
+    lookup (bytes_eq word) ((codes "generic", type.Generic) ∷ (codes "i8", type.I8) ∷ (codes "u8", type.U8)
+    ∷ (codes "i16", type.I16) ∷ (codes "u16", type.U16) ∷ (codes "i32", type.I32) ∷ (codes "u32", type.U32)
+    ∷ (codes "i64", type.I64) ∷ (codes "u64", type.U64) ∷ [])
 
 -- a number in the range of the type
 abbrev pub value_of_type : List ℕ → ValueType → Option Value

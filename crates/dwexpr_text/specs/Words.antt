@@ -1,5 +1,6 @@
 -- The words of the program: `ops|eval ADDR OFFSET VERSION ORDER HEX`.
 use Rattle.std.specs.Result.{result_ok}
+use Rattle.std.specs.Map.{lookup}
 use Rattle.std.specs.Prelude.{ℕ, ◌==◌, codes, bytes_eq, List, [], ◌∷◌, Option, Some, None, if◌then◌else◌}
 use Rattle.hex.specs.Hex.{decode_of}
 use Rattle.dwarf_base.specs.declared.common.Format.{Format}
@@ -22,46 +23,25 @@ bytes_in (byte ∷ next ∷ rest) = result_ok (decode_of (byte ∷ next ∷ rest
 
 -- the first word: `ops` or `eval`
 abbrev pub command_in : List ℕ → Option Command
-command_in word =
-    if bytes_eq word (codes "ops") then Some Ops
-    else if bytes_eq word (codes "eval") then Some Eval
-    else None
+command_in word = lookup (bytes_eq word) ((codes "ops", Ops) ∷ (codes "eval", Eval) ∷ [])
 
 -- ADDR: the size of an address in bytes
 abbrev pub address_size_in : List ℕ → Option ℕ
 address_size_in word =
-    if bytes_eq word (codes "1") then Some 1
-    else if bytes_eq word (codes "2") then Some 2
-    else if bytes_eq word (codes "3") then Some 3
-    else if bytes_eq word (codes "4") then Some 4
-    else if bytes_eq word (codes "5") then Some 5
-    else if bytes_eq word (codes "6") then Some 6
-    else if bytes_eq word (codes "7") then Some 7
-    else if bytes_eq word (codes "8") then Some 8
-    else None
+    lookup (bytes_eq word) ((codes "1", 1) ∷ (codes "2", 2) ∷ (codes "3", 3) ∷ (codes "4", 4) ∷ (codes "5", 5)
+    ∷ (codes "6", 6) ∷ (codes "7", 7) ∷ (codes "8", 8) ∷ [])
 
 -- OFFSET: the size of an offset in bytes, which the format sets
 abbrev pub format_in : List ℕ → Option Format
-format_in word =
-    if bytes_eq word (codes "4") then Some Dwarf32
-    else if bytes_eq word (codes "8") then Some Dwarf64
-    else None
+format_in word = lookup (bytes_eq word) ((codes "4", Dwarf32) ∷ (codes "8", Dwarf64) ∷ [])
 
 -- VERSION: that of DWARF
 abbrev pub version_in : List ℕ → Option ℕ
-version_in word =
-    if bytes_eq word (codes "2") then Some 2
-    else if bytes_eq word (codes "3") then Some 3
-    else if bytes_eq word (codes "4") then Some 4
-    else if bytes_eq word (codes "5") then Some 5
-    else None
+version_in word = lookup (bytes_eq word) ((codes "2", 2) ∷ (codes "3", 3) ∷ (codes "4", 4) ∷ (codes "5", 5) ∷ [])
 
 -- ORDER: that of bytes
 abbrev pub order_in : List ℕ → Option RunTimeEndian
-order_in word =
-    if bytes_eq word (codes "le") then Some Little
-    else if bytes_eq word (codes "be") then Some Big
-    else None
+order_in word = lookup (bytes_eq word) ((codes "le", Little) ∷ (codes "be", Big) ∷ [])
 
 -- all four
 abbrev pub reading_of : Option ℕ → Option Format → Option ℕ → Option RunTimeEndian → Option Reading
@@ -84,12 +64,8 @@ pub record Invocation : Type 0 where
 
 -- all three
 abbrev pub invocation_by : Option Command → Option Reading → Option (List ℕ) → Option Invocation
-invocation_by (Some command) (Some reading) (Some bytes) = Some (record {
-  command = command;
-  reading = reading;
-  bytes =
-      bytes;
-})
+invocation_by (Some command) (Some reading) (Some bytes) =
+    Some (record { command = command; reading = reading; bytes = bytes })
 invocation_by _ _ _ = None
 
 -- six words, each of its form

@@ -1,8 +1,9 @@
-ghost use Rattle.std.specs.Prelude.{◌≡◌, [], ◌∷◌, decimal, codes};
+ghost use Rattle.std.specs.Option.{option_map_or};
+ghost use Rattle.std.specs.Prelude.{◌≡◌, [], ◌∷◌, decimal, codes, if◌then◌else◌};
 ghost use Rattle.dwarf_base.specs.Faults.{fault_of};
 ghost use Rattle.dwarf_meaning.specs.Requests.{RequiresMemory, RequiresRegister, RequiresAtLocation, RequiresIndexedAddress};
 ghost use Rattle.dwarf_op.specs.Views.{reference_of};
-ghost use Rattle.dwexpr_text.specs.Lines.{fault_line, number_or_none, relocate_word, request_line, space_word, value_line};
+ghost use Rattle.dwexpr_text.specs.Lines.{fault_line, request_line, value_line};
 ghost use Rattle.dwexpr_text.specs.Writing.{Prints, hexadecimal, line, word_text};
 
 use crate::writing::{Word, put_line};
@@ -80,7 +81,7 @@ pub fn print_value_line<W: Write>(output: &mut W, value: Option<Value>) -> io::R
 
 /// A number, or `none`.
 pub fn number_word(number: Option<u64>) -> Word<'static>
-    ensures { word_text result ≡ number_or_none number }
+    ensures { word_text result ≡ option_map_or decimal number (codes "none") }
 {
     match number {
         Some(number) => Word::Number(number),
@@ -90,7 +91,7 @@ pub fn number_word(number: Option<u64>) -> Word<'static>
 
 /// A space of addresses, or `none`.
 fn space_name(space: Option<u64>) -> Word<'static>
-    ensures { word_text result ≡ space_word space }
+    ensures { word_text result ≡ option_map_or hexadecimal space (codes "none") }
 {
     match space {
         Some(space) => Word::Hexadecimal(space),
@@ -100,7 +101,7 @@ fn space_name(space: Option<u64>) -> Word<'static>
 
 /// Whether an address is wanted relocated.
 fn relocate_name(relocate: bool) -> Word<'static>
-    ensures { word_text result ≡ relocate_word relocate }
+    ensures { word_text result ≡ (if relocate then codes "relocate" else codes "keep") }
 {
     if relocate {
         Word::Name("relocate")

@@ -19,7 +19,7 @@ pub exits_of : {E : Type 0} (old new : Option (List ℕ)) (ending : Ending) (r :
     → status ≡ result_unwrap_or r 1 → WritesEnding old new ending r
     → Exits old new ending status
 exits_of old new ending (Ok x) status e h = inl (h.0, e ∙ h.1)
-exits_of old new ending (Err x) status e h = inr (h, e)
+exits_of old new ending (Err x) status e h = inr (h.0, e)
 
 -- ---- six words
 

@@ -9,8 +9,8 @@ ghost use Rattle.dwexpr.specs.Evaluates.{EvaluatesSteps, EvaluatesLines, after_r
 ghost use Rattle.dwexpr_text.specs.Lines.{listing_of, piece_lines, reply_lines};
 ghost use Rattle.dwexpr.specs.Program.{EndsFor, EvaluatesInput, Exits, without_words};
 ghost use Rattle.dwexpr_text.specs.Endings as runs;
-ghost use Rattle.dwexpr_text.specs.Endings.{Ending, WritesEnding, complete_ending, listed, standing};
-ghost use Rattle.dwexpr.specs.inner.Replayed.{HasLine, ending_of};
+ghost use Rattle.dwexpr_text.specs.Endings.{Ending, WritesEnding, complete_ending, listed};
+ghost use Rattle.dwexpr.specs.inner.Replayed.{HasLine, ending_of, standing};
 ghost use Rattle.dwexpr_text.specs.Writing.{Prints};
 
 use crate::results::{print_piece, print_reply};

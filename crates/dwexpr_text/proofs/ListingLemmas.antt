@@ -1,14 +1,14 @@
 -- The lines of operations, one after another.
-use Rattle.std.proofs.Common.{◌≡◌, ℕ, zero, suc, ◌+◌, ◌-◌, ◌<◌, ◌≤◌, ◌==◌, Bool, false, List, [], ◌∷◌, ◌++◌, length, take, codes, decimal, Option, Result, Ok, Err, IsErr, refl, sym, ◌∙◌, ap, arith, true≢false, append_assoc, append-nil, drop, drop-cons, get_or, map}
+use Rattle.std.proofs.Common.{◌≡◌, ℕ, zero, suc, ◌+◌, ◌-◌, ◌<◌, ◌≤◌, ◌==◌, Bool, false, List, [], ◌∷◌, ◌++◌, length, take, codes, decimal, Option, Result, Ok, Err, IfOk, IsErr, refl, sym, ◌∙◌, ap, arith, true≢false, append_assoc, append-nil, drop, drop-cons, get_or, map}
 use Rattle.std.specs.List.{concat}
 use Rattle.std.specs.Io.KnownBytes.{Appends}
 use Rattle.dwarf_base.specs.declared.common.Encoding.{Encoding}
 use Rattle.dwarf_base.specs.Faults.{Fault}
 use Rattle.dwarf_meaning.specs.Decoding.{operation_at}
 use Rattle.dwarf_meaning.specs.Operations.{Operation}
-use Rattle.dwexpr_text.specs.Lines.{Listing, Lists, after_line, fault_line, listing_within, operation_name}
+use Rattle.dwexpr_text.specs.Lines.{Listing, after_line, fault_line, listing_within, operation_name}
 use Rattle.dwexpr_text.specs.Endings.{Ending, WritesEnding}
-use Rattle.dwexpr_text.specs.Writing.{AppendsFront, bytes_word, line}
+use Rattle.dwexpr_text.specs.Writing.{AppendsFront, Prints, bytes_word, line}
 use Rattle.dwexpr_text.proofs.Fronts.{Written, appends_both, begun, last_of, more_of, refused_in}
 
 -- what is listed if an operation is read
@@ -40,9 +40,9 @@ fault_listed (suc most) encoding big at_big place (byte ∷ bytes) fault e h som
 
 pub lists_refused : {E F : Type 0} (a b c : Option (List ℕ)) (listing : Listing) (x rest : List ℕ) (r : Result Bool E)
     → Written a b listing.text (x ++ rest) → AppendsFront b c x → IsErr r × F
-    → Lists a c listing r
+    → Prints a c listing.text r × IfOk r (λ is_whole. is_whole ≡ listing.is_whole)
 lists_refused a b c listing x rest (Ok u) h k refused = absurd (true≢false (sym refused.0))
-lists_refused a b c listing x rest (Err u) h k refused = refused_in {T = Bool} a b c listing.text x rest (Err u) h k refused
+lists_refused a b c listing x rest (Err u) h k refused = (refused_in {T = Bool} a b c listing.text x rest (Err u) h k refused, tt)
 
 -- the lines of a list, from an index on
 pub lines_at : {X Y : Type 0} (f : Y → List ℕ) (of : X → Y) (xs : List X) (i : ℕ) (d : X) → i < length xs
@@ -57,11 +57,11 @@ pub ends_refused : {E F : Type 0} (a b c : Option (List ℕ)) (ending : Ending) 
     → Written a b ending.text (x ++ rest) → AppendsFront b c x → IsErr r × F
     → WritesEnding a c ending r
 ends_refused a b c ending x rest (Ok u) h k refused = absurd (true≢false (sym refused.0))
-ends_refused a b c ending x rest (Err u) h k refused = refused_in {T = ℕ} a b c ending.text x rest (Err u) h k refused
+ends_refused a b c ending x rest (Err u) h k refused = (refused_in {T = ℕ} a b c ending.text x rest (Err u) h k refused, tt)
 
 pub ends_beyond : {E : Type 0} (a b c : Option (List ℕ)) (first : List ℕ) (ending : Ending) (r : Result ℕ E)
     → Appends a b first → WritesEnding b c ending r
     → WritesEnding a c (record ending { text = first ++ ending.text }) r
 ends_beyond a b c first ending (Ok u) h k = (appends_both a b c first ending.text (first ++ ending.text) refl h k.0, k.1)
 ends_beyond a b c first ending (Err u) h k =
-    last_of {T = ℕ} a b c (first ++ ending.text) ending.text (Err u) (more_of a a b (first ++ ending.text) first ending.text (begun a (first ++ ending.text)) h) k
+    (last_of {T = ℕ} a b c (first ++ ending.text) ending.text (Err u) (more_of a a b (first ++ ending.text) first ending.text (begun a (first ++ ending.text)) h) k.0, tt)

@@ -1,11 +1,9 @@
 -- What is printed after the replies of an evaluation, and the status that the program ends with.
-use Rattle.std.specs.Prelude.{ℕ, ◌≡◌, ◌+◌, ◌++◌, codes, decimal, List, [], ◌∷◌, Option, Result, Ok, Err, if◌then◌else◌}
-use Rattle.std.specs.Io.KnownBytes.{Appends}
+use Rattle.std.specs.Prelude.{ℕ, ◌≡◌, ◌+◌, ◌++◌, codes, decimal, List, [], ◌∷◌, Option, Result, IfOk, if◌then◌else◌}
 use Rattle.dwarf_value.specs.declared.types.Value.{Value}
 use Rattle.dwarf_meaning.specs.Locations.{Piece}
-use Rattle.dwarf_meaning.specs.Rest.{State, Status, Start, Running, RequestStatus, CompleteStatus, FaultStatus}
 use Rattle.dwexpr_text.specs.Lines.{Listing, piece_lines, value_line}
-use Rattle.dwexpr_text.specs.Writing.{AppendsFront, line}
+use Rattle.dwexpr_text.specs.Writing.{Prints, line}
 
 -- lines, and the status: 0 if all was done, 1 if it failed, 2 if the words or the lines are wrong
 pub record Ending : Type 0 where
@@ -14,8 +12,7 @@ pub record Ending : Type 0 where
 
 -- all of it was written, and this is the status; or a front of it, if a write was refused
 abbrev pub WritesEnding : {E : Type 0} → (old new : Option (List ℕ)) → Ending → Result ℕ E → Type 0
-WritesEnding old new ending (Ok status) = Appends old new ending.text × (status ≡ ending.status)
-WritesEnding old new ending (Err e) = AppendsFront old new ending.text
+WritesEnding old new ending result = Prints old new ending.text result × IfOk result (λ status. status ≡ ending.status)
 
 -- the words aren't of their form
 abbrev pub bad_words : Ending
@@ -44,11 +41,3 @@ listed listing = record { text = listing.text; status = if listing.is_whole then
 -- the pieces and the value of a complete evaluation
 abbrev pub complete_ending : List Piece → Option Value → Ending
 complete_ending pieces value = record { text = piece_lines pieces ++ value_line value; status = 0 }
-
--- where an evaluation stands
-abbrev pub standing : State → Status → Ending
-standing x (CompleteStatus value) = complete_ending x.store.pieces value
-standing x (FaultStatus error) = record { text = []; status = 1 }
-standing x (Start initial_value) = record { text = []; status = 0 }
-standing x (RequestStatus request waiting) = record { text = []; status = 0 }
-standing x Running = record { text = []; status = 0 }

@@ -1,7 +1,6 @@
 -- The lines that the program prints.
-use Rattle.std.specs.Prelude.{ℕ, ◌≡◌, zero, suc, ◌+◌, ◌-◌, Bool, true, false, codes, List, [], ◌∷◌, ◌++◌, map, length, take, if◌then◌else◌, Option, Result, Ok, Err, decimal}
+use Rattle.std.specs.Prelude.{ℕ, zero, suc, ◌+◌, ◌-◌, Bool, true, false, codes, List, [], ◌∷◌, ◌++◌, map, length, take, if◌then◌else◌, Option, Result, Ok, Err, decimal}
 use Rattle.std.specs.Fmt.{signed_decimal}
-use Rattle.std.specs.Io.KnownBytes.{Appends}
 use Rattle.std.specs.List.{concat}
 use Rattle.std.specs.Option.{option_map_or}
 use Rattle.dwarf_base.specs.declared.common.Encoding.{Encoding}
@@ -14,7 +13,7 @@ use Rattle.dwarf_meaning.specs.Operations as op
 use Rattle.dwarf_meaning.specs.Operations.{Operation}
 use Rattle.dwarf_meaning.specs.Requests.{Request, RequiresMemory, RequiresRegister, RequiresWasmLocal, RequiresWasmGlobal, RequiresWasmStack, RequiresFrameBase, RequiresTls, RequiresCallFrameCfa, RequiresAtLocation, RequiresEntryValue, RequiresParameterRef, RequiresRelocatedAddress, RequiresIndexedAddress, RequiresBaseType}
 use Rattle.dwarf_meaning.specs.Steps.{Reply, CompleteReply, RequestReply, FaultReply}
-use Rattle.dwexpr_text.specs.Writing.{AppendsFront, bytes_word, hexadecimal, line, value_word}
+use Rattle.dwexpr_text.specs.Writing.{bytes_word, hexadecimal, line, value_word}
 
 -- ---- faults
 
@@ -197,8 +196,3 @@ listing_within (suc most) encoding is_big place (byte ∷ bytes) =
 -- all of them: no more than there are bytes
 abbrev pub listing_of : Encoding → (is_big : Bool) → List ℕ → Listing
 listing_of encoding is_big bytes = listing_within (length bytes) encoding is_big 0 bytes
-
--- what was written, and whether it was all
-abbrev pub Lists : {E : Type 0} → (old new : Option (List ℕ)) → Listing → Result Bool E → Type 0
-Lists old new listing (Ok is_whole) = Appends old new listing.text × (is_whole ≡ listing.is_whole)
-Lists old new listing (Err e) = AppendsFront old new listing.text

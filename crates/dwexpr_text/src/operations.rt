@@ -1,8 +1,9 @@
-ghost use Rattle.std.specs.Prelude.{◌≡◌, ◌≤◌, length, take};
+ghost use Rattle.std.specs.Prelude.{◌≡◌, ◌≤◌, IfOk, length, take};
 ghost use Rattle.dwarf_base.specs.ByteOrder.{is_big_of};
 ghost use Rattle.dwarf_base.specs.EndianSlice.{slice_bytes};
 ghost use Rattle.dwarf_op.specs.Views.{operation_of};
-ghost use Rattle.dwexpr_text.specs.Lines.{Lists, listing_of, operation_name};
+ghost use Rattle.dwexpr_text.specs.Lines.{listing_of, operation_name};
+ghost use Rattle.dwexpr_text.specs.Writing.{Prints};
 
 use crate::lines::print_fault;
 use crate::words::Reading;
@@ -110,8 +111,9 @@ pub fn print_operations<W: Write>(
     bytes: &[u8],
     reading: Reading,
 ) -> io::Result<bool>
-    ensures { Lists (W.contents output.old) (W.contents output.new)
-        (listing_of reading.encoding (is_big_of reading.order) bytes.now) result }
+    ensures { let listing = listing_of reading.encoding (is_big_of reading.order) bytes.now in
+        Prints (W.contents output.old) (W.contents output.new) listing.text result
+        × IfOk result (λ is_whole. is_whole ≡ listing.is_whole) }
 {
     let mut left = EndianSlice::new(bytes, reading.order);
     let mut place: usize = 0;

@@ -1,9 +1,15 @@
 -- What is printed of an evaluation that was replayed.
-use Rattle.std.specs.Prelude.{◌<◌, ◌-◌, ◌^◌}
-use Rattle.dwarf_meaning.specs.Rest.{State}
+use Rattle.std.specs.Prelude.{[], ◌<◌, ◌-◌, ◌^◌}
+use Rattle.dwarf_meaning.specs.Rest.{State, Status, CompleteStatus, FaultStatus}
 use Rattle.dwarf_replay.specs.declared.steps.Replayed.{Replayed}
 use Rattle.dwarf_replay.specs.declared.steps.Replayed.TheVariants as replayed
-use Rattle.dwexpr_text.specs.Endings.{Ending, misplaced, no_memory, standing}
+use Rattle.dwexpr_text.specs.Endings.{Ending, complete_ending, misplaced, no_memory}
+
+-- where an evaluation stands
+abbrev pub standing : State → Status → Ending
+standing x (CompleteStatus value) = complete_ending x.store.pieces value
+standing x (FaultStatus error) = record { text = []; status = 1 }
+standing x _ = record { text = []; status = 0 }
 
 -- after the replies
 abbrev pub ending_of : {R O P : Type 0} → State → Replayed R O P → Ending

@@ -1,7 +1,8 @@
 -- What the words of numbers say, next to what std's calls answer for them.
 use Rattle.std.proofs.Common.{◌≡◌, ◌≢◌, ℕ, ◌^◌, ◌<◌, ◌≤◌, ◌==◌, Bool, true, false, ◌&&◌, List, [], ◌∷◌, drop, get_or, Some, None, Result, Ok, Err, OkIff, option_map, option_and_then, nat_lt, refl, sym, ◌∙◌, ap, arith, ltb-true, lt-ltb, le-ltb, lit≤, codes, ◌-◌, ℤ, pos, negsuc, neg_ℤ, FitsSigned, slice_index, w8, w16, w32, w64, if◌then◌else◌}
 use Rattle.std.specs.Result.{result_ok}
-use Rattle.std.specs.Char.{digit_value}
+use Rattle.std.specs.Char.{digit_value, is_digit}
+use Rattle.std.specs.List.{list_all}
 use Rattle.std.specs.Str.Parse.{AllDigits, IsNumeral, digits_value, ParsesUnsigned}
 use Rattle.std.proofs.lemmas.Str.Parse.{without_leading_plus_none}
 use Rattle.std.specs.Str.Parse.{ParsesSigned}
@@ -11,7 +12,10 @@ use Rattle.std.specs.Int.{FitsUnsignedBits}
 use mir.Syntax.{Width}
 use mir.Val.{hbits}
 use lib.Signed.{mag}
-use Rattle.dwexpr_text.specs.Values.{all_digits, numeral_in, below, within, number_in, integer_in}
+use Rattle.dwexpr_text.specs.Values.{numeral_in, below, within, number_in, integer_in}
+
+abbrev all_digits : (base : ℕ) → List ℕ → Bool
+all_digits base word = list_all (λ byte. is_digit byte base) word
 
 and-true : (a b : Bool) → (a && b) ≡ true → (a ≡ true) × (b ≡ true)
 and-true true true h = (refl, refl)

@@ -1,6 +1,6 @@
 -- The numbers, types and values in the lines that `eval` reads.
-use Rattle.std.specs.Prelude.{ℕ, ◌-◌, ◌^◌, ◌==◌, ◌&&◌, nat_eq, nat_lt, codes, bytes_eq, slice_index, Bool, true, List, [], ◌∷◌, length, drop, Option, Some, None, option_and_then, option_map, if◌then◌else◌, ℤ, pos, negsuc, neg_ℤ}
-use Rattle.std.specs.List.{position_or_len, before_first, after_first, starts_with}
+use Rattle.std.specs.Prelude.{ℕ, ◌-◌, ◌^◌, ◌==◌, nat_eq, nat_lt, codes, bytes_eq, slice_index, List, [], ◌∷◌, length, drop, Option, Some, None, option_and_then, option_map, if◌then◌else◌, ℤ, pos, negsuc, neg_ℤ}
+use Rattle.std.specs.List.{position_or_len, before_first, after_first, list_all, starts_with}
 use Rattle.std.specs.Map.{lookup}
 use Rattle.std.specs.Char.{is_digit}
 use Rattle.std.specs.Str.Parse.{digits_value}
@@ -11,16 +11,11 @@ use Rattle.dwarf_value.specs.declared.types.ValueType.TheVariants as type
 
 -- ---- numbers
 
--- each byte is a digit of the base
-abbrev pub all_digits : (base : ℕ) → List ℕ → Bool
-all_digits base [] = true
-all_digits base (digit ∷ digits) = is_digit digit base && all_digits base digits
-
--- one digit or more, of either case
+-- one digit of the base or more, of either case
 abbrev pub numeral_in : (base : ℕ) → List ℕ → Option ℕ
 numeral_in base [] = None
 numeral_in base (digit ∷ digits) =
-    if all_digits base (digit ∷ digits) then Some (digits_value base (digit ∷ digits)) else None
+    if list_all (λ byte. is_digit byte base) (digit ∷ digits) then Some (digits_value base (digit ∷ digits)) else None
 
 -- a number of this many bits
 abbrev pub below : (bits : ℕ) → ℕ → Option ℕ

@@ -8,6 +8,7 @@ use Rattle.dwarf_base.specs.declared.common.Encoding.{Encoding}
 use Rattle.dwarf_base.specs.declared.errors.Error.TheVariants.{TooManyIterations, InvalidExpressionTerminator}
 use Rattle.dwarf_base.specs.Reads.{Text}
 use Rattle.dwarf_meaning.specs.Operations as operation
+use Rattle.dwarf_meaning.specs.Operands.{context_of}
 use Rattle.dwarf_meaning.specs.Operations.{Operation, DieReference}
 use Rattle.dwarf_meaning.specs.Locations.{Location}
 use Rattle.dwarf_meaning.specs.Spelling.{Spells}
@@ -22,7 +23,7 @@ use Rattle.dwarf_meaning.specs.Meaning.{First}
 use Rattle.dwarf_meaning.specs.RunLaws.{EndOpen}
 use Rattle.dwarf_meaning.proofs.Turns.{run_turn}
 use Rattle.dwarf_meaning.proofs.Callees.{run_open}
-use Rattle.dwarf_meaning.proofs.Decoded.{spelled_operation, whole_operation}
+use Rattle.dwarf_meaning.proofs.Decoded.{spelled_operation, some_bytes}
 use Rattle.dwarf_laws.proofs.Jumps.{straight_jumps, act_jumps}
 use Rattle.dwarf_laws.proofs.Calm.{free, calm}
 use Rattle.dwarf_laws.proofs.Texts.{stands, StraightFrom, straight_step}
@@ -36,7 +37,7 @@ inputs_of (RequestEnd request positions inputs) = inputs
 inputs_of (FaultEnd fault) = []
 
 module _ (encoding : Encoding) (bits : ℕ) (A K B : List ℕ) (big : Bool) (offset : DieReference)
-    (spelled : Spells encoding bits big K (operation.Call offset)) where
+    (spelled : Spells (context_of encoding bits big) K (operation.Call offset)) where
   abbrev S : Setup
   S = free encoding bits
 
@@ -53,7 +54,7 @@ module _ (encoding : Encoding) (bits : ℕ) (A K B : List ℕ) (big : Bool) (off
   AtCall end = end ≡ RequestEnd call (after_call ∷ []) []
 
   some_call : 0 < length K
-  some_call = (whole_operation encoding bits big K (operation.Call offset) spelled).some_bytes
+  some_call = some_bytes encoding bits big K (operation.Call offset) spelled
 
   read_call : read S outer (length A) ≡ Ok (operation.Call offset, B)
   read_call =
@@ -191,7 +192,7 @@ module _ (encoding : Encoding) (bits : ℕ) (A K B : List ℕ) (big : Bool) (off
         λ at_call. absurd (asked_not straight t input inputs
         (sym (ap (λ (c : Course). c.end) (call_turn t (input ∷ inputs) at_call (input ∷ inputs))) ∙ at_call))
 
-    pub from : (todo : List ℕ) (ops : List Operation) → Joined encoding bits big todo ops → (p : ℕ) → drop p A ≡ todo
+    pub from : (todo : List ℕ) (ops : List Operation) → Joined (context_of encoding bits big) todo ops → (p : ℕ) → drop p A ≡ todo
         → p ≤ length A → StraightFrom encoding bits outer p → From p
     from todo ops splitting.none p e le straight =
         let x : length (drop p A) ≡ 0 = ap length e in

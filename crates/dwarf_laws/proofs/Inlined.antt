@@ -5,6 +5,7 @@ use Rattle.dwarf_base.specs.declared.common.Encoding.{Encoding}
 use Rattle.dwarf_base.specs.Faults.{Fault}
 use Rattle.dwarf_base.specs.Reads.{Text}
 use Rattle.dwarf_value.specs.declared.types.Value.TheVariants.{Generic}
+use Rattle.dwarf_meaning.specs.Operands.{context_of}
 use Rattle.dwarf_meaning.specs.Operations.{Operation, DieReference}
 use Rattle.dwarf_meaning.specs.Splitting.{Joined, items_at}
 use Rattle.dwarf_meaning.specs.Splitting as splitting
@@ -57,7 +58,7 @@ snoc_same (y ∷ a) (z ∷ b) x e =
     ap (λ (n : _). n ∷ a) first ∙ ap (λ (xs : List _). z ∷ xs) (snoc_same a b x others)
 
 straight_after : (encoding : Encoding) (bits : ℕ) (big : Bool) (bytes : List ℕ) (ops : List Operation)
-    → Joined encoding bits big bytes ops → (rest : List ℕ)
+    → Joined (context_of encoding bits big) bytes ops → (rest : List ℕ)
     → AllStraight (items_at encoding bits (record { bytes = bytes ++ rest; is_big = big }))
     → AllStraight (items_at encoding bits (record { bytes = rest; is_big = big }))
 straight_after encoding bits big bytes ops splitting.none rest h = h

@@ -7,6 +7,7 @@ use Rattle.dwarf_base.specs.Faults.{Fault}
 use Rattle.dwarf_base.specs.declared.errors.Error.TheVariants.{TooManyIterations}
 use Rattle.dwarf_base.specs.Reads.{Text}
 use Rattle.dwarf_meaning.specs.Operations as operation
+use Rattle.dwarf_meaning.specs.Operands.{context_of}
 use Rattle.dwarf_meaning.specs.Operations.{Operation, DieReference}
 use Rattle.dwarf_meaning.specs.Spelling.{Spells}
 use Rattle.dwarf_meaning.specs.Requests.{Request, RequiresAtLocation, OnAnswer, Input}
@@ -80,7 +81,7 @@ module _ (encoding : Encoding) (bits : ℕ) where
   done_calm place len (FaultAct fault) t refuses = fails_calm
 
   module _ (A K B : List ℕ) (big : Bool) (offset : DieReference)
-      (spelled : Spells encoding bits big K (operation.Call offset)) (target : First) where
+      (spelled : Spells (context_of encoding bits big) K (operation.Call offset)) (target : First) where
     -- a text that begins with the bytes before the call
     abbrev pub text : List ℕ → Text
     text X = record { bytes = A ++ X; is_big = big }

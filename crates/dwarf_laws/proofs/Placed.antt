@@ -3,6 +3,7 @@ use Rattle.std.proofs.Common.{◌≡◌, List, [], ◌∷◌, Result, Ok, Err, O
 use Rattle.std.proofs.lemmas.List.{append-nil}
 use Rattle.std.specs.List.{AllByRecursion}
 use Rattle.dwarf_base.specs.Faults.{Fault}
+use Rattle.dwarf_meaning.specs.Operands.{context_of}
 use Rattle.dwarf_meaning.specs.Operations.{Operation, Call, DieReference}
 use Rattle.dwarf_meaning.specs.Decoding.{operation_at}
 use Rattle.dwarf_meaning.specs.Spelling.{Spells}
@@ -44,7 +45,7 @@ stands_in setup site offset h e k =
       ahead = before.0;
       joined = before_is.whole (no_fault before.0 before.1.0 (subst AllRead before_is.items h));
       spelled =
-          subst (λ bytes. Spells setup.encoding setup.offset_bits site.is_big bytes (Call offset))
+          subst (λ bytes. Spells (context_of setup.encoding setup.offset_bits site.is_big) bytes (Call offset))
           (sym (append-nil begins.front) ∙ begins.whole) begins.spells;
       operations = all.0;
       fault = all.1.0;

@@ -4,6 +4,7 @@ use Rattle.std.specs.List.{AllByRecursion}
 use Rattle.dwarf_base.specs.Faults.{Fault}
 use Rattle.dwarf_base.specs.Reads.{Text}
 use Rattle.dwarf_value.specs.declared.types.Value.{Value}
+use Rattle.dwarf_meaning.specs.Operands.{context_of}
 use Rattle.dwarf_meaning.specs.Operations.{Operation, Bra, Skip, Call, DieReference}
 use Rattle.dwarf_meaning.specs.Spelling.{Spells}
 use Rattle.dwarf_meaning.specs.Splitting.{Splitting, Joined}
@@ -62,11 +63,11 @@ IsStraight _ = Unit {0}
 -- the call is one of the operations that the outer text splits into, and none of them is a branch
 pub record StandsIn (setup : Setup) (site : CallSite) (offset : DieReference) : Type 0 where
   pub ahead : List Operation
-  pub joined : Joined setup.encoding setup.offset_bits site.is_big site.before ahead
-  pub spelled : Spells setup.encoding setup.offset_bits site.is_big site.call (Call offset)
+  pub joined : Joined (context_of setup.encoding setup.offset_bits site.is_big) site.before ahead
+  pub spelled : Spells (context_of setup.encoding setup.offset_bits site.is_big) site.call (Call offset)
   pub operations : List Operation
   pub fault : Option Fault
-  pub splits : Splitting setup.encoding setup.offset_bits site.is_big (outer site).bytes operations fault
+  pub splits : Splitting (context_of setup.encoding setup.offset_bits site.is_big) (outer site).bytes operations fault
   pub straight : AllByRecursion IsStraight operations
 
 -- The callee has bytes, and no branch of 16 bits wraps in the inlined text.

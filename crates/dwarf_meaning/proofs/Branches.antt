@@ -6,7 +6,7 @@ use Rattle.dwarf_base.specs.declared.common.Encoding.{Encoding}
 use Rattle.dwarf_base.specs.Numbers.{number_of, signed_of}
 use Rattle.dwarf_base.specs.Reads.{split_at, Text}
 use Rattle.dwarf_meaning.specs.Operations.{Operation}
-use Rattle.dwarf_meaning.specs.Operands.{Context, block_of, context_of, SignedFixed, SignedLeb128}
+use Rattle.dwarf_meaning.specs.Operands.{Context, as_text, context_of, SignedFixed, SignedLeb128}
 use Rattle.dwarf_meaning.specs.Opcodes.{Row, Makes, Unsigned, Signed, Block, Invalid, lines, row_of}
 use Rattle.dwarf_meaning.specs.Decoding.{unsigned_at, integer_at, operands_at, operation_at}
 use Rattle.dwarf_meaning.specs.Spelling.{SpellsInteger}
@@ -156,10 +156,10 @@ near_operands context (Signed SignedLeb128 next) bytes op rest near h e =
     let k : AreBytes (s.front ++ w.left) = subst AreBytes (sym s.whole) h in
     near_operands context (next w.value) w.left op rest (near w.value) (bytes_beyond s.front w.left k) w.more
 near_operands context (Block size next) bytes op rest near h e =
-    let w = went (split_at size bytes) (λ x. operands_at context (next (block_of context x.0)) x.1) (op, rest) e in
+    let w = went (split_at size bytes) (λ x. operands_at context (next (as_text context x.0)) x.1) (op, rest) e in
     let s = (reads_block size).found bytes w.value w.left w.here in
     let k : AreBytes (s.front ++ w.left) = subst AreBytes (sym s.whole) h in
-    near_operands context (next (block_of context w.value)) w.left op rest (near (block_of context w.value)) (bytes_beyond s.front w.left k) w.more
+    near_operands context (next (as_text context w.value)) w.left op rest (near (as_text context w.value)) (bytes_beyond s.front w.left k) w.more
 near_operands context (Invalid opcode) bytes op rest near h e = absurd cc
 
 near_operation : (encoding : Encoding) (bits : ℕ) (big : Bool) (bytes : List ℕ) (op : Operation) (rest : List ℕ) → AreBytes bytes → operation_at encoding bits (record { bytes = bytes; is_big = big }) ≡ Ok (op, rest) → BranchesNear op

@@ -1,22 +1,23 @@
 -- What users of decoding need of it: an operation has bytes, all of the text, and bytes after them don't matter.
 use Rattle.std.proofs.Common.{ℕ, ◌≡◌, ◌<◌, ◌⊎◌, inl, inr, Bool, List, [], ◌∷◌, ◌++◌, length, Ok, Err, arith, length-append, append_assoc, refl, sym, ap, subst, ◌∙◌}
 use Rattle.dwarf_base.specs.declared.common.Encoding.{Encoding}
-use Rattle.dwarf_base.specs.Faults.{Fault, past_the_end}
-use Rattle.dwarf_base.specs.Fronts.{Begins}
+use Rattle.dwarf_base.specs.Faults.{Fault}
+use Rattle.dwarf_base.specs.Fronts.{Begins, ReadsExactly, TakesFront}
 use Rattle.dwarf_base.specs.Reads.{Text}
+use Rattle.dwarf_meaning.specs.Operands.{Context, as_text, context_of}
 use Rattle.dwarf_meaning.specs.Operations.{Operation}
-use Rattle.dwarf_meaning.specs.Decoding.{operation_at}
+use Rattle.dwarf_meaning.specs.Decoding.{operation_at, operation_in}
 use Rattle.dwarf_meaning.specs.Spelling.{Spells, Malformed}
 use Rattle.dwarf_meaning.specs.Spelling as spelling
-use Rattle.dwarf_meaning.specs.DecodeLaws.{ReadsExactlyTheSpelled, IsDecided, IsWhole}
+use Rattle.dwarf_meaning.specs.DecodeLaws.{IsDecided}
 use Rattle.dwarf_meaning.proofs.ReadsExactly.{Reading, pair_same}
 use Rattle.dwarf_meaning.proofs.OperationReads.{reads_operation}
 
-some_bytes : (encoding : Encoding) (bits : ℕ) (big : Bool) (bytes : List ℕ) (op : Operation) → Spells encoding bits big bytes op → 0 < length bytes
+pub some_bytes : (encoding : Encoding) (bits : ℕ) (big : Bool) (bytes : List ℕ) (op : Operation) → Spells (context_of encoding bits big) bytes op → 0 < length bytes
 some_bytes encoding bits big bytes op (spelling.spelled opcode operands op' s) = omega arith
 
 -- an operation that is read has a byte at least, and all its bytes are the text's
-pub operation_begins : (encoding : Encoding) (bits : ℕ) (text : Text) (op : Operation) (rest : List ℕ) → operation_at encoding bits text ≡ Ok (op, rest) → Begins (Spells encoding bits text.is_big) text.bytes op rest
+pub operation_begins : (encoding : Encoding) (bits : ℕ) (text : Text) (op : Operation) (rest : List ℕ) → operation_at encoding bits text ≡ Ok (op, rest) → Begins (Spells (context_of encoding bits text.is_big)) text.bytes op rest
 operation_begins encoding bits text op rest h =
     let f = (reads_operation encoding bits text.is_big).found text.bytes op rest h in
     record { front = f.front; spells = f.spells; whole = f.whole }
@@ -37,20 +38,22 @@ operation_before encoding bits text op rest more h =
     subst (λ (xs : List ℕ). operation_at encoding bits (record { bytes = xs; is_big = text.is_big }) ≡ Ok (op, rest ++ more)) joined ((reads_operation encoding bits text.is_big).gives b.front op (rest ++ more) b.spells)
 
 -- a spelling is read, whatever follows
-pub spelled_operation : (encoding : Encoding) (bits : ℕ) (big : Bool) (front : List ℕ) (op : Operation) (rest : List ℕ) → Spells encoding bits big front op → operation_at encoding bits (record { bytes = front ++ rest; is_big = big }) ≡ Ok (op, rest)
+pub spelled_operation : (encoding : Encoding) (bits : ℕ) (big : Bool) (front : List ℕ) (op : Operation) (rest : List ℕ) → Spells (context_of encoding bits big) front op → operation_at encoding bits (record { bytes = front ++ rest; is_big = big }) ≡ Ok (op, rest)
 spelled_operation encoding bits big front op rest s = (reads_operation encoding bits big).gives front op rest s
 
-pub begins_operation : (encoding : Encoding) (bits : ℕ) (text : Text) (op : Operation) (rest : List ℕ) → Begins (Spells encoding bits text.is_big) text.bytes op rest → operation_at encoding bits text ≡ Ok (op, rest)
+pub begins_operation : (encoding : Encoding) (bits : ℕ) (text : Text) (op : Operation) (rest : List ℕ) → Begins (Spells (context_of encoding bits text.is_big)) text.bytes op rest → operation_at encoding bits text ≡ Ok (op, rest)
 begins_operation encoding bits text op rest b =
     subst (λ (xs : List ℕ). operation_at encoding bits (record { bytes = xs; is_big = text.is_big }) ≡ Ok (op, rest)) b.whole (spelled_operation encoding bits text.is_big b.front op rest b.spells)
 
 -- ---- the laws
 
-pub reads_the_spelled : (encoding : Encoding) (bits : ℕ) (text : Text) → ReadsExactlyTheSpelled encoding bits text
-reads_the_spelled encoding bits text = record {
-  operation = λ op rest. (operation_begins encoding bits text op rest, begins_operation encoding bits text op rest);
-  fault = λ fault. ((reads_operation encoding bits text.is_big).refused text.bytes fault, (reads_operation encoding bits text.is_big).refuses text.bytes fault);
-}
+pub reads_the_spelled : (context : Context) → ReadsExactly (Spells context) (Malformed context) (operation_in context)
+reads_the_spelled context =
+    let reads = reads_operation context.encoding context.offset_bits context.is_big in
+    record {
+      ok = λ bytes op rest. (operation_begins context.encoding context.offset_bits (as_text context bytes) op rest, begins_operation context.encoding context.offset_bits (as_text context bytes) op rest);
+      err = λ bytes fault. (reads.refused bytes fault, reads.refuses bytes fault);
+    }
 
 -- of two joined lists that are equal, and whose ends are, the fronts are
 same_front : (a b rest : List ℕ) → a ++ rest ≡ b ++ rest → a ≡ b
@@ -66,32 +69,32 @@ module _ (encoding : Encoding) (bits : ℕ) (big : Bool) (bytes : List ℕ) wher
   abbrev here : Text
   here = record { bytes = bytes; is_big = big }
 
-  outcome : (r : Reading Operation) → operation_at encoding bits here ≡ r → ((op : Operation) × ((rest : List ℕ) × Begins (Spells encoding bits big) bytes op rest)) ⊎ ((fault : Fault) × Malformed encoding bits big bytes fault)
+  outcome : (r : Reading Operation) → operation_at encoding bits here ≡ r → ((op : Operation) × ((rest : List ℕ) × Begins (Spells (context_of encoding bits big)) bytes op rest)) ⊎ ((fault : Fault) × Malformed (context_of encoding bits big) bytes fault)
   outcome (Ok x) e = inl (x.0, (x.1, operation_begins encoding bits here x.0 x.1 e))
   outcome (Err fault) e = inr (fault, (reads_operation encoding bits big).refused bytes fault e)
 
-  same_operation : (first second : Operation) (rest others : List ℕ) → Begins (Spells encoding bits big) bytes first rest → Begins (Spells encoding bits big) bytes second others → (first ≡ second) × (rest ≡ others)
+  same_operation : (first second : Operation) (rest others : List ℕ) → Begins (Spells (context_of encoding bits big)) bytes first rest → Begins (Spells (context_of encoding bits big)) bytes second others → (first ≡ second) × (rest ≡ others)
   same_operation first second rest others a b =
       pair_same first second rest others (sym (begins_operation encoding bits here first rest a) ∙ begins_operation encoding bits here second others b)
 
-  same_bytes : (first second : Operation) (rest others : List ℕ) (a : Begins (Spells encoding bits big) bytes first rest) (b : Begins (Spells encoding bits big) bytes second others) → a.front ≡ b.front
+  same_bytes : (first second : Operation) (rest others : List ℕ) (a : Begins (Spells (context_of encoding bits big)) bytes first rest) (b : Begins (Spells (context_of encoding bits big)) bytes second others) → a.front ≡ b.front
   same_bytes first second rest others a b =
       let same = same_operation first second rest others a b in
       same_front a.front b.front rest (a.whole ∙ (sym b.whole ∙ ap (λ (xs : List ℕ). b.front ++ xs) (sym same.1)))
 
-  same_fault : (first second : Fault) → Malformed encoding bits big bytes first → Malformed encoding bits big bytes second → first ≡ second
+  same_fault : (first second : Fault) → Malformed (context_of encoding bits big) bytes first → Malformed (context_of encoding bits big) bytes second → first ≡ second
   same_fault first second a b =
       let e : operation_at encoding bits here ≡ Err first = (reads_operation encoding bits big).refuses bytes first a in
       let f : operation_at encoding bits here ≡ Err second = (reads_operation encoding bits big).refuses bytes second b in
       cc
 
-  not_both : (op : Operation) (rest : List ℕ) (fault : Fault) → Begins (Spells encoding bits big) bytes op rest → Malformed encoding bits big bytes fault → ⊥
+  not_both : (op : Operation) (rest : List ℕ) (fault : Fault) → Begins (Spells (context_of encoding bits big)) bytes op rest → Malformed (context_of encoding bits big) bytes fault → ⊥
   not_both op rest fault a b =
       let e : operation_at encoding bits here ≡ Ok (op, rest) = begins_operation encoding bits here op rest a in
       let f : operation_at encoding bits here ≡ Err fault = (reads_operation encoding bits big).refuses bytes fault b in
       cc
 
-  pub decided : IsDecided encoding bits big bytes
+  pub decided : IsDecided (context_of encoding bits big) bytes
   decided = record {
     either = outcome (operation_at encoding bits here) refl;
     not_both = not_both;
@@ -100,9 +103,10 @@ module _ (encoding : Encoding) (bits : ℕ) (big : Bool) (bytes : List ℕ) wher
     one_fault = same_fault;
   }
 
-pub whole_operation : (encoding : Encoding) (bits : ℕ) (big : Bool) (bytes : List ℕ) (op : Operation) → Spells encoding bits big bytes op → IsWhole encoding bits big bytes op
-whole_operation encoding bits big bytes op s = record {
-  some_bytes = some_bytes encoding bits big bytes op s;
-  whatever_follows = λ rest. spelled_operation encoding bits big bytes op rest s;
-  cut_off = λ before byte after e. (reads_operation encoding bits big).refused before past_the_end ((reads_operation encoding bits big).cut_off before byte after op (subst (λ (xs : List ℕ). Spells encoding bits big xs op) (sym e) s));
-}
+pub takes_operation : (context : Context) (bytes : List ℕ) (op : Operation) → Spells context bytes op → TakesFront (operation_in context) bytes op
+takes_operation context bytes op s =
+    let reads = reads_operation context.encoding context.offset_bits context.is_big in
+    record {
+      whatever_follows = λ rest. reads.gives bytes op rest s;
+      cut_off = λ before byte after e. reads.cut_off before byte after op (subst (λ (xs : List ℕ). Spells context xs op) (sym e) s);
+    }

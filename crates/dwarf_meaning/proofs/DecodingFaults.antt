@@ -5,7 +5,7 @@ use Rattle.dwarf_base.specs.Faults.{Fault}
 use Rattle.dwarf_base.specs.declared.errors.Error.TheVariants.{UnsupportedOffset, UnsupportedRegister, InvalidPieceSize, BadUnsignedLeb128}
 use Rattle.dwarf_base.specs.Leb.{LebForm, MalformedLeb, unsigned_leb, signed_leb}
 use Rattle.dwarf_base.specs.Reads.{Text}
-use Rattle.dwarf_meaning.specs.Operands.{Context, block_of, Form, Fixed, Address, Leb128, Offset, RegisterNumber, PieceSize, WasmIndex, SectionOffset, InfoReference, SignedForm, Layout, operand_value}
+use Rattle.dwarf_meaning.specs.Operands.{Context, as_text, Form, Fixed, Address, Leb128, Offset, RegisterNumber, PieceSize, WasmIndex, SectionOffset, InfoReference, SignedForm, Layout, operand_value, context_of}
 use Rattle.dwarf_meaning.specs.Opcodes.{Row}
 use Rattle.dwarf_meaning.specs.Decoding.{operation_at}
 use Rattle.dwarf_meaning.specs.Spelling.{MalformedNumber, MalformedUnsigned, MalformedInteger, MalformedOperands, Malformed}
@@ -55,9 +55,9 @@ operands_fault context row bytes fault (spelling.unsigned_after form next front 
 operands_fault context row bytes fault (spelling.signed_here form next bytes' fault' r) = integer_fault _ form bytes' fault' r
 operands_fault context row bytes fault (spelling.signed_after form next front rest value fault' s r) = operands_fault context (next value) rest fault' r
 operands_fault context row bytes fault (spelling.block_here size next bytes' less) = refl
-operands_fault context row bytes fault (spelling.block_after next front rest fault' r) = operands_fault context (next (block_of context front)) rest fault' r
+operands_fault context row bytes fault (spelling.block_after next front rest fault' r) = operands_fault context (next (as_text context front)) rest fault' r
 
-refused_fault : (encoding : Encoding) (bits : ℕ) (big : Bool) (bytes : List ℕ) (fault : Fault) → Malformed encoding bits big bytes fault → IsDecodingFault fault
+refused_fault : (encoding : Encoding) (bits : ℕ) (big : Bool) (bytes : List ℕ) (fault : Fault) → Malformed (context_of encoding bits big) bytes fault → IsDecodingFault fault
 refused_fault encoding bits big bytes fault spelling.no_opcode = refl
 refused_fault encoding bits big bytes fault (spelling.bad_operands opcode bytes' fault' r) = operands_fault _ _ bytes' fault' r
 

@@ -5,7 +5,7 @@ use Rattle.dwarf_base.specs.Faults.{Fault, past_the_end, invalid_expression, ◌
 use Rattle.dwarf_base.specs.Fronts.{Begins}
 use Rattle.dwarf_base.specs.Reads.{split_at, Text}
 use Rattle.dwarf_meaning.specs.Operations.{Operation}
-use Rattle.dwarf_meaning.specs.Operands.{Context, block_of, context_of}
+use Rattle.dwarf_meaning.specs.Operands.{Context, as_text, context_of}
 use Rattle.dwarf_meaning.specs.Opcodes.{Row, Makes, Unsigned, Signed, Block, Invalid, row_of}
 use Rattle.dwarf_meaning.specs.Decoding.{unsigned_at, integer_at, operands_at, operation_at}
 use Rattle.dwarf_meaning.specs.Spelling.{SpellsOperands, MalformedOperands, Spells, Malformed}
@@ -53,13 +53,13 @@ operands_give context row front op (spelling.signed form next first others value
     ∙ operands_give context (next value) others made there rest)
 operands_give context row front op (spelling.block next first others made there) rest =
     ap (operands_at context (Block (length first) next)) (append_assoc first others rest)
-    ∙ (ap (λ (r : Reading (List ℕ)). r >>= λ x. operands_at context (next (block_of context x.0)) x.1) ((reads_block (length first)).gives first first (others ++ rest) (block first))
-    ∙ operands_give context (next (block_of context first)) others made there rest)
+    ∙ (ap (λ (r : Reading (List ℕ)). r >>= λ x. operands_at context (next (as_text context x.0)) x.1) ((reads_block (length first)).gives first first (others ++ rest) (block first))
+    ∙ operands_give context (next (as_text context first)) others made there rest)
 
 joined : (first others rest middle bytes : List ℕ) → others ++ rest ≡ middle → first ++ middle ≡ bytes → (first ++ others) ++ rest ≡ bytes
 joined first others rest middle bytes e f = append_assoc first others rest ∙ (ap (λ (r : List ℕ). first ++ r) e ∙ f)
 
-block_operands : (context : Context) (size : ℕ) (next : Text → Row) (first found others : List ℕ) (op : Operation) → SpellsBlock size first found → SpellsOperands context (next (block_of context found)) others op → SpellsOperands context (Block size next) (first ++ others) op
+block_operands : (context : Context) (size : ℕ) (next : Text → Row) (first found others : List ℕ) (op : Operation) → SpellsBlock size first found → SpellsOperands context (next (as_text context found)) others op → SpellsOperands context (Block size next) (first ++ others) op
 block_operands context size next first found others op (block bytes) there = spelling.block next bytes others op there
 
 operands_found : (context : Context) (row : Row) (bytes : List ℕ) (op : Operation) (rest : List ℕ) → operands_at context row bytes ≡ Ok (op, rest) → Begins (SpellsOperands context row) bytes op rest
@@ -85,9 +85,9 @@ operands_found context (Signed form next) bytes op rest h =
       whole = joined s.front t.front rest w.left bytes t.whole s.whole;
     }
 operands_found context (Block size next) bytes op rest h =
-    let w = went (split_at size bytes) (λ x. operands_at context (next (block_of context x.0)) x.1) (op, rest) h in
+    let w = went (split_at size bytes) (λ x. operands_at context (next (as_text context x.0)) x.1) (op, rest) h in
     let s = (reads_block size).found bytes w.value w.left w.here in
-    let t = operands_found context (next (block_of context w.value)) w.left op rest w.more in
+    let t = operands_found context (next (as_text context w.value)) w.left op rest w.more in
     record {
       front = s.front ++ t.front;
       spells = block_operands context size next s.front w.value t.front op s.spells t.spells;
@@ -108,15 +108,15 @@ operands_refuse context row bytes fault (spelling.signed_after form next first o
     ap (λ (r : Reading ℤ). r >>= λ x. operands_at context (next x.0) x.1) ((reads_integer context.is_big form).gives first value others s)
     ∙ operands_refuse context (next value) others fault r
 operands_refuse context row bytes fault (spelling.block_here size next bytes' less) =
-    ap (λ (r : Reading (List ℕ)). r >>= λ x. operands_at context (next (block_of context x.0)) x.1) ((reads_block size).refuses bytes past_the_end (few size bytes less))
+    ap (λ (r : Reading (List ℕ)). r >>= λ x. operands_at context (next (as_text context x.0)) x.1) ((reads_block size).refuses bytes past_the_end (few size bytes less))
 operands_refuse context row bytes fault (spelling.block_after next first others fault' r) =
-    ap (λ (r : Reading (List ℕ)). r >>= λ x. operands_at context (next (block_of context x.0)) x.1) ((reads_block (length first)).gives first first others (block first))
-    ∙ operands_refuse context (next (block_of context first)) others fault r
+    ap (λ (r : Reading (List ℕ)). r >>= λ x. operands_at context (next (as_text context x.0)) x.1) ((reads_block (length first)).gives first first others (block first))
+    ∙ operands_refuse context (next (as_text context first)) others fault r
 
 block_refusal : (context : Context) (size : ℕ) (next : Text → Row) (bytes : List ℕ) (fault : Fault) → RefusesBlock size bytes fault → MalformedOperands context (Block size next) bytes fault
 block_refusal context size next bytes fault (few size' bytes' less) = spelling.block_here size next bytes less
 
-block_refused_after : (context : Context) (size : ℕ) (next : Text → Row) (first found others : List ℕ) (fault : Fault) → SpellsBlock size first found → MalformedOperands context (next (block_of context found)) others fault → MalformedOperands context (Block size next) (first ++ others) fault
+block_refused_after : (context : Context) (size : ℕ) (next : Text → Row) (first found others : List ℕ) (fault : Fault) → SpellsBlock size first found → MalformedOperands context (next (as_text context found)) others fault → MalformedOperands context (Block size next) (first ++ others) fault
 block_refused_after context size next first found others fault (block bytes) r = spelling.block_after next bytes others fault r
 
 operands_refused : (context : Context) (row : Row) (bytes : List ℕ) (fault : Fault) → operands_at context row bytes ≡ Err fault → MalformedOperands context row bytes fault
@@ -136,11 +136,11 @@ operands_refused context (Signed form next) bytes fault h =
           subst (λ (bs : List ℕ). MalformedOperands context (Signed form next) bs fault) s.whole (spelling.signed_after form next s.front w.left w.value fault s.spells (operands_refused context (next w.value) w.left fault w.more))
     ]
 operands_refused context (Block size next) bytes fault h =
-    elim (failed (split_at size bytes) (λ x. operands_at context (next (block_of context x.0)) x.1) fault h) [
+    elim (failed (split_at size bytes) (λ x. operands_at context (next (as_text context x.0)) x.1) fault h) [
       | inl here ↦ block_refusal context size next bytes fault ((reads_block size).refused bytes fault here)
       | inr w ↦
           let s = (reads_block size).found bytes w.value w.left w.here in
-          subst (λ (bs : List ℕ). MalformedOperands context (Block size next) bs fault) s.whole (block_refused_after context size next s.front w.value w.left fault s.spells (operands_refused context (next (block_of context w.value)) w.left fault w.more))
+          subst (λ (bs : List ℕ). MalformedOperands context (Block size next) bs fault) s.whole (block_refused_after context size next s.front w.value w.left fault s.spells (operands_refused context (next (as_text context w.value)) w.left fault w.more))
     ]
 operands_refused context (Invalid opcode) bytes fault h =
     let same : invalid_expression opcode ≡ fault = cc in
@@ -165,12 +165,12 @@ operands_cut_off context row bytes op (spelling.signed form next first others va
           ∙ (ap step ((reads_integer context.is_big form).gives first value tail here) ∙ operands_cut_off context (next value) others made there tail byte after (sym g))
     ]
 operands_cut_off context row bytes op (spelling.block next first others made there) before byte after e =
-    let step = λ (r : Reading (List ℕ)). r >>= λ x. operands_at context (next (block_of context x.0)) x.1 in
+    let step = λ (r : Reading (List ℕ)). r >>= λ x. operands_at context (next (as_text context x.0)) x.1 in
     elim (place_of before byte after first others e) [
       | inside tail f ↦ ap step ((reads_block (length first)).cut_off before byte tail first (subst (λ (bs : List ℕ). SpellsBlock (length first) bs first) f (block first)))
       | beyond tail f g ↦
           ap (operands_at context (Block (length first) next)) f
-          ∙ (ap step ((reads_block (length first)).gives first first tail (block first)) ∙ operands_cut_off context (next (block_of context first)) others made there tail byte after (sym g))
+          ∙ (ap step ((reads_block (length first)).gives first first tail (block first)) ∙ operands_cut_off context (next (as_text context first)) others made there tail byte after (sym g))
     ]
 
 -- ---- the opcode and its operands
@@ -182,28 +182,28 @@ module _ (encoding : Encoding) (bits : ℕ) (big : Bool) where
   abbrev operands : ℕ → List ℕ → Reading Operation
   operands opcode bytes = operands_at (context_of encoding bits big) (row_of encoding opcode) bytes
 
-  operation_gives : (front : List ℕ) (op : Operation) (rest : List ℕ) → Spells encoding bits big front op → operation_at encoding bits (text (front ++ rest)) ≡ Ok (op, rest)
+  operation_gives : (front : List ℕ) (op : Operation) (rest : List ℕ) → Spells (context_of encoding bits big) front op → operation_at encoding bits (text (front ++ rest)) ≡ Ok (op, rest)
   unfolding operation_at
   operation_gives front op rest (spelling.spelled opcode bytes op' s) = operands_give (context_of encoding bits big) (row_of encoding opcode) bytes op s rest
 
-  operation_found : (bytes : List ℕ) (op : Operation) (rest : List ℕ) → operation_at encoding bits (text bytes) ≡ Ok (op, rest) → Begins (Spells encoding bits big) bytes op rest
+  operation_found : (bytes : List ℕ) (op : Operation) (rest : List ℕ) → operation_at encoding bits (text bytes) ≡ Ok (op, rest) → Begins (Spells (context_of encoding bits big)) bytes op rest
   unfolding operation_at
   operation_found [] op rest h = absurd cc
   operation_found (opcode ∷ bytes) op rest h =
       let f = operands_found (context_of encoding bits big) (row_of encoding opcode) bytes op rest h in
       record { front = opcode ∷ f.front; spells = spelling.spelled opcode f.front op f.spells; whole = ap (λ (xs : List ℕ). opcode ∷ xs) f.whole }
 
-  operation_refuses : (bytes : List ℕ) (fault : Fault) → Malformed encoding bits big bytes fault → operation_at encoding bits (text bytes) ≡ Err fault
+  operation_refuses : (bytes : List ℕ) (fault : Fault) → Malformed (context_of encoding bits big) bytes fault → operation_at encoding bits (text bytes) ≡ Err fault
   unfolding operation_at
   operation_refuses bytes fault spelling.no_opcode = refl
   operation_refuses bytes fault (spelling.bad_operands opcode bytes' fault' r) = operands_refuse (context_of encoding bits big) (row_of encoding opcode) bytes' fault r
 
-  operation_refused : (bytes : List ℕ) (fault : Fault) → operation_at encoding bits (text bytes) ≡ Err fault → Malformed encoding bits big bytes fault
+  operation_refused : (bytes : List ℕ) (fault : Fault) → operation_at encoding bits (text bytes) ≡ Err fault → Malformed (context_of encoding bits big) bytes fault
   unfolding operation_at
-  operation_refused [] fault h = let same : past_the_end ≡ fault = cc in subst (Malformed encoding bits big []) same spelling.no_opcode
+  operation_refused [] fault h = let same : past_the_end ≡ fault = cc in subst (Malformed (context_of encoding bits big) []) same spelling.no_opcode
   operation_refused (opcode ∷ bytes) fault h = spelling.bad_operands opcode bytes fault (operands_refused (context_of encoding bits big) (row_of encoding opcode) bytes fault h)
 
-  operation_cut : (bytes : List ℕ) (op : Operation) → Spells encoding bits big bytes op → (before : List ℕ) (byte : ℕ) (after : List ℕ) → before ++ (byte ∷ after) ≡ bytes → operation_at encoding bits (text before) ≡ Err past_the_end
+  operation_cut : (bytes : List ℕ) (op : Operation) → Spells (context_of encoding bits big) bytes op → (before : List ℕ) (byte : ℕ) (after : List ℕ) → before ++ (byte ∷ after) ≡ bytes → operation_at encoding bits (text before) ≡ Err past_the_end
   unfolding operation_at
   operation_cut bytes op (spelling.spelled opcode bytes' op' s) [] byte after e = refl
   operation_cut bytes op (spelling.spelled opcode bytes' op' s) (x ∷ before) byte after e =
@@ -211,7 +211,7 @@ module _ (encoding : Encoding) (bits : ℕ) (big : Bool) where
       let tails : before ++ (byte ∷ after) ≡ bytes' = cc in
       ap (λ (n : ℕ). operands n before) same ∙ operands_cut_off (context_of encoding bits big) (row_of encoding opcode) bytes' op s before byte after tails
 
-  pub reads_operation : ReadsExactly (λ bytes. operation_at encoding bits (text bytes)) (Spells encoding bits big) (Malformed encoding bits big)
+  pub reads_operation : ReadsExactly (λ bytes. operation_at encoding bits (text bytes)) (Spells (context_of encoding bits big)) (Malformed (context_of encoding bits big))
   reads_operation = record {
     gives = operation_gives;
     found = operation_found;

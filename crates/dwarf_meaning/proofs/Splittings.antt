@@ -3,6 +3,7 @@ use Rattle.std.proofs.Common.{ℕ, zero, suc, ◌≡◌, ◌<◌, ◌≤◌, Boo
 use Rattle.dwarf_base.specs.declared.common.Encoding.{Encoding}
 use Rattle.dwarf_base.specs.Faults.{Fault}
 use Rattle.dwarf_base.specs.Reads.{Text}
+use Rattle.dwarf_meaning.specs.Operands.{context_of}
 use Rattle.dwarf_meaning.specs.Operations.{Operation}
 use Rattle.dwarf_meaning.specs.Decoding.{operation_at}
 use Rattle.dwarf_meaning.specs.Splitting.{Splitting, Joined, items_of, items_at, items_within, item_then}
@@ -10,7 +11,7 @@ use Rattle.dwarf_meaning.specs.Splitting as splitting
 use Rattle.dwarf_meaning.specs.DecodeLaws.{SplitsOnce, IsSplitting}
 use Rattle.dwarf_meaning.proofs.ReadsExactly.{Reading}
 use Rattle.dwarf_meaning.proofs.OperationReads.{reads_operation}
-use Rattle.dwarf_meaning.proofs.Decoded.{operation_begins, operation_shortens, spelled_operation, whole_operation}
+use Rattle.dwarf_meaning.proofs.Decoded.{operation_begins, operation_shortens, spelled_operation, some_bytes}
 
 abbrev Items : Type 0
 Items = List (Result Operation Fault)
@@ -25,7 +26,7 @@ module _ (encoding : Encoding) (bits : ℕ) (big : Bool) where
   text bytes = record { bytes = bytes; is_big = big }
 
   abbrev within : ℕ → List ℕ → Items
-  within most = items_within most encoding bits big
+  within most = items_within most (context_of encoding bits big)
 
   same_after : (n m : ℕ) (bytes : List ℕ) → ((rest : List ℕ) → length rest < length bytes → within n rest ≡ within m rest) → (r : Reading Operation) → operation_at encoding bits (text bytes) ≡ r → item_then r (within n) ≡ item_then r (within m)
   same_after n m bytes beyond (Ok x) e = ap (λ (items : Items). Ok x.0 ∷ items) (beyond x.1 (operation_shortens encoding bits (text bytes) x.0 x.1 e))
@@ -59,7 +60,7 @@ module _ (encoding : Encoding) (bits : ℕ) (big : Bool) where
   items_err byte bytes fault e = ap (λ (r : Reading Operation). item_then r (within (length bytes))) e
 
   -- the items of a splitting
-  pub splitting_items : (bytes : List ℕ) (ops : List Operation) (fault : Option Fault) → Splitting encoding bits big bytes ops fault → items_at encoding bits (text bytes) ≡ items_of ops fault
+  pub splitting_items : (bytes : List ℕ) (ops : List Operation) (fault : Option Fault) → Splitting (context_of encoding bits big) bytes ops fault → items_at encoding bits (text bytes) ≡ items_of ops fault
   splitting_items bytes ops fault splitting.ends = items_end
   splitting_items bytes ops fault (splitting.faults byte bytes' fault' r) = items_err byte bytes' fault' ((reads_operation encoding bits big).refuses (byte ∷ bytes') fault' r)
   splitting_items bytes ops fault (splitting.goes_on front rest op ops' fault' s more) =
@@ -68,7 +69,7 @@ module _ (encoding : Encoding) (bits : ℕ) (big : Bool) where
   record SomeSplitting (bytes : List ℕ) : Type 0 where
     ops : List Operation
     fault : Option Fault
-    splits : Splitting encoding bits big bytes ops fault
+    splits : Splitting (context_of encoding bits big) bytes ops fault
 
   split_after : (byte : ℕ) (bytes : List ℕ) → ((rest : List ℕ) → length rest < length (byte ∷ bytes) → SomeSplitting rest) → (r : Reading Operation) → operation_at encoding bits (text (byte ∷ bytes)) ≡ r → SomeSplitting (byte ∷ bytes)
   split_after byte bytes beyond (Err fault) e = record { ops = []; fault = Some fault; splits = splitting.faults byte bytes fault ((reads_operation encoding bits big).refused (byte ∷ bytes) fault e) }
@@ -78,7 +79,7 @@ module _ (encoding : Encoding) (bits : ℕ) (big : Bool) where
       record {
         ops = x.0 ∷ more.ops;
         fault = more.fault;
-        splits = subst (λ (xs : List ℕ). Splitting encoding bits big xs (x.0 ∷ more.ops) more.fault) b.whole (splitting.goes_on b.front x.1 x.0 more.ops more.fault b.spells more.splits);
+        splits = subst (λ (xs : List ℕ). Splitting (context_of encoding bits big) xs (x.0 ∷ more.ops) more.fault) b.whole (splitting.goes_on b.front x.1 x.0 more.ops more.fault b.spells more.splits);
       }
 
   some_splitting : (most : ℕ) (bytes : List ℕ) → length bytes ≤ most → SomeSplitting bytes
@@ -87,24 +88,24 @@ module _ (encoding : Encoding) (bits : ℕ) (big : Bool) where
   some_splitting (suc most) (byte ∷ bytes) h =
       split_after byte bytes (λ rest less. some_splitting most rest (omega arith)) (operation_at encoding bits (text (byte ∷ bytes))) refl
 
-  few_items : (bytes : List ℕ) (ops : List Operation) (fault : Option Fault) → Splitting encoding bits big bytes ops fault → length (items_of ops fault) ≤ length bytes
+  few_items : (bytes : List ℕ) (ops : List Operation) (fault : Option Fault) → Splitting (context_of encoding bits big) bytes ops fault → length (items_of ops fault) ≤ length bytes
   few_items bytes ops fault splitting.ends = omega arith
   few_items bytes ops fault (splitting.faults byte bytes' fault' r) = omega arith
   few_items bytes ops fault (splitting.goes_on front rest op ops' fault' s more) =
-      let some : 0 < length front = (whole_operation encoding bits big front op s).some_bytes in
+      let some : 0 < length front = some_bytes encoding bits big front op s in
       let less : length (items_of ops' fault') ≤ length rest = few_items rest ops' fault' more in
       omega (arith, length-append front rest)
 
-  whole_splitting : (bytes : List ℕ) (ops : List Operation) (fault : Option Fault) → Splitting encoding bits big bytes ops fault → fault ≡ None → Joined encoding bits big bytes ops
+  whole_splitting : (bytes : List ℕ) (ops : List Operation) (fault : Option Fault) → Splitting (context_of encoding bits big) bytes ops fault → fault ≡ None → Joined (context_of encoding bits big) bytes ops
   whole_splitting bytes ops fault splitting.ends e = splitting.none
   whole_splitting bytes ops fault (splitting.faults byte bytes' fault' r) e = absurd cc
   whole_splitting bytes ops fault (splitting.goes_on front rest op ops' fault' s more) e = splitting.one_more front rest op ops' s (whole_splitting rest ops' fault' more e)
 
-  joined_splits : (bytes : List ℕ) (ops : List Operation) → Joined encoding bits big bytes ops → Splitting encoding bits big bytes ops None
+  joined_splits : (bytes : List ℕ) (ops : List Operation) → Joined (context_of encoding bits big) bytes ops → Splitting (context_of encoding bits big) bytes ops None
   joined_splits bytes ops splitting.none = splitting.ends
   joined_splits bytes ops (splitting.one_more front rest op ops' s more) = splitting.goes_on front rest op ops' None s (joined_splits rest ops' more)
 
-  joined_items : (bytes : List ℕ) (ops : List Operation) → Joined encoding bits big bytes ops → (rest : List ℕ) → items_at encoding bits (text (bytes ++ rest)) ≡ items_before ops (items_at encoding bits (text rest))
+  joined_items : (bytes : List ℕ) (ops : List Operation) → Joined (context_of encoding bits big) bytes ops → (rest : List ℕ) → items_at encoding bits (text (bytes ++ rest)) ≡ items_before ops (items_at encoding bits (text rest))
   joined_items bytes ops splitting.none rest = refl
   joined_items bytes ops (splitting.one_more front others op ops' s more) rest =
       ap (λ (xs : List ℕ). items_at encoding bits (text xs)) (append_assoc front others rest)
@@ -136,19 +137,18 @@ same_items (x ∷ ops) (y ∷ others) fault other e =
     (ap (λ (op : Operation). op ∷ ops) first ∙ ap (λ (xs : List Operation). y ∷ xs) same.0, same.1)
 
 module _ (encoding : Encoding) (bits : ℕ) (big : Bool) (bytes : List ℕ) where
-  same_splitting : (ops others : List Operation) (fault other : Option Fault) → Splitting encoding bits big bytes ops fault → Splitting encoding bits big bytes others other → (ops ≡ others) × (fault ≡ other)
+  same_splitting : (ops others : List Operation) (fault other : Option Fault) → Splitting (context_of encoding bits big) bytes ops fault → Splitting (context_of encoding bits big) bytes others other → (ops ≡ others) × (fault ≡ other)
   same_splitting ops others fault other a b = same_items ops others fault other (sym (splitting_items encoding bits big bytes ops fault a) ∙ splitting_items encoding bits big bytes others other b)
 
-  pub splits_once : SplitsOnce encoding bits big bytes
+  pub splits_once : SplitsOnce (context_of encoding bits big) bytes
   splits_once =
       let s = some_splitting encoding bits big (length bytes) bytes (omega arith) in
       record {
         some = (s.ops, (s.fault, s.splits));
-        same_operations = λ ops others fault other a b. (same_splitting ops others fault other a b).0;
-        same_fault = λ ops others fault other a b. (same_splitting ops others fault other a b).1;
+        same = same_splitting;
       }
 
-  pub is_splitting : (ops : List Operation) (fault : Option Fault) → Splitting encoding bits big bytes ops fault → IsSplitting encoding bits big bytes ops fault
+  pub is_splitting : (ops : List Operation) (fault : Option Fault) → Splitting (context_of encoding bits big) bytes ops fault → IsSplitting (context_of encoding bits big) bytes ops fault
   is_splitting ops fault s = record {
     items = splitting_items encoding bits big bytes ops fault s;
     few = few_items encoding bits big bytes ops fault s;

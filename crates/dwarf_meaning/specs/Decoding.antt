@@ -5,7 +5,7 @@ use Rattle.dwarf_base.specs.Faults.{Fault, invalid_expression, ◌>>=◌}
 use Rattle.dwarf_base.specs.Leb.{uleb_at, sleb_at}
 use Rattle.dwarf_base.specs.Reads.{u8_at, fixed_at, signed_at, address_at, split_at, Text}
 use Rattle.dwarf_meaning.specs.Operations.{Operation}
-use Rattle.dwarf_meaning.specs.Operands.{Context, context_of, block_of, Form, SignedForm, SignedFixed, SignedLeb128, Layout, InBytes, InAddress, InLeb128, layout_of, operand_value}
+use Rattle.dwarf_meaning.specs.Operands.{Context, context_of, as_text, Form, SignedForm, SignedFixed, SignedLeb128, Layout, InBytes, InAddress, InLeb128, layout_of, operand_value}
 use Rattle.dwarf_meaning.specs.Opcodes.{Row, Makes, Unsigned, Signed, Block, Invalid, row_of}
 
 -- a number in its layout
@@ -31,7 +31,7 @@ module _ (context : Context) where
   operands_at (Makes op) bytes = Ok (op, bytes)
   operands_at (Unsigned form next) bytes = unsigned_at form bytes >>= λ x. operands_at (next x.0) x.1
   operands_at (Signed form next) bytes = integer_at context.is_big form bytes >>= λ x. operands_at (next x.0) x.1
-  operands_at (Block size next) bytes = split_at size bytes >>= λ x. operands_at (next (block_of context x.0)) x.1
+  operands_at (Block size next) bytes = split_at size bytes >>= λ x. operands_at (next (as_text context x.0)) x.1
   operands_at (Invalid opcode) bytes = Err (invalid_expression opcode)
 
 -- an opcode and the operands of its row
@@ -39,3 +39,7 @@ unfoldable pub operation_at : Encoding → (offset_bits : ℕ) → Text → Resu
 operation_at encoding offset_bits text =
     u8_at text.bytes >>= λ opcode. operands_at (context_of encoding offset_bits text.is_big) (row_of encoding opcode.0)
     opcode.1
+
+-- the same of bytes in a context
+abbrev pub operation_in : Context → List ℕ → Result (Operation × List ℕ) Fault
+operation_in context bytes = operation_at context.encoding context.offset_bits (as_text context bytes)

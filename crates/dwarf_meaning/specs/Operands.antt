@@ -16,9 +16,9 @@ pub record Context : Type 0 where
 abbrev pub context_of : Encoding → (offset_bits : ℕ) → (is_big : Bool) → Context
 context_of encoding offset_bits is_big = record { encoding = encoding; offset_bits = offset_bits; is_big = is_big }
 
--- a block in the text's byte order
-abbrev pub block_of : Context → List ℕ → Text
-block_of context bytes = record { bytes = bytes; is_big = context.is_big }
+-- bytes as a text, in that byte order
+abbrev pub as_text : Context → List ℕ → Text
+as_text context bytes = record { bytes = bytes; is_big = context.is_big }
 
 -- an operand that is an unsigned number: how it stands, or what it is
 pub data Form : Type 0 where

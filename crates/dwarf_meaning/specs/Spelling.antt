@@ -1,14 +1,13 @@
 -- Which bytes spell which operation, and which texts are malformed: relations on whole lists of bytes (DWARF 5,
 -- sections 7.6 and 7.7.1).
 use Rattle.std.specs.Prelude.{ℕ, ◌*◌, ◌<◌, ◌≡◌, ℤ, Bool, true, false, List, [], ◌∷◌, ◌++◌, Ok, Err, length}
-use Rattle.dwarf_base.specs.declared.common.Encoding.{Encoding}
 use Rattle.dwarf_base.specs.Faults.{Fault, past_the_end, invalid_expression}
 use Rattle.dwarf_base.specs.declared.errors.Error.TheVariants.{UnsupportedAddressSize}
 use Rattle.dwarf_base.specs.Leb.{SpellsLeb, MalformedLeb, unsigned_leb, signed_leb}
 use Rattle.dwarf_base.specs.Numbers.{number_of, signed_of}
 use Rattle.dwarf_base.specs.Reads.{is_fixed_size, Text}
 use Rattle.dwarf_meaning.specs.Operations.{Operation}
-use Rattle.dwarf_meaning.specs.Operands.{Context, context_of, block_of, Form, SignedForm, SignedFixed, SignedLeb128, Layout, InBytes, InAddress, InLeb128, layout_of, operand_value}
+use Rattle.dwarf_meaning.specs.Operands.{Context, as_text, Form, SignedForm, SignedFixed, SignedLeb128, Layout, InBytes, InAddress, InLeb128, layout_of, operand_value}
 use Rattle.dwarf_meaning.specs.Opcodes.{Row, Makes, Unsigned, Signed, Block, Invalid, row_of}
 
 -- the bytes spell the number
@@ -68,7 +67,7 @@ pub data SpellsOperands (context : Context) : Row → List ℕ → Operation →
       → SpellsInteger context.is_big form front value → SpellsOperands context (next value) rest op
       → SpellsOperands context (Signed form next) (front ++ rest) op
   block : (next : Text → Row) (front rest : List ℕ) (op : Operation)
-      → SpellsOperands context (next (block_of context front)) rest op
+      → SpellsOperands context (next (as_text context front)) rest op
       → SpellsOperands context (Block (length front) next) (front ++ rest) op
 
 -- The first of a row's operands that isn't allowed has this fault: those before it are spelled, and it is malformed.
@@ -87,18 +86,17 @@ pub data MalformedOperands (context : Context) : Row → List ℕ → Fault → 
   block_here : (size : ℕ) (next : Text → Row) (bytes : List ℕ) → length bytes < size
       → MalformedOperands context (Block size next) bytes past_the_end
   block_after : (next : Text → Row) (front rest : List ℕ) (fault : Fault)
-      → MalformedOperands context (next (block_of context front)) rest fault
+      → MalformedOperands context (next (as_text context front)) rest fault
       → MalformedOperands context (Block (length front) next) (front ++ rest) fault
 
 -- the bytes are an opcode and the spellings of its operands, and the operation is the one of its row
-pub data Spells (encoding : Encoding) (offset_bits : ℕ) (is_big : Bool) : List ℕ → Operation → Type 0 where
+pub data Spells (context : Context) : List ℕ → Operation → Type 0 where
   spelled : (opcode : ℕ) (operands : List ℕ) (op : Operation)
-      → SpellsOperands (context_of encoding offset_bits is_big) (row_of encoding opcode) operands op
-      → Spells encoding offset_bits is_big (opcode ∷ operands) op
+      → SpellsOperands context (row_of context.encoding opcode) operands op → Spells context (opcode ∷ operands) op
 
 -- no front of the bytes spells an operation, for this fault
-pub data Malformed (encoding : Encoding) (offset_bits : ℕ) (is_big : Bool) : List ℕ → Fault → Type 0 where
-  no_opcode : Malformed encoding offset_bits is_big [] past_the_end
+pub data Malformed (context : Context) : List ℕ → Fault → Type 0 where
+  no_opcode : Malformed context [] past_the_end
   bad_operands : (opcode : ℕ) (bytes : List ℕ) (fault : Fault)
-      → MalformedOperands (context_of encoding offset_bits is_big) (row_of encoding opcode) bytes fault
-      → Malformed encoding offset_bits is_big (opcode ∷ bytes) fault
+      → MalformedOperands context (row_of context.encoding opcode) bytes fault
+      → Malformed context (opcode ∷ bytes) fault

@@ -1,17 +1,19 @@
-ghost use Rattle.std.specs.Prelude.{◌≡◌, ◌+◌, ◌≤◌, ◌++◌, ℕ, Bool, List, Ok, Err, Option, length};
+ghost use Rattle.std.specs.Prelude.{◌≡◌, ◌+◌, ◌<◌, ◌≤◌, ◌++◌, ℕ, List, Ok, Err, Option, length};
 ghost use Rattle.dwarf_base.specs.declared.common.Encoding.{Encoding};
 ghost use Rattle.dwarf_base.specs.Faults.{Fault};
+ghost use Rattle.dwarf_base.specs.Fronts.{ReadsExactly, TakesFront};
 ghost use Rattle.dwarf_base.specs.Reads.{Text};
 ghost use Rattle.dwarf_meaning.specs.Operations.{Operation};
-ghost use Rattle.dwarf_meaning.specs.Decoding.{operation_at};
-ghost use Rattle.dwarf_meaning.specs.Spelling.{Spells};
+ghost use Rattle.dwarf_meaning.specs.Operands.{Context};
+ghost use Rattle.dwarf_meaning.specs.Decoding.{operation_at, operation_in};
+ghost use Rattle.dwarf_meaning.specs.Spelling.{Spells, Malformed};
 ghost use Rattle.dwarf_meaning.specs.Splitting.{Splitting};
 ghost use Rattle.dwarf_meaning.specs.Branches.{AreBytes, BranchesNear};
 ghost use Rattle.dwarf_meaning.specs.Requests.{Input};
 ghost use Rattle.dwarf_meaning.specs.Stores.{Setup, IsWithin, Store};
 ghost use Rattle.dwarf_meaning.specs.Run.{Position, Course, most, turn, run_for, enough, run, return_to_callers};
 ghost use Rattle.dwarf_meaning.specs.Meaning.{First, outcome_of_end, meaning};
-ghost use Rattle.dwarf_meaning.specs.DecodeLaws.{ReadsExactlyTheSpelled, IsDecided, IsWhole, SplitsOnce, IsSplitting, IsDecodingFault};
+ghost use Rattle.dwarf_meaning.specs.DecodeLaws.{IsDecided, SplitsOnce, IsSplitting, IsDecodingFault};
 ghost use Rattle.dwarf_meaning.specs.RunLaws.{turns_left, IsSettled, course_before, IsOver, EndTook, MaximaWithin, EndCounts, EndMaximumWithin, CountsWithin, ListsWithin, EndWithin, OutcomeWithin, outermost, EndOpen, OutcomeOpen};
 ghost use Rattle.dwarf_meaning.specs.Refusals.{Refusal};
 
@@ -21,21 +23,19 @@ ghost use Rattle.dwarf_meaning.specs.Refusals.{Refusal};
 /// begins with exactly one operation or is refused by exactly one fault, how it splits into operations, and
 /// that branches have operands of 16 bits.
 pub fn decode_laws()
-    ensures reading { (encoding : Encoding) (offset_bits : ℕ) (text : Text)
-        → ReadsExactlyTheSpelled encoding offset_bits text }
+    ensures reading { (context : Context)
+        → ReadsExactly (Spells context) (Malformed context) (operation_in context) }
     ensures faults { (encoding : Encoding) (offset_bits : ℕ) (text : Text) (fault : Fault)
         → operation_at encoding offset_bits text ≡ Err fault → IsDecodingFault fault }
-    ensures decided { (encoding : Encoding) (offset_bits : ℕ) (is_big : Bool) (bytes : List ℕ)
-        → IsDecided encoding offset_bits is_big bytes }
-    ensures whole { (encoding : Encoding) (offset_bits : ℕ) (is_big : Bool) (bytes : List ℕ)
-        (op : Operation) → Spells encoding offset_bits is_big bytes op
-        → IsWhole encoding offset_bits is_big bytes op }
-    ensures once { (encoding : Encoding) (offset_bits : ℕ) (is_big : Bool) (bytes : List ℕ)
-        → SplitsOnce encoding offset_bits is_big bytes }
-    ensures splitting { (encoding : Encoding) (offset_bits : ℕ) (is_big : Bool) (bytes : List ℕ)
-        (ops : List Operation) (fault : Option Fault)
-        → Splitting encoding offset_bits is_big bytes ops fault
-        → IsSplitting encoding offset_bits is_big bytes ops fault }
+    ensures decided { (context : Context) (bytes : List ℕ) → IsDecided context bytes }
+    ensures some_bytes { (context : Context) (bytes : List ℕ) (op : Operation)
+        → Spells context bytes op → 0 < length bytes }
+    ensures whole { (context : Context) (bytes : List ℕ) (op : Operation)
+        → Spells context bytes op → TakesFront (operation_in context) bytes op }
+    ensures once { (context : Context) (bytes : List ℕ) → SplitsOnce context bytes }
+    ensures splitting { (context : Context) (bytes : List ℕ) (ops : List Operation)
+        (fault : Option Fault) → Splitting context bytes ops fault
+        → IsSplitting context bytes ops fault }
     ensures branches { (encoding : Encoding) (offset_bits : ℕ) (text : Text) (op : Operation)
         (rest : List ℕ) → AreBytes text.bytes
         → operation_at encoding offset_bits text ≡ Ok (op, rest) → BranchesNear op }

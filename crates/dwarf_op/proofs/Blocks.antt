@@ -5,7 +5,7 @@ use Rattle.dwarf_base.specs.declared.errors.Error.{Error}
 use Rattle.dwarf_base.specs.Faults.{Fault, ◌>>=◌}
 use Rattle.dwarf_base.specs.Reads.{Text, Gives, Reads, split_at}
 use Rattle.dwarf_meaning.specs.Operations.{Operation}
-use Rattle.dwarf_meaning.specs.Operands.{Context, Form, block_of, context_of}
+use Rattle.dwarf_meaning.specs.Operands.{Context, Form, as_text, context_of}
 use Rattle.dwarf_meaning.specs.Opcodes.{sized_block}
 use Rattle.dwarf_meaning.specs.Decoding.{unsigned_at}
 use Rattle.dwarf_op.specs.Entries.{block_in, operands_in}
@@ -18,10 +18,10 @@ module _ (make : Text → Operation) where
 
   module _ (context : Context) where
     abbrev as_block : List ℕ × List ℕ → Result (Text × List ℕ) Fault
-    as_block x = Ok (block_of context x.0, x.1)
+    as_block x = Ok (as_text context x.0, x.1)
 
     abbrev as_operation : List ℕ × List ℕ → Result (Operation × List ℕ) Fault
-    as_operation x = Ok (make (block_of context x.0), x.1)
+    as_operation x = Ok (make (as_text context x.0), x.1)
 
     made_of : (bytes : Result (List ℕ × List ℕ) Fault) → (bytes >>= as_operation) ≡ made (bytes >>= as_block)
     made_of (Ok x) = refl

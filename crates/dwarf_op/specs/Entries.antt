@@ -7,7 +7,7 @@ use Rattle.dwarf_base.specs.declared.common.Encoding.{Encoding}
 use Rattle.dwarf_base.specs.Reads.{Text, split_at}
 use Rattle.dwarf_meaning.specs.Operations as meaning
 use Rattle.dwarf_meaning.specs.Decoding.{operands_at, unsigned_at}
-use Rattle.dwarf_meaning.specs.Operands.{block_of, context_of, Form, Fixed, Address, Leb128, RegisterNumber, PieceSize, SectionOffset, InfoReference, SignedForm, SignedFixed, SignedLeb128}
+use Rattle.dwarf_meaning.specs.Operands.{as_text, context_of, Form, Fixed, Address, Leb128, RegisterNumber, PieceSize, SectionOffset, InfoReference, SignedForm, SignedFixed, SignedLeb128}
 use Rattle.dwarf_meaning.specs.Operands as form
 use Rattle.dwarf_meaning.specs.Opcodes.{Row, Makes, Unsigned, Invalid, unsigned, signed, unsigned_two, unsigned_signed, sized_block, wasm_row}
 use Rattle.dwarf_op.specs.declared.opcodes.Plain.{Plain}
@@ -147,4 +147,4 @@ register_at bytes = uleb_at bytes >>= λ number. register_of number.0 >>= λ reg
 abbrev pub block_in : Encoding → (offset_bits : ℕ) → Text → Form → Result (Text × List ℕ) Fault
 block_in encoding offset_bits text size =
     let context = context_of encoding offset_bits text.is_big in
-    unsigned_at context size text.bytes >>= λ n. split_at n.0 n.1 >>= λ block. Ok (block_of context block.0, block.1)
+    unsigned_at context size text.bytes >>= λ n. split_at n.0 n.1 >>= λ block. Ok (as_text context block.0, block.1)

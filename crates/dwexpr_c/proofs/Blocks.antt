@@ -8,7 +8,7 @@ use Rattle.dwarf_base.specs.Faults.{Fault}
 use Rattle.dwarf_base.specs.declared.common.Encoding.{Encoding}
 use Rattle.dwarf_base.specs.Reads.{Text}
 use Rattle.dwarf_meaning.specs.Operations.{Operation}
-use Rattle.dwarf_meaning.specs.Operands.{Context, block_of}
+use Rattle.dwarf_meaning.specs.Operands.{Context, as_text, context_of}
 use Rattle.dwarf_meaning.specs.Opcodes.{Row, Makes, Unsigned, Signed, Block, Invalid, lines, row_of}
 use Rattle.dwarf_meaning.specs.Decoding.{operation_at}
 use Rattle.dwarf_meaning.specs.Spelling.{SpellsOperands, Spells}
@@ -148,12 +148,12 @@ spelled_end context row bytes op h (spelling.unsigned form next front rest value
 spelled_end context row bytes op h (spelling.signed form next front rest value op' s more) =
     more_before front rest (block_in op') (spelled_end context (next value) rest op' (h value) more)
 spelled_end context row bytes op h (spelling.block next front rest op' more) =
-    let last = spelled_last context (block_of context front) (next (block_of context front)) rest op' (h (block_of context front)) more in
+    let last = spelled_last context (as_text context front) (next (as_text context front)) rest op' (h (as_text context front)) more in
     let ends : EndIn front (Some front) = ([], refl) in
     let whole : front ≡ front ++ rest = sym (append_none front) ∙ ap (λ (xs : List ℕ). front ++ xs) (sym last.0) in
     subst (λ (o : Option (List ℕ)). EndIn (front ++ rest) o) (sym last.1) (subst (λ (xs : List ℕ). EndIn xs (Some front)) whole ends)
 
-pub operation_ends : (encoding : Encoding) (bits : ℕ) (big : Bool) (bytes : List ℕ) (op : Operation) → Spells encoding bits big bytes op → EndIn bytes (block_in op)
+pub operation_ends : (encoding : Encoding) (bits : ℕ) (big : Bool) (bytes : List ℕ) (op : Operation) → Spells (context_of encoding bits big) bytes op → EndIn bytes (block_in op)
 operation_ends encoding bits big bytes op (spelling.spelled opcode operands op' s) =
     more_before (opcode ∷ []) operands (block_in op') (spelled_end _ (row_of encoding opcode) operands op' (last_in_row encoding opcode) s)
 

@@ -1,4 +1,4 @@
-use Rattle.dwarf_meaning.proofs.Decoded.{reads_the_spelled, decided, whole_operation}
+use Rattle.dwarf_meaning.proofs.Decoded.{reads_the_spelled, decided, some_bytes, takes_operation}
 use Rattle.dwarf_meaning.proofs.Splittings.{splits_once, is_splitting}
 use Rattle.dwarf_meaning.proofs.Branches.{branches_near}
 use Rattle.dwarf_meaning.proofs.DecodingFaults.{decoding_fault}
@@ -8,9 +8,10 @@ pub returns : goal.returns
 returns c = record {
   reading = reads_the_spelled;
   faults = decoding_fault;
-  decided = decided;
-  whole = whole_operation;
-  once = splits_once;
-  splitting = is_splitting;
+  decided = λ context. decided context.encoding context.offset_bits context.is_big;
+  some_bytes = λ context. some_bytes context.encoding context.offset_bits context.is_big;
+  whole = takes_operation;
+  once = λ context. splits_once context.encoding context.offset_bits context.is_big;
+  splitting = λ context. is_splitting context.encoding context.offset_bits context.is_big;
   branches = branches_near;
 }

@@ -20,9 +20,8 @@ use Rattle.dwarf_meaning.specs.Acts.{act, Use, PushesAnswer, Calls, FaultUse, us
 use Rattle.dwarf_meaning.specs.Stores.{Setup, address_bits, Store, Last, Nothing, Plain, Pieced, Pushed, Called, Located, push_value, push_caller, done}
 use Rattle.dwarf_meaning.specs.Run.{Position, End, CompleteEnd, RequestEnd, FaultEnd, Course, only_end, add_to_path, add_request, return_to_caller, run_callee, after_answer, await_answer, after_operation, read, can_count, counted, do_operation, turn_counted, counted_act, located_act, turn_by, run}
 use Rattle.dwarf_meaning.specs.Meaning.{First}
-use Rattle.dwarf_meaning.specs.RunLaws.{EndOpen}
 use Rattle.dwarf_meaning.proofs.Turns.{run_turn}
-use Rattle.dwarf_meaning.proofs.Callees.{run_open}
+use Rattle.dwarf_meaning.proofs.Callees.{EndOpen, run_open}
 use Rattle.dwarf_meaning.proofs.Decoded.{spelled_operation, some_bytes}
 use Rattle.dwarf_laws.proofs.Jumps.{straight_jumps, act_jumps}
 use Rattle.dwarf_laws.proofs.Calm.{free, calm}

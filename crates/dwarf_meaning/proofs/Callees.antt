@@ -1,5 +1,6 @@
 -- The texts that are open in a request are the text that is run and callees, which were answered.
-use Rattle.std.proofs.Common.{ℕ, zero, suc, ◌≡◌, ◌<◌, inl, inr, List, [], ◌∷◌, length, Option, Some, None, Result, Ok, Err, arith, refl, sym, subst, ◌==◌}
+use Rattle.std.proofs.Common.{ℕ, zero, suc, ◌≡◌, ◌<◌, List, [], ◌∷◌, length, Option, Some, None, Result, Ok, Err, arith, refl, sym, subst, ◌==◌}
+use Rattle.std.specs.Prelude.{Any}
 use Rattle.std.proofs.lemmas.Bool.{cond_both}
 use Rattle.dwarf_base.specs.Faults.{Fault}
 use Rattle.dwarf_base.specs.Reads.{Text}
@@ -11,10 +12,20 @@ use Rattle.dwarf_meaning.specs.Acts.{Act, Use, PushesAnswer, Calls, FaultUse, us
 use Rattle.dwarf_meaning.specs.Stores.{Setup, address_bits, Store, Last, Nothing, Plain, Pieced, Pushed, Called, Located, push_value, push_caller, Next, Goes, RequestNext, FaultNext}
 use Rattle.dwarf_meaning.specs.Run.{Position, End, CompleteEnd, RequestEnd, FaultEnd, Course, Continues, return_to_caller, after_push, enter_callee, run_callee, after_answer, with_input, await_answer, after_operation, read, can_count, counted, do_operation, turn_counted, counted_act, located_act, turn_by, turn, out_of_turns, run_for, enough, run}
 use Rattle.dwarf_meaning.specs.Meaning.{completion_of, has_pieces, finish_value, finish_by, First, fresh, with_initial, outcome_of_end, course_of, meaning}
-use Rattle.dwarf_meaning.specs.RunLaws.{IsAnswered, IsCallee, Open, alone, calling, EndOpen, OutcomeOpen}
+use Rattle.dwarf_meaning.specs.RunLaws.{IsCallee, Open, alone, calling, OutcomeOpen}
 use Rattle.dwarf_meaning.specs.Refusals.{Refusal}
 use Rattle.dwarf_meaning.proofs.Choices.{top_both}
 use Rattle.dwarf_meaning.proofs.Effects.{IsUseOf, use_is}
+
+-- one of the answers is this text
+abbrev IsAnswered : Text → List Input → Type 0
+IsAnswered text inputs = Any (λ (input : Input). input.answer ≡ LocationAnswer text) inputs
+
+answered_here : (text : Text) (input : Input) (inputs : List Input) → input.answer ≡ LocationAnswer text → IsAnswered text (input ∷ inputs)
+answered_here text input inputs e = (0, input, omega arith, refl, e)
+
+answered_later : (text : Text) (input : Input) (inputs : List Input) → IsAnswered text inputs → IsAnswered text (input ∷ inputs)
+answered_later text input inputs a = (suc a.0, a.1, omega (arith, a.2), a.3, a.4)
 
 -- the answers of these inputs are among all of them
 abbrev Known : (all : List Input) → List Input → Type 0
@@ -23,7 +34,7 @@ Known all (input ∷ inputs) = ((text : Text) → input.answer ≡ LocationAnswe
 
 known_within : (all inputs : List Input) → ((text : Text) → IsAnswered text inputs → IsAnswered text all) → Known all inputs
 known_within all [] h = tt
-known_within all (input ∷ inputs) h = ((λ text e. h text (inl e)), known_within all inputs (λ text i. h text (inr i)))
+known_within all (input ∷ inputs) h = ((λ text e. h text (answered_here text input inputs e)), known_within all inputs (λ text i. h text (answered_later text input inputs i)))
 
 known_all : (all : List Input) → Known all all
 known_all all = known_within all all (λ text h. h)
@@ -101,7 +112,12 @@ module _ (all : List Input) where
   opens_run_for zero setup = opens_turn out_of_turns (λ text place depth s inputs k. tt) setup
   opens_run_for (suc turns) setup = opens_turn (run_for turns setup) (opens_run_for turns setup) setup
 
-  end_open : (text : Text) (end : End) → Ends text end → EndOpen all text end
+  -- at a request the open texts are the text and callees
+  abbrev pub EndOpen : Text → End → Type 0
+  EndOpen text (RequestEnd request positions left) = Open all text positions
+  EndOpen text _ = Unit {0}
+
+  end_open : (text : Text) (end : End) → Ends text end → EndOpen text end
   end_open text (CompleteEnd s left) h = tt
   end_open text (RequestEnd request positions left) h = h
   end_open text (FaultEnd fault) h = tt
@@ -132,6 +148,9 @@ module _ (inputs : List Input) (text : Text) where
 
 pub run_open : (setup : Setup) (text : Text) (place depth : ℕ) (s : Store) (inputs : List Input) → EndOpen inputs text (run setup text place depth s inputs).end
 run_open setup text place depth s inputs = end_open inputs text _ (opens_run_for inputs enough setup text place depth s inputs (known_all inputs))
+
+pub run_opens : (setup : Setup) (text : Text) (place depth : ℕ) (s : Store) (inputs : List Input) → OutcomeOpen inputs text (outcome_of_end setup (run setup text place depth s inputs).end)
+run_opens setup text place depth s inputs = ended_open inputs text setup _ (opens_run_for inputs enough setup text place depth s inputs (known_all inputs))
 
 pub meaning_open : (setup : Setup) (refusal : Refusal) (text : Text) (first : First) (inputs : List Input) → OutcomeOpen inputs text (meaning setup refusal text first inputs)
 unfolding meaning

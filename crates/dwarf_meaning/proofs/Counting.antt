@@ -1,5 +1,7 @@
 -- Each operation of a run's path is counted once, and none beyond a bound on the maxima.
 use Rattle.std.proofs.Common.{ℕ, zero, suc, ◌≡◌, ◌+◌, ◌≤◌, ◌<◌, List, [], ◌∷◌, ◌++◌, length, Result, Ok, Err, arith, subst, ◌==◌, length-append, ◌-◌}
+use Rattle.std.specs.Prelude.{All}
+use Rattle.std.proofs.lemmas.List.Elements.{All-head, All-tail}
 use Rattle.std.proofs.lemmas.Bool.{cond_both}
 use Rattle.std.proofs.lemmas.Bool.Decides.{nat_tests}
 use Rattle.dwarf_base.specs.Faults.{Fault}
@@ -11,8 +13,17 @@ use Rattle.dwarf_meaning.specs.Kinds.{kind_of_request, kind_of_answer, is_same_k
 use Rattle.dwarf_meaning.specs.Acts.{Act, Use, PushesAnswer, Calls, FaultUse, use_of}
 use Rattle.dwarf_meaning.specs.Stores.{Setup, address_bits, Store, Last, Nothing, Plain, Pieced, Pushed, Called, Located, Next, Goes, RequestNext, FaultNext}
 use Rattle.dwarf_meaning.specs.Run.{Position, End, CompleteEnd, RequestEnd, FaultEnd, Course, only_end, add_to_path, add_request, append_course, Continues, return_to_caller, after_push, enter_callee, run_callee, after_answer, with_input, await_answer, after_operation, read, most, can_count, counted, do_operation, turn_counted, counted_act, located_act, turn_by, turn, out_of_turns, run_for, enough, run}
-use Rattle.dwarf_meaning.specs.RunLaws.{AllMaxima, MaximaWithin, EndCounts, EndCountWithin, EndMaximumWithin, CountsWithin}
+use Rattle.dwarf_meaning.specs.RunLaws.{MaximaWithin, AtEnd, CountsWithin}
 use Rattle.dwarf_meaning.proofs.Counts.{OnStore, OnNext, Tally, tally_of, HasTally, tally-push_value, tally-push_caller, tally-done}
+
+-- P holds of each maximum that they set
+abbrev AllMaxima : (ℕ → Type 0) → List Input → Type 0
+AllMaxima P [] = Unit {0}
+AllMaxima P (input ∷ inputs) = P input.maximum × AllMaxima P inputs
+
+all_maxima : (P : ℕ → Type 0) (inputs : List Input) → All (λ (input : Input). P input.maximum) inputs → AllMaxima P inputs
+all_maxima P [] h = tt
+all_maxima P (input ∷ inputs) h = let Q : Input → Type 0 = λ input. P input.maximum in (All-head Q input inputs h, all_maxima P inputs (All-tail Q input inputs h))
 
 -- what is known of each maximum, and the bound on counts that it gives
 pub record Bounded (bound : ℕ) (Fits : ℕ → Type 0) : Type 0 where
@@ -152,17 +163,17 @@ all_any : (inputs : List Input) → AllMaxima (λ m. Unit {0}) inputs
 all_any [] = tt
 all_any (input ∷ inputs) = (tt, all_any inputs)
 
-count_at : (bound total : ℕ) (Fits : ℕ → Type 0) (end : End) → total ≤ bound → EndStands Fits total end → EndCountWithin bound end
+count_at : (bound total : ℕ) (Fits : ℕ → Type 0) (end : End) → total ≤ bound → EndStands Fits total end → AtEnd (λ s. s.count ≤ bound) end
 count_at bound total Fits (CompleteEnd s left) h i = omega (arith, h, i.count)
 count_at bound total Fits (RequestEnd request positions left) h i = tt
 count_at bound total Fits (FaultEnd fault) h i = tt
 
-total_at : (total : ℕ) (Fits : ℕ → Type 0) (end : End) → EndStands Fits total end → EndCounts total end
+total_at : (total : ℕ) (Fits : ℕ → Type 0) (end : End) → EndStands Fits total end → AtEnd (λ s. s.count ≡ total) end
 total_at total Fits (CompleteEnd s left) i = i.count
 total_at total Fits (RequestEnd request positions left) i = tt
 total_at total Fits (FaultEnd fault) i = tt
 
-maximum_at : (bound total : ℕ) (end : End) → EndStands (λ m. m ≤ bound) total end → EndMaximumWithin bound end
+maximum_at : (bound total : ℕ) (end : End) → EndStands (λ m. m ≤ bound) total end → AtEnd (λ s. s.maximum ≤ bound) end
 maximum_at bound total (CompleteEnd s left) i = i.maximum
 maximum_at bound total (RequestEnd request positions left) i = tt
 maximum_at bound total (FaultEnd fault) i = tt
@@ -172,16 +183,16 @@ counts_within bound start Fits course h = record { few = omega (arith, h.few); c
 
 pub count_within : (bound : ℕ) (setup : Setup) (text : Text) (place depth : ℕ) (s : Store) (inputs : List Input) → s.count ≤ bound → s.maximum ≤ bound → MaximaWithin bound inputs → CountsWithin bound s.count (run setup text place depth s inputs)
 count_within bound setup text place depth s inputs h i j =
-    counts_within bound s.count _ _ (counted_run_for bound (λ m. m ≤ bound) (within_bounded bound) enough setup text place depth s inputs (record { count = h; maximum = i; others = j }))
+    counts_within bound s.count _ _ (counted_run_for bound (λ m. m ≤ bound) (within_bounded bound) enough setup text place depth s inputs (record { count = h; maximum = i; others = all_maxima (λ m. m ≤ bound) inputs j }))
 
-pub maximum_within : (bound : ℕ) (setup : Setup) (text : Text) (place depth : ℕ) (s : Store) (inputs : List Input) → s.count ≤ bound → s.maximum ≤ bound → MaximaWithin bound inputs → EndMaximumWithin bound (run setup text place depth s inputs).end
+pub maximum_within : (bound : ℕ) (setup : Setup) (text : Text) (place depth : ℕ) (s : Store) (inputs : List Input) → s.count ≤ bound → s.maximum ≤ bound → MaximaWithin bound inputs → AtEnd (λ s. s.maximum ≤ bound) (run setup text place depth s inputs).end
 maximum_within bound setup text place depth s inputs h i j =
-    maximum_at bound _ _ (counted_run_for bound (λ m. m ≤ bound) (within_bounded bound) enough setup text place depth s inputs (record { count = h; maximum = i; others = j })).at_end
+    maximum_at bound _ _ (counted_run_for bound (λ m. m ≤ bound) (within_bounded bound) enough setup text place depth s inputs (record { count = h; maximum = i; others = all_maxima (λ m. m ≤ bound) inputs j })).at_end
 
 more_bounded : (start : ℕ) → Bounded (start + most) (λ m. Unit {0})
 more_bounded start = record { below = λ m h n i j. omega (arith, j) }
 
-pub counts_path : (setup : Setup) (text : Text) (place depth : ℕ) (s : Store) (inputs : List Input) → let course = run setup text place depth s inputs in EndCounts (s.count + length course.path) course.end
+pub counts_path : (setup : Setup) (text : Text) (place depth : ℕ) (s : Store) (inputs : List Input) → let course = run setup text place depth s inputs in AtEnd (λ end. end.count ≡ s.count + length course.path) course.end
 counts_path setup text place depth s inputs =
     total_at _ (λ m. Unit {0}) _ (counted_run_for (s.count + most) (λ m. Unit {0}) (more_bounded s.count) enough setup text place depth s inputs (record { count = omega arith; maximum = tt; others = all_any inputs })).at_end
 

@@ -1,5 +1,5 @@
 -- Laws of runs: turns, inputs, counts, limits and calls (DWARF 5, section 2.5).
-use Rattle.std.specs.Prelude.{ℕ, ◌+◌, ◌-◌, ◌*◌, ◌<◌, ◌≤◌, ◌≡◌, ◌⊎◌, List, [], ◌∷◌, ◌++◌, Option, length}
+use Rattle.std.specs.Prelude.{ℕ, ◌+◌, ◌-◌, ◌*◌, ◌<◌, ◌≤◌, ◌≡◌, List, [], ◌∷◌, ◌++◌, Option, length, All, Any}
 use Rattle.dwarf_meaning.specs.Requests.{Request, Input, LocationAnswer}
 use Rattle.dwarf_meaning.specs.Stores.{IsWithin, Store, Last, Located}
 use Rattle.dwarf_meaning.specs.Run.{Position, End, CompleteEnd, RequestEnd, FaultEnd, Course, most}
@@ -60,34 +60,19 @@ IsOver _ = Unit {0}
 
 -- ---- counts
 
--- P holds of each maximum that they set
-abbrev pub AllMaxima : (ℕ → Type 0) → List Input → Type 0
-AllMaxima P [] = Unit {0}
-AllMaxima P (input ∷ inputs) = P input.maximum × AllMaxima P inputs
-
 -- no input sets a maximum beyond the bound
 abbrev pub MaximaWithin : (bound : ℕ) → List Input → Type 0
-MaximaWithin bound inputs = AllMaxima (λ m. m ≤ bound) inputs
+MaximaWithin bound inputs = All (λ (input : Input). input.maximum ≤ bound) inputs
 
--- at the end of the text this many operations are counted
-abbrev pub EndCounts : (total : ℕ) → End → Type 0
-EndCounts total (CompleteEnd s left) = s.count ≡ total
-EndCounts total _ = Unit {0}
-
--- at the end of the text the count is within the bound
-abbrev pub EndCountWithin : (bound : ℕ) → End → Type 0
-EndCountWithin bound (CompleteEnd s left) = s.count ≤ bound
-EndCountWithin bound _ = Unit {0}
-
--- at the end of the text the maximum in force is within the bound
-abbrev pub EndMaximumWithin : (bound : ℕ) → End → Type 0
-EndMaximumWithin bound (CompleteEnd s left) = s.maximum ≤ bound
-EndMaximumWithin bound _ = Unit {0}
+-- if it ends at the end of the text, P holds of what is kept there
+abbrev pub AtEnd : (Store → Type 0) → End → Type 0
+AtEnd P (CompleteEnd s left) = P s
+AtEnd P _ = Unit {0}
 
 -- If `start` operations were counted before, no more are counted in all than the bound.
 pub record CountsWithin (bound start : ℕ) (course : Course) : Type 0 where
   pub few : length course.path ≤ bound - start
-  pub count : EndCountWithin bound course.end
+  pub count : AtEnd (λ s. s.count ≤ bound) course.end
 
 -- ---- limits
 
@@ -124,14 +109,9 @@ outermost text (caller ∷ callers) = outermost caller.text callers
 
 -- ---- calls
 
--- one of the answers is this text
-abbrev pub IsAnswered : Text → List Input → Type 0
-IsAnswered text [] = ⊥
-IsAnswered text (input ∷ inputs) = (input.answer ≡ LocationAnswer text) ⊎ IsAnswered text inputs
-
 -- a text that is run in a call's place, which answers the call with some bytes
 pub record IsCallee (inputs : List Input) (text : Text) : Type 0 where
-  pub answered : IsAnswered text inputs
+  pub answered : Any (λ (input : Input). input.answer ≡ LocationAnswer text) inputs
   pub some_bytes : 0 < length text.bytes
 
 -- the texts that are open in a run of a text: the text alone, or those that are open in its callee and then the text
@@ -140,11 +120,6 @@ pub data Open (inputs : List Input) : Text → List Position → Type 0 where
   calling : (position : Position) (callee : Text) (positions : List Position) → IsCallee inputs callee
       → Open inputs callee positions
       → Open inputs position.text (positions ++ position ∷ [])
-
--- at a request the open texts are the text and callees
-abbrev pub EndOpen : List Input → Text → End → Type 0
-EndOpen inputs text (RequestEnd request positions left) = Open inputs text positions
-EndOpen inputs text _ = Unit {0}
 
 -- in a request that comes of a text the open texts are the text and callees
 abbrev pub OutcomeOpen : List Input → Text → Outcome → Type 0

@@ -14,7 +14,7 @@ ghost use Rattle.dwarf_meaning.specs.Stores.{Setup, IsWithin, Store};
 ghost use Rattle.dwarf_meaning.specs.Run.{Position, Course, most, turn, run_for, enough, run, return_to_callers};
 ghost use Rattle.dwarf_meaning.specs.Meaning.{First, outcome_of_end, meaning};
 ghost use Rattle.dwarf_meaning.specs.DecodeLaws.{IsDecided, SplitsOnce, IsSplitting, IsDecodingFault};
-ghost use Rattle.dwarf_meaning.specs.RunLaws.{turns_left, IsSettled, course_before, IsOver, EndTook, MaximaWithin, EndCounts, EndMaximumWithin, CountsWithin, ListsWithin, EndWithin, OutcomeWithin, outermost, EndOpen, OutcomeOpen};
+ghost use Rattle.dwarf_meaning.specs.RunLaws.{turns_left, IsSettled, course_before, IsOver, EndTook, MaximaWithin, AtEnd, CountsWithin, ListsWithin, EndWithin, OutcomeWithin, outermost, OutcomeOpen};
 ghost use Rattle.dwarf_meaning.specs.Refusals.{Refusal};
 
 /// Laws of decoding, for every text.
@@ -71,13 +71,13 @@ pub fn run_laws()
     ensures counts { (setup : Setup) (text : Text) (place depth : ℕ) (s : Store)
         (inputs : List Input)
         → let course = run setup text place depth s inputs in
-        EndCounts (s.count + length course.path) course.end }
+        AtEnd (λ end. end.count ≡ s.count + length course.path) course.end }
     ensures maximum { (bound : ℕ) (setup : Setup) (text : Text) (place depth : ℕ) (s : Store)
         (inputs : List Input) → s.count ≤ bound → s.maximum ≤ bound → MaximaWithin bound inputs
         → CountsWithin bound s.count (run setup text place depth s inputs) }
     ensures maximum_kept { (bound : ℕ) (setup : Setup) (text : Text) (place depth : ℕ) (s : Store)
         (inputs : List Input) → s.count ≤ bound → s.maximum ≤ bound → MaximaWithin bound inputs
-        → EndMaximumWithin bound (run setup text place depth s inputs).end }
+        → AtEnd (λ end. end.maximum ≤ bound) (run setup text place depth s inputs).end }
     ensures most_of_all { (setup : Setup) (text : Text) (place depth : ℕ) (s : Store)
         (inputs : List Input) → s.count ≤ most
         → CountsWithin most s.count (run setup text place depth s inputs) }
@@ -93,7 +93,9 @@ pub fn run_laws()
         (inputs : List Input)
         → OutcomeWithin setup.limits text (meaning setup refusal text first inputs) }
     ensures callees { (setup : Setup) (text : Text) (place depth : ℕ) (s : Store)
-        (inputs : List Input) → EndOpen inputs text (run setup text place depth s inputs).end }
+        (inputs : List Input)
+        → OutcomeOpen inputs text
+        (outcome_of_end setup (run setup text place depth s inputs).end) }
     ensures callees_of_meaning { (setup : Setup) (refusal : Refusal) (text : Text) (first : First)
         (inputs : List Input) → OutcomeOpen inputs text (meaning setup refusal text first inputs) }
 {}

@@ -3,7 +3,7 @@ use Rattle.dwarf_meaning.proofs.Inputs.{extends_run, over_meaning}
 use Rattle.dwarf_meaning.proofs.Taken.{run_takes}
 use Rattle.dwarf_meaning.proofs.Counting.{counts_path, count_within, maximum_within, count_at_most}
 use Rattle.dwarf_meaning.proofs.Limited.{run_within, callers_within, meaning_within}
-use Rattle.dwarf_meaning.proofs.Callees.{run_open, meaning_open}
+use Rattle.dwarf_meaning.proofs.Callees.{run_opens, meaning_open}
 use Rattle.dwarf_meaning.proofs.laws.run_laws.Goals as goal
 
 pub returns : goal.returns
@@ -21,6 +21,6 @@ returns c = record {
   within = run_within;
   within_callers = callers_within;
   within_meaning = meaning_within;
-  callees = run_open;
+  callees = run_opens;
   callees_of_meaning = meaning_open;
 }

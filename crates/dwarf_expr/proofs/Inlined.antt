@@ -8,7 +8,8 @@ use Rattle.dwarf_meaning.specs.Requests.{Request, LocationAnswer, Input}
 use Rattle.dwarf_meaning.specs.Stores.{Setup}
 use Rattle.dwarf_meaning.specs.Meaning.{Outcome, FaultOutcome, First, meaning}
 use Rattle.dwarf_meaning.specs.Rest.{State, FaultStatus}
-use Rattle.dwarf_meaning.specs.Steps.{Step, Evaluate, Resume, Told, Reply, outcome_from, outcome_of, AllAllowed, after_steps}
+use Rattle.dwarf_meaning.proofs.Outcomes.{outcome_from}
+use Rattle.dwarf_meaning.specs.Steps.{Step, Evaluate, Resume, Told, Reply, outcome_of, AllAllowed, after_steps}
 use Rattle.dwarf_meaning.specs.Rows.{no_limits, unset}
 use Rattle.dwarf_meaning.specs.Refusals.{Never}
 use Rattle.dwarf_laws.specs.Rows.{IsWorked}

@@ -6,9 +6,10 @@ use Rattle.dwarf_base.specs.declared.errors.Error.TheVariants.{StackFull}
 use Rattle.dwarf_base.specs.Reads.{Text}
 use Rattle.dwarf_meaning.specs.Requests.{Answer, Input}
 use Rattle.dwarf_meaning.specs.Stores.{Setup}
-use Rattle.dwarf_meaning.specs.Meaning.{Outcome, RequestOutcome, FaultOutcome, CompleteOutcome, First, meaning}
-use Rattle.dwarf_meaning.specs.RunLaws.{IsOver}
-use Rattle.dwarf_meaning.specs.Steps.{Step, InitialValue, ObjectAddress, MaxIterations, Evaluate, Resume, Told, outcome_from, outcome_of, Awaits, Allows, begun, heard, after, step_replies, after_step, after_steps, AllAllowed, replies_of}
+use Rattle.dwarf_meaning.specs.Meaning.{IsOver, Outcome, RequestOutcome, FaultOutcome, CompleteOutcome, First, meaning}
+use Rattle.std.specs.Option.{unwrap_or}
+use Rattle.dwarf_meaning.proofs.Outcomes.{outcome_from}
+use Rattle.dwarf_meaning.specs.Steps.{Step, InitialValue, ObjectAddress, MaxIterations, Evaluate, Resume, Told, outcome_of, Awaits, Allows, heard, after, step_replies, after_step, after_steps, AllAllowed, replies_of}
 use Rattle.dwarf_meaning.specs.Refusals.{Refusal, Never}
 use Rattle.dwarf_meaning.proofs.Inputs.{over_meaning}
 use Rattle.dwarf_laws.specs.TwoRuns.{NoneIsFull}
@@ -24,7 +25,7 @@ abbrev tell : Told → Step → Told
 tell told (InitialValue number) = record told { settings = record told.settings { initial_value = Some number } }
 tell told (ObjectAddress address) = record told { settings = record told.settings { object_address = Some address } }
 tell told (MaxIterations maximum) = record told { settings = record told.settings { maximum = maximum } }
-tell told Evaluate = record told { first = Some (begun told.settings told.first) }
+tell told Evaluate = record told { first = Some (unwrap_or told.first told.settings) }
 tell told (Resume answer) =
     record told {
       inputs =
@@ -69,7 +70,7 @@ tells_inputs told (Resume answer ∷ steps) =
     } in
     tells_inputs (tell told (Resume answer)) steps ∙ append_assoc told.inputs (input ∷ []) (added told.settings steps)
 
-same_begun : (settings first : First) (o : Option First) → o ≡ Some first → Some (begun settings o) ≡ Some first
+same_begun : (settings first : First) (o : Option First) → o ≡ Some first → Some (unwrap_or o settings) ≡ Some first
 same_begun settings first None e = absurd (cc)
 same_begun settings first (Some other) e = e
 
@@ -91,7 +92,7 @@ module _ (setup : Setup) (refusal : Refusal) (text : Text) where
 
   begun_keeps : (settings : First) (inputs : List Input) (o : Option First) (fault : Fault)
       → outcome_from setup refusal text inputs o ≡ Some (FaultOutcome fault)
-      → outcome_from setup refusal text inputs (Some (begun settings o)) ≡ Some (FaultOutcome fault)
+      → outcome_from setup refusal text inputs (Some (unwrap_or o settings)) ≡ Some (FaultOutcome fault)
   begun_keeps settings inputs None fault e = absurd (cc)
   begun_keeps settings inputs (Some first) fault e = e
 

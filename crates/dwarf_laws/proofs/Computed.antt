@@ -7,8 +7,9 @@ use Rattle.dwarf_meaning.specs.Operations.{UnitRef}
 use Rattle.dwarf_meaning.specs.Requests.{Request, RequiresAtLocation, Answer, Input}
 use Rattle.dwarf_meaning.specs.Stores.{Setup}
 use Rattle.dwarf_meaning.specs.Run.{Position, End, RequestEnd, Course, most, enough, run_for}
-use Rattle.dwarf_meaning.specs.Meaning.{Outcome, RequestOutcome, FaultOutcome, fresh, course_of, meaning}
-use Rattle.dwarf_meaning.specs.Steps.{Step, Evaluate, Resume, Told, outcome_of, Awaits, IsEvaluable, Allows, after, Reply, RequestReply, reply, replies, step_replies, after_step, after_steps, AllAllowed, replies_of, untold}
+use Rattle.dwarf_meaning.specs.Meaning.{IsOver, Outcome, RequestOutcome, FaultOutcome, fresh, course_of, meaning}
+use Rattle.std.specs.Option.{IfSome}
+use Rattle.dwarf_meaning.specs.Steps.{Step, Evaluate, Resume, Told, outcome_of, Awaits, Allows, after, Reply, RequestReply, reply, replies, step_replies, after_step, after_steps, AllAllowed, replies_of, untold}
 use Rattle.dwarf_meaning.specs.Rows.{text, plain, unset, given}
 use Rattle.dwarf_meaning.specs.Refusals.{Never}
 use Rattle.dwarf_meaning.proofs.FewTurns.{outcome_for, twenty, in_twenty}
@@ -98,7 +99,7 @@ module _ (setup : Setup) (text : Text) where
 
   -- the start, and then the answers
   pub starts : (told : Told) (o : Option Outcome) (outcome : Outcome) (xs : List (Answer × Outcome))
-      → outcome_of setup Never text told ≡ o → IsEvaluable o
+      → outcome_of setup Never text told ≡ o → IfSome o IsOver
       → outcome_of setup Never text (after told o Evaluate) ≡ Some outcome → Computed (after told o Evaluate) outcome xs
       → ComeFrom told (Evaluate ∷ map Resume (answers_in xs)) (reply outcome ∷ replied_to xs) (last_of outcome xs)
   starts told o outcome xs e a now h =

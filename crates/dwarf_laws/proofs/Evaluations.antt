@@ -8,8 +8,11 @@ use Rattle.dwarf_base.specs.Reads.{Text}
 use Rattle.dwarf_value.specs.Laws.{IsWidth}
 use Rattle.dwarf_meaning.specs.Requests.{Answer, Input}
 use Rattle.dwarf_meaning.specs.Stores.{Setup, address_bits}
-use Rattle.dwarf_meaning.specs.Meaning.{Outcome, FaultOutcome, First, course_of}
-use Rattle.dwarf_meaning.specs.Steps.{Step, InitialValue, ObjectAddress, MaxIterations, Evaluate, Resume, Told, outcome_from, outcome_of, IsEvaluable, Awaits, IsUntold, Allows, begun, heard, after, Reply, reply, replies, step_replies, after_step, replies_of, untold}
+use Rattle.dwarf_meaning.specs.Meaning.{IsOver, Outcome, FaultOutcome, First, course_of}
+use Rattle.std.specs.Option.{unwrap_or}
+use Rattle.std.specs.Option.{IfSome}
+use Rattle.dwarf_meaning.proofs.Outcomes.{outcome_from}
+use Rattle.dwarf_meaning.specs.Steps.{Step, InitialValue, ObjectAddress, MaxIterations, Evaluate, Resume, Told, outcome_of, Awaits, IsUntold, Allows, heard, after, Reply, reply, replies, step_replies, after_step, replies_of, untold}
 use Rattle.dwarf_meaning.specs.Refusals.{Limits, Refusal}
 use Rattle.dwarf_laws.specs.Agreement.{Both, nothing, something, AgreeingAnswers, AgreeingSteps, initial_value, object_address, max_iterations, evaluate, resume, AgreeingFirsts, AgreeingInputs, AgreeingTold, AgreeingOutcomes, requests, faults, completions}
 use Rattle.dwarf_laws.specs.TwoRuns.{NoneIsFull, StandAlike, AreAlike, TwoRuns}
@@ -28,7 +31,7 @@ none_back R x y nothing e = refl
 none_back R x y (something r) e = cc
 
 module _ (w : ℕ) where
-  evaluable_both : (o o' : Option Outcome) → Both (AgreeingOutcomes w) o o' → IsEvaluable o ↔ IsEvaluable o'
+  evaluable_both : (o o' : Option Outcome) → Both (AgreeingOutcomes w) o o' → IfSome o IsOver ↔ IfSome o' IsOver
   evaluable_both o o' nothing = (λ h. h, λ h. h)
   evaluable_both o o' (something requests) = (λ h. h, λ h. h)
   evaluable_both o o' (something faults) = (λ h. h, λ h. h)
@@ -60,7 +63,7 @@ module _ (w : ℕ) where
   -- ---- what a step tells
 
   begun_both : (x y : First) (f g : Option First) → AgreeingFirsts w x y → Both (AgreeingFirsts w) f g
-      → AgreeingFirsts w (begun x f) (begun y g)
+      → AgreeingFirsts w (unwrap_or f x) (unwrap_or g y)
   begun_both x y f g a nothing = a
   begun_both x y f g a (something b) = b
 

@@ -8,8 +8,8 @@ use Rattle.dwarf_meaning.specs.Kinds.{kind_of_request, kind_of_answer, is_same_k
 use Rattle.dwarf_meaning.specs.Acts.{Act, Use, PushesAnswer, Calls, FaultUse, use_of}
 use Rattle.dwarf_meaning.specs.Stores.{Setup, address_bits, Store, Last, Nothing, Plain, Pieced, Pushed, Called, Located, push_value, push_caller, Next, Goes, RequestNext, FaultNext}
 use Rattle.dwarf_meaning.specs.Run.{Position, End, CompleteEnd, RequestEnd, FaultEnd, Course, add_to_path, add_request, append_course, Continues, return_to_caller, after_push, enter_callee, run_callee, after_answer, with_input, await_answer, after_operation, read, can_count, counted, do_operation, turn_counted, counted_act, located_act, turn_by, turn, out_of_turns, run_for, enough, run}
-use Rattle.dwarf_meaning.specs.Meaning.{First, fresh, with_initial, outcome_of_end, course_of, meaning}
-use Rattle.dwarf_meaning.specs.RunLaws.{IsSettled, end_before, course_before, IsOver}
+use Rattle.dwarf_meaning.specs.Meaning.{IsOver, First, fresh, with_initial, outcome_of_end, course_of, meaning}
+use Rattle.dwarf_meaning.specs.RunLaws.{IsSettled, end_before, course_before}
 use Rattle.dwarf_meaning.specs.Refusals.{Refusal}
 
 -- the second is the first with more inputs left, if the first waits for none

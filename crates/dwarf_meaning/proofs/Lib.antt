@@ -17,3 +17,4 @@ pub mod Effects
 pub mod Limited
 pub mod Callees
 pub mod Taken
+pub mod Outcomes

@@ -21,6 +21,11 @@ pub data Outcome : Type 0 where
   FaultOutcome : Fault → Outcome
   CompleteOutcome : List Piece → Option Value → Outcome
 
+-- it asks nothing more
+abbrev pub IsOver : Outcome → Type 0
+IsOver (RequestOutcome request positions) = ⊥
+IsOver _ = Unit {0}
+
 -- completion with this value, if the last push found room
 abbrev pub completion_of : Option Value → Result Store Fault → Outcome
 completion_of value (Ok s) = CompleteOutcome s.pieces value

@@ -53,11 +53,6 @@ EndTook inputs requests (CompleteEnd s left) = Took inputs left requests
 EndTook inputs requests (RequestEnd request positions left) = IsAskedLast inputs left request requests
 EndTook inputs requests (FaultEnd fault) = length requests ≤ length inputs
 
--- it asks nothing more
-abbrev pub IsOver : Outcome → Type 0
-IsOver (RequestOutcome request positions) = ⊥
-IsOver _ = Unit {0}
-
 -- ---- counts
 
 -- no input sets a maximum beyond the bound

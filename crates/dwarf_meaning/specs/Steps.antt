@@ -1,11 +1,11 @@
 -- The calls of an evaluation, one after another: which are allowed, and what each replies (DWARF 5, section 2.5).
-use Rattle.std.specs.Prelude.{ℕ, ◌≡◌, List, [], ◌∷◌, ◌++◌, Option, Some, None}
+use Rattle.std.specs.Prelude.{ℕ, ◌≡◌, List, [], ◌∷◌, ◌++◌, Option, Some, None, IfSome, option_map, unwrap_or}
 use Rattle.dwarf_base.specs.Faults.{Fault}
 use Rattle.dwarf_base.specs.Reads.{Text}
 use Rattle.dwarf_meaning.specs.Requests.{Request, Answer, Input}
 use Rattle.dwarf_meaning.specs.Kinds.{kind_of_request, kind_of_answer}
 use Rattle.dwarf_meaning.specs.Stores.{Setup}
-use Rattle.dwarf_meaning.specs.Meaning.{Outcome, RequestOutcome, FaultOutcome, CompleteOutcome, First, meaning}
+use Rattle.dwarf_meaning.specs.Meaning.{Outcome, RequestOutcome, FaultOutcome, CompleteOutcome, IsOver, First, meaning}
 use Rattle.dwarf_meaning.specs.Run.{most}
 use Rattle.dwarf_meaning.specs.Refusals.{Refusal}
 
@@ -32,21 +32,11 @@ untold = record {
   inputs = [];
 }
 
--- its outcome so far, once it was started
-abbrev pub outcome_from : Setup → Refusal → Text → List Input → Option First → Option Outcome
-outcome_from setup refusal text inputs None = None
-outcome_from setup refusal text inputs (Some first) = Some (meaning setup refusal text first inputs)
-
--- the outcome of all that was told
+-- the outcome of all that was told, once it was started
 abbrev pub outcome_of : Setup → Refusal → Text → Told → Option Outcome
-outcome_of setup refusal text told = outcome_from setup refusal text told.inputs told.first
+outcome_of setup refusal text told = option_map (λ first. meaning setup refusal text first told.inputs) told.first
 
 -- ---- which step may come next
-
--- no request is open
-abbrev pub IsEvaluable : Option Outcome → Type 0
-IsEvaluable (Some (RequestOutcome request positions)) = ⊥
-IsEvaluable _ = Unit {0}
 
 -- a request of the answer's kind is open; after a fault every answer is allowed
 abbrev pub Awaits : Answer → Option Outcome → Type 0
@@ -64,15 +54,10 @@ abbrev pub Allows : Told → Option Outcome → Step → Type 0
 Allows told outcome (InitialValue number) = IsUntold told
 Allows told outcome (ObjectAddress address) = Unit {0}
 Allows told outcome (MaxIterations maximum) = Unit {0}
-Allows told outcome Evaluate = IsEvaluable outcome
+Allows told outcome Evaluate = IfSome outcome IsOver
 Allows told outcome (Resume answer) = Awaits answer outcome
 
 -- ---- what a step tells
-
--- the settings at the start, if it is the first one
-abbrev pub begun : First → Option First → First
-begun settings None = settings
-begun settings (Some first) = first
 
 -- an answer, with the settings that hold now; after a fault it says nothing
 abbrev pub heard : First → List Input → Answer → Option Outcome → List Input
@@ -80,14 +65,14 @@ heard settings inputs answer (Some (RequestOutcome request positions)) =
     inputs ++ record { object_address = settings.object_address; maximum = settings.maximum; answer = answer } ∷ []
 heard settings inputs answer _ = inputs
 
--- what was told once a step is done
+-- what was told once a step is done; the settings at the start are those of the first start
 abbrev pub after : Told → Option Outcome → Step → Told
 after told outcome (InitialValue number) =
     record told { settings = record told.settings { initial_value = Some number } }
 after told outcome (ObjectAddress address) =
     record told { settings = record told.settings { object_address = Some address } }
 after told outcome (MaxIterations maximum) = record told { settings = record told.settings { maximum = maximum } }
-after told outcome Evaluate = record told { first = Some (begun told.settings told.first) }
+after told outcome Evaluate = record told { first = Some (unwrap_or told.first told.settings) }
 after told outcome (Resume answer) = record told { inputs = heard told.settings told.inputs answer outcome }
 
 -- ---- what the steps reply

@@ -9,9 +9,12 @@ use Rattle.dwarf_meaning.specs.Requests.{Request, OnAnswer, Answer, Input}
 use Rattle.dwarf_meaning.specs.Kinds.{kind_of_request, kind_of_answer}
 use Rattle.dwarf_meaning.specs.Stores.{Setup}
 use Rattle.dwarf_meaning.specs.Run.{Position}
-use Rattle.dwarf_meaning.specs.Meaning.{Outcome, RequestOutcome, FaultOutcome, CompleteOutcome, First, meaning}
+use Rattle.dwarf_meaning.specs.Meaning.{IsOver, Outcome, RequestOutcome, FaultOutcome, CompleteOutcome, First, meaning}
 use Rattle.dwarf_meaning.specs.Rest.{State, Status, Start, Running, RequestStatus, CompleteStatus, FaultStatus, Total, first_of, total, total_after}
-use Rattle.dwarf_meaning.specs.Steps.{Step, InitialValue, ObjectAddress, MaxIterations, Evaluate, Resume, Told, Reply, CompleteReply, FaultReply, reply, replies, IsEvaluable, Awaits, Allows, begun, after, outcome_of, outcome_from, step_replies}
+use Rattle.std.specs.Option.{unwrap_or}
+use Rattle.std.specs.Option.{IfSome}
+use Rattle.dwarf_meaning.proofs.Outcomes.{outcome_from}
+use Rattle.dwarf_meaning.specs.Steps.{Step, InitialValue, ObjectAddress, MaxIterations, Evaluate, Resume, Told, Reply, CompleteReply, FaultReply, reply, replies, Awaits, Allows, after, outcome_of, step_replies}
 use Rattle.dwarf_meaning.specs.Refusals.{Refusal, IsLater, before_inputs, MayPick, before_input}
 use Rattle.dwarf_eval.specs.Evaluation.{IsReplied, Follows, IsClosed, Evaluates, Resumes, reply_of, input_of}
 use Rattle.dwarf_eval.specs.Permits.{IsOpenFor}
@@ -121,13 +124,13 @@ module _ (first : State) (steps : List Step) (given : List Reply) (x new : State
       })
       (λ b. h.bounds)
       (λ r l e. walked_more first steps given (given ++ told ∷ []) Evaluate r w.told now (w.walked r)
-      (subst IsEvaluable (sym (unstarted r)) tt)
-      (ap (λ (f : Option First). record { settings = settings; first = Some (begun settings f); inputs = w.told.inputs }) w.started)
+      (subst (λ (o : Option Outcome). IfSome o IsOver) (sym (unstarted r)) tt)
+      (ap (λ (f : Option First). record { settings = settings; first = Some (unwrap_or f settings); inputs = w.told.inputs }) w.started)
       (called_replies first steps given Evaluate x new told (total x) h now 0 settings refl (ap length w.inputs) means_is (λ o. refl) r e))
 
   begun_already : (told : Told) (settings : First) (o : Option Outcome) → told.first ≡ Some settings → after told o Evaluate ≡ told
   begun_already told settings o e =
-      ap (λ (f : Option First). record { settings = told.settings; first = Some (begun told.settings f); inputs = told.inputs }) e
+      ap (λ (f : Option First). record { settings = told.settings; first = Some (unwrap_or f told.settings); inputs = told.inputs }) e
       ∙ ap (λ (f : Option First). record { settings = told.settings; first = f; inputs = told.inputs }) (sym e)
 
   -- `evaluate` once it is complete
@@ -140,7 +143,7 @@ module _ (first : State) (steps : List Step) (given : List Reply) (x new : State
         taken = w.taken;
         counted = w.counted;
         walked = λ r l. walked_more first steps given (given ++ CompleteReply ∷ []) Evaluate (before_inputs w.taken r) w.told w.told (w.walked r l)
-            (subst IsEvaluable (sym (is r l)) tt)
+            (subst (λ (o : Option Outcome). IfSome o IsOver) (sym (is r l)) tt)
             (begun_already w.told w.settings (outcome_of first.setup (before_inputs w.taken r) first.text w.told) w.started)
             (ap (λ (o : Option Outcome). given ++ replies o) (sym (is r l)));
         settings = w.settings;

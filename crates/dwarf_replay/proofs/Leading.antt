@@ -5,7 +5,8 @@ use Rattle.dwarf_meaning.specs.Refusals.{Refusal, Never, before_inputs, MayPick}
 use Rattle.dwarf_meaning.specs.Run.{Position}
 use Rattle.dwarf_meaning.specs.Meaning.{Outcome, RequestOutcome, FaultOutcome, CompleteOutcome, First, meaning}
 use Rattle.dwarf_meaning.specs.Rest.{State, Status, Start, Running, RequestStatus, CompleteStatus, FaultStatus, Total}
-use Rattle.dwarf_meaning.specs.Steps.{Step, InitialValue, ObjectAddress, MaxIterations, Evaluate, Resume, Told, Reply, Allows, outcome_of, outcome_from}
+use Rattle.dwarf_meaning.proofs.Outcomes.{outcome_from}
+use Rattle.dwarf_meaning.specs.Steps.{Step, InitialValue, ObjectAddress, MaxIterations, Evaluate, Resume, Told, Reply, Allows, outcome_of}
 use Rattle.dwarf_replay.specs.Stepping.{MayTake}
 use Rattle.dwarf_replay.specs.Replays.{IsInRequest, IsInFault, AreSet, StandsAt, Tells, IsUnbegun, IsLeft, Leaves, Walks, WalksTo}
 use Rattle.dwarf_meaning.specs.Bounds.{IsBounded}

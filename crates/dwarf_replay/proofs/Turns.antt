@@ -10,7 +10,9 @@ use Rattle.dwarf_meaning.specs.Requests.{Answer}
 use Rattle.dwarf_meaning.specs.Stores.{Setup}
 use Rattle.dwarf_meaning.specs.Meaning.{First, meaning}
 use Rattle.dwarf_meaning.specs.Rest.{State}
-use Rattle.dwarf_meaning.specs.Steps.{Step, InitialValue, ObjectAddress, MaxIterations, Evaluate, Resume, Told, Reply, reply, replies, Awaits, Allows, AllAllowed, begun, after_step, after_steps, replies_of, outcome_of, outcome_from, step_replies}
+use Rattle.std.specs.Option.{unwrap_or}
+use Rattle.dwarf_meaning.proofs.Outcomes.{outcome_from}
+use Rattle.dwarf_meaning.specs.Steps.{Step, InitialValue, ObjectAddress, MaxIterations, Evaluate, Resume, Told, Reply, reply, replies, Awaits, Allows, AllAllowed, after_step, after_steps, replies_of, outcome_of, step_replies}
 use Rattle.dwarf_meaning.specs.Refusals.{Refusal}
 use Rattle.dwarf_eval.specs.Lists.{MayRefuse}
 use Rattle.dwarf_replay.specs.Stepping.{step_of, MayTake, IsSet, HasReplied}
@@ -58,7 +60,7 @@ module _ (setup : Setup) (refusal : Refusal) (text : Text) where
       }
 
   call_replies : {R O P : Type 0} (view : R → Text) (number : O → ℕ) (step : Step) (told : Told) (x new : State) (given : Result (EvaluationResult R O P) Error) → HasReplied view number step x new given → Allows told (outcome_of setup refusal text told) step → Replies step told
-  call_replies view number Evaluate told x new given c h = record { reply_is = reply (meaning setup refusal text (begun told.settings told.first) told.inputs); one = refl }
+  call_replies view number Evaluate told x new given c h = record { reply_is = reply (meaning setup refusal text (unwrap_or told.first told.settings) told.inputs); one = refl }
   call_replies view number (Resume answer) told x new given c h = started_replies answer told told.first refl h
   call_replies view number (InitialValue value) told x new given c h = absurd c
   call_replies view number (ObjectAddress address) told x new given c h = absurd c

@@ -8,7 +8,7 @@ use Rattle.dwarf_meaning.specs.Run.{Position}
 use Rattle.dwarf_meaning.specs.Meaning.{Outcome, RequestOutcome, FaultOutcome, CompleteOutcome}
 use Rattle.dwarf_meaning.specs.Rest.{State, Status, Start, Running, RequestStatus, CompleteStatus, FaultStatus, first_of, total}
 use Rattle.dwarf_meaning.specs.Steps as meaning
-use Rattle.dwarf_meaning.specs.Steps.{Told, Reply, Allows, AreDone, replies_of, outcome_of, outcome_from}
+use Rattle.dwarf_meaning.specs.Steps.{Told, Reply, Allows, AreDone, replies_of, outcome_of}
 use Rattle.dwarf_meaning.specs.Bounds.{IsBounded}
 use Rattle.dwarf_eval.specs.Evaluation.{reply_of}
 use Rattle.dwarf_eval.specs.Lists.{MayRefuse}
@@ -80,8 +80,8 @@ pub record IsLeft (old : State) (steps : List meaning.Step) (replies : List Repl
   pub setup : new.setup ≡ old.setup
   pub alike : (r : Refusal) → IsLater r → Tells old steps replies told (before_inputs (length told.inputs) r)
   pub more : (r : Refusal) (inputs : List Input) → IsLater r →
-      outcome_from old.setup (before_inputs (length told.inputs) r) old.text (told.inputs ++ inputs) told.first
-      ≡ Some (total new r inputs).outcome
+      outcome_of old.setup (before_inputs (length told.inputs) r) old.text
+      (record told { inputs = told.inputs ++ inputs }) ≡ Some (total new r inputs).outcome
 
 -- what is left, by the status
 abbrev pub Leaves : State → List meaning.Step → List Reply → Told → State → Status → Type 0

@@ -17,7 +17,8 @@ use Rattle.dwarf_meaning.specs.Requests.{Request, Answer, Input}
 use Rattle.dwarf_meaning.specs.Meaning.{Outcome, RequestOutcome, FaultOutcome, CompleteOutcome, First}
 use Rattle.dwarf_meaning.specs.Rest.{State}
 use Rattle.dwarf_meaning.specs.Run.{read}
-use Rattle.dwarf_meaning.specs.Steps.{Step, InitialValue, ObjectAddress, MaxIterations, Evaluate, Resume, Told, RequestReply, heard, after, after_step, after_steps, outcome_from, outcome_of}
+use Rattle.dwarf_meaning.proofs.Outcomes.{outcome_from}
+use Rattle.dwarf_meaning.specs.Steps.{Step, InitialValue, ObjectAddress, MaxIterations, Evaluate, Resume, Told, RequestReply, heard, after, after_step, after_steps, outcome_of}
 use Rattle.dwarf_meaning.specs.Stores.{Setup}
 use Rattle.dwarf_meaning.specs.Refusals.{Refusal, Never}
 use Rattle.dwarf_meaning.proofs.Decoded.{operation_begins}

@@ -8,7 +8,8 @@ use Rattle.dwarf_meaning.specs.Acts.{FaultAct, on_top, on_result, result_of, sho
 use Rattle.dwarf_meaning.specs.Stores.{Plain, address_bits, push_value}
 use Rattle.dwarf_meaning.specs.Rest.{State, Running, FaultStatus}
 use Rattle.dwarf_meaning.proofs.Choices.{top_none, top_some, answer_ok, answer_err}
-use Rattle.dwarf_eval.specs.inner.Steps.{Pops, Tried, Performs, with_values, with_status}
+use Rattle.dwarf_eval.specs.inner.Steps.{Pops, Tried, Performs, with_values}
+use Rattle.dwarf_meaning.specs.Inputs.{with_status}
 use Rattle.dwarf_eval.proofs.Performances.{performs_as, performs_push, performs_refuses, PopsTwo, fewer_two, stays_two}
 use Rattle.dwarf_eval.proofs.Staying.{fewer_one, stays_popped}
 

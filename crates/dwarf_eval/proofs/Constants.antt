@@ -8,7 +8,8 @@ use Rattle.dwarf_meaning.specs.Operations as operation
 use Rattle.dwarf_meaning.specs.Acts.{act, unary}
 use Rattle.dwarf_meaning.specs.Stores.{Plain, address_bits, push_value}
 use Rattle.dwarf_meaning.specs.Rest.{State, Running, FaultStatus}
-use Rattle.dwarf_eval.specs.inner.Steps.{Pops, Tried, Performs, act_of, with_status}
+use Rattle.dwarf_meaning.specs.Inputs.{with_status}
+use Rattle.dwarf_eval.specs.inner.Steps.{Pops, Tried, Performs, act_of}
 use Rattle.dwarf_eval.proofs.Computes.{unary_none, unary_pushes, unary_refuses}
 use Rattle.dwarf_eval.proofs.Performances.{performs_as, performs_refuses}
 use Rattle.dwarf_eval.proofs.Staying.{stays_popped}

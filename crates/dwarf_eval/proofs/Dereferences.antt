@@ -9,7 +9,8 @@ use Rattle.dwarf_meaning.specs.Requests.{RequiresMemory, Push}
 use Rattle.dwarf_meaning.specs.Acts.{Act, RequestAct}
 use Rattle.dwarf_meaning.specs.Stores.{address_bits}
 use Rattle.dwarf_meaning.specs.Rest.{State, FaultStatus}
-use Rattle.dwarf_eval.specs.inner.Steps.{PopsTo, PopsNumber, Performs, act_of, with_values, with_status}
+use Rattle.dwarf_meaning.specs.Inputs.{with_status}
+use Rattle.dwarf_eval.specs.inner.Steps.{PopsTo, PopsNumber, Performs, act_of, with_values}
 use Rattle.dwarf_eval.proofs.ActCases.{wide_deref, none_deref, some_deref, one_deref, two_deref}
 use Rattle.dwarf_eval.proofs.Performances.{performs_as, performs_low, performs_refuses, fewer_two}
 use Rattle.dwarf_eval.proofs.Staying.{fewer_one, stays_here, stays_more, stays_number}

@@ -14,8 +14,7 @@ use Rattle.dwarf_meaning.specs.Meaning.{Outcome, RequestOutcome, FaultOutcome, C
 use Rattle.dwarf_meaning.specs.Refusals.{room}
 use Rattle.dwarf_meaning.proofs.Counts.{OnStore, OnNext, bound_store, on_bound, on_goes}
 use Rattle.dwarf_meaning.proofs.Effects.{IsActOf, IsGivenBy, IsOwnPlace, locates, ends}
-use Rattle.dwarf_meaning.specs.Bounds.{located_by, ending_by, endings}
-use Rattle.dwarf_eval.specs.inner.Bounds.{located}
+use Rattle.dwarf_meaning.specs.Bounds.{located_by, ending_by, endings, located}
 use Rattle.dwarf_eval.specs.inner.Steps.{is_free}
 
 located_little : (location : Location) → located_by location ≤ 1

@@ -11,9 +11,6 @@ use Rattle.dwarf_meaning.specs.Steps.{Reply, reply}
 use Rattle.dwarf_meaning.specs.Refusals.{Refusal, Never, After, before_pushes, IsLater}
 use Rattle.dwarf_eval.specs.Evaluation.{Follows, IsReplied, Resumes, reply_of}
 use Rattle.dwarf_eval.specs.Permits.{IsOpenFor}
-use Rattle.dwarf_meaning.specs.Inputs.{Keeps}
-use Rattle.dwarf_eval.specs.inner.Bounds.{Spends, IsBoundedWithDues}
-use Rattle.dwarf_eval.proofs.Bounded.{bounded_now, bounded_more}
 use Rattle.dwarf_eval.specs.inner.Answers.{IsAtRestBy, IsEndedBy, IsFor, IsWaitingFor}
 use Rattle.dwarf_eval.specs.declared.op.results.EvaluationResult.{EvaluationResult}
 use Rattle.dwarf_meaning.specs.declared.kinds.WaitingKind.{WaitingKind}
@@ -55,22 +52,8 @@ module _ (old : State) (totals : Refusal → List Input → Total) (new : State)
   open_count Running e o t = absurd t
   open_count (Start initial_value) e o t = absurd t
 
-  -- a call that replies leaves the bounds
-  replied_bounded : Spends old new → Keeps old new → IsReplied told new.status → IsBoundedWithDues old → IsBoundedWithDues new
-  replied_bounded s k t b = bounded_more old new s k.initial_values (λ e. subst (IsReplied told) e t) b
-
-  bounded_by : (status : Status) → ComesBy old totals new status → IsReplied told status → IsReplied told new.status → IsBoundedWithDues old → IsBoundedWithDues new
-  bounded_by (RequestStatus request on_answer) h t u b = replied_bounded h.spends h.kept u b
-  bounded_by (CompleteStatus value) h t u b = replied_bounded h.spends h.kept u b
-  bounded_by (FaultStatus error) h t u b = replied_bounded h.spends h.kept u b
-  bounded_by Running h t u b = absurd t
-  bounded_by (Start initial_value) h t u b = absurd t
-
-  pub comes_bounded : Comes old totals new → IsReplied told new.status → IsBoundedWithDues old → IsBoundedWithDues new
-  comes_bounded h t b = bounded_by new.status h t t b
-
-  came_follows : faults_in new.status ≡ 0 → Reaches old totals new → IsReplied told new.status → IsBoundedWithDues old → Follows old totals told new
-  came_follows o h t b =
+  came_follows : faults_in new.status ≡ 0 → Reaches old totals new → IsReplied told new.status → Follows old totals told new
+  came_follows o h t =
       let here : total new Never [] ≡ totals Never [] = sym (later_total h Never [] tt) in
       record {
         refusal = Never;
@@ -80,11 +63,11 @@ module _ (old : State) (totals : Refusal → List Input → Total) (new : State)
         status = t;
         more = λ open_now r inputs l. later_total h r inputs l;
         kept = h.kept;
-        bounds = bounded_now new (replied_bounded h.spends h.kept t b);
+        spends = h.spends;
       }
 
-  fell_follows : (error : Error) → new.status ≡ FaultStatus error → Falls old totals (fault_of error) new → IsReplied told new.status → IsBoundedWithDues old → Follows old totals told new
-  fell_follows error failed h t b = let one : faults_in new.status ≡ 1 = ap faults_in failed in record {
+  fell_follows : (error : Error) → new.status ≡ FaultStatus error → Falls old totals (fault_of error) new → IsReplied told new.status → Follows old totals told new
+  fell_follows error failed h t = let one : faults_in new.status ≡ 1 = ap faults_in failed in record {
     refusal = h.refusal;
     may = h.may;
     reply = subst (IsReplied told) failed t ∙ sym (ap (λ (z : Total). reply z.outcome) (h.same []));
@@ -92,19 +75,19 @@ module _ (old : State) (totals : Refusal → List Input → Total) (new : State)
     status = t;
     more = λ open_now r inputs l. absurd (let none = open_now in omega (arith, one, none));
     kept = h.kept;
-    bounds = bounded_now new (replied_bounded h.spends h.kept t b);
+    spends = h.spends;
   }
 
-  follows_by : (status : Status) → new.status ≡ status → ComesBy old totals new status → IsReplied told new.status → IsBoundedWithDues old → Follows old totals told new
-  follows_by (RequestStatus request on_answer) e h t b = came_follows (ap faults_in e) h t b
-  follows_by (CompleteStatus value) e h t b = came_follows (ap faults_in e) h t b
-  follows_by (FaultStatus error) e h t b = fell_follows error e h t b
-  follows_by Running e h t b = absurd (subst (IsReplied told) e t)
-  follows_by (Start initial_value) e h t b = absurd h
+  follows_by : (status : Status) → new.status ≡ status → ComesBy old totals new status → IsReplied told new.status → Follows old totals told new
+  follows_by (RequestStatus request on_answer) e h t = came_follows (ap faults_in e) h t
+  follows_by (CompleteStatus value) e h t = came_follows (ap faults_in e) h t
+  follows_by (FaultStatus error) e h t = fell_follows error e h t
+  follows_by Running e h t = absurd (subst (IsReplied told) e t)
+  follows_by (Start initial_value) e h t = absurd h
 
   -- a call that replies answers its outcome
-  pub comes_follow : Comes old totals new → IsReplied told new.status → IsBoundedWithDues old → Follows old totals told new
-  comes_follow h t b = follows_by new.status refl h t b
+  pub comes_follow : Comes old totals new → IsReplied told new.status → Follows old totals told new
+  comes_follow h t = follows_by new.status refl h t
 
 -- ---- a resume, by whether a fault was met
 

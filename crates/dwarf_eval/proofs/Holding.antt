@@ -16,9 +16,9 @@ use Rattle.dwarf_meaning.specs.Meaning.{FaultOutcome}
 use Rattle.dwarf_meaning.specs.Rest.{State, Running, FaultStatus, with_refusal, total_of_course}
 use Rattle.dwarf_meaning.specs.Refusals.{Refusal, Never, before_pushes}
 use Rattle.dwarf_meaning.proofs.Counts.{OnStore, KeepsBoth, Tally, tally_of, both-push_piece}
-use Rattle.dwarf_meaning.specs.Bounds.{located_by, endings, faults_in}
-use Rattle.dwarf_eval.specs.inner.Bounds.{piece_due, located}
-use Rattle.dwarf_eval.specs.inner.Steps.{Does, Refused, Tries, ReadsOperation, EndsLocated, total, ComesBy, Turns, read_to, with_last, with_status}
+use Rattle.dwarf_meaning.specs.Bounds.{piece_due, located_by, endings, located, faults_in}
+use Rattle.dwarf_meaning.specs.Inputs.{with_status}
+use Rattle.dwarf_eval.specs.inner.Steps.{Does, Refused, Tries, ReadsOperation, EndsLocated, total, ComesBy, Turns, read_to, with_last}
 use Rattle.dwarf_eval.proofs.Endings.{Ending, piece_ends}
 use Rattle.dwarf_eval.proofs.Loads.{Keeping, kept_in, piece_adds}
 use Rattle.dwarf_eval.proofs.Nearing.{nears_by}
@@ -51,7 +51,7 @@ module _ (x : State) (location : Location) (runs : x.status ≡ Running) (inside
           refusal = Never;
           may = tt;
           same = λ inputs. same inputs ∙ ap (closed (FaultOutcome (fault_of error))) (sym count);
-          kept = record { setup = ap (λ (z : State). z.setup) is; initial_values = ap (λ (z : State). z.initial_values) is; object_address = ap (λ (z : State). z.store.object_address) is; maximum = ap (λ (z : State). z.store.maximum) is };
+          kept = record { setup = ap (λ (z : State). z.setup) is; object_address = ap (λ (z : State). z.store.object_address) is; maximum = ap (λ (z : State). z.store.maximum) is };
           spends = fallen_spends x new error (ap faults_in runs) failed (omega (arith, callers)) (omega (arith, count)) (omega (arith, lists)) (omega (arith, decodings, count, due, waited)) (ap (λ (z : State). z.store.pieces) is) (omega (arith, decodings, count)) (omega (arith, decodings, count));
         })
 
@@ -107,7 +107,6 @@ module _ (x : State) (location : Location) (runs : x.status ≡ Running) (inside
                   ∙ sym (total_running r new inputs still ∙ ap (λ (z : State). going z (with_refusal r new.store) inputs) d.alone));
               kept = record {
                 setup = ap (λ (z : State). z.setup) d.alone;
-                initial_values = ap (λ (z : State). z.initial_values) d.alone;
                 object_address = ap (λ (m : Tally). m.object_address) tally;
                 maximum = ap (λ (m : Tally). m.maximum) tally;
               };
@@ -130,7 +129,7 @@ module _ (x : State) (location : Location) (runs : x.status ≡ Running) (inside
             same = λ inputs.
                 held_after_operation h.gets.refusal inputs _ (FaultNext (fault_of h.error)) some (ap (goes place_then) h.gets.same)
                 ∙ (course_failed x.store.count x.setup x.callers (fault_of h.error) ∙ ap (closed (FaultOutcome (fault_of h.error))) (sym count));
-            kept = record { setup = h.stays.kept.setup; initial_values = h.stays.kept.initial_values; object_address = h.stays.kept.object_address; maximum = h.stays.kept.maximum };
+            kept = record { setup = h.stays.kept.setup; object_address = h.stays.kept.object_address; maximum = h.stays.kept.maximum };
             spends = fallen_spends x new h.error (ap faults_in runs) h.failed (omega (arith, callers)) (omega (arith, count)) (omega (arith, items)) (omega (arith, decodings, count, due, waited)) h.stays.pieces (omega (arith, decodings, count)) (omega (arith, decodings, count));
           })
 

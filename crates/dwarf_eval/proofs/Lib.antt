@@ -35,4 +35,4 @@ pub mod TickWalks
 pub mod EqualPieces
 pub mod Following
 pub mod Items
-pub mod Bounded
+pub mod CallSpending

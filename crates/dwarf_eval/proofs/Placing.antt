@@ -48,7 +48,7 @@ done_moved setup place was len (FaultAct fault) s h = refl
 
 stays_beyond : (place : ℕ) (old new : State) → Stays 0 old new → Stays 0 (with_place place old) (with_place place new)
 stays_beyond place old new h = record {
-  kept = record { setup = h.kept.setup; initial_values = h.kept.initial_values; object_address = h.kept.object_address; maximum = h.kept.maximum };
+  kept = record { setup = h.kept.setup; object_address = h.kept.object_address; maximum = h.kept.maximum };
   text = h.text;
   callers = h.callers;
   count = h.count;

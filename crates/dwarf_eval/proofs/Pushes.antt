@@ -11,7 +11,8 @@ use Rattle.dwarf_meaning.specs.Stores.{Setup, Store, push_value, push_piece, pus
 use Rattle.dwarf_meaning.specs.Rest.{State, FaultStatus, with_refusal}
 use Rattle.dwarf_meaning.specs.Refusals.{Limits, Refusal, Never, After, room, spent, MayPick, before_push, before_pushes}
 use Rattle.dwarf_eval.specs.Lists.{HasRoom, MayRefuse}
-use Rattle.dwarf_eval.specs.inner.Steps.{Steps, Gets, Refused, with_status}
+use Rattle.dwarf_meaning.specs.Inputs.{with_status}
+use Rattle.dwarf_eval.specs.inner.Steps.{Steps, Gets, Refused}
 use Rattle.dwarf_eval.proofs.Staying.{stays_status}
 
 -- how many pushes on lists without a limit a push is

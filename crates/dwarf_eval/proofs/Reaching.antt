@@ -10,8 +10,8 @@ use Rattle.dwarf_meaning.specs.Rest.{State, Status, Start, Running, RequestStatu
 use Rattle.dwarf_meaning.specs.Refusals.{Refusal, Never, MayPick, before_pushes}
 use Rattle.dwarf_meaning.proofs.Counts.{HasTally, OnStore, Tally, tally_of, tally-push_value}
 use Rattle.dwarf_meaning.specs.Bounds.{faults_in}
-use Rattle.dwarf_meaning.specs.Inputs.{IsFresh, Keeps}
-use Rattle.dwarf_eval.specs.inner.Steps.{Total, total, Tries, Reaches, Falls, ComesBy, Comes, HasReply, is_running, with_status}
+use Rattle.dwarf_meaning.specs.Inputs.{IsFresh, Keeps, with_status}
+use Rattle.dwarf_eval.specs.inner.Steps.{Total, total, Tries, Reaches, Falls, ComesBy, Comes, HasReply, is_running}
 use Rattle.dwarf_eval.proofs.Refusals.{before_more, may_before}
 use Rattle.dwarf_eval.proofs.Loads.{HasLast, HasPieces, Keeping, kept_in, value_adds, value_last, value_pieces}
 use Rattle.dwarf_eval.proofs.Nearing.{nears_by, nears_more}
@@ -95,7 +95,7 @@ begins_none x new starts is e =
       same = λ r inputs.
           total_start r x inputs None starts is
           ∙ sym (total_running r new inputs runs ∙ ap (λ (z : State). going z (with_refusal r z.store) inputs) e);
-      kept = record { setup = ap (λ (z : State). z.setup) e; initial_values = ap (λ (z : State). z.initial_values) e; object_address = ap (λ (z : State). z.store.object_address) e; maximum = ap (λ (z : State). z.store.maximum) e };
+      kept = record { setup = ap (λ (z : State). z.setup) e; object_address = ap (λ (z : State). z.store.object_address) e; maximum = ap (λ (z : State). z.store.maximum) e };
       spends =
           let kept = ap (λ (z : State). kept_in z.store) e in
           begun_spends x new None starts runs (ap (λ (z : State). length z.callers) e) (ap (λ (z : State). z.store.count) e) (ap (λ (z : State). z.decodings) e) (ap (λ (z : State). z.store.last) e) (omega (arith, kept)) (ap (λ (z : State). z.store.pieces) e);
@@ -125,7 +125,6 @@ begins_pushed v x new true starts is d =
           ∙ ap (λ (n : ℕ). going (record x { store = record x.store { count = n } }) (with_refusal r new.store) inputs) count));
       kept = record {
         setup = ap (λ (z : State). z.setup) d.alone;
-        initial_values = ap (λ (z : State). z.initial_values) d.alone;
         object_address = ap (λ (m : Tally). m.object_address) tally;
         maximum = ap (λ (m : Tally). m.maximum) tally;
       };
@@ -145,7 +144,7 @@ begins_pushed v x new false starts is d =
           total_start d.gets.refusal x inputs (Some v) starts is
           ∙ (ap (started_total x inputs) d.gets.same
           ∙ (started_fails x inputs (fault_of d.error) ∙ ap (closed (FaultOutcome (fault_of d.error))) (sym d.stays.count)));
-      kept = record { setup = d.stays.kept.setup; initial_values = d.stays.kept.initial_values; object_address = d.stays.kept.object_address; maximum = d.stays.kept.maximum };
+      kept = record { setup = d.stays.kept.setup; object_address = d.stays.kept.object_address; maximum = d.stays.kept.maximum };
       spends = fallen_spends x new d.error (ap faults_in starts) d.failed (omega (arith, callers)) (omega (arith, count)) (omega (arith, items)) (omega (arith, decodings, count)) d.stays.pieces (omega (arith, decodings, count)) (omega (arith, decodings, count));
     })
 

@@ -20,10 +20,9 @@ use Rattle.dwarf_meaning.specs.Rest.{State, Running, RequestStatus, FaultStatus,
 use Rattle.dwarf_meaning.specs.Refusals.{Refusal, Never, After, taken, MayPick, before_input, before_pushes}
 use Rattle.dwarf_meaning.proofs.Counts.{HasTally, OnStore, Tally, tally_of, tally-push_caller}
 use Rattle.dwarf_meaning.proofs.Effects.{IsUseOf, use_is}
-use Rattle.dwarf_meaning.specs.Bounds.{faults_in}
-use Rattle.dwarf_eval.specs.inner.Bounds.{located}
-use Rattle.dwarf_meaning.specs.Inputs.{input_of}
-use Rattle.dwarf_eval.specs.inner.Steps.{Total, total_after, Does, Refused, Stays, Tries, Tried, Enters, TriesToEnter, ComesBy, Takes, with_last, with_values, with_status}
+use Rattle.dwarf_meaning.specs.Bounds.{located, faults_in}
+use Rattle.dwarf_meaning.specs.Inputs.{input_of, with_status}
+use Rattle.dwarf_eval.specs.inner.Steps.{Total, total_after, Does, Refused, Stays, Tries, Tried, Enters, TriesToEnter, ComesBy, Takes, with_last, with_values}
 use Rattle.dwarf_eval.specs.inner.Answers.{IsFor, IsWaitingFor}
 use Rattle.dwarf_eval.proofs.AnswerUses.{open_for, value_gives, number_gives}
 use Rattle.dwarf_eval.proofs.Loads.{HasLast, HasPieces, Keeping, kept_in, value_adds, value_last, value_pieces, frame_adds, frame_last, frame_pieces}
@@ -106,7 +105,6 @@ module _ (x : State) (request : Request) (on_answer : OnAnswer) (open_now : x.st
               ∙ sym (total_running r new inputs runs ∙ ap (λ (z : State). going z (with_refusal r new.store) inputs) d.alone)));
           kept = record {
             setup = ap (λ (z : State). z.setup) d.alone;
-            initial_values = ap (λ (z : State). z.initial_values) d.alone;
             object_address = ap (λ (m : Tally). m.object_address) tally;
             maximum = ap (λ (m : Tally). m.maximum) tally;
           };
@@ -148,7 +146,7 @@ module _ (x : State) (request : Request) (on_answer : OnAnswer) (open_now : x.st
             answer_rest r inputs (Calls callee) calls
             ∙ (ap (λ (bytes : List ℕ). total_of_course x.store.count x.setup x.callers (run_callee (run x.setup) x.setup position (length x.callers) callee bytes (with_refusal r x.store) inputs)) none
             ∙ sym (total_running r new inputs runs ∙ ap (λ (z : State). going z (with_refusal r z.store) inputs) e));
-        kept = record { setup = ap (λ (z : State). z.setup) e; initial_values = ap (λ (z : State). z.initial_values) e; object_address = ap (λ (z : State). z.store.object_address) e; maximum = ap (λ (z : State). z.store.maximum) e };
+        kept = record { setup = ap (λ (z : State). z.setup) e; object_address = ap (λ (z : State). z.store.object_address) e; maximum = ap (λ (z : State). z.store.maximum) e };
         spends = answered_spends x new request on_answer open_now runs (omega (arith, callers)) (omega (arith, callers, kept)) count (ap (λ (z : State). z.decodings) e) (omega (arith, last)) (ap (λ (z : State). z.store.pieces) e) (λ given. omega (arith, last));
         nears = nears_by x new (RequestStatus request on_answer) Running open_now runs (omega (arith, count));
       })
@@ -181,7 +179,6 @@ module _ (x : State) (request : Request) (on_answer : OnAnswer) (open_now : x.st
               ∙ sym (total_running r new inputs runs ∙ ap (λ (z : State). going z t inputs) d.alone));
           kept = record {
             setup = ap (λ (z : State). z.setup) d.alone;
-            initial_values = ap (λ (z : State). z.initial_values) d.alone;
             object_address = ap (λ (m : Tally). m.object_address) tally;
             maximum = ap (λ (m : Tally). m.maximum) tally;
           };

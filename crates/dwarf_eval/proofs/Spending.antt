@@ -6,8 +6,7 @@ use Rattle.dwarf_meaning.specs.Requests.{Request, OnAnswer}
 use Rattle.dwarf_meaning.specs.RunLaws.{waits_of}
 use Rattle.dwarf_meaning.specs.Stores.{Last, Nothing, Plain, Pieced, Pushed, Called, Located}
 use Rattle.dwarf_meaning.specs.Rest.{State, Start, Running, RequestStatus, CompleteStatus, FaultStatus}
-use Rattle.dwarf_meaning.specs.Bounds.{endings, faults_in}
-use Rattle.dwarf_eval.specs.inner.Bounds.{piece_due, initial_due, answer_due, located, DecodesOnce, Spends}
+use Rattle.dwarf_meaning.specs.Bounds.{piece_due, initial_due, answer_due, endings, located, faults_in, DecodesOnce, Spends}
 use Rattle.dwarf_eval.proofs.Endings.{located_waits}
 use Rattle.dwarf_eval.proofs.Loads.{kept_in}
 

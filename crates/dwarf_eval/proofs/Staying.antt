@@ -6,17 +6,16 @@ use Rattle.dwarf_meaning.specs.Stores.{Setup, Store, Last, push_value}
 use Rattle.dwarf_meaning.specs.Rest.{State, Status, with_refusal}
 use Rattle.dwarf_meaning.specs.Refusals.{Never, before_pushes}
 use Rattle.dwarf_meaning.proofs.Counts.{HasTally, OnStore, Tally, tally_of, tally-push_value}
-use Rattle.dwarf_meaning.specs.Inputs.{Keeps}
-use Rattle.dwarf_eval.specs.inner.Steps.{Does, Pops, PopsNumber, Stays, with_last, with_values, with_status}
+use Rattle.dwarf_meaning.specs.Inputs.{Keeps, with_status}
+use Rattle.dwarf_eval.specs.inner.Steps.{Does, Pops, PopsNumber, Stays, with_last, with_values}
 use Rattle.dwarf_eval.proofs.Loads.{HasLast, HasPieces, Keeping, kept_in, value_adds, value_last, value_pieces}
 
 pub keeps_here : (x : State) → Keeps x x
-keeps_here x = record { setup = refl; initial_values = refl; object_address = refl; maximum = refl }
+keeps_here x = record { setup = refl; object_address = refl; maximum = refl }
 
 pub keeps_more : (a b c : State) → Keeps a b → Keeps b c → Keeps a c
 keeps_more a b c h i = record {
   setup = i.setup ∙ h.setup;
-  initial_values = i.initial_values ∙ h.initial_values;
   object_address = i.object_address ∙ h.object_address;
   maximum = i.maximum ∙ h.maximum;
 }
@@ -43,7 +42,7 @@ pub stays_from : (n m : ℕ) (rest : List Value) (last : Last) (status : Status)
 stays_from n m rest last status old new fits h =
     let items = h.items in
     record {
-      kept = record { setup = h.kept.setup; initial_values = h.kept.initial_values; object_address = h.kept.object_address; maximum = h.kept.maximum };
+      kept = record { setup = h.kept.setup; object_address = h.kept.object_address; maximum = h.kept.maximum };
       text = h.text;
       callers = h.callers;
       count = h.count;
@@ -87,7 +86,7 @@ stays_pushed setup value old new d =
     let kept : kept_in new.store ≡ kept_in old.store + 1 = subst (OnStore (Keeping (kept_in s + 1))) (d.steps.same Never) (value_adds setup value s) in
     let last : waits_of new.store.last ≡ waits_of old.store.last = ap waits_of (subst (OnStore (HasLast s.last)) (d.steps.same Never) (value_last setup value s)) in
     record {
-      kept = record { setup = ap (λ (z : State). z.setup) d.alone; initial_values = ap (λ (z : State). z.initial_values) d.alone; object_address = ap (λ (m : Tally). m.object_address) tally; maximum = ap (λ (m : Tally). m.maximum) tally };
+      kept = record { setup = ap (λ (z : State). z.setup) d.alone; object_address = ap (λ (m : Tally). m.object_address) tally; maximum = ap (λ (m : Tally). m.maximum) tally };
       text = ap (λ (z : State). z.text) d.alone;
       callers = ap (λ (z : State). length z.callers) d.alone;
       count = ap (λ (m : Tally). m.count) tally;

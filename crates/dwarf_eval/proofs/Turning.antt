@@ -19,8 +19,8 @@ use Rattle.dwarf_meaning.proofs.Counts.{HasTally, OnNext, Tally, tally_of, tally
 use Rattle.dwarf_meaning.proofs.Effects.{act_is}
 use Rattle.dwarf_meaning.proofs.Turns.{run_turn, below_most}
 use Rattle.dwarf_meaning.specs.Bounds.{endings, faults_in}
-use Rattle.dwarf_meaning.specs.Inputs.{Keeps}
-use Rattle.dwarf_eval.specs.inner.Steps.{total, CountsOne, ReadsOperation, act_of, done_at, LeadsToPlace, LeadsToRequest, LeadsToFault, LeadsBy, Performs, read_to, with_store, Falls, ComesBy, is_free, IsReady, Turns, effort, effort_by, with_status}
+use Rattle.dwarf_meaning.specs.Inputs.{Keeps, with_status}
+use Rattle.dwarf_eval.specs.inner.Steps.{total, CountsOne, ReadsOperation, act_of, done_at, LeadsToPlace, LeadsToRequest, LeadsToFault, LeadsBy, Performs, read_to, with_store, Falls, ComesBy, is_free, IsReady, Turns, effort, effort_by}
 use Rattle.dwarf_eval.proofs.Endings.{EndsNoMore, done_ends, free_waits}
 use Rattle.dwarf_eval.proofs.Loads.{IsLighter, kept_in, done_lighter}
 use Rattle.dwarf_eval.proofs.Nearing.{nears_by}
@@ -97,7 +97,7 @@ module _ (x : State) (ready : IsReady x) where
             ready_total Never inputs
             ∙ (ap (total_of_course x.store.count x.setup x.callers) (cond-false (can_count x.store) _ (only_end (FaultEnd TooManyIterations)) h.0)
             ∙ (course_failed x.store.count x.setup x.callers TooManyIterations ∙ ap (closed (FaultOutcome TooManyIterations)) (sym count)));
-        kept = record { setup = ap (λ (z : State). z.setup) h.1; initial_values = ap (λ (z : State). z.initial_values) h.1; object_address = ap (λ (z : State). z.store.object_address) h.1; maximum = ap (λ (z : State). z.store.maximum) h.1 };
+        kept = record { setup = ap (λ (z : State). z.setup) h.1; object_address = ap (λ (z : State). z.store.object_address) h.1; maximum = ap (λ (z : State). z.store.maximum) h.1 };
         spends = fallen_spends x new error.TooManyIterations (ap faults_in ready.runs) failed (omega (arith, callers)) (omega (arith, count)) (omega (arith, lists)) (omega (arith, decodings, count)) (ap (λ (z : State). z.store.pieces) h.1) (omega (arith, decodings, count)) (omega (arith, decodings, count));
       })
 
@@ -124,7 +124,7 @@ module _ (x : State) (ready : IsReady x) where
           same = λ inputs.
               ready_read Never inputs (Err (fault_of error)) e
               ∙ (course_failed (x.store.count + 1) x.setup x.callers (fault_of error) ∙ ap (closed (FaultOutcome (fault_of error))) (sym count));
-          kept = record { setup = ap (λ (z : State). z.setup) is; initial_values = ap (λ (z : State). z.initial_values) is; object_address = ap (λ (z : State). z.store.object_address) is; maximum = ap (λ (z : State). z.store.maximum) is };
+          kept = record { setup = ap (λ (z : State). z.setup) is; object_address = ap (λ (z : State). z.store.object_address) is; maximum = ap (λ (z : State). z.store.maximum) is };
           spends = fallen_spends x new error (ap faults_in ready.runs) failed (omega (arith, callers)) (omega (arith, count)) (omega (arith, lists)) (omega (arith, decodings, count)) (ap (λ (z : State). z.store.pieces) is) (omega (arith, decodings, count)) (omega (arith, decodings, count));
         })
 
@@ -152,7 +152,7 @@ module _ (x : State) (ready : IsReady x) where
             same = λ inputs.
                 ready_after_operation h.gets.refusal inputs (FaultNext (fault_of error)) h.gets.same
                 ∙ (course_failed (x.store.count + 1) x.setup x.callers (fault_of error) ∙ ap (closed (FaultOutcome (fault_of error))) (sym count));
-            kept = record { setup = h.stays.kept.setup; initial_values = h.stays.kept.initial_values; object_address = h.stays.kept.object_address; maximum = h.stays.kept.maximum };
+            kept = record { setup = h.stays.kept.setup; object_address = h.stays.kept.object_address; maximum = h.stays.kept.maximum };
             spends = fallen_spends x new error (ap faults_in ready.runs) failed (omega (arith, callers)) (omega (arith, count)) (omega (arith, items)) (omega (arith, decodings, count)) h.stays.pieces (omega (arith, decodings, count)) (omega (arith, decodings, count));
           })
 
@@ -179,8 +179,8 @@ module _ (x : State) (ready : IsReady x) where
           (done_ends op x.setup place_then (length x.text.bytes) (act_of there op) (with_refusal r there.store) (act_is (address_bits there.setup) there.store.object_address op there.store.values)
           (free_waits x.store.last ready.free))
 
-      keeps_by : (new : State) → new.setup ≡ x.setup → new.initial_values ≡ x.initial_values → tally_of new.store ≡ tally_of there.store → Keeps x new
-      keeps_by new setup initial tally = record { setup = setup; initial_values = initial; object_address = ap (λ (m : Tally). m.object_address) tally; maximum = ap (λ (m : Tally). m.maximum) tally }
+      keeps_by : (new : State) → new.setup ≡ x.setup → tally_of new.store ≡ tally_of there.store → Keeps x new
+      keeps_by new setup tally = record { setup = setup; object_address = ap (λ (m : Tally). m.object_address) tally; maximum = ap (λ (m : Tally). m.maximum) tally }
 
       ready_goes : (new : State) → new.status ≡ Running → LeadsToPlace (done_at (act_of there op) there) there new → Turns x new
       ready_goes new runs goes =
@@ -195,7 +195,7 @@ module _ (x : State) (ready : IsReady x) where
                   ready_after_operation (before_pushes goes.steps.pushes r) inputs (Goes new.place (with_refusal r new.store)) (goes.steps.same r)
                   ∙ (ap (λ (n : ℕ). total_of_course n x.setup x.callers course) (sym count)
                   ∙ sym (total_running r new inputs runs ∙ ap (λ (y : State). going y (with_refusal r new.store) inputs) goes.alone));
-              kept = keeps_by new (ap (λ (z : State). z.setup) goes.alone) (ap (λ (z : State). z.initial_values) goes.alone) tally;
+              kept = keeps_by new (ap (λ (z : State). z.setup) goes.alone) tally;
               spends = counted_spends x new ready.runs runs (ap (λ (z : State). length z.callers) goes.alone) count (ap (λ (z : State). z.decodings) goes.alone)
                   (next_lighter (before_pushes goes.steps.pushes Never) (Goes new.place (with_refusal Never new.store)) (goes.steps.same Never)) ends.pieces ends.waits;
               nears = nears_by x new Running Running ready.runs runs (omega (arith, count));
@@ -216,7 +216,7 @@ module _ (x : State) (ready : IsReady x) where
                   ∙ (course_asked (x.store.count + 1) x.setup x.callers request (await_answer (run x.setup) x.setup (record { text = x.text; place = place_then }) (length x.callers) request on_answer (with_refusal r new.store) inputs)
                   ∙ (ap (λ (n : ℕ). waiting_total (record there { store = record there.store { count = n } }) request on_answer (with_refusal r new.store) inputs) (sym count)
                   ∙ sym (total_waits r new inputs request on_answer open_now ∙ ap (λ (y : State). waiting_total y request on_answer (with_refusal r new.store) inputs) asks.alone)));
-              kept = keeps_by new (ap (λ (z : State). z.setup) asks.alone) (ap (λ (z : State). z.initial_values) asks.alone) tally;
+              kept = keeps_by new (ap (λ (z : State). z.setup) asks.alone) tally;
               spends = asked_spends x new request on_answer ready.runs open_now (ap (λ (z : State). length z.callers) asks.alone) count (ap (λ (z : State). z.decodings) asks.alone)
                   (next_lighter (before_pushes asks.steps.pushes Never) (RequestNext request on_answer (with_refusal Never new.store)) (asks.steps.same Never)) ends.pieces ends.waits;
               nears =

@@ -1,5 +1,5 @@
 -- What a call of an evaluation replies: the nested meaning, and what is left of it.
-pub use Rattle.dwarf_meaning.specs.Inputs.{input_of, Keeps, IsFresh, with_initial_value, with_object, with_maximum}
+pub use Rattle.dwarf_meaning.specs.Inputs.{input_of, Keeps, with_status, IsFresh, with_object, with_maximum}
 use Rattle.std.specs.Prelude.{ℕ, ◌≡◌, List, [], Option, Some, None, option_map, unwrap_or, Result, Ok, Err}
 use Rattle.dwarf_base.specs.declared.errors.Error.{Error}
 use Rattle.dwarf_base.specs.Faults.{fault_of}
@@ -10,7 +10,7 @@ use Rattle.dwarf_meaning.specs.Refusals.{IsLater, MayPick, Refusal}
 use Rattle.dwarf_meaning.specs.Rest.{State, Status, Start, RequestStatus, CompleteStatus, FaultStatus, Total, total, total_after}
 use Rattle.dwarf_meaning.specs.Steps.{Reply, CompleteReply, RequestReply, FaultReply, reply}
 use Rattle.dwarf_op.specs.Views.{reference_of}
-use Rattle.dwarf_meaning.specs.Bounds.{IsBounded, faults_in}
+use Rattle.dwarf_meaning.specs.Bounds.{Spends, faults_in}
 use Rattle.dwarf_eval.specs.declared.op.results.EvaluationResult.{EvaluationResult}
 use Rattle.dwarf_eval.specs.declared.op.results.EvaluationResult.TheVariants as result
 
@@ -53,8 +53,8 @@ IsReplied replied (FaultStatus error) = replied ≡ FaultReply (fault_of error)
 IsReplied replied _ = ⊥
 
 -- For some refusal, or for none, a call replied as `totals` gives it and counted as many operations; the setup and the
--- settings stay, and the bounds hold; and as long as no fault was met, the total of the new state is what `totals`
--- gives, for all inputs to come.
+-- settings stay; and as long as no fault was met, the total of the new state is what `totals` gives, for all inputs to
+-- come.
 pub record Follows (old : State) (totals : Refusal → List Input → Total) (replied : Reply) (new : State) : Type 0 where
   pub refusal : Refusal
   pub may : MayPick old.setup.limits refusal
@@ -64,7 +64,7 @@ pub record Follows (old : State) (totals : Refusal → List Input → Total) (re
   pub more : faults_in new.status ≡ 0 → (r : Refusal) (inputs : List Input) → IsLater r
       → totals r inputs ≡ total new r inputs
   pub kept : Keeps old new
-  pub bounds : IsBounded new
+  pub spends : Spends old new
 
 module _ {R O P : Type 0} (text : R → Text) (number : O → ℕ) where
   -- `evaluate`: at the start it replies the meaning; after that it replies what it replied, and changes nothing; it

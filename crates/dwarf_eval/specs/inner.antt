@@ -1,5 +1,4 @@
 pub mod Answers
-pub mod Bounds
 pub mod Machine
 pub mod Operators
 pub mod Steps

@@ -31,7 +31,6 @@ fresh_at text = record {
   place = 0;
   callers = [];
   store = fresh unset Never;
-  initial_values = 0;
   decodings = 0;
 }
 

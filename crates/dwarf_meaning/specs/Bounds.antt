@@ -3,7 +3,39 @@
 use Rattle.std.specs.Prelude.{ℕ, ◌+◌, ◌-◌, ◌*◌, ◌≤◌, ◌≡◌, List, [], ◌∷◌, Option, Some, None, length}
 use Rattle.dwarf_meaning.specs.Locations.{Location, Empty, AtAddress, Piece}
 use Rattle.dwarf_meaning.specs.Run.{most}
-use Rattle.dwarf_meaning.specs.Rest.{State, Status, CompleteStatus, FaultStatus}
+use Rattle.dwarf_meaning.specs.RunLaws.{waits_of}
+use Rattle.dwarf_meaning.specs.Stores.{Last, Located}
+use Rattle.dwarf_meaning.specs.Rest.{State, Status, Start, RequestStatus, CompleteStatus, FaultStatus}
+
+-- 1 if a location waits for its piece, until the evaluation is over
+abbrev pub piece_due : Last → Status → ℕ
+piece_due last (CompleteStatus value) = 0
+piece_due last (FaultStatus error) = 0
+piece_due last _ = waits_of last
+
+-- 1 if an initial value is still to be pushed
+abbrev pub initial_due : Status → ℕ
+initial_due (Start (Some number)) = 1
+initial_due _ = 0
+
+-- 1 if an answer is still to come: a value, or a called text and its caller
+abbrev pub answer_due : Status → ℕ
+answer_due (RequestStatus request on_answer) = 1
+answer_due _ = 0
+
+-- how many items the three lists hold together, with those that are due
+abbrev pub item_count : State → ℕ
+item_count x =
+    length x.store.values + length x.callers + length x.store.pieces
+    + piece_due x.store.last x.status + initial_due x.status + answer_due x.status
+
+-- how many callers there are, with one that is due
+abbrev pub caller_count : State → ℕ
+caller_count x = length x.callers + answer_due x.status
+
+-- how often it decoded, with a piece that is due
+abbrev pub decoding_count : State → ℕ
+decoding_count x = x.decodings + piece_due x.store.last x.status
 
 -- 1 for a location that an operation gives; a piece by itself is empty or at an address (section 2.6.1.2)
 abbrev pub located_by : Location → ℕ
@@ -21,27 +53,47 @@ abbrev pub endings : List Piece → ℕ
 endings [] = 0
 endings (piece ∷ pieces) = ending_by piece.size_in_bits piece.location + endings pieces
 
+-- 1 if an operation gave the location that waits
+abbrev pub located : Last → ℕ
+located (Located location) = located_by location
+located _ = 0
+
 -- 1 if a fault was met
 abbrev pub faults_in : Status → ℕ
 faults_in (FaultStatus error) = 1
 faults_in _ = 0
 
--- The three lists together hold at most one item for each operation that was counted, and one for an initial value;
--- at most one caller waits for each; and at most two operations were decoded for each: itself, the piece that ended its
--- location, and at a fault what stands in the piece's place.
-pub record IsBounded (x : State) : Type 0 where
-  pub initial_values : x.initial_values ≤ 1
-  pub items : length x.store.values + length x.callers + length x.store.pieces ≤ x.store.count + x.initial_values
-  pub callers : length x.callers ≤ x.store.count
-  pub decodings : x.decodings ≤ 2 * x.store.count
+-- Each operation that was counted was decoded once, and so was each piece that ended a location; nothing else
+-- was, but for what stands in the piece's place if that is a fault.
+pub record DecodesOnce (x : State) : Type 0 where
   pub each : x.store.count + endings x.store.pieces ≤ x.decodings
   pub no_other : x.decodings ≤ x.store.count + endings x.store.pieces + faults_in x.status
+  pub waits : piece_due x.store.last x.status ≤ located x.store.last
 
--- nothing is counted yet, and no initial value is set
+-- From the one state to the other each operation that was counted added one item at most, one caller at most, and two
+-- decodings at most, beside this many items more; and what was decoded once still is.
+pub record SpendsInAll (more : ℕ) (old new : State) : Type 0 where
+  pub items : item_count new + old.store.count ≤ item_count old + new.store.count + more
+  pub callers : caller_count new + old.store.count ≤ caller_count old + new.store.count
+  pub decodings : decoding_count new + 2 * old.store.count ≤ decoding_count old + 2 * new.store.count
+  pub once : DecodesOnce old → DecodesOnce new
+
+-- the same of one call
+abbrev pub Spends : (old new : State) → Type 0
+Spends old new = SpendsInAll 0 old new
+
+-- Nothing is counted, kept or decoded, and nothing is due.
 pub record IsUnspent (x : State) : Type 0 where
+  pub items : item_count x ≡ 0
+  pub callers : caller_count x ≡ 0
+  pub decodings : decoding_count x ≡ 0
   pub count : x.store.count ≡ 0
-  pub initial_values : x.initial_values ≡ 0
-  pub bounds : IsBounded x
+  pub once : DecodesOnce x
+
+-- 1 if an initial value was set
+abbrev pub initial_items : Option ℕ → ℕ
+initial_items (Some number) = 1
+initial_items None = 0
 
 -- Each request is asked by an operation that is counted, so this falls from one request to the next, and at the end.
 abbrev pub calls_left_by : State → Status → ℕ

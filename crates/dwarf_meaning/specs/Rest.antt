@@ -28,8 +28,7 @@ pub record State : Type 0 where
   -- its callers, the innermost first, each with the place where it goes on
   pub callers : List Position
   pub store : Store
-  -- 1 if an initial value was set, and how often an operation was decoded; nothing depends on these
-  pub initial_values : ℕ
+  -- how often an operation was decoded; nothing depends on it
   pub decodings : ℕ
 
 -- the same store, with this refusal to come

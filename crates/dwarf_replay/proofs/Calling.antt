@@ -21,8 +21,9 @@ use Rattle.dwarf_eval.specs.Permits.{IsOpenFor}
 use Rattle.dwarf_replay.specs.Stepping.{HasReplied}
 use Rattle.dwarf_replay.specs.Replays.{Tells}
 use Rattle.dwarf_eval.specs.declared.op.results.EvaluationResult.{EvaluationResult}
-use Rattle.dwarf_meaning.specs.Bounds.{IsBounded, faults_in}
+use Rattle.dwarf_meaning.specs.Bounds.{SpendsInAll, faults_in, initial_items}
 use Rattle.dwarf_eval.proofs.Following.{told_total, total_open, total_complete, total_meaning}
+use Rattle.dwarf_eval.proofs.CallSpending.{spent_more}
 use Rattle.dwarf_replay.proofs.Telling.{walked_more}
 use Rattle.dwarf_replay.proofs.Standings.{Holds, Unstarted, Going, Over, WentBy, Went, later_before, may_inputs}
 
@@ -59,8 +60,8 @@ module _ (first : State) where
         ap (λ (t : Reply). given ++ t ∷ []) e
         ∙ ap (λ (l : List Reply). given ++ l) (sym (answers_one (totals r []).outcome) ∙ ap (step_replies step) (sym (called_outcome r)))
 
-    called_going : faults_in new.status ≡ 0 → Holds first now new → (IsBounded first → IsBounded new) → ((r : Refusal) → IsLater r → told ≡ reply (totals r []).outcome → Tells first (steps ++ step ∷ []) (given ++ told ∷ []) now (before_inputs n r)) → Going first (steps ++ step ∷ []) (given ++ told ∷ []) new
-    called_going o holds bounds walked = record {
+    called_going : faults_in new.status ≡ 0 → Holds first now new → SpendsInAll (initial_items now.settings.initial_value) first new → ((r : Refusal) → IsLater r → told ≡ reply (totals r []).outcome → Tells first (steps ++ step ∷ []) (given ++ told ∷ []) now (before_inputs n r)) → Going first (steps ++ step ∷ []) (given ++ told ∷ []) new
+    called_going o holds spent walked = record {
       told = now;
       taken = n;
       counted = counted;
@@ -69,11 +70,11 @@ module _ (first : State) where
       started = started;
       rest_is = λ r inputs l. sym (means_is r inputs) ∙ ap (λ (t : Total). t.outcome) (h.more o r inputs l);
       holds = holds;
-      bounds = bounds;
+      spent = spent;
     }
 
-    called_over : (error : Error) → new.status ≡ FaultStatus error → MayPick first.setup.limits (before_inputs n h.refusal) → (IsBounded first → IsBounded new) → Tells first (steps ++ step ∷ []) (given ++ told ∷ []) now (before_inputs n h.refusal) → Over first (steps ++ step ∷ []) (given ++ told ∷ []) new error
-    called_over error e may bounds walked = record {
+    called_over : (error : Error) → new.status ≡ FaultStatus error → MayPick first.setup.limits (before_inputs n h.refusal) → SpendsInAll (initial_items now.settings.initial_value) first new → Tells first (steps ++ step ∷ []) (given ++ told ∷ []) now (before_inputs n h.refusal) → Over first (steps ++ step ∷ []) (given ++ told ∷ []) new error
+    called_over error e may spent walked = record {
       told = now;
       refusal = before_inputs n h.refusal;
       may = may;
@@ -84,17 +85,17 @@ module _ (first : State) where
           ap (meaning first.setup (before_inputs n h.refusal) first.text settings) (sym (append-nil now.inputs))
           ∙ (sym (means_is h.refusal [])
           ∙ reply_fault (totals h.refusal []).outcome (fault_of error) (sym h.reply ∙ subst (IsReplied told) e h.status));
-      bounds = bounds;
+      spent = spent;
     }
 
-    called_by : (status : Status) → new.status ≡ status → MayPick first.setup.limits (before_inputs n h.refusal) → Holds first now new → (IsBounded first → IsBounded new) → ((r : Refusal) → (IsLater r ⊎ (r ≡ h.refusal)) → told ≡ reply (totals r []).outcome → Tells first (steps ++ step ∷ []) (given ++ told ∷ []) now (before_inputs n r)) → WentBy first (steps ++ step ∷ []) (given ++ told ∷ []) new status
-    called_by (RequestStatus request on_answer) e may holds bounds walked =
-        called_going (ap faults_in e) holds bounds (λ r l. walked r (inl l))
-    called_by (CompleteStatus value) e may holds bounds walked =
-        called_going (ap faults_in e) holds bounds (λ r l. walked r (inl l))
-    called_by (FaultStatus error) e may holds bounds walked = called_over error e may bounds (walked h.refusal (inr refl) h.reply)
-    called_by (Start initial_value) e may holds bounds walked = absurd (subst (IsReplied told) e h.status)
-    called_by Running e may holds bounds walked = absurd (subst (IsReplied told) e h.status)
+    called_by : (status : Status) → new.status ≡ status → MayPick first.setup.limits (before_inputs n h.refusal) → Holds first now new → SpendsInAll (initial_items now.settings.initial_value) first new → ((r : Refusal) → (IsLater r ⊎ (r ≡ h.refusal)) → told ≡ reply (totals r []).outcome → Tells first (steps ++ step ∷ []) (given ++ told ∷ []) now (before_inputs n r)) → WentBy first (steps ++ step ∷ []) (given ++ told ∷ []) new status
+    called_by (RequestStatus request on_answer) e may holds spent walked =
+        called_going (ap faults_in e) holds spent (λ r l. walked r (inl l))
+    called_by (CompleteStatus value) e may holds spent walked =
+        called_going (ap faults_in e) holds spent (λ r l. walked r (inl l))
+    called_by (FaultStatus error) e may holds spent walked = called_over error e may spent (walked h.refusal (inr refl) h.reply)
+    called_by (Start initial_value) e may holds spent walked = absurd (subst (IsReplied told) e h.status)
+    called_by Running e may holds spent walked = absurd (subst (IsReplied told) e h.status)
 
 -- ---- each call
 
@@ -122,7 +123,7 @@ module _ (first : State) (steps : List Step) (given : List Reply) (x new : State
         object_address = h.kept.object_address ∙ w.holds.object_address;
         maximum = h.kept.maximum ∙ w.holds.maximum;
       })
-      (λ b. h.bounds)
+      (spent_more (initial_items settings.initial_value) first x new w.spent h.spends)
       (λ r l e. walked_more first steps given (given ++ told ∷ []) Evaluate r w.told now (w.walked r)
       (subst (λ (o : Option Outcome). IfSome o IsOver) (sym (unstarted r)) tt)
       (ap (λ (f : Option First). record { settings = settings; first = Some (unwrap_or f settings); inputs = w.told.inputs }) w.started)
@@ -150,7 +151,7 @@ module _ (first : State) (steps : List Step) (given : List Reply) (x new : State
         started = w.started;
         rest_is = w.rest_is;
         holds = w.holds;
-        bounds = w.bounds;
+        spent = w.spent;
       }
 
   -- a call after a fault
@@ -169,7 +170,7 @@ module _ (first : State) (steps : List Step) (given : List Reply) (x new : State
         settings = w.settings;
         started = w.started;
         fails = w.fails;
-        bounds = w.bounds;
+        spent = w.spent;
       }
 
   -- an answer to an open request
@@ -198,7 +199,7 @@ module _ (first : State) (steps : List Step) (given : List Reply) (x new : State
         object_address = h.kept.object_address ∙ w.holds.object_address;
         maximum = h.kept.maximum ∙ w.holds.maximum;
       })
-      (λ b. h.bounds)
+      (spent_more (initial_items settings.initial_value) first x new w.spent h.spends)
       (λ r l s. walked_more first steps given (given ++ told ∷ []) (Resume answer) (before_inputs (suc w.taken) r) w.told now (w.walked (before_input r) (later_before r))
       (subst (Awaits answer) (sym (is r)) kind)
       (ap (λ (o : Option Outcome). after w.told o (Resume answer)) (is r)

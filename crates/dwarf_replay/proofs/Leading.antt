@@ -9,7 +9,7 @@ use Rattle.dwarf_meaning.proofs.Outcomes.{outcome_from}
 use Rattle.dwarf_meaning.specs.Steps.{Step, InitialValue, ObjectAddress, MaxIterations, Evaluate, Resume, Told, Reply, Allows, outcome_of}
 use Rattle.dwarf_replay.specs.Stepping.{MayTake}
 use Rattle.dwarf_replay.specs.Replays.{IsInRequest, IsInFault, AreSet, StandsAt, Tells, IsUnbegun, IsLeft, Leaves, Walks, WalksTo}
-use Rattle.dwarf_meaning.specs.Bounds.{IsBounded}
+use Rattle.dwarf_meaning.specs.Bounds.{SpendsInAll, initial_items}
 use Rattle.dwarf_eval.proofs.Following.{total_open, total_complete}
 use Rattle.dwarf_replay.proofs.Standings.{Holds, Unstarted, Going, WentBy, Went, may_inputs}
 use Rattle.dwarf_replay.proofs.Calling.{some_not_none, going_outcome}
@@ -37,15 +37,15 @@ module _ (first : State) (steps : List Step) (given : List Reply) (x : State) wh
   }
 
 module _ (first : State) (steps : List Step) (given : List Reply) (x : State) (P : Told → Option Outcome → Type 0) where
-  led : (told : Told) (refusal : Refusal) (outcome : Option Outcome) → Tells first steps given told refusal → MayPick first.setup.limits refusal → outcome_of first.setup refusal first.text told ≡ outcome → StandsAt told x outcome → (IsBounded first → IsBounded x) → Leaves first steps given told x x.status → P told outcome → Led first steps given x P
-  led told refusal outcome w may is stands bounds leaves holds = record {
+  led : (told : Told) (refusal : Refusal) (outcome : Option Outcome) → Tells first steps given told refusal → MayPick first.setup.limits refusal → outcome_of first.setup refusal first.text told ≡ outcome → StandsAt told x outcome → SpendsInAll (initial_items told.settings.initial_value) first x → Leaves first steps given told x x.status → P told outcome → Led first steps given x P
+  led told refusal outcome w may is stands spent leaves holds = record {
     walks = record {
       refusal = refusal;
       may = may;
       told = told;
       tells = w;
       stands = subst (StandsAt told x) (sym is) stands;
-      bounds = bounds;
+      spent = spent;
       leaves = leaves;
     };
     holds = subst (P told) (sym is) holds;
@@ -64,7 +64,7 @@ module _ (first : State) (steps : List Step) (given : List Reply) (x : State) (P
 
   led_by : (status : Status) → x.status ≡ status → WentBy first steps given x status → Wanted status → Led first steps given x P
   led_by (Start initial_value) e w wanted =
-      led w.told Never None (w.walked Never) tt (ap (outcome_from first.setup Never first.text w.told.inputs) w.started) (e ∙ ap Start (sym w.initial), are_set w.told w.holds) w.bounds
+      led w.told Never None (w.walked Never) tt (ap (outcome_from first.setup Never first.text w.told.inputs) w.started) (e ∙ ap Start (sym w.initial), are_set w.told w.holds) w.spent
       (subst (Leaves first steps given w.told x) (sym e) (unbegun_leaves first steps given x initial_value w)) (wanted w.told w.started w.initial)
   led_by (RequestStatus request on_answer) e w wanted =
       let position : Position = record { text = x.text; place = x.place } in
@@ -72,21 +72,21 @@ module _ (first : State) (steps : List Step) (given : List Reply) (x : State) (P
       (going_outcome first steps given x w Never tt
       ∙ ap (λ (t : Total). Some t.outcome) (total_open Never x request on_answer e))
       (subst (IsInRequest request (position ∷ x.callers) x) (sym e) (refl, refl), are_set w.told w.holds)
-      w.bounds
+      w.spent
       (subst (Leaves first steps given w.told x) (sym e) (going_leaves first steps given x w))
       (wanted w.told w.settings (position ∷ x.callers) w.started)
   led_by (CompleteStatus value) e w wanted =
       led w.told (before_inputs w.taken Never) (Some (CompleteOutcome x.store.pieces value)) (w.walked Never tt) (may_inputs first.setup.limits w.taken Never tt)
       (going_outcome first steps given x w Never tt ∙ ap (λ (t : Total). Some t.outcome) (total_complete Never x [] value e))
       (e, refl)
-      w.bounds
+      w.spent
       (subst (Leaves first steps given w.told x) (sym e) (going_leaves first steps given x w))
       (wanted w.told w.settings w.started)
   led_by (FaultStatus error) e w wanted =
       led w.told w.refusal (Some (FaultOutcome (fault_of error))) w.walked w.may
       (ap (outcome_from first.setup w.refusal first.text w.told.inputs) w.started ∙ ap Some w.fails)
       (subst (IsInFault (fault_of error)) (sym e) refl)
-      w.bounds
+      w.spent
       (subst (Leaves first steps given w.told x) (sym e) tt)
       (wanted w.told w.settings w.started)
   led_by Running e w wanted = absurd w

@@ -6,11 +6,11 @@ use Rattle.dwarf_meaning.specs.Refusals.{Refusal, before_inputs}
 use Rattle.dwarf_meaning.specs.Meaning.{Outcome, meaning}
 use Rattle.dwarf_meaning.specs.Rest.{State, Status, Start, Running, RequestStatus, CompleteStatus, FaultStatus, with_refusal, Total, total_by, total}
 use Rattle.dwarf_meaning.specs.Steps.{Step, InitialValue, ObjectAddress, MaxIterations, Evaluate, Resume, Told, Reply, Allows, after, step_replies}
-use Rattle.dwarf_eval.specs.Evaluation.{with_initial_value, with_object, with_maximum}
+use Rattle.dwarf_eval.specs.Evaluation.{with_object, with_maximum, with_status}
 use Rattle.dwarf_replay.specs.Stepping.{IsSet}
 use Rattle.dwarf_replay.specs.Replays.{Tells}
-use Rattle.dwarf_meaning.specs.Bounds.{IsBounded}
-use Rattle.dwarf_eval.proofs.Bounded.{set_bounded, initial_bounded}
+use Rattle.dwarf_meaning.specs.Bounds.{Spends, SpendsInAll, initial_items}
+use Rattle.dwarf_eval.proofs.CallSpending.{setting_spends, spent_initial, spent_more}
 use Rattle.dwarf_replay.proofs.Telling.{outcome, walked_more}
 use Rattle.dwarf_replay.proofs.Standings.{Holds, Unstarted, Going, WentBy, Went}
 
@@ -55,9 +55,14 @@ module _ (first : State) where
     maximum : ℕ
     new_is : new ≡ set_to object maximum x
     holds : (told : Told) → Holds first told x → Holds first (tells told) new
-    bounds : IsBounded x → IsBounded new
+    spends : Spends x new
 
   module _ (steps : List Step) (given : List Reply) (step : Step) (x new : State) (s : IsSetting step x new) where
+    set_spent : (told : Told) → SpendsInAll (initial_items told.settings.initial_value) first x → SpendsInAll (initial_items (s.tells told).settings.initial_value) first new
+    set_spent told h =
+        let same : initial_items (s.tells told).settings.initial_value ≡ initial_items told.settings.initial_value = ap initial_items (s.initial_is told) in
+        subst (λ (n : ℕ). SpendsInAll n first new) (sym same) (spent_more (initial_items told.settings.initial_value) first x new h s.spends)
+
     set_walked : (r : Refusal) (told : Told) → Tells first steps given told r → Tells first (steps ++ step ∷ []) given (s.tells told) r
     set_walked r told w =
         walked_more first steps given given step r told (s.tells told) w (s.allowed told _) (s.after_is told _)
@@ -76,7 +81,7 @@ module _ (first : State) where
           ∙ (w.rest_is r inputs l
           ∙ ap (λ (t : Total). t.outcome) (sym (total_set s.object s.maximum r x inputs o) ∙ ap (λ (z : State). total z r inputs) (sym s.new_is)));
       holds = s.holds w.told w.holds;
-      bounds = λ b. s.bounds (w.bounds b);
+      spent = set_spent w.told w.spent;
     }
 
     set_by : (status : Status) → x.status ≡ status → WentBy first steps given x status → WentBy first (steps ++ step ∷ []) given new status
@@ -88,7 +93,7 @@ module _ (first : State) where
       initial = s.initial_is w.told ∙ w.initial;
       text = ap (λ (z : State). z.text) s.new_is ∙ w.text;
       holds = s.holds w.told w.holds;
-      bounds = λ b. s.bounds (w.bounds b);
+      spent = set_spent w.told w.spent;
     }
     set_by (RequestStatus request on_answer) e w = set_going (subst IsOpenOrComplete (sym e) tt) w
     set_by (CompleteStatus value) e w = set_going (subst IsOpenOrComplete (sym e) tt) w
@@ -100,7 +105,7 @@ module _ (first : State) where
       settings = w.settings;
       started = s.first_is w.told ∙ w.started;
       fails = ap (meaning first.setup w.refusal first.text w.settings) (s.inputs_are w.told) ∙ w.fails;
-      bounds = λ b. s.bounds (w.bounds b);
+      spent = set_spent w.told w.spent;
     }
     set_by Running e w = absurd w
 
@@ -109,8 +114,8 @@ module _ (first : State) where
         let status : x.status ≡ new.status = ap (λ (z : State). z.status) (sym s.new_is) in
         subst (WentBy first (steps ++ step ∷ []) given new) status (set_by x.status refl w)
 
-  set_bounds : (object : Option ℕ) (maximum : ℕ) (x new : State) → new ≡ set_to object maximum x → IsBounded x → IsBounded new
-  set_bounds object maximum x new e b = subst IsBounded (sym e) (set_bounded object maximum x b)
+  set_spends : (object : Option ℕ) (maximum : ℕ) (x new : State) → new ≡ set_to object maximum x → Spends x new
+  set_spends object maximum x new e = subst (Spends x) (sym e) (setting_spends object maximum x)
 
   object_setting : (address : ℕ) (x new : State) → new ≡ with_object (Some address) x → IsSetting (ObjectAddress address) x new
   object_setting address x new e = record {
@@ -129,7 +134,7 @@ module _ (first : State) where
       object_address = ap (λ (z : State). z.store.object_address) e;
       maximum = ap (λ (z : State). z.store.maximum) e ∙ h.maximum;
     };
-    bounds = set_bounds (Some address) x.store.maximum x new e;
+    spends = set_spends (Some address) x.store.maximum x new e;
   }
 
   maximum_setting : (maximum : ℕ) (x new : State) → new ≡ with_maximum maximum x → IsSetting (MaxIterations maximum) x new
@@ -149,11 +154,11 @@ module _ (first : State) where
       object_address = ap (λ (z : State). z.store.object_address) e ∙ h.object_address;
       maximum = ap (λ (z : State). z.store.maximum) e;
     };
-    bounds = set_bounds x.store.object_address maximum x new e;
+    spends = set_spends x.store.object_address maximum x new e;
   }
 
   -- the initial value
-  initial_went : (steps : List Step) (given : List Reply) (number : ℕ) (x new : State) → x.status ≡ Start None → new ≡ with_initial_value number x → Went first steps given x → Went first (steps ++ InitialValue number ∷ []) given new
+  initial_went : (steps : List Step) (given : List Reply) (number : ℕ) (x new : State) → x.status ≡ Start None → new ≡ with_status (Start (Some number)) x → Went first steps given x → Went first (steps ++ InitialValue number ∷ []) given new
   initial_went steps given number x new e n h =
       let w : Unstarted first steps given x None = subst (WentBy first steps given x) e h in
       let now = record w.told { settings = record w.told.settings { initial_value = Some number } } in
@@ -171,7 +176,7 @@ module _ (first : State) where
           object_address = ap (λ (z : State). z.store.object_address) n ∙ w.holds.object_address;
           maximum = ap (λ (z : State). z.store.maximum) n ∙ w.holds.maximum;
         };
-        bounds = λ b. subst IsBounded (sym n) (initial_bounded number x e (w.bounds b));
+        spent = spent_initial number first x new e n (subst (λ (v : Option ℕ). SpendsInAll (initial_items v) first x) w.initial w.spent);
       })
 
   pub set_went_on : (steps : List Step) (given : List Reply) (step : Step) (x new : State) → IsSet step x new → Went first steps given x → Went first (steps ++ step ∷ []) given new

@@ -8,7 +8,7 @@ use Rattle.dwarf_meaning.specs.Requests as requests
 use Rattle.dwarf_meaning.specs.Rest.{State, Status, Start}
 use Rattle.dwarf_meaning.specs.Steps as meaning
 use Rattle.dwarf_meaning.specs.Steps.{InitialValue, ObjectAddress, MaxIterations, Evaluate, Resume}
-use Rattle.dwarf_eval.specs.Evaluation.{Evaluates, Resumes, IsClosed, with_initial_value, with_object, with_maximum, input_of}
+use Rattle.dwarf_eval.specs.Evaluation.{Evaluates, Resumes, IsClosed, with_object, with_maximum, input_of, with_status}
 use Rattle.dwarf_eval.specs.Permits.{IsOpenFor}
 use Rattle.dwarf_eval.specs.declared.op.results.EvaluationResult.{EvaluationResult}
 use Rattle.dwarf_replay.specs.declared.steps.Step.{Step}
@@ -45,7 +45,7 @@ MayTake (Resume answer) status = IsOpenFor (kind_of_answer answer) status
 
 -- a setting
 abbrev pub IsSet : meaning.Step → State → State → Type 0
-IsSet (InitialValue number) old new = (old.status ≡ Start None) × (new ≡ with_initial_value number old)
+IsSet (InitialValue number) old new = (old.status ≡ Start None) × (new ≡ with_status (Start (Some number)) old)
 IsSet (ObjectAddress address) old new = new ≡ with_object (Some address) old
 IsSet (MaxIterations maximum) old new = new ≡ with_maximum maximum old
 IsSet _ old new = ⊥

@@ -9,7 +9,6 @@ use Rattle.dwarf_meaning.specs.declared.kinds.WaitingKind.TheVariants as kind
 use Rattle.dwarf_meaning.specs.Requests as requests
 use Rattle.dwarf_meaning.specs.Rest as rest
 use Rattle.dwarf_meaning.specs.Rest.{Start, Running, RequestStatus, CompleteStatus, FaultStatus}
-use Rattle.dwarf_eval.specs.inner.Bounds.{IsBoundedWithDues}
 use Rattle.dwarf_eval.specs.inner.Machine.{offset_of, typed_by}
 use Rattle.dwarf_eval.specs.declared.op.results.EvaluationResult.{EvaluationResult}
 use Rattle.dwarf_eval.specs.declared.op.results.EvaluationResult.TheVariants as result
@@ -65,10 +64,9 @@ IsAtRestBy x (RequestStatus request on_answer) = IsFor (kind_of_request request)
 IsAtRestBy x Running = ⊥
 IsAtRestBy x _ = Unit {0}
 
--- between calls nothing runs, and the bounds hold
-pub record IsAtRest (x : rest.State) : Type 0 where
-  pub rests : IsAtRestBy x x.status
-  pub bounded : IsBoundedWithDues x
+-- between calls nothing runs
+abbrev pub IsAtRest : rest.State → Type 0
+IsAtRest x = IsAtRestBy x x.status
 
 -- after the end the result is completion, and after a fault that fault
 abbrev pub IsEndedBy : {R O P : Type 0} → Result (EvaluationResult R O P) Error → rest.Status → Type 0

@@ -20,9 +20,8 @@ use Rattle.dwarf_meaning.specs.Meaning.{Outcome, FaultOutcome, CompleteOutcome, 
 use Rattle.dwarf_meaning.specs.Rest.{State, Status, Start, Running, RequestStatus, CompleteStatus, FaultStatus, with_refusal}
 pub use Rattle.dwarf_meaning.specs.Rest.{Total, total, total_after}
 use Rattle.dwarf_meaning.specs.Refusals.{Limits, Refusal, MayPick, before_pushes}
-use Rattle.dwarf_meaning.specs.Bounds.{calls_left}
-use Rattle.dwarf_eval.specs.inner.Bounds.{Spends}
-use Rattle.dwarf_meaning.specs.Inputs.{input_of, Keeps}
+use Rattle.dwarf_meaning.specs.Bounds.{Spends, calls_left}
+use Rattle.dwarf_meaning.specs.Inputs.{input_of, Keeps, with_status}
 
 -- ---- steps
 
@@ -36,9 +35,6 @@ pub record Gets {A : Type 0} (limits : Limits) (f : Store → A) (old : Store) (
   pub refusal : Refusal
   pub may : MayPick limits refusal
   pub same : f (with_refusal refusal old) ≡ a
-
-abbrev pub with_status : Status → State → State
-with_status status x = record x { status = status }
 
 abbrev pub with_store : Store → State → State
 with_store s x = record x { store = s }

@@ -1,4 +1,4 @@
-ghost use Rattle.std.specs.Prelude.{◌≡◌, ◌<◌, ◌≤◌, [], None, IfOk, map};
+ghost use Rattle.std.specs.Prelude.{◌≡◌, ◌<◌, ◌≤◌, [], None, Some, IfOk, map};
 ghost use Rattle.dwarf_meaning.specs.declared.kinds.WaitingKind.TheVariants as kind;
 ghost use Rattle.dwarf_meaning.specs.Kinds.{kind_of_answer};
 ghost use Rattle.dwarf_meaning.specs.Requests as requests;
@@ -6,8 +6,8 @@ ghost use Rattle.dwarf_meaning.specs.Rest.{Start, CompleteStatus};
 ghost use Rattle.dwarf_meaning.specs.Run.{most};
 ghost use Rattle.dwarf_eval.specs.Permits.{Admits, AnswersWith, IsOpenFor, Permits, Shows};
 ghost use Rattle.dwarf_eval.specs.inner.Answers.{answer_of};
-ghost use Rattle.dwarf_meaning.specs.Bounds.{IsBounded, IsUnspent, calls_left};
-ghost use Rattle.dwarf_eval.specs.Evaluation.{Evaluates, HasResult, IsClosed, IsComplete, Resumes, with_initial_value, with_maximum, with_object, input_of};
+ghost use Rattle.dwarf_meaning.specs.Bounds.{IsUnspent, calls_left};
+ghost use Rattle.dwarf_eval.specs.Evaluation.{Evaluates, HasResult, IsClosed, IsComplete, Resumes, with_maximum, with_object, input_of, with_status};
 ghost use Rattle.dwarf_meaning.specs.Stores.{setup_of};
 ghost use Rattle.dwarf_op.specs.Views.{piece_of};
 
@@ -149,11 +149,10 @@ impl<R: Reader + Copy, S: EvaluationStorage<R>> Evaluation<R, S> {
         self.machine.restart(bytecode, encoding);
     }
 
-    /// Where the evaluation stands, and so which calls it allows. Between calls the bounds hold.
+    /// Where the evaluation stands, and so which calls it allows.
     pub fn status(&self) -> Status
         ensures shows { Shows self.now.status result }
         ensures permits { Permits self.now.status result }
-        ensures bounds { IsBounded self.now }
     {
         match self.machine.state() {
             EvaluationState::Start(initial_value) => Status::Start {
@@ -174,9 +173,9 @@ impl<R: Reader + Copy, S: EvaluationStorage<R>> Evaluation<R, S> {
     /// the stack is empty then, and an expression that takes a value from it is `NotEnoughStackItems`.
     pub fn set_initial_value(&mut self, value: u64)
         requires { self.old.status ≡ Start None }
-        ensures { self.new ≡ with_initial_value value self.old }
+        ensures { self.new ≡ with_status (Start (Some value)) self.old }
     {
-        self.machine.set_initial_value(value);
+        self.machine.enter(EvaluationState::Start(Some(value)));
     }
 
     /// Sets the address of the object that is described, for `DW_OP_push_object_address`. It holds from now on. Without

@@ -3,7 +3,7 @@ ghost use Rattle.dwarf_meaning.specs.Kinds.{kind_of_request};
 ghost use Rattle.dwarf_eval.specs.inner.Steps.{HasReply};
 ghost use Rattle.dwarf_eval.specs.Permits.{Admits};
 ghost use Rattle.dwarf_eval.specs.Evaluation.{IsReplied, reply_of, request_in};
-ghost use Rattle.dwarf_eval.specs.inner.Answers.{IsAtRestBy, IsEndedBy};
+ghost use Rattle.dwarf_eval.specs.inner.Answers.{IsAtRest, IsEndedBy};
 
 use crate::op::EvaluationResult;
 use crate::run::machine::Machine;
@@ -44,7 +44,7 @@ pub(crate) fn reply<R: Reader + Copy, S: EvaluationStorage<R>>(
     ensures reply { IsReplied (reply_of R.text R.Offset.number result)
         machine.now.status }
     ensures ends { IsEndedBy result machine.now.status }
-    ensures rests { IsAtRestBy machine.now machine.now.status }
+    ensures rests { IsAtRest machine.now }
     ensures admits { IfOk result (λ replied. Admits replied machine.now.status) }
 {
     // Most replies are requests. A test of that first costs less than a jump by a table.

@@ -4,8 +4,8 @@ ghost use Rattle.dwarf_meaning.specs.Requests as requests;
 ghost use Rattle.dwarf_meaning.specs.Rest.{Running};
 ghost use Rattle.dwarf_meaning.specs.Stores.{Pushed, push_value};
 ghost use Rattle.dwarf_eval.specs.inner.Answers.{IsWaitingFor, IsWaitingTo, answer_of};
-ghost use Rattle.dwarf_meaning.specs.Inputs.{input_of};
-ghost use Rattle.dwarf_eval.specs.inner.Steps.{Comes, HasReply, Takes, Tried, total_after, with_last, with_status};
+ghost use Rattle.dwarf_meaning.specs.Inputs.{input_of, with_status};
+ghost use Rattle.dwarf_eval.specs.inner.Steps.{Comes, HasReply, Takes, Tried, total_after, with_last};
 
 use crate::run::machine::Machine;
 use crate::run::states::{EvaluationState, Given, OnAnswer};

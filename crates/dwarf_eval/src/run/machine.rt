@@ -10,12 +10,12 @@ ghost use Rattle.dwarf_meaning.specs.Run.{most, read};
 ghost use Rattle.dwarf_meaning.specs.Stores.{Called, Located, Pieced, Plain, Pushed, address_bits, push_value, push_piece, setup_of};
 ghost use Rattle.dwarf_op.specs.Views.{operation_of, location_of, piece_of};
 ghost use Rattle.dwarf_meaning.specs.Bounds.{IsUnspent};
-ghost use Rattle.dwarf_meaning.specs.Inputs.{IsFresh, with_initial_value, with_maximum, with_object};
+ghost use Rattle.dwarf_meaning.specs.Inputs.{IsFresh, with_maximum, with_object, with_status};
 ghost use Rattle.dwarf_eval.specs.inner.Answers.{IsDoneWith};
 ghost use Rattle.dwarf_eval.specs.inner.Machine.{IsAlike, IsIn, last_of, status_of};
 ghost use Rattle.dwarf_eval.specs.declared.run.states.EvaluationState.TheVariants as states;
 ghost use Rattle.dwarf_eval.specs.declared.run.states.OnAnswer.TheVariants as on;
-ghost use Rattle.dwarf_eval.specs.inner.Steps.{CountsOne, GoesBack, Jumps, Pops, PopsGenerics, ReadsOperation, Tries, TriesToEnter, at, has_failed, is_free, is_running, read_to, with_last, with_status};
+ghost use Rattle.dwarf_eval.specs.inner.Steps.{CountsOne, GoesBack, Jumps, Pops, PopsGenerics, ReadsOperation, Tries, TriesToEnter, at, has_failed, is_free, is_running, read_to, with_last};
 
 use crate::op::EvaluationResult;
 use crate::run::states::{EvaluationState, LastOperation, OnAnswer};
@@ -45,8 +45,7 @@ pub(crate) struct Machine<R: Reader + Copy, S: EvaluationStorage<R>> {
     stack: S::Stack,
     expression_stack: S::ExpressionStack,
     pieces: S::Result,
-    // Contracts alone see these.
-    initial_values: Ticks,
+    // Contracts alone see it.
     decodings: Ticks,
 }
 
@@ -67,7 +66,6 @@ impl<R: Reader + Copy, S: EvaluationStorage<R>> Model for Machine<R, S> {
       callers = callers_of R.text (S.ExpressionStack.items e.expression_stack);
       store = store_of R.text R.Offset.number (S.Stack.items e.stack) (S.Result.items e.pieces)
           e.iteration e.object_address e.max_iterations e.last e.location;
-      initial_values = e.initial_values.count;
       decodings = e.decodings.count;
     } };
 
@@ -491,15 +489,6 @@ impl<R: Reader + Copy, S: EvaluationStorage<R>> Machine<R, S> {
         true
     }
 
-    /// Sets the value that is on the stack at the start.
-    pub(crate) fn set_initial_value(&mut self, value: u64)
-        requires { self.old.initial_values ≡ 0 }
-        ensures { self.new ≡ with_initial_value value self.old }
-    {
-        self.state = EvaluationState::Start(Some(value));
-        self.initial_values.tick();
-    }
-
     /// Sets the address of the object that is described.
     pub(crate) fn set_object_address(&mut self, value: u64)
         ensures { self.new ≡ with_object (Some value) self.old }
@@ -556,7 +545,6 @@ impl<R: Reader + Copy, S: EvaluationStorage<R>> Machine<R, S> {
         self.iteration = 0;
         self.running = (bytecode, bytecode);
         self.last = LastOperation::Nothing;
-        self.initial_values = Ticks::new();
         self.decodings = Ticks::new();
     }
 
@@ -598,7 +586,6 @@ impl<R: Reader + Copy, S: EvaluationStorage<R>> Machine<R, S> {
             stack,
             expression_stack,
             pieces,
-            initial_values: Ticks::new(),
             decodings: Ticks::new(),
         }
     }

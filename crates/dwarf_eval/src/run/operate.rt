@@ -6,13 +6,14 @@ ghost use Rattle.dwarf_meaning.specs.Rest.{Running, FaultStatus};
 ghost use Rattle.dwarf_meaning.specs.Stores.{address_bits, push_values};
 ghost use Rattle.dwarf_base.specs.declared.errors.Error.TheVariants.{NotEnoughStackItems, UnsupportedEvaluation};
 ghost use Rattle.dwarf_value.specs.Values.{add_of, from_u64_of, to_u64_of, type_of};
+ghost use Rattle.dwarf_meaning.specs.Inputs.{with_status};
 ghost use Rattle.dwarf_eval.specs.Evaluation.{request_in};
 ghost use Rattle.dwarf_eval.specs.inner.Machine.{IsAlike, done_with};
 ghost use Rattle.dwarf_eval.specs.declared.run.states.EvaluationState.TheVariants as states;
 ghost use Rattle.dwarf_eval.specs.declared.run.states.OnAnswer.TheVariants as on;
 ghost use Rattle.dwarf_op.specs.Views.{location_of};
 ghost use Rattle.dwarf_eval.specs.inner.Operators.{unary_of};
-ghost use Rattle.dwarf_eval.specs.inner.Steps.{Asks, Performs, PopsNumber, PushesAllPlain, PushesPlain, Tries, act_of, at, with_status};
+ghost use Rattle.dwarf_eval.specs.inner.Steps.{Asks, Performs, PopsNumber, PushesAllPlain, PushesPlain, Tries, act_of, at};
 
 use crate::op::EvaluationResult;
 use crate::run::binary::BinaryOperator;

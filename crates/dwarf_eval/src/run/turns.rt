@@ -2,12 +2,12 @@ ghost use Rattle.std.specs.Prelude.{◌≡◌, ◌<◌, length, false};
 ghost use Rattle.dwarf_base.specs.Reads.{IsLeftOf};
 ghost use Rattle.dwarf_meaning.specs.Operations as meant;
 ghost use Rattle.dwarf_meaning.specs.Meaning.{whole as meant_whole, finish, finish_value};
-ghost use Rattle.dwarf_meaning.specs.Inputs.{IsFresh};
+ghost use Rattle.dwarf_meaning.specs.Inputs.{IsFresh, with_status};
 ghost use Rattle.dwarf_meaning.specs.Rest.{Running, Start, CompleteStatus};
 ghost use Rattle.dwarf_meaning.specs.RunLaws.{waits_of};
 ghost use Rattle.dwarf_meaning.specs.Stores.{Located};
 ghost use Rattle.dwarf_op.specs.Views.{operation_of, location_of, piece_of};
-ghost use Rattle.dwarf_eval.specs.inner.Steps.{Closes, Comes, CompletesWith, EndsLocated, HasReply, IsReady, Turns, at, goes_on, is_free, total, with_status};
+ghost use Rattle.dwarf_eval.specs.inner.Steps.{Closes, Comes, CompletesWith, EndsLocated, HasReply, IsReady, Turns, at, goes_on, is_free, total};
 
 use crate::op::EvaluationResult;
 use crate::run::machine::Machine;

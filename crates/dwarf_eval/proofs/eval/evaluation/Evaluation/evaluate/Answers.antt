@@ -12,9 +12,9 @@ returns-clause-follows g c =
     let x : State = c.self.inside.machine in
     let new : State = c.start.new.self in
     let starts = sym c.in-Start.ensures in
-    let follows = comes_follow x (total x) new (reply_of text number c.reply-2.result) c.start.ensures.comes c.reply-2.ensures.reply c.self.invariant.bounded in
+    let follows = comes_follow x (total x) new (reply_of text number c.reply-2.result) c.start.ensures.comes c.reply-2.ensures.reply in
     subst (λ (z : State). Evaluates text number z new c.reply-2.result z.status) c.self.view_is (subst (Evaluates text number x new c.reply-2.result) (sym starts) follows)
 
 pub start-requires : goal.start-requires
 start-requires g c =
-    let starts = sym c.in-Start.ensures in record { starts = starts; fresh = subst (IsAtRestBy c.self.inside.machine) starts c.self.invariant.rests }
+    let starts = sym c.in-Start.ensures in record { starts = starts; fresh = subst (IsAtRestBy c.self.inside.machine) starts c.self.invariant }

@@ -14,7 +14,7 @@ resume-requires g c =
     let x : State = c.self.inside.machine in
     let kind = kind_of_answer (answer_of g.R.Reader.text c.args.given) in
     let is_open = subst (λ (z : State). IsOpenFor kind z.status) (sym c.self.view_is) c.requires in
-    waits x kind x.status (sym c.has_failed.ensures ∙ c.if-not-has_failed.true) c.self.invariant.rests is_open
+    waits x kind x.status (sym c.has_failed.ensures ∙ c.if-not-has_failed.true) c.self.invariant is_open
 
 pub returns-clause-follows : goal.returns-clause-follows
 returns-clause-follows g c =
@@ -30,8 +30,8 @@ returns-clause-follows g c =
     elim c.if-not-has_failed.branch [
       | then-not-has_failed w ↦
           let came = subst (λ (z : State). Comes x (total_after x input) z) (sym (ap (λ z. z.machine) w.self-inside-is)) w.resume.ensures.comes in
-          let now = waits x kind x.status (sym c.has_failed.ensures ∙ w.if-not-has_failed.true) c.self.invariant.rests is_open in
-          resumed text number input x new c.reply.result kind x.status now (comes_follow x (total_after x input) new (reply_of text number c.reply.result) came c.reply.ensures.reply c.self.invariant.bounded)
+          let now = waits x kind x.status (sym c.has_failed.ensures ∙ w.if-not-has_failed.true) c.self.invariant is_open in
+          resumed text number input x new c.reply.result kind x.status now (comes_follow x (total_after x input) new (reply_of text number c.reply.result) came c.reply.ensures.reply)
       | else-not-has_failed w ↦
           let stays : new ≡ x = ap (λ z. z.machine) w.self-inside-is in
           let ended = subst (λ (z : State). IsEndedBy c.reply.result z.status) stays c.reply.ensures.ends in

@@ -23,14 +23,7 @@ as_text context bytes = record { bytes = bytes; is_big = context.is_big }
 -- an operand that is an unsigned number: how it stands, or what it is
 pub data Form : Type 0 where
   Fixed : (size : ℕ) → Form
-  Address : Form
-  Leb128 : Form
-  Offset : Form
-  RegisterNumber : Form
-  PieceSize : Form
-  WasmIndex : Form
-  SectionOffset : Form
-  InfoReference : Form
+  Address Leb128 Offset RegisterNumber PieceSize WasmIndex SectionOffset InfoReference : Form
 
 -- an operand that is a signed number, in two's complement
 pub data SignedForm : Type 0 where
@@ -39,8 +32,7 @@ pub data SignedForm : Type 0 where
 
 -- how the bytes of an unsigned number are laid out
 pub data Layout : Type 0 where
-  InBytes : (size : ℕ) → Layout
-  InAddress : (size : ℕ) → Layout
+  InBytes InAddress : (size : ℕ) → Layout
   InLeb128 : Layout
 
 -- in version 2 of DWARF a reference into `.debug_info` is as wide as an address

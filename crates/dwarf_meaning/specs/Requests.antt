@@ -10,12 +10,8 @@ use Rattle.dwarf_meaning.specs.declared.kinds.WaitingKind.{WaitingKind}
 pub data Request : Type 0 where
   RequiresMemory : (address size : ℕ) (space : Option ℕ) (base_type : ℕ) → Request
   RequiresRegister : (register base_type : ℕ) → Request
-  RequiresWasmLocal : (index : ℕ) → Request
-  RequiresWasmGlobal : (index : ℕ) → Request
-  RequiresWasmStack : (index : ℕ) → Request
-  RequiresFrameBase : Request
-  RequiresTls : (index : ℕ) → Request
-  RequiresCallFrameCfa : Request
+  RequiresWasmLocal RequiresWasmGlobal RequiresWasmStack RequiresTls : (index : ℕ) → Request
+  RequiresFrameBase RequiresCallFrameCfa : Request
   RequiresAtLocation : (offset : DieReference) → Request
   RequiresEntryValue : (expression : Text) → Request
   RequiresParameterRef : (offset : ℕ) → Request
@@ -32,8 +28,7 @@ pub data OnAnswer : Type 0 where
   -- these bytes are pushed as a value of the type
   Parse : (literal : Text) → OnAnswer
   -- the top becomes a value of the type: by its number, or by its bits
-  Convert : OnAnswer
-  Reinterpret : OnAnswer
+  Convert Reinterpret : OnAnswer
 
 -- an answer: a value or a number of the kind that was asked for, a text, or a type
 pub data Answer : Type 0 where

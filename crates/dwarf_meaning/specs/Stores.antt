@@ -34,17 +34,11 @@ setup_of encoding offset_bits values callers pieces = record {
 abbrev pub address_bits : Setup → ℕ
 address_bits setup = 8 * setup.encoding.address_size
 
--- of what sort the last operation was
+-- Of what sort the last operation was: there is none yet; it was plain, that is, it asked nothing, gave no location and
+-- ended no piece; it ended a piece; its answer was pushed; it is a call that was answered by an empty text; or its
+-- location waits for a piece.
 pub data Last : Type 0 where
-  Nothing : Last
-  -- it asked nothing, gave no location and ended no piece
-  Plain : Last
-  Pieced : Last
-  -- an answer was pushed
-  Pushed : Last
-  -- a call was answered by an empty text
-  Called : Last
-  -- its location waits for a piece
+  Nothing Plain Pieced Pushed Called : Last
   Located : (location : Location) → Last
 
 -- what a run keeps

@@ -8,7 +8,7 @@ use Rattle.dwarf_base.specs.Reads.{Text}
 use Rattle.dwarf_value.specs.declared.types.Value.{Value}
 use Rattle.dwarf_value.specs.declared.types.Value.TheVariants.{Generic}
 use Rattle.dwarf_value.specs.declared.types.ValueType.{ValueType}
-use Rattle.dwarf_value.specs.Values.{add_of, from_u64_of, type_of, convert_of, reinterpret_of, parse_of}
+use Rattle.dwarf_value.specs.Values.{from_u64_of, type_of, convert_of, reinterpret_of, parse_of, binary_of, Plus}
 use Rattle.dwarf_meaning.specs.declared.kinds.WaitingKind.TheVariants as kind
 use Rattle.dwarf_meaning.specs.Kinds.{kind_of_request}
 use Rattle.dwarf_meaning.specs.declared.kinds.WaitingKind.{WaitingKind}
@@ -65,15 +65,15 @@ module _ (bits : ℕ) (values : List Value) where
 
   -- ---- answers from which a value is made
 
-  register_is : (offset : ℤ) (x : Value) → use_of bits (Add offset) (ValueAnswer kind.Register x) values ≡ on_result (result_of (add_of bits x (from_u64_of (type_of x) (residue 64 offset)))) FaultUse (PushesAnswer values)
+  register_is : (offset : ℤ) (x : Value) → use_of bits (Add offset) (ValueAnswer kind.Register x) values ≡ on_result (result_of (binary_of Plus bits x (from_u64_of (type_of x) (residue 64 offset)))) FaultUse (PushesAnswer values)
   unfolding use_of
   register_is offset x = refl
 
-  pub register_gives : (offset : ℤ) (x v : Value) → add_of bits x (from_u64_of (type_of x) (residue 64 offset)) ≡ Ok v → use_of bits (Add offset) (ValueAnswer kind.Register x) values ≡ PushesAnswer values v
-  register_gives offset x v e = register_is offset x ∙ answer_ok (add_of bits x (from_u64_of (type_of x) (residue 64 offset))) FaultUse (PushesAnswer values) v e
+  pub register_gives : (offset : ℤ) (x v : Value) → binary_of Plus bits x (from_u64_of (type_of x) (residue 64 offset)) ≡ Ok v → use_of bits (Add offset) (ValueAnswer kind.Register x) values ≡ PushesAnswer values v
+  register_gives offset x v e = register_is offset x ∙ answer_ok (binary_of Plus bits x (from_u64_of (type_of x) (residue 64 offset))) FaultUse (PushesAnswer values) v e
 
-  pub register_denies : (offset : ℤ) (x : Value) (error : Error) → add_of bits x (from_u64_of (type_of x) (residue 64 offset)) ≡ Err error → use_of bits (Add offset) (ValueAnswer kind.Register x) values ≡ FaultUse (fault_of error)
-  register_denies offset x error e = register_is offset x ∙ answer_err (add_of bits x (from_u64_of (type_of x) (residue 64 offset))) FaultUse (PushesAnswer values) error e
+  pub register_denies : (offset : ℤ) (x : Value) (error : Error) → binary_of Plus bits x (from_u64_of (type_of x) (residue 64 offset)) ≡ Err error → use_of bits (Add offset) (ValueAnswer kind.Register x) values ≡ FaultUse (fault_of error)
+  register_denies offset x error e = register_is offset x ∙ answer_err (binary_of Plus bits x (from_u64_of (type_of x) (residue 64 offset))) FaultUse (PushesAnswer values) error e
 
   pub frame_base_gives : (offset : ℤ) (base number : ℕ) → number ≡ residue 64 (pos base +ℤ offset) → use_of bits (Add offset) (NumberAnswer kind.FrameBase base) values ≡ PushesAnswer values (Generic number)
   unfolding use_of

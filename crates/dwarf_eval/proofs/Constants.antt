@@ -3,7 +3,7 @@ use Rattle.std.proofs.Common.{ℕ, ◌≡◌, Result, Ok, Err, Some, None, ◌�
 use Rattle.dwarf_base.specs.declared.errors.Error.{Error}
 use Rattle.dwarf_base.specs.declared.errors.Error.TheVariants.{NotEnoughStackItems}
 use Rattle.dwarf_value.specs.declared.types.Value.{Value}
-use Rattle.dwarf_value.specs.Values.{add_of, from_u64_of, type_of}
+use Rattle.dwarf_value.specs.Values.{from_u64_of, type_of, binary_of, Plus}
 use Rattle.dwarf_meaning.specs.Operations as operation
 use Rattle.dwarf_meaning.specs.Acts.{act, unary}
 use Rattle.dwarf_meaning.specs.Stores.{Plain, address_bits, push_value}
@@ -17,7 +17,7 @@ use Rattle.dwarf_eval.proofs.Staying.{stays_popped}
 module _ (constant : ℕ) (old : State) where
   -- the call that is made
   abbrev call : ℕ → Value → Result Value Error
-  call bits x = add_of bits x (from_u64_of (type_of x) constant)
+  call bits x = binary_of Plus bits x (from_u64_of (type_of x) constant)
 
   act_is : act_of old (operation.PlusConstant constant) ≡ unary (call (address_bits old.setup)) old.store.values
   unfolding act

@@ -5,9 +5,9 @@ use Rattle.dwarf_base.specs.Faults.{Fault}
 use Rattle.dwarf_base.specs.Numbers.{residue}
 use Rattle.dwarf_base.specs.Reads.{Text}
 use Rattle.dwarf_value.specs.declared.types.Value.{Value}
-use Rattle.dwarf_value.specs.Values.{type_of, Agree, to_u64_of, from_u64_of, abs_of, neg_of, not_of, add_of, sub_of, mul_of, div_of, rem_of, and_of, or_of, xor_of, shl_of, shr_of, shra_of, eq_of, ge_of, gt_of, le_of, lt_of, ne_of}
+use Rattle.dwarf_value.specs.Values.{type_of, Agree, to_u64_of, from_u64_of, unary_of, binary_of, Plus}
 use Rattle.dwarf_value.specs.Laws.{IsWidth, AgreeingResults}
-use Rattle.dwarf_value.proofs.Agreements.{Agree-refl, Agree-Generic, Agree-sums, to_u64_of-Agree, convert_of-Agree, add_of_constant-Agree, abs_of-Agree, neg_of-Agree, not_of-Agree, add_of-Agree, sub_of-Agree, mul_of-Agree, div_of-Agree, rem_of-Agree, and_of-Agree, or_of-Agree, xor_of-Agree, shl_of-Agree, shr_of-Agree, shra_of-Agree, eq_of-Agree, ge_of-Agree, gt_of-Agree, le_of-Agree, lt_of-Agree, ne_of-Agree}
+use Rattle.dwarf_value.proofs.Agreements.{Agree-refl, Agree-Generic, Agree-sums, to_u64_of-Agree, convert_of-Agree, add_of_constant-Agree, unary_of-Agree, binary_of-Agree}
 use Rattle.dwarf_value.proofs.ValueLaws.{reinterpret_of-Agree}
 use Rattle.dwarf_meaning.specs.Operations as operation
 use Rattle.dwarf_meaning.specs.Operations.{Operation}
@@ -103,28 +103,10 @@ module _ (w : ℕ) where
   act_both object object' operation.Rot values others o (more a none) = refuses
   act_both object object' operation.Rot values others o (more a (more c none)) = refuses
   act_both object object' operation.Rot values others o (more a (more c (more e f))) = pushes f (more a (more e (more c none)))
-  act_both object object' operation.Abs values others o h = unary_acts (abs_of w) values others (abs_of-Agree w) h
-  act_both object object' operation.Neg values others o h = unary_acts (neg_of w) values others (neg_of-Agree w) h
-  act_both object object' operation.Not values others o h = unary_acts (not_of w) values others (not_of-Agree w) h
-  act_both object object' operation.Plus values others o h = binary_acts (add_of w) values others (add_of-Agree w) h
-  act_both object object' operation.Minus values others o h = binary_acts (sub_of w) values others (sub_of-Agree w) h
-  act_both object object' operation.Mul values others o h = binary_acts (mul_of w) values others (mul_of-Agree w) h
-  act_both object object' operation.Div values others o h = binary_acts (div_of w) values others (div_of-Agree w) h
-  act_both object object' operation.Mod values others o h = binary_acts (rem_of w) values others (rem_of-Agree w) h
-  act_both object object' operation.And values others o h = binary_acts (and_of w) values others (and_of-Agree w) h
-  act_both object object' operation.Or values others o h = binary_acts (or_of w) values others (or_of-Agree w) h
-  act_both object object' operation.Xor values others o h = binary_acts (xor_of w) values others (xor_of-Agree w) h
-  act_both object object' operation.Shl values others o h = binary_acts (shl_of w) values others (shl_of-Agree w) h
-  act_both object object' operation.Shr values others o h = binary_acts (shr_of w) values others (shr_of-Agree w) h
-  act_both object object' operation.Shra values others o h = binary_acts (shra_of w) values others (shra_of-Agree w) h
-  act_both object object' operation.Eq values others o h = binary_acts (eq_of w) values others (eq_of-Agree w) h
-  act_both object object' operation.Ge values others o h = binary_acts (ge_of w) values others (ge_of-Agree w) h
-  act_both object object' operation.Gt values others o h = binary_acts (gt_of w) values others (gt_of-Agree w) h
-  act_both object object' operation.Le values others o h = binary_acts (le_of w) values others (le_of-Agree w) h
-  act_both object object' operation.Lt values others o h = binary_acts (lt_of w) values others (lt_of-Agree w) h
-  act_both object object' operation.Ne values others o h = binary_acts (ne_of w) values others (ne_of-Agree w) h
+  act_both object object' (operation.Unary op) values others o h = unary_acts (unary_of op w) values others (unary_of-Agree op w) h
+  act_both object object' (operation.Binary op) values others o h = binary_acts (binary_of op w) values others (binary_of-Agree op w) h
   act_both object object' (operation.PlusConstant value) values others o h =
-      unary_acts (λ x. add_of w x (from_u64_of (type_of x) value)) values others (add_of_constant-Agree w value) h
+      unary_acts (λ x. binary_of Plus w x (from_u64_of (type_of x) value)) values others (add_of_constant-Agree w value) h
   act_both object object' (operation.UnsignedConstant value) values others o h = pushes_one values others _ _ h (Agree-refl w _)
   act_both object object' (operation.SignedConstant value) values others o h = pushes_one values others _ _ h (Agree-refl w _)
   act_both object object' operation.PushObjectAddress values others o h =

@@ -7,7 +7,7 @@ use Rattle.dwarf_base.specs.Numbers.{residue}
 use Rattle.dwarf_base.specs.Reads.{Text}
 use Rattle.dwarf_value.specs.declared.types.Value.{Value}
 use Rattle.dwarf_value.specs.declared.types.Value.TheVariants.{Generic}
-use Rattle.dwarf_value.specs.Values.{type_of, to_u64_of, from_u64_of, abs_of, neg_of, not_of, add_of, sub_of, mul_of, div_of, rem_of, and_of, or_of, xor_of, shl_of, shr_of, shra_of, eq_of, ge_of, gt_of, le_of, lt_of, ne_of, convert_of, reinterpret_of, parse_of}
+use Rattle.dwarf_value.specs.Values.{type_of, to_u64_of, from_u64_of, convert_of, reinterpret_of, parse_of, unary_of, binary_of, Plus}
 use Rattle.dwarf_meaning.specs.Operations as operation
 use Rattle.dwarf_meaning.specs.Operations.{Operation}
 use Rattle.dwarf_meaning.specs.Locations.{Location, Empty, InRegister, AtAddress, HoldsValue, HoldsBytes, PointsInto, Piece, sized}
@@ -79,27 +79,9 @@ module _ (bits : ℕ) (object : Option ℕ) where
   act operation.Swap _ = short
   act operation.Rot (z ∷ y ∷ x ∷ rest) = Pushes rest (z ∷ x ∷ y ∷ [])
   act operation.Rot _ = short
-  act operation.Abs values = unary (abs_of bits) values
-  act operation.Neg values = unary (neg_of bits) values
-  act operation.Not values = unary (not_of bits) values
-  act operation.Plus values = binary (add_of bits) values
-  act operation.Minus values = binary (sub_of bits) values
-  act operation.Mul values = binary (mul_of bits) values
-  act operation.Div values = binary (div_of bits) values
-  act operation.Mod values = binary (rem_of bits) values
-  act operation.And values = binary (and_of bits) values
-  act operation.Or values = binary (or_of bits) values
-  act operation.Xor values = binary (xor_of bits) values
-  act operation.Shl values = binary (shl_of bits) values
-  act operation.Shr values = binary (shr_of bits) values
-  act operation.Shra values = binary (shra_of bits) values
-  act operation.Eq values = binary (eq_of bits) values
-  act operation.Ge values = binary (ge_of bits) values
-  act operation.Gt values = binary (gt_of bits) values
-  act operation.Le values = binary (le_of bits) values
-  act operation.Lt values = binary (lt_of bits) values
-  act operation.Ne values = binary (ne_of bits) values
-  act (operation.PlusConstant value) values = unary (λ x. add_of bits x (from_u64_of (type_of x) value)) values
+  act (operation.Unary op) values = unary (unary_of op bits) values
+  act (operation.Binary op) values = binary (binary_of op bits) values
+  act (operation.PlusConstant value) values = unary (λ x. binary_of Plus bits x (from_u64_of (type_of x) value)) values
   act (operation.UnsignedConstant value) values = push values (Generic value)
   act (operation.SignedConstant value) values = push values (Generic (residue 64 value))
   act operation.PushObjectAddress values =
@@ -163,7 +145,7 @@ module _ (bits : ℕ) where
   -- what an answer is used for, by what is done with it; the values are those on the stack
   unfoldable pub use_of : OnAnswer → Answer → List Value → Use
   use_of (Add offset) (ValueAnswer kind x) values =
-      on_result (result_of (add_of bits x (from_u64_of (type_of x) (residue 64 offset)))) FaultUse (PushesAnswer values)
+      on_result (result_of (binary_of Plus bits x (from_u64_of (type_of x) (residue 64 offset)))) FaultUse (PushesAnswer values)
   use_of _ (ValueAnswer kind value) values = PushesAnswer values value
   use_of (Add offset) (NumberAnswer kind number) values =
       PushesAnswer values (Generic (residue 64 (pos number +ℤ offset)))

@@ -5,6 +5,7 @@ use Rattle.dwarf_base.specs.Reads.{Text}
 use Rattle.dwarf_meaning.specs.Operations as operation
 use Rattle.dwarf_meaning.specs.Operations.{Operation, UnitRef, DebugInfoRef}
 use Rattle.dwarf_meaning.specs.Operands.{Form, Fixed, Address, Leb128, Offset, RegisterNumber, PieceSize, WasmIndex, SectionOffset, InfoReference, SignedForm, SignedFixed, SignedLeb128}
+use Rattle.dwarf_value.specs.Values.{Abs, Neg, Not, Plus, Minus, Mul, Div, Mod, And, Or, Xor, Shl, Shr, Shra, Eq, Ne, Lt, Le, Gt, Ge}
 
 -- What follows an opcode: operands in order, then the operation that their values make; or the opcode has no operation.
 pub data Row : Type 0 where
@@ -83,12 +84,12 @@ lines encoding =
     ∷ plain 0x12 (operation.Pick 0 ∷ operation.Drop ∷ operation.Pick 1 ∷ [])
     ++ one 0x15 (unsigned (Fixed 1) operation.Pick)
     ∷ plain 0x16 (operation.Swap ∷ operation.Rot ∷ operation.Deref 0 encoding.address_size true ∷ [])
-    ++ plain 0x19 (operation.Abs ∷ operation.And ∷ operation.Div ∷ operation.Minus ∷ operation.Mod ∷ [])
-    ++ plain 0x1e (operation.Mul ∷ operation.Neg ∷ operation.Not ∷ operation.Or ∷ operation.Plus ∷ [])
+    ++ plain 0x19 (operation.Unary Abs ∷ operation.Binary And ∷ operation.Binary Div ∷ operation.Binary Minus ∷ operation.Binary Mod ∷ [])
+    ++ plain 0x1e (operation.Binary Mul ∷ operation.Unary Neg ∷ operation.Unary Not ∷ operation.Binary Or ∷ operation.Binary Plus ∷ [])
     ++ one 0x23 (unsigned Leb128 operation.PlusConstant)
-    ∷ plain 0x24 (operation.Shl ∷ operation.Shr ∷ operation.Shra ∷ operation.Xor ∷ [])
+    ∷ plain 0x24 (operation.Binary Shl ∷ operation.Binary Shr ∷ operation.Binary Shra ∷ operation.Binary Xor ∷ [])
     ++ one 0x28 (signed (SignedFixed 2) operation.Bra)
-    ∷ plain 0x29 (operation.Eq ∷ operation.Ge ∷ operation.Gt ∷ operation.Le ∷ operation.Lt ∷ operation.Ne ∷ [])
+    ∷ plain 0x29 (operation.Binary Eq ∷ operation.Binary Ge ∷ operation.Binary Gt ∷ operation.Binary Le ∷ operation.Binary Lt ∷ operation.Binary Ne ∷ [])
     ++ one 0x2f (signed (SignedFixed 2) operation.Skip)
     ∷ range 0x30 0x4f (λ number. Makes (operation.UnsignedConstant number))
     ∷ range 0x50 0x6f (λ number. Makes (operation.Register number))

@@ -1,66 +1,48 @@
 -- Operations of DWARF expressions (DWARF 5, sections 2.5 and 2.6), with no readers in them.
 use Rattle.std.specs.Prelude.{ℕ, ℤ, Bool, Option}
 use Rattle.dwarf_base.specs.Reads.{Text}
+use Rattle.dwarf_value.specs.Values.{UnaryOperator, BinaryOperator}
 
 -- where a called expression stands: in this unit, or in `.debug_info`
 pub data DieReference : Type 0 where
-  UnitRef : (offset : ℕ) → DieReference
-  DebugInfoRef : (offset : ℕ) → DieReference
+  UnitRef DebugInfoRef : (offset : ℕ) → DieReference
 
 -- An operation with its operands. The base type 0 is the generic type.
 pub data Operation : Type 0 where
-  Deref : (base_type size : ℕ) (space : Bool) → Operation
-  Drop : Operation
-  Pick : (index : ℕ) → Operation
-  Swap : Operation
-  Rot : Operation
-  Abs : Operation
-  And : Operation
-  Div : Operation
-  Minus : Operation
-  Mod : Operation
-  Mul : Operation
-  Neg : Operation
-  Not : Operation
-  Or : Operation
-  Plus : Operation
-  PlusConstant : (value : ℕ) → Operation
-  Shl : Operation
-  Shr : Operation
-  Shra : Operation
-  Xor : Operation
-  Bra : (target : ℤ) → Operation
-  Eq : Operation
-  Ge : Operation
-  Gt : Operation
-  Le : Operation
-  Lt : Operation
-  Ne : Operation
-  Skip : (target : ℤ) → Operation
+  -- constants (section 2.5.1.1)
   UnsignedConstant : (value : ℕ) → Operation
   SignedConstant : (value : ℤ) → Operation
-  Register : (register : ℕ) → Operation
-  RegisterOffset : (register : ℕ) (offset : ℤ) (base_type : ℕ) → Operation
+  Address : (address : ℕ) → Operation
+  AddressIndex ConstantIndex : (index : ℕ) → Operation
+  TypedLiteral : (base_type : ℕ) (value : Text) → Operation
+  -- values of registers (section 2.5.1.2)
   FrameOffset : (offset : ℤ) → Operation
-  Nop : Operation
-  PushObjectAddress : Operation
+  RegisterOffset : (register : ℕ) (offset : ℤ) (base_type : ℕ) → Operation
+  -- the stack, and memory (section 2.5.1.3)
+  Drop Swap Rot : Operation
+  Pick : (index : ℕ) → Operation
+  Deref : (base_type size : ℕ) (space : Bool) → Operation
+  PushObjectAddress TLS CallFrameCFA : Operation
+  -- arithmetic and logic (section 2.5.1.4)
+  Unary : UnaryOperator → Operation
+  PlusConstant : (value : ℕ) → Operation
+  -- arithmetic and logic, and comparisons (section 2.5.1.5)
+  Binary : BinaryOperator → Operation
+  -- branches and calls (section 2.5.1.5)
+  Skip Bra : (target : ℤ) → Operation
   Call : (offset : DieReference) → Operation
-  TLS : Operation
-  CallFrameCFA : Operation
-  Piece : (size_in_bits : ℕ) (bit_offset : Option ℕ) → Operation
+  -- types (section 2.5.1.6)
+  Convert Reinterpret : (base_type : ℕ) → Operation
+  -- others (section 2.5.1.7)
+  Nop : Operation
+  EntryValue : (expression : Text) → Operation
+  -- locations and pieces (section 2.6.1)
+  Register : (register : ℕ) → Operation
   ImplicitValue : (bytes : Text) → Operation
   StackValue : Operation
   ImplicitPointer : (value : ℕ) (byte_offset : ℤ) → Operation
-  EntryValue : (expression : Text) → Operation
-  ParameterRef : (offset : ℕ) → Operation
-  Address : (address : ℕ) → Operation
-  AddressIndex : (index : ℕ) → Operation
-  ConstantIndex : (index : ℕ) → Operation
-  TypedLiteral : (base_type : ℕ) (value : Text) → Operation
-  Convert : (base_type : ℕ) → Operation
-  Reinterpret : (base_type : ℕ) → Operation
+  Piece : (size_in_bits : ℕ) (bit_offset : Option ℕ) → Operation
+  -- the extensions of GNU and of WebAssembly
   Uninitialized : Operation
-  WasmLocal : (index : ℕ) → Operation
-  WasmGlobal : (index : ℕ) → Operation
-  WasmStack : (index : ℕ) → Operation
-  VariableValue : (offset : ℕ) → Operation
+  ParameterRef VariableValue : (offset : ℕ) → Operation
+  WasmLocal WasmGlobal WasmStack : (index : ℕ) → Operation

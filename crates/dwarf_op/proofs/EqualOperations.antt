@@ -26,6 +26,7 @@ use denote.Struct.Field.{Field}
 use denote.Struct.Values.{Values}
 use mathlib.Core.Bool.{beq}
 use mir.Syntax.{Dict}
+use Rattle.dwarf_value.specs.Values.{Abs, Neg, Not, Plus, Minus, Mul, Div, Mod, And, Or, Xor, Shl, Shr, Shra, Eq, Ne, Lt, Le, Gt, Ge}
 
 infixr 40 ◌⊳◌
 -- ---- tests
@@ -64,28 +65,28 @@ place meaning.Drop = 1
 place (meaning.Pick index) = 2
 place meaning.Swap = 3
 place meaning.Rot = 4
-place meaning.Abs = 5
-place meaning.And = 6
-place meaning.Div = 7
-place meaning.Minus = 8
-place meaning.Mod = 9
-place meaning.Mul = 10
-place meaning.Neg = 11
-place meaning.Not = 12
-place meaning.Or = 13
-place meaning.Plus = 14
+place (meaning.Unary Abs) = 5
+place (meaning.Binary And) = 6
+place (meaning.Binary Div) = 7
+place (meaning.Binary Minus) = 8
+place (meaning.Binary Mod) = 9
+place (meaning.Binary Mul) = 10
+place (meaning.Unary Neg) = 11
+place (meaning.Unary Not) = 12
+place (meaning.Binary Or) = 13
+place (meaning.Binary Plus) = 14
 place (meaning.PlusConstant value) = 15
-place meaning.Shl = 16
-place meaning.Shr = 17
-place meaning.Shra = 18
-place meaning.Xor = 19
+place (meaning.Binary Shl) = 16
+place (meaning.Binary Shr) = 17
+place (meaning.Binary Shra) = 18
+place (meaning.Binary Xor) = 19
 place (meaning.Bra target) = 20
-place meaning.Eq = 21
-place meaning.Ge = 22
-place meaning.Gt = 23
-place meaning.Le = 24
-place meaning.Lt = 25
-place meaning.Ne = 26
+place (meaning.Binary Eq) = 21
+place (meaning.Binary Ge) = 22
+place (meaning.Binary Gt) = 23
+place (meaning.Binary Le) = 24
+place (meaning.Binary Lt) = 25
+place (meaning.Binary Ne) = 26
 place (meaning.Skip target) = 27
 place (meaning.UnsignedConstant value) = 28
 place (meaning.SignedConstant value) = 29

@@ -24,32 +24,33 @@ use Rattle.dwarf_op.specs.declared.opcodes.Entry.{Entry}
 use Rattle.dwarf_op.specs.declared.opcodes.Entry.TheVariants as entry
 use Rattle.dwarf_op.specs.declared.opcodes.Rare.{Rare}
 use Rattle.dwarf_op.specs.declared.opcodes.Rare.TheVariants as rare_entry
+use Rattle.dwarf_value.specs.Values.{Abs, Neg, Not, Plus, Minus, Mul, Div, Mod, And, Or, Xor, Shl, Shr, Shra, Eq, Ne, Lt, Le, Gt, Ge}
 
 -- the operation without operands
 abbrev pub plain_operation : Plain → meaning.Operation
 plain_operation plain.Drop = meaning.Drop
 plain_operation plain.Swap = meaning.Swap
 plain_operation plain.Rot = meaning.Rot
-plain_operation plain.Abs = meaning.Abs
-plain_operation plain.And = meaning.And
-plain_operation plain.Div = meaning.Div
-plain_operation plain.Minus = meaning.Minus
-plain_operation plain.Mod = meaning.Mod
-plain_operation plain.Mul = meaning.Mul
-plain_operation plain.Neg = meaning.Neg
-plain_operation plain.Not = meaning.Not
-plain_operation plain.Or = meaning.Or
-plain_operation plain.Plus = meaning.Plus
-plain_operation plain.Shl = meaning.Shl
-plain_operation plain.Shr = meaning.Shr
-plain_operation plain.Shra = meaning.Shra
-plain_operation plain.Xor = meaning.Xor
-plain_operation plain.Eq = meaning.Eq
-plain_operation plain.Ge = meaning.Ge
-plain_operation plain.Gt = meaning.Gt
-plain_operation plain.Le = meaning.Le
-plain_operation plain.Lt = meaning.Lt
-plain_operation plain.Ne = meaning.Ne
+plain_operation plain.Abs = meaning.Unary Abs
+plain_operation plain.And = meaning.Binary And
+plain_operation plain.Div = meaning.Binary Div
+plain_operation plain.Minus = meaning.Binary Minus
+plain_operation plain.Mod = meaning.Binary Mod
+plain_operation plain.Mul = meaning.Binary Mul
+plain_operation plain.Neg = meaning.Unary Neg
+plain_operation plain.Not = meaning.Unary Not
+plain_operation plain.Or = meaning.Binary Or
+plain_operation plain.Plus = meaning.Binary Plus
+plain_operation plain.Shl = meaning.Binary Shl
+plain_operation plain.Shr = meaning.Binary Shr
+plain_operation plain.Shra = meaning.Binary Shra
+plain_operation plain.Xor = meaning.Binary Xor
+plain_operation plain.Eq = meaning.Binary Eq
+plain_operation plain.Ge = meaning.Binary Ge
+plain_operation plain.Gt = meaning.Binary Gt
+plain_operation plain.Le = meaning.Binary Le
+plain_operation plain.Lt = meaning.Binary Lt
+plain_operation plain.Ne = meaning.Binary Ne
 plain_operation plain.Nop = meaning.Nop
 plain_operation plain.PushObjectAddress = meaning.PushObjectAddress
 plain_operation plain.TLS = meaning.TLS

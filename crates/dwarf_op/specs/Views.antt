@@ -10,6 +10,7 @@ use Rattle.dwarf_op.specs.declared.operations.Operation.{Operation}
 use Rattle.dwarf_op.specs.declared.operations.Operation.TheVariants as operation
 use Rattle.dwarf_op.specs.declared.operations.DieReference.{DieReference}
 use Rattle.dwarf_op.specs.declared.operations.DieReference.TheVariants as reference
+use Rattle.dwarf_value.specs.Values.{Abs, Neg, Not, Plus, Minus, Mul, Div, Mod, And, Or, Xor, Shl, Shr, Shra, Eq, Ne, Lt, Le, Gt, Ge}
 
 -- a reference of the code, as the definitions have it
 abbrev pub reference_of : {O : Type 0} → (O → ℕ) → DieReference O → meaning.DieReference
@@ -24,28 +25,28 @@ module _ {R O P : Type 0} (text : R → Text) (number : O → ℕ) where
   operation_of (operation.Pick index) = meaning.Pick index
   operation_of operation.Swap = meaning.Swap
   operation_of operation.Rot = meaning.Rot
-  operation_of operation.Abs = meaning.Abs
-  operation_of operation.And = meaning.And
-  operation_of operation.Div = meaning.Div
-  operation_of operation.Minus = meaning.Minus
-  operation_of operation.Mod = meaning.Mod
-  operation_of operation.Mul = meaning.Mul
-  operation_of operation.Neg = meaning.Neg
-  operation_of operation.Not = meaning.Not
-  operation_of operation.Or = meaning.Or
-  operation_of operation.Plus = meaning.Plus
+  operation_of operation.Abs = meaning.Unary Abs
+  operation_of operation.And = meaning.Binary And
+  operation_of operation.Div = meaning.Binary Div
+  operation_of operation.Minus = meaning.Binary Minus
+  operation_of operation.Mod = meaning.Binary Mod
+  operation_of operation.Mul = meaning.Binary Mul
+  operation_of operation.Neg = meaning.Unary Neg
+  operation_of operation.Not = meaning.Unary Not
+  operation_of operation.Or = meaning.Binary Or
+  operation_of operation.Plus = meaning.Binary Plus
   operation_of (operation.PlusConstant value) = meaning.PlusConstant value
-  operation_of operation.Shl = meaning.Shl
-  operation_of operation.Shr = meaning.Shr
-  operation_of operation.Shra = meaning.Shra
-  operation_of operation.Xor = meaning.Xor
+  operation_of operation.Shl = meaning.Binary Shl
+  operation_of operation.Shr = meaning.Binary Shr
+  operation_of operation.Shra = meaning.Binary Shra
+  operation_of operation.Xor = meaning.Binary Xor
   operation_of (operation.Bra target) = meaning.Bra target
-  operation_of operation.Eq = meaning.Eq
-  operation_of operation.Ge = meaning.Ge
-  operation_of operation.Gt = meaning.Gt
-  operation_of operation.Le = meaning.Le
-  operation_of operation.Lt = meaning.Lt
-  operation_of operation.Ne = meaning.Ne
+  operation_of operation.Eq = meaning.Binary Eq
+  operation_of operation.Ge = meaning.Binary Ge
+  operation_of operation.Gt = meaning.Binary Gt
+  operation_of operation.Le = meaning.Binary Le
+  operation_of operation.Lt = meaning.Binary Lt
+  operation_of operation.Ne = meaning.Binary Ne
   operation_of (operation.Skip target) = meaning.Skip target
   operation_of (operation.UnsignedConstant value) = meaning.UnsignedConstant value
   operation_of (operation.SignedConstant value) = meaning.SignedConstant value

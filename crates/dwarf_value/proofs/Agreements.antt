@@ -8,7 +8,7 @@ use Rattle.dwarf_value.specs.declared.types.Value.{Value}
 use Rattle.dwarf_value.specs.declared.types.Value.TheVariants.{Generic, I8, U8, I16, U16, I32, U32, I64, U64}
 use Rattle.dwarf_value.specs.declared.types.ValueType.{ValueType}
 use Rattle.dwarf_value.specs.declared.types.ValueType.TheVariants as kind
-use Rattle.dwarf_value.specs.Values.{type_of, word_integer, integer_of, unsigned_integer, signed_integer, Agree, to_u64_of, from_u64_of, convert_of, add_of, sub_of, mul_of, div_of, rem_of, abs_of, neg_of, not_of, and_of, or_of, xor_of, shl_of, shr_of, shra_of, eq_of, ge_of, gt_of, le_of, lt_of, ne_of}
+use Rattle.dwarf_value.specs.Values.{type_of, word_integer, integer_of, unsigned_integer, signed_integer, Agree, to_u64_of, from_u64_of, convert_of, UnaryOperator, BinaryOperator, unary_of, binary_of, Abs, Neg, Not, Plus, Minus, Mul, Div, Mod, And, Or, Xor, Shl, Shr, Shra, Eq, Ne, Lt, Le, Gt, Ge}
 use Rattle.dwarf_value.specs.Laws.{SameForOne, SameForTwo}
 use Rattle.dwarf_value.proofs.Congruences.{Congruent, Congruent-sym, Congruent-trans, Congruent-add, Congruent-residue, residue-Congruent, residue-lower}
 
@@ -82,99 +82,63 @@ to_u64_of-Agree w x x' a = ap (residue 64) a.integers
 pub convert_of-Agree : (t : ValueType) → SameForOne (λ w. convert_of w t)
 convert_of-Agree t w x x' a = ap (λ n. Ok (from_u64_of t n)) (to_u64_of-Agree w x x' a)
 
-pub add_of_constant-Agree : (w n : ℕ) (x x' : Value) → Agree w x x' → add_of w x (from_u64_of (type_of x) n) ≡ add_of w x' (from_u64_of (type_of x') n)
+pub add_of_constant-Agree : (w n : ℕ) (x x' : Value) → Agree w x x' → binary_of Plus w x (from_u64_of (type_of x) n) ≡ binary_of Plus w x' (from_u64_of (type_of x') n)
 add_of_constant-Agree w n x x' a = let p = a.types in let q = a.integers in cc
 
-pub abs_of-Agree : SameForOne abs_of
-abs_of-Agree w x x' a = let p = a.types in let q = a.integers in let s = signed_integer-Agree w x x' a in cc
+pub unary_of-Agree : (op : UnaryOperator) → SameForOne (unary_of op)
+unary_of-Agree Abs w x x' a = let p = a.types in let q = a.integers in let s = signed_integer-Agree w x x' a in cc
+unary_of-Agree Neg w x x' a = let p = a.types in let q = a.integers in let s = signed_integer-Agree w x x' a in cc
+unary_of-Agree Not w x x' a = let p = a.types in let q = a.integers in cc
 
-pub neg_of-Agree : SameForOne neg_of
-neg_of-Agree w x x' a = let p = a.types in let q = a.integers in let s = signed_integer-Agree w x x' a in cc
-
-pub not_of-Agree : SameForOne not_of
-not_of-Agree w x x' a = let p = a.types in let q = a.integers in cc
-
-pub add_of-Agree : SameForTwo add_of
-add_of-Agree w x x' y y' a b =
+pub binary_of-Agree : (op : BinaryOperator) → SameForTwo (binary_of op)
+binary_of-Agree Plus w x x' y y' a b =
     let p = a.types in let q = b.types in let i = a.integers in let j = b.integers in
     cc
-
-pub sub_of-Agree : SameForTwo sub_of
-sub_of-Agree w x x' y y' a b =
+binary_of-Agree Minus w x x' y y' a b =
     let p = a.types in let q = b.types in let i = a.integers in let j = b.integers in
     cc
-
-pub mul_of-Agree : SameForTwo mul_of
-mul_of-Agree w x x' y y' a b =
+binary_of-Agree Mul w x x' y y' a b =
     let p = a.types in let q = b.types in let i = a.integers in let j = b.integers in
     cc
-
-pub div_of-Agree : SameForTwo div_of
-div_of-Agree w x x' y y' a b =
+binary_of-Agree Div w x x' y y' a b =
     let p = a.types in let q = b.types in let i = a.integers in let j = b.integers in
     let s = signed_integer-Agree w x x' a in let t = signed_integer-Agree w y y' b in cc
-
-pub rem_of-Agree : SameForTwo rem_of
-rem_of-Agree w x x' y y' a b =
+binary_of-Agree Mod w x x' y y' a b =
     let p = a.types in let q = b.types in let i = a.integers in let j = b.integers in
     cc
-
-pub and_of-Agree : SameForTwo and_of
-and_of-Agree w x x' y y' a b =
+binary_of-Agree And w x x' y y' a b =
     let p = a.types in let q = b.types in let i = a.integers in let j = b.integers in
     cc
-
-pub or_of-Agree : SameForTwo or_of
-or_of-Agree w x x' y y' a b =
+binary_of-Agree Or w x x' y y' a b =
     let p = a.types in let q = b.types in let i = a.integers in let j = b.integers in
     cc
-
-pub xor_of-Agree : SameForTwo xor_of
-xor_of-Agree w x x' y y' a b =
+binary_of-Agree Xor w x x' y y' a b =
     let p = a.types in let q = b.types in let i = a.integers in let j = b.integers in
     cc
-
-pub shl_of-Agree : SameForTwo shl_of
-shl_of-Agree w x x' y y' a b =
+binary_of-Agree Shl w x x' y y' a b =
     let p = a.types in let q = b.types in let i = a.integers in let j = b.integers in
     cc
-
-pub shr_of-Agree : SameForTwo shr_of
-shr_of-Agree w x x' y y' a b =
+binary_of-Agree Shr w x x' y y' a b =
     let p = a.types in let q = b.types in let i = a.integers in let j = b.integers in
     cc
-
-pub shra_of-Agree : SameForTwo shra_of
-shra_of-Agree w x x' y y' a b =
+binary_of-Agree Shra w x x' y y' a b =
     let p = a.types in let q = b.types in let i = a.integers in let j = b.integers in
     let s = signed_integer-Agree w x x' a in let t = signed_integer-Agree w y y' b in cc
-
-pub eq_of-Agree : SameForTwo eq_of
-eq_of-Agree w x x' y y' a b =
+binary_of-Agree Eq w x x' y y' a b =
     let p = a.types in let q = b.types in let i = a.integers in let j = b.integers in
     let s = signed_integer-Agree w x x' a in let t = signed_integer-Agree w y y' b in cc
-
-pub ge_of-Agree : SameForTwo ge_of
-ge_of-Agree w x x' y y' a b =
+binary_of-Agree Ne w x x' y y' a b =
     let p = a.types in let q = b.types in let i = a.integers in let j = b.integers in
     let s = signed_integer-Agree w x x' a in let t = signed_integer-Agree w y y' b in cc
-
-pub gt_of-Agree : SameForTwo gt_of
-gt_of-Agree w x x' y y' a b =
+binary_of-Agree Lt w x x' y y' a b =
     let p = a.types in let q = b.types in let i = a.integers in let j = b.integers in
     let s = signed_integer-Agree w x x' a in let t = signed_integer-Agree w y y' b in cc
-
-pub le_of-Agree : SameForTwo le_of
-le_of-Agree w x x' y y' a b =
+binary_of-Agree Le w x x' y y' a b =
     let p = a.types in let q = b.types in let i = a.integers in let j = b.integers in
     let s = signed_integer-Agree w x x' a in let t = signed_integer-Agree w y y' b in cc
-
-pub lt_of-Agree : SameForTwo lt_of
-lt_of-Agree w x x' y y' a b =
+binary_of-Agree Gt w x x' y y' a b =
     let p = a.types in let q = b.types in let i = a.integers in let j = b.integers in
     let s = signed_integer-Agree w x x' a in let t = signed_integer-Agree w y y' b in cc
-
-pub ne_of-Agree : SameForTwo ne_of
-ne_of-Agree w x x' y y' a b =
+binary_of-Agree Ge w x x' y y' a b =
     let p = a.types in let q = b.types in let i = a.integers in let j = b.integers in
     let s = signed_integer-Agree w x x' a in let t = signed_integer-Agree w y y' b in cc

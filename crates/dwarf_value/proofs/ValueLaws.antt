@@ -19,7 +19,7 @@ use Rattle.dwarf_value.specs.Laws.{IsWidth, Trichotomy, Opposites, QuotientAndRe
 use Rattle.dwarf_value.proofs.Congruences.{Congruent, Congruent-sym, Congruent-trans, Congruent-add, Congruent-neg, Congruent-mul, Congruent-lower, Congruent-residue}
 use Rattle.dwarf_value.proofs.Integers.{int_eq-false}
 use Rattle.dwarf_value.proofs.RoundTrips.{type_of-value_of, integer_of-value_of, Congruent-Generic, Agree-content, value_of-Congruent, Agree-value_of, value_of-unsigned_integer, integer_of-typed, Congruent-all_bits, bit_size_of-le, bit_size_of-below}
-use Rattle.dwarf_value.proofs.Agreements.{to_u64_of-Agree, convert_of-Agree, add_of_constant-Agree, abs_of-Agree, neg_of-Agree, not_of-Agree, add_of-Agree, sub_of-Agree, mul_of-Agree, div_of-Agree, rem_of-Agree, and_of-Agree, or_of-Agree, xor_of-Agree, shl_of-Agree, shr_of-Agree, shra_of-Agree, eq_of-Agree, ge_of-Agree, gt_of-Agree, le_of-Agree, lt_of-Agree, ne_of-Agree}
+use Rattle.dwarf_value.proofs.Agreements.{to_u64_of-Agree, convert_of-Agree, add_of_constant-Agree, unary_of-Agree, binary_of-Agree}
 
 -- ---- comparisons
 
@@ -226,24 +226,6 @@ agreement_is_kept = record {
   convert = convert_of-Agree;
   reinterpret = reinterpret_of-Agree;
   add_constant = add_of_constant-Agree;
-  abs = abs_of-Agree;
-  neg = neg_of-Agree;
-  not = not_of-Agree;
-  add = add_of-Agree;
-  sub = sub_of-Agree;
-  mul = mul_of-Agree;
-  div = div_of-Agree;
-  rem = rem_of-Agree;
-  and = and_of-Agree;
-  or = or_of-Agree;
-  xor = xor_of-Agree;
-  shl = shl_of-Agree;
-  shr = shr_of-Agree;
-  shra = shra_of-Agree;
-  eq = eq_of-Agree;
-  ge = ge_of-Agree;
-  gt = gt_of-Agree;
-  le = le_of-Agree;
-  lt = lt_of-Agree;
-  ne = ne_of-Agree;
+  unary = unary_of-Agree;
+  binary = binary_of-Agree;
 }

@@ -6,7 +6,7 @@ use Rattle.dwarf_value.specs.declared.types.Value.{Value}
 use Rattle.dwarf_value.specs.declared.types.Value.TheVariants.{Generic, I8, U8, I16, U16, I32, U32, I64, U64}
 use Rattle.dwarf_value.specs.declared.types.ValueType.{ValueType}
 use Rattle.dwarf_value.specs.declared.types.ValueType.TheVariants as kind
-use Rattle.dwarf_value.specs.Values.{type_of, bit_size_of, is_signed, unsigned_integer, Agree, to_u64_of, from_u64_of, convert_of, reinterpret_of, add_of, sub_of, mul_of, div_of, rem_of, abs_of, neg_of, not_of, and_of, or_of, xor_of, shl_of, shr_of, shra_of, eq_of, ge_of, gt_of, le_of, lt_of, ne_of}
+use Rattle.dwarf_value.specs.Values.{type_of, bit_size_of, is_signed, unsigned_integer, Agree, to_u64_of, from_u64_of, convert_of, reinterpret_of, UnaryOperator, BinaryOperator, unary_of, binary_of, Neg, Plus, Mul, Div, Mod, Eq, Ne, Lt, Le, Gt, Ge}
 
 -- the width of an address mask
 pub record IsWidth (w : ℕ) : Type 0 where
@@ -42,7 +42,7 @@ OneHolds a b c = (Holds a × Fails b × Fails c) ⊎ (Fails a × Holds b × Fail
 -- of two values of one type, the first is below, equal to or above the second
 abbrev pub Trichotomy : Type 0
 Trichotomy =
-    (w : ℕ) (x y : Value) → IsWidth w → type_of x ≡ type_of y → OneHolds (lt_of w x y) (eq_of w x y) (gt_of w x y)
+    (w : ℕ) (x y : Value) → IsWidth w → type_of x ≡ type_of y → OneHolds (binary_of Lt w x y) (binary_of Eq w x y) (binary_of Gt w x y)
 
 -- one of two results is 1, and the other 0
 abbrev pub AreOpposite : (first second : Result Value Error) → Type 0
@@ -52,8 +52,8 @@ AreOpposite a b = (Holds a × Fails b) ⊎ (Fails a × Holds b)
 abbrev pub Opposites : Type 0
 Opposites =
     (w : ℕ) (x y : Value) → IsWidth w → type_of x ≡ type_of y
-    → AreOpposite (ne_of w x y) (eq_of w x y) × AreOpposite (ge_of w x y) (lt_of w x y)
-    × AreOpposite (le_of w x y) (gt_of w x y)
+    → AreOpposite (binary_of Ne w x y) (binary_of Eq w x y) × AreOpposite (binary_of Ge w x y) (binary_of Lt w x y)
+    × AreOpposite (binary_of Le w x y) (binary_of Gt w x y)
 
 -- ---- arithmetic
 
@@ -62,20 +62,20 @@ abbrev pub QuotientAndRemainder : Type 0
 QuotientAndRemainder =
     (w : ℕ) (x y : Value) → IsWidth w → InRange x → type_of x ≢ kind.Generic → type_of x ≡ type_of y
     → unsigned_integer w y ≢ pos 0
-    → (quotient remainder product : Value) × (div_of w x y ≡ Ok quotient) × (rem_of w x y ≡ Ok remainder)
-    × (mul_of w quotient y ≡ Ok product) × (add_of w product remainder ≡ Ok x)
+    → (quotient remainder product : Value) × (binary_of Div w x y ≡ Ok quotient) × (binary_of Mod w x y ≡ Ok remainder)
+    × (binary_of Mul w quotient y ≡ Ok product) × (binary_of Plus w product remainder ≡ Ok x)
 
 -- to negate twice, at a signed type
 abbrev pub NegateTwice : Type 0
 NegateTwice =
     (w : ℕ) (x : Value) → IsWidth w → InRange x → is_signed false (type_of x) ≡ true
-    → (negated : Value) × (neg_of w x ≡ Ok negated) × (neg_of w negated ≡ Ok x)
+    → (negated : Value) × (unary_of Neg w x ≡ Ok negated) × (unary_of Neg w negated ≡ Ok x)
 
 -- to negate a generic value twice
 abbrev pub NegateTwiceGeneric : Type 0
 NegateTwiceGeneric =
     (w n : ℕ) → IsWidth w
-    → (negated again : Value) × (neg_of w (Generic n) ≡ Ok negated) × (neg_of w negated ≡ Ok again)
+    → (negated again : Value) × (unary_of Neg w (Generic n) ≡ Ok negated) × (unary_of Neg w negated ≡ Ok again)
     × Agree w (Generic n) again
 
 -- to a type of the same size, and back
@@ -108,24 +108,6 @@ pub record AgreementIsKept : Type 0 where
   pub reinterpret : (w : ℕ) (t : ValueType) (x x' : Value) → IsWidth w → Agree w x x'
       → AgreeingResults w (reinterpret_of w t x) (reinterpret_of w t x')
   pub add_constant : (w n : ℕ) (x x' : Value) → Agree w x x'
-      → add_of w x (from_u64_of (type_of x) n) ≡ add_of w x' (from_u64_of (type_of x') n)
-  pub abs : SameForOne abs_of
-  pub neg : SameForOne neg_of
-  pub not : SameForOne not_of
-  pub add : SameForTwo add_of
-  pub sub : SameForTwo sub_of
-  pub mul : SameForTwo mul_of
-  pub div : SameForTwo div_of
-  pub rem : SameForTwo rem_of
-  pub and : SameForTwo and_of
-  pub or : SameForTwo or_of
-  pub xor : SameForTwo xor_of
-  pub shl : SameForTwo shl_of
-  pub shr : SameForTwo shr_of
-  pub shra : SameForTwo shra_of
-  pub eq : SameForTwo eq_of
-  pub ge : SameForTwo ge_of
-  pub gt : SameForTwo gt_of
-  pub le : SameForTwo le_of
-  pub lt : SameForTwo lt_of
-  pub ne : SameForTwo ne_of
+      → binary_of Plus w x (from_u64_of (type_of x) n) ≡ binary_of Plus w x' (from_u64_of (type_of x') n)
+  pub unary : (op : UnaryOperator) → SameForOne (unary_of op)
+  pub binary : (op : BinaryOperator) → SameForTwo (binary_of op)

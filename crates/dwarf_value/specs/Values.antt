@@ -147,69 +147,27 @@ abbrev pub reinterpret_of : (w : ℕ) → ValueType → Value → Result Value E
 reinterpret_of w t x =
     if bit_size_of w (type_of x) == bit_size_of w t then Ok (from_u64_of t (to_u64_of 64 x)) else Err TypeMismatch
 
--- ---- arithmetic
+-- ---- operators
+
+-- the operators on the value on top of the stack
+pub data UnaryOperator : Type 0 where
+  Abs Neg Not : UnaryOperator
+
+-- the operators on the two values on top
+pub data BinaryOperator : Type 0 where
+  Plus Minus Mul Div Mod And Or Xor Shl Shr Shra Eq Ne Lt Le Gt Ge : BinaryOperator
 
 -- a result for two values of one type; two types don't fit
 abbrev pub of_one_type : Value → Value → Value → Result Value Error
 of_one_type x y result = if is_same (type_of x) (type_of y) then Ok result else Err TypeMismatch
 
--- the sum
-abbrev pub add_of : (w : ℕ) → Value → Value → Result Value Error
-add_of w x y = of_one_type x y (value_of w (type_of x) (unsigned_integer w x +ℤ unsigned_integer w y))
-
--- the difference
-abbrev pub sub_of : (w : ℕ) → Value → Value → Result Value Error
-sub_of w x y = of_one_type x y (value_of w (type_of x) (unsigned_integer w x -ℤ unsigned_integer w y))
-
--- the product
-abbrev pub mul_of : (w : ℕ) → Value → Value → Result Value Error
-mul_of w x y = of_one_type x y (value_of w (type_of x) (unsigned_integer w x *ℤ unsigned_integer w y))
-
 -- a result for a dividend and a divisor; a zero divisor doesn't fit, of whatever type
 abbrev pub divided : (w : ℕ) → Value → Value → Value → Result Value Error
 divided w x y result = if int_eq (unsigned_integer w y) (pos 0) then Err DivisionByZero else of_one_type x y result
 
--- the quotient, rounded towards zero
-abbrev pub div_of : (w : ℕ) → Value → Value → Result Value Error
-div_of w x y = divided w x y (value_of 64 (type_of x) (int_div (signed_integer w x) (signed_integer w y)))
-
--- the remainder, with the dividend's sign
-abbrev pub rem_of : (w : ℕ) → Value → Value → Result Value Error
-rem_of w x y = divided w x y (value_of 64 (type_of x) (int_rem (unsigned_integer w x) (unsigned_integer w y)))
-
--- the absolute value
-abbrev pub abs_of : (w : ℕ) → Value → Result Value Error
-abs_of w x = Ok (value_of 64 (type_of x) (pos (unsigned_abs (signed_integer w x))))
-
--- the negated integer; unsigned types have none
-abbrev pub neg_of : (w : ℕ) → Value → Result Value Error
-neg_of w x =
-    if is_signed true (type_of x) then Ok (value_of 64 (type_of x) (neg_ℤ (signed_integer w x)))
-    else Err UnsupportedTypeOperation
-
--- ---- binary digits
-
--- each digit turned, which is to negate the integer and take one off
-abbrev pub not_of : (w : ℕ) → Value → Result Value Error
-not_of w x = Ok (value_of 64 (type_of x) (neg_ℤ (unsigned_integer w x) -ℤ pos 1))
-
 -- two numbers of 64 bits combined digit by digit
 abbrev pub digits_of : (ℕ → ℕ → ℕ) → (w : ℕ) → Value → Value → Result Value Error
 digits_of combine w x y = of_one_type x y (from_u64_of (type_of x) (combine (to_u64_of w x) (to_u64_of w y)))
-
--- the digits of both
-abbrev pub and_of : (w : ℕ) → Value → Value → Result Value Error
-and_of = digits_of bit_and
-
--- the digits of one or both
-abbrev pub or_of : (w : ℕ) → Value → Value → Result Value Error
-or_of = digits_of bit_or
-
--- the digits of one alone
-abbrev pub xor_of : (w : ℕ) → Value → Value → Result Value Error
-xor_of = digits_of bit_xor
-
--- ---- shifts
 
 -- a result for a shift's length, which may be of any type; a negative one doesn't fit
 abbrev pub shifted : (w : ℕ) (length : Value) → (ℕ → Result Value Error) → Result Value Error
@@ -222,50 +180,43 @@ abbrev pub floor_quotient : ℤ → ℕ → ℤ
 floor_quotient (pos n) m = pos (n / m)
 floor_quotient (negsuc n) m = negsuc (n / m)
 
--- the product with 2 ^ n; from the type's size on all bits are shifted out
-abbrev pub shl_of : (w : ℕ) → Value → Value → Result Value Error
-shl_of w x y = shifted w y λ n.
-    Ok (value_of 64 (type_of x) (if nat_le (bit_size_of w (type_of x)) n then pos 0
-    else unsigned_integer w x *ℤ pos (2 ^ n)))
-
--- the quotient by 2 ^ n, rounded down; signed types have none
-abbrev pub shr_of : (w : ℕ) → Value → Value → Result Value Error
-shr_of w x y = shifted w y λ n.
-    if is_signed false (type_of x) then Err UnsupportedTypeOperation
-    else Ok (value_of 64 (type_of x) (floor_quotient (unsigned_integer w x) (2 ^ n)))
-
--- the quotient of a signed integer by 2 ^ n, rounded down; unsigned types have none
-abbrev pub shra_of : (w : ℕ) → Value → Value → Result Value Error
-shra_of w x y = shifted w y λ n.
-    if is_signed true (type_of x) then Ok (value_of 64 (type_of x) (floor_quotient (signed_integer w x) (2 ^ n)))
-    else Err UnsupportedTypeOperation
-
--- ---- comparisons
-
 -- the generic 1 if the integers of two values of one type pass the test, else the generic 0
 abbrev pub compared : (ℤ → ℤ → Bool) → (w : ℕ) → Value → Value → Result Value Error
 compared passes w x y = of_one_type x y (Generic (if passes (signed_integer w x) (signed_integer w y) then 1 else 0))
 
--- equal
-abbrev pub eq_of : (w : ℕ) → Value → Value → Result Value Error
-eq_of = compared int_eq
+-- What each operator on one value gives: the absolute value; the negated integer, which unsigned types have none of;
+-- and each binary digit turned, which is to negate the integer and take one off.
+abbrev pub unary_of : UnaryOperator → (w : ℕ) → Value → Result Value Error
+unary_of Abs w x = Ok (value_of 64 (type_of x) (pos (unsigned_abs (signed_integer w x))))
+unary_of Neg w x =
+    if is_signed true (type_of x) then Ok (value_of 64 (type_of x) (neg_ℤ (signed_integer w x)))
+    else Err UnsupportedTypeOperation
+unary_of Not w x = Ok (value_of 64 (type_of x) (neg_ℤ (unsigned_integer w x) -ℤ pos 1))
 
--- not equal
-abbrev pub ne_of : (w : ℕ) → Value → Value → Result Value Error
-ne_of = compared λ a b. not (int_eq a b)
-
--- below
-abbrev pub lt_of : (w : ℕ) → Value → Value → Result Value Error
-lt_of = compared int_lt
-
--- at least
-abbrev pub ge_of : (w : ℕ) → Value → Value → Result Value Error
-ge_of = compared λ a b. int_le b a
-
--- above
-abbrev pub gt_of : (w : ℕ) → Value → Value → Result Value Error
-gt_of = compared λ a b. int_lt b a
-
--- at most
-abbrev pub le_of : (w : ℕ) → Value → Value → Result Value Error
-le_of = compared int_le
+-- What each operator on two values gives, of which `y` is the top. A quotient is rounded towards zero, and a remainder
+-- has the dividend's sign. To shift is to multiply by 2 ^ n, or to divide and round down: from the type's size on all
+-- bits are shifted out to the left, signed types have no `Shr`, and unsigned ones no `Shra`.
+abbrev pub binary_of : BinaryOperator → (w : ℕ) → Value → Value → Result Value Error
+binary_of Plus w x y = of_one_type x y (value_of w (type_of x) (unsigned_integer w x +ℤ unsigned_integer w y))
+binary_of Minus w x y = of_one_type x y (value_of w (type_of x) (unsigned_integer w x -ℤ unsigned_integer w y))
+binary_of Mul w x y = of_one_type x y (value_of w (type_of x) (unsigned_integer w x *ℤ unsigned_integer w y))
+binary_of Div w x y = divided w x y (value_of 64 (type_of x) (int_div (signed_integer w x) (signed_integer w y)))
+binary_of Mod w x y = divided w x y (value_of 64 (type_of x) (int_rem (unsigned_integer w x) (unsigned_integer w y)))
+binary_of And w x y = digits_of bit_and w x y
+binary_of Or w x y = digits_of bit_or w x y
+binary_of Xor w x y = digits_of bit_xor w x y
+binary_of Shl w x y = shifted w y λ n.
+    Ok (value_of 64 (type_of x) (if nat_le (bit_size_of w (type_of x)) n then pos 0
+    else unsigned_integer w x *ℤ pos (2 ^ n)))
+binary_of Shr w x y = shifted w y λ n.
+    if is_signed false (type_of x) then Err UnsupportedTypeOperation
+    else Ok (value_of 64 (type_of x) (floor_quotient (unsigned_integer w x) (2 ^ n)))
+binary_of Shra w x y = shifted w y λ n.
+    if is_signed true (type_of x) then Ok (value_of 64 (type_of x) (floor_quotient (signed_integer w x) (2 ^ n)))
+    else Err UnsupportedTypeOperation
+binary_of Eq w x y = compared int_eq w x y
+binary_of Ne w x y = compared (λ a b. not (int_eq a b)) w x y
+binary_of Lt w x y = compared int_lt w x y
+binary_of Le w x y = compared int_le w x y
+binary_of Gt w x y = compared (λ a b. int_lt b a) w x y
+binary_of Ge w x y = compared (λ a b. int_le b a) w x y

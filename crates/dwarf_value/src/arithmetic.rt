@@ -1,7 +1,7 @@
 ghost use Rattle.std.specs.Prelude.{◌≡◌, pos, ◌*ℤ◌, MatchResult};
 ghost use Rattle.dwarf_base.specs.Numbers.{residue};
 ghost use Rattle.dwarf_value.specs.Operands.{AreDivided, UnfitDivision};
-ghost use Rattle.dwarf_value.specs.Values.{IsAddressMask, width_of, add_of, sub_of, mul_of, div_of, rem_of, abs_of, neg_of};
+ghost use Rattle.dwarf_value.specs.Values.{IsAddressMask, width_of, unary_of, binary_of, Abs, Neg, Plus, Minus, Mul, Div, Mod};
 
 use crate::types::{Value, ValueType};
 use crate::word::{low_bits, same_type};
@@ -14,7 +14,7 @@ impl Value {
     #[inline(always)]
     pub fn add(self, rhs: Value, addr_mask: u64) -> Result<Value>
         requires { IsAddressMask addr_mask }
-        ensures { result ≡ add_of (width_of addr_mask) self rhs }
+        ensures { result ≡ binary_of Plus (width_of addr_mask) self rhs }
     {
         let (value_type, x, y) = self.operands(rhs, addr_mask, false)?;
         Ok(Value::wrapped(value_type, x + y, addr_mask))
@@ -26,7 +26,7 @@ impl Value {
     #[inline(always)]
     pub fn sub(self, rhs: Value, addr_mask: u64) -> Result<Value>
         requires { IsAddressMask addr_mask }
-        ensures { result ≡ sub_of (width_of addr_mask) self rhs }
+        ensures { result ≡ binary_of Minus (width_of addr_mask) self rhs }
     {
         let (value_type, x, y) = self.operands(rhs, addr_mask, false)?;
         Ok(Value::wrapped(value_type, x - y, addr_mask))
@@ -39,7 +39,7 @@ impl Value {
     #[inline(always)]
     pub fn mul(self, rhs: Value, addr_mask: u64) -> Result<Value>
         requires { IsAddressMask addr_mask }
-        ensures { result ≡ mul_of (width_of addr_mask) self rhs }
+        ensures { result ≡ binary_of Mul (width_of addr_mask) self rhs }
     {
         let (value_type, x, y) = self.operands(rhs, addr_mask, false)?;
         Ok(Value::wrapped(value_type, low_product(x, y), addr_mask))
@@ -53,7 +53,7 @@ impl Value {
     #[inline(always)]
     pub fn div(self, rhs: Value, addr_mask: u64) -> Result<Value>
         requires { IsAddressMask addr_mask }
-        ensures { result ≡ div_of (width_of addr_mask) self rhs }
+        ensures { result ≡ binary_of Div (width_of addr_mask) self rhs }
     {
         let (value_type, x, y) = self.divided_by(rhs, addr_mask, true)?;
         Ok(Value::wrapped_to_64(value_type, x / y))
@@ -67,7 +67,7 @@ impl Value {
     #[inline(always)]
     pub fn rem(self, rhs: Value, addr_mask: u64) -> Result<Value>
         requires { IsAddressMask addr_mask }
-        ensures { result ≡ rem_of (width_of addr_mask) self rhs }
+        ensures { result ≡ binary_of Mod (width_of addr_mask) self rhs }
     {
         let (value_type, x, y) = self.divided_by(rhs, addr_mask, false)?;
         Ok(Value::wrapped_to_64(value_type, x % y))
@@ -79,7 +79,7 @@ impl Value {
     #[inline(always)]
     pub fn abs(self, addr_mask: u64) -> Result<Value>
         requires { IsAddressMask addr_mask }
-        ensures { result ≡ abs_of (width_of addr_mask) self }
+        ensures { result ≡ unary_of Abs (width_of addr_mask) self }
     {
         let (value_type, word) = self.parts(addr_mask, true);
         let x = word.integer();
@@ -93,7 +93,7 @@ impl Value {
     #[inline(always)]
     pub fn neg(self, addr_mask: u64) -> Result<Value>
         requires { IsAddressMask addr_mask }
-        ensures { result ≡ neg_of (width_of addr_mask) self }
+        ensures { result ≡ unary_of Neg (width_of addr_mask) self }
     {
         let (value_type, word) = self.parts(addr_mask, true);
         if !word.signed {

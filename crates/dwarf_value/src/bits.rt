@@ -1,5 +1,5 @@
 ghost use Rattle.std.specs.Prelude.{◌≡◌};
-ghost use Rattle.dwarf_value.specs.Values.{IsAddressMask, width_of, not_of, and_of, or_of, xor_of};
+ghost use Rattle.dwarf_value.specs.Values.{IsAddressMask, width_of, unary_of, binary_of, Not, Xor, And, Or};
 
 use crate::types::Value;
 use crate::word::low_bits;
@@ -12,7 +12,7 @@ impl Value {
     #[inline(always)]
     pub fn not(self, addr_mask: u64) -> Result<Value>
         requires { IsAddressMask addr_mask }
-        ensures { result ≡ not_of (width_of addr_mask) self }
+        ensures { result ≡ unary_of Not (width_of addr_mask) self }
     {
         let (value_type, word) = self.parts(addr_mask, false);
         Ok(Value::wrapped_to_64(value_type, -word.integer() - 1))
@@ -24,7 +24,7 @@ impl Value {
     #[inline(always)]
     pub fn and(self, rhs: Value, addr_mask: u64) -> Result<Value>
         requires { IsAddressMask addr_mask }
-        ensures { result ≡ and_of (width_of addr_mask) self rhs }
+        ensures { result ≡ binary_of And (width_of addr_mask) self rhs }
     {
         let (value_type, x, y) = self.operands(rhs, addr_mask, false)?;
         Value::from_u64(value_type, low_bits(x) & low_bits(y))
@@ -36,7 +36,7 @@ impl Value {
     #[inline(always)]
     pub fn or(self, rhs: Value, addr_mask: u64) -> Result<Value>
         requires { IsAddressMask addr_mask }
-        ensures { result ≡ or_of (width_of addr_mask) self rhs }
+        ensures { result ≡ binary_of Or (width_of addr_mask) self rhs }
     {
         let (value_type, x, y) = self.operands(rhs, addr_mask, false)?;
         Value::from_u64(value_type, low_bits(x) | low_bits(y))
@@ -48,7 +48,7 @@ impl Value {
     #[inline(always)]
     pub fn xor(self, rhs: Value, addr_mask: u64) -> Result<Value>
         requires { IsAddressMask addr_mask }
-        ensures { result ≡ xor_of (width_of addr_mask) self rhs }
+        ensures { result ≡ binary_of Xor (width_of addr_mask) self rhs }
     {
         let (value_type, x, y) = self.operands(rhs, addr_mask, false)?;
         Value::from_u64(value_type, low_bits(x) ^ low_bits(y))

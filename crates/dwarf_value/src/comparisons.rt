@@ -1,5 +1,5 @@
 ghost use Rattle.std.specs.Prelude.{◌≡◌};
-ghost use Rattle.dwarf_value.specs.Values.{IsAddressMask, width_of, eq_of, ge_of, gt_of, le_of, lt_of, ne_of};
+ghost use Rattle.dwarf_value.specs.Values.{IsAddressMask, width_of, binary_of, Eq, Ge, Gt, Le, Lt, Ne};
 
 use crate::types::Value;
 use dwarf_base::Result;
@@ -12,7 +12,7 @@ impl Value {
     #[inline(always)]
     pub fn eq(self, rhs: Value, addr_mask: u64) -> Result<Value>
         requires { IsAddressMask addr_mask }
-        ensures { result ≡ eq_of (width_of addr_mask) self rhs }
+        ensures { result ≡ binary_of Eq (width_of addr_mask) self rhs }
     {
         let (_, x, y) = self.operands(rhs, addr_mask, true)?;
         Ok(Value::Generic(u64::from(x == y)))
@@ -25,7 +25,7 @@ impl Value {
     #[inline(always)]
     pub fn ge(self, rhs: Value, addr_mask: u64) -> Result<Value>
         requires { IsAddressMask addr_mask }
-        ensures { result ≡ ge_of (width_of addr_mask) self rhs }
+        ensures { result ≡ binary_of Ge (width_of addr_mask) self rhs }
     {
         let (_, x, y) = self.operands(rhs, addr_mask, true)?;
         Ok(Value::Generic(u64::from(x >= y)))
@@ -38,7 +38,7 @@ impl Value {
     #[inline(always)]
     pub fn gt(self, rhs: Value, addr_mask: u64) -> Result<Value>
         requires { IsAddressMask addr_mask }
-        ensures { result ≡ gt_of (width_of addr_mask) self rhs }
+        ensures { result ≡ binary_of Gt (width_of addr_mask) self rhs }
     {
         let (_, x, y) = self.operands(rhs, addr_mask, true)?;
         Ok(Value::Generic(u64::from(x > y)))
@@ -51,7 +51,7 @@ impl Value {
     #[inline(always)]
     pub fn le(self, rhs: Value, addr_mask: u64) -> Result<Value>
         requires { IsAddressMask addr_mask }
-        ensures { result ≡ le_of (width_of addr_mask) self rhs }
+        ensures { result ≡ binary_of Le (width_of addr_mask) self rhs }
     {
         let (_, x, y) = self.operands(rhs, addr_mask, true)?;
         Ok(Value::Generic(u64::from(x <= y)))
@@ -64,7 +64,7 @@ impl Value {
     #[inline(always)]
     pub fn lt(self, rhs: Value, addr_mask: u64) -> Result<Value>
         requires { IsAddressMask addr_mask }
-        ensures { result ≡ lt_of (width_of addr_mask) self rhs }
+        ensures { result ≡ binary_of Lt (width_of addr_mask) self rhs }
     {
         let (_, x, y) = self.operands(rhs, addr_mask, true)?;
         Ok(Value::Generic(u64::from(x < y)))
@@ -77,7 +77,7 @@ impl Value {
     #[inline(always)]
     pub fn ne(self, rhs: Value, addr_mask: u64) -> Result<Value>
         requires { IsAddressMask addr_mask }
-        ensures { result ≡ ne_of (width_of addr_mask) self rhs }
+        ensures { result ≡ binary_of Ne (width_of addr_mask) self rhs }
     {
         let (_, x, y) = self.operands(rhs, addr_mask, true)?;
         Ok(Value::Generic(u64::from(x != y)))

@@ -1,6 +1,6 @@
 ghost use Rattle.std.specs.Prelude.{◌≡◌, ◌≤◌, ◌^◌, ◌*◌, ◌%◌, pos, neg_ℤ, ◌≤ℤ◌, ◌<ℤ◌, nat_le, if◌then◌else◌, MatchResult};
 ghost use Rattle.dwarf_value.specs.Operands.{IsLength, UnfitLength};
-ghost use Rattle.dwarf_value.specs.Values.{IsAddressMask, width_of, floor_quotient, shl_of, shr_of, shra_of};
+ghost use Rattle.dwarf_value.specs.Values.{IsAddressMask, width_of, floor_quotient, binary_of, Shl, Shr, Shra};
 
 use crate::types::Value;
 use crate::word::low_bits;
@@ -15,7 +15,7 @@ impl Value {
     #[inline(always)]
     pub fn shl(self, rhs: Value, addr_mask: u64) -> Result<Value>
         requires { IsAddressMask addr_mask }
-        ensures { result ≡ shl_of (width_of addr_mask) self rhs }
+        ensures { result ≡ binary_of Shl (width_of addr_mask) self rhs }
     {
         let length = rhs.shift_length(addr_mask)?;
         let (value_type, word) = self.parts(addr_mask, false);
@@ -34,7 +34,7 @@ impl Value {
     #[inline(always)]
     pub fn shr(self, rhs: Value, addr_mask: u64) -> Result<Value>
         requires { IsAddressMask addr_mask }
-        ensures { result ≡ shr_of (width_of addr_mask) self rhs }
+        ensures { result ≡ binary_of Shr (width_of addr_mask) self rhs }
     {
         let length = rhs.shift_length(addr_mask)?;
         let (value_type, word) = self.parts(addr_mask, false);
@@ -53,7 +53,7 @@ impl Value {
     #[inline(always)]
     pub fn shra(self, rhs: Value, addr_mask: u64) -> Result<Value>
         requires { IsAddressMask addr_mask }
-        ensures { result ≡ shra_of (width_of addr_mask) self rhs }
+        ensures { result ≡ binary_of Shra (width_of addr_mask) self rhs }
     {
         let length = rhs.shift_length(addr_mask)?;
         let (value_type, word) = self.parts(addr_mask, true);

@@ -37,7 +37,7 @@ fn show(computed: Option<Result<Value>>, shown: &mut DwexprValue) -> u32
 
 fn unary(operation: u32, value: Value, addr_mask: u64) -> Option<Result<Value>>
     requires { IsAddressMask addr_mask }
-    ensures { result ≡ calls.unary_of operation (width_of addr_mask) value }
+    ensures { result ≡ calls.unary_coded operation (width_of addr_mask) value }
 {
     Some(match operation {
         6 => value.abs(addr_mask),
@@ -49,7 +49,7 @@ fn unary(operation: u32, value: Value, addr_mask: u64) -> Option<Result<Value>>
 
 fn binary(operation: u32, left: Value, right: Value, addr_mask: u64) -> Option<Result<Value>>
     requires { IsAddressMask addr_mask }
-    ensures { result ≡ calls.binary_of operation (width_of addr_mask) left right }
+    ensures { result ≡ calls.binary_coded operation (width_of addr_mask) left right }
 {
     Some(match operation {
         7 => left.and(right, addr_mask),

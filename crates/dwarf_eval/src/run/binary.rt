@@ -1,30 +1,29 @@
 //! The calls on two values that operations make (DWARF 5, sections 2.5.1.4 and 2.5.1.5). Each is a type, so that what
 //! pops and pushes is compiled once for each of them, with the call in line.
 
-ghost use Rattle.std.specs.Prelude.{ℕ, ◌≡◌, Result};
-ghost use Rattle.dwarf_base.specs.declared.errors.Error.{Error};
-ghost use Rattle.dwarf_value.specs.declared.types.Value.{Value};
-ghost use Rattle.dwarf_value.specs.Values.{IsAddressMask, width_of, add_of, and_of, div_of, eq_of, ge_of, gt_of, le_of, lt_of, mul_of, ne_of, or_of, rem_of, shl_of, shr_of, shra_of, sub_of, xor_of};
+ghost use Rattle.std.specs.Prelude.{◌≡◌};
+ghost use Rattle.dwarf_value.specs.Values as values;
+ghost use Rattle.dwarf_value.specs.Values.{IsAddressMask, width_of, binary_of};
 
 use dwarf_base::Result;
 use dwarf_value::Value;
 
 /// A call on two values.
 pub(crate) trait BinaryOperator {
-    // What it gives if addresses have this many bits.
-    ghost meaning: { (bits : ℕ) → Value → Value → Result Value Error };
+    // Which operator of the definitions it is.
+    ghost operator: { values.BinaryOperator };
 
     /// What the call gives.
     fn apply(left: Value, right: Value, addr_mask: u64) -> Result<Value>
         requires { IsAddressMask addr_mask }
-        ensures { result ≡ meaning (width_of addr_mask) left right };
+        ensures { result ≡ binary_of operator (width_of addr_mask) left right };
 }
 
 /// `DW_OP_and`.
 pub(crate) struct And;
 
 impl BinaryOperator for And {
-    ghost meaning = { and_of };
+    ghost operator = { values.And };
 
     #[inline(always)]
     fn apply(left: Value, right: Value, addr_mask: u64) -> Result<Value> {
@@ -36,7 +35,7 @@ impl BinaryOperator for And {
 pub(crate) struct Div;
 
 impl BinaryOperator for Div {
-    ghost meaning = { div_of };
+    ghost operator = { values.Div };
 
     #[inline(always)]
     fn apply(left: Value, right: Value, addr_mask: u64) -> Result<Value> {
@@ -48,7 +47,7 @@ impl BinaryOperator for Div {
 pub(crate) struct Minus;
 
 impl BinaryOperator for Minus {
-    ghost meaning = { sub_of };
+    ghost operator = { values.Minus };
 
     #[inline(always)]
     fn apply(left: Value, right: Value, addr_mask: u64) -> Result<Value> {
@@ -60,7 +59,7 @@ impl BinaryOperator for Minus {
 pub(crate) struct Mod;
 
 impl BinaryOperator for Mod {
-    ghost meaning = { rem_of };
+    ghost operator = { values.Mod };
 
     #[inline(always)]
     fn apply(left: Value, right: Value, addr_mask: u64) -> Result<Value> {
@@ -72,7 +71,7 @@ impl BinaryOperator for Mod {
 pub(crate) struct Mul;
 
 impl BinaryOperator for Mul {
-    ghost meaning = { mul_of };
+    ghost operator = { values.Mul };
 
     #[inline(always)]
     fn apply(left: Value, right: Value, addr_mask: u64) -> Result<Value> {
@@ -84,7 +83,7 @@ impl BinaryOperator for Mul {
 pub(crate) struct Or;
 
 impl BinaryOperator for Or {
-    ghost meaning = { or_of };
+    ghost operator = { values.Or };
 
     #[inline(always)]
     fn apply(left: Value, right: Value, addr_mask: u64) -> Result<Value> {
@@ -96,7 +95,7 @@ impl BinaryOperator for Or {
 pub(crate) struct Plus;
 
 impl BinaryOperator for Plus {
-    ghost meaning = { add_of };
+    ghost operator = { values.Plus };
 
     #[inline(always)]
     fn apply(left: Value, right: Value, addr_mask: u64) -> Result<Value> {
@@ -108,7 +107,7 @@ impl BinaryOperator for Plus {
 pub(crate) struct Shl;
 
 impl BinaryOperator for Shl {
-    ghost meaning = { shl_of };
+    ghost operator = { values.Shl };
 
     #[inline(always)]
     fn apply(left: Value, right: Value, addr_mask: u64) -> Result<Value> {
@@ -120,7 +119,7 @@ impl BinaryOperator for Shl {
 pub(crate) struct Shr;
 
 impl BinaryOperator for Shr {
-    ghost meaning = { shr_of };
+    ghost operator = { values.Shr };
 
     #[inline(always)]
     fn apply(left: Value, right: Value, addr_mask: u64) -> Result<Value> {
@@ -132,7 +131,7 @@ impl BinaryOperator for Shr {
 pub(crate) struct Shra;
 
 impl BinaryOperator for Shra {
-    ghost meaning = { shra_of };
+    ghost operator = { values.Shra };
 
     #[inline(always)]
     fn apply(left: Value, right: Value, addr_mask: u64) -> Result<Value> {
@@ -144,7 +143,7 @@ impl BinaryOperator for Shra {
 pub(crate) struct Xor;
 
 impl BinaryOperator for Xor {
-    ghost meaning = { xor_of };
+    ghost operator = { values.Xor };
 
     #[inline(always)]
     fn apply(left: Value, right: Value, addr_mask: u64) -> Result<Value> {
@@ -156,7 +155,7 @@ impl BinaryOperator for Xor {
 pub(crate) struct Eq;
 
 impl BinaryOperator for Eq {
-    ghost meaning = { eq_of };
+    ghost operator = { values.Eq };
 
     #[inline(always)]
     fn apply(left: Value, right: Value, addr_mask: u64) -> Result<Value> {
@@ -168,7 +167,7 @@ impl BinaryOperator for Eq {
 pub(crate) struct Ge;
 
 impl BinaryOperator for Ge {
-    ghost meaning = { ge_of };
+    ghost operator = { values.Ge };
 
     #[inline(always)]
     fn apply(left: Value, right: Value, addr_mask: u64) -> Result<Value> {
@@ -180,7 +179,7 @@ impl BinaryOperator for Ge {
 pub(crate) struct Gt;
 
 impl BinaryOperator for Gt {
-    ghost meaning = { gt_of };
+    ghost operator = { values.Gt };
 
     #[inline(always)]
     fn apply(left: Value, right: Value, addr_mask: u64) -> Result<Value> {
@@ -192,7 +191,7 @@ impl BinaryOperator for Gt {
 pub(crate) struct Le;
 
 impl BinaryOperator for Le {
-    ghost meaning = { le_of };
+    ghost operator = { values.Le };
 
     #[inline(always)]
     fn apply(left: Value, right: Value, addr_mask: u64) -> Result<Value> {
@@ -204,7 +203,7 @@ impl BinaryOperator for Le {
 pub(crate) struct Lt;
 
 impl BinaryOperator for Lt {
-    ghost meaning = { lt_of };
+    ghost operator = { values.Lt };
 
     #[inline(always)]
     fn apply(left: Value, right: Value, addr_mask: u64) -> Result<Value> {
@@ -216,7 +215,7 @@ impl BinaryOperator for Lt {
 pub(crate) struct Ne;
 
 impl BinaryOperator for Ne {
-    ghost meaning = { ne_of };
+    ghost operator = { values.Ne };
 
     #[inline(always)]
     fn apply(left: Value, right: Value, addr_mask: u64) -> Result<Value> {

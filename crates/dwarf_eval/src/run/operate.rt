@@ -5,14 +5,14 @@ ghost use Rattle.dwarf_meaning.specs.Operations as meaning;
 ghost use Rattle.dwarf_meaning.specs.Rest.{Running, FaultStatus};
 ghost use Rattle.dwarf_meaning.specs.Stores.{address_bits, push_values};
 ghost use Rattle.dwarf_base.specs.declared.errors.Error.TheVariants.{NotEnoughStackItems, UnsupportedEvaluation};
-ghost use Rattle.dwarf_value.specs.Values.{add_of, from_u64_of, to_u64_of, type_of};
+ghost use Rattle.dwarf_value.specs.Values.{from_u64_of, to_u64_of, type_of, unary_of, binary_of, Plus};
 ghost use Rattle.dwarf_meaning.specs.Inputs.{with_status};
 ghost use Rattle.dwarf_eval.specs.Evaluation.{request_in};
 ghost use Rattle.dwarf_eval.specs.inner.Machine.{IsAlike, done_with};
 ghost use Rattle.dwarf_eval.specs.declared.run.states.EvaluationState.TheVariants as states;
 ghost use Rattle.dwarf_eval.specs.declared.run.states.OnAnswer.TheVariants as on;
 ghost use Rattle.dwarf_op.specs.Views.{location_of};
-ghost use Rattle.dwarf_eval.specs.inner.Operators.{unary_of};
+ghost use Rattle.dwarf_eval.specs.inner.Operators.{operator_of};
 ghost use Rattle.dwarf_eval.specs.inner.Steps.{Asks, Performs, PopsNumber, PushesAllPlain, PushesPlain, Tries, act_of, at};
 
 use crate::op::EvaluationResult;
@@ -81,7 +81,7 @@ impl<R: Reader + Copy, S: EvaluationStorage<R>> Machine<R, S> {
     pub(crate) fn compute_unary(&mut self, operator: UnaryOperator)
         requires { self.old.status ≡ Running }
         ensures { Performs
-            (unary (unary_of operator (address_bits self.old.setup)) self.old.store.values)
+            (unary (unary_of (operator_of operator) (address_bits self.old.setup)) self.old.store.values)
             self.old self.new }
     {
         let Some(value) = self.pop() else {
@@ -98,7 +98,7 @@ impl<R: Reader + Copy, S: EvaluationStorage<R>> Machine<R, S> {
     #[inline(never)]
     pub(crate) fn compute_binary<O: BinaryOperator>(&mut self)
         requires { self.old.status ≡ Running }
-        ensures { Performs (binary (O.meaning (address_bits self.old.setup)) self.old.store.values)
+        ensures { Performs (binary (binary_of O.operator (address_bits self.old.setup)) self.old.store.values)
             self.old self.new }
     {
         let Some((left, right)) = self.pop_generics() else {
@@ -119,7 +119,7 @@ impl<R: Reader + Copy, S: EvaluationStorage<R>> Machine<R, S> {
     #[inline(never)]
     fn compute_typed<O: BinaryOperator>(&mut self)
         requires { self.old.status ≡ Running }
-        ensures { Performs (binary (O.meaning (address_bits self.old.setup)) self.old.store.values)
+        ensures { Performs (binary (binary_of O.operator (address_bits self.old.setup)) self.old.store.values)
             self.old self.new }
     {
         let Some(right) = self.pop() else {
@@ -141,7 +141,7 @@ impl<R: Reader + Copy, S: EvaluationStorage<R>> Machine<R, S> {
     #[tactic(auto, unfolding(dwarf_value::specs::Values::type_of))]
     pub(crate) fn sum(&self, value: Value, constant: u64) -> Result<Value>
         ensures { result
-            ≡ add_of (address_bits self.now.setup) value (from_u64_of (type_of value) constant) }
+            ≡ binary_of Plus (address_bits self.now.setup) value (from_u64_of (type_of value) constant) }
     {
         let Value::Generic(content) = value else {
             return self.typed_sum(value, constant);
@@ -154,7 +154,7 @@ impl<R: Reader + Copy, S: EvaluationStorage<R>> Machine<R, S> {
     #[inline(never)]
     fn typed_sum(&self, value: Value, constant: u64) -> Result<Value>
         ensures { result
-            ≡ add_of (address_bits self.now.setup) value (from_u64_of (type_of value) constant) }
+            ≡ binary_of Plus (address_bits self.now.setup) value (from_u64_of (type_of value) constant) }
     {
         let addend = Value::from_u64(value.value_type(), constant)?;
         value.add(addend, self.addr_mask())

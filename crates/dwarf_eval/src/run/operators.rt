@@ -1,6 +1,6 @@
 ghost use Rattle.std.specs.Prelude.{◌≡◌};
-ghost use Rattle.dwarf_value.specs.Values.{IsAddressMask, width_of};
-ghost use Rattle.dwarf_eval.specs.inner.Operators.{unary_of};
+ghost use Rattle.dwarf_value.specs.Values.{IsAddressMask, width_of, unary_of};
+ghost use Rattle.dwarf_eval.specs.inner.Operators.{operator_of};
 
 use dwarf_base::Result;
 use dwarf_value::Value;
@@ -18,7 +18,7 @@ impl UnaryOperator {
     #[inline(always)]
     pub(crate) fn apply(self, value: Value, addr_mask: u64) -> Result<Value>
         requires { IsAddressMask addr_mask }
-        ensures { result ≡ unary_of self (width_of addr_mask) value }
+        ensures { result ≡ unary_of (operator_of self) (width_of addr_mask) value }
     {
         match self {
             UnaryOperator::Abs => value.abs(addr_mask),

@@ -1,15 +1,16 @@
 use Rattle.std.proofs.Common.{◌∙◌, sym}
 use Rattle.dwarf_value.specs.declared.types.Value.TheVariants.{Generic}
+use Rattle.dwarf_value.specs.Values.{binary_of}
 use Rattle.dwarf_eval.proofs.Computes.{binary_pushes, binary_refuses}
 use Rattle.dwarf_eval.proofs.Generics.{same_two}
 use Rattle.dwarf_eval.proofs.run.machine.Machine.compute_binary.Goals as goal
 
 pub returns-in-Ok : goal.returns-in-Ok
 returns-in-Ok g c =
-    binary_pushes g.O.BinaryOperator.meaning c.args.self.now c.pop_generics.new.self (Generic c.in-Some.right) (Generic c.in-Some.left) _
+    binary_pushes (binary_of g.O.BinaryOperator.operator) c.args.self.now c.pop_generics.new.self (Generic c.in-Some.right) (Generic c.in-Some.left) _
     (same_two _ _ c.args.self.now c.pop_generics.new.self c.in-Some.ensures) c.addr_mask.ensures.width c.push_plain.new.self c.in-Ok.computed c.requires (sym c.in-Ok.is ∙ c.apply.ensures) c.push_plain.ensures
 
 pub returns-in-Err : goal.returns-in-Err
 returns-in-Err g c =
-    binary_refuses g.O.BinaryOperator.meaning c.args.self.now c.pop_generics.new.self (Generic c.in-Some.right) (Generic c.in-Some.left) _
+    binary_refuses (binary_of g.O.BinaryOperator.operator) c.args.self.now c.pop_generics.new.self (Generic c.in-Some.right) (Generic c.in-Some.left) _
     (same_two _ _ c.args.self.now c.pop_generics.new.self c.in-Some.ensures) c.addr_mask.ensures.width c.in-Err.error c.fail.new.self (sym c.in-Err.is ∙ c.apply.ensures) c.fail.ensures

@@ -1,7 +1,7 @@
 use Rattle.std.proofs.Common.{None}
 use Rattle.dwarf_base.specs.declared.errors.Error.TheVariants.{NotEnoughStackItems}
-use Rattle.dwarf_value.specs.Values.{width_of}
-use Rattle.dwarf_eval.specs.inner.Operators.{unary_of}
+use Rattle.dwarf_value.specs.Values.{width_of, unary_of}
+use Rattle.dwarf_eval.specs.inner.Operators.{operator_of}
 use Rattle.dwarf_eval.proofs.Performances.{performs_refuses}
 use Rattle.dwarf_eval.proofs.Computes.{unary_none, unary_pushes, unary_refuses}
 use Rattle.dwarf_eval.proofs.Staying.{stays_popped}
@@ -13,10 +13,10 @@ returns-in_default g c =
 
 pub returns-in-Ok : goal.returns-in-Ok
 returns-in-Ok g c =
-    unary_pushes (unary_of c.args.operator) c.args.self.now c.pop.new.self c.in-Some.value (width_of c.addr_mask.result) c.in-Some.ensures c.addr_mask.ensures.width
+    unary_pushes (unary_of (operator_of c.args.operator)) c.args.self.now c.pop.new.self c.in-Some.value (width_of c.addr_mask.result) c.in-Some.ensures c.addr_mask.ensures.width
     c.push_plain.new.self c.in-Ok.computed c.requires c.in-Ok.ensures c.push_plain.ensures
 
 pub returns-in-Err : goal.returns-in-Err
 returns-in-Err g c =
-    unary_refuses (unary_of c.args.operator) c.args.self.now c.pop.new.self c.in-Some.value (width_of c.addr_mask.result) c.in-Some.ensures c.addr_mask.ensures.width
+    unary_refuses (unary_of (operator_of c.args.operator)) c.args.self.now c.pop.new.self c.in-Some.value (width_of c.addr_mask.result) c.in-Some.ensures c.addr_mask.ensures.width
     c.in-Err.error c.fail.new.self c.in-Err.ensures c.fail.ensures

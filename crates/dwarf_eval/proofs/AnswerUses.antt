@@ -1,7 +1,7 @@
 -- What an answer of the kind that is waited for gives.
 use Rattle.std.proofs.Common.{ℕ, ℤ, pos, ◌≡◌, ◌+ℤ◌, List, [], ◌∷◌, Result, Ok, Err, ap, ◌∙◌, sym, refl}
 use Rattle.dwarf_base.specs.declared.errors.Error.{Error}
-use Rattle.dwarf_base.specs.Faults.{Fault, fault_of}
+use Rattle.dwarf_base.specs.Faults.{fault_of}
 use Rattle.dwarf_base.specs.declared.errors.Error.TheVariants.{NotEnoughStackItems}
 use Rattle.dwarf_base.specs.Numbers.{residue}
 use Rattle.dwarf_base.specs.Reads.{Text}
@@ -13,9 +13,9 @@ use Rattle.dwarf_meaning.specs.declared.kinds.WaitingKind.TheVariants as kind
 use Rattle.dwarf_meaning.specs.Kinds.{kind_of_request}
 use Rattle.dwarf_meaning.specs.declared.kinds.WaitingKind.{WaitingKind}
 use Rattle.dwarf_meaning.specs.Requests.{Request, OnAnswer, Push, Add, Parse, Convert, Reinterpret, ValueAnswer, NumberAnswer, LocationAnswer, BaseTypeAnswer}
-use Rattle.dwarf_meaning.specs.Acts.{Use, PushesAnswer, Calls, FaultUse, on_top, on_result, result_of, use_of}
+use Rattle.dwarf_meaning.specs.Acts.{Use, PushesAnswer, Calls, FaultUse, on_top, on_result, use_of}
 use Rattle.dwarf_meaning.specs.Rest.{Status, Start, Running, RequestStatus, CompleteStatus, FaultStatus}
-use Rattle.dwarf_meaning.proofs.Choices.{answer_ok, answer_err, read_ok, read_err, top_none, top_some}
+use Rattle.dwarf_meaning.proofs.Choices.{answer_ok, answer_err, fault_of_twice, top_none, top_some}
 use Rattle.dwarf_eval.specs.inner.Answers.{IsFor, IsWaitingFor, IsWaitingTo}
 
 -- ---- the open request
@@ -65,7 +65,7 @@ module _ (bits : ℕ) (values : List Value) where
 
   -- ---- answers from which a value is made
 
-  register_is : (offset : ℤ) (x : Value) → use_of bits (Add offset) (ValueAnswer kind.Register x) values ≡ on_result (result_of (binary_of Plus bits x (from_u64_of (type_of x) (residue 64 offset)))) FaultUse (PushesAnswer values)
+  register_is : (offset : ℤ) (x : Value) → use_of bits (Add offset) (ValueAnswer kind.Register x) values ≡ on_result (binary_of Plus bits x (from_u64_of (type_of x) (residue 64 offset))) FaultUse (PushesAnswer values)
   unfolding use_of
   register_is offset x = refl
 
@@ -84,26 +84,28 @@ module _ (bits : ℕ) (values : List Value) where
   literal_is literal t = refl
 
   pub literal_gives : (literal : Text) (t : ValueType) (v : Value) → parse_of t literal.is_big literal.bytes ≡ Ok v → use_of bits (Parse literal) (BaseTypeAnswer t) values ≡ PushesAnswer values v
-  literal_gives literal t v e = literal_is literal t ∙ read_ok (parse_of t literal.is_big literal.bytes) FaultUse (PushesAnswer values) v e
+  literal_gives literal t v e = literal_is literal t ∙ answer_ok (parse_of t literal.is_big literal.bytes) FaultUse (PushesAnswer values) v e
 
-  pub literal_denies : (literal : Text) (t : ValueType) (fault : Fault) → parse_of t literal.is_big literal.bytes ≡ Err fault → use_of bits (Parse literal) (BaseTypeAnswer t) values ≡ FaultUse fault
-  literal_denies literal t fault e = literal_is literal t ∙ read_err (parse_of t literal.is_big literal.bytes) FaultUse (PushesAnswer values) fault e
+  pub literal_denies : (literal : Text) (t : ValueType) (error : Error) → parse_of t literal.is_big literal.bytes ≡ Err (fault_of error) → use_of bits (Parse literal) (BaseTypeAnswer t) values ≡ FaultUse (fault_of error)
+  literal_denies literal t error e =
+      literal_is literal t
+      ∙ (answer_err (parse_of t literal.is_big literal.bytes) FaultUse (PushesAnswer values) (fault_of error) e ∙ ap FaultUse (fault_of_twice error))
 
   -- the top becomes a value of the type
   abbrev turned : (ℕ → ValueType → Value → Result Value Error) → ValueType → Use
-  turned call t = on_top values (FaultUse NotEnoughStackItems) (λ x rest. on_result (result_of (call bits t x)) FaultUse (PushesAnswer rest))
+  turned call t = on_top values (FaultUse NotEnoughStackItems) (λ x rest. on_result (call bits t x) FaultUse (PushesAnswer rest))
 
   turned_none : (call : ℕ → ValueType → Value → Result Value Error) (t : ValueType) → values ≡ [] → turned call t ≡ FaultUse NotEnoughStackItems
-  turned_none call t e = top_none values (FaultUse NotEnoughStackItems) (λ x rest. on_result (result_of (call bits t x)) FaultUse (PushesAnswer rest)) e
+  turned_none call t e = top_none values (FaultUse NotEnoughStackItems) (λ x rest. on_result (call bits t x) FaultUse (PushesAnswer rest)) e
 
   turned_ok : (call : ℕ → ValueType → Value → Result Value Error) (t : ValueType) (x : Value) (rest : List Value) (v : Value) → values ≡ x ∷ rest → call bits t x ≡ Ok v → turned call t ≡ PushesAnswer rest v
   turned_ok call t x rest v e f =
-      top_some values (FaultUse NotEnoughStackItems) (λ x rest. on_result (result_of (call bits t x)) FaultUse (PushesAnswer rest)) x rest e
+      top_some values (FaultUse NotEnoughStackItems) (λ x rest. on_result (call bits t x) FaultUse (PushesAnswer rest)) x rest e
       ∙ answer_ok (call bits t x) FaultUse (PushesAnswer rest) v f
 
   turned_err : (call : ℕ → ValueType → Value → Result Value Error) (t : ValueType) (x : Value) (rest : List Value) (error : Error) → values ≡ x ∷ rest → call bits t x ≡ Err error → turned call t ≡ FaultUse (fault_of error)
   turned_err call t x rest error e f =
-      top_some values (FaultUse NotEnoughStackItems) (λ x rest. on_result (result_of (call bits t x)) FaultUse (PushesAnswer rest)) x rest e
+      top_some values (FaultUse NotEnoughStackItems) (λ x rest. on_result (call bits t x) FaultUse (PushesAnswer rest)) x rest e
       ∙ answer_err (call bits t x) FaultUse (PushesAnswer rest) error f
 
   pub convert_none : (t : ValueType) → values ≡ [] → use_of bits Convert (BaseTypeAnswer t) values ≡ FaultUse NotEnoughStackItems

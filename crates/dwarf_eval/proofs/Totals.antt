@@ -5,7 +5,7 @@ use Rattle.dwarf_base.specs.Faults.{Fault}
 use Rattle.dwarf_value.specs.declared.types.Value.{Value}
 use Rattle.dwarf_meaning.specs.Requests.{Request, OnAnswer, Input}
 use Rattle.dwarf_meaning.specs.Stores.{Setup, Store}
-use Rattle.dwarf_meaning.specs.Run.{Position, Course, End, CompleteEnd, RequestEnd, FaultEnd, only_end, add_to_path, add_request, return_to_caller, after_push, run, await_answer, return_to_callers}
+use Rattle.dwarf_meaning.specs.Run.{Position, Course, End, CompleteEnd, RequestEnd, FaultEnd, only_end, prepend, return_to_caller, after_push, run, await_answer, return_to_callers}
 use Rattle.dwarf_meaning.specs.Meaning.{Outcome, RequestOutcome, FaultOutcome, CompleteOutcome, outcome_of_end, finish, with_initial, meaning}
 use Rattle.dwarf_meaning.specs.Rest.{State, Status, Start, Running, RequestStatus, CompleteStatus, with_refusal, Total, total_of_course, first_of, total_by, total}
 use Rattle.dwarf_meaning.specs.Refusals.{Refusal}
@@ -109,24 +109,24 @@ returned_beyond setup f back (caller ∷ callers) course =
     ∙ returned_beyond setup f back callers (return_to_caller (run setup) caller (length callers) course course.end)
 
 -- an operation is counted
-counted_back : (setup : Setup) (caller position : Position) (depth : ℕ) (course : Course) (end : End) → return_to_caller (run setup) caller depth (add_to_path position course) end ≡ add_to_path position (return_to_caller (run setup) caller depth course end)
+counted_back : (setup : Setup) (caller position : Position) (depth : ℕ) (course : Course) (end : End) → return_to_caller (run setup) caller depth (prepend (position ∷ []) [] course) end ≡ prepend (position ∷ []) [] (return_to_caller (run setup) caller depth course end)
 counted_back setup caller position depth course (CompleteEnd s inputs) = refl
 counted_back setup caller position depth course (RequestEnd request positions inputs) = refl
 counted_back setup caller position depth course (FaultEnd fault) = refl
 
-pub course_counted : (n : ℕ) (setup : Setup) (callers : List Position) (position : Position) (course : Course) → total_of_course n setup callers (add_to_path position course) ≡ total_of_course (n + 1) setup callers course
+pub course_counted : (n : ℕ) (setup : Setup) (callers : List Position) (position : Position) (course : Course) → total_of_course n setup callers (prepend (position ∷ []) [] course) ≡ total_of_course (n + 1) setup callers course
 course_counted n setup callers position course =
     let whole : Course = return_to_callers setup callers course in
     let k : ℕ = length whole.path in
     let e : n + suc k ≡ n + 1 + k = omega arith in
-    ap (alone n setup) (returned_beyond setup (add_to_path position) (λ caller depth between. counted_back setup caller position depth between between.end) callers course) ∙ ap (closed (outcome_of_end setup whole.end)) e
+    ap (alone n setup) (returned_beyond setup (prepend (position ∷ []) []) (λ caller depth between. counted_back setup caller position depth between between.end) callers course) ∙ ap (closed (outcome_of_end setup whole.end)) e
 
 -- a request is no part of a total
-asked_back : (setup : Setup) (caller : Position) (request : Request) (depth : ℕ) (course : Course) (end : End) → return_to_caller (run setup) caller depth (add_request request course) end ≡ add_request request (return_to_caller (run setup) caller depth course end)
+asked_back : (setup : Setup) (caller : Position) (request : Request) (depth : ℕ) (course : Course) (end : End) → return_to_caller (run setup) caller depth (prepend [] (request ∷ []) course) end ≡ prepend [] (request ∷ []) (return_to_caller (run setup) caller depth course end)
 asked_back setup caller request depth course (CompleteEnd s inputs) = refl
 asked_back setup caller request depth course (RequestEnd other positions inputs) = refl
 asked_back setup caller request depth course (FaultEnd fault) = refl
 
-pub course_asked : (n : ℕ) (setup : Setup) (callers : List Position) (request : Request) (course : Course) → total_of_course n setup callers (add_request request course) ≡ total_of_course n setup callers course
+pub course_asked : (n : ℕ) (setup : Setup) (callers : List Position) (request : Request) (course : Course) → total_of_course n setup callers (prepend [] (request ∷ []) course) ≡ total_of_course n setup callers course
 course_asked n setup callers request course =
-    ap (alone n setup) (returned_beyond setup (add_request request) (λ caller depth between. asked_back setup caller request depth between between.end) callers course)
+    ap (alone n setup) (returned_beyond setup (prepend [] (request ∷ [])) (λ caller depth between. asked_back setup caller request depth between between.end) callers course)

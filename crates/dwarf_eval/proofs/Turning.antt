@@ -1,5 +1,5 @@
 -- One operation that is counted is one turn of the nested run.
-use Rattle.std.proofs.Common.{ℕ, ◌≡◌, ◌+◌, ◌-◌, ◌*◌, ◌<◌, true, false, List, length, Result, Ok, Err, arith, ap, ◌∙◌, sym, refl, subst, ◌==◌}
+use Rattle.std.proofs.Common.{[], ◌∷◌, ℕ, ◌≡◌, ◌+◌, ◌-◌, ◌*◌, ◌<◌, true, false, List, length, Result, Ok, Err, arith, ap, ◌∙◌, sym, refl, subst, ◌==◌}
 use Rattle.std.proofs.lemmas.Bool.{cond-true, cond-false}
 use Rattle.std.proofs.lemmas.Bool.Decides.{nat_tests}
 use Rattle.dwarf_base.specs.declared.errors.Error.{Error}
@@ -11,7 +11,7 @@ use Rattle.dwarf_meaning.specs.Operations.{Operation}
 use Rattle.dwarf_meaning.specs.Requests.{Request, OnAnswer, Input}
 use Rattle.dwarf_meaning.specs.RunLaws.{waits_of}
 use Rattle.dwarf_meaning.specs.Stores.{Setup, address_bits, Store, Last, Nothing, Plain, Pieced, Pushed, Called, Located, Next, Goes, RequestNext, FaultNext}
-use Rattle.dwarf_meaning.specs.Run.{Position, CompleteEnd, FaultEnd, Course, only_end, add_to_path, read, most, can_count, counted, counted_act, do_operation, turn_counted, after_operation, await_answer, turn_by, run}
+use Rattle.dwarf_meaning.specs.Run.{Position, CompleteEnd, FaultEnd, Course, only_end, prepend, read, most, can_count, counted, counted_act, do_operation, turn_counted, after_operation, await_answer, turn_by, run}
 use Rattle.dwarf_meaning.specs.Meaning.{FaultOutcome}
 use Rattle.dwarf_meaning.specs.Rest.{State, Status, Start, Running, RequestStatus, CompleteStatus, FaultStatus, with_refusal, total_of_course}
 use Rattle.dwarf_meaning.specs.Refusals.{Refusal, Never, before_pushes}
@@ -107,7 +107,7 @@ module _ (x : State) (ready : IsReady x) where
         let position : Position = record { text = x.text; place = x.place } in
         let course : Course = do_operation (run x.setup) x.setup x.text (length x.callers) (counted (with_refusal r x.store)) inputs (counted_act x.setup x.store) (read x.setup x.text x.place) in
         ready_total r inputs
-        ∙ (ap (total_of_course x.store.count x.setup x.callers) (cond-true (can_count x.store) (add_to_path position course) (only_end (FaultEnd TooManyIterations)) can)
+        ∙ (ap (total_of_course x.store.count x.setup x.callers) (cond-true (can_count x.store) (prepend (position ∷ []) [] course) (only_end (FaultEnd TooManyIterations)) can)
         ∙ (course_counted x.store.count x.setup x.callers position course
         ∙ ap (λ (y : Result (Operation × List ℕ) Fault). total_of_course (x.store.count + 1) x.setup x.callers (do_operation (run x.setup) x.setup x.text (length x.callers) (counted (with_refusal r x.store)) inputs (counted_act x.setup x.store) y)) e))
 

@@ -20,8 +20,7 @@ module _ {R O P : Type 0} (text : R → Text) (number : O → ℕ) where
   -- what a result asks, if it isn't completion
   abbrev pub request_in : EvaluationResult R O P → Option Request
   request_in result.Complete = None
-  request_in (result.RequiresMemory address size space base_type) =
-      Some (RequiresMemory address size space (number base_type.0))
+  request_in (result.RequiresMemory address size space type) = Some (RequiresMemory address size space (number type.0))
   request_in (result.RequiresRegister register base_type) = Some (RequiresRegister register.0 (number base_type.0))
   request_in (result.RequiresWasmLocal index) = Some (RequiresWasmLocal index)
   request_in (result.RequiresWasmGlobal index) = Some (RequiresWasmGlobal index)

@@ -14,7 +14,7 @@ use Rattle.dwarf_meaning.specs.Operations.{Operation}
 use Rattle.dwarf_meaning.specs.Locations.{Location, AtAddress, Piece}
 use Rattle.dwarf_meaning.specs.Requests.{Request, RequiresMemory, RequiresTls, OnAnswer, Push, Add, Parse, Convert, Answer}
 use Rattle.dwarf_meaning.specs.Kinds.{kind_of_answer}
-use Rattle.dwarf_meaning.specs.Acts.{on_top, on_result, result_of, Act, Pushes, Branches, Locates, EndsPiece, RequestAct, FaultAct, short, unary, binary, act, Use, PushesAnswer, Calls, FaultUse, use_of}
+use Rattle.dwarf_meaning.specs.Acts.{on_top, on_result, Act, Pushes, Branches, Locates, EndsPiece, RequestAct, FaultAct, short, unary, binary, act, Use, PushesAnswer, Calls, FaultUse, use_of}
 use Rattle.dwarf_meaning.specs.Stores.{Store}
 use Rattle.dwarf_meaning.specs.Run.{located_act}
 use Rattle.dwarf_laws.specs.Agreement as agreeing
@@ -166,7 +166,7 @@ same_kinds w x y agreeing.base_type = refl
 
 module _ (w : ℕ) (width : IsWidth w) where
   answer_uses : (r r' : Result Value Error) (rest rest' : List Value) → AgreeingResults w r r' → Pairwise (Agree w) rest rest'
-      → AgreeingUses w (on_result (result_of r) FaultUse (PushesAnswer rest)) (on_result (result_of r') FaultUse (PushesAnswer rest'))
+      → AgreeingUses w (on_result r FaultUse (PushesAnswer rest)) (on_result r' FaultUse (PushesAnswer rest'))
   answer_uses r r' rest rest' h b =
       answer_pair (AgreeingUses w) w r r' FaultUse FaultUse _ _ h (λ fault. denies) (λ x x' a. gives b a)
 

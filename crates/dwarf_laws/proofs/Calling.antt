@@ -18,7 +18,7 @@ use Rattle.dwarf_meaning.specs.Requests.{Request, RequiresAtLocation, Push, Inpu
 use Rattle.dwarf_meaning.specs.Kinds.{kind_of_request, kind_of_answer, is_same_kind}
 use Rattle.dwarf_meaning.specs.Acts.{act, Use, PushesAnswer, Calls, FaultUse, use_of}
 use Rattle.dwarf_meaning.specs.Stores.{Setup, address_bits, Store, Last, Nothing, Plain, Pieced, Pushed, Called, Located, push_value, push_caller, done}
-use Rattle.dwarf_meaning.specs.Run.{Position, End, CompleteEnd, RequestEnd, FaultEnd, Course, only_end, add_to_path, add_request, return_to_caller, run_callee, after_answer, await_answer, after_operation, read, can_count, counted, do_operation, turn_counted, counted_act, located_act, turn_by, run}
+use Rattle.dwarf_meaning.specs.Run.{Position, End, CompleteEnd, RequestEnd, FaultEnd, Course, only_end, prepend, return_to_caller, run_callee, after_answer, await_answer, after_operation, read, can_count, counted, do_operation, turn_counted, counted_act, located_act, turn_by, run}
 use Rattle.dwarf_meaning.specs.Meaning.{First}
 use Rattle.dwarf_meaning.proofs.Turns.{run_turn}
 use Rattle.dwarf_meaning.proofs.Callees.{EndOpen, run_open}
@@ -67,11 +67,10 @@ module _ (encoding : Encoding) (bits : ℕ) (A K B : List ℕ) (big : Bool) (off
 
   abbrev pub call_course : Store → List Input → Course
   call_course t inputs =
-      add_to_path (record { text = outer; place = length A })
-      (add_request call (await_answer (run S) S after_call 0 call Push (counted (calm t)) inputs))
+      prepend (record { text = outer; place = length A } ∷ []) []
+      (prepend [] (call ∷ []) (await_answer (run S) S after_call 0 call Push (counted (calm t)) inputs))
 
-  does_call : (s : Store) (inputs : List Input) → do_operation (run S) S outer 0 s inputs (counted_act S s) (read S outer (length A)) ≡ add_request
-      call (await_answer (run S) S after_call 0 call Push s inputs)
+  does_call : (s : Store) (inputs : List Input) → do_operation (run S) S outer 0 s inputs (counted_act S s) (read S outer (length A)) ≡ prepend [] (call ∷ []) (await_answer (run S) S after_call 0 call Push s inputs)
   unfolding act
   does_call s inputs =
       ap (do_operation (run S) S outer 0 s inputs (counted_act S s)) read_call
@@ -85,12 +84,12 @@ module _ (encoding : Encoding) (bits : ℕ) (A K B : List ℕ) (big : Bool) (off
     where
       by_test : (b : Bool) → can_count (calm t) ≡ b → turn_counted (run S) S outer (length A) 0 (calm t) inputs ≡ call_course t inputs
       by_test true e =
-          cond-true (can_count (calm t)) _ _ e ∙ ap (add_to_path (record { text = outer; place = length A }))
+          cond-true (can_count (calm t)) _ _ e ∙ ap (prepend (record { text = outer; place = length A } ∷ []) [])
           (does_call (counted (calm t)) inputs)
       by_test false e =
           let x : FaultEnd TooManyIterations ≡ RequestEnd call (after_call ∷ []) [] = sym
           (ap (λ (c : Course). c.end) (cond-false (can_count (calm t))
-          (add_to_path (record { text = outer; place = length A })
+          (prepend (record { text = outer; place = length A } ∷ []) []
           (do_operation (run S) S outer 0 (counted (calm t)) before (counted_act S t) (read S outer (length A))))
           (only_end (FaultEnd TooManyIterations)) e)) ∙ at_call in
           absurd cc

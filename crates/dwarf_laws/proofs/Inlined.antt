@@ -13,7 +13,7 @@ use Rattle.dwarf_meaning.specs.Requests.{Request, RequiresAtLocation, LocationAn
 use Rattle.dwarf_meaning.specs.Kinds.{is_same_kind}
 use Rattle.dwarf_meaning.specs.Acts.{use_of}
 use Rattle.dwarf_meaning.specs.Stores.{Setup, Store, Last, Nothing, Plain, Pieced, Pushed, Called, Located, push_caller, push_value, push_piece}
-use Rattle.dwarf_meaning.specs.Run.{Position, End, CompleteEnd, RequestEnd, FaultEnd, Course, add_to_path, add_request, return_to_caller, after_push, run_callee, await_answer, counted, run}
+use Rattle.dwarf_meaning.specs.Run.{Position, End, CompleteEnd, RequestEnd, FaultEnd, Course, prepend, return_to_caller, after_push, run_callee, await_answer, counted, run}
 use Rattle.dwarf_meaning.specs.Meaning.{Outcome, RequestOutcome, FaultOutcome, CompleteOutcome, First, finish, finish_by, fresh, with_initial, outcome_of_end, course_of, meaning}
 use Rattle.dwarf_meaning.specs.Refusals.{Limits, Never}
 use Rattle.dwarf_meaning.specs.Rows.{no_limits}
@@ -320,11 +320,10 @@ module _ (encoding : Encoding) (bits : ℕ) where
               let now : First = record settings { object_address = r.store.object_address; maximum = r.store.maximum } in
               callee_ends straight (in_force now later) r.store later (fits_so now later)
 
-          calls_so : run S outer (length A) 0 (calm r.store) (answered site settings ∷ later) ≡ add_to_path
-              (record { text = outer; place = length A }) (add_request call first_rest)
+          calls_so : run S outer (length A) 0 (calm r.store) (answered site settings ∷ later) ≡ prepend (record { text = outer; place = length A } ∷ []) [] (prepend [] (call ∷ []) first_rest)
           calls_so =
               calls (answered site settings ∷ later)
-              ∙ ap (λ (c : Course). add_to_path (record { text = outer; place = length A }) (add_request call c))
+              ∙ ap (λ (c : Course). prepend (record { text = outer; place = length A } ∷ []) [] (prepend [] (call ∷ []) c))
               (answered_call r.store settings later ∙ ap callee_course same_store)
 
           abbrev whole : Course

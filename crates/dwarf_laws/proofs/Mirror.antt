@@ -13,7 +13,7 @@ use Rattle.dwarf_meaning.specs.Requests.{Request, OnAnswer, Input}
 use Rattle.dwarf_meaning.specs.Kinds.{kind_of_request, kind_of_answer, is_same_kind}
 use Rattle.dwarf_meaning.specs.Acts.{act, Use, PushesAnswer, Calls, FaultUse, use_of}
 use Rattle.dwarf_meaning.specs.Stores.{Setup, address_bits, Store, Last, Nothing, Plain, Pieced, Pushed, Called, Located, push_value, push_caller, Next}
-use Rattle.dwarf_meaning.specs.Run.{Position, End, CompleteEnd, RequestEnd, FaultEnd, Course, only_end, add_to_path, append_course, Continues, return_to_caller, run_callee, after_answer, await_answer, after_operation, read, can_count, counted, do_operation, turn_counted, counted_act, located_act, turn_by, turn, out_of_turns, run_for, enough, run}
+use Rattle.dwarf_meaning.specs.Run.{Position, End, CompleteEnd, RequestEnd, FaultEnd, Course, only_end, prepend, Continues, return_to_caller, run_callee, after_answer, await_answer, after_operation, read, can_count, counted, do_operation, turn_counted, counted_act, located_act, turn_by, turn, out_of_turns, run_for, enough, run}
 use Rattle.dwarf_meaning.specs.Meaning.{First}
 use Rattle.dwarf_laws.specs.Inlining.{in_force}
 use Rattle.dwarf_meaning.proofs.Turns.{run_turn}
@@ -151,7 +151,7 @@ module _ (encoding : Encoding) (bits : ℕ) (target : First) (n : ℕ) where
         let outer = run S T' q' d' (calm h.store) inputs in
         let joins : MirrorsAt T' stop d' (c.requests ++ inner.requests) inner.end (c.requests ++ outer.requests) outer.end = beyond T' stop d' c.requests inner.requests inner.end outer.requests outer.end (goes_mirror q q' h.store inputs a h.fits) in
         subst (λ (e : End). Here (return_to_caller go (at T q) d c (CompleteEnd s inputs)) (return_to_caller (run S) (at T' q') d' c' e)) (sym e)
-        (subst (λ (u : Store). Here (append_course c (go T q d u inputs)) (append_course c' outer)) (sym h.is)
+        (subst (λ (u : Store). Here (prepend c.path c.requests (go T q d u inputs)) (prepend c'.path c'.requests outer)) (sym h.is)
         (subst (λ (l : List Request). MirrorsAt T' stop d' (c.requests ++ inner.requests) inner.end
         (l ++ outer.requests) outer.end) (sym r) joins))
 
@@ -236,14 +236,14 @@ module _ (encoding : Encoding) (bits : ℕ) (target : First) (n : ℕ) where
     counts_mirror p p' t inputs a f =
         cond_both (can_count (ahead n t)) _ _ (λ (c : Course). Here c (turn_counted (run S) S T' p' d' (calm t) inputs))
         (λ can.
-        let first = add_to_path (at T p) (do_operation go S T d (counted (ahead n t)) inputs (counted_act S t) (read S T p)) in
+        let first = prepend ((at T p) ∷ []) [] (do_operation go S T d (counted (ahead n t)) inputs (counted_act S t) (read S T p)) in
         let inner : Here first (do_operation (run S) S T' d' (counted (calm t)) inputs (counted_act S t) (read S T' p')) = subst
         (λ (s : Store). Here (do_operation go S T d s inputs (counted_act S t) (read S T p))
         (do_operation (run S) S T' d' (counted (calm t)) inputs (counted_act S t) (read S T' p'))) (counted_ahead t)
         (does_mirror p p' (record t { count = t.count + 1 }) inputs (read S T p) a f refl) in
         subst (λ (c : Course). Here first c) (sym
         (cond-true (can_count (calm t))
-        (add_to_path (at T' p') (do_operation (run S) S T' d' (counted (calm t)) inputs (counted_act S t) (read S T' p')))
+        (prepend ((at T' p') ∷ []) [] (do_operation (run S) S T' d' (counted (calm t)) inputs (counted_act S t) (read S T' p')))
         (only_end (FaultEnd TooManyIterations)) (can_too t can))) inner)
         (λ e. tt)
 

@@ -1,14 +1,14 @@
 -- Two lists, options and choices that are related.
 use Rattle.std.proofs.Common.{ℕ, zero, suc, ◌≡◌, ap, refl, subst, Bool, true, false, List, [], ◌∷◌, ◌++◌, length, Option, Result, Ok, Err, cond}
-use Rattle.std.specs.Prelude.{slice_get}
+use Rattle.std.specs.Prelude.{slice_get, option_map, unwrap_or}
 use Rattle.std.specs.List.{AllZip}
 use Rattle.dwarf_base.specs.declared.errors.Error.{Error}
-use Rattle.dwarf_base.specs.Faults.{Fault}
+use Rattle.dwarf_base.specs.Faults.{Fault, fault_of}
 use Rattle.dwarf_value.specs.declared.types.Value.{Value}
 use Rattle.dwarf_value.specs.Values.{Agree}
 use Rattle.dwarf_value.specs.Laws.{AgreeingResults, values, errors}
 use Rattle.dwarf_value.proofs.Agreements.{Agree-refl}
-use Rattle.dwarf_meaning.specs.Acts.{on_top, on_some, on_result, result_of}
+use Rattle.dwarf_meaning.specs.Acts.{on_top, on_result}
 use Rattle.dwarf_laws.specs.Agreement.{Both, nothing, something}
 
 -- ---- lists and options
@@ -62,25 +62,24 @@ module _ {A : Type 0} (R : A → A → Type 0) where
   top_pair w vs ws x x' go go' (more a bs) h g = g _ _ _ _ a bs
 
   pub some_pair : {X : Type 0} (Q : X → X → Type 0) (o o' : Option X) (x x' : A) (go go' : X → A) → Both Q o o' → R x x'
-      → ((v v' : X) → Q v v' → R (go v) (go' v')) → R (on_some o x go) (on_some o' x' go')
-  unfolding on_some
+      → ((v v' : X) → Q v v' → R (go v) (go' v')) → R (unwrap_or (option_map go o) x) (unwrap_or (option_map go' o') x')
   some_pair Q o o' x x' go go' nothing h g = h
   some_pair Q o o' x x' go go' (something q) h g = g _ _ q
 
   pub answer_pair : (w : ℕ) (r r' : Result Value Error) (bad bad' : Fault → A) (go go' : Value → A) → AgreeingResults w r r'
       → ((fault : Fault) → R (bad fault) (bad' fault)) → ((v v' : Value) → Agree w v v' → R (go v) (go' v'))
-      → R (on_result (result_of r) bad go) (on_result (result_of r') bad' go')
-  unfolding on_result result_of
+      → R (on_result r bad go) (on_result r' bad' go')
+  unfolding on_result
   answer_pair w r r' bad bad' go go' (values a) h g = g _ _ a
   answer_pair w r r' bad bad' go go' errors h g = h _
 
   -- the same answer on both sides
-  pub read_pair : {X : Type 0} (r : Result X Fault) (bad bad' : Fault → A) (go go' : X → A)
+  pub read_pair : {X : Type 0} (r : Result X Error) (bad bad' : Fault → A) (go go' : X → A)
       → ((fault : Fault) → R (bad fault) (bad' fault)) → ((x : X) → R (go x) (go' x))
       → R (on_result r bad go) (on_result r bad' go')
   unfolding on_result
   read_pair (Ok x) bad bad' go go' h g = g x
-  read_pair (Err fault) bad bad' go go' h g = h fault
+  read_pair (Err error) bad bad' go go' h g = h (fault_of error)
 
 -- equal answers agree
 pub answers_agree : (w : ℕ) (r r' : Result Value Error) → r ≡ r' → AgreeingResults w r r'

@@ -14,7 +14,7 @@ use Rattle.dwarf_meaning.specs.Requests.{Request, RequiresAtLocation, OnAnswer, 
 use Rattle.dwarf_meaning.specs.Kinds.{kind_of_request, kind_of_answer, is_same_kind}
 use Rattle.dwarf_meaning.specs.Acts.{Act, Pushes, Branches, Locates, EndsPiece, RequestAct, FaultAct, act, Use, PushesAnswer, Calls, FaultUse, use_of}
 use Rattle.dwarf_meaning.specs.Stores.{Setup, address_bits, Store, Last, Nothing, Plain, Pieced, Pushed, Called, Located, push_value, push_piece, push_caller, Next, Goes, RequestNext, FaultNext, goes, done}
-use Rattle.dwarf_meaning.specs.Run.{Position, End, CompleteEnd, RequestEnd, FaultEnd, Course, only_end, append_course, return_to_caller, run_callee, after_answer, await_answer, after_operation, read, can_count, do_operation, turn_counted, counted_act, located_act, turn_by, run}
+use Rattle.dwarf_meaning.specs.Run.{Position, End, CompleteEnd, RequestEnd, FaultEnd, Course, only_end, prepend, return_to_caller, run_callee, after_answer, await_answer, after_operation, read, can_count, do_operation, turn_counted, counted_act, located_act, turn_by, run}
 use Rattle.dwarf_meaning.specs.Meaning.{First}
 use Rattle.dwarf_meaning.specs.RunLaws.{IsSettled, end_before, course_before, Open, alone, calling}
 use Rattle.dwarf_meaning.proofs.Turns.{run_turn}
@@ -199,10 +199,10 @@ module _ (encoding : Encoding) (bits : ℕ) where
           let ended_so : (more : List Input) → end_before more c.end ≡ CompleteEnd (calm k.store) (left ++ more) =
           λ more. ap (end_before more) e ∙ ap (λ (u : Store). CompleteEnd u (left ++ more)) k.is in
           let inner : List ℕ → List Input → Course = λ X more. run S (text X) p 0 (calm k.store) (left ++ more) in
-          leads_as (append_course c (run S outer p 0 (calm k.store) left)) (append_course c (run S outer p 0 s left))
-          (λ X more. append_course c (inner X more)) (λ X more. let c = run S callee 0 1 (calm t) (inputs ++ more) in
+          leads_as (prepend c.path c.requests (run S outer p 0 (calm k.store) left)) (prepend c.path c.requests (run S outer p 0 s left))
+          (λ X more. prepend c.path c.requests (inner X more)) (λ X more. let c = run S callee 0 1 (calm t) (inputs ++ more) in
           return_to_caller (run S) (at X) 0 c c.end)
-          (ap (λ (u : Store). append_course c (run S outer p 0 u left)) k.is)
+          (ap (λ (u : Store). prepend c.path c.requests (run S outer p 0 u left)) k.is)
           (λ X more. ap (λ (x : Course). return_to_caller (run S) (at X) 0 x x.end) (longer more) ∙ ap
           (return_to_caller (run S) (at X) 0 (course_before more c)) (ended_so more))
           (λ at_call. reached_beyond c.requests _ _ (H k.store left k.fits at_call))

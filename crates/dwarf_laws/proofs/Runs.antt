@@ -9,7 +9,7 @@ use Rattle.dwarf_meaning.specs.Requests.{Request, OnAnswer, Input}
 use Rattle.dwarf_meaning.specs.Kinds.{kind_of_request, is_same_kind}
 use Rattle.dwarf_meaning.specs.Acts.{Act, Use}
 use Rattle.dwarf_meaning.specs.Stores.{Setup, address_bits, Store, Last, Next}
-use Rattle.dwarf_meaning.specs.Run.{Position, End, CompleteEnd, RequestEnd, FaultEnd, Course, only_end, add_to_path, add_request, append_course, Continues, return_to_caller, after_push, enter_callee, run_callee, after_answer, with_input, await_answer, after_operation, read, can_count, counted, do_operation, turn_counted, counted_act, turn_by, turn, out_of_turns, run_for, enough, run}
+use Rattle.dwarf_meaning.specs.Run.{Position, End, CompleteEnd, RequestEnd, FaultEnd, Course, only_end, prepend, Continues, return_to_caller, after_push, enter_callee, run_callee, after_answer, with_input, await_answer, after_operation, read, can_count, counted, do_operation, turn_counted, counted_act, turn_by, turn, out_of_turns, run_for, enough, run}
 use Rattle.dwarf_meaning.specs.Refusals.{Limits, taken}
 use Rattle.dwarf_laws.specs.Agreement.{AgreeingInputs}
 use Rattle.dwarf_laws.proofs.Pairs.{Pairwise, none, more, if_pair}
@@ -42,19 +42,19 @@ module _ (Free : Type 0) (w : ℕ) where
   ended_both e e' h = courses refl refl h
 
   passing_both : (position : Position) (c c' : Course) → AgreeingCourses Free w c c'
-      → AgreeingCourses Free w (add_to_path position c) (add_to_path position c')
+      → AgreeingCourses Free w (prepend (position ∷ []) [] c) (prepend (position ∷ []) [] c')
   passing_both position c c' (courses p q h) = courses (ap (λ (l : List Position). position ∷ l) p) q h
   passing_both position c c' (course_first free e) = course_first free e
   passing_both position c c' (course_second free e) = course_second free e
 
   asking_both : (request : Request) (c c' : Course) → AgreeingCourses Free w c c'
-      → AgreeingCourses Free w (add_request request c) (add_request request c')
+      → AgreeingCourses Free w (prepend [] (request ∷ []) c) (prepend [] (request ∷ []) c')
   asking_both request c c' (courses p q h) = courses p (ap (λ (l : List Request). request ∷ l) q) h
   asking_both request c c' (course_first free e) = course_first free e
   asking_both request c c' (course_second free e) = course_second free e
 
   joined_both : (c c' d d' : Course) → c.path ≡ c'.path → c.requests ≡ c'.requests → AgreeingCourses Free w d d'
-      → AgreeingCourses Free w (append_course c d) (append_course c' d')
+      → AgreeingCourses Free w (prepend c.path c.requests d) (prepend c'.path c'.requests d')
   joined_both c c' d d' p q (courses p' q' h) = courses (cc) (cc) h
   joined_both c c' d d' p q (course_first free e) = course_first free e
   joined_both c c' d d' p q (course_second free e) = course_second free e

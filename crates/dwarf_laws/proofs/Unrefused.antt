@@ -11,7 +11,7 @@ use Rattle.dwarf_meaning.specs.Requests.{Request, OnAnswer, Input}
 use Rattle.dwarf_meaning.specs.Kinds.{kind_of_request, kind_of_answer, is_same_kind}
 use Rattle.dwarf_meaning.specs.Acts.{on_top, Act, Pushes, Branches, Locates, EndsPiece, RequestAct, FaultAct, Use, PushesAnswer, Calls, FaultUse, use_of}
 use Rattle.dwarf_meaning.specs.Stores.{Setup, address_bits, Store, Last, Nothing, Plain, Pieced, Pushed, Called, Located, push_value, push_piece, push_caller, push_values, Next, Goes, RequestNext, FaultNext, goes, done}
-use Rattle.dwarf_meaning.specs.Run.{Position, End, CompleteEnd, RequestEnd, FaultEnd, Course, only_end, add_to_path, add_request, append_course, Continues, return_to_caller, after_push, enter_callee, run_callee, after_answer, with_input, await_answer, after_operation, read, can_count, counted, do_operation, turn_counted, counted_act, located_act, turn_by, turn, out_of_turns, run_for, enough}
+use Rattle.dwarf_meaning.specs.Run.{Position, End, CompleteEnd, RequestEnd, FaultEnd, Course, only_end, prepend, Continues, return_to_caller, after_push, enter_callee, run_callee, after_answer, with_input, await_answer, after_operation, read, can_count, counted, do_operation, turn_counted, counted_act, located_act, turn_by, turn, out_of_turns, run_for, enough}
 use Rattle.dwarf_meaning.specs.Meaning.{Outcome, FaultOutcome, completion_of, finish_value, finish_by, First, fresh, with_initial, outcome_of_end, meaning, has_pieces, CompleteOutcome, whole}
 use Rattle.dwarf_meaning.specs.Refusals.{Refusal, Never}
 use Rattle.dwarf_laws.proofs.Pairs.{if_pair}
@@ -67,15 +67,15 @@ GoCalm go go' =
 ended_calm : (e e' : End) → CalmEnds e e' → Calms (only_end e) (only_end e')
 ended_calm e e' h = calms refl refl h
 
-passing_calm : (position : Position) (c c' : Course) → Calms c c' → Calms (add_to_path position c) (add_to_path position c')
+passing_calm : (position : Position) (c c' : Course) → Calms c c' → Calms (prepend (position ∷ []) [] c) (prepend (position ∷ []) [] c')
 passing_calm position c c' (calms p q h) = calms (ap (λ (l : List Position). position ∷ l) p) q h
 passing_calm position c c' (full e) = full e
 
-asking_calm : (request : Request) (c c' : Course) → Calms c c' → Calms (add_request request c) (add_request request c')
+asking_calm : (request : Request) (c c' : Course) → Calms c c' → Calms (prepend [] (request ∷ []) c) (prepend [] (request ∷ []) c')
 asking_calm request c c' (calms p q h) = calms p (ap (λ (l : List Request). request ∷ l) q) h
 asking_calm request c c' (full e) = full e
 
-joined_calm : (c c' d d' : Course) → c.path ≡ c'.path → c.requests ≡ c'.requests → Calms d d' → Calms (append_course c d) (append_course c' d')
+joined_calm : (c c' d d' : Course) → c.path ≡ c'.path → c.requests ≡ c'.requests → Calms d d' → Calms (prepend c.path c.requests d) (prepend c'.path c'.requests d')
 joined_calm c c' d d' p q (calms p' q' h) = calms (cc) (cc) h
 joined_calm c c' d d' p q (full e) = full e
 

@@ -1,9 +1,10 @@
 -- The words of the definitions, case by case.
-use Rattle.std.proofs.Common.{suc, length, ◌≡◌, refl, ap, List, [], ◌∷◌, Option, Some, None, Result, Ok, Err}
+use Rattle.std.proofs.Common.{suc, length, ◌≡◌, refl, ap, List, [], ◌∷◌, Option, Some, None, option_map, unwrap_or, Result, Ok, Err}
 use Rattle.dwarf_base.specs.declared.errors.Error.{Error}
+use Rattle.dwarf_base.specs.declared.errors.Error.TheVariants.{UnexpectedEof}
 use Rattle.dwarf_base.specs.Faults.{Fault, fault_of}
 use Rattle.dwarf_value.specs.declared.types.Value.{Value}
-use Rattle.dwarf_meaning.specs.Acts.{on_top, on_some, on_result, result_of}
+use Rattle.dwarf_meaning.specs.Acts.{on_top, on_result}
 
 -- ---- what holds of both holds of the choice
 
@@ -12,15 +13,14 @@ unfolding on_top
 top_both P [] none go p q = p
 top_both P (x ∷ rest) none go p q = q x rest refl
 
-pub some_both : {X A : Type 0} (P : A → Type 0) (o : Option X) (none : A) (go : X → A) → P none → ((x : X) → P (go x)) → P (on_some o none go)
-unfolding on_some
+pub some_both : {X A : Type 0} (P : A → Type 0) (o : Option X) (none : A) (go : X → A) → P none → ((x : X) → P (go x)) → P (unwrap_or (option_map go o) none)
 some_both P None none go p q = p
 some_both P (Some x) none go p q = q x
 
-pub answer_both : {X A : Type 0} (P : A → Type 0) (r : Result X Fault) (refused : Fault → A) (go : X → A) → ((fault : Fault) → P (refused fault)) → ((x : X) → P (go x)) → P (on_result r refused go)
+pub answer_both : {X A : Type 0} (P : A → Type 0) (r : Result X Error) (refused : Fault → A) (go : X → A) → ((fault : Fault) → P (refused fault)) → ((x : X) → P (go x)) → P (on_result r refused go)
 unfolding on_result
 answer_both P (Ok x) refused go p q = q x
-answer_both P (Err fault) refused go p q = p fault
+answer_both P (Err error) refused go p q = p (fault_of error)
 
 -- ---- which of both it is
 
@@ -33,27 +33,22 @@ pub top_some : {A : Type 0} (values : List Value) (none : A) (go : Value → Lis
 unfolding on_top
 top_some values none go x rest e = ap (λ (vs : List Value). on_top vs none go) e
 
-pub some_none : {X A : Type 0} (o : Option X) (none : A) (go : X → A) → o ≡ None → on_some o none go ≡ none
-unfolding on_some
-some_none o none go e = ap (λ (p : Option _). on_some p none go) e
+pub some_none : {X A : Type 0} (o : Option X) (none : A) (go : X → A) → o ≡ None → unwrap_or (option_map go o) none ≡ none
+some_none o none go e = ap (λ (p : Option _). unwrap_or (option_map go p) none) e
 
-pub some_some : {X A : Type 0} (o : Option X) (none : A) (go : X → A) (x : X) → o ≡ Some x → on_some o none go ≡ go x
-unfolding on_some
-some_some o none go x e = ap (λ (p : Option _). on_some p none go) e
+pub some_some : {X A : Type 0} (o : Option X) (none : A) (go : X → A) (x : X) → o ≡ Some x → unwrap_or (option_map go o) none ≡ go x
+some_some o none go x e = ap (λ (p : Option _). unwrap_or (option_map go p) none) e
 
 -- a call's answer that is a value, and one that is an error
-pub answer_ok : {X A : Type 0} (r : Result X Error) (refused : Fault → A) (go : X → A) (x : X) → r ≡ Ok x → on_result (result_of r) refused go ≡ go x
-unfolding on_result result_of
-answer_ok r refused go x e = ap (λ (s : Result _ Error). on_result (result_of s) refused go) e
-
-pub answer_err : {X A : Type 0} (r : Result X Error) (refused : Fault → A) (go : X → A) (error : Error) → r ≡ Err error → on_result (result_of r) refused go ≡ refused (fault_of error)
-unfolding on_result result_of
-answer_err r refused go error e = ap (λ (s : Result _ Error). on_result (result_of s) refused go) e
-
-pub read_ok : {X A : Type 0} (r : Result X Fault) (refused : Fault → A) (go : X → A) (x : X) → r ≡ Ok x → on_result r refused go ≡ go x
+pub answer_ok : {X A : Type 0} (r : Result X Error) (refused : Fault → A) (go : X → A) (x : X) → r ≡ Ok x → on_result r refused go ≡ go x
 unfolding on_result
-read_ok r refused go x e = ap (λ (s : Result _ Fault). on_result s refused go) e
+answer_ok r refused go x e = ap (λ (s : Result _ Error). on_result s refused go) e
 
-pub read_err : {X A : Type 0} (r : Result X Fault) (refused : Fault → A) (go : X → A) (fault : Fault) → r ≡ Err fault → on_result r refused go ≡ refused fault
+pub answer_err : {X A : Type 0} (r : Result X Error) (refused : Fault → A) (go : X → A) (error : Error) → r ≡ Err error → on_result r refused go ≡ refused (fault_of error)
 unfolding on_result
-read_err r refused go fault e = ap (λ (s : Result _ Fault). on_result s refused go) e
+answer_err r refused go error e = ap (λ (s : Result _ Error). on_result s refused go) e
+
+-- an error that is a fault already
+pub fault_of_twice : (error : Error) → fault_of (fault_of error) ≡ fault_of error
+fault_of_twice (UnexpectedEof id) = refl
+fault_of_twice error = refl

@@ -12,7 +12,7 @@ use Rattle.dwarf_meaning.specs.Requests.{Request, OnAnswer, Input}
 use Rattle.dwarf_meaning.specs.Kinds.{kind_of_request, kind_of_answer, is_same_kind}
 use Rattle.dwarf_meaning.specs.Acts.{Act, Use, PushesAnswer, Calls, FaultUse, use_of}
 use Rattle.dwarf_meaning.specs.Stores.{Setup, address_bits, Store, Last, Nothing, Plain, Pieced, Pushed, Called, Located, Next, Goes, RequestNext, FaultNext}
-use Rattle.dwarf_meaning.specs.Run.{Position, End, CompleteEnd, RequestEnd, FaultEnd, Course, only_end, add_to_path, add_request, append_course, Continues, return_to_caller, after_push, enter_callee, run_callee, after_answer, with_input, await_answer, after_operation, read, most, can_count, counted, do_operation, turn_counted, counted_act, located_act, turn_by, turn, out_of_turns, run_for, enough, run}
+use Rattle.dwarf_meaning.specs.Run.{Position, End, CompleteEnd, RequestEnd, FaultEnd, Course, only_end, prepend, Continues, return_to_caller, after_push, enter_callee, run_callee, after_answer, with_input, await_answer, after_operation, read, most, can_count, counted, do_operation, turn_counted, counted_act, located_act, turn_by, turn, out_of_turns, run_for, enough, run}
 use Rattle.dwarf_meaning.specs.RunLaws.{MaximaWithin, AtEnd, CountsWithin}
 use Rattle.dwarf_meaning.proofs.Counts.{OnStore, OnNext, Tally, tally_of, HasTally, tally-push_value, tally-push_caller, tally-done}
 
@@ -60,12 +60,12 @@ module _ (bound : ℕ) (Fits : ℕ → Type 0) where
   counted_failed : (n : ℕ) (fault : Fault) → n ≤ bound → Counted bound Fits n (only_end (FaultEnd fault))
   counted_failed n fault h = record { few = omega (arith, h); at_end = tt }
 
-  counted_joined : (n : ℕ) (first second : Course) → Counted bound Fits (n + length first.path) second → Counted bound Fits n (append_course first second)
+  counted_joined : (n : ℕ) (first second : Course) → Counted bound Fits (n + length first.path) second → Counted bound Fits n (prepend first.path first.requests second)
   counted_joined n first second h =
       let e : n + length first.path + length second.path ≡ n + length (first.path ++ second.path) = let l = length-append first.path second.path in omega (arith, l) in
       record { few = omega (arith, e, h.few); at_end = stands_at Fits _ _ second.end e h.at_end }
 
-  counted_passing : (n : ℕ) (position : Position) (course : Course) → Counted bound Fits (n + 1) course → Counted bound Fits n (add_to_path position course)
+  counted_passing : (n : ℕ) (position : Position) (course : Course) → Counted bound Fits (n + 1) course → Counted bound Fits n (prepend (position ∷ []) [] course)
   counted_passing n position course h =
       record { few = omega (arith, h.few); at_end = stands_at Fits (n + 1 + length course.path) (n + suc (length course.path)) course.end (omega arith) h.at_end }
 
@@ -115,7 +115,7 @@ module _ (bound : ℕ) (Fits : ℕ → Type 0) where
     counted_led setup text depth place inputs n (Goes to s) h a = counted_from n text to depth s inputs h a
     counted_led setup text depth place inputs n (RequestNext request on_answer s) h a =
         let position : Position = record { text = text; place = place } in
-        subst (λ (k : Tally). Allowed bound Fits k inputs → Counted bound Fits k.count (add_request request (await_answer go setup position depth request on_answer s inputs))) h
+        subst (λ (k : Tally). Allowed bound Fits k inputs → Counted bound Fits k.count (prepend [] (request ∷ []) (await_answer go setup position depth request on_answer s inputs))) h
         (λ allowed. let c = counted_asked setup position depth request on_answer s inputs allowed in record { few = c.few; at_end = c.at_end })
         a
     counted_led setup text depth place inputs n (FaultNext fault) h a = counted_failed n.count fault a.count

@@ -9,7 +9,7 @@ use Rattle.dwarf_meaning.specs.Operations as operation
 use Rattle.dwarf_meaning.specs.Operations.{Operation}
 use Rattle.dwarf_meaning.specs.Locations.{Location, Empty, InRegister, AtAddress, HoldsValue, HoldsBytes, PointsInto, Piece}
 use Rattle.dwarf_meaning.specs.Requests.{Request, RequiresEntryValue, OnAnswer, Add, Parse, Answer, ValueAnswer, NumberAnswer, LocationAnswer, BaseTypeAnswer}
-use Rattle.dwarf_meaning.specs.Acts.{on_top, on_result, result_of, Act, Pushes, Branches, Locates, EndsPiece, RequestAct, FaultAct, short, push, unary, binary, act, Use, PushesAnswer, Calls, FaultUse, turn_top, use_of}
+use Rattle.dwarf_meaning.specs.Acts.{on_top, on_result, Act, Pushes, Branches, Locates, EndsPiece, RequestAct, FaultAct, short, push, unary, binary, act, Use, PushesAnswer, Calls, FaultUse, turn_top, use_of}
 use Rattle.dwarf_meaning.proofs.Choices.{top_both, some_both, answer_both}
 
 -- ---- operations
@@ -57,12 +57,12 @@ module _ {op : Operation} where
 
   unary_is : (call : Value → Result Value Error) (values : List Value) → IsActOf op (length values) (unary call values)
   unary_is call values =
-      top_is values _ (λ x rest e. answer_both (IsActOf op (length values)) (result_of (call x)) FaultAct (push rest) (λ fault. refuses) (λ y. pushes (omega (arith, e)) (omega (arith, e))))
+      top_is values _ (λ x rest e. answer_both (IsActOf op (length values)) (call x) FaultAct (push rest) (λ fault. refuses) (λ y. pushes (omega (arith, e)) (omega (arith, e))))
 
   binary_is : (call : Value → Value → Result Value Error) (values : List Value) → IsActOf op (length values) (binary call values)
   binary_is call values =
       top_is values _ (λ y below e. top_is below _ (λ x rest f.
-      answer_both (IsActOf op (length values)) (result_of (call x y)) FaultAct (push rest) (λ fault. refuses) (λ z. pushes (omega (arith, e, f)) (omega (arith, e, f)))))
+      answer_both (IsActOf op (length values)) (call x y) FaultAct (push rest) (λ fault. refuses) (λ z. pushes (omega (arith, e, f)) (omega (arith, e, f)))))
 
 pub act_is : (bits : ℕ) (object : Option ℕ) (op : Operation) (values : List Value) → IsActOf op (length values) (act bits object op values)
 unfolding act
@@ -125,15 +125,15 @@ IsUseOf answer n (PushesAnswer rest value) = length rest ≤ n
 IsUseOf answer n (Calls text) = answer ≡ LocationAnswer text
 IsUseOf answer n (FaultUse fault) = Unit {0}
 
-made_is : (answer : Answer) (n : ℕ) (rest : List Value) (r : Result Value Fault) → length rest ≤ n → IsUseOf answer n (on_result r FaultUse (PushesAnswer rest))
+made_is : (answer : Answer) (n : ℕ) (rest : List Value) (r : Result Value Error) → length rest ≤ n → IsUseOf answer n (on_result r FaultUse (PushesAnswer rest))
 unfolding on_result
 made_is answer n rest (Ok value) h = h
-made_is answer n rest (Err fault) h = tt
+made_is answer n rest (Err error) h = tt
 
 turned_is : (answer : Answer) (values : List Value) (call : Value → Result Value Error) → IsUseOf answer (length values) (turn_top call values)
 unfolding on_top
 turned_is answer [] call = tt
-turned_is answer (x ∷ rest) call = made_is answer (suc (length rest)) rest (result_of (call x)) (omega arith)
+turned_is answer (x ∷ rest) call = made_is answer (suc (length rest)) rest (call x) (omega arith)
 
 pub use_is : (bits : ℕ) (on_answer : OnAnswer) (answer : Answer) (values : List Value) → IsUseOf answer (length values) (use_of bits on_answer answer values)
 unfolding use_of

@@ -7,7 +7,7 @@ use Rattle.dwarf_meaning.specs.Requests.{Request, OnAnswer, Input}
 use Rattle.dwarf_meaning.specs.Kinds.{kind_of_request, kind_of_answer, is_same_kind}
 use Rattle.dwarf_meaning.specs.Acts.{Act, Use, PushesAnswer, Calls, FaultUse, use_of}
 use Rattle.dwarf_meaning.specs.Stores.{Setup, address_bits, Store, Last, Nothing, Plain, Pieced, Pushed, Called, Located, push_value, push_caller, Next, Goes, RequestNext, FaultNext}
-use Rattle.dwarf_meaning.specs.Run.{Position, End, CompleteEnd, RequestEnd, FaultEnd, Course, add_to_path, add_request, append_course, Continues, return_to_caller, after_push, enter_callee, run_callee, after_answer, with_input, await_answer, after_operation, read, can_count, counted, do_operation, turn_counted, counted_act, located_act, turn_by, turn, out_of_turns, run_for, enough, run}
+use Rattle.dwarf_meaning.specs.Run.{Position, End, CompleteEnd, RequestEnd, FaultEnd, Course, prepend, Continues, return_to_caller, after_push, enter_callee, run_callee, after_answer, with_input, await_answer, after_operation, read, can_count, counted, do_operation, turn_counted, counted_act, located_act, turn_by, turn, out_of_turns, run_for, enough, run}
 use Rattle.dwarf_meaning.specs.Meaning.{IsOver, First, fresh, with_initial, outcome_of_end, course_of, meaning}
 use Rattle.dwarf_meaning.specs.RunLaws.{IsSettled, end_before, course_before}
 use Rattle.dwarf_meaning.specs.Refusals.{Refusal}
@@ -32,7 +32,7 @@ module _ (more : List Input) (go : Continues) (extends : Extensible more go) whe
   settled_callee position depth course (FaultEnd fault) h = tt
 
   extends_back : (position : Position) (depth : ℕ) (course : Course) (end : End) → Extends more (return_to_caller go position depth course end) (return_to_caller go position depth (course_before more course) (end_before more end))
-  extends_back position depth course (CompleteEnd s left) settled = ap (append_course course) (extends position.text position.place depth s left settled)
+  extends_back position depth course (CompleteEnd s left) settled = ap (prepend course.path course.requests) (extends position.text position.place depth s left settled)
   extends_back position depth course (RequestEnd request positions left) settled = refl
   extends_back position depth course (FaultEnd fault) settled = refl
 
@@ -66,7 +66,7 @@ module _ (more : List Input) (go : Continues) (extends : Extensible more go) whe
   extends_led : (setup : Setup) (text : Text) (depth place : ℕ) (inputs : List Input) (next : Next) → Extends more (after_operation go setup text depth place inputs next) (after_operation go setup text depth place (inputs ++ more) next)
   extends_led setup text depth place inputs (Goes to s) settled = extends text to depth s inputs settled
   extends_led setup text depth place inputs (RequestNext request on_answer s) settled =
-      ap (add_request request) (extends_asked setup (record { text = text; place = place }) depth request on_answer s inputs settled)
+      ap (prepend [] (request ∷ [])) (extends_asked setup (record { text = text; place = place }) depth request on_answer s inputs settled)
   extends_led setup text depth place inputs (FaultNext fault) settled = refl
 
   extends_does : (setup : Setup) (text : Text) (depth : ℕ) (s : Store) (inputs : List Input) (act_at : ℕ → Operation → Act) (r : Result (Operation × List ℕ) Fault) → Extends more (do_operation go setup text depth s inputs act_at r) (do_operation go setup text depth s (inputs ++ more) act_at r)
@@ -77,7 +77,7 @@ module _ (more : List Input) (go : Continues) (extends : Extensible more go) whe
   extends_counts setup text place depth s inputs =
       let position : Position = record { text = text; place = place } in
       extends_if more (can_count s) _ _ _ _
-      (λ settled. ap (add_to_path position) (extends_does setup text depth (counted s) inputs (counted_act setup s) (read setup text place) settled))
+      (λ settled. ap (prepend (position ∷ []) []) (extends_does setup text depth (counted s) inputs (counted_act setup s) (read setup text place) settled))
       (λ settled. refl)
 
   extends_by : (setup : Setup) (text : Text) (place depth : ℕ) (s : Store) (inputs : List Input) (last : Last) → Extends more (turn_by go setup text place depth s inputs last) (turn_by go setup text place depth s (inputs ++ more) last)

@@ -8,7 +8,7 @@ use Rattle.dwarf_meaning.specs.Requests.{Request, OnAnswer, Input}
 use Rattle.dwarf_meaning.specs.Kinds.{kind_of_request, kind_of_answer, is_same_kind}
 use Rattle.dwarf_meaning.specs.Acts.{Act, Use, PushesAnswer, Calls, FaultUse, use_of}
 use Rattle.dwarf_meaning.specs.Stores.{Setup, address_bits, Store, Last, Nothing, Plain, Pieced, Pushed, Called, Located, push_value, push_caller, Next, Goes, RequestNext, FaultNext}
-use Rattle.dwarf_meaning.specs.Run.{Position, End, CompleteEnd, RequestEnd, FaultEnd, Course, only_end, add_request, Continues, return_to_caller, after_push, enter_callee, run_callee, after_answer, with_input, await_answer, after_operation, read, can_count, counted, do_operation, turn_counted, counted_act, located_act, turn_by, turn, out_of_turns, run_for, enough, run}
+use Rattle.dwarf_meaning.specs.Run.{Position, End, CompleteEnd, RequestEnd, FaultEnd, Course, only_end, prepend, Continues, return_to_caller, after_push, enter_callee, run_callee, after_answer, with_input, await_answer, after_operation, read, can_count, counted, do_operation, turn_counted, counted_act, located_act, turn_by, turn, out_of_turns, run_for, enough, run}
 use Rattle.dwarf_meaning.specs.RunLaws.{Took, EndTook}
 
 abbrev Taking : List Input → Course → Type 0
@@ -48,7 +48,7 @@ taking_next request input inputs requests end =
     took_end (input ∷ inputs) inputs (request ∷ []) requests end (record { taken = input ∷ []; split = refl; one_each = refl })
 
 -- the request that stays open
-taking_open : (request : Request) (position : Position) (inputs : List Input) → Taking inputs (add_request request (only_end (RequestEnd request (position ∷ []) inputs)))
+taking_open : (request : Request) (position : Position) (inputs : List Input) → Taking inputs (prepend [] (request ∷ []) (only_end (RequestEnd request (position ∷ []) inputs)))
 taking_open request position inputs = record { answered = []; last = refl; took = record { taken = []; split = refl; one_each = refl } }
 
 -- ---- runs
@@ -77,16 +77,16 @@ module _ (go : Continues) (takes : Takes go) where
   takes_called setup position depth callee [] s inputs = takes position.text position.place depth (record s { last = Called }) inputs
   takes_called setup position depth callee (byte ∷ bytes) s inputs = takes_entered position depth callee inputs (push_caller setup depth s)
 
-  takes_used : (setup : Setup) (position : Position) (depth : ℕ) (request : Request) (input : Input) (u : Use) (s : Store) (inputs : List Input) → Taking (input ∷ inputs) (add_request request (after_answer go setup position depth u s inputs))
+  takes_used : (setup : Setup) (position : Position) (depth : ℕ) (request : Request) (input : Input) (u : Use) (s : Store) (inputs : List Input) → Taking (input ∷ inputs) (prepend [] (request ∷ []) (after_answer go setup position depth u s inputs))
   takes_used setup position depth request input (PushesAnswer rest value) s inputs =
       taking_next request input inputs _ _ (takes_resumed position depth inputs (push_value setup value (record s { values = rest; last = Pushed })))
   takes_used setup position depth request input (Calls callee) s inputs = taking_next request input inputs _ _ (takes_called setup position depth callee callee.bytes s inputs)
   takes_used setup position depth request input (FaultUse fault) s inputs = omega arith
 
-  takes_asked : (setup : Setup) (position : Position) (depth : ℕ) (request : Request) (on_answer : OnAnswer) (s : Store) (inputs : List Input) → Taking inputs (add_request request (await_answer go setup position depth request on_answer s inputs))
+  takes_asked : (setup : Setup) (position : Position) (depth : ℕ) (request : Request) (on_answer : OnAnswer) (s : Store) (inputs : List Input) → Taking inputs (prepend [] (request ∷ []) (await_answer go setup position depth request on_answer s inputs))
   takes_asked setup position depth request on_answer s [] = taking_open request position []
   takes_asked setup position depth request on_answer s (input ∷ inputs) =
-      cond_both (is_same_kind (kind_of_request request) (kind_of_answer input.answer)) _ _ (λ (c : Course). Taking (input ∷ inputs) (add_request request c))
+      cond_both (is_same_kind (kind_of_request request) (kind_of_answer input.answer)) _ _ (λ (c : Course). Taking (input ∷ inputs) (prepend [] (request ∷ []) c))
       (λ fits. takes_used setup position depth request input (use_of (address_bits setup) on_answer input.answer s.values) (with_input input s) inputs)
       (λ other. taking_open request position (input ∷ inputs))
 

@@ -11,7 +11,7 @@ use Rattle.dwarf_meaning.specs.Requests.{Request, OnAnswer, Input}
 use Rattle.dwarf_meaning.specs.Kinds.{kind_of_request, kind_of_answer, is_same_kind}
 use Rattle.dwarf_meaning.specs.Acts.{Act, Use, PushesAnswer, Calls, FaultUse, use_of}
 use Rattle.dwarf_meaning.specs.Stores.{Setup, address_bits, Store, Last, Nothing, Plain, Pieced, Pushed, Called, Located, Next, Goes, RequestNext, FaultNext}
-use Rattle.dwarf_meaning.specs.Run.{Position, End, CompleteEnd, RequestEnd, FaultEnd, Course, only_end, add_to_path, add_request, append_course, Continues, return_to_caller, after_push, enter_callee, run_callee, after_answer, with_input, await_answer, after_operation, read, most, can_count, counted, do_operation, turn_counted, counted_act, located_act, turn_by, turn, out_of_turns, run_for, enough, run}
+use Rattle.dwarf_meaning.specs.Run.{Position, End, CompleteEnd, RequestEnd, FaultEnd, Course, only_end, prepend, Continues, return_to_caller, after_push, enter_callee, run_callee, after_answer, with_input, await_answer, after_operation, read, most, can_count, counted, do_operation, turn_counted, counted_act, located_act, turn_by, turn, out_of_turns, run_for, enough, run}
 use Rattle.dwarf_meaning.specs.RunLaws.{waits_of, turns_left}
 use Rattle.dwarf_meaning.proofs.Counts.{OnStore, OnNext, Tally, tally_of, HasTally, OnPiece, tally-push_value, tally-push_caller, tally-done, both-located}
 
@@ -137,7 +137,7 @@ Alike m go other = (text : Text) (place depth : ℕ) (s : Store) (inputs : List 
 
 module _ (go other : Continues) (m : ℕ) (alike : Alike m go other) (lowers : Lowers go) where
   alike_back : (position : Position) (depth : ℕ) (course : Course) (end : End) → EndsWithin m end → return_to_caller go position depth course end ≡ return_to_caller other position depth course end
-  alike_back position depth course (CompleteEnd s inputs) h = ap (append_course course) (alike position.text position.place depth s inputs h)
+  alike_back position depth course (CompleteEnd s inputs) h = ap (prepend course.path course.requests) (alike position.text position.place depth s inputs h)
   alike_back position depth course (RequestEnd request positions inputs) h = refl
   alike_back position depth course (FaultEnd fault) h = refl
 
@@ -173,7 +173,7 @@ module _ (go other : Continues) (m : ℕ) (alike : Alike m go other) (lowers : L
   alike_led setup text depth place inputs n (Goes to s) h i = alike text to depth s inputs (omega (arith, left_at n s h, i))
   alike_led setup text depth place inputs n (RequestNext request on_answer s) h i =
       let count : s.count ≡ n.count = ap (λ (k : Tally). k.count) h in
-      ap (add_request request) (alike_asked setup (record { text = text; place = place }) depth request on_answer s inputs (omega (arith, count, i)))
+      ap (prepend [] (request ∷ [])) (alike_asked setup (record { text = text; place = place }) depth request on_answer s inputs (omega (arith, count, i)))
   alike_led setup text depth place inputs n (FaultNext fault) h i = refl
 
   alike_does : (setup : Setup) (text : Text) (depth : ℕ) (s : Store) (inputs : List Input) (act_at : ℕ → Operation → Act) (r : Result (Operation × List ℕ) Fault) → room_at s.count ≤ m → do_operation go setup text depth s inputs act_at r ≡ do_operation other setup text depth s inputs act_at r
@@ -184,10 +184,10 @@ module _ (go other : Continues) (m : ℕ) (alike : Alike m go other) (lowers : L
   alike_counts setup text place depth s inputs h =
       alike_by_test (can_count s) refl
     where
-      alike_by_test : (b : Bool) → can_count s ≡ b → cond b (add_to_path (record { text = text; place = place }) (do_operation go setup text depth (counted s) inputs (counted_act setup s) (read setup text place))) (only_end (FaultEnd TooManyIterations)) ≡ cond b (add_to_path (record { text = text; place = place }) (do_operation other setup text depth (counted s) inputs (counted_act setup s) (read setup text place))) (only_end (FaultEnd TooManyIterations))
+      alike_by_test : (b : Bool) → can_count s ≡ b → cond b (prepend (record { text = text; place = place } ∷ []) [] (do_operation go setup text depth (counted s) inputs (counted_act setup s) (read setup text place))) (only_end (FaultEnd TooManyIterations)) ≡ cond b (prepend (record { text = text; place = place } ∷ []) [] (do_operation other setup text depth (counted s) inputs (counted_act setup s) (read setup text place))) (only_end (FaultEnd TooManyIterations))
       alike_by_test true e =
           let below = below_most s e in
-          ap (add_to_path (record { text = text; place = place }))
+          ap (prepend (record { text = text; place = place } ∷ []) [])
           (alike_does setup text depth (counted s) inputs (counted_act setup s) (read setup text place) (omega arith))
       alike_by_test false e = refl
 

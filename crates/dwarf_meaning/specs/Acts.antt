@@ -1,5 +1,5 @@
 -- What each operation does with the stack, apart from the lists' limits (DWARF 5, sections 2.5.1 and 2.6.1).
-use Rattle.std.specs.Prelude.{ℕ, ◌*◌, ℤ, ◌==◌, pos, ◌+ℤ◌, true, false, List, [], ◌∷◌, Option, Some, None, Result, Ok, Err, nat_lt, slice_get, if◌then◌else◌}
+use Rattle.std.specs.Prelude.{ℕ, ◌*◌, ℤ, ◌==◌, pos, ◌+ℤ◌, true, false, List, [], ◌∷◌, Option, Some, None, option_map, unwrap_or, Result, Ok, Err, nat_lt, slice_get, if◌then◌else◌}
 use Rattle.dwarf_base.specs.declared.errors.Error.{Error}
 use Rattle.dwarf_base.specs.Faults.{Fault, fault_of}
 use Rattle.dwarf_base.specs.declared.errors.Error.TheVariants.{NotEnoughStackItems, InvalidDerefSize, InvalidPushObjectAddress, UnsupportedEvaluation}
@@ -9,7 +9,7 @@ use Rattle.dwarf_value.specs.declared.types.Value.{Value}
 use Rattle.dwarf_value.specs.declared.types.Value.TheVariants.{Generic}
 use Rattle.dwarf_value.specs.Values.{type_of, to_u64_of, from_u64_of, convert_of, reinterpret_of, parse_of, unary_of, binary_of, Plus}
 use Rattle.dwarf_meaning.specs.Operations as operation
-use Rattle.dwarf_meaning.specs.Operations.{Operation}
+use Rattle.dwarf_meaning.specs.Operations.{Operation, UnsignedConstant, SignedConstant, Address, AddressIndex, ConstantIndex, TypedLiteral, FrameOffset, RegisterOffset, Drop, Swap, Rot, Pick, Deref, PushObjectAddress, TLS, CallFrameCFA, Unary, PlusConstant, Binary, Skip, Bra, Call, Convert, Reinterpret, Nop, EntryValue, Register, ImplicitValue, StackValue, ImplicitPointer, Uninitialized, ParameterRef, VariableValue, WasmLocal, WasmGlobal, WasmStack}
 use Rattle.dwarf_meaning.specs.Locations.{Location, Empty, InRegister, AtAddress, HoldsValue, HoldsBytes, PointsInto, Piece, sized}
 use Rattle.dwarf_meaning.specs.Requests.{Request, RequiresMemory, RequiresRegister, RequiresWasmLocal, RequiresWasmGlobal, RequiresWasmStack, RequiresFrameBase, RequiresTls, RequiresCallFrameCfa, RequiresAtLocation, RequiresEntryValue, RequiresParameterRef, RequiresRelocatedAddress, RequiresIndexedAddress, RequiresBaseType, OnAnswer, Push, Add, Parse, Convert, Reinterpret, Answer, ValueAnswer, NumberAnswer, LocationAnswer, BaseTypeAnswer}
 
@@ -34,20 +34,10 @@ unfoldable pub on_top : {A : Type 0} → List Value → A → (Value → List Va
 on_top [] none go = none
 on_top (x ∷ rest) none go = go x rest
 
--- what is there, or `none`
-unfoldable pub on_some : {X A : Type 0} → Option X → A → (X → A) → A
-on_some None none go = none
-on_some (Some x) none go = go x
-
--- the result of a call on values, or its fault
-unfoldable pub on_result : {X A : Type 0} → Result X Fault → (Fault → A) → (X → A) → A
+-- the result of a call on values, or its error as a fault
+unfoldable pub on_result : {X A : Type 0} → Result X Error → (Fault → A) → (X → A) → A
 on_result (Ok x) faulted go = go x
-on_result (Err fault) faulted go = faulted fault
-
--- a call's result, with the error as a fault
-unfoldable pub result_of : {X : Type 0} → Result X Error → Result X Fault
-result_of (Ok x) = Ok x
-result_of (Err error) = Err (fault_of error)
+on_result (Err error) faulted go = faulted (fault_of error)
 
 -- no value is there to be popped
 abbrev pub short : Act
@@ -59,13 +49,12 @@ push rest value = Pushes rest (value ∷ [])
 
 -- the top becomes the call's result
 abbrev pub unary : (Value → Result Value Error) → List Value → Act
-unary call values = on_top values short (λ x rest. on_result (result_of (call x)) FaultAct (push rest))
+unary call values = on_top values short (λ x rest. on_result (call x) FaultAct (push rest))
 
 -- the two on top become the call's result
 abbrev pub binary : (Value → Value → Result Value Error) → List Value → Act
 binary call values =
-    on_top values short (λ y below. on_top below short
-    (λ x rest. on_result (result_of (call x y)) FaultAct (push rest)))
+    on_top values short (λ y below. on_top below short (λ x rest. on_result (call x y) FaultAct (push rest)))
 
 -- ---- operations that are done at once, and those that ask
 
@@ -73,58 +62,54 @@ binary call values =
 module _ (bits : ℕ) (object : Option ℕ) where
   -- what an operation does with the values on the stack
   unfoldable pub act : Operation → List Value → Act
-  act operation.Drop values = on_top values short (λ x rest. Pushes rest [])
-  act (operation.Pick index) values = on_some (slice_get values index) short (push values)
-  act operation.Swap (y ∷ x ∷ rest) = Pushes rest (y ∷ x ∷ [])
-  act operation.Swap _ = short
-  act operation.Rot (z ∷ y ∷ x ∷ rest) = Pushes rest (z ∷ x ∷ y ∷ [])
-  act operation.Rot _ = short
-  act (operation.Unary op) values = unary (unary_of op bits) values
-  act (operation.Binary op) values = binary (binary_of op bits) values
-  act (operation.PlusConstant value) values = unary (λ x. binary_of Plus bits x (from_u64_of (type_of x) value)) values
-  act (operation.UnsignedConstant value) values = push values (Generic value)
-  act (operation.SignedConstant value) values = push values (Generic (residue 64 value))
-  act operation.PushObjectAddress values =
-      on_some object (FaultAct InvalidPushObjectAddress) (λ address. push values (Generic address))
-  act (operation.Bra target) values =
+  act Drop values = on_top values short (λ x rest. Pushes rest [])
+  act (Pick index) values = unwrap_or (option_map (push values) (slice_get values index)) short
+  act Swap (y ∷ x ∷ rest) = Pushes rest (y ∷ x ∷ [])
+  act Swap _ = short
+  act Rot (z ∷ y ∷ x ∷ rest) = Pushes rest (z ∷ x ∷ y ∷ [])
+  act Rot _ = short
+  act (Unary op) values = unary (unary_of op bits) values
+  act (Binary op) values = binary (binary_of op bits) values
+  act (PlusConstant value) values = unary (λ x. binary_of Plus bits x (from_u64_of (type_of x) value)) values
+  act (UnsignedConstant value) values = push values (Generic value)
+  act (SignedConstant value) values = push values (Generic (residue 64 value))
+  act PushObjectAddress values =
+      unwrap_or (option_map (λ address. push values (Generic address)) object) (FaultAct InvalidPushObjectAddress)
+  act (Bra target) values =
       on_top values short (λ x rest. if to_u64_of bits x == 0 then Pushes rest [] else Branches rest target)
-  act (operation.Skip target) values = Branches values target
-  act operation.Nop values = Pushes values []
-  act (operation.VariableValue offset) values = FaultAct UnsupportedEvaluation
-  act operation.Uninitialized values = FaultAct UnsupportedEvaluation
-  act (operation.Deref base_type size false) values =
+  act (Skip target) values = Branches values target
+  act Nop values = Pushes values []
+  act (VariableValue offset) values = FaultAct UnsupportedEvaluation
+  act Uninitialized values = FaultAct UnsupportedEvaluation
+  act (Deref base_type size false) values =
       if nat_lt bits (8 * size) then FaultAct (InvalidDerefSize size)
-      else on_top values short (λ x rest.
-      RequestAct rest (RequiresMemory (to_u64_of bits x) size None base_type) Push)
-  act (operation.Deref base_type size true) values =
+      else on_top values short (λ x rest. RequestAct rest (RequiresMemory (to_u64_of bits x) size None base_type) Push)
+  act (Deref base_type size true) values =
       if nat_lt bits (8 * size) then FaultAct (InvalidDerefSize size)
       else on_top values short (λ x below. on_top below short (λ y rest.
       RequestAct rest (RequiresMemory (to_u64_of bits x) size (Some (to_u64_of bits y)) base_type) Push))
-  act (operation.RegisterOffset register offset base_type) values =
-      RequestAct values (RequiresRegister register base_type) (Add offset)
-  act (operation.FrameOffset offset) values = RequestAct values RequiresFrameBase (Add offset)
-  act operation.TLS values = on_top values short (λ x rest. RequestAct rest (RequiresTls (to_u64_of bits x)) Push)
-  act operation.CallFrameCFA values = RequestAct values RequiresCallFrameCfa Push
-  act (operation.Call offset) values = RequestAct values (RequiresAtLocation offset) Push
-  act (operation.EntryValue expression) values = RequestAct values (RequiresEntryValue expression) Push
-  act (operation.ParameterRef offset) values = RequestAct values (RequiresParameterRef offset) Push
-  act (operation.Address address) values = RequestAct values (RequiresRelocatedAddress address) Push
-  act (operation.AddressIndex index) values = RequestAct values (RequiresIndexedAddress index true) Push
-  act (operation.ConstantIndex index) values = RequestAct values (RequiresIndexedAddress index false) Push
-  act (operation.TypedLiteral base_type value) values =
-      RequestAct values (RequiresBaseType base_type) (Parse value)
-  act (operation.Convert base_type) values = RequestAct values (RequiresBaseType base_type) Convert
-  act (operation.Reinterpret base_type) values = RequestAct values (RequiresBaseType base_type) Reinterpret
-  act (operation.WasmLocal index) values = RequestAct values (RequiresWasmLocal index) Push
-  act (operation.WasmGlobal index) values = RequestAct values (RequiresWasmGlobal index) Push
-  act (operation.WasmStack index) values = RequestAct values (RequiresWasmStack index) Push
-  act (operation.Register register) values = Locates values (InRegister register)
-  act (operation.ImplicitValue bytes) values = Locates values (HoldsBytes bytes)
-  act operation.StackValue values = on_top values short (λ x rest. Locates rest (HoldsValue x))
-  act (operation.ImplicitPointer value byte_offset) values = Locates values (PointsInto value byte_offset)
-  act (operation.Piece size_in_bits bit_offset) values =
-      on_top values (EndsPiece [] (sized size_in_bits bit_offset Empty))
-      (λ x rest. EndsPiece rest (sized size_in_bits bit_offset (AtAddress (to_u64_of bits x))))
+  act (RegisterOffset register offset type) values = RequestAct values (RequiresRegister register type) (Add offset)
+  act (FrameOffset offset) values = RequestAct values RequiresFrameBase (Add offset)
+  act TLS values = on_top values short (λ x rest. RequestAct rest (RequiresTls (to_u64_of bits x)) Push)
+  act CallFrameCFA values = RequestAct values RequiresCallFrameCfa Push
+  act (Call offset) values = RequestAct values (RequiresAtLocation offset) Push
+  act (EntryValue expression) values = RequestAct values (RequiresEntryValue expression) Push
+  act (ParameterRef offset) values = RequestAct values (RequiresParameterRef offset) Push
+  act (Address address) values = RequestAct values (RequiresRelocatedAddress address) Push
+  act (AddressIndex index) values = RequestAct values (RequiresIndexedAddress index true) Push
+  act (ConstantIndex index) values = RequestAct values (RequiresIndexedAddress index false) Push
+  act (TypedLiteral base_type value) values = RequestAct values (RequiresBaseType base_type) (Parse value)
+  act (Convert base_type) values = RequestAct values (RequiresBaseType base_type) Convert
+  act (Reinterpret base_type) values = RequestAct values (RequiresBaseType base_type) Reinterpret
+  act (WasmLocal index) values = RequestAct values (RequiresWasmLocal index) Push
+  act (WasmGlobal index) values = RequestAct values (RequiresWasmGlobal index) Push
+  act (WasmStack index) values = RequestAct values (RequiresWasmStack index) Push
+  act (Register register) values = Locates values (InRegister register)
+  act (ImplicitValue bytes) values = Locates values (HoldsBytes bytes)
+  act StackValue values = on_top values short (λ x rest. Locates rest (HoldsValue x))
+  act (ImplicitPointer value byte_offset) values = Locates values (PointsInto value byte_offset)
+  act (operation.Piece size offset) values = on_top values (EndsPiece [] (sized size offset Empty))
+      (λ x rest. EndsPiece rest (sized size offset (AtAddress (to_u64_of bits x))))
 
 -- ---- what is done with an answer
 
@@ -139,16 +124,15 @@ pub data Use : Type 0 where
 -- the top becomes the result of a call on it
 abbrev pub turn_top : (Value → Result Value Error) → List Value → Use
 turn_top call values = on_top values (FaultUse NotEnoughStackItems)
-    (λ x rest. on_result (result_of (call x)) FaultUse (PushesAnswer rest))
+    (λ x rest. on_result (call x) FaultUse (PushesAnswer rest))
 
 module _ (bits : ℕ) where
   -- what an answer is used for, by what is done with it; the values are those on the stack
   unfoldable pub use_of : OnAnswer → Answer → List Value → Use
   use_of (Add offset) (ValueAnswer kind x) values =
-      on_result (result_of (binary_of Plus bits x (from_u64_of (type_of x) (residue 64 offset)))) FaultUse (PushesAnswer values)
+      on_result (binary_of Plus bits x (from_u64_of (type_of x) (residue 64 offset))) FaultUse (PushesAnswer values)
   use_of _ (ValueAnswer kind value) values = PushesAnswer values value
-  use_of (Add offset) (NumberAnswer kind number) values =
-      PushesAnswer values (Generic (residue 64 (pos number +ℤ offset)))
+  use_of (Add offset) (NumberAnswer kind n) values = PushesAnswer values (Generic (residue 64 (pos n +ℤ offset)))
   use_of _ (NumberAnswer kind number) values = PushesAnswer values (Generic number)
   use_of _ (LocationAnswer text) values = Calls text
   use_of (Parse literal) (BaseTypeAnswer value_type) values =

@@ -20,5 +20,4 @@ pub record Piece : Type 0 where
 
 -- a piece of this size, at this offset
 abbrev pub sized : (size_in_bits : ℕ) → (bit_offset : Option ℕ) → Location → Piece
-sized size_in_bits bit_offset location =
-    record { size_in_bits = Some size_in_bits; bit_offset = bit_offset; location = location }
+sized size offset location = record { size_in_bits = Some size; bit_offset = offset; location = location }

@@ -35,18 +35,9 @@ pub record Course : Type 0 where
 abbrev pub only_end : End → Course
 only_end end = record { path = []; requests = []; end = end }
 
--- the operation at this position is counted, and then the course
-abbrev pub add_to_path : Position → Course → Course
-add_to_path position course = record course { path = position ∷ course.path }
-
--- a request, and then the course
-abbrev pub add_request : Request → Course → Course
-add_request request course = record course { requests = request ∷ course.requests }
-
--- one course and then another
-abbrev pub append_course : Course → Course → Course
-append_course first second =
-    record { path = first.path ++ second.path; requests = first.requests ++ second.requests; end = second.end }
+-- these positions and requests, and then the course
+abbrev pub prepend : List Position → List Request → Course → Course
+prepend path requests course = record course { path = path ++ course.path; requests = requests ++ course.requests }
 
 -- how a run goes on: in a text, at a place, at a depth of calls, with what is kept and the inputs to come
 abbrev pub Continues : Type 0
@@ -80,15 +71,14 @@ counted_act setup s place op = act (address_bits setup) s.object_address op s.va
 
 -- what the operation after a location does: it ends the piece there, and none else may follow
 abbrev pub located_act : Location → Store → (place : ℕ) → Operation → Act
-located_act location s place (operation.Piece size_in_bits bit_offset) =
-    EndsPiece s.values (sized size_in_bits bit_offset location)
+located_act location s place (operation.Piece size offset) = EndsPiece s.values (sized size offset location)
 located_act location s place _ = FaultAct (InvalidExpressionTerminator (place - 1))
 
 module _ (go : Continues) where
   module _ (position : Position) (depth : ℕ) where
     -- the caller's rest, after its callee's course
     abbrev pub return_to_caller : Course → End → Course
-    return_to_caller course (CompleteEnd s inputs) = append_course course
+    return_to_caller course (CompleteEnd s inputs) = prepend course.path course.requests
         (go position.text position.place depth s inputs)
     return_to_caller course (RequestEnd request positions inputs) =
         record course { end = RequestEnd request (positions ++ position ∷ []) inputs }
@@ -132,7 +122,7 @@ module _ (go : Continues) where
       abbrev pub after_operation : (depth place : ℕ) → List Input → Next → Course
       after_operation depth place inputs (Goes to s) = go text to depth s inputs
       after_operation depth place inputs (RequestNext request on_answer s) =
-          add_request request (await_answer (record { text = text; place = place }) depth request on_answer s inputs)
+          prepend [] (request ∷ []) (await_answer (record { text = text; place = place }) depth request on_answer s inputs)
       after_operation depth place inputs (FaultNext fault) = only_end (FaultEnd fault)
 
       -- the operation that was read is done
@@ -147,7 +137,7 @@ module _ (go : Continues) where
       abbrev pub turn_counted : (place depth : ℕ) → Store → List Input → Course
       turn_counted place depth s inputs =
           if can_count s
-          then add_to_path (record { text = text; place = place })
+          then prepend (record { text = text; place = place } ∷ []) []
           (do_operation depth (counted s) inputs (counted_act setup s) (read setup text place))
           else only_end (FaultEnd TooManyIterations)
 

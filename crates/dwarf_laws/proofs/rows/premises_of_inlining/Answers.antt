@@ -8,7 +8,7 @@ use Rattle.dwarf_meaning.specs.Locations.{AtAddress}
 use Rattle.dwarf_meaning.specs.declared.kinds.WaitingKind.TheVariants as kind
 use Rattle.dwarf_meaning.specs.Requests.{RequiresCallFrameCfa, RequiresAtLocation, NumberAnswer, LocationAnswer}
 use Rattle.dwarf_meaning.specs.Kinds.{is_same_kind}
-use Rattle.dwarf_meaning.specs.Acts.{on_top, on_some, on_result, result_of, act, use_of}
+use Rattle.dwarf_meaning.specs.Acts.{on_top, on_result, act, use_of}
 use Rattle.dwarf_meaning.specs.Decoding.{operation_at}
 use Rattle.dwarf_meaning.specs.Opcodes.{row_of}
 use Rattle.dwarf_meaning.specs.Stores.{push_value, push_piece, push_caller}
@@ -21,7 +21,7 @@ use Rattle.dwarf_laws.proofs.Disagreement.{end_ended, number_of}
 use Rattle.dwarf_laws.proofs.rows.premises_of_inlining.Goals as goal
 
 pub returns : goal.returns
-unfolding uleb_at sleb_at fixed_at type_of bit_size_of is_signed is_same word_integer integer_of value_of on_top on_some on_result result_of act use_of is_same_kind operation_at row_of push_value push_piece push_caller most run_for
+unfolding uleb_at sleb_at fixed_at type_of bit_size_of is_signed is_same word_integer integer_of value_of on_top on_result act use_of is_same_kind operation_at row_of push_value push_piece push_caller most run_for
 returns c = record {
   callers_have_a_limit = record {
     outer_comes =

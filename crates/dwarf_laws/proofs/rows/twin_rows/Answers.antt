@@ -12,7 +12,7 @@ use Rattle.dwarf_meaning.specs.declared.kinds.WaitingKind.TheVariants as kind
 use Rattle.dwarf_meaning.specs.Requests.{RequiresMemory, RequiresRegister, RequiresWasmLocal, RequiresWasmGlobal, RequiresWasmStack, RequiresFrameBase, RequiresTls, RequiresCallFrameCfa, RequiresAtLocation, RequiresEntryValue, RequiresParameterRef, RequiresRelocatedAddress, RequiresIndexedAddress, RequiresBaseType, ValueAnswer, NumberAnswer, BaseTypeAnswer}
 use Rattle.dwarf_meaning.specs.Meaning.{FaultOutcome, CompleteOutcome, whole}
 use Rattle.dwarf_meaning.specs.Kinds.{is_same_kind}
-use Rattle.dwarf_meaning.specs.Acts.{on_top, on_some, on_result, result_of, act, use_of}
+use Rattle.dwarf_meaning.specs.Acts.{on_top, on_result, act, use_of}
 use Rattle.dwarf_meaning.specs.Decoding.{operation_at}
 use Rattle.dwarf_meaning.specs.Opcodes.{row_of}
 use Rattle.dwarf_meaning.specs.Stores.{push_value, push_piece, push_caller}
@@ -27,7 +27,7 @@ use Rattle.dwarf_laws.proofs.Computed.{set_once, once, twice}
 use Rattle.dwarf_laws.proofs.rows.twin_rows.Goals as goal
 
 pub returns : goal.returns
-unfolding uleb_at sleb_at fixed_at type_of bit_size_of is_signed is_same word_integer integer_of value_of on_top on_some on_result result_of act use_of is_same_kind operation_at row_of push_value push_piece push_caller most run_for
+unfolding uleb_at sleb_at fixed_at type_of bit_size_of is_signed is_same word_integer integer_of value_of on_top on_result act use_of is_same_kind operation_at row_of push_value push_piece push_caller most run_for
 returns c = record {
   frame_address = record {
     agree = (evaluate, (resume (number refl), tt));

@@ -9,7 +9,7 @@ use Rattle.dwarf_meaning.specs.Locations.{InRegister, AtAddress}
 use Rattle.dwarf_meaning.specs.declared.kinds.WaitingKind.TheVariants as kind
 use Rattle.dwarf_meaning.specs.Requests.{RequiresCallFrameCfa, RequiresAtLocation, RequiresRelocatedAddress, ValueAnswer, NumberAnswer}
 use Rattle.dwarf_meaning.specs.Kinds.{is_same_kind}
-use Rattle.dwarf_meaning.specs.Acts.{on_top, on_some, on_result, result_of, act, use_of}
+use Rattle.dwarf_meaning.specs.Acts.{on_top, on_result, act, use_of}
 use Rattle.dwarf_meaning.specs.Decoding.{operation_at}
 use Rattle.dwarf_meaning.specs.Opcodes.{row_of}
 use Rattle.dwarf_meaning.specs.Stores.{push_value, push_piece, push_caller}
@@ -21,7 +21,7 @@ use Rattle.dwarf_meaning.proofs.FewTurns.{in_twenty}
 use Rattle.dwarf_meaning.proofs.rows.worked_rows.Goals as goal
 
 pub returns : goal.returns
-unfolding uleb_at sleb_at fixed_at type_of bit_size_of is_signed is_same word_integer integer_of value_of on_top on_some on_result result_of act use_of is_same_kind operation_at row_of push_value push_piece push_caller most run_for
+unfolding uleb_at sleb_at fixed_at type_of bit_size_of is_signed is_same word_integer integer_of value_of on_top on_result act use_of is_same_kind operation_at row_of push_value push_piece push_caller most run_for
 returns c = record {
   sum = in_twenty plain Never (text (0x33 ∷ 0x35 ∷ 0x22 ∷ [])) unset [] (valued 8 8) (λ more. refl);
   nothing = in_twenty plain Never (text []) unset [] (FaultOutcome NotEnoughStackItems) (λ more. refl);

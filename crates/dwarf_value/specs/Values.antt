@@ -26,18 +26,6 @@ pub record IsAddressMask (mask : ℕ) : Type 0 where
 
 -- ---- types and integers
 
--- the type of a value
-unfoldable pub type_of : Value → ValueType
-type_of (Generic n) = kind.Generic
-type_of (I8 x) = kind.I8
-type_of (U8 n) = kind.U8
-type_of (I16 x) = kind.I16
-type_of (U16 n) = kind.U16
-type_of (I32 x) = kind.I32
-type_of (U32 n) = kind.U32
-type_of (I64 x) = kind.I64
-type_of (U64 n) = kind.U64
-
 -- how many bits a value of the type has, if an address has w
 unfoldable pub bit_size_of : (w : ℕ) → ValueType → ℕ
 bit_size_of w kind.Generic = w
@@ -68,17 +56,25 @@ unfoldable pub word_integer : (signed : Bool) (k : ℕ) → ℕ → ℤ
 word_integer true k n = signed_of k n
 word_integer false k n = pos n
 
--- the integer that a value stands for; of a generic one, that of its lowest w bits, with a sign or without
+-- the type of a value, and its integer; a generic one's is that of its lowest w bits, with a sign or without
+abbrev pub parts_of : (signed : Bool) (w : ℕ) → Value → ValueType × ℤ
+parts_of signed w (Generic n) = (kind.Generic, word_integer signed w (n % 2 ^ w))
+parts_of signed w (I8 x) = (kind.I8, x)
+parts_of signed w (U8 n) = (kind.U8, pos n)
+parts_of signed w (I16 x) = (kind.I16, x)
+parts_of signed w (U16 n) = (kind.U16, pos n)
+parts_of signed w (I32 x) = (kind.I32, x)
+parts_of signed w (U32 n) = (kind.U32, pos n)
+parts_of signed w (I64 x) = (kind.I64, x)
+parts_of signed w (U64 n) = (kind.U64, pos n)
+
+-- the type of a value, which does not depend on how a generic one is read
+unfoldable pub type_of : Value → ValueType
+type_of x = (parts_of false 0 x).0
+
+-- the integer that a value stands for
 unfoldable pub integer_of : (signed : Bool) (w : ℕ) → Value → ℤ
-integer_of signed w (Generic n) = word_integer signed w (n % 2 ^ w)
-integer_of signed w (I8 x) = x
-integer_of signed w (U8 n) = pos n
-integer_of signed w (I16 x) = x
-integer_of signed w (U16 n) = pos n
-integer_of signed w (I32 x) = x
-integer_of signed w (U32 n) = pos n
-integer_of signed w (I64 x) = x
-integer_of signed w (U64 n) = pos n
+integer_of signed w x = (parts_of signed w x).1
 
 -- the integer, from 0 up if the value is generic
 abbrev pub unsigned_integer : (w : ℕ) → Value → ℤ

@@ -26,26 +26,25 @@ pub record IsAddressMask (mask : ℕ) : Type 0 where
 
 -- ---- types and integers
 
--- how many bits a value of the type has, if an address has w
-unfoldable pub bit_size_of : (w : ℕ) → ValueType → ℕ
-bit_size_of w kind.Generic = w
-bit_size_of w kind.I8 = 8
-bit_size_of w kind.U8 = 8
-bit_size_of w kind.I16 = 16
-bit_size_of w kind.U16 = 16
-bit_size_of w kind.I32 = 32
-bit_size_of w kind.U32 = 32
-bit_size_of w kind.I64 = 64
-bit_size_of w kind.U64 = 64
+-- whether the integers of a type have a sign, and how many bits its values have; the generic type's are given
+abbrev pub shape_of : (signed : Bool) (w : ℕ) → ValueType → Bool × ℕ
+shape_of signed w kind.Generic = (signed, w)
+shape_of signed w kind.I8 = (true, 8)
+shape_of signed w kind.U8 = (false, 8)
+shape_of signed w kind.I16 = (true, 16)
+shape_of signed w kind.U16 = (false, 16)
+shape_of signed w kind.I32 = (true, 32)
+shape_of signed w kind.U32 = (false, 32)
+shape_of signed w kind.I64 = (true, 64)
+shape_of signed w kind.U64 = (false, 64)
 
 -- whether the integers of a type have a sign; those of the generic type have none of their own
 unfoldable pub is_signed : (generic : Bool) → ValueType → Bool
-is_signed generic kind.Generic = generic
-is_signed generic kind.I8 = true
-is_signed generic kind.I16 = true
-is_signed generic kind.I32 = true
-is_signed generic kind.I64 = true
-is_signed generic _ = false
+is_signed generic t = (shape_of generic 0 t).0
+
+-- how many bits a value of the type has, if an address has w
+unfoldable pub bit_size_of : (w : ℕ) → ValueType → ℕ
+bit_size_of w t = (shape_of false w t).1
 
 -- whether two types are the same, as `==` tells
 unfoldable pub is_same : ValueType → ValueType → Bool

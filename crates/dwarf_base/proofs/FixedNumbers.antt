@@ -3,7 +3,7 @@ use Rattle.std.proofs.Common.{◌≡◌, ℕ, Bool, true, false, List, [], ◌�
 use Rattle.std.proofs.lemmas.Bool.Decides.{nat_tests}
 use Rattle.std.specs.Int.{w16, w32, w64, from_le_bytes, from_be_bytes}
 use Rattle.dwarf_base.specs.Faults.{Fault}
-use Rattle.dwarf_base.specs.Numbers.{number_of, little_of, big_of}
+use Rattle.dwarf_base.specs.Numbers.{number_of, little_of}
 use Rattle.dwarf_base.specs.Reads.{u8_at, split_at, fixed_at}
 use Rattle.dwarf_base.proofs.Splits.{length_taken}
 
@@ -46,7 +46,7 @@ fixed_little_two big bytes front rest number h o e =
     let same : number ≡ number_of big front = rw o (little_two front number (length_taken 2 bytes front rest h) e) in
     fixed_taken big 2 bytes front rest number h same
 
-big_two : (bytes : List ℕ) (n : ℕ) → length bytes ≡ 2 → n ≡ from_be_bytes w16 bytes → n ≡ big_of bytes
+big_two : (bytes : List ℕ) (n : ℕ) → length bytes ≡ 2 → n ≡ from_be_bytes w16 bytes → n ≡ number_of true bytes
 big_two [] n h e = absurd (omega arith)
 big_two (a ∷ []) n h e = absurd (omega arith)
 big_two (a ∷ b ∷ []) n h e = omega (arith, e)
@@ -72,7 +72,7 @@ fixed_little_four big bytes front rest number h o e =
     let same : number ≡ number_of big front = rw o (little_four front number (length_taken 4 bytes front rest h) e) in
     fixed_taken big 4 bytes front rest number h same
 
-big_four : (bytes : List ℕ) (n : ℕ) → length bytes ≡ 4 → n ≡ from_be_bytes w32 bytes → n ≡ big_of bytes
+big_four : (bytes : List ℕ) (n : ℕ) → length bytes ≡ 4 → n ≡ from_be_bytes w32 bytes → n ≡ number_of true bytes
 big_four [] n h e = absurd (omega arith)
 big_four (a ∷ []) n h e = absurd (omega arith)
 big_four (a ∷ b ∷ []) n h e = absurd (omega arith)
@@ -104,7 +104,7 @@ fixed_little_eight big bytes front rest number h o e =
     let same : number ≡ number_of big front = rw o (little_eight front number (length_taken 8 bytes front rest h) e) in
     fixed_taken big 8 bytes front rest number h same
 
-big_eight : (bytes : List ℕ) (n : ℕ) → length bytes ≡ 8 → n ≡ from_be_bytes w64 bytes → n ≡ big_of bytes
+big_eight : (bytes : List ℕ) (n : ℕ) → length bytes ≡ 8 → n ≡ from_be_bytes w64 bytes → n ≡ number_of true bytes
 big_eight [] n h e = absurd (omega arith)
 big_eight (a ∷ []) n h e = absurd (omega arith)
 big_eight (a ∷ b ∷ []) n h e = absurd (omega arith)

@@ -1,5 +1,5 @@
 -- Integers modulo a power of two, the numbers of bytes, and numbers that have to fit.
-use Rattle.std.specs.Prelude.{ℕ, ◌+◌, ◌-◌, ◌*◌, ◌%◌, ◌^◌, ℤ, pos, negsuc, ◌-ℤ◌, Bool, List, [], ◌∷◌, Result, Ok, Err, length, nat_lt, if◌then◌else◌}
+use Rattle.std.specs.Prelude.{ℕ, ◌+◌, ◌-◌, ◌*◌, ◌%◌, ◌^◌, ℤ, pos, negsuc, ◌-ℤ◌, Bool, List, [], ◌∷◌, reverse, Result, Ok, Err, nat_lt, if◌then◌else◌}
 use Rattle.dwarf_base.specs.Faults.{Fault}
 use Rattle.dwarf_base.specs.declared.errors.Error.TheVariants.{UnsupportedOffset, UnsupportedRegister}
 
@@ -25,11 +25,6 @@ abbrev pub little_of : List ℕ → ℕ
 little_of [] = 0
 little_of (byte ∷ bytes) = byte + 256 * little_of bytes
 
--- the number of some bytes, the highest first
-abbrev pub big_of : List ℕ → ℕ
-big_of [] = 0
-big_of (byte ∷ bytes) = byte * 256 ^ length bytes + big_of bytes
-
--- the number of some bytes in a byte order (DWARF 5, section 7)
+-- the number of some bytes in a byte order, where `big` says that the highest is first (DWARF 5, section 7)
 abbrev pub number_of : (big : Bool) → List ℕ → ℕ
-number_of big bytes = if big then big_of bytes else little_of bytes
+number_of big bytes = little_of (if big then reverse bytes else bytes)

@@ -52,8 +52,7 @@ is_same = sameb the_type
 
 -- the integer of k bits: in two's complement, or from 0 up
 unfoldable pub word_integer : (signed : Bool) (k : ℕ) → ℕ → ℤ
-word_integer true k n = signed_of k n
-word_integer false k n = pos n
+word_integer signed k n = if signed then signed_of k n else pos n
 
 -- the type of a value, and its integer; a generic one's is that of its lowest w bits, with a sign or without
 abbrev pub parts_of : (signed : Bool) (w : ℕ) → Value → ValueType × ℤ
@@ -160,10 +159,6 @@ of_one_type x y result = if is_same (type_of x) (type_of y) then Ok result else 
 abbrev pub divided : (w : ℕ) → Value → Value → Value → Result Value Error
 divided w x y result = if int_eq (unsigned_integer w y) (pos 0) then Err DivisionByZero else of_one_type x y result
 
--- two numbers of 64 bits combined digit by digit
-abbrev pub digits_of : (ℕ → ℕ → ℕ) → (w : ℕ) → Value → Value → Result Value Error
-digits_of combine w x y = of_one_type x y (from_u64_of (type_of x) (combine (to_u64_of w x) (to_u64_of w y)))
-
 -- a result for a shift's length, which may be of any type; a negative one doesn't fit
 abbrev pub shifted : (w : ℕ) (length : Value) → (ℕ → Result Value Error) → Result Value Error
 shifted w length result =
@@ -189,17 +184,18 @@ unary_of Neg w x =
 unary_of Not w x = Ok (value_of 64 (type_of x) (neg_ℤ (unsigned_integer w x) -ℤ pos 1))
 
 -- What each operator on two values gives, of which `y` is the top. A quotient is rounded towards zero, and a remainder
--- has the dividend's sign. To shift is to multiply by 2 ^ n, or to divide and round down: from the type's size on all
--- bits are shifted out to the left, signed types have no `Shr`, and unsigned ones no `Shra`.
+-- has the dividend's sign. `And`, `Or` and `Xor` combine two numbers of 64 bits digit by digit. To shift is to multiply
+-- by 2 ^ n, or to divide and round down: from the type's size on all bits are shifted out to the left, signed types have
+-- no `Shr`, and unsigned ones no `Shra`.
 abbrev pub binary_of : BinaryOperator → (w : ℕ) → Value → Value → Result Value Error
 binary_of Plus w x y = of_one_type x y (value_of w (type_of x) (unsigned_integer w x +ℤ unsigned_integer w y))
 binary_of Minus w x y = of_one_type x y (value_of w (type_of x) (unsigned_integer w x -ℤ unsigned_integer w y))
 binary_of Mul w x y = of_one_type x y (value_of w (type_of x) (unsigned_integer w x *ℤ unsigned_integer w y))
 binary_of Div w x y = divided w x y (value_of 64 (type_of x) (int_div (signed_integer w x) (signed_integer w y)))
 binary_of Mod w x y = divided w x y (value_of 64 (type_of x) (int_rem (unsigned_integer w x) (unsigned_integer w y)))
-binary_of And w x y = digits_of bit_and w x y
-binary_of Or w x y = digits_of bit_or w x y
-binary_of Xor w x y = digits_of bit_xor w x y
+binary_of And w x y = of_one_type x y (from_u64_of (type_of x) (bit_and (to_u64_of w x) (to_u64_of w y)))
+binary_of Or w x y = of_one_type x y (from_u64_of (type_of x) (bit_or (to_u64_of w x) (to_u64_of w y)))
+binary_of Xor w x y = of_one_type x y (from_u64_of (type_of x) (bit_xor (to_u64_of w x) (to_u64_of w y)))
 binary_of Shl w x y = shifted w y λ n.
     Ok (value_of 64 (type_of x) (if nat_le (bit_size_of w (type_of x)) n then pos 0
     else unsigned_integer w x *ℤ pos (2 ^ n)))

@@ -14,7 +14,7 @@ chosen true x y z h = inl (refl, h)
 chosen false x y z h = inr (refl, h)
 
 at_tenth : {A : Type 0} (form : LebForm A) (place sum byte : ℕ) (rest : List ℕ) → place ≡ 9
-    → leb_from form place sum (byte ∷ rest) ≡ cond (form.allows_tenth byte) (Ok (form.number (sum + byte * 128 ^ place) (place + 1) byte, rest)) (Err form.too_long)
+    → leb_from form place sum (byte ∷ rest) ≡ cond (form.allows_tenth byte) (Ok (form.number (sum + byte * 128 ^ place) (place + 1) byte, rest)) (Err form.fault)
 at_tenth form place sum byte rest e = rw e refl
 
 -- ---- what is read is spelled
@@ -122,7 +122,7 @@ record CutOffFrom (place : ℕ) (bytes : List ℕ) : Type 0 where
   at_most_nine : place + length bytes ≤ 9
 
 abbrev RefusedFrom : {A : Type 0} → LebForm A → (place : ℕ) → List ℕ → Fault → Type 0
-RefusedFrom form place bytes fault = (CutOffFrom place bytes × (fault ≡ past_the_end)) ⊎ (TooLongFrom form place bytes × (fault ≡ form.too_long))
+RefusedFrom form place bytes fault = (CutOffFrom place bytes × (fault ≡ past_the_end)) ⊎ (TooLongFrom form place bytes × (fault ≡ form.fault))
 
 more_refused : {A : Type 0} (form : LebForm A) (place byte : ℕ) (bytes : List ℕ) (fault : Fault) → 128 ≤ byte
     → RefusedFrom form (place + 1) bytes fault → RefusedFrom form place (byte ∷ bytes) fault
@@ -167,7 +167,7 @@ cut_off_read form place sum (byte ∷ bytes) high most =
     goes_on form place sum byte bytes (omega arith) high.0 ∙ cut_off_read form (place + 1) (sum + byte % 128 * 128 ^ place) bytes high.1 (omega arith)
 
 too_long_read : {A : Type 0} (form : LebForm A) (place sum : ℕ) (before : List ℕ) (tenth : ℕ) (rest : List ℕ) → GoesOn before → place + length before ≡ 9
-    → form.allows_tenth tenth ≡ false → leb_from form place sum (before ++ (tenth ∷ rest)) ≡ Err form.too_long
+    → form.allows_tenth tenth ≡ false → leb_from form place sum (before ++ (tenth ∷ rest)) ≡ Err form.fault
 too_long_read form place sum [] tenth rest high nine refused = at_tenth form place sum tenth rest (omega arith) ∙ rw refused refl
 too_long_read form place sum (byte ∷ before) tenth rest high nine refused =
     goes_on form place sum byte (before ++ (tenth ∷ rest)) (omega arith) high.0
@@ -221,7 +221,7 @@ leb_exactly form ending = record {
       | inl p ↦ let cut = p.0 in let read = cut_off_read form 0 0 bytes cut.goes_on (omega (arith, cut.at_most_nine)) in read ∙ ap Err (sym p.1)
       | inr p ↦ let long = p.0 in
           let read = too_long_read form 0 0 long.nine long.tenth long.rest long.goes_on (omega (arith, long.are_nine)) long.refused in
-          let same : leb_from form 0 0 bytes ≡ Err form.too_long = rw long.whole at read in
+          let same : leb_from form 0 0 bytes ≡ Err form.fault = rw long.whole at read in
           same ∙ ap Err (sym p.1)
     ],
   );

@@ -8,13 +8,12 @@ use Rattle.dwarf_base.specs.declared.errors.Error.TheVariants.{BadUnsignedLeb128
 -- the number that is made of the sum of the low bits, the count of the bytes and the last of them
 pub record LebForm (A : Type 0) : Type 0 where
   pub allows_tenth : ℕ → Bool
-  pub too_long : Fault
+  pub fault : Fault
   pub number : (sum count last : ℕ) → A
 
 -- a tenth byte may be 0 or 1
 abbrev pub unsigned_leb : LebForm ℕ
-unsigned_leb =
-    record { allows_tenth = λ byte. nat_lt byte 2; too_long = BadUnsignedLeb128; number = λ sum count last. sum }
+unsigned_leb = record { allows_tenth = λ byte. nat_lt byte 2; fault = BadUnsignedLeb128; number = λ sum n last. sum }
 
 -- the bit 0x40 of the last byte is the sign's
 abbrev pub sign_extended : (sum count last : ℕ) → ℤ
@@ -22,8 +21,7 @@ sign_extended sum count last = if nat_lt last 64 then pos sum else pos sum -ℤ 
 
 -- a tenth byte may be 0 or 127
 abbrev pub signed_leb : LebForm ℤ
-signed_leb =
-    record { allows_tenth = λ byte. byte == 0 || byte == 127; too_long = BadSignedLeb128; number = sign_extended }
+signed_leb = record { allows_tenth = λ byte. byte == 0 || byte == 127; fault = BadSignedLeb128; number = sign_extended }
 
 -- ---- which bytes spell a number
 
@@ -76,7 +74,7 @@ pub record IsTooLong {A : Type 0} (form : LebForm A) (bytes : List ℕ) : Type 0
 -- no front of the bytes spells a number, for this fault
 abbrev pub MalformedLeb : {A : Type 0} → LebForm A → List ℕ → Fault → Type 0
 MalformedLeb form bytes fault =
-    (IsCutOff bytes × (fault ≡ past_the_end)) ⊎ (IsTooLong form bytes × (fault ≡ form.too_long))
+    (IsCutOff bytes × (fault ≡ past_the_end)) ⊎ (IsTooLong form bytes × (fault ≡ form.fault))
 
 -- ---- reading one
 
@@ -85,7 +83,7 @@ abbrev pub leb_from : {A : Type 0} → LebForm A → (place sum : ℕ) → List 
 leb_from form place sum [] = Err past_the_end
 leb_from form place sum (byte ∷ rest) =
     if place == 9 then (if form.allows_tenth byte then Ok (form.number (sum + byte * 128 ^ 9) 10 byte, rest)
-    else Err form.too_long)
+    else Err form.fault)
     else (if nat_lt byte 128 then Ok (form.number (sum + byte * 128 ^ place) (place + 1) byte, rest)
     else leb_from form (place + 1) (sum + byte % 128 * 128 ^ place) rest)
 

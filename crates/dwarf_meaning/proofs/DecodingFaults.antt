@@ -13,7 +13,7 @@ use Rattle.dwarf_meaning.specs.Spelling as spelling
 use Rattle.dwarf_meaning.specs.DecodeLaws.{IsDecodingFault}
 use Rattle.dwarf_meaning.proofs.OperationReads.{reads_operation}
 
-leb_fault : {A : Type 0} (form : LebForm A) (bytes : List ℕ) (fault : Fault) → IsDecodingFault form.too_long → MalformedLeb form bytes fault → IsDecodingFault fault
+leb_fault : {A : Type 0} (form : LebForm A) (bytes : List ℕ) (fault : Fault) → IsDecodingFault form.fault → MalformedLeb form bytes fault → IsDecodingFault fault
 leb_fault form bytes fault h r = elim r [
   | inl cut ↦ subst IsDecodingFault (sym cut.1) refl
   | inr long ↦ subst IsDecodingFault (sym long.1) h

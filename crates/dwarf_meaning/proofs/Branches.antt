@@ -6,7 +6,7 @@ use Rattle.dwarf_base.specs.declared.common.Encoding.{Encoding}
 use Rattle.dwarf_base.specs.Numbers.{number_of, signed_of}
 use Rattle.dwarf_base.specs.Reads.{split_at, Text}
 use Rattle.dwarf_meaning.specs.Operations.{Operation}
-use Rattle.dwarf_meaning.specs.Operands.{Context, as_text, context_of, SignedFixed, SignedLeb128}
+use Rattle.dwarf_meaning.specs.Operands.{Context, as_text, context_of, Bytes, Leb128}
 use Rattle.dwarf_meaning.specs.Opcodes.{Row, Makes, Unsigned, Signed, Block, Invalid, lines, row_of}
 use Rattle.dwarf_meaning.specs.Decoding.{unsigned_at, integer_at, operands_at, operation_at}
 use Rattle.dwarf_meaning.specs.Spelling.{SpellsInteger}
@@ -32,7 +32,7 @@ near_number big (a ∷ []) e h = absurd (omega arith)
 near_number big (a ∷ b ∷ []) e h = near_by (number_of big (a ∷ b ∷ [])) (two_bytes big a b h.0 h.1.0) (nat_lt (number_of big (a ∷ b ∷ [])) 32768) refl
 near_number big (a ∷ b ∷ c ∷ bytes) e h = absurd (omega arith)
 
-near_spelled : (big : Bool) (size : ℕ) (bytes : List ℕ) (target : ℤ) → SpellsInteger big (SignedFixed size) bytes target → AreBytes bytes → size ≡ 2 → IsNear target
+near_spelled : (big : Bool) (size : ℕ) (bytes : List ℕ) (target : ℤ) → SpellsInteger big (Bytes size) bytes target → AreBytes bytes → size ≡ 2 → IsNear target
 near_spelled big size bytes target (spelling.in_signed_bytes bytes') h e = near_number big bytes' e h
 
 -- ---- what the rows of the table make
@@ -41,8 +41,8 @@ near_spelled big size bytes target (spelling.in_signed_bytes bytes') h e = near_
 abbrev NearRow : Row → Type 0
 NearRow (Makes op) = BranchesNear op
 NearRow (Unsigned form next) = (value : ℕ) → NearRow (next value)
-NearRow (Signed (SignedFixed size) next) = (value : ℤ) → (size ≡ 2 → IsNear value) → NearRow (next value)
-NearRow (Signed SignedLeb128 next) = (value : ℤ) → NearRow (next value)
+NearRow (Signed (Bytes size) next) = (value : ℤ) → (size ≡ 2 → IsNear value) → NearRow (next value)
+NearRow (Signed Leb128 next) = (value : ℤ) → NearRow (next value)
 NearRow (Block size next) = (block : Text) → NearRow (next block)
 NearRow (Invalid opcode) = Unit {0}
 
@@ -145,14 +145,14 @@ near_operands context (Unsigned form next) bytes op rest near h e =
     let s = (reads_unsigned context form).found bytes w.value w.left w.here in
     let k : AreBytes (s.front ++ w.left) = subst AreBytes (sym s.whole) h in
     near_operands context (next w.value) w.left op rest (near w.value) (bytes_beyond s.front w.left k) w.more
-near_operands context (Signed (SignedFixed size) next) bytes op rest near h e =
-    let w = went (integer_at context.is_big (SignedFixed size) bytes) (λ x. operands_at context (next x.0) x.1) (op, rest) e in
-    let s = (reads_integer context.is_big (SignedFixed size)).found bytes w.value w.left w.here in
+near_operands context (Signed (Bytes size) next) bytes op rest near h e =
+    let w = went (integer_at context.is_big (Bytes size) bytes) (λ x. operands_at context (next x.0) x.1) (op, rest) e in
+    let s = (reads_integer context.is_big (Bytes size)).found bytes w.value w.left w.here in
     let k : AreBytes (s.front ++ w.left) = subst AreBytes (sym s.whole) h in
     near_operands context (next w.value) w.left op rest (near w.value (near_spelled context.is_big size s.front w.value s.spells (bytes_before s.front w.left k))) (bytes_beyond s.front w.left k) w.more
-near_operands context (Signed SignedLeb128 next) bytes op rest near h e =
-    let w = went (integer_at context.is_big SignedLeb128 bytes) (λ x. operands_at context (next x.0) x.1) (op, rest) e in
-    let s = (reads_integer context.is_big SignedLeb128).found bytes w.value w.left w.here in
+near_operands context (Signed Leb128 next) bytes op rest near h e =
+    let w = went (integer_at context.is_big Leb128 bytes) (λ x. operands_at context (next x.0) x.1) (op, rest) e in
+    let s = (reads_integer context.is_big Leb128).found bytes w.value w.left w.here in
     let k : AreBytes (s.front ++ w.left) = subst AreBytes (sym s.whole) h in
     near_operands context (next w.value) w.left op rest (near w.value) (bytes_beyond s.front w.left k) w.more
 near_operands context (Block size next) bytes op rest near h e =

@@ -5,7 +5,7 @@ use Rattle.dwarf_base.specs.Faults.{Fault}
 use Rattle.dwarf_base.specs.declared.errors.Error.TheVariants.{UnsupportedOffset, UnsupportedRegister, InvalidPieceSize, BadUnsignedLeb128}
 use Rattle.dwarf_base.specs.Leb.{LebForm, MalformedLeb, unsigned_leb, signed_leb}
 use Rattle.dwarf_base.specs.Reads.{Text}
-use Rattle.dwarf_meaning.specs.Operands.{Context, as_text, Form, Fixed, Address, Leb128, Offset, RegisterNumber, PieceSize, WasmIndex, SectionOffset, InfoReference, SignedForm, Layout, operand_value, context_of}
+use Rattle.dwarf_meaning.specs.Operands.{Context, as_text, Layout, Range, Any, Offset, Register, PieceSize, WasmIndex, Form, operand_value, context_of}
 use Rattle.dwarf_meaning.specs.Opcodes.{Row}
 use Rattle.dwarf_meaning.specs.Decoding.{operation_at}
 use Rattle.dwarf_meaning.specs.Spelling.{MalformedNumber, MalformedUnsigned, MalformedInteger, MalformedOperands, Malformed}
@@ -20,8 +20,7 @@ leb_fault form bytes fault h r = elim r [
 ]
 
 number_fault : (big : Bool) (layout : Layout) (bytes : List ℕ) (fault : Fault) → MalformedNumber big layout bytes fault → IsDecodingFault fault
-number_fault big layout bytes fault (spelling.few_bytes size bytes' less) = refl
-number_fault big layout bytes fault (spelling.few_address_bytes size bytes' good less) = refl
+number_fault big layout bytes fault (spelling.few_bytes size bytes' good less) = refl
 number_fault big layout bytes fault (spelling.address_size size bytes' bad) = tt
 number_fault big layout bytes fault (spelling.no_leb128 bytes' fault' r) = leb_fault unsigned_leb bytes' fault' tt r
 
@@ -29,24 +28,20 @@ limit_fault : (fits : Bool) (number : ℕ) (bad fault : Fault) → IsDecodingFau
 limit_fault true number bad fault h e = absurd cc
 limit_fault false number bad fault h e = let same : bad ≡ fault = cc in subst IsDecodingFault same h
 
-value_fault : (bits : ℕ) (form : Form) (number : ℕ) (fault : Fault) → operand_value bits form number ≡ Err fault → IsDecodingFault fault
-value_fault bits (Fixed size) number fault e = absurd cc
-value_fault bits Address number fault e = absurd cc
-value_fault bits Leb128 number fault e = absurd cc
+value_fault : (bits : ℕ) (range : Range) (number : ℕ) (fault : Fault) → operand_value bits range number ≡ Err fault → IsDecodingFault fault
+value_fault bits Any number fault e = absurd cc
 value_fault bits Offset number fault e = limit_fault (nat_lt number (2 ^ bits)) number UnsupportedOffset fault tt e
-value_fault bits RegisterNumber number fault e = limit_fault (nat_lt number 65536) number (UnsupportedRegister number) fault tt e
+value_fault bits Register number fault e = limit_fault (nat_lt number 65536) number (UnsupportedRegister number) fault tt e
 value_fault bits PieceSize number fault e = limit_fault (nat_lt (8 * number) (2 ^ 64)) number (InvalidPieceSize number) fault tt e
 value_fault bits WasmIndex number fault e = limit_fault (nat_lt number (2 ^ 32)) number BadUnsignedLeb128 fault tt e
-value_fault bits SectionOffset number fault e = limit_fault (nat_lt number (2 ^ bits)) number UnsupportedOffset fault tt e
-value_fault bits InfoReference number fault e = limit_fault (nat_lt number (2 ^ bits)) number UnsupportedOffset fault tt e
 
 unsigned_fault : (context : Context) (form : Form) (bytes : List ℕ) (fault : Fault) → MalformedUnsigned context form bytes fault → IsDecodingFault fault
 unsigned_fault context form bytes fault (spelling.no_number bytes' fault' r) = number_fault _ _ bytes' fault' r
-unsigned_fault context form bytes fault (spelling.out_of_range front rest number fault' s e) = value_fault context.offset_bits form number fault' e
+unsigned_fault context form bytes fault (spelling.out_of_range front rest number fault' s e) = value_fault context.offset_bits form.1 number fault' e
 
-integer_fault : (big : Bool) (form : SignedForm) (bytes : List ℕ) (fault : Fault) → MalformedInteger big form bytes fault → IsDecodingFault fault
-integer_fault big form bytes fault (spelling.few_signed_bytes size bytes' less) = refl
-integer_fault big form bytes fault (spelling.no_signed_leb128 bytes' fault' r) = leb_fault signed_leb bytes' fault' tt r
+integer_fault : (big : Bool) (layout : Layout) (bytes : List ℕ) (fault : Fault) → MalformedInteger big layout bytes fault → IsDecodingFault fault
+integer_fault big layout bytes fault (spelling.few_signed_bytes size bytes' less) = refl
+integer_fault big layout bytes fault (spelling.no_signed_leb128 bytes' fault' r) = leb_fault signed_leb bytes' fault' tt r
 
 operands_fault : (context : Context) (row : Row) (bytes : List ℕ) (fault : Fault) → MalformedOperands context row bytes fault → IsDecodingFault fault
 operands_fault context row bytes fault (spelling.invalid opcode bytes') = tt

@@ -3,7 +3,7 @@ use Rattle.std.proofs.Common.{ℕ, ◌==◌, List, [], ◌∷◌}
 use Rattle.std.proofs.lemmas.Bool.{cond_both}
 use Rattle.dwarf_base.specs.declared.common.Encoding.{Encoding}
 use Rattle.dwarf_meaning.specs.Operations as operation
-use Rattle.dwarf_meaning.specs.Operands.{Fixed, WasmIndex}
+use Rattle.dwarf_meaning.specs.Operands.{Bytes, Leb128, Any, WasmIndex}
 use Rattle.dwarf_meaning.specs.Opcodes.{Row, Invalid, Line, unsigned, lines, row_among, row_of, wasm_row}
 
 -- P holds of the rows of each line
@@ -17,8 +17,8 @@ pub ◌⊳◌ : {P Q : Type 0} → P → Q → P × Q
 p ⊳ q = (p, q)
 
 module _ (P : Row → Type 0) where
-  pub wasm_holds : (kind : ℕ) → P (unsigned WasmIndex operation.WasmLocal) → P (unsigned WasmIndex operation.WasmGlobal)
-      → P (unsigned WasmIndex operation.WasmStack) → P (unsigned (Fixed 4) operation.WasmGlobal) → P (Invalid 0xed)
+  pub wasm_holds : (kind : ℕ) → P (unsigned (Leb128, WasmIndex) operation.WasmLocal) → P (unsigned (Leb128, WasmIndex) operation.WasmGlobal)
+      → P (unsigned (Leb128, WasmIndex) operation.WasmStack) → P (unsigned (Bytes 4, Any) operation.WasmGlobal) → P (Invalid 0xed)
       → P (wasm_row kind)
   wasm_holds kind local global stack fixed none =
       cond_both (kind == 0) _ _ P (λ e. local) (λ e. cond_both (kind == 1) _ _ P (λ e. global)

@@ -5,7 +5,7 @@ use Rattle.dwarf_base.specs.declared.errors.Error.TheVariants.{UnsupportedAddres
 use Rattle.dwarf_base.specs.Leb.{SpellsLeb, MalformedLeb, unsigned_leb, signed_leb, sleb_at}
 use Rattle.dwarf_base.specs.Numbers.{number_of, signed_of}
 use Rattle.dwarf_base.specs.Reads.{split_at, fixed_at, signed_at, address_at, is_fixed_size}
-use Rattle.dwarf_meaning.specs.Operands.{Context, Form, SignedForm, SignedFixed, SignedLeb128, Layout, InBytes, InAddress, InLeb128, layout_of, operand_value}
+use Rattle.dwarf_meaning.specs.Operands.{Context, Layout, Bytes, Leb128, Form, operand_value}
 use Rattle.dwarf_meaning.specs.Decoding.{number_at, unsigned_at, integer_at}
 use Rattle.dwarf_meaning.specs.Spelling.{SpellsNumber, MalformedNumber, SpellsInteger, MalformedInteger, SpellsUnsigned, MalformedUnsigned}
 use Rattle.dwarf_meaning.specs.Spelling as spelling
@@ -51,88 +51,70 @@ fixed_refusal big size bytes h = unread bytes past_the_end (few size bytes h)
 
 -- ---- unsigned numbers, by their layout
 
-bytes_spelled : (big : Bool) (size : ℕ) (bytes : List ℕ) (number : ℕ) → FixedSpelling big size bytes number → SpellsNumber big (InBytes size) bytes number
-bytes_spelled big size bytes number s =
-    let f = fixed_bytes big size bytes number s in
-    subst (λ (n : ℕ). SpellsNumber big (InBytes n) bytes number) (sym f.sized) (subst (SpellsNumber big (InBytes (length bytes)) bytes) (sym f.valued) (spelling.in_bytes bytes))
-
-bytes_spelling : (big : Bool) (size : ℕ) (bytes : List ℕ) (number : ℕ) → SpellsNumber big (InBytes size) bytes number → FixedSpelling big size bytes number
-bytes_spelling big size bytes number (spelling.in_bytes bytes') = fixed_spelling big bytes'
-
-bytes_refused : (big : Bool) (size : ℕ) (bytes : List ℕ) (fault : Fault) → FixedRefusal big size bytes fault → MalformedNumber big (InBytes size) bytes fault
-bytes_refused big size bytes fault r =
-    let f = fixed_few big size bytes fault r in
-    subst (MalformedNumber big (InBytes size) bytes) (sym f.1) (spelling.few_bytes size bytes f.0)
-
-bytes_refusal : (big : Bool) (size : ℕ) (bytes : List ℕ) (fault : Fault) → MalformedNumber big (InBytes size) bytes fault → FixedRefusal big size bytes fault
-bytes_refusal big size bytes fault (spelling.few_bytes size' bytes' h) = fixed_refusal big size bytes h
-
-address_spelled : (big : Bool) (size : ℕ) → is_fixed_size size ≡ true → (bytes : List ℕ) (number : ℕ) → FixedSpelling big size bytes number → SpellsNumber big (InAddress size) bytes number
-address_spelled big size good bytes number s =
+bytes_spelled : (big : Bool) (size : ℕ) → is_fixed_size size ≡ true → (bytes : List ℕ) (number : ℕ) → FixedSpelling big size bytes number → SpellsNumber big (Bytes size) bytes number
+bytes_spelled big size good bytes number s =
     let f = fixed_bytes big size bytes number s in
     let sized : is_fixed_size (length bytes) ≡ true = subst (λ (n : ℕ). is_fixed_size n ≡ true) f.sized good in
-    subst (λ (n : ℕ). SpellsNumber big (InAddress n) bytes number) (sym f.sized) (subst (SpellsNumber big (InAddress (length bytes)) bytes) (sym f.valued) (spelling.in_address bytes sized))
+    subst (λ (n : ℕ). SpellsNumber big (Bytes n) bytes number) (sym f.sized) (subst (SpellsNumber big (Bytes (length bytes)) bytes) (sym f.valued) (spelling.in_bytes bytes sized))
 
-address_spelling : (big : Bool) (size : ℕ) (bytes : List ℕ) (number : ℕ) → SpellsNumber big (InAddress size) bytes number → FixedSpelling big size bytes number
-address_spelling big size bytes number (spelling.in_address bytes' good) = fixed_spelling big bytes'
+bytes_spelling : (big : Bool) (size : ℕ) (bytes : List ℕ) (number : ℕ) → SpellsNumber big (Bytes size) bytes number → FixedSpelling big size bytes number
+bytes_spelling big size bytes number (spelling.in_bytes bytes' good) = fixed_spelling big bytes'
 
-address_refused : (big : Bool) (size : ℕ) → is_fixed_size size ≡ true → (bytes : List ℕ) (fault : Fault) → FixedRefusal big size bytes fault → MalformedNumber big (InAddress size) bytes fault
-address_refused big size good bytes fault r =
+bytes_refused : (big : Bool) (size : ℕ) → is_fixed_size size ≡ true → (bytes : List ℕ) (fault : Fault) → FixedRefusal big size bytes fault → MalformedNumber big (Bytes size) bytes fault
+bytes_refused big size good bytes fault r =
     let f = fixed_few big size bytes fault r in
-    subst (MalformedNumber big (InAddress size) bytes) (sym f.1) (spelling.few_address_bytes size bytes good f.0)
+    subst (MalformedNumber big (Bytes size) bytes) (sym f.1) (spelling.few_bytes size bytes good f.0)
 
-address_refusal : (big : Bool) (size : ℕ) → is_fixed_size size ≡ true → (bytes : List ℕ) (fault : Fault) → MalformedNumber big (InAddress size) bytes fault → FixedRefusal big size bytes fault
-address_refusal big size good bytes fault (spelling.few_address_bytes size' bytes' good' h) = fixed_refusal big size bytes h
-address_refusal big size good bytes fault (spelling.address_size size' bytes' bad) = absurd cc
+bytes_refusal : (big : Bool) (size : ℕ) → is_fixed_size size ≡ true → (bytes : List ℕ) (fault : Fault) → MalformedNumber big (Bytes size) bytes fault → FixedRefusal big size bytes fault
+bytes_refusal big size good bytes fault (spelling.few_bytes size' bytes' good' h) = fixed_refusal big size bytes h
+bytes_refusal big size good bytes fault (spelling.address_size size' bytes' bad) = absurd cc
 
-no_address : (big : Bool) (size number : ℕ) (bytes : List ℕ) → is_fixed_size size ≡ false → SpellsNumber big (InAddress size) bytes number → ⊥
-no_address big size number bytes bad (spelling.in_address bytes' good) = cc
+no_address : (big : Bool) (size number : ℕ) (bytes : List ℕ) → is_fixed_size size ≡ false → SpellsNumber big (Bytes size) bytes number → ⊥
+no_address big size number bytes bad (spelling.in_bytes bytes' good) = cc
 
-only_size : (big : Bool) (size : ℕ) (bytes : List ℕ) (fault : Fault) → is_fixed_size size ≡ false → MalformedNumber big (InAddress size) bytes fault → ◌≡◌ {A = Reading ℕ} (Err (UnsupportedAddressSize size)) (Err fault)
-only_size big size bytes fault bad (spelling.few_address_bytes size' bytes' good h) = absurd cc
+only_size : (big : Bool) (size : ℕ) (bytes : List ℕ) (fault : Fault) → is_fixed_size size ≡ false → MalformedNumber big (Bytes size) bytes fault → ◌≡◌ {A = Reading ℕ} (Err (UnsupportedAddressSize size)) (Err fault)
+only_size big size bytes fault bad (spelling.few_bytes size' bytes' good h) = absurd cc
 only_size big size bytes fault bad (spelling.address_size size' bytes' bad') = refl
 
 -- an address of a size that none has
-bad_address : (big : Bool) (size : ℕ) → is_fixed_size size ≡ false → ReadsExactly (λ bytes. Err (UnsupportedAddressSize size)) (SpellsNumber big (InAddress size)) (MalformedNumber big (InAddress size))
+bad_address : (big : Bool) (size : ℕ) → is_fixed_size size ≡ false → ReadsExactly (λ bytes. Err (UnsupportedAddressSize size)) (SpellsNumber big (Bytes size)) (MalformedNumber big (Bytes size))
 bad_address big size bad = record {
   gives = λ front number rest s. absurd (no_address big size number front bad s);
   found = λ bytes number rest e. absurd cc;
   refuses = λ bytes fault r. only_size big size bytes fault bad r;
-  refused = λ bytes fault e. let same : UnsupportedAddressSize size ≡ fault = cc in subst (MalformedNumber big (InAddress size) bytes) same (spelling.address_size size bytes bad);
+  refused = λ bytes fault e. let same : UnsupportedAddressSize size ≡ fault = cc in subst (MalformedNumber big (Bytes size) bytes) same (spelling.address_size size bytes bad);
   cut_off = λ before byte after number s. absurd (no_address big size number (before ++ (byte ∷ after)) bad s);
 }
 
-reads_address : (big : Bool) (size : ℕ) (good : Bool) → is_fixed_size size ≡ good → ReadsExactly (address_at big size) (SpellsNumber big (InAddress size)) (MalformedNumber big (InAddress size))
+reads_address : (big : Bool) (size : ℕ) (good : Bool) → is_fixed_size size ≡ good → ReadsExactly (address_at big size) (SpellsNumber big (Bytes size)) (MalformedNumber big (Bytes size))
 reads_address big size true e =
-    let h = reads_as (fixed_at big size) (FixedSpelling big size) (SpellsNumber big (InAddress size)) (FixedRefusal big size) (MalformedNumber big (InAddress size)) (reads_fixed big size) (address_spelled big size e) (address_spelling big size) (address_refused big size e) (address_refusal big size e) in
-    subst (λ (good : Bool). ReadsExactly (λ bytes. cond good (fixed_at big size bytes) (Err (UnsupportedAddressSize size))) (SpellsNumber big (InAddress size)) (MalformedNumber big (InAddress size))) (sym e) h
+    let h = reads_as (fixed_at big size) (FixedSpelling big size) (SpellsNumber big (Bytes size)) (FixedRefusal big size) (MalformedNumber big (Bytes size)) (reads_fixed big size) (bytes_spelled big size e) (bytes_spelling big size) (bytes_refused big size e) (bytes_refusal big size e) in
+    subst (λ (good : Bool). ReadsExactly (λ bytes. cond good (fixed_at big size bytes) (Err (UnsupportedAddressSize size))) (SpellsNumber big (Bytes size)) (MalformedNumber big (Bytes size))) (sym e) h
 reads_address big size false e =
-    subst (λ (good : Bool). ReadsExactly (λ bytes. cond good (fixed_at big size bytes) (Err (UnsupportedAddressSize size))) (SpellsNumber big (InAddress size)) (MalformedNumber big (InAddress size))) (sym e) (bad_address big size e)
+    subst (λ (good : Bool). ReadsExactly (λ bytes. cond good (fixed_at big size bytes) (Err (UnsupportedAddressSize size))) (SpellsNumber big (Bytes size)) (MalformedNumber big (Bytes size))) (sym e) (bad_address big size e)
 
-leb_spelling : (big : Bool) (bytes : List ℕ) (number : ℕ) → SpellsNumber big InLeb128 bytes number → SpellsLeb unsigned_leb bytes number
+leb_spelling : (big : Bool) (bytes : List ℕ) (number : ℕ) → SpellsNumber big Leb128 bytes number → SpellsLeb unsigned_leb bytes number
 leb_spelling big bytes number (spelling.in_leb128 bytes' number' s) = s
 
-leb_refusal : (big : Bool) (bytes : List ℕ) (fault : Fault) → MalformedNumber big InLeb128 bytes fault → MalformedLeb unsigned_leb bytes fault
+leb_refusal : (big : Bool) (bytes : List ℕ) (fault : Fault) → MalformedNumber big Leb128 bytes fault → MalformedLeb unsigned_leb bytes fault
 leb_refusal big bytes fault (spelling.no_leb128 bytes' fault' r) = r
 
 pub reads_number : (big : Bool) (layout : Layout) → ReadsExactly (number_at big layout) (SpellsNumber big layout) (MalformedNumber big layout)
-reads_number big (InBytes size) =
-    reads_as (fixed_at big size) (FixedSpelling big size) (SpellsNumber big (InBytes size)) (FixedRefusal big size) (MalformedNumber big (InBytes size)) (reads_fixed big size) (bytes_spelled big size) (bytes_spelling big size) (bytes_refused big size) (bytes_refusal big size)
-reads_number big (InAddress size) = reads_address big size (is_fixed_size size) refl
-reads_number big InLeb128 =
-    reads_as (number_at big InLeb128) (SpellsLeb unsigned_leb) (SpellsNumber big InLeb128) (MalformedLeb unsigned_leb) (MalformedNumber big InLeb128) reads_uleb (λ bytes number s. spelling.in_leb128 bytes number s) (leb_spelling big) (λ bytes fault r. spelling.no_leb128 bytes fault r) (leb_refusal big)
+reads_number big (Bytes size) = reads_address big size (is_fixed_size size) refl
+reads_number big Leb128 =
+    reads_as (number_at big Leb128) (SpellsLeb unsigned_leb) (SpellsNumber big Leb128) (MalformedLeb unsigned_leb) (MalformedNumber big Leb128) reads_uleb (λ bytes number s. spelling.in_leb128 bytes number s) (leb_spelling big) (λ bytes fault r. spelling.no_leb128 bytes fault r) (leb_refusal big)
 
 -- ---- unsigned operands
 
 module _ (context : Context) (form : Form) where
   abbrev Spelled : List ℕ → ℕ → Type 0
-  Spelled = SpellsNumber context.is_big (layout_of context.encoding form)
+  Spelled = SpellsNumber context.is_big form.0
 
   abbrev Refusing : List ℕ → Fault → Type 0
-  Refusing = MalformedNumber context.is_big (layout_of context.encoding form)
+  Refusing = MalformedNumber context.is_big form.0
 
   abbrev check : ℕ → Result ℕ Fault
-  check = operand_value context.offset_bits form
+  check = operand_value context.offset_bits form.1
 
   unsigned_spelled : (bytes : List ℕ) (value : ℕ) → Passes Spelled check bytes value → SpellsUnsigned context form bytes value
   unsigned_spelled bytes value (passes bytes' number value' s e) = spelling.in_range bytes number value s e
@@ -151,7 +133,7 @@ module _ (context : Context) (form : Form) where
   pub reads_unsigned : ReadsExactly (unsigned_at context form) (SpellsUnsigned context form) (MalformedUnsigned context form)
   reads_unsigned =
       reads_as (unsigned_at context form) (Passes Spelled check) (SpellsUnsigned context form) (Fails Spelled Refusing check) (MalformedUnsigned context form)
-      (reads_checked (number_at context.is_big (layout_of context.encoding form)) Spelled Refusing check (reads_number context.is_big (layout_of context.encoding form)))
+      (reads_checked (number_at context.is_big form.0) Spelled Refusing check (reads_number context.is_big form.0))
       unsigned_spelled unsigned_spelling unsigned_refused unsigned_refusal
 
 -- ---- signed operands
@@ -159,35 +141,35 @@ module _ (context : Context) (form : Form) where
 abbrev integer_in : (size : ℕ) → ℕ → Result ℤ Fault
 integer_in size number = Ok (signed_of (8 * size) number)
 
-signed_spelled : (big : Bool) (size : ℕ) (bytes : List ℕ) (value : ℤ) → Passes (FixedSpelling big size) (integer_in size) bytes value → SpellsInteger big (SignedFixed size) bytes value
+signed_spelled : (big : Bool) (size : ℕ) (bytes : List ℕ) (value : ℤ) → Passes (FixedSpelling big size) (integer_in size) bytes value → SpellsInteger big (Bytes size) bytes value
 signed_spelled big size bytes value (passes bytes' number value' s e) =
     let f = fixed_bytes big size bytes number s in
     let here : signed_of (8 * length bytes) (number_of big bytes) ≡ signed_of (8 * size) number = ap (λ (n : ℕ). signed_of (8 * n) (number_of big bytes)) (sym f.sized) ∙ ap (signed_of (8 * size)) (sym f.valued) in
     let valued : signed_of (8 * size) number ≡ value = cc in
-    subst (λ (n : ℕ). SpellsInteger big (SignedFixed n) bytes value) (sym f.sized) (subst (SpellsInteger big (SignedFixed (length bytes)) bytes) (here ∙ valued) (spelling.in_signed_bytes bytes))
+    subst (λ (n : ℕ). SpellsInteger big (Bytes n) bytes value) (sym f.sized) (subst (SpellsInteger big (Bytes (length bytes)) bytes) (here ∙ valued) (spelling.in_signed_bytes bytes))
 
-signed_spelling : (big : Bool) (size : ℕ) (bytes : List ℕ) (value : ℤ) → SpellsInteger big (SignedFixed size) bytes value → Passes (FixedSpelling big size) (integer_in size) bytes value
+signed_spelling : (big : Bool) (size : ℕ) (bytes : List ℕ) (value : ℤ) → SpellsInteger big (Bytes size) bytes value → Passes (FixedSpelling big size) (integer_in size) bytes value
 signed_spelling big size bytes value (spelling.in_signed_bytes bytes') = passes bytes (number_of big bytes) value (fixed_spelling big bytes) refl
 
-signed_refused : (big : Bool) (size : ℕ) (bytes : List ℕ) (fault : Fault) → Fails (FixedSpelling big size) (FixedRefusal big size) (integer_in size) bytes fault → MalformedInteger big (SignedFixed size) bytes fault
+signed_refused : (big : Bool) (size : ℕ) (bytes : List ℕ) (fault : Fault) → Fails (FixedSpelling big size) (FixedRefusal big size) (integer_in size) bytes fault → MalformedInteger big (Bytes size) bytes fault
 signed_refused big size bytes fault (unread bytes' fault' r) =
     let f = fixed_few big size bytes fault r in
-    subst (MalformedInteger big (SignedFixed size) bytes) (sym f.1) (spelling.few_signed_bytes size bytes f.0)
+    subst (MalformedInteger big (Bytes size) bytes) (sym f.1) (spelling.few_signed_bytes size bytes f.0)
 signed_refused big size bytes fault (unfit front rest number fault' s e) = absurd cc
 
-signed_refusal : (big : Bool) (size : ℕ) (bytes : List ℕ) (fault : Fault) → MalformedInteger big (SignedFixed size) bytes fault → Fails (FixedSpelling big size) (FixedRefusal big size) (integer_in size) bytes fault
+signed_refusal : (big : Bool) (size : ℕ) (bytes : List ℕ) (fault : Fault) → MalformedInteger big (Bytes size) bytes fault → Fails (FixedSpelling big size) (FixedRefusal big size) (integer_in size) bytes fault
 signed_refusal big size bytes fault (spelling.few_signed_bytes size' bytes' h) = unread bytes fault (fixed_refusal big size bytes h)
 
-sleb_spelling : (big : Bool) (bytes : List ℕ) (value : ℤ) → SpellsInteger big SignedLeb128 bytes value → SpellsLeb signed_leb bytes value
+sleb_spelling : (big : Bool) (bytes : List ℕ) (value : ℤ) → SpellsInteger big Leb128 bytes value → SpellsLeb signed_leb bytes value
 sleb_spelling big bytes value (spelling.in_signed_leb128 bytes' value' s) = s
 
-sleb_refusal : (big : Bool) (bytes : List ℕ) (fault : Fault) → MalformedInteger big SignedLeb128 bytes fault → MalformedLeb signed_leb bytes fault
+sleb_refusal : (big : Bool) (bytes : List ℕ) (fault : Fault) → MalformedInteger big Leb128 bytes fault → MalformedLeb signed_leb bytes fault
 sleb_refusal big bytes fault (spelling.no_signed_leb128 bytes' fault' r) = r
 
-pub reads_integer : (big : Bool) (form : SignedForm) → ReadsExactly (integer_at big form) (SpellsInteger big form) (MalformedInteger big form)
-reads_integer big (SignedFixed size) =
-    reads_as (signed_at big size) (Passes (FixedSpelling big size) (integer_in size)) (SpellsInteger big (SignedFixed size)) (Fails (FixedSpelling big size) (FixedRefusal big size) (integer_in size)) (MalformedInteger big (SignedFixed size))
+pub reads_integer : (big : Bool) (layout : Layout) → ReadsExactly (integer_at big layout) (SpellsInteger big layout) (MalformedInteger big layout)
+reads_integer big (Bytes size) =
+    reads_as (signed_at big size) (Passes (FixedSpelling big size) (integer_in size)) (SpellsInteger big (Bytes size)) (Fails (FixedSpelling big size) (FixedRefusal big size) (integer_in size)) (MalformedInteger big (Bytes size))
     (reads_checked (fixed_at big size) (FixedSpelling big size) (FixedRefusal big size) (integer_in size) (reads_fixed big size))
     (signed_spelled big size) (signed_spelling big size) (signed_refused big size) (signed_refusal big size)
-reads_integer big SignedLeb128 =
-    reads_as sleb_at (SpellsLeb signed_leb) (SpellsInteger big SignedLeb128) (MalformedLeb signed_leb) (MalformedInteger big SignedLeb128) reads_sleb (λ bytes value s. spelling.in_signed_leb128 bytes value s) (sleb_spelling big) (λ bytes fault r. spelling.no_signed_leb128 bytes fault r) (sleb_refusal big)
+reads_integer big Leb128 =
+    reads_as sleb_at (SpellsLeb signed_leb) (SpellsInteger big Leb128) (MalformedLeb signed_leb) (MalformedInteger big Leb128) reads_sleb (λ bytes value s. spelling.in_signed_leb128 bytes value s) (sleb_spelling big) (λ bytes fault r. spelling.no_signed_leb128 bytes fault r) (sleb_refusal big)

@@ -3,34 +3,33 @@ use Rattle.std.specs.Prelude.{ℕ, ℤ, Bool, List, Result, Ok, Err}
 use Rattle.dwarf_base.specs.declared.common.Encoding.{Encoding}
 use Rattle.dwarf_base.specs.Faults.{Fault, invalid_expression, ◌>>=◌}
 use Rattle.dwarf_base.specs.Leb.{uleb_at, sleb_at}
-use Rattle.dwarf_base.specs.Reads.{u8_at, fixed_at, signed_at, address_at, split_at, Text}
+use Rattle.dwarf_base.specs.Reads.{u8_at, signed_at, address_at, split_at, Text}
 use Rattle.dwarf_meaning.specs.Operations.{Operation}
-use Rattle.dwarf_meaning.specs.Operands.{Context, context_of, as_text, Form, SignedForm, SignedFixed, SignedLeb128, Layout, InBytes, InAddress, InLeb128, layout_of, operand_value}
+use Rattle.dwarf_meaning.specs.Operands.{Context, context_of, as_text, Layout, Bytes, Leb128, Form, operand_value}
 use Rattle.dwarf_meaning.specs.Opcodes.{Row, Makes, Unsigned, Signed, Block, Invalid, row_of}
 
--- a number in its layout
+-- An unsigned number in its layout. Only an address can have another size than 1, 2, 4 or 8 bytes: a fault.
 abbrev pub number_at : (big : Bool) → Layout → List ℕ → Result (ℕ × List ℕ) Fault
-number_at big (InBytes size) bytes = fixed_at big size bytes
-number_at big (InAddress size) bytes = address_at big size bytes
-number_at big InLeb128 bytes = uleb_at bytes
+number_at big (Bytes size) bytes = address_at big size bytes
+number_at big Leb128 bytes = uleb_at bytes
 
--- a signed operand
-abbrev pub integer_at : (big : Bool) → SignedForm → List ℕ → Result (ℤ × List ℕ) Fault
-integer_at big (SignedFixed size) bytes = signed_at big size bytes
-integer_at big SignedLeb128 bytes = sleb_at bytes
+-- a signed number in its layout
+abbrev pub integer_at : (big : Bool) → Layout → List ℕ → Result (ℤ × List ℕ) Fault
+integer_at big (Bytes size) bytes = signed_at big size bytes
+integer_at big Leb128 bytes = sleb_at bytes
 
 module _ (context : Context) where
   -- an unsigned operand
   abbrev pub unsigned_at : Form → List ℕ → Result (ℕ × List ℕ) Fault
-  unsigned_at form bytes =
-      number_at context.is_big (layout_of context.encoding form) bytes
-      >>= λ number. operand_value context.offset_bits form number.0 >>= λ value. Ok (value, number.1)
+  unsigned_at (layout, range) bytes =
+      number_at context.is_big layout bytes
+      >>= λ number. operand_value context.offset_bits range number.0 >>= λ value. Ok (value, number.1)
 
   -- a row's operands, in order, and what they make
   abbrev pub operands_at : Row → List ℕ → Result (Operation × List ℕ) Fault
   operands_at (Makes op) bytes = Ok (op, bytes)
   operands_at (Unsigned form next) bytes = unsigned_at form bytes >>= λ x. operands_at (next x.0) x.1
-  operands_at (Signed form next) bytes = integer_at context.is_big form bytes >>= λ x. operands_at (next x.0) x.1
+  operands_at (Signed layout next) bytes = integer_at context.is_big layout bytes >>= λ x. operands_at (next x.0) x.1
   operands_at (Block size next) bytes = split_at size bytes >>= λ x. operands_at (next (as_text context x.0)) x.1
   operands_at (Invalid opcode) bytes = Err (invalid_expression opcode)
 

@@ -20,40 +20,27 @@ context_of encoding offset_bits is_big = record { encoding = encoding; offset_bi
 abbrev pub as_text : Context → List ℕ → Text
 as_text context bytes = record { bytes = bytes; is_big = context.is_big }
 
--- an operand that is an unsigned number: how it stands, or what it is
-pub data Form : Type 0 where
-  Fixed : (size : ℕ) → Form
-  Address Leb128 Offset RegisterNumber PieceSize WasmIndex SectionOffset InfoReference : Form
-
--- an operand that is a signed number, in two's complement
-pub data SignedForm : Type 0 where
-  SignedFixed : (size : ℕ) → SignedForm
-  SignedLeb128 : SignedForm
-
--- how the bytes of an unsigned number are laid out
+-- how the bytes of a number are laid out; those of a signed one are in two's complement
 pub data Layout : Type 0 where
-  InBytes InAddress : (size : ℕ) → Layout
-  InLeb128 : Layout
+  Bytes : (size : ℕ) → Layout
+  Leb128 : Layout
 
--- in version 2 of DWARF a reference into `.debug_info` is as wide as an address
-abbrev pub reference_layout : Encoding → Layout
-reference_layout encoding =
-    if encoding.version == 2 then InAddress encoding.address_size else InBytes (offset_size encoding.format)
+-- which numbers an operand may be
+pub data Range : Type 0 where
+  Any Offset Register PieceSize WasmIndex : Range
 
--- the layout of an operand's number
-abbrev pub layout_of : Encoding → Form → Layout
-layout_of encoding (Fixed size) = InBytes size
-layout_of encoding Address = InAddress encoding.address_size
-layout_of encoding SectionOffset = InBytes (offset_size encoding.format)
-layout_of encoding InfoReference = reference_layout encoding
-layout_of encoding _ = InLeb128
+-- an operand that is an unsigned number: its layout and its range
+abbrev pub Form : Type 0
+Form = Layout × Range
 
--- the number as the operand's value, or the fault of a number that is out of the operand's range
-abbrev pub operand_value : (offset_bits : ℕ) → Form → (number : ℕ) → Result ℕ Fault
+-- how many bytes a reference into `.debug_info` has: in version 2 of DWARF, as many as an address
+abbrev pub ref_size : Encoding → ℕ
+ref_size encoding = if encoding.version == 2 then encoding.address_size else offset_size encoding.format
+
+-- the number as the operand's value, or the fault of a number that is out of range
+abbrev pub operand_value : (offset_bits : ℕ) → Range → (number : ℕ) → Result ℕ Fault
+operand_value bits Any number = Ok number
 operand_value bits Offset number = offset_of bits number
-operand_value bits SectionOffset number = offset_of bits number
-operand_value bits InfoReference number = offset_of bits number
-operand_value bits RegisterNumber number = register_of number
+operand_value bits Register number = register_of number
 operand_value bits PieceSize number = if nat_lt (8 * number) (2 ^ 64) then Ok number else Err (InvalidPieceSize number)
 operand_value bits WasmIndex number = if nat_lt number (2 ^ 32) then Ok number else Err BadUnsignedLeb128
-operand_value bits _ number = Ok number

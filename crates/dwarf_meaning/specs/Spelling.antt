@@ -7,55 +7,52 @@ use Rattle.dwarf_base.specs.Leb.{SpellsLeb, MalformedLeb, unsigned_leb, signed_l
 use Rattle.dwarf_base.specs.Numbers.{number_of, signed_of}
 use Rattle.dwarf_base.specs.Reads.{is_fixed_size, Text}
 use Rattle.dwarf_meaning.specs.Operations.{Operation}
-use Rattle.dwarf_meaning.specs.Operands.{Context, as_text, Form, SignedForm, SignedFixed, SignedLeb128, Layout, InBytes, InAddress, InLeb128, layout_of, operand_value}
+use Rattle.dwarf_meaning.specs.Operands.{Context, as_text, Layout, Bytes, Leb128, Form, operand_value}
 use Rattle.dwarf_meaning.specs.Opcodes.{Row, Makes, Unsigned, Signed, Block, Invalid, row_of}
 
--- the bytes spell the number
+-- the bytes spell the unsigned number
 pub data SpellsNumber (big : Bool) : Layout → List ℕ → ℕ → Type 0 where
-  in_bytes : (bytes : List ℕ) → SpellsNumber big (InBytes (length bytes)) bytes (number_of big bytes)
-  in_address : (bytes : List ℕ) → is_fixed_size (length bytes) ≡ true
-      → SpellsNumber big (InAddress (length bytes)) bytes (number_of big bytes)
+  in_bytes : (bytes : List ℕ) → is_fixed_size (length bytes) ≡ true
+      → SpellsNumber big (Bytes (length bytes)) bytes (number_of big bytes)
   in_leb128 : (bytes : List ℕ) (number : ℕ) → SpellsLeb unsigned_leb bytes number
-      → SpellsNumber big InLeb128 bytes number
+      → SpellsNumber big Leb128 bytes number
 
--- no front of the bytes spells a number, for this fault
+-- no front of the bytes spells an unsigned number, for this fault
 pub data MalformedNumber (big : Bool) : Layout → List ℕ → Fault → Type 0 where
-  few_bytes : (size : ℕ) (bytes : List ℕ) → length bytes < size → MalformedNumber big (InBytes size) bytes past_the_end
-  few_address_bytes : (size : ℕ) (bytes : List ℕ) → is_fixed_size size ≡ true → length bytes < size
-      → MalformedNumber big (InAddress size) bytes past_the_end
+  few_bytes : (size : ℕ) (bytes : List ℕ) → is_fixed_size size ≡ true → length bytes < size
+      → MalformedNumber big (Bytes size) bytes past_the_end
   address_size : (size : ℕ) (bytes : List ℕ) → is_fixed_size size ≡ false
-      → MalformedNumber big (InAddress size) bytes (UnsupportedAddressSize size)
+      → MalformedNumber big (Bytes size) bytes (UnsupportedAddressSize size)
   no_leb128 : (bytes : List ℕ) (fault : Fault) → MalformedLeb unsigned_leb bytes fault
-      → MalformedNumber big InLeb128 bytes fault
+      → MalformedNumber big Leb128 bytes fault
 
 -- the bytes spell the signed number
-pub data SpellsInteger (big : Bool) : SignedForm → List ℕ → ℤ → Type 0 where
+pub data SpellsInteger (big : Bool) : Layout → List ℕ → ℤ → Type 0 where
   in_signed_bytes : (bytes : List ℕ)
-      → SpellsInteger big (SignedFixed (length bytes)) bytes (signed_of (8 * length bytes) (number_of big bytes))
+      → SpellsInteger big (Bytes (length bytes)) bytes (signed_of (8 * length bytes) (number_of big bytes))
   in_signed_leb128 : (bytes : List ℕ) (number : ℤ) → SpellsLeb signed_leb bytes number
-      → SpellsInteger big SignedLeb128 bytes number
+      → SpellsInteger big Leb128 bytes number
 
 -- no front of the bytes spells a signed number, for this fault
-pub data MalformedInteger (big : Bool) : SignedForm → List ℕ → Fault → Type 0 where
+pub data MalformedInteger (big : Bool) : Layout → List ℕ → Fault → Type 0 where
   few_signed_bytes : (size : ℕ) (bytes : List ℕ) → length bytes < size
-      → MalformedInteger big (SignedFixed size) bytes past_the_end
+      → MalformedInteger big (Bytes size) bytes past_the_end
   no_signed_leb128 : (bytes : List ℕ) (fault : Fault) → MalformedLeb signed_leb bytes fault
-      → MalformedInteger big SignedLeb128 bytes fault
+      → MalformedInteger big Leb128 bytes fault
 
 -- the bytes spell an unsigned operand with this value
 pub data SpellsUnsigned (context : Context) (form : Form) : List ℕ → ℕ → Type 0 where
   in_range : (bytes : List ℕ) (number value : ℕ)
-      → SpellsNumber context.is_big (layout_of context.encoding form) bytes number
-      → operand_value context.offset_bits form number ≡ Ok value → SpellsUnsigned context form bytes value
+      → SpellsNumber context.is_big form.0 bytes number → operand_value context.offset_bits form.1 number ≡ Ok value
+      → SpellsUnsigned context form bytes value
 
 -- no front of the bytes spells a number, or one does that is out of the operand's range
 pub data MalformedUnsigned (context : Context) (form : Form) : List ℕ → Fault → Type 0 where
-  no_number : (bytes : List ℕ) (fault : Fault)
-      → MalformedNumber context.is_big (layout_of context.encoding form) bytes fault
+  no_number : (bytes : List ℕ) (fault : Fault) → MalformedNumber context.is_big form.0 bytes fault
       → MalformedUnsigned context form bytes fault
   out_of_range : (front rest : List ℕ) (number : ℕ) (fault : Fault)
-      → SpellsNumber context.is_big (layout_of context.encoding form) front number
-      → operand_value context.offset_bits form number ≡ Err fault → MalformedUnsigned context form (front ++ rest) fault
+      → SpellsNumber context.is_big form.0 front number → operand_value context.offset_bits form.1 number ≡ Err fault
+      → MalformedUnsigned context form (front ++ rest) fault
 
 -- the bytes are the spellings of a row's operands, joined in order, which make the operation
 pub data SpellsOperands (context : Context) : Row → List ℕ → Operation → Type 0 where
@@ -63,9 +60,9 @@ pub data SpellsOperands (context : Context) : Row → List ℕ → Operation →
   unsigned : (form : Form) (next : ℕ → Row) (front rest : List ℕ) (value : ℕ) (op : Operation)
       → SpellsUnsigned context form front value → SpellsOperands context (next value) rest op
       → SpellsOperands context (Unsigned form next) (front ++ rest) op
-  signed : (form : SignedForm) (next : ℤ → Row) (front rest : List ℕ) (value : ℤ) (op : Operation)
-      → SpellsInteger context.is_big form front value → SpellsOperands context (next value) rest op
-      → SpellsOperands context (Signed form next) (front ++ rest) op
+  signed : (layout : Layout) (next : ℤ → Row) (front rest : List ℕ) (value : ℤ) (op : Operation)
+      → SpellsInteger context.is_big layout front value → SpellsOperands context (next value) rest op
+      → SpellsOperands context (Signed layout next) (front ++ rest) op
   block : (next : Text → Row) (front rest : List ℕ) (op : Operation)
       → SpellsOperands context (next (as_text context front)) rest op
       → SpellsOperands context (Block (length front) next) (front ++ rest) op
@@ -78,11 +75,11 @@ pub data MalformedOperands (context : Context) : Row → List ℕ → Fault → 
   unsigned_after : (form : Form) (next : ℕ → Row) (front rest : List ℕ) (value : ℕ) (fault : Fault)
       → SpellsUnsigned context form front value → MalformedOperands context (next value) rest fault
       → MalformedOperands context (Unsigned form next) (front ++ rest) fault
-  signed_here : (form : SignedForm) (next : ℤ → Row) (bytes : List ℕ) (fault : Fault)
-      → MalformedInteger context.is_big form bytes fault → MalformedOperands context (Signed form next) bytes fault
-  signed_after : (form : SignedForm) (next : ℤ → Row) (front rest : List ℕ) (value : ℤ) (fault : Fault)
-      → SpellsInteger context.is_big form front value → MalformedOperands context (next value) rest fault
-      → MalformedOperands context (Signed form next) (front ++ rest) fault
+  signed_here : (layout : Layout) (next : ℤ → Row) (bytes : List ℕ) (fault : Fault)
+      → MalformedInteger context.is_big layout bytes fault → MalformedOperands context (Signed layout next) bytes fault
+  signed_after : (layout : Layout) (next : ℤ → Row) (front rest : List ℕ) (value : ℤ) (fault : Fault)
+      → SpellsInteger context.is_big layout front value → MalformedOperands context (next value) rest fault
+      → MalformedOperands context (Signed layout next) (front ++ rest) fault
   block_here : (size : ℕ) (next : Text → Row) (bytes : List ℕ) → length bytes < size
       → MalformedOperands context (Block size next) bytes past_the_end
   block_after : (next : Text → Row) (front rest : List ℕ) (fault : Fault)

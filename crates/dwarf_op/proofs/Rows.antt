@@ -3,7 +3,7 @@ use Rattle.std.proofs.Common.{◌≡◌, ◌≢◌, ℕ, zero, suc, ◌+◌, ◌
 use Rattle.std.proofs.lemmas.Bool.{cases_lt}
 use Rattle.dwarf_base.specs.declared.common.Encoding.{Encoding}
 use Rattle.dwarf_meaning.specs.Operations as operation
-use Rattle.dwarf_meaning.specs.Operands.{SignedLeb128}
+use Rattle.dwarf_meaning.specs.Operands.{Leb128}
 use Rattle.dwarf_meaning.specs.Opcodes.{Row, Makes, Invalid, signed, row_of}
 
 -- the rows that a function gives to this many opcodes
@@ -45,10 +45,10 @@ register_row encoding opcode low high =
     row_within (λ n. Makes (operation.Register (n - 80))) (row_of encoding) 80 32 opcode refl low high
 
 pub base_register_row : (encoding : Encoding) (opcode : ℕ) → 112 ≤ opcode → opcode < 144
-    → signed SignedLeb128 (λ offset. operation.RegisterOffset (opcode - 112) offset 0) ≡ row_of encoding opcode
+    → signed Leb128 (λ offset. operation.RegisterOffset (opcode - 112) offset 0) ≡ row_of encoding opcode
 unfolding row_of
 base_register_row encoding opcode low high =
-    let made : ℕ → Row = λ n. signed SignedLeb128 (λ offset. operation.RegisterOffset (n - 112) offset 0) in
+    let made : ℕ → Row = λ n. signed Leb128 (λ offset. operation.RegisterOffset (n - 112) offset 0) in
     row_within made (row_of encoding) 112 32 opcode refl low high
 
 -- ---- the opcodes of no operation, by the gaps that they lie in

@@ -4,12 +4,11 @@ use Rattle.dwarf_base.specs.Faults.{Fault, ◌>>=◌}
 use Rattle.dwarf_base.specs.Leb.{uleb_at}
 use Rattle.dwarf_base.specs.Numbers.{register_of}
 use Rattle.dwarf_base.specs.declared.common.Encoding.{Encoding}
-use Rattle.dwarf_base.specs.Reads.{Text, split_at}
+use Rattle.dwarf_base.specs.Reads.{offset_size, Text, split_at}
 use Rattle.dwarf_meaning.specs.Operations as meaning
 use Rattle.dwarf_meaning.specs.Decoding.{operands_at, unsigned_at}
-use Rattle.dwarf_meaning.specs.Operands.{as_text, context_of, Form, Fixed, Address, Leb128, RegisterNumber, PieceSize, SectionOffset, InfoReference, SignedForm, SignedFixed, SignedLeb128}
-use Rattle.dwarf_meaning.specs.Operands as form
-use Rattle.dwarf_meaning.specs.Opcodes.{Row, Makes, Unsigned, Invalid, unsigned, signed, unsigned_two, unsigned_signed, sized_block, wasm_row}
+use Rattle.dwarf_meaning.specs.Operands.{as_text, context_of, Layout, Bytes, Leb128, Any, Offset, Register, PieceSize, Form, ref_size}
+use Rattle.dwarf_meaning.specs.Opcodes.{Row, Makes, Unsigned, Invalid, unsigned, signed, sized_block, wasm_row}
 use Rattle.dwarf_op.specs.declared.opcodes.Plain.{Plain}
 use Rattle.dwarf_op.specs.declared.opcodes.Plain.TheVariants as plain
 use Rattle.dwarf_op.specs.declared.opcodes.Unsigned as shapes
@@ -60,28 +59,28 @@ plain_operation plain.Uninitialized = meaning.Uninitialized
 
 -- the form of an unsigned operand
 abbrev pub unsigned_form : shapes.Unsigned → Form
-unsigned_form unsigned_shape.U8 = Fixed 1
-unsigned_form unsigned_shape.U16 = Fixed 2
-unsigned_form unsigned_shape.U32 = Fixed 4
-unsigned_form unsigned_shape.U64 = Fixed 8
-unsigned_form unsigned_shape.Uleb128 = Leb128
+unsigned_form unsigned_shape.U8 = (Bytes 1, Any)
+unsigned_form unsigned_shape.U16 = (Bytes 2, Any)
+unsigned_form unsigned_shape.U32 = (Bytes 4, Any)
+unsigned_form unsigned_shape.U64 = (Bytes 8, Any)
+unsigned_form unsigned_shape.Uleb128 = (Leb128, Any)
 
 -- the form of a signed operand
-abbrev pub signed_form : signed_shapes.Signed → SignedForm
-signed_form signed_shape.I8 = SignedFixed 1
-signed_form signed_shape.I16 = SignedFixed 2
-signed_form signed_shape.I32 = SignedFixed 4
-signed_form signed_shape.I64 = SignedFixed 8
-signed_form signed_shape.Sleb128 = SignedLeb128
+abbrev pub signed_form : signed_shapes.Signed → Layout
+signed_form signed_shape.I8 = Bytes 1
+signed_form signed_shape.I16 = Bytes 2
+signed_form signed_shape.I32 = Bytes 4
+signed_form signed_shape.I64 = Bytes 8
+signed_form signed_shape.Sleb128 = Leb128
 
 -- the form of an offset
-abbrev pub offset_form : offset_shapes.Offset → Form
-offset_form offset_shape.U8 = Fixed 1
-offset_form offset_shape.U16 = Fixed 2
-offset_form offset_shape.U32 = Fixed 4
-offset_form offset_shape.Uleb128 = form.Offset
-offset_form offset_shape.Section = SectionOffset
-offset_form offset_shape.Reference = InfoReference
+abbrev pub offset_form : Encoding → offset_shapes.Offset → Form
+offset_form encoding offset_shape.U8 = (Bytes 1, Any)
+offset_form encoding offset_shape.U16 = (Bytes 2, Any)
+offset_form encoding offset_shape.U32 = (Bytes 4, Any)
+offset_form encoding offset_shape.Uleb128 = (Leb128, Offset)
+offset_form encoding offset_shape.Section = (Bytes (offset_size encoding.format), Offset)
+offset_form encoding offset_shape.Reference = (Bytes (ref_size encoding), Offset)
 
 -- what an offset makes
 abbrev pub offset_operation : FromOffset → ℕ → meaning.Operation
@@ -96,24 +95,26 @@ offset_operation from_offset.VariableValue offset = meaning.VariableValue offset
 
 -- the row that a rare entry is
 abbrev pub rare_row : Encoding → Rare → Row
-rare_row encoding rare_entry.Address = unsigned Address meaning.Address
-rare_row encoding rare_entry.PickByte = unsigned (Fixed 1) meaning.Pick
+rare_row encoding rare_entry.Address = unsigned (Bytes encoding.address_size, Any) meaning.Address
+rare_row encoding rare_entry.PickByte = unsigned (Bytes 1, Any) meaning.Pick
 rare_row encoding rare_entry.SpaceDeref = Makes (meaning.Deref 0 encoding.address_size true)
-rare_row encoding rare_entry.SpaceDerefSize = unsigned (Fixed 1) (λ size. meaning.Deref 0 size true)
-rare_row encoding rare_entry.NamedRegister = unsigned RegisterNumber meaning.Register
+rare_row encoding rare_entry.SpaceDerefSize = unsigned (Bytes 1, Any) (λ size. meaning.Deref 0 size true)
+rare_row encoding rare_entry.NamedRegister = unsigned (Leb128, Register) meaning.Register
 rare_row encoding rare_entry.NamedBaseRegister =
-    unsigned_signed RegisterNumber SignedLeb128 (λ register offset. meaning.RegisterOffset register offset 0)
+    Unsigned (Leb128, Register) (λ register. signed Leb128 (λ offset. meaning.RegisterOffset register offset 0))
 rare_row encoding rare_entry.TypedRegister =
-    unsigned_two RegisterNumber form.Offset (λ register base_type. meaning.RegisterOffset register (pos 0) base_type)
-rare_row encoding rare_entry.BitPiece = unsigned_two Leb128 Leb128 (λ size offset. meaning.Piece size (Some offset))
-rare_row encoding rare_entry.ImplicitValue = sized_block form.Offset meaning.ImplicitValue
-rare_row encoding rare_entry.EntryValue = sized_block form.Offset meaning.EntryValue
+    Unsigned (Leb128, Register) (λ register. unsigned (Leb128, Offset) (meaning.RegisterOffset register (pos 0)))
+rare_row encoding rare_entry.BitPiece =
+    Unsigned (Leb128, Any) (λ size. unsigned (Leb128, Any) (λ offset. meaning.Piece size (Some offset)))
+rare_row encoding rare_entry.ImplicitValue = sized_block (Leb128, Offset) meaning.ImplicitValue
+rare_row encoding rare_entry.EntryValue = sized_block (Leb128, Offset) meaning.EntryValue
 rare_row encoding rare_entry.TypedLiteral =
-    Unsigned form.Offset (λ base_type. sized_block (Fixed 1) (meaning.TypedLiteral base_type))
+    Unsigned (Leb128, Offset) (λ base_type. sized_block (Bytes 1, Any) (meaning.TypedLiteral base_type))
 rare_row encoding (rare_entry.TypedDeref space) =
-    unsigned_two (Fixed 1) form.Offset (λ size base_type. meaning.Deref base_type size space)
-rare_row encoding rare_entry.ImplicitPointer = unsigned_signed InfoReference SignedLeb128 meaning.ImplicitPointer
-rare_row encoding rare_entry.WasmLocation = Unsigned (Fixed 1) wasm_row
+    Unsigned (Bytes 1, Any) (λ size. unsigned (Leb128, Offset) (λ base_type. meaning.Deref base_type size space))
+rare_row encoding rare_entry.ImplicitPointer =
+    Unsigned (Bytes (ref_size encoding), Offset) (λ to. signed Leb128 (meaning.ImplicitPointer to))
+rare_row encoding rare_entry.WasmLocation = Unsigned (Bytes 1, Any) wasm_row
 
 -- the row that an entry is at an opcode
 abbrev pub entry_row : Encoding → (opcode : ℕ) → Entry → Row
@@ -123,17 +124,17 @@ entry_row encoding opcode (entry.Literal number) = Makes (meaning.UnsignedConsta
 entry_row encoding opcode (entry.Register register) = Makes (meaning.Register register)
 entry_row encoding opcode (entry.Pick index) = Makes (meaning.Pick index)
 entry_row encoding opcode entry.Deref = Makes (meaning.Deref 0 encoding.address_size false)
-entry_row encoding opcode entry.DerefSize = unsigned (Fixed 1) (λ size. meaning.Deref 0 size false)
+entry_row encoding opcode entry.DerefSize = unsigned (Bytes 1, Any) (λ size. meaning.Deref 0 size false)
 entry_row encoding opcode (entry.Constant shape) = unsigned (unsigned_form shape) meaning.UnsignedConstant
-entry_row encoding opcode entry.PlusConstant = unsigned Leb128 meaning.PlusConstant
+entry_row encoding opcode entry.PlusConstant = unsigned (Leb128, Any) meaning.PlusConstant
 entry_row encoding opcode (entry.SignedConstant shape) = signed (signed_form shape) meaning.SignedConstant
-entry_row encoding opcode entry.FrameOffset = signed SignedLeb128 meaning.FrameOffset
-entry_row encoding opcode entry.Bra = signed (SignedFixed 2) meaning.Bra
-entry_row encoding opcode entry.Skip = signed (SignedFixed 2) meaning.Skip
-entry_row encoding opcode (entry.Offset shape make) = unsigned (offset_form shape) (offset_operation make)
+entry_row encoding opcode entry.FrameOffset = signed Leb128 meaning.FrameOffset
+entry_row encoding opcode entry.Bra = signed (Bytes 2) meaning.Bra
+entry_row encoding opcode entry.Skip = signed (Bytes 2) meaning.Skip
+entry_row encoding opcode (entry.Offset shape make) = unsigned (offset_form encoding shape) (offset_operation make)
 entry_row encoding opcode (entry.BaseRegister register) =
-    signed SignedLeb128 (λ offset. meaning.RegisterOffset register offset 0)
-entry_row encoding opcode entry.Piece = unsigned PieceSize (λ size. meaning.Piece (8 * size) None)
+    signed Leb128 (λ offset. meaning.RegisterOffset register offset 0)
+entry_row encoding opcode entry.Piece = unsigned (Leb128, PieceSize) (λ size. meaning.Piece (8 * size) None)
 entry_row encoding opcode (entry.Rare rare) = rare_row encoding rare
 
 -- a row's operands at the front of a text

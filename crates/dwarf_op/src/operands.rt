@@ -168,7 +168,7 @@ pub(crate) fn read_offset<R: Reader + Copy>(
 ) -> Result<R::Offset>
     ensures { Reads R.Offset.number (R.text bytes.old) (R.text bytes.new) result
         (unsigned_at (context_of encoding R.Offset.BITS (R.text bytes.old).is_big)
-        (offset_form shape) (R.text bytes.old).bytes) }
+        (offset_form encoding shape) (R.text bytes.old).bytes) }
 {
     match shape {
         Offset::U8 => Ok(R::Offset::from_u8(read_u8(bytes)?)),
@@ -212,7 +212,7 @@ pub(crate) fn read_block<R: Reader + Copy>(
     encoding: Encoding,
 ) -> Result<R>
     ensures { Reads R.text (R.text bytes.old) (R.text bytes.new) result
-        (block_in encoding R.Offset.BITS (R.text bytes.old) (offset_form size)) }
+        (block_in encoding R.Offset.BITS (R.text bytes.old) (offset_form encoding size)) }
 {
     let size = read_offset(size, bytes, encoding)?;
     bytes.split(size)

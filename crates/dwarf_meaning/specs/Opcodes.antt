@@ -4,7 +4,7 @@ use Rattle.dwarf_base.specs.declared.common.Encoding.{Encoding}
 use Rattle.dwarf_base.specs.Reads.{offset_size, Text}
 use Rattle.dwarf_meaning.specs.Operations as operation
 use Rattle.dwarf_meaning.specs.Operations.{Operation, UnitRef, DebugInfoRef}
-use Rattle.dwarf_meaning.specs.Operands.{Layout, Bytes, Leb128, Any, Offset, Register, PieceSize, WasmIndex, Form, ref_size}
+use Rattle.dwarf_meaning.specs.Operands.{Layout, Bytes, Leb128, Any, Offset, Register, PieceSize, U32, Form, ref_size}
 use Rattle.dwarf_value.specs.Values.{Abs, Neg, Not, Plus, Minus, Mul, Div, Mod, And, Or, Xor, Shl, Shr, Shra, Eq, Ne, Lt, Le, Gt, Ge}
 
 -- What follows an opcode: operands in order, then the operation that their values make; or the opcode has no operation.
@@ -27,15 +27,6 @@ signed layout make = Signed layout (λ number. Makes (make number))
 abbrev pub sized_block : Form → (Text → Operation) → Row
 sized_block form make = Unsigned form (λ size. Block size (λ block. Makes (make block)))
 
--- the index after `DW_OP_WASM_location`, by its kind
-abbrev pub wasm_row : (kind : ℕ) → Row
-wasm_row kind =
-    if kind == 0 then unsigned (Leb128, WasmIndex) operation.WasmLocal
-    else (if kind == 1 then unsigned (Leb128, WasmIndex) operation.WasmGlobal
-    else (if kind == 2 then unsigned (Leb128, WasmIndex) operation.WasmStack
-    else (if kind == 3 then unsigned (Bytes 4, Any) operation.WasmGlobal
-    else Invalid 0xed)))
-
 -- some opcodes, and the row of each
 pub record Line : Type 0 where
   pub has : (opcode : ℕ) → Bool
@@ -57,6 +48,18 @@ range from to row = record { has = λ n. nat_le from n && nat_le n to; row = λ 
 abbrev pub plain : (from : ℕ) → List Operation → List Line
 plain from [] = []
 plain from (op ∷ ops) = one from (Makes op) ∷ plain (from + 1) ops
+
+-- the row of the line that has the opcode, or this one if none has
+abbrev pub row_among : (none : Row) → (opcode : ℕ) → List Line → Row
+row_among none opcode [] = none
+row_among none opcode (line ∷ more) = if line.has opcode then line.row opcode else row_among none opcode more
+
+-- the index after `DW_OP_WASM_location`, by its kind
+abbrev pub wasm_row : (kind : ℕ) → Row
+wasm_row kind =
+    row_among (Invalid 0xed) kind
+    (one 0 (unsigned (Leb128, U32) operation.WasmLocal) ∷ one 1 (unsigned (Leb128, U32) operation.WasmGlobal)
+    ∷ one 2 (unsigned (Leb128, U32) operation.WasmStack) ∷ one 3 (unsigned (Bytes 4, Any) operation.WasmGlobal) ∷ [])
 
 -- the whole table
 abbrev pub lines : Encoding → List Line
@@ -117,11 +120,6 @@ lines encoding =
     ∷ one 0xfd (unsigned (Bytes (offset_size encoding.format), Offset) operation.VariableValue)
     ∷ []
 
--- the row of the line that has the opcode
-abbrev pub row_among : (opcode : ℕ) → List Line → Row
-row_among opcode [] = Invalid opcode
-row_among opcode (line ∷ more) = if line.has opcode then line.row opcode else row_among opcode more
-
 -- the row of an opcode
 unfoldable pub row_of : Encoding → (opcode : ℕ) → Row
-row_of encoding opcode = row_among opcode (lines encoding)
+row_of encoding opcode = row_among (Invalid opcode) opcode (lines encoding)

@@ -27,7 +27,7 @@ pub data Layout : Type 0 where
 
 -- which numbers an operand may be
 pub data Range : Type 0 where
-  Any Offset Register PieceSize WasmIndex : Range
+  Any Offset Register PieceSize U32 : Range
 
 -- an operand that is an unsigned number: its layout and its range
 abbrev pub Form : Type 0
@@ -43,4 +43,4 @@ operand_value bits Any number = Ok number
 operand_value bits Offset number = offset_of bits number
 operand_value bits Register number = register_of number
 operand_value bits PieceSize number = if nat_lt (8 * number) (2 ^ 64) then Ok number else Err (InvalidPieceSize number)
-operand_value bits WasmIndex number = if nat_lt number (2 ^ 32) then Ok number else Err BadUnsignedLeb128
+operand_value bits U32 number = if nat_lt number (2 ^ 32) then Ok number else Err BadUnsignedLeb128

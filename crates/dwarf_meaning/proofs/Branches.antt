@@ -138,25 +138,25 @@ bytes_beyond : (front rest : List ℕ) → AreBytes (front ++ rest) → AreBytes
 bytes_beyond [] rest h = h
 bytes_beyond (byte ∷ front) rest h = bytes_beyond front rest h.1
 
-near_operands : (context : Context) (row : Row) (bytes : List ℕ) (op : Operation) (rest : List ℕ) → NearRow row → AreBytes bytes → operands_at context row bytes ≡ Ok (op, rest) → BranchesNear op
+near_operands : (context : Context) (row : Row) (bytes : List ℕ) (op : Operation) (rest : List ℕ) → NearRow row → AreBytes bytes → operands_at context.offset_bits context.is_big row bytes ≡ Ok (op, rest) → BranchesNear op
 near_operands context (Makes made) bytes op rest near h e = subst BranchesNear (pair_same made op bytes rest e).0 near
 near_operands context (Unsigned form next) bytes op rest near h e =
-    let w = went (unsigned_at context form bytes) (λ x. operands_at context (next x.0) x.1) (op, rest) e in
+    let w = went (unsigned_at context.offset_bits context.is_big form bytes) (λ x. operands_at context.offset_bits context.is_big (next x.0) x.1) (op, rest) e in
     let s = (reads_unsigned context form).found bytes w.value w.left w.here in
     let k : AreBytes (s.front ++ w.left) = subst AreBytes (sym s.whole) h in
     near_operands context (next w.value) w.left op rest (near w.value) (bytes_beyond s.front w.left k) w.more
 near_operands context (Signed (Bytes size) next) bytes op rest near h e =
-    let w = went (integer_at context.is_big (Bytes size) bytes) (λ x. operands_at context (next x.0) x.1) (op, rest) e in
+    let w = went (integer_at context.is_big (Bytes size) bytes) (λ x. operands_at context.offset_bits context.is_big (next x.0) x.1) (op, rest) e in
     let s = (reads_integer context.is_big (Bytes size)).found bytes w.value w.left w.here in
     let k : AreBytes (s.front ++ w.left) = subst AreBytes (sym s.whole) h in
     near_operands context (next w.value) w.left op rest (near w.value (near_spelled context.is_big size s.front w.value s.spells (bytes_before s.front w.left k))) (bytes_beyond s.front w.left k) w.more
 near_operands context (Signed Leb128 next) bytes op rest near h e =
-    let w = went (integer_at context.is_big Leb128 bytes) (λ x. operands_at context (next x.0) x.1) (op, rest) e in
+    let w = went (integer_at context.is_big Leb128 bytes) (λ x. operands_at context.offset_bits context.is_big (next x.0) x.1) (op, rest) e in
     let s = (reads_integer context.is_big Leb128).found bytes w.value w.left w.here in
     let k : AreBytes (s.front ++ w.left) = subst AreBytes (sym s.whole) h in
     near_operands context (next w.value) w.left op rest (near w.value) (bytes_beyond s.front w.left k) w.more
 near_operands context (Block size next) bytes op rest near h e =
-    let w = went (split_at size bytes) (λ x. operands_at context (next (as_text context x.0)) x.1) (op, rest) e in
+    let w = went (split_at size bytes) (λ x. operands_at context.offset_bits context.is_big (next (as_text context x.0)) x.1) (op, rest) e in
     let s = (reads_block size).found bytes w.value w.left w.here in
     let k : AreBytes (s.front ++ w.left) = subst AreBytes (sym s.whole) h in
     near_operands context (next (as_text context w.value)) w.left op rest (near (as_text context w.value)) (bytes_beyond s.front w.left k) w.more

@@ -130,9 +130,9 @@ module _ (context : Context) (form : Form) where
   unsigned_refusal bytes fault (spelling.no_number bytes' fault' r) = unread bytes fault r
   unsigned_refusal bytes fault (spelling.out_of_range front rest number fault' s e) = unfit front rest number fault s e
 
-  pub reads_unsigned : ReadsExactly (unsigned_at context form) (SpellsUnsigned context form) (MalformedUnsigned context form)
+  pub reads_unsigned : ReadsExactly (unsigned_at context.offset_bits context.is_big form) (SpellsUnsigned context form) (MalformedUnsigned context form)
   reads_unsigned =
-      reads_as (unsigned_at context form) (Passes Spelled check) (SpellsUnsigned context form) (Fails Spelled Refusing check) (MalformedUnsigned context form)
+      reads_as (unsigned_at context.offset_bits context.is_big form) (Passes Spelled check) (SpellsUnsigned context form) (Fails Spelled Refusing check) (MalformedUnsigned context form)
       (reads_checked (number_at context.is_big form.0) Spelled Refusing check (reads_number context.is_big form.0))
       unsigned_spelled unsigned_spelling unsigned_refused unsigned_refusal
 

@@ -41,19 +41,19 @@ nothing_has (x ∷ before) byte after e = cc
 
 -- ---- the operands of a row
 
-operands_give : (context : Context) (row : Row) (front : List ℕ) (op : Operation) → SpellsOperands context row front op → (rest : List ℕ) → operands_at context row (front ++ rest) ≡ Ok (op, rest)
+operands_give : (context : Context) (row : Row) (front : List ℕ) (op : Operation) → SpellsOperands context row front op → (rest : List ℕ) → operands_at context.offset_bits context.is_big row (front ++ rest) ≡ Ok (op, rest)
 operands_give context row front op (spelling.makes made) rest = refl
 operands_give context row front op (spelling.unsigned form next first others value made here there) rest =
-    ap (operands_at context (Unsigned form next)) (append_assoc first others rest)
-    ∙ (ap (λ (r : Reading ℕ). r >>= λ x. operands_at context (next x.0) x.1) ((reads_unsigned context form).gives first value (others ++ rest) here)
+    ap (operands_at context.offset_bits context.is_big (Unsigned form next)) (append_assoc first others rest)
+    ∙ (ap (λ (r : Reading ℕ). r >>= λ x. operands_at context.offset_bits context.is_big (next x.0) x.1) ((reads_unsigned context form).gives first value (others ++ rest) here)
     ∙ operands_give context (next value) others made there rest)
 operands_give context row front op (spelling.signed form next first others value made here there) rest =
-    ap (operands_at context (Signed form next)) (append_assoc first others rest)
-    ∙ (ap (λ (r : Reading ℤ). r >>= λ x. operands_at context (next x.0) x.1) ((reads_integer context.is_big form).gives first value (others ++ rest) here)
+    ap (operands_at context.offset_bits context.is_big (Signed form next)) (append_assoc first others rest)
+    ∙ (ap (λ (r : Reading ℤ). r >>= λ x. operands_at context.offset_bits context.is_big (next x.0) x.1) ((reads_integer context.is_big form).gives first value (others ++ rest) here)
     ∙ operands_give context (next value) others made there rest)
 operands_give context row front op (spelling.block next first others made there) rest =
-    ap (operands_at context (Block (length first) next)) (append_assoc first others rest)
-    ∙ (ap (λ (r : Reading (List ℕ)). r >>= λ x. operands_at context (next (as_text context x.0)) x.1) ((reads_block (length first)).gives first first (others ++ rest) (block first))
+    ap (operands_at context.offset_bits context.is_big (Block (length first) next)) (append_assoc first others rest)
+    ∙ (ap (λ (r : Reading (List ℕ)). r >>= λ x. operands_at context.offset_bits context.is_big (next (as_text context x.0)) x.1) ((reads_block (length first)).gives first first (others ++ rest) (block first))
     ∙ operands_give context (next (as_text context first)) others made there rest)
 
 joined : (first others rest middle bytes : List ℕ) → others ++ rest ≡ middle → first ++ middle ≡ bytes → (first ++ others) ++ rest ≡ bytes
@@ -62,12 +62,12 @@ joined first others rest middle bytes e f = append_assoc first others rest ∙ (
 block_operands : (context : Context) (size : ℕ) (next : Text → Row) (first found others : List ℕ) (op : Operation) → SpellsBlock size first found → SpellsOperands context (next (as_text context found)) others op → SpellsOperands context (Block size next) (first ++ others) op
 block_operands context size next first found others op (block bytes) there = spelling.block next bytes others op there
 
-operands_found : (context : Context) (row : Row) (bytes : List ℕ) (op : Operation) (rest : List ℕ) → operands_at context row bytes ≡ Ok (op, rest) → Begins (SpellsOperands context row) bytes op rest
+operands_found : (context : Context) (row : Row) (bytes : List ℕ) (op : Operation) (rest : List ℕ) → operands_at context.offset_bits context.is_big row bytes ≡ Ok (op, rest) → Begins (SpellsOperands context row) bytes op rest
 operands_found context (Makes made) bytes op rest h =
     let p = pair_same made op bytes rest h in
     record { front = []; spells = subst (SpellsOperands context (Makes made) []) p.0 (spelling.makes made); whole = sym p.1 }
 operands_found context (Unsigned form next) bytes op rest h =
-    let w = went (unsigned_at context form bytes) (λ x. operands_at context (next x.0) x.1) (op, rest) h in
+    let w = went (unsigned_at context.offset_bits context.is_big form bytes) (λ x. operands_at context.offset_bits context.is_big (next x.0) x.1) (op, rest) h in
     let s = (reads_unsigned context form).found bytes w.value w.left w.here in
     let t = operands_found context (next w.value) w.left op rest w.more in
     record {
@@ -76,7 +76,7 @@ operands_found context (Unsigned form next) bytes op rest h =
       whole = joined s.front t.front rest w.left bytes t.whole s.whole;
     }
 operands_found context (Signed form next) bytes op rest h =
-    let w = went (integer_at context.is_big form bytes) (λ x. operands_at context (next x.0) x.1) (op, rest) h in
+    let w = went (integer_at context.is_big form bytes) (λ x. operands_at context.offset_bits context.is_big (next x.0) x.1) (op, rest) h in
     let s = (reads_integer context.is_big form).found bytes w.value w.left w.here in
     let t = operands_found context (next w.value) w.left op rest w.more in
     record {
@@ -85,7 +85,7 @@ operands_found context (Signed form next) bytes op rest h =
       whole = joined s.front t.front rest w.left bytes t.whole s.whole;
     }
 operands_found context (Block size next) bytes op rest h =
-    let w = went (split_at size bytes) (λ x. operands_at context (next (as_text context x.0)) x.1) (op, rest) h in
+    let w = went (split_at size bytes) (λ x. operands_at context.offset_bits context.is_big (next (as_text context x.0)) x.1) (op, rest) h in
     let s = (reads_block size).found bytes w.value w.left w.here in
     let t = operands_found context (next (as_text context w.value)) w.left op rest w.more in
     record {
@@ -95,22 +95,22 @@ operands_found context (Block size next) bytes op rest h =
     }
 operands_found context (Invalid opcode) bytes op rest h = absurd cc
 
-operands_refuse : (context : Context) (row : Row) (bytes : List ℕ) (fault : Fault) → MalformedOperands context row bytes fault → operands_at context row bytes ≡ Err fault
+operands_refuse : (context : Context) (row : Row) (bytes : List ℕ) (fault : Fault) → MalformedOperands context row bytes fault → operands_at context.offset_bits context.is_big row bytes ≡ Err fault
 operands_refuse context row bytes fault (spelling.invalid opcode bytes') = refl
 operands_refuse context row bytes fault (spelling.unsigned_here form next bytes' fault' r) =
-    ap (λ (r : Reading ℕ). r >>= λ x. operands_at context (next x.0) x.1) ((reads_unsigned context form).refuses bytes fault r)
+    ap (λ (r : Reading ℕ). r >>= λ x. operands_at context.offset_bits context.is_big (next x.0) x.1) ((reads_unsigned context form).refuses bytes fault r)
 operands_refuse context row bytes fault (spelling.unsigned_after form next first others value fault' s r) =
-    ap (λ (r : Reading ℕ). r >>= λ x. operands_at context (next x.0) x.1) ((reads_unsigned context form).gives first value others s)
+    ap (λ (r : Reading ℕ). r >>= λ x. operands_at context.offset_bits context.is_big (next x.0) x.1) ((reads_unsigned context form).gives first value others s)
     ∙ operands_refuse context (next value) others fault r
 operands_refuse context row bytes fault (spelling.signed_here form next bytes' fault' r) =
-    ap (λ (r : Reading ℤ). r >>= λ x. operands_at context (next x.0) x.1) ((reads_integer context.is_big form).refuses bytes fault r)
+    ap (λ (r : Reading ℤ). r >>= λ x. operands_at context.offset_bits context.is_big (next x.0) x.1) ((reads_integer context.is_big form).refuses bytes fault r)
 operands_refuse context row bytes fault (spelling.signed_after form next first others value fault' s r) =
-    ap (λ (r : Reading ℤ). r >>= λ x. operands_at context (next x.0) x.1) ((reads_integer context.is_big form).gives first value others s)
+    ap (λ (r : Reading ℤ). r >>= λ x. operands_at context.offset_bits context.is_big (next x.0) x.1) ((reads_integer context.is_big form).gives first value others s)
     ∙ operands_refuse context (next value) others fault r
 operands_refuse context row bytes fault (spelling.block_here size next bytes' less) =
-    ap (λ (r : Reading (List ℕ)). r >>= λ x. operands_at context (next (as_text context x.0)) x.1) ((reads_block size).refuses bytes past_the_end (few size bytes less))
+    ap (λ (r : Reading (List ℕ)). r >>= λ x. operands_at context.offset_bits context.is_big (next (as_text context x.0)) x.1) ((reads_block size).refuses bytes past_the_end (few size bytes less))
 operands_refuse context row bytes fault (spelling.block_after next first others fault' r) =
-    ap (λ (r : Reading (List ℕ)). r >>= λ x. operands_at context (next (as_text context x.0)) x.1) ((reads_block (length first)).gives first first others (block first))
+    ap (λ (r : Reading (List ℕ)). r >>= λ x. operands_at context.offset_bits context.is_big (next (as_text context x.0)) x.1) ((reads_block (length first)).gives first first others (block first))
     ∙ operands_refuse context (next (as_text context first)) others fault r
 
 block_refusal : (context : Context) (size : ℕ) (next : Text → Row) (bytes : List ℕ) (fault : Fault) → RefusesBlock size bytes fault → MalformedOperands context (Block size next) bytes fault
@@ -119,24 +119,24 @@ block_refusal context size next bytes fault (few size' bytes' less) = spelling.b
 block_refused_after : (context : Context) (size : ℕ) (next : Text → Row) (first found others : List ℕ) (fault : Fault) → SpellsBlock size first found → MalformedOperands context (next (as_text context found)) others fault → MalformedOperands context (Block size next) (first ++ others) fault
 block_refused_after context size next first found others fault (block bytes) r = spelling.block_after next bytes others fault r
 
-operands_refused : (context : Context) (row : Row) (bytes : List ℕ) (fault : Fault) → operands_at context row bytes ≡ Err fault → MalformedOperands context row bytes fault
+operands_refused : (context : Context) (row : Row) (bytes : List ℕ) (fault : Fault) → operands_at context.offset_bits context.is_big row bytes ≡ Err fault → MalformedOperands context row bytes fault
 operands_refused context (Makes made) bytes fault h = absurd cc
 operands_refused context (Unsigned form next) bytes fault h =
-    elim (failed (unsigned_at context form bytes) (λ x. operands_at context (next x.0) x.1) fault h) [
+    elim (failed (unsigned_at context.offset_bits context.is_big form bytes) (λ x. operands_at context.offset_bits context.is_big (next x.0) x.1) fault h) [
       | inl here ↦ spelling.unsigned_here form next bytes fault ((reads_unsigned context form).refused bytes fault here)
       | inr w ↦
           let s = (reads_unsigned context form).found bytes w.value w.left w.here in
           subst (λ (bs : List ℕ). MalformedOperands context (Unsigned form next) bs fault) s.whole (spelling.unsigned_after form next s.front w.left w.value fault s.spells (operands_refused context (next w.value) w.left fault w.more))
     ]
 operands_refused context (Signed form next) bytes fault h =
-    elim (failed (integer_at context.is_big form bytes) (λ x. operands_at context (next x.0) x.1) fault h) [
+    elim (failed (integer_at context.is_big form bytes) (λ x. operands_at context.offset_bits context.is_big (next x.0) x.1) fault h) [
       | inl here ↦ spelling.signed_here form next bytes fault ((reads_integer context.is_big form).refused bytes fault here)
       | inr w ↦
           let s = (reads_integer context.is_big form).found bytes w.value w.left w.here in
           subst (λ (bs : List ℕ). MalformedOperands context (Signed form next) bs fault) s.whole (spelling.signed_after form next s.front w.left w.value fault s.spells (operands_refused context (next w.value) w.left fault w.more))
     ]
 operands_refused context (Block size next) bytes fault h =
-    elim (failed (split_at size bytes) (λ x. operands_at context (next (as_text context x.0)) x.1) fault h) [
+    elim (failed (split_at size bytes) (λ x. operands_at context.offset_bits context.is_big (next (as_text context x.0)) x.1) fault h) [
       | inl here ↦ block_refusal context size next bytes fault ((reads_block size).refused bytes fault here)
       | inr w ↦
           let s = (reads_block size).found bytes w.value w.left w.here in
@@ -146,30 +146,30 @@ operands_refused context (Invalid opcode) bytes fault h =
     let same : invalid_expression opcode ≡ fault = cc in
     subst (MalformedOperands context (Invalid opcode) bytes) same (spelling.invalid opcode bytes)
 
-operands_cut_off : (context : Context) (row : Row) (bytes : List ℕ) (op : Operation) → SpellsOperands context row bytes op → (before : List ℕ) (byte : ℕ) (after : List ℕ) → before ++ (byte ∷ after) ≡ bytes → operands_at context row before ≡ Err past_the_end
+operands_cut_off : (context : Context) (row : Row) (bytes : List ℕ) (op : Operation) → SpellsOperands context row bytes op → (before : List ℕ) (byte : ℕ) (after : List ℕ) → before ++ (byte ∷ after) ≡ bytes → operands_at context.offset_bits context.is_big row before ≡ Err past_the_end
 operands_cut_off context row bytes op (spelling.makes made) before byte after e = absurd (nothing_has before byte after (sym e))
 operands_cut_off context row bytes op (spelling.unsigned form next first others value made here there) before byte after e =
-    let step = λ (r : Reading ℕ). r >>= λ x. operands_at context (next x.0) x.1 in
+    let step = λ (r : Reading ℕ). r >>= λ x. operands_at context.offset_bits context.is_big (next x.0) x.1 in
     elim (place_of before byte after first others e) [
       | inside tail f ↦ ap step ((reads_unsigned context form).cut_off before byte tail value (subst (λ (bs : List ℕ). spelling.SpellsUnsigned context form bs value) f here))
       | beyond tail f g ↦
-          ap (operands_at context (Unsigned form next)) f
+          ap (operands_at context.offset_bits context.is_big (Unsigned form next)) f
           ∙ (ap step ((reads_unsigned context form).gives first value tail here) ∙ operands_cut_off context (next value) others made there tail byte after (sym g))
     ]
 operands_cut_off context row bytes op (spelling.signed form next first others value made here there) before byte after e =
-    let step = λ (r : Reading ℤ). r >>= λ x. operands_at context (next x.0) x.1 in
+    let step = λ (r : Reading ℤ). r >>= λ x. operands_at context.offset_bits context.is_big (next x.0) x.1 in
     elim (place_of before byte after first others e) [
       | inside tail f ↦ ap step ((reads_integer context.is_big form).cut_off before byte tail value (subst (λ (bs : List ℕ). spelling.SpellsInteger context.is_big form bs value) f here))
       | beyond tail f g ↦
-          ap (operands_at context (Signed form next)) f
+          ap (operands_at context.offset_bits context.is_big (Signed form next)) f
           ∙ (ap step ((reads_integer context.is_big form).gives first value tail here) ∙ operands_cut_off context (next value) others made there tail byte after (sym g))
     ]
 operands_cut_off context row bytes op (spelling.block next first others made there) before byte after e =
-    let step = λ (r : Reading (List ℕ)). r >>= λ x. operands_at context (next (as_text context x.0)) x.1 in
+    let step = λ (r : Reading (List ℕ)). r >>= λ x. operands_at context.offset_bits context.is_big (next (as_text context x.0)) x.1 in
     elim (place_of before byte after first others e) [
       | inside tail f ↦ ap step ((reads_block (length first)).cut_off before byte tail first (subst (λ (bs : List ℕ). SpellsBlock (length first) bs first) f (block first)))
       | beyond tail f g ↦
-          ap (operands_at context (Block (length first) next)) f
+          ap (operands_at context.offset_bits context.is_big (Block (length first) next)) f
           ∙ (ap step ((reads_block (length first)).gives first first tail (block first)) ∙ operands_cut_off context (next (as_text context first)) others made there tail byte after (sym g))
     ]
 
@@ -180,7 +180,7 @@ module _ (encoding : Encoding) (bits : ℕ) (big : Bool) where
   text bytes = record { bytes = bytes; is_big = big }
 
   abbrev operands : ℕ → List ℕ → Reading Operation
-  operands opcode bytes = operands_at (context_of encoding bits big) (row_of encoding opcode) bytes
+  operands opcode bytes = operands_at bits big (row_of encoding opcode) bytes
 
   operation_gives : (front : List ℕ) (op : Operation) (rest : List ℕ) → Spells (context_of encoding bits big) front op → operation_at encoding bits (text (front ++ rest)) ≡ Ok (op, rest)
   unfolding operation_at

@@ -5,7 +5,7 @@ use Rattle.dwarf_base.specs.Faults.{Fault, invalid_expression, ◌>>=◌}
 use Rattle.dwarf_base.specs.Leb.{uleb_at, sleb_at}
 use Rattle.dwarf_base.specs.Reads.{u8_at, signed_at, address_at, split_at, Text}
 use Rattle.dwarf_meaning.specs.Operations.{Operation}
-use Rattle.dwarf_meaning.specs.Operands.{Context, context_of, as_text, Layout, Bytes, Leb128, Form, operand_value}
+use Rattle.dwarf_meaning.specs.Operands.{Context, as_text, Layout, Bytes, Leb128, Form, operand_value}
 use Rattle.dwarf_meaning.specs.Opcodes.{Row, Makes, Unsigned, Signed, Block, Invalid, row_of}
 
 -- An unsigned number in its layout. Only an address can have another size than 1, 2, 4 or 8 bytes: a fault.
@@ -18,26 +18,24 @@ abbrev pub integer_at : (big : Bool) → Layout → List ℕ → Result (ℤ × 
 integer_at big (Bytes size) bytes = signed_at big size bytes
 integer_at big Leb128 bytes = sleb_at bytes
 
-module _ (context : Context) where
+module _ (offset_bits : ℕ) (big : Bool) where
   -- an unsigned operand
   abbrev pub unsigned_at : Form → List ℕ → Result (ℕ × List ℕ) Fault
   unsigned_at (layout, range) bytes =
-      number_at context.is_big layout bytes
-      >>= λ number. operand_value context.offset_bits range number.0 >>= λ value. Ok (value, number.1)
+      number_at big layout bytes >>= λ x. operand_value offset_bits range x.0 >>= λ value. Ok (value, x.1)
 
   -- a row's operands, in order, and what they make
   abbrev pub operands_at : Row → List ℕ → Result (Operation × List ℕ) Fault
   operands_at (Makes op) bytes = Ok (op, bytes)
   operands_at (Unsigned form next) bytes = unsigned_at form bytes >>= λ x. operands_at (next x.0) x.1
-  operands_at (Signed layout next) bytes = integer_at context.is_big layout bytes >>= λ x. operands_at (next x.0) x.1
-  operands_at (Block size next) bytes = split_at size bytes >>= λ x. operands_at (next (as_text context x.0)) x.1
+  operands_at (Signed layout next) bytes = integer_at big layout bytes >>= λ x. operands_at (next x.0) x.1
+  operands_at (Block size next) bytes =
+      split_at size bytes >>= λ x. operands_at (next (record { bytes = x.0; is_big = big })) x.1
   operands_at (Invalid opcode) bytes = Err (invalid_expression opcode)
 
 -- an opcode and the operands of its row
 unfoldable pub operation_at : Encoding → (offset_bits : ℕ) → Text → Result (Operation × List ℕ) Fault
-operation_at encoding offset_bits text =
-    u8_at text.bytes >>= λ opcode. operands_at (context_of encoding offset_bits text.is_big) (row_of encoding opcode.0)
-    opcode.1
+operation_at encoding bits text = u8_at text.bytes >>= λ x. operands_at bits text.is_big (row_of encoding x.0) x.1
 
 -- the same of bytes in a context
 abbrev pub operation_in : Context → List ℕ → Result (Operation × List ℕ) Fault

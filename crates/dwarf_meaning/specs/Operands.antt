@@ -6,7 +6,7 @@ use Rattle.dwarf_base.specs.declared.errors.Error.TheVariants.{BadUnsignedLeb128
 use Rattle.dwarf_base.specs.Numbers.{offset_of, register_of}
 use Rattle.dwarf_base.specs.Reads.{offset_size, Text}
 
--- what the operands of an operation depend on besides their bytes
+-- what an operation depends on besides its bytes
 pub record Context : Type 0 where
   pub encoding : Encoding
   pub offset_bits : ℕ

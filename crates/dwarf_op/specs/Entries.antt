@@ -7,7 +7,7 @@ use Rattle.dwarf_base.specs.declared.common.Encoding.{Encoding}
 use Rattle.dwarf_base.specs.Reads.{offset_size, Text, split_at}
 use Rattle.dwarf_meaning.specs.Operations as meaning
 use Rattle.dwarf_meaning.specs.Decoding.{operands_at, unsigned_at}
-use Rattle.dwarf_meaning.specs.Operands.{as_text, context_of, Layout, Bytes, Leb128, Any, Offset, Register, PieceSize, Form, ref_size}
+use Rattle.dwarf_meaning.specs.Operands.{Layout, Bytes, Leb128, Any, Offset, Register, PieceSize, Form, ref_size}
 use Rattle.dwarf_meaning.specs.Opcodes.{Row, Makes, Unsigned, Invalid, unsigned, signed, sized_block, wasm_row}
 use Rattle.dwarf_op.specs.declared.opcodes.Plain.{Plain}
 use Rattle.dwarf_op.specs.declared.opcodes.Plain.TheVariants as plain
@@ -138,15 +138,15 @@ entry_row encoding opcode entry.Piece = unsigned (Leb128, PieceSize) (λ size. m
 entry_row encoding opcode (entry.Rare rare) = rare_row encoding rare
 
 -- a row's operands at the front of a text
-abbrev pub operands_in : Encoding → (offset_bits : ℕ) → Text → Row → Result (meaning.Operation × List ℕ) Fault
-operands_in encoding offset_bits text row = operands_at (context_of encoding offset_bits text.is_big) row text.bytes
+abbrev pub operands_in : (offset_bits : ℕ) → Text → Row → Result (meaning.Operation × List ℕ) Fault
+operands_in offset_bits text row = operands_at offset_bits text.is_big row text.bytes
 
 -- a register's number at the front
 abbrev pub register_at : List ℕ → Result (ℕ × List ℕ) Fault
 register_at bytes = uleb_at bytes >>= λ number. register_of number.0 >>= λ register. Ok (register, number.1)
 
 -- a size, and then this many bytes
-abbrev pub block_in : Encoding → (offset_bits : ℕ) → Text → Form → Result (Text × List ℕ) Fault
-block_in encoding offset_bits text size =
-    let context = context_of encoding offset_bits text.is_big in
-    unsigned_at context size text.bytes >>= λ n. split_at n.0 n.1 >>= λ block. Ok (as_text context block.0, block.1)
+abbrev pub block_in : (offset_bits : ℕ) → Text → Form → Result (Text × List ℕ) Fault
+block_in offset_bits text size =
+    unsigned_at offset_bits text.is_big size text.bytes >>= λ n. split_at n.0 n.1
+    >>= λ block. Ok (record { bytes = block.0; is_big = text.is_big }, block.1)

@@ -95,7 +95,7 @@ fn offset_operation<R: Reader>(make: FromOffset, offset: R::Offset) -> Operation
 fn read_named_base_register<R: Reader + Copy>(bytes: &mut R) -> Result<Operation<R>>
     ensures { (encoding : Encoding) → Reads (operation_of R.text R.Offset.number)
         (R.text bytes.old) (R.text bytes.new) result
-        (operands_in encoding R.Offset.BITS (R.text bytes.old) (rare_row encoding Rare.NamedBaseRegister)) }
+        (operands_in R.Offset.BITS (R.text bytes.old) (rare_row encoding Rare.NamedBaseRegister)) }
 {
     let base = read_register(bytes)?;
     let offset = read_sleb128(bytes)?;
@@ -112,7 +112,7 @@ fn read_named_base_register<R: Reader + Copy>(bytes: &mut R) -> Result<Operation
 fn read_typed_register<R: Reader + Copy>(bytes: &mut R, encoding: Encoding) -> Result<Operation<R>>
     ensures { Reads (operation_of R.text R.Offset.number)
         (R.text bytes.old) (R.text bytes.new) result
-        (operands_in encoding R.Offset.BITS (R.text bytes.old) (rare_row encoding Rare.TypedRegister)) }
+        (operands_in R.Offset.BITS (R.text bytes.old) (rare_row encoding Rare.TypedRegister)) }
 {
     let register = read_register(bytes)?;
     let base_type = read_offset(Offset::Uleb128, bytes, encoding)?;
@@ -129,7 +129,7 @@ fn read_typed_register<R: Reader + Copy>(bytes: &mut R, encoding: Encoding) -> R
 fn read_piece<R: Reader + Copy>(bytes: &mut R) -> Result<Operation<R>>
     ensures { (encoding : Encoding) → Reads (operation_of R.text R.Offset.number)
         (R.text bytes.old) (R.text bytes.new) result
-        (operands_in encoding R.Offset.BITS (R.text bytes.old) (entry_row encoding 0 Entry.Piece)) }
+        (operands_in R.Offset.BITS (R.text bytes.old) (entry_row encoding 0 Entry.Piece)) }
 {
     let size = read_uleb128(bytes)?;
     let Some(size_in_bits) = size.checked_mul(8) else {
@@ -147,7 +147,7 @@ fn read_piece<R: Reader + Copy>(bytes: &mut R) -> Result<Operation<R>>
 fn read_bit_piece<R: Reader + Copy>(bytes: &mut R) -> Result<Operation<R>>
     ensures { (encoding : Encoding) → Reads (operation_of R.text R.Offset.number)
         (R.text bytes.old) (R.text bytes.new) result
-        (operands_in encoding R.Offset.BITS (R.text bytes.old) (rare_row encoding Rare.BitPiece)) }
+        (operands_in R.Offset.BITS (R.text bytes.old) (rare_row encoding Rare.BitPiece)) }
 {
     let size_in_bits = read_uleb128(bytes)?;
     let bit_offset = read_uleb128(bytes)?;
@@ -163,7 +163,7 @@ fn read_bit_piece<R: Reader + Copy>(bytes: &mut R) -> Result<Operation<R>>
 fn read_typed_literal<R: Reader + Copy>(bytes: &mut R, encoding: Encoding) -> Result<Operation<R>>
     ensures { Reads (operation_of R.text R.Offset.number)
         (R.text bytes.old) (R.text bytes.new) result
-        (operands_in encoding R.Offset.BITS (R.text bytes.old) (rare_row encoding Rare.TypedLiteral)) }
+        (operands_in R.Offset.BITS (R.text bytes.old) (rare_row encoding Rare.TypedLiteral)) }
 {
     let base_type = read_offset(Offset::Uleb128, bytes, encoding)?;
     let value = read_block(Offset::U8, bytes, encoding)?;
@@ -183,7 +183,7 @@ fn read_typed_deref<R: Reader + Copy>(
 ) -> Result<Operation<R>>
     ensures { Reads (operation_of R.text R.Offset.number)
         (R.text bytes.old) (R.text bytes.new) result
-        (operands_in encoding R.Offset.BITS (R.text bytes.old) (rare_row encoding (Rare.TypedDeref space))) }
+        (operands_in R.Offset.BITS (R.text bytes.old) (rare_row encoding (Rare.TypedDeref space))) }
 {
     let size = read_u8(bytes)?;
     let base_type = read_offset(Offset::Uleb128, bytes, encoding)?;
@@ -203,7 +203,7 @@ fn read_implicit_pointer<R: Reader + Copy>(
 ) -> Result<Operation<R>>
     ensures { Reads (operation_of R.text R.Offset.number)
         (R.text bytes.old) (R.text bytes.new) result
-        (operands_in encoding R.Offset.BITS (R.text bytes.old) (rare_row encoding Rare.ImplicitPointer)) }
+        (operands_in R.Offset.BITS (R.text bytes.old) (rare_row encoding Rare.ImplicitPointer)) }
 {
     let value = read_offset(Offset::Reference, bytes, encoding)?;
     let byte_offset = read_sleb128(bytes)?;
@@ -219,7 +219,7 @@ fn read_implicit_pointer<R: Reader + Copy>(
 fn read_wasm_location<R: Reader + Copy>(bytes: &mut R) -> Result<Operation<R>>
     ensures { (encoding : Encoding) → Reads (operation_of R.text R.Offset.number)
         (R.text bytes.old) (R.text bytes.new) result
-        (operands_in encoding R.Offset.BITS (R.text bytes.old) (rare_row encoding Rare.WasmLocation)) }
+        (operands_in R.Offset.BITS (R.text bytes.old) (rare_row encoding Rare.WasmLocation)) }
 {
     match read_u8(bytes)? {
         0 => Ok(Operation::WasmLocal {
@@ -249,7 +249,7 @@ fn read_offset_operation<R: Reader + Copy>(
 ) -> Result<Operation<R>>
     ensures { Reads (operation_of R.text R.Offset.number)
         (R.text bytes.old) (R.text bytes.new) result
-        (operands_in encoding R.Offset.BITS (R.text bytes.old)
+        (operands_in R.Offset.BITS (R.text bytes.old)
         (entry_row encoding 0 (Entry.Offset shape make))) }
 {
     Ok(offset_operation(make, read_offset(shape, bytes, encoding)?))
@@ -265,7 +265,7 @@ fn read_offset_on_copy<R: Reader + Copy>(
 ) -> Result<Operation<R>>
     ensures { Reads (operation_of R.text R.Offset.number)
         (R.text bytes.old) (R.text bytes.new) result
-        (operands_in encoding R.Offset.BITS (R.text bytes.old)
+        (operands_in R.Offset.BITS (R.text bytes.old)
         (entry_row encoding 0 (Entry.Offset shape make))) }
 {
     let mut copy = *bytes;
@@ -284,7 +284,7 @@ fn read_rare_operands<R: Reader + Copy>(
 ) -> Result<Operation<R>>
     ensures { Reads (operation_of R.text R.Offset.number)
         (R.text bytes.old) (R.text bytes.new) result
-        (operands_in encoding R.Offset.BITS (R.text bytes.old) (rare_row encoding entry)) }
+        (operands_in R.Offset.BITS (R.text bytes.old) (rare_row encoding entry)) }
 {
     match entry {
         Rare::Address => Ok(Operation::Address {
@@ -331,7 +331,7 @@ fn read_rare_on_copy<R: Reader + Copy>(
 ) -> Result<Operation<R>>
     ensures { Reads (operation_of R.text R.Offset.number)
         (R.text bytes.old) (R.text bytes.new) result
-        (operands_in encoding R.Offset.BITS (R.text bytes.old) (rare_row encoding entry)) }
+        (operands_in R.Offset.BITS (R.text bytes.old) (rare_row encoding entry)) }
 {
     let mut copy = *bytes;
     let operation = read_rare_operands(entry, &mut copy, encoding);
@@ -349,7 +349,7 @@ fn read_operands<R: Reader + Copy>(
 ) -> Result<Operation<R>>
     ensures { Reads (operation_of R.text R.Offset.number)
         (R.text bytes.old) (R.text bytes.new) result
-        (operands_in encoding R.Offset.BITS (R.text bytes.old) (entry_row encoding opcode entry)) }
+        (operands_in R.Offset.BITS (R.text bytes.old) (entry_row encoding opcode entry)) }
 {
     match entry {
         Entry::Unknown => Err(Error::InvalidExpression(DwOp(opcode))),

@@ -1,10 +1,8 @@
 //! Reading the operands after an opcode, a function for each shape (DWARF 5, section 7.7.1).
 
 ghost use Rattle.std.specs.Prelude.{◌≡◌, ◌<◌, pos, neg_ℤ, ◌≤ℤ◌, ◌<ℤ◌};
-ghost use Rattle.dwarf_base.specs.declared.common.Encoding.{Encoding};
 ghost use Rattle.dwarf_base.specs.Leb.{uleb_at, sleb_at, sign_extended};
 ghost use Rattle.dwarf_base.specs.Reads.{Reads, fixed_at, signed_at};
-ghost use Rattle.dwarf_meaning.specs.Operands.{context_of};
 ghost use Rattle.dwarf_meaning.specs.Decoding.{unsigned_at, integer_at};
 ghost use Rattle.dwarf_op.specs.Entries.{
   block_in,
@@ -131,8 +129,8 @@ fn read_long_sleb128<R: Reader>(bytes: &mut R) -> Result<i64>
 // An unsigned number.
 #[inline(always)]
 pub(crate) fn read_unsigned<R: Reader + Copy>(shape: Unsigned, bytes: &mut R) -> Result<u64>
-    ensures { (encoding : Encoding) → Reads (λ n. n) (R.text bytes.old) (R.text bytes.new) result
-        (unsigned_at (context_of encoding R.Offset.BITS (R.text bytes.old).is_big)
+    ensures { Reads (λ n. n) (R.text bytes.old) (R.text bytes.new) result
+        (unsigned_at R.Offset.BITS (R.text bytes.old).is_big
         (unsigned_form shape) (R.text bytes.old).bytes) }
 {
     match shape {
@@ -167,7 +165,7 @@ pub(crate) fn read_offset<R: Reader + Copy>(
     encoding: Encoding,
 ) -> Result<R::Offset>
     ensures { Reads R.Offset.number (R.text bytes.old) (R.text bytes.new) result
-        (unsigned_at (context_of encoding R.Offset.BITS (R.text bytes.old).is_big)
+        (unsigned_at R.Offset.BITS (R.text bytes.old).is_big
         (offset_form encoding shape) (R.text bytes.old).bytes) }
 {
     match shape {
@@ -212,7 +210,7 @@ pub(crate) fn read_block<R: Reader + Copy>(
     encoding: Encoding,
 ) -> Result<R>
     ensures { Reads R.text (R.text bytes.old) (R.text bytes.new) result
-        (block_in encoding R.Offset.BITS (R.text bytes.old) (offset_form encoding size)) }
+        (block_in R.Offset.BITS (R.text bytes.old) (offset_form encoding size)) }
 {
     let size = read_offset(size, bytes, encoding)?;
     bytes.split(size)

@@ -14,13 +14,13 @@ pub returns-in-WasmLocation : goal.returns-in-WasmLocation
 returns-in-WasmLocation g c = rw c.in-WasmLocation.is (c.read_wasm_location.ensures c.args.encoding)
 
 pub returns-in_err-read_block-in-ImplicitValue : goal.returns-in_err-read_block-in-ImplicitValue
-returns-in_err-read_block-in-ImplicitValue g c = let read = reads_block ImplicitValue c.args.encoding g.R.Offset.ReaderOffset.BITS (Leb128, Offset) c.in_err-read_block-in-ImplicitValue.ensures in search (rules, read)
+returns-in_err-read_block-in-ImplicitValue g c = let read = reads_block ImplicitValue g.R.Offset.ReaderOffset.BITS (Leb128, Offset) c.in_err-read_block-in-ImplicitValue.ensures in search (rules, read)
 
 pub returns-in_ok-read_block-in-ImplicitValue : goal.returns-in_ok-read_block-in-ImplicitValue
-returns-in_ok-read_block-in-ImplicitValue g c = let read = reads_block ImplicitValue c.args.encoding g.R.Offset.ReaderOffset.BITS (Leb128, Offset) c.in_ok-read_block-in-ImplicitValue.ensures in search (rules, read)
+returns-in_ok-read_block-in-ImplicitValue g c = let read = reads_block ImplicitValue g.R.Offset.ReaderOffset.BITS (Leb128, Offset) c.in_ok-read_block-in-ImplicitValue.ensures in search (rules, read)
 
 pub returns-in_err-read_block-in-EntryValue : goal.returns-in_err-read_block-in-EntryValue
-returns-in_err-read_block-in-EntryValue g c = let read = reads_block EntryValue c.args.encoding g.R.Offset.ReaderOffset.BITS (Leb128, Offset) c.in_err-read_block-in-EntryValue.ensures in search (rules, read)
+returns-in_err-read_block-in-EntryValue g c = let read = reads_block EntryValue g.R.Offset.ReaderOffset.BITS (Leb128, Offset) c.in_err-read_block-in-EntryValue.ensures in search (rules, read)
 
 pub returns-in_ok-read_block-in-EntryValue : goal.returns-in_ok-read_block-in-EntryValue
-returns-in_ok-read_block-in-EntryValue g c = let read = reads_block EntryValue c.args.encoding g.R.Offset.ReaderOffset.BITS (Leb128, Offset) c.in_ok-read_block-in-EntryValue.ensures in search (rules, read)
+returns-in_ok-read_block-in-EntryValue g c = let read = reads_block EntryValue g.R.Offset.ReaderOffset.BITS (Leb128, Offset) c.in_ok-read_block-in-EntryValue.ensures in search (rules, read)

@@ -5,7 +5,7 @@ use Rattle.dwarf_base.specs.Faults.{Fault}
 use Rattle.dwarf_base.specs.declared.errors.Error.TheVariants.{UnsupportedOffset, UnsupportedRegister, InvalidPieceSize, BadUnsignedLeb128}
 use Rattle.dwarf_base.specs.Leb.{LebForm, MalformedLeb, unsigned_leb, signed_leb}
 use Rattle.dwarf_base.specs.Reads.{Text}
-use Rattle.dwarf_meaning.specs.Operands.{Context, as_text, Layout, Range, Any, Offset, Register, PieceSize, U32, Form, operand_value, context_of}
+use Rattle.dwarf_meaning.specs.Operands.{Context, as_text, Layout, Range, Any, Offset, Register, PieceSize, U32, operand_value, context_of}
 use Rattle.dwarf_meaning.specs.Opcodes.{Row}
 use Rattle.dwarf_meaning.specs.Decoding.{operation_at}
 use Rattle.dwarf_meaning.specs.Spelling.{MalformedNumber, MalformedUnsigned, MalformedInteger, MalformedOperands, Malformed}
@@ -35,7 +35,7 @@ value_fault bits Register number fault e = limit_fault (nat_lt number 65536) num
 value_fault bits PieceSize number fault e = limit_fault (nat_lt (8 * number) (2 ^ 64)) number (InvalidPieceSize number) fault tt e
 value_fault bits U32 number fault e = limit_fault (nat_lt number (2 ^ 32)) number BadUnsignedLeb128 fault tt e
 
-unsigned_fault : (context : Context) (form : Form) (bytes : List ℕ) (fault : Fault) → MalformedUnsigned context form bytes fault → IsDecodingFault fault
+unsigned_fault : (context : Context) (form : Layout × Range) (bytes : List ℕ) (fault : Fault) → MalformedUnsigned context form bytes fault → IsDecodingFault fault
 unsigned_fault context form bytes fault (spelling.no_number bytes' fault' r) = number_fault _ _ bytes' fault' r
 unsigned_fault context form bytes fault (spelling.out_of_range front rest number fault' s e) = value_fault context.offset_bits form.1 number fault' e
 

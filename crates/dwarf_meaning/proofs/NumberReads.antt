@@ -5,7 +5,7 @@ use Rattle.dwarf_base.specs.declared.errors.Error.TheVariants.{UnsupportedAddres
 use Rattle.dwarf_base.specs.Leb.{SpellsLeb, MalformedLeb, unsigned_leb, signed_leb, sleb_at}
 use Rattle.dwarf_base.specs.Numbers.{number_of, signed_of}
 use Rattle.dwarf_base.specs.Reads.{split_at, fixed_at, signed_at, address_at, is_fixed_size}
-use Rattle.dwarf_meaning.specs.Operands.{Context, Layout, Bytes, Leb128, Form, operand_value}
+use Rattle.dwarf_meaning.specs.Operands.{Context, Layout, Range, Bytes, Leb128, operand_value}
 use Rattle.dwarf_meaning.specs.Decoding.{number_at, unsigned_at, integer_at}
 use Rattle.dwarf_meaning.specs.Spelling.{SpellsNumber, MalformedNumber, SpellsInteger, MalformedInteger, SpellsUnsigned, MalformedUnsigned}
 use Rattle.dwarf_meaning.specs.Spelling as spelling
@@ -106,7 +106,7 @@ reads_number big Leb128 =
 
 -- ---- unsigned operands
 
-module _ (context : Context) (form : Form) where
+module _ (context : Context) (form : Layout × Range) where
   abbrev Spelled : List ℕ → ℕ → Type 0
   Spelled = SpellsNumber context.is_big form.0
 

@@ -5,7 +5,7 @@ use Rattle.dwarf_base.specs.Faults.{Fault, invalid_expression, ◌>>=◌}
 use Rattle.dwarf_base.specs.Leb.{uleb_at, sleb_at}
 use Rattle.dwarf_base.specs.Reads.{u8_at, signed_at, address_at, split_at, Text}
 use Rattle.dwarf_meaning.specs.Operations.{Operation}
-use Rattle.dwarf_meaning.specs.Operands.{Context, as_text, Layout, Bytes, Leb128, Form, operand_value}
+use Rattle.dwarf_meaning.specs.Operands.{Context, as_text, Layout, Range, Bytes, Leb128, operand_value}
 use Rattle.dwarf_meaning.specs.Opcodes.{Row, Makes, Unsigned, Signed, Block, Invalid, row_of}
 
 -- An unsigned number in its layout. Only an address can have another size than 1, 2, 4 or 8 bytes: a fault.
@@ -20,7 +20,7 @@ integer_at big Leb128 bytes = sleb_at bytes
 
 module _ (offset_bits : ℕ) (big : Bool) where
   -- an unsigned operand
-  abbrev pub unsigned_at : Form → List ℕ → Result (ℕ × List ℕ) Fault
+  abbrev pub unsigned_at : Layout × Range → List ℕ → Result (ℕ × List ℕ) Fault
   unsigned_at (layout, range) bytes =
       number_at big layout bytes >>= λ x. operand_value offset_bits range x.0 >>= λ value. Ok (value, x.1)
 

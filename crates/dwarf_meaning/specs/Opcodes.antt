@@ -4,19 +4,19 @@ use Rattle.dwarf_base.specs.declared.common.Encoding.{Encoding}
 use Rattle.dwarf_base.specs.Reads.{offset_size, Text}
 use Rattle.dwarf_meaning.specs.Operations as operation
 use Rattle.dwarf_meaning.specs.Operations.{Operation, UnitRef, DebugInfoRef}
-use Rattle.dwarf_meaning.specs.Operands.{Layout, Bytes, Leb128, Any, Offset, Register, PieceSize, U32, Form, ref_size}
+use Rattle.dwarf_meaning.specs.Operands.{Layout, Range, Bytes, Leb128, Any, Offset, Register, PieceSize, U32, ref_size}
 use Rattle.dwarf_value.specs.Values.{Abs, Neg, Not, Plus, Minus, Mul, Div, Mod, And, Or, Xor, Shl, Shr, Shra, Eq, Ne, Lt, Le, Gt, Ge}
 
 -- What follows an opcode: operands in order, then the operation that their values make; or the opcode has no operation.
 pub data Row : Type 0 where
   Makes : Operation → Row
-  Unsigned : Form → (ℕ → Row) → Row
+  Unsigned : Layout × Range → (ℕ → Row) → Row
   Signed : Layout → (ℤ → Row) → Row
   Block : (size : ℕ) → (Text → Row) → Row
   Invalid : (opcode : ℕ) → Row
 
 -- one unsigned operand
-abbrev pub unsigned : Form → (ℕ → Operation) → Row
+abbrev pub unsigned : Layout × Range → (ℕ → Operation) → Row
 unsigned form make = Unsigned form (λ number. Makes (make number))
 
 -- one signed operand
@@ -24,7 +24,7 @@ abbrev pub signed : Layout → (ℤ → Operation) → Row
 signed layout make = Signed layout (λ number. Makes (make number))
 
 -- a size and then this many bytes
-abbrev pub sized_block : Form → (Text → Operation) → Row
+abbrev pub sized_block : Layout × Range → (Text → Operation) → Row
 sized_block form make = Unsigned form (λ size. Block size (λ block. Makes (make block)))
 
 -- some opcodes, and the row of each

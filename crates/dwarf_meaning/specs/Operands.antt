@@ -25,13 +25,9 @@ pub data Layout : Type 0 where
   Bytes : (size : ℕ) → Layout
   Leb128 : Layout
 
--- which numbers an operand may be
+-- which unsigned numbers an operand may be
 pub data Range : Type 0 where
   Any Offset Register PieceSize U32 : Range
-
--- an operand that is an unsigned number: its layout and its range
-abbrev pub Form : Type 0
-Form = Layout × Range
 
 -- how many bytes a reference into `.debug_info` has: in version 2 of DWARF, as many as an address
 abbrev pub ref_size : Encoding → ℕ

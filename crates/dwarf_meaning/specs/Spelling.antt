@@ -7,7 +7,7 @@ use Rattle.dwarf_base.specs.Leb.{SpellsLeb, MalformedLeb, unsigned_leb, signed_l
 use Rattle.dwarf_base.specs.Numbers.{number_of, signed_of}
 use Rattle.dwarf_base.specs.Reads.{is_fixed_size, Text}
 use Rattle.dwarf_meaning.specs.Operations.{Operation}
-use Rattle.dwarf_meaning.specs.Operands.{Context, as_text, Layout, Bytes, Leb128, Form, operand_value}
+use Rattle.dwarf_meaning.specs.Operands.{Context, as_text, Layout, Range, Bytes, Leb128, operand_value}
 use Rattle.dwarf_meaning.specs.Opcodes.{Row, Makes, Unsigned, Signed, Block, Invalid, row_of}
 
 -- the bytes spell the unsigned number
@@ -41,13 +41,13 @@ pub data MalformedInteger (big : Bool) : Layout → List ℕ → Fault → Type 
       → MalformedInteger big Leb128 bytes fault
 
 -- the bytes spell an unsigned operand with this value
-pub data SpellsUnsigned (context : Context) (form : Form) : List ℕ → ℕ → Type 0 where
+pub data SpellsUnsigned (context : Context) (form : Layout × Range) : List ℕ → ℕ → Type 0 where
   in_range : (bytes : List ℕ) (number value : ℕ)
       → SpellsNumber context.is_big form.0 bytes number → operand_value context.offset_bits form.1 number ≡ Ok value
       → SpellsUnsigned context form bytes value
 
 -- no front of the bytes spells a number, or one does that is out of the operand's range
-pub data MalformedUnsigned (context : Context) (form : Form) : List ℕ → Fault → Type 0 where
+pub data MalformedUnsigned (context : Context) (form : Layout × Range) : List ℕ → Fault → Type 0 where
   no_number : (bytes : List ℕ) (fault : Fault) → MalformedNumber context.is_big form.0 bytes fault
       → MalformedUnsigned context form bytes fault
   out_of_range : (front rest : List ℕ) (number : ℕ) (fault : Fault)
@@ -57,7 +57,7 @@ pub data MalformedUnsigned (context : Context) (form : Form) : List ℕ → Faul
 -- the bytes are the spellings of a row's operands, joined in order, which make the operation
 pub data SpellsOperands (context : Context) : Row → List ℕ → Operation → Type 0 where
   makes : (op : Operation) → SpellsOperands context (Makes op) [] op
-  unsigned : (form : Form) (next : ℕ → Row) (front rest : List ℕ) (value : ℕ) (op : Operation)
+  unsigned : (form : Layout × Range) (next : ℕ → Row) (front rest : List ℕ) (value : ℕ) (op : Operation)
       → SpellsUnsigned context form front value → SpellsOperands context (next value) rest op
       → SpellsOperands context (Unsigned form next) (front ++ rest) op
   signed : (layout : Layout) (next : ℤ → Row) (front rest : List ℕ) (value : ℤ) (op : Operation)
@@ -70,9 +70,9 @@ pub data SpellsOperands (context : Context) : Row → List ℕ → Operation →
 -- The first of a row's operands that isn't allowed has this fault: those before it are spelled, and it is malformed.
 pub data MalformedOperands (context : Context) : Row → List ℕ → Fault → Type 0 where
   invalid : (opcode : ℕ) (bytes : List ℕ) → MalformedOperands context (Invalid opcode) bytes (invalid_expression opcode)
-  unsigned_here : (form : Form) (next : ℕ → Row) (bytes : List ℕ) (fault : Fault)
+  unsigned_here : (form : Layout × Range) (next : ℕ → Row) (bytes : List ℕ) (fault : Fault)
       → MalformedUnsigned context form bytes fault → MalformedOperands context (Unsigned form next) bytes fault
-  unsigned_after : (form : Form) (next : ℕ → Row) (front rest : List ℕ) (value : ℕ) (fault : Fault)
+  unsigned_after : (form : Layout × Range) (next : ℕ → Row) (front rest : List ℕ) (value : ℕ) (fault : Fault)
       → SpellsUnsigned context form front value → MalformedOperands context (next value) rest fault
       → MalformedOperands context (Unsigned form next) (front ++ rest) fault
   signed_here : (layout : Layout) (next : ℤ → Row) (bytes : List ℕ) (fault : Fault)

@@ -4,7 +4,7 @@ use Rattle.dwarf_base.specs.declared.errors.Error.{Error}
 use Rattle.dwarf_base.specs.Faults.{Fault, ◌>>=◌}
 use Rattle.dwarf_base.specs.Reads.{Text, Gives, Reads, split_at}
 use Rattle.dwarf_meaning.specs.Operations.{Operation}
-use Rattle.dwarf_meaning.specs.Operands.{Form}
+use Rattle.dwarf_meaning.specs.Operands.{Layout, Range}
 use Rattle.dwarf_meaning.specs.Opcodes.{sized_block}
 use Rattle.dwarf_meaning.specs.Decoding.{unsigned_at}
 use Rattle.dwarf_op.specs.Entries.{block_in, operands_in}
@@ -32,7 +32,7 @@ module _ (make : Text → Operation) where
     made_by (Err fault) = refl
 
   pub reads_block : {X : Type 0} {view : X → Text} {old new : Text} {result : Result X Error}
-      (offset_bits : ℕ) (form : Form) → Reads view old new result (block_in offset_bits old form)
+      (offset_bits : ℕ) (form : Layout × Range) → Reads view old new result (block_in offset_bits old form)
       → Reads (λ x. make (view x)) old new result (operands_in offset_bits old (sized_block form make))
   reads_block {X} {view} {old} {new} {result} offset_bits form h =
       record { value = gives result h.value; rest = h.rest; order = h.order }

@@ -7,7 +7,7 @@ use Rattle.dwarf_base.specs.declared.common.Encoding.{Encoding}
 use Rattle.dwarf_base.specs.Reads.{offset_size, Text, split_at}
 use Rattle.dwarf_meaning.specs.Operations as meaning
 use Rattle.dwarf_meaning.specs.Decoding.{operands_at, unsigned_at}
-use Rattle.dwarf_meaning.specs.Operands.{Layout, Bytes, Leb128, Any, Offset, Register, PieceSize, Form, ref_size}
+use Rattle.dwarf_meaning.specs.Operands.{Layout, Range, Bytes, Leb128, Any, Offset, Register, PieceSize, ref_size}
 use Rattle.dwarf_meaning.specs.Opcodes.{Row, Makes, Unsigned, Invalid, unsigned, signed, sized_block, wasm_row}
 use Rattle.dwarf_op.specs.declared.opcodes.Plain.{Plain}
 use Rattle.dwarf_op.specs.declared.opcodes.Plain.TheVariants as plain
@@ -57,15 +57,15 @@ plain_operation plain.CallFrameCFA = meaning.CallFrameCFA
 plain_operation plain.StackValue = meaning.StackValue
 plain_operation plain.Uninitialized = meaning.Uninitialized
 
--- the form of an unsigned operand
-abbrev pub unsigned_form : shapes.Unsigned → Form
+-- the layout and the range of an unsigned operand
+abbrev pub unsigned_form : shapes.Unsigned → Layout × Range
 unsigned_form unsigned_shape.U8 = (Bytes 1, Any)
 unsigned_form unsigned_shape.U16 = (Bytes 2, Any)
 unsigned_form unsigned_shape.U32 = (Bytes 4, Any)
 unsigned_form unsigned_shape.U64 = (Bytes 8, Any)
 unsigned_form unsigned_shape.Uleb128 = (Leb128, Any)
 
--- the form of a signed operand
+-- the layout of a signed operand
 abbrev pub signed_form : signed_shapes.Signed → Layout
 signed_form signed_shape.I8 = Bytes 1
 signed_form signed_shape.I16 = Bytes 2
@@ -73,8 +73,8 @@ signed_form signed_shape.I32 = Bytes 4
 signed_form signed_shape.I64 = Bytes 8
 signed_form signed_shape.Sleb128 = Leb128
 
--- the form of an offset
-abbrev pub offset_form : Encoding → offset_shapes.Offset → Form
+-- the layout and the range of an offset
+abbrev pub offset_form : Encoding → offset_shapes.Offset → Layout × Range
 offset_form encoding offset_shape.U8 = (Bytes 1, Any)
 offset_form encoding offset_shape.U16 = (Bytes 2, Any)
 offset_form encoding offset_shape.U32 = (Bytes 4, Any)
@@ -146,7 +146,7 @@ abbrev pub register_at : List ℕ → Result (ℕ × List ℕ) Fault
 register_at bytes = uleb_at bytes >>= λ number. register_of number.0 >>= λ register. Ok (register, number.1)
 
 -- a size, and then this many bytes
-abbrev pub block_in : (offset_bits : ℕ) → Text → Form → Result (Text × List ℕ) Fault
+abbrev pub block_in : (offset_bits : ℕ) → Text → Layout × Range → Result (Text × List ℕ) Fault
 block_in offset_bits text size =
     unsigned_at offset_bits text.is_big size text.bytes >>= λ n. split_at n.0 n.1
     >>= λ block. Ok (record { bytes = block.0; is_big = text.is_big }, block.1)

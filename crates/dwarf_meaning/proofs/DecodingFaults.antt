@@ -19,10 +19,10 @@ leb_fault form bytes fault h r = elim r [
   | inr long ↦ subst IsDecodingFault (sym long.1) h
 ]
 
-number_fault : (big : Bool) (layout : Layout) (bytes : List ℕ) (fault : Fault) → MalformedNumber big layout bytes fault → IsDecodingFault fault
-number_fault big layout bytes fault (spelling.few_bytes size bytes' good less) = refl
-number_fault big layout bytes fault (spelling.address_size size bytes' bad) = tt
-number_fault big layout bytes fault (spelling.no_leb128 bytes' fault' r) = leb_fault unsigned_leb bytes' fault' tt r
+number_fault : (layout : Layout) (bytes : List ℕ) (fault : Fault) → MalformedNumber layout bytes fault → IsDecodingFault fault
+number_fault layout bytes fault (spelling.few_bytes size bytes' good less) = refl
+number_fault layout bytes fault (spelling.address_size size bytes' bad) = tt
+number_fault layout bytes fault (spelling.no_leb128 bytes' fault' r) = leb_fault unsigned_leb bytes' fault' tt r
 
 limit_fault : (fits : Bool) (number : ℕ) (bad fault : Fault) → IsDecodingFault bad → cond fits (Ok number) (Err bad) ≡ Err fault → IsDecodingFault fault
 limit_fault true number bad fault h e = absurd cc
@@ -36,18 +36,18 @@ value_fault bits PieceSize number fault e = limit_fault (nat_lt (8 * number) (2 
 value_fault bits U32 number fault e = limit_fault (nat_lt number (2 ^ 32)) number BadUnsignedLeb128 fault tt e
 
 unsigned_fault : (context : Context) (form : Layout × Range) (bytes : List ℕ) (fault : Fault) → MalformedUnsigned context form bytes fault → IsDecodingFault fault
-unsigned_fault context form bytes fault (spelling.no_number bytes' fault' r) = number_fault _ _ bytes' fault' r
+unsigned_fault context form bytes fault (spelling.no_number bytes' fault' r) = number_fault _ bytes' fault' r
 unsigned_fault context form bytes fault (spelling.out_of_range front rest number fault' s e) = value_fault context.offset_bits form.1 number fault' e
 
-integer_fault : (big : Bool) (layout : Layout) (bytes : List ℕ) (fault : Fault) → MalformedInteger big layout bytes fault → IsDecodingFault fault
-integer_fault big layout bytes fault (spelling.few_signed_bytes size bytes' less) = refl
-integer_fault big layout bytes fault (spelling.no_signed_leb128 bytes' fault' r) = leb_fault signed_leb bytes' fault' tt r
+integer_fault : (layout : Layout) (bytes : List ℕ) (fault : Fault) → MalformedInteger layout bytes fault → IsDecodingFault fault
+integer_fault layout bytes fault (spelling.few_signed_bytes size bytes' less) = refl
+integer_fault layout bytes fault (spelling.no_signed_leb128 bytes' fault' r) = leb_fault signed_leb bytes' fault' tt r
 
 operands_fault : (context : Context) (row : Row) (bytes : List ℕ) (fault : Fault) → MalformedOperands context row bytes fault → IsDecodingFault fault
 operands_fault context row bytes fault (spelling.invalid opcode bytes') = tt
 operands_fault context row bytes fault (spelling.unsigned_here form next bytes' fault' r) = unsigned_fault context form bytes' fault' r
 operands_fault context row bytes fault (spelling.unsigned_after form next front rest value fault' s r) = operands_fault context (next value) rest fault' r
-operands_fault context row bytes fault (spelling.signed_here form next bytes' fault' r) = integer_fault _ form bytes' fault' r
+operands_fault context row bytes fault (spelling.signed_here form next bytes' fault' r) = integer_fault form bytes' fault' r
 operands_fault context row bytes fault (spelling.signed_after form next front rest value fault' s r) = operands_fault context (next value) rest fault' r
 operands_fault context row bytes fault (spelling.block_here size next bytes' less) = refl
 operands_fault context row bytes fault (spelling.block_after next front rest fault' r) = operands_fault context (next (as_text context front)) rest fault' r

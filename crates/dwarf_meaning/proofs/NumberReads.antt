@@ -60,49 +60,49 @@ bytes_spelled big size good bytes number s =
 bytes_spelling : (big : Bool) (size : ℕ) (bytes : List ℕ) (number : ℕ) → SpellsNumber big (Bytes size) bytes number → FixedSpelling big size bytes number
 bytes_spelling big size bytes number (spelling.in_bytes bytes' good) = fixed_spelling big bytes'
 
-bytes_refused : (big : Bool) (size : ℕ) → is_fixed_size size ≡ true → (bytes : List ℕ) (fault : Fault) → FixedRefusal big size bytes fault → MalformedNumber big (Bytes size) bytes fault
+bytes_refused : (big : Bool) (size : ℕ) → is_fixed_size size ≡ true → (bytes : List ℕ) (fault : Fault) → FixedRefusal big size bytes fault → MalformedNumber (Bytes size) bytes fault
 bytes_refused big size good bytes fault r =
     let f = fixed_few big size bytes fault r in
-    subst (MalformedNumber big (Bytes size) bytes) (sym f.1) (spelling.few_bytes size bytes good f.0)
+    subst (MalformedNumber (Bytes size) bytes) (sym f.1) (spelling.few_bytes size bytes good f.0)
 
-bytes_refusal : (big : Bool) (size : ℕ) → is_fixed_size size ≡ true → (bytes : List ℕ) (fault : Fault) → MalformedNumber big (Bytes size) bytes fault → FixedRefusal big size bytes fault
+bytes_refusal : (big : Bool) (size : ℕ) → is_fixed_size size ≡ true → (bytes : List ℕ) (fault : Fault) → MalformedNumber (Bytes size) bytes fault → FixedRefusal big size bytes fault
 bytes_refusal big size good bytes fault (spelling.few_bytes size' bytes' good' h) = fixed_refusal big size bytes h
 bytes_refusal big size good bytes fault (spelling.address_size size' bytes' bad) = absurd cc
 
 no_address : (big : Bool) (size number : ℕ) (bytes : List ℕ) → is_fixed_size size ≡ false → SpellsNumber big (Bytes size) bytes number → ⊥
 no_address big size number bytes bad (spelling.in_bytes bytes' good) = cc
 
-only_size : (big : Bool) (size : ℕ) (bytes : List ℕ) (fault : Fault) → is_fixed_size size ≡ false → MalformedNumber big (Bytes size) bytes fault → ◌≡◌ {A = Reading ℕ} (Err (UnsupportedAddressSize size)) (Err fault)
+only_size : (big : Bool) (size : ℕ) (bytes : List ℕ) (fault : Fault) → is_fixed_size size ≡ false → MalformedNumber (Bytes size) bytes fault → ◌≡◌ {A = Reading ℕ} (Err (UnsupportedAddressSize size)) (Err fault)
 only_size big size bytes fault bad (spelling.few_bytes size' bytes' good h) = absurd cc
 only_size big size bytes fault bad (spelling.address_size size' bytes' bad') = refl
 
 -- an address of a size that none has
-bad_address : (big : Bool) (size : ℕ) → is_fixed_size size ≡ false → ReadsExactly (λ bytes. Err (UnsupportedAddressSize size)) (SpellsNumber big (Bytes size)) (MalformedNumber big (Bytes size))
+bad_address : (big : Bool) (size : ℕ) → is_fixed_size size ≡ false → ReadsExactly (λ bytes. Err (UnsupportedAddressSize size)) (SpellsNumber big (Bytes size)) (MalformedNumber (Bytes size))
 bad_address big size bad = record {
   gives = λ front number rest s. absurd (no_address big size number front bad s);
   found = λ bytes number rest e. absurd cc;
   refuses = λ bytes fault r. only_size big size bytes fault bad r;
-  refused = λ bytes fault e. let same : UnsupportedAddressSize size ≡ fault = cc in subst (MalformedNumber big (Bytes size) bytes) same (spelling.address_size size bytes bad);
+  refused = λ bytes fault e. let same : UnsupportedAddressSize size ≡ fault = cc in subst (MalformedNumber (Bytes size) bytes) same (spelling.address_size size bytes bad);
   cut_off = λ before byte after number s. absurd (no_address big size number (before ++ (byte ∷ after)) bad s);
 }
 
-reads_address : (big : Bool) (size : ℕ) (good : Bool) → is_fixed_size size ≡ good → ReadsExactly (address_at big size) (SpellsNumber big (Bytes size)) (MalformedNumber big (Bytes size))
+reads_address : (big : Bool) (size : ℕ) (good : Bool) → is_fixed_size size ≡ good → ReadsExactly (address_at big size) (SpellsNumber big (Bytes size)) (MalformedNumber (Bytes size))
 reads_address big size true e =
-    let h = reads_as (fixed_at big size) (FixedSpelling big size) (SpellsNumber big (Bytes size)) (FixedRefusal big size) (MalformedNumber big (Bytes size)) (reads_fixed big size) (bytes_spelled big size e) (bytes_spelling big size) (bytes_refused big size e) (bytes_refusal big size e) in
-    subst (λ (good : Bool). ReadsExactly (λ bytes. cond good (fixed_at big size bytes) (Err (UnsupportedAddressSize size))) (SpellsNumber big (Bytes size)) (MalformedNumber big (Bytes size))) (sym e) h
+    let h = reads_as (fixed_at big size) (FixedSpelling big size) (SpellsNumber big (Bytes size)) (FixedRefusal big size) (MalformedNumber (Bytes size)) (reads_fixed big size) (bytes_spelled big size e) (bytes_spelling big size) (bytes_refused big size e) (bytes_refusal big size e) in
+    subst (λ (good : Bool). ReadsExactly (λ bytes. cond good (fixed_at big size bytes) (Err (UnsupportedAddressSize size))) (SpellsNumber big (Bytes size)) (MalformedNumber (Bytes size))) (sym e) h
 reads_address big size false e =
-    subst (λ (good : Bool). ReadsExactly (λ bytes. cond good (fixed_at big size bytes) (Err (UnsupportedAddressSize size))) (SpellsNumber big (Bytes size)) (MalformedNumber big (Bytes size))) (sym e) (bad_address big size e)
+    subst (λ (good : Bool). ReadsExactly (λ bytes. cond good (fixed_at big size bytes) (Err (UnsupportedAddressSize size))) (SpellsNumber big (Bytes size)) (MalformedNumber (Bytes size))) (sym e) (bad_address big size e)
 
 leb_spelling : (big : Bool) (bytes : List ℕ) (number : ℕ) → SpellsNumber big Leb128 bytes number → SpellsLeb unsigned_leb bytes number
 leb_spelling big bytes number (spelling.in_leb128 bytes' number' s) = s
 
-leb_refusal : (big : Bool) (bytes : List ℕ) (fault : Fault) → MalformedNumber big Leb128 bytes fault → MalformedLeb unsigned_leb bytes fault
+leb_refusal : (big : Bool) (bytes : List ℕ) (fault : Fault) → MalformedNumber Leb128 bytes fault → MalformedLeb unsigned_leb bytes fault
 leb_refusal big bytes fault (spelling.no_leb128 bytes' fault' r) = r
 
-pub reads_number : (big : Bool) (layout : Layout) → ReadsExactly (number_at big layout) (SpellsNumber big layout) (MalformedNumber big layout)
+pub reads_number : (big : Bool) (layout : Layout) → ReadsExactly (number_at big layout) (SpellsNumber big layout) (MalformedNumber layout)
 reads_number big (Bytes size) = reads_address big size (is_fixed_size size) refl
 reads_number big Leb128 =
-    reads_as (number_at big Leb128) (SpellsLeb unsigned_leb) (SpellsNumber big Leb128) (MalformedLeb unsigned_leb) (MalformedNumber big Leb128) reads_uleb (λ bytes number s. spelling.in_leb128 bytes number s) (leb_spelling big) (λ bytes fault r. spelling.no_leb128 bytes fault r) (leb_refusal big)
+    reads_as (number_at big Leb128) (SpellsLeb unsigned_leb) (SpellsNumber big Leb128) (MalformedLeb unsigned_leb) (MalformedNumber Leb128) reads_uleb (λ bytes number s. spelling.in_leb128 bytes number s) (leb_spelling big) (λ bytes fault r. spelling.no_leb128 bytes fault r) (leb_refusal big)
 
 -- ---- unsigned operands
 
@@ -111,7 +111,7 @@ module _ (context : Context) (form : Layout × Range) where
   Spelled = SpellsNumber context.is_big form.0
 
   abbrev Refusing : List ℕ → Fault → Type 0
-  Refusing = MalformedNumber context.is_big form.0
+  Refusing = MalformedNumber form.0
 
   abbrev check : ℕ → Result ℕ Fault
   check = operand_value context.offset_bits form.1
@@ -151,25 +151,25 @@ signed_spelled big size bytes value (passes bytes' number value' s e) =
 signed_spelling : (big : Bool) (size : ℕ) (bytes : List ℕ) (value : ℤ) → SpellsInteger big (Bytes size) bytes value → Passes (FixedSpelling big size) (integer_in size) bytes value
 signed_spelling big size bytes value (spelling.in_signed_bytes bytes') = passes bytes (number_of big bytes) value (fixed_spelling big bytes) refl
 
-signed_refused : (big : Bool) (size : ℕ) (bytes : List ℕ) (fault : Fault) → Fails (FixedSpelling big size) (FixedRefusal big size) (integer_in size) bytes fault → MalformedInteger big (Bytes size) bytes fault
+signed_refused : (big : Bool) (size : ℕ) (bytes : List ℕ) (fault : Fault) → Fails (FixedSpelling big size) (FixedRefusal big size) (integer_in size) bytes fault → MalformedInteger (Bytes size) bytes fault
 signed_refused big size bytes fault (unread bytes' fault' r) =
     let f = fixed_few big size bytes fault r in
-    subst (MalformedInteger big (Bytes size) bytes) (sym f.1) (spelling.few_signed_bytes size bytes f.0)
+    subst (MalformedInteger (Bytes size) bytes) (sym f.1) (spelling.few_signed_bytes size bytes f.0)
 signed_refused big size bytes fault (unfit front rest number fault' s e) = absurd cc
 
-signed_refusal : (big : Bool) (size : ℕ) (bytes : List ℕ) (fault : Fault) → MalformedInteger big (Bytes size) bytes fault → Fails (FixedSpelling big size) (FixedRefusal big size) (integer_in size) bytes fault
+signed_refusal : (big : Bool) (size : ℕ) (bytes : List ℕ) (fault : Fault) → MalformedInteger (Bytes size) bytes fault → Fails (FixedSpelling big size) (FixedRefusal big size) (integer_in size) bytes fault
 signed_refusal big size bytes fault (spelling.few_signed_bytes size' bytes' h) = unread bytes fault (fixed_refusal big size bytes h)
 
 sleb_spelling : (big : Bool) (bytes : List ℕ) (value : ℤ) → SpellsInteger big Leb128 bytes value → SpellsLeb signed_leb bytes value
 sleb_spelling big bytes value (spelling.in_signed_leb128 bytes' value' s) = s
 
-sleb_refusal : (big : Bool) (bytes : List ℕ) (fault : Fault) → MalformedInteger big Leb128 bytes fault → MalformedLeb signed_leb bytes fault
+sleb_refusal : (big : Bool) (bytes : List ℕ) (fault : Fault) → MalformedInteger Leb128 bytes fault → MalformedLeb signed_leb bytes fault
 sleb_refusal big bytes fault (spelling.no_signed_leb128 bytes' fault' r) = r
 
-pub reads_integer : (big : Bool) (layout : Layout) → ReadsExactly (integer_at big layout) (SpellsInteger big layout) (MalformedInteger big layout)
+pub reads_integer : (big : Bool) (layout : Layout) → ReadsExactly (integer_at big layout) (SpellsInteger big layout) (MalformedInteger layout)
 reads_integer big (Bytes size) =
-    reads_as (signed_at big size) (Passes (FixedSpelling big size) (integer_in size)) (SpellsInteger big (Bytes size)) (Fails (FixedSpelling big size) (FixedRefusal big size) (integer_in size)) (MalformedInteger big (Bytes size))
+    reads_as (signed_at big size) (Passes (FixedSpelling big size) (integer_in size)) (SpellsInteger big (Bytes size)) (Fails (FixedSpelling big size) (FixedRefusal big size) (integer_in size)) (MalformedInteger (Bytes size))
     (reads_checked (fixed_at big size) (FixedSpelling big size) (FixedRefusal big size) (integer_in size) (reads_fixed big size))
     (signed_spelled big size) (signed_spelling big size) (signed_refused big size) (signed_refusal big size)
 reads_integer big Leb128 =
-    reads_as sleb_at (SpellsLeb signed_leb) (SpellsInteger big Leb128) (MalformedLeb signed_leb) (MalformedInteger big Leb128) reads_sleb (λ bytes value s. spelling.in_signed_leb128 bytes value s) (sleb_spelling big) (λ bytes fault r. spelling.no_signed_leb128 bytes fault r) (sleb_refusal big)
+    reads_as sleb_at (SpellsLeb signed_leb) (SpellsInteger big Leb128) (MalformedLeb signed_leb) (MalformedInteger Leb128) reads_sleb (λ bytes value s. spelling.in_signed_leb128 bytes value s) (sleb_spelling big) (λ bytes fault r. spelling.no_signed_leb128 bytes fault r) (sleb_refusal big)

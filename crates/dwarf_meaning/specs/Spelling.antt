@@ -18,13 +18,13 @@ pub data SpellsNumber (big : Bool) : Layout → List ℕ → ℕ → Type 0 wher
       → SpellsNumber big Leb128 bytes number
 
 -- no front of the bytes spells an unsigned number, for this fault
-pub data MalformedNumber (big : Bool) : Layout → List ℕ → Fault → Type 0 where
+pub data MalformedNumber : Layout → List ℕ → Fault → Type 0 where
   few_bytes : (size : ℕ) (bytes : List ℕ) → is_fixed_size size ≡ true → length bytes < size
-      → MalformedNumber big (Bytes size) bytes past_the_end
+      → MalformedNumber (Bytes size) bytes past_the_end
   address_size : (size : ℕ) (bytes : List ℕ) → is_fixed_size size ≡ false
-      → MalformedNumber big (Bytes size) bytes (UnsupportedAddressSize size)
+      → MalformedNumber (Bytes size) bytes (UnsupportedAddressSize size)
   no_leb128 : (bytes : List ℕ) (fault : Fault) → MalformedLeb unsigned_leb bytes fault
-      → MalformedNumber big Leb128 bytes fault
+      → MalformedNumber Leb128 bytes fault
 
 -- the bytes spell the signed number
 pub data SpellsInteger (big : Bool) : Layout → List ℕ → ℤ → Type 0 where
@@ -34,11 +34,11 @@ pub data SpellsInteger (big : Bool) : Layout → List ℕ → ℤ → Type 0 whe
       → SpellsInteger big Leb128 bytes number
 
 -- no front of the bytes spells a signed number, for this fault
-pub data MalformedInteger (big : Bool) : Layout → List ℕ → Fault → Type 0 where
+pub data MalformedInteger : Layout → List ℕ → Fault → Type 0 where
   few_signed_bytes : (size : ℕ) (bytes : List ℕ) → length bytes < size
-      → MalformedInteger big (Bytes size) bytes past_the_end
+      → MalformedInteger (Bytes size) bytes past_the_end
   no_signed_leb128 : (bytes : List ℕ) (fault : Fault) → MalformedLeb signed_leb bytes fault
-      → MalformedInteger big Leb128 bytes fault
+      → MalformedInteger Leb128 bytes fault
 
 -- the bytes spell an unsigned operand with this value
 pub data SpellsUnsigned (context : Context) (form : Layout × Range) : List ℕ → ℕ → Type 0 where
@@ -48,7 +48,7 @@ pub data SpellsUnsigned (context : Context) (form : Layout × Range) : List ℕ 
 
 -- no front of the bytes spells a number, or one does that is out of the operand's range
 pub data MalformedUnsigned (context : Context) (form : Layout × Range) : List ℕ → Fault → Type 0 where
-  no_number : (bytes : List ℕ) (fault : Fault) → MalformedNumber context.is_big form.0 bytes fault
+  no_number : (bytes : List ℕ) (fault : Fault) → MalformedNumber form.0 bytes fault
       → MalformedUnsigned context form bytes fault
   out_of_range : (front rest : List ℕ) (number : ℕ) (fault : Fault)
       → SpellsNumber context.is_big form.0 front number → operand_value context.offset_bits form.1 number ≡ Err fault
@@ -76,7 +76,7 @@ pub data MalformedOperands (context : Context) : Row → List ℕ → Fault → 
       → SpellsUnsigned context form front value → MalformedOperands context (next value) rest fault
       → MalformedOperands context (Unsigned form next) (front ++ rest) fault
   signed_here : (layout : Layout) (next : ℤ → Row) (bytes : List ℕ) (fault : Fault)
-      → MalformedInteger context.is_big layout bytes fault → MalformedOperands context (Signed layout next) bytes fault
+      → MalformedInteger layout bytes fault → MalformedOperands context (Signed layout next) bytes fault
   signed_after : (layout : Layout) (next : ℤ → Row) (front rest : List ℕ) (value : ℤ) (fault : Fault)
       → SpellsInteger context.is_big layout front value → MalformedOperands context (next value) rest fault
       → MalformedOperands context (Signed layout next) (front ++ rest) fault

@@ -1,13 +1,13 @@
 -- What is spent by calls in a row.
 use Rattle.std.proofs.Common.{ℕ, ◌≡◌, ◌+◌, length, Option, Some, None, arith, ap, refl}
 use Rattle.dwarf_meaning.specs.Rest.{State, Start}
-use Rattle.dwarf_meaning.specs.Bounds.{piece_due, initial_due, answer_due, endings, located, faults_in, DecodesOnce, Spends, SpendsInAll}
+use Rattle.dwarf_meaning.specs.Bounds.{piece_due, initial_due, answer_due, endings, located, faults_in, DecodesOnce, Spends}
 
-pub spent_here : (x : State) → SpendsInAll 0 x x
+pub spent_here : (x : State) → Spends 0 x x
 spent_here x = record { items = omega arith; callers = omega arith; decodings = omega arith; once = λ d. d }
 
 -- one call more
-pub spent_more : (more : ℕ) (a b c : State) → SpendsInAll more a b → Spends b c → SpendsInAll more a c
+pub spent_more : (more : ℕ) (a b c : State) → Spends more a b → Spends 0 b c → Spends more a c
 spent_more more a b c h i =
     let items = h.items in
     let items_then = i.items in
@@ -28,7 +28,7 @@ once_alike old new faults pieces count decodings due last d =
     record { each = omega (arith, each, ended, count, decodings); no_other = omega (arith, no_other, ended, count, decodings, faults); waits = omega (arith, waits, due, gave) }
 
 -- an initial value
-pub spent_initial : (number : ℕ) (a b c : State) → b.status ≡ Start None → c ≡ record b { status = Start (Some number) } → SpendsInAll 0 a b → SpendsInAll 1 a c
+pub spent_initial : (number : ℕ) (a b c : State) → b.status ≡ Start None → c ≡ record b { status = Start (Some number) } → Spends 0 a b → Spends 1 a c
 spent_initial number a b c was is h =
     let items = h.items in
     let callers = h.callers in
@@ -56,5 +56,5 @@ spent_initial number a b c was is h =
     }
 
 -- the settings
-pub setting_spends : (object : Option ℕ) (maximum : ℕ) (x : State) → Spends x (record x { store = record x.store { object_address = object; maximum = maximum } })
+pub setting_spends : (object : Option ℕ) (maximum : ℕ) (x : State) → Spends 0 x (record x { store = record x.store { object_address = object; maximum = maximum } })
 setting_spends object maximum x = record { items = omega arith; callers = omega arith; decodings = omega arith; once = once_alike x (record x { store = record x.store { object_address = object; maximum = maximum } }) refl refl refl refl refl refl }

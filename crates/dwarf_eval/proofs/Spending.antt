@@ -18,10 +18,10 @@ waits_little Pushed = omega arith
 waits_little Called = omega arith
 waits_little (Located location) = omega arith
 
-pub spends_here : (x : State) → Spends x x
+pub spends_here : (x : State) → Spends 0 x x
 spends_here x = record { items = omega arith; callers = omega arith; decodings = omega arith; once = λ d. d }
 
-pub spends_more : (a b c : State) → Spends a b → Spends b c → Spends a c
+pub spends_more : (a b c : State) → Spends 0 a b → Spends 0 b c → Spends 0 a c
 spends_more a b c h i =
     let items = h.items in
     let items_then = i.items in
@@ -40,7 +40,7 @@ once_by old new sound same waits d =
 
 module _ (old new : State) where
   -- an operation that was counted and read, and what it does with what is kept
-  pub counted_spends : old.status ≡ Running → new.status ≡ Running → length new.callers ≡ length old.callers → new.store.count ≡ old.store.count + 1 → new.decodings ≡ old.decodings + 1 → kept_in new.store ≤ kept_in old.store + 1 → endings new.store.pieces ≡ endings old.store.pieces → waits_of new.store.last ≤ located new.store.last → Spends old new
+  pub counted_spends : old.status ≡ Running → new.status ≡ Running → length new.callers ≡ length old.callers → new.store.count ≡ old.store.count + 1 → new.decodings ≡ old.decodings + 1 → kept_in new.store ≤ kept_in old.store + 1 → endings new.store.pieces ≡ endings old.store.pieces → waits_of new.store.last ≤ located new.store.last → Spends 0 old new
   counted_spends was is callers count decodings kept ended waits =
       let p = ap (piece_due old.store.last) was in
       let i = ap initial_due was in
@@ -51,7 +51,7 @@ module _ (old new : State) where
       let little = waits_little new.store.last in
       record { items = omega (arith, p, i, a, q, j, b, callers, count, kept); callers = omega (arith, a, b, callers, count); decodings = omega (arith, p, q, count, decodings, little); once = once_by old new (ap faults_in was) (omega (arith, count, decodings, ended)) (omega (arith, q, waits)) }
 
-  pub asked_spends : (request : Request) (on_answer : OnAnswer) → old.status ≡ Running → new.status ≡ RequestStatus request on_answer → length new.callers ≡ length old.callers → new.store.count ≡ old.store.count + 1 → new.decodings ≡ old.decodings + 1 → kept_in new.store ≤ kept_in old.store → endings new.store.pieces ≡ endings old.store.pieces → waits_of new.store.last ≤ located new.store.last → Spends old new
+  pub asked_spends : (request : Request) (on_answer : OnAnswer) → old.status ≡ Running → new.status ≡ RequestStatus request on_answer → length new.callers ≡ length old.callers → new.store.count ≡ old.store.count + 1 → new.decodings ≡ old.decodings + 1 → kept_in new.store ≤ kept_in old.store → endings new.store.pieces ≡ endings old.store.pieces → waits_of new.store.last ≤ located new.store.last → Spends 0 old new
   asked_spends request on_answer was is callers count decodings kept ended waits =
       let p = ap (piece_due old.store.last) was in
       let i = ap initial_due was in
@@ -63,7 +63,7 @@ module _ (old new : State) where
       record { items = omega (arith, p, i, a, q, j, b, callers, count, kept); callers = omega (arith, a, b, callers, count); decodings = omega (arith, p, q, count, decodings, little); once = once_by old new (ap faults_in was) (omega (arith, count, decodings, ended)) (omega (arith, q, waits)) }
 
   -- the piece after a location: it isn't counted
-  pub held_spends : old.status ≡ Running → new.status ≡ Running → length new.callers ≡ length old.callers → new.store.count ≡ old.store.count → new.decodings ≡ old.decodings + 1 → waits_of old.store.last ≡ 1 → waits_of new.store.last ≡ 0 → kept_in new.store ≡ kept_in old.store → endings new.store.pieces ≡ endings old.store.pieces + located old.store.last → Spends old new
+  pub held_spends : old.status ≡ Running → new.status ≡ Running → length new.callers ≡ length old.callers → new.store.count ≡ old.store.count → new.decodings ≡ old.decodings + 1 → waits_of old.store.last ≡ 1 → waits_of new.store.last ≡ 0 → kept_in new.store ≡ kept_in old.store → endings new.store.pieces ≡ endings old.store.pieces + located old.store.last → Spends 0 old new
   held_spends was is callers count decodings waited waits kept ended =
       let p = ap (piece_due old.store.last) was in
       let i = ap initial_due was in
@@ -82,7 +82,7 @@ module _ (old new : State) where
       }
 
   -- back in the caller
-  pub back_spends : old.status ≡ Running → new.status ≡ Running → length old.callers ≡ suc (length new.callers) → new.store ≡ old.store → new.decodings ≡ old.decodings → Spends old new
+  pub back_spends : old.status ≡ Running → new.status ≡ Running → length old.callers ≡ suc (length new.callers) → new.store ≡ old.store → new.decodings ≡ old.decodings → Spends 0 old new
   back_spends was is callers store decodings =
       let p = ap (piece_due old.store.last) was in
       let i = ap initial_due was in
@@ -105,7 +105,7 @@ module _ (old new : State) where
       }
 
   -- the end
-  pub over_spends : (value : Option Value) → old.status ≡ Running → new.status ≡ CompleteStatus value → length new.callers ≡ length old.callers → new.store.count ≡ old.store.count → new.decodings ≡ old.decodings → length new.store.values + length new.store.pieces ≤ length old.store.values + length old.store.pieces + waits_of old.store.last → endings new.store.pieces ≡ endings old.store.pieces → Spends old new
+  pub over_spends : (value : Option Value) → old.status ≡ Running → new.status ≡ CompleteStatus value → length new.callers ≡ length old.callers → new.store.count ≡ old.store.count → new.decodings ≡ old.decodings → length new.store.values + length new.store.pieces ≤ length old.store.values + length old.store.pieces + waits_of old.store.last → endings new.store.pieces ≡ endings old.store.pieces → Spends 0 old new
   over_spends value was is callers count decodings kept ended =
       let p = ap (piece_due old.store.last) was in
       let i = ap initial_due was in
@@ -116,7 +116,7 @@ module _ (old new : State) where
       record { items = omega (arith, p, i, a, q, j, b, callers, count, kept); callers = omega (arith, a, b, callers, count); decodings = omega (arith, p, q, count, decodings); once = once_by old new (ap faults_in was) (omega (arith, count, decodings, ended)) (omega (arith, q)) }
 
   -- the beginning, with a value that is pushed or with none
-  pub begun_spends : (initial_value : Option ℕ) → old.status ≡ Start initial_value → new.status ≡ Running → length new.callers ≡ length old.callers → new.store.count ≡ old.store.count → new.decodings ≡ old.decodings → new.store.last ≡ old.store.last → kept_in new.store ≤ kept_in old.store + initial_due (Start initial_value) → new.store.pieces ≡ old.store.pieces → Spends old new
+  pub begun_spends : (initial_value : Option ℕ) → old.status ≡ Start initial_value → new.status ≡ Running → length new.callers ≡ length old.callers → new.store.count ≡ old.store.count → new.decodings ≡ old.decodings → new.store.last ≡ old.store.last → kept_in new.store ≤ kept_in old.store + initial_due (Start initial_value) → new.store.pieces ≡ old.store.pieces → Spends 0 old new
   begun_spends initial_value was is callers count decodings last kept pieces =
       let waits = ap waits_of last in
       let gave = ap located last in
@@ -137,7 +137,7 @@ module _ (old new : State) where
       }
 
   -- an answer: a value more at most, or a caller more at most
-  pub answered_spends : (request : Request) (on_answer : OnAnswer) → old.status ≡ RequestStatus request on_answer → new.status ≡ Running → length new.callers ≤ length old.callers + 1 → length new.callers + kept_in new.store ≤ length old.callers + kept_in old.store + 1 → new.store.count ≡ old.store.count → new.decodings ≡ old.decodings → waits_of new.store.last ≤ waits_of old.store.last → new.store.pieces ≡ old.store.pieces → (waits_of old.store.last ≤ located old.store.last → waits_of new.store.last ≤ located new.store.last) → Spends old new
+  pub answered_spends : (request : Request) (on_answer : OnAnswer) → old.status ≡ RequestStatus request on_answer → new.status ≡ Running → length new.callers ≤ length old.callers + 1 → length new.callers + kept_in new.store ≤ length old.callers + kept_in old.store + 1 → new.store.count ≡ old.store.count → new.decodings ≡ old.decodings → waits_of new.store.last ≤ waits_of old.store.last → new.store.pieces ≡ old.store.pieces → (waits_of old.store.last ≤ located old.store.last → waits_of new.store.last ≤ located new.store.last) → Spends 0 old new
   answered_spends request on_answer was is callers kept count decodings waits pieces gives =
       let ended = ap endings pieces in
       let p = ap (piece_due old.store.last) was in
@@ -157,7 +157,7 @@ module _ (old new : State) where
       }
 
 -- a fault: no more items and callers are there than before, and each operation that was counted was decoded, and one more at most
-pub fallen_spends : (old new : State) (error : Error) → faults_in old.status ≡ 0 → new.status ≡ FaultStatus error → length new.callers ≤ length old.callers → old.store.count ≤ new.store.count → length new.store.values + length new.store.pieces ≤ length old.store.values + length old.store.pieces → new.decodings + 2 * old.store.count ≤ old.decodings + piece_due old.store.last old.status + 2 * new.store.count → new.store.pieces ≡ old.store.pieces → old.decodings + new.store.count ≤ new.decodings + old.store.count → new.decodings + old.store.count ≤ old.decodings + new.store.count + 1 → Spends old new
+pub fallen_spends : (old new : State) (error : Error) → faults_in old.status ≡ 0 → new.status ≡ FaultStatus error → length new.callers ≤ length old.callers → old.store.count ≤ new.store.count → length new.store.values + length new.store.pieces ≤ length old.store.values + length old.store.pieces → new.decodings + 2 * old.store.count ≤ old.decodings + piece_due old.store.last old.status + 2 * new.store.count → new.store.pieces ≡ old.store.pieces → old.decodings + new.store.count ≤ new.decodings + old.store.count → new.decodings + old.store.count ≤ old.decodings + new.store.count + 1 → Spends 0 old new
 fallen_spends old new error sound is callers count lists decodings pieces each one =
     let q = ap (piece_due new.store.last) is in
     let j = ap initial_due is in

@@ -63,7 +63,7 @@ pub record Follows (old : State) (totals : Refusal → List Input → Total) (re
   pub more : faults_in new.status ≡ 0 → (r : Refusal) (inputs : List Input) → IsLater r
       → totals r inputs ≡ total new r inputs
   pub kept : Keeps old new
-  pub spends : Spends old new
+  pub spends : Spends 0 old new
 
 module _ {R O P : Type 0} (text : R → Text) (number : O → ℕ) where
   -- `evaluate`: at the start it replies the meaning; after that it replies what it replied, and changes nothing; it

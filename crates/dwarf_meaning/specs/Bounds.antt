@@ -71,16 +71,12 @@ pub record DecodesOnce (x : State) : Type 0 where
   pub waits : piece_due x.store.last x.status ≤ located x.store.last
 
 -- From the one state to the other each operation that was counted added one item at most, one caller at most, and two
--- decodings at most, beside this many items more; and what was decoded once still is.
-pub record SpendsInAll (more : ℕ) (old new : State) : Type 0 where
+-- decodings at most; `more` is how many items may be added beside those. What was decoded once still is.
+pub record Spends (more : ℕ) (old new : State) : Type 0 where
   pub items : item_count new + old.store.count ≤ item_count old + new.store.count + more
   pub callers : caller_count new + old.store.count ≤ caller_count old + new.store.count
   pub decodings : decoding_count new + 2 * old.store.count ≤ decoding_count old + 2 * new.store.count
   pub once : DecodesOnce old → DecodesOnce new
-
--- the same of one call
-abbrev pub Spends : (old new : State) → Type 0
-Spends old new = SpendsInAll 0 old new
 
 -- Nothing is counted, kept or decoded, and nothing is due.
 pub record IsUnspent (x : State) : Type 0 where

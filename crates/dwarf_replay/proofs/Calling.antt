@@ -21,7 +21,7 @@ use Rattle.dwarf_eval.specs.Permits.{IsOpenFor}
 use Rattle.dwarf_replay.specs.Stepping.{HasReplied}
 use Rattle.dwarf_replay.specs.Replays.{Tells}
 use Rattle.dwarf_eval.specs.declared.op.results.EvaluationResult.{EvaluationResult}
-use Rattle.dwarf_meaning.specs.Bounds.{SpendsInAll, faults_in, initial_items}
+use Rattle.dwarf_meaning.specs.Bounds.{Spends, faults_in, initial_items}
 use Rattle.dwarf_eval.proofs.Following.{told_total, total_open, total_complete, total_meaning}
 use Rattle.dwarf_eval.proofs.CallSpending.{spent_more}
 use Rattle.dwarf_replay.proofs.Telling.{walked_more}
@@ -60,7 +60,7 @@ module _ (first : State) where
         ap (λ (t : Reply). given ++ t ∷ []) e
         ∙ ap (λ (l : List Reply). given ++ l) (sym (answers_one (totals r []).outcome) ∙ ap (step_replies step) (sym (called_outcome r)))
 
-    called_going : faults_in new.status ≡ 0 → Holds first now new → SpendsInAll (initial_items now.settings.initial_value) first new → ((r : Refusal) → IsLater r → told ≡ reply (totals r []).outcome → Tells first (steps ++ step ∷ []) (given ++ told ∷ []) now (before_inputs n r)) → Going first (steps ++ step ∷ []) (given ++ told ∷ []) new
+    called_going : faults_in new.status ≡ 0 → Holds first now new → Spends (initial_items now.settings.initial_value) first new → ((r : Refusal) → IsLater r → told ≡ reply (totals r []).outcome → Tells first (steps ++ step ∷ []) (given ++ told ∷ []) now (before_inputs n r)) → Going first (steps ++ step ∷ []) (given ++ told ∷ []) new
     called_going o holds spent walked = record {
       told = now;
       taken = n;
@@ -73,7 +73,7 @@ module _ (first : State) where
       spent = spent;
     }
 
-    called_over : (error : Error) → new.status ≡ FaultStatus error → MayPick first.setup.limits (before_inputs n h.refusal) → SpendsInAll (initial_items now.settings.initial_value) first new → Tells first (steps ++ step ∷ []) (given ++ told ∷ []) now (before_inputs n h.refusal) → Over first (steps ++ step ∷ []) (given ++ told ∷ []) new error
+    called_over : (error : Error) → new.status ≡ FaultStatus error → MayPick first.setup.limits (before_inputs n h.refusal) → Spends (initial_items now.settings.initial_value) first new → Tells first (steps ++ step ∷ []) (given ++ told ∷ []) now (before_inputs n h.refusal) → Over first (steps ++ step ∷ []) (given ++ told ∷ []) new error
     called_over error e may spent walked = record {
       told = now;
       refusal = before_inputs n h.refusal;
@@ -88,7 +88,7 @@ module _ (first : State) where
       spent = spent;
     }
 
-    called_by : (status : Status) → new.status ≡ status → MayPick first.setup.limits (before_inputs n h.refusal) → Holds first now new → SpendsInAll (initial_items now.settings.initial_value) first new → ((r : Refusal) → (IsLater r ⊎ (r ≡ h.refusal)) → told ≡ reply (totals r []).outcome → Tells first (steps ++ step ∷ []) (given ++ told ∷ []) now (before_inputs n r)) → WentBy first (steps ++ step ∷ []) (given ++ told ∷ []) new status
+    called_by : (status : Status) → new.status ≡ status → MayPick first.setup.limits (before_inputs n h.refusal) → Holds first now new → Spends (initial_items now.settings.initial_value) first new → ((r : Refusal) → (IsLater r ⊎ (r ≡ h.refusal)) → told ≡ reply (totals r []).outcome → Tells first (steps ++ step ∷ []) (given ++ told ∷ []) now (before_inputs n r)) → WentBy first (steps ++ step ∷ []) (given ++ told ∷ []) new status
     called_by (RequestStatus request on_answer) e may holds spent walked =
         called_going (ap faults_in e) holds spent (λ r l. walked r (inl l))
     called_by (CompleteStatus value) e may holds spent walked =

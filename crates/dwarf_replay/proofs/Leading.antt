@@ -9,7 +9,7 @@ use Rattle.dwarf_meaning.proofs.Outcomes.{outcome_from}
 use Rattle.dwarf_meaning.specs.Steps.{Step, InitialValue, ObjectAddress, MaxIterations, Evaluate, Resume, Told, Reply, Allows, outcome_of}
 use Rattle.dwarf_replay.specs.Stepping.{MayTake}
 use Rattle.dwarf_replay.specs.Replays.{IsInRequest, IsInFault, AreSet, StandsAt, Tells, IsUnbegun, IsLeft, Leaves, Walks, WalksTo}
-use Rattle.dwarf_meaning.specs.Bounds.{SpendsInAll, initial_items}
+use Rattle.dwarf_meaning.specs.Bounds.{Spends, initial_items}
 use Rattle.dwarf_eval.proofs.Following.{total_open, total_complete}
 use Rattle.dwarf_replay.proofs.Standings.{Holds, Unstarted, Going, WentBy, Went, may_inputs}
 use Rattle.dwarf_replay.proofs.Calling.{some_not_none, going_outcome}
@@ -37,7 +37,7 @@ module _ (first : State) (steps : List Step) (given : List Reply) (x : State) wh
   }
 
 module _ (first : State) (steps : List Step) (given : List Reply) (x : State) (P : Told → Option Outcome → Type 0) where
-  led : (told : Told) (refusal : Refusal) (outcome : Option Outcome) → Tells first steps given told refusal → MayPick first.setup.limits refusal → outcome_of first.setup refusal first.text told ≡ outcome → StandsAt told x outcome → SpendsInAll (initial_items told.settings.initial_value) first x → Leaves first steps given told x x.status → P told outcome → Led first steps given x P
+  led : (told : Told) (refusal : Refusal) (outcome : Option Outcome) → Tells first steps given told refusal → MayPick first.setup.limits refusal → outcome_of first.setup refusal first.text told ≡ outcome → StandsAt told x outcome → Spends (initial_items told.settings.initial_value) first x → Leaves first steps given told x x.status → P told outcome → Led first steps given x P
   led told refusal outcome w may is stands spent leaves holds = record {
     walks = record {
       refusal = refusal;

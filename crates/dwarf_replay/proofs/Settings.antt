@@ -9,7 +9,7 @@ use Rattle.dwarf_meaning.specs.Steps.{Step, InitialValue, ObjectAddress, MaxIter
 use Rattle.dwarf_eval.specs.Evaluation.{with_object, with_maximum, with_status}
 use Rattle.dwarf_replay.specs.Stepping.{IsSet}
 use Rattle.dwarf_replay.specs.Replays.{Tells}
-use Rattle.dwarf_meaning.specs.Bounds.{Spends, SpendsInAll, initial_items}
+use Rattle.dwarf_meaning.specs.Bounds.{Spends, initial_items}
 use Rattle.dwarf_eval.proofs.CallSpending.{setting_spends, spent_initial, spent_more}
 use Rattle.dwarf_replay.proofs.Telling.{outcome, walked_more}
 use Rattle.dwarf_replay.proofs.Standings.{Holds, Unstarted, Going, WentBy, Went}
@@ -55,13 +55,13 @@ module _ (first : State) where
     maximum : ℕ
     new_is : new ≡ set_to object maximum x
     holds : (told : Told) → Holds first told x → Holds first (tells told) new
-    spends : Spends x new
+    spends : Spends 0 x new
 
   module _ (steps : List Step) (given : List Reply) (step : Step) (x new : State) (s : IsSetting step x new) where
-    set_spent : (told : Told) → SpendsInAll (initial_items told.settings.initial_value) first x → SpendsInAll (initial_items (s.tells told).settings.initial_value) first new
+    set_spent : (told : Told) → Spends (initial_items told.settings.initial_value) first x → Spends (initial_items (s.tells told).settings.initial_value) first new
     set_spent told h =
         let same : initial_items (s.tells told).settings.initial_value ≡ initial_items told.settings.initial_value = ap initial_items (s.initial_is told) in
-        subst (λ (n : ℕ). SpendsInAll n first new) (sym same) (spent_more (initial_items told.settings.initial_value) first x new h s.spends)
+        subst (λ (n : ℕ). Spends n first new) (sym same) (spent_more (initial_items told.settings.initial_value) first x new h s.spends)
 
     set_walked : (r : Refusal) (told : Told) → Tells first steps given told r → Tells first (steps ++ step ∷ []) given (s.tells told) r
     set_walked r told w =
@@ -114,8 +114,8 @@ module _ (first : State) where
         let status : x.status ≡ new.status = ap (λ (z : State). z.status) (sym s.new_is) in
         subst (WentBy first (steps ++ step ∷ []) given new) status (set_by x.status refl w)
 
-  set_spends : (object : Option ℕ) (maximum : ℕ) (x new : State) → new ≡ set_to object maximum x → Spends x new
-  set_spends object maximum x new e = subst (Spends x) (sym e) (setting_spends object maximum x)
+  set_spends : (object : Option ℕ) (maximum : ℕ) (x new : State) → new ≡ set_to object maximum x → Spends 0 x new
+  set_spends object maximum x new e = subst (Spends 0 x) (sym e) (setting_spends object maximum x)
 
   object_setting : (address : ℕ) (x new : State) → new ≡ with_object (Some address) x → IsSetting (ObjectAddress address) x new
   object_setting address x new e = record {
@@ -176,7 +176,7 @@ module _ (first : State) where
           object_address = ap (λ (z : State). z.store.object_address) n ∙ w.holds.object_address;
           maximum = ap (λ (z : State). z.store.maximum) n ∙ w.holds.maximum;
         };
-        spent = spent_initial number first x new e n (subst (λ (v : Option ℕ). SpendsInAll (initial_items v) first x) w.initial w.spent);
+        spent = spent_initial number first x new e n (subst (λ (v : Option ℕ). Spends (initial_items v) first x) w.initial w.spent);
       })
 
   pub set_went_on : (steps : List Step) (given : List Reply) (step : Step) (x new : State) → IsSet step x new → Went first steps given x → Went first (steps ++ step ∷ []) given new

@@ -8,7 +8,7 @@ use Rattle.dwarf_meaning.specs.Meaning.{FaultOutcome, First, meaning}
 use Rattle.dwarf_meaning.specs.Rest.{State, Status, Start, Running, RequestStatus, CompleteStatus, FaultStatus, total}
 use Rattle.dwarf_meaning.specs.Steps.{Step, Told, Reply}
 use Rattle.dwarf_replay.specs.Replays.{told_at, Tells}
-use Rattle.dwarf_meaning.specs.Bounds.{SpendsInAll, initial_items}
+use Rattle.dwarf_meaning.specs.Bounds.{Spends, initial_items}
 use Rattle.dwarf_eval.proofs.CallSpending.{spent_here}
 
 -- ---- what some steps came to
@@ -28,7 +28,7 @@ pub record Unstarted (first : State) (steps : List Step) (given : List Reply) (x
   pub initial : told.settings.initial_value ≡ initial_value
   pub text : x.text ≡ first.text
   pub holds : Holds first told x
-  pub spent : SpendsInAll (initial_items told.settings.initial_value) first x
+  pub spent : Spends (initial_items told.settings.initial_value) first x
 
 -- it waits or is complete: what is left of it is what the meaning gives, for all inputs to come
 pub record Going (first : State) (steps : List Step) (given : List Reply) (x : State) : Type 0 where
@@ -40,7 +40,7 @@ pub record Going (first : State) (steps : List Step) (given : List Reply) (x : S
   pub started : told.first ≡ Some settings
   pub rest_is : (r : Refusal) (inputs : List Input) → IsLater r → meaning first.setup (before_inputs taken r) first.text settings (told.inputs ++ inputs) ≡ (total x r inputs).outcome
   pub holds : Holds first told x
-  pub spent : SpendsInAll (initial_items told.settings.initial_value) first x
+  pub spent : Spends (initial_items told.settings.initial_value) first x
 
 -- it met a fault, for some refusal
 pub record Over (first : State) (steps : List Step) (given : List Reply) (x : State) (error : Error) : Type 0 where
@@ -51,7 +51,7 @@ pub record Over (first : State) (steps : List Step) (given : List Reply) (x : St
   pub settings : First
   pub started : told.first ≡ Some settings
   pub fails : meaning first.setup refusal first.text settings told.inputs ≡ FaultOutcome (fault_of error)
-  pub spent : SpendsInAll (initial_items told.settings.initial_value) first x
+  pub spent : Spends (initial_items told.settings.initial_value) first x
 
 abbrev pub WentBy : State → List Step → List Reply → State → Status → Type 0
 WentBy first steps given x (Start initial_value) = Unstarted first steps given x initial_value

@@ -9,7 +9,7 @@ use Rattle.dwarf_meaning.specs.Meaning.{Outcome, RequestOutcome, FaultOutcome, C
 use Rattle.dwarf_meaning.specs.Rest.{State, Status, Start, Running, RequestStatus, CompleteStatus, FaultStatus, first_of, total}
 use Rattle.dwarf_meaning.specs.Steps as meaning
 use Rattle.dwarf_meaning.specs.Steps.{Told, Reply, Allows, AreDone, replies_of, outcome_of}
-use Rattle.dwarf_meaning.specs.Bounds.{initial_items, SpendsInAll}
+use Rattle.dwarf_meaning.specs.Bounds.{initial_items, Spends}
 use Rattle.dwarf_eval.specs.Evaluation.{reply_of}
 use Rattle.dwarf_eval.specs.Lists.{MayRefuse}
 use Rattle.dwarf_replay.specs.Stepping.{step_of}
@@ -102,7 +102,7 @@ pub record Walks (old : State) (steps : List meaning.Step) (replies : List Reply
   pub tells : Tells old steps replies told refusal
   pub stands : StandsAt told new (outcome_of old.setup refusal old.text told)
   -- it kept and decoded no more than the operations that it counted allow, and an initial value
-  pub spent : SpendsInAll (initial_items told.settings.initial_value) old new
+  pub spent : Spends (initial_items told.settings.initial_value) old new
   pub leaves : Leaves old steps replies told new new.status
 
 -- the steps before this one were done, and it isn't allowed

@@ -210,7 +210,7 @@ pub record Reaches (old : State) (totals : Refusal → List Input → Total) (ne
   pub pushes : ℕ
   pub same : (r : Refusal) (inputs : List Input) → totals (before_pushes pushes r) inputs ≡ total new r inputs
   pub kept : Keeps old new
-  pub spends : Spends old new
+  pub spends : Spends 0 old new
   pub nears : Nears old new
 
 -- for some refusal, the old state ends in the fault, and no more is counted than the new one has
@@ -220,7 +220,7 @@ pub record Falls (old : State) (totals : Refusal → List Input → Total) (faul
   pub same : (inputs : List Input) → totals refusal inputs
       ≡ record { outcome = FaultOutcome fault; count = new.store.count }
   pub kept : Keeps old new
-  pub spends : Spends old new
+  pub spends : Spends 0 old new
 
 abbrev pub ComesBy : State → (Refusal → List Input → Total) → State → Status → Type 0
 ComesBy old totals new (FaultStatus error) = Falls old totals (fault_of error) new

@@ -1,5 +1,6 @@
 -- How many pieces ended a location.
-use Rattle.std.proofs.Common.{ℕ, ◌≡◌, ◌+◌, ◌≤◌, List, [], ◌∷◌, ◌++◌, length, Option, Some, None, Result, Ok, Err, arith, ◌∙◌, refl, nat_lt, true}
+use Rattle.std.proofs.Common.{ℕ, ◌≡◌, ◌+◌, ◌≤◌, List, [], ◌∷◌, ◌++◌, length, Option, Some, None, Result, Ok, Err, arith, ◌∙◌, refl, nat_lt, true, cond, ◌&&◌, is_some}
+use Rattle.std.proofs.lemmas.List.Sums.{sum_by-append}
 use Rattle.std.proofs.lemmas.Bool.{cond_both}
 use Rattle.dwarf_base.specs.Faults.{Fault}
 use Rattle.dwarf_base.specs.declared.errors.Error.TheVariants.{NotEnoughStackItems}
@@ -14,16 +15,8 @@ use Rattle.dwarf_meaning.specs.Meaning.{Outcome, RequestOutcome, FaultOutcome, C
 use Rattle.dwarf_meaning.specs.Refusals.{room}
 use Rattle.dwarf_meaning.proofs.Counts.{OnStore, OnNext, bound_store, on_bound, on_goes}
 use Rattle.dwarf_meaning.proofs.Effects.{IsActOf, IsGivenBy, IsOwnPlace, locates, ends}
-use Rattle.dwarf_meaning.specs.Bounds.{located_by, ending_by, endings, located}
+use Rattle.dwarf_meaning.specs.Bounds.{is_given, endings, located}
 use Rattle.dwarf_eval.specs.inner.Steps.{is_free}
-
-located_little : (location : Location) → located_by location ≤ 1
-located_little Empty = omega arith
-located_little (AtAddress address) = omega arith
-located_little (InRegister register) = omega arith
-located_little (HoldsValue value) = omega arith
-located_little (HoldsBytes value) = omega arith
-located_little (PointsInto value byte_offset) = omega arith
 
 -- if none waits none was given, and one at most
 pub located_waits : (last : Last) → located last ≤ waits_of last
@@ -32,7 +25,7 @@ located_waits Plain = omega arith
 located_waits Pieced = omega arith
 located_waits Pushed = omega arith
 located_waits Called = omega arith
-located_waits (Located location) = located_little location
+located_waits (Located location) = cond_both (is_given location) 1 0 (λ (n : ℕ). n ≤ 1) (λ e. omega arith) (λ e. omega arith)
 
 pub free_waits : (last : Last) → is_free last ≡ true → waits_of last ≡ 0
 free_waits Nothing h = refl
@@ -42,16 +35,14 @@ free_waits Pushed h = refl
 free_waits Called h = refl
 free_waits (Located location) h = cc
 
-endings_append : (first second : List Piece) → endings (first ++ second) ≡ endings first + endings second
-endings_append [] second = omega arith
-endings_append (piece ∷ first) second =
-    let e = endings_append first second in
-    omega (arith, e)
+-- 1 for a piece that ended a location
+abbrev pub ending_of : Piece → ℕ
+ending_of piece = cond (is_some piece.size_in_bits && is_given piece.location) 1 0
 
 -- with one piece more
-pub endings_more : (pieces : List Piece) (piece : Piece) → endings (pieces ++ piece ∷ []) ≡ endings pieces + ending_by piece.size_in_bits piece.location
+endings_more : (pieces : List Piece) (piece : Piece) → endings (pieces ++ piece ∷ []) ≡ endings pieces + ending_of piece
 endings_more pieces piece =
-    let e = endings_append pieces (piece ∷ []) in
+    let e = sum_by-append ending_of pieces (piece ∷ []) in
     omega (arith, e)
 
 -- ---- pushes
@@ -60,10 +51,10 @@ endings_more pieces piece =
 abbrev pub Ending : ℕ → Store → Type 0
 Ending n t = endings t.pieces ≡ n
 
-pub piece_ends : (setup : Setup) (piece : Piece) (s : Store) → OnStore (Ending (endings s.pieces + ending_by piece.size_in_bits piece.location)) (push_piece setup piece s)
+pub piece_ends : (setup : Setup) (piece : Piece) (s : Store) → OnStore (Ending (endings s.pieces + ending_of piece)) (push_piece setup piece s)
 unfolding push_piece
 piece_ends setup piece s =
-    let n = endings s.pieces + ending_by piece.size_in_bits piece.location in
+    let n = endings s.pieces + ending_of piece in
     bound_store (Ending n) (room setup.limits.pieces (length s.pieces) s.refusal) (λ left. record s { pieces = s.pieces ++ piece ∷ []; refusal = left }) (λ left. endings_more s.pieces piece)
 
 -- as many pieces ended a location, and an operation gave the one that waits
@@ -80,7 +71,7 @@ values_end : (n : ℕ) (setup : Setup) (values : List Value) (s : Store) → End
 values_end n setup [] s h = h
 values_end n setup (value ∷ values) s h = on_bound (EndsNoMore n) (EndsNoMore n) (push_value setup value s) (push_values setup values) (value_ends n setup value s h) (λ t i. values_end n setup values t i)
 
-own_ends : (n : ℕ) (setup : Setup) (piece : Piece) (s : Store) → ending_by piece.size_in_bits piece.location ≡ 0 → EndsNoMore n s → OnStore (EndsNoMore n) (push_piece setup piece s)
+own_ends : (n : ℕ) (setup : Setup) (piece : Piece) (s : Store) → ending_of piece ≡ 0 → EndsNoMore n s → OnStore (EndsNoMore n) (push_piece setup piece s)
 unfolding push_piece
 own_ends n setup piece s none h =
     let more = endings_more s.pieces piece in
@@ -88,18 +79,18 @@ own_ends n setup piece s none h =
     bound_store (EndsNoMore n) (room setup.limits.pieces (length s.pieces) s.refusal) (λ left. record s { pieces = s.pieces ++ piece ∷ []; refusal = left })
     (λ left. record { pieces = omega (arith, more, same, none); waits = h.waits })
 
-given_by : (op : Operation) (location : Location) → IsGivenBy op location → located_by location ≡ 1
+given_by : (op : Operation) (location : Location) → IsGivenBy op location → located (Located location) ≡ 1
 given_by op (InRegister register) g = refl
 given_by op (HoldsValue value) g = refl
 given_by op (HoldsBytes text) g = refl
 given_by op (PointsInto value byte_offset) g = refl
 given_by op _ g = absurd g
 
-own_by : (size_in_bits : Option ℕ) (location : Location) → IsOwnPlace location → ending_by size_in_bits location ≡ 0
-own_by None location o = refl
-own_by (Some size_in_bits) Empty o = refl
-own_by (Some size_in_bits) (AtAddress address) o = refl
-own_by (Some size_in_bits) _ o = absurd o
+own_by : (size_in_bits bit_offset : Option ℕ) (location : Location) → IsOwnPlace location → ending_of (record { size_in_bits = size_in_bits; bit_offset = bit_offset; location = location }) ≡ 0
+own_by None bit_offset location o = refl
+own_by (Some size_in_bits) bit_offset Empty o = refl
+own_by (Some size_in_bits) bit_offset (AtAddress address) o = refl
+own_by (Some size_in_bits) bit_offset _ o = absurd o
 
 -- an operation that is counted ends no location
 pub done_ends : (op : Operation) (setup : Setup) (place len : ℕ) (a : Act) (s : Store) → IsActOf op (length s.values) a → waits_of s.last ≡ 0 → OnNext (EndsNoMore (endings s.pieces)) (done setup place len a s)
@@ -111,7 +102,7 @@ done_ends op setup place len (Locates rest location) s (locates _ g) free =
     let given = given_by op location g in
     record { pieces = refl; waits = omega (arith, given) }
 done_ends op setup place len (EndsPiece rest piece) s (ends _ own) free =
-    on_goes (EndsNoMore (endings s.pieces)) place _ (own_ends (endings s.pieces) setup piece _ (own_by piece.size_in_bits piece.location own) (record { pieces = refl; waits = omega arith }))
+    on_goes (EndsNoMore (endings s.pieces)) place _ (own_ends (endings s.pieces) setup piece _ (own_by piece.size_in_bits piece.bit_offset piece.location own) (record { pieces = refl; waits = omega arith }))
 done_ends op setup place len (RequestAct rest request on_answer) s h free = record { pieces = refl; waits = omega (arith, free) }
 done_ends op setup place len (FaultAct fault) s h free = tt
 

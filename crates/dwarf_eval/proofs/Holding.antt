@@ -16,7 +16,7 @@ use Rattle.dwarf_meaning.specs.Meaning.{FaultOutcome}
 use Rattle.dwarf_meaning.specs.Rest.{State, Running, FaultStatus, with_refusal, total_of_course}
 use Rattle.dwarf_meaning.specs.Refusals.{Refusal, Never, before_pushes}
 use Rattle.dwarf_meaning.proofs.Counts.{OnStore, KeepsBoth, Tally, tally_of, both-push_piece}
-use Rattle.dwarf_meaning.specs.Bounds.{piece_due, located_by, endings, located, faults_in}
+use Rattle.dwarf_meaning.specs.Bounds.{piece_due, endings, located, faults_in}
 use Rattle.dwarf_meaning.specs.Inputs.{with_status}
 use Rattle.dwarf_eval.specs.inner.Steps.{Does, Refused, Tries, ReadsOperation, EndsLocated, total, ComesBy, Turns, read_to, with_last}
 use Rattle.dwarf_eval.proofs.Endings.{Ending, piece_ends}
@@ -94,7 +94,7 @@ module _ (x : State) (location : Location) (runs : x.status ≡ Running) (inside
           let callers : length new.callers ≡ length x.callers = ap (λ (z : State). length z.callers) d.alone in
           let added : kept_in new.store ≡ kept_in mid.store + 1 = subst (OnStore (Keeping (kept_in s + 1))) (d.steps.same Never) (piece_adds x.setup piece s) in
           let kept : kept_in new.store ≡ kept_in x.store = omega (arith, added, waited) in
-          let more : endings new.store.pieces ≡ endings x.store.pieces + located_by location = subst (OnStore (Ending (endings s.pieces + located_by location))) (d.steps.same Never) (piece_ends x.setup piece s) in
+          let more : endings new.store.pieces ≡ endings x.store.pieces + located (Located location) = subst (OnStore (Ending (endings s.pieces + located (Located location)))) (d.steps.same Never) (piece_ends x.setup piece s) in
           let ended : endings new.store.pieces ≡ endings x.store.pieces + located x.store.last = more ∙ ap (λ (l : Last). endings x.store.pieces + located l) (sym waits) in
           let was = effort_running x runs in
           let is = effort_running new still in

@@ -1,6 +1,6 @@
 -- How much an evaluation keeps, and how often it decodes, against the operations that it counted (DWARF 5, section
 -- 2.5).
-use Rattle.std.specs.Prelude.{ℕ, ◌+◌, ◌-◌, ◌*◌, ◌≤◌, ◌≡◌, List, [], ◌∷◌, Option, Some, None, length}
+use Rattle.std.specs.Prelude.{ℕ, ◌+◌, ◌-◌, ◌*◌, ◌≤◌, ◌≡◌, Bool, true, false, ◌&&◌, List, Option, Some, None, is_some, length, count_by, if◌then◌else◌}
 use Rattle.dwarf_meaning.specs.Locations.{Location, Empty, AtAddress, Piece}
 use Rattle.dwarf_meaning.specs.Run.{most}
 use Rattle.dwarf_meaning.specs.RunLaws.{waits_of}
@@ -37,25 +37,19 @@ caller_count x = length x.callers + answer_due x.status
 abbrev pub decoding_count : State → ℕ
 decoding_count x = x.decodings + piece_due x.store.last x.status
 
--- 1 for a location that an operation gives; a piece by itself is empty or at an address (section 2.6.1.2)
-abbrev pub located_by : Location → ℕ
-located_by Empty = 0
-located_by (AtAddress address) = 0
-located_by _ = 1
+-- whether an operation gives this location; a piece by itself is empty or at an address (section 2.6.1.2)
+abbrev pub is_given : Location → Bool
+is_given Empty = false
+is_given (AtAddress address) = false
+is_given _ = true
 
--- 1 for a piece that ended a location; one without a size is the whole variable
-abbrev pub ending_by : Option ℕ → Location → ℕ
-ending_by None location = 0
-ending_by (Some size_in_bits) location = located_by location
-
--- how many of the pieces ended a location
+-- how many of the pieces ended a location: a piece without a size is the whole variable
 abbrev pub endings : List Piece → ℕ
-endings [] = 0
-endings (piece ∷ pieces) = ending_by piece.size_in_bits piece.location + endings pieces
+endings pieces = count_by (λ (piece : Piece). is_some piece.size_in_bits && is_given piece.location) pieces
 
 -- 1 if an operation gave the location that waits
 abbrev pub located : Last → ℕ
-located (Located location) = located_by location
+located (Located location) = if is_given location then 1 else 0
 located _ = 0
 
 -- 1 if a fault was met

@@ -155,6 +155,10 @@ pub data BinaryOperator : Type 0 where
 abbrev pub of_one_type : Value → Value → Value → Result Value Error
 of_one_type x y result = if is_same (type_of x) (type_of y) then Ok result else Err TypeMismatch
 
+-- the integers of two values of one type combined, and wrapped
+abbrev pub combined : (ℤ → ℤ → ℤ) → (w : ℕ) → Value → Value → Result Value Error
+combined f w x y = of_one_type x y (value_of w (type_of x) (f (unsigned_integer w x) (unsigned_integer w y)))
+
 -- a result for a dividend and a divisor; a zero divisor doesn't fit, of whatever type
 abbrev pub divided : (w : ℕ) → Value → Value → Value → Result Value Error
 divided w x y result = if int_eq (unsigned_integer w y) (pos 0) then Err DivisionByZero else of_one_type x y result
@@ -188,9 +192,9 @@ unary_of Not w x = Ok (value_of 64 (type_of x) (neg_ℤ (unsigned_integer w x) -
 -- by 2 ^ n, or to divide and round down: from the type's size on all bits are shifted out to the left, signed types have
 -- no `Shr`, and unsigned ones no `Shra`.
 abbrev pub binary_of : BinaryOperator → (w : ℕ) → Value → Value → Result Value Error
-binary_of Plus w x y = of_one_type x y (value_of w (type_of x) (unsigned_integer w x +ℤ unsigned_integer w y))
-binary_of Minus w x y = of_one_type x y (value_of w (type_of x) (unsigned_integer w x -ℤ unsigned_integer w y))
-binary_of Mul w x y = of_one_type x y (value_of w (type_of x) (unsigned_integer w x *ℤ unsigned_integer w y))
+binary_of Plus w x y = combined ◌+ℤ◌ w x y
+binary_of Minus w x y = combined ◌-ℤ◌ w x y
+binary_of Mul w x y = combined ◌*ℤ◌ w x y
 binary_of Div w x y = divided w x y (value_of 64 (type_of x) (int_div (signed_integer w x) (signed_integer w y)))
 binary_of Mod w x y = divided w x y (value_of 64 (type_of x) (int_rem (unsigned_integer w x) (unsigned_integer w y)))
 binary_of And w x y = of_one_type x y (from_u64_of (type_of x) (bit_and (to_u64_of w x) (to_u64_of w y)))

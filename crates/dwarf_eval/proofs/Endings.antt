@@ -1,5 +1,6 @@
 -- How many pieces ended a location.
-use Rattle.std.proofs.Common.{ℕ, ◌≡◌, ◌+◌, ◌≤◌, List, [], ◌∷◌, ◌++◌, length, Option, Some, None, Result, Ok, Err, arith, ◌∙◌, refl, nat_lt, true, cond, ◌&&◌, is_some}
+use Rattle.std.proofs.Common.{ℕ, ◌≡◌, ◌+◌, List, [], ◌∷◌, ◌++◌, length, Option, Some, None, Result, Ok, Err, arith, ap, ◌∙◌, refl, nat_lt, true, cond, ◌&&◌, is_some, IsTrue}
+use Rattle.std.specs.List.{list_all}
 use Rattle.std.proofs.lemmas.List.Sums.{sum_by-append}
 use Rattle.std.proofs.lemmas.Bool.{cond_both}
 use Rattle.dwarf_base.specs.Faults.{Fault}
@@ -12,28 +13,38 @@ use Rattle.dwarf_meaning.specs.Acts.{Act, Pushes, Branches, Locates, EndsPiece, 
 use Rattle.dwarf_meaning.specs.RunLaws.{waits_of}
 use Rattle.dwarf_meaning.specs.Stores.{Setup, address_bits, Store, Last, Nothing, Plain, Pieced, Pushed, Called, Located, push_value, push_piece, push_values, done, branch_target}
 use Rattle.dwarf_meaning.specs.Meaning.{Outcome, RequestOutcome, FaultOutcome, CompleteOutcome, completion_of, whole, finish_value, finish, has_pieces}
+use Rattle.dwarf_meaning.specs.Requests.{Request, OnAnswer}
+use Rattle.dwarf_meaning.specs.Rest.{Status, Start, Running, RequestStatus}
 use Rattle.dwarf_meaning.specs.Refusals.{room}
 use Rattle.dwarf_meaning.proofs.Counts.{OnStore, OnNext, bound_store, on_bound, on_goes}
 use Rattle.dwarf_meaning.proofs.Effects.{IsActOf, IsGivenBy, IsOwnPlace, locates, ends}
-use Rattle.dwarf_meaning.specs.Bounds.{is_given, endings, located}
+use Rattle.dwarf_meaning.specs.Bounds.{waiting, is_given, endings}
 use Rattle.dwarf_eval.specs.inner.Steps.{is_free}
 
--- if none waits none was given, and one at most
-pub located_waits : (last : Last) → located last ≤ waits_of last
-located_waits Nothing = omega arith
-located_waits Plain = omega arith
-located_waits Pieced = omega arith
-located_waits Pushed = omega arith
-located_waits Called = omega arith
-located_waits (Located location) = cond_both (is_given location) 1 0 (λ (n : ℕ). n ≤ 1) (λ e. omega arith) (λ e. omega arith)
+-- 1 if a location waits for its piece, until the evaluation is over
+abbrev pub piece_due : Last → Status → ℕ
+piece_due last status = length (waiting last status)
 
-pub free_waits : (last : Last) → is_free last ≡ true → waits_of last ≡ 0
-free_waits Nothing h = refl
-free_waits Plain h = refl
-free_waits Pieced h = refl
-free_waits Pushed h = refl
-free_waits Called h = refl
-free_waits (Located location) h = cc
+-- until then it waits whatever the status is
+pub start_waits : (last : Last) (initial_value : Option ℕ) → waiting last (Start initial_value) ≡ waiting last Running
+start_waits (Located location) initial_value = refl
+start_waits _ initial_value = refl
+
+pub request_waits : (last : Last) (request : Request) (on_answer : OnAnswer) → waiting last (RequestStatus request on_answer) ≡ waiting last Running
+request_waits (Located location) request on_answer = refl
+request_waits _ request on_answer = refl
+
+pub due_waits : (last : Last) (locations : List Location) → locations ≡ waiting last Running → length locations ≡ waits_of last
+due_waits (Located location) locations e = ap (λ (l : List Location). length l) e
+due_waits _ locations e = ap (λ (l : List Location). length l) e
+
+-- an operation gave each location
+abbrev pub AllGiven : List Location → Type 0
+AllGiven locations = IsTrue (list_all is_given locations)
+
+pub free_given : (last : Last) → is_free last ≡ true → AllGiven (waiting last Running)
+free_given (Located location) h = cc
+free_given _ h = refl
 
 -- 1 for a piece that ended a location
 abbrev pub ending_of : Piece → ℕ
@@ -60,12 +71,12 @@ piece_ends setup piece s =
 -- as many pieces ended a location, and an operation gave the one that waits
 pub record EndsNoMore (n : ℕ) (t : Store) : Type 0 where
   pub pieces : endings t.pieces ≡ n
-  pub waits : waits_of t.last ≤ located t.last
+  pub given : AllGiven (waiting t.last Running)
 
 value_ends : (n : ℕ) (setup : Setup) (value : Value) (s : Store) → EndsNoMore n s → OnStore (EndsNoMore n) (push_value setup value s)
 unfolding push_value
 value_ends n setup value s h =
-    bound_store (EndsNoMore n) (room setup.limits.values (length s.values) s.refusal) (λ left. record s { values = value ∷ s.values; refusal = left }) (λ left. record { pieces = h.pieces; waits = h.waits })
+    bound_store (EndsNoMore n) (room setup.limits.values (length s.values) s.refusal) (λ left. record s { values = value ∷ s.values; refusal = left }) (λ left. record { pieces = h.pieces; given = h.given })
 
 values_end : (n : ℕ) (setup : Setup) (values : List Value) (s : Store) → EndsNoMore n s → OnStore (EndsNoMore n) (push_values setup values s)
 values_end n setup [] s h = h
@@ -77,9 +88,9 @@ own_ends n setup piece s none h =
     let more = endings_more s.pieces piece in
     let same = h.pieces in
     bound_store (EndsNoMore n) (room setup.limits.pieces (length s.pieces) s.refusal) (λ left. record s { pieces = s.pieces ++ piece ∷ []; refusal = left })
-    (λ left. record { pieces = omega (arith, more, same, none); waits = h.waits })
+    (λ left. record { pieces = omega (arith, more, same, none); given = h.given })
 
-given_by : (op : Operation) (location : Location) → IsGivenBy op location → located (Located location) ≡ 1
+given_by : (op : Operation) (location : Location) → IsGivenBy op location → AllGiven (location ∷ [])
 given_by op (InRegister register) g = refl
 given_by op (HoldsValue value) g = refl
 given_by op (HoldsBytes text) g = refl
@@ -93,17 +104,16 @@ own_by (Some size_in_bits) bit_offset (AtAddress address) o = refl
 own_by (Some size_in_bits) bit_offset _ o = absurd o
 
 -- an operation that is counted ends no location
-pub done_ends : (op : Operation) (setup : Setup) (place len : ℕ) (a : Act) (s : Store) → IsActOf op (length s.values) a → waits_of s.last ≡ 0 → OnNext (EndsNoMore (endings s.pieces)) (done setup place len a s)
+pub done_ends : (op : Operation) (setup : Setup) (place len : ℕ) (a : Act) (s : Store) → IsActOf op (length s.values) a → AllGiven (waiting s.last Running) → OnNext (EndsNoMore (endings s.pieces)) (done setup place len a s)
 done_ends op setup place len (Pushes rest pushed) s h free =
-    on_goes (EndsNoMore (endings s.pieces)) place _ (values_end (endings s.pieces) setup pushed _ (record { pieces = refl; waits = omega arith }))
+    on_goes (EndsNoMore (endings s.pieces)) place _ (values_end (endings s.pieces) setup pushed _ (record { pieces = refl; given = refl }))
 done_ends op setup place len (Branches rest target) s h free =
-    cond_both (nat_lt len (branch_target setup place target)) _ _ (OnNext (EndsNoMore (endings s.pieces))) (λ e. tt) (λ e. record { pieces = refl; waits = omega arith })
+    cond_both (nat_lt len (branch_target setup place target)) _ _ (OnNext (EndsNoMore (endings s.pieces))) (λ e. tt) (λ e. record { pieces = refl; given = refl })
 done_ends op setup place len (Locates rest location) s (locates _ g) free =
-    let given = given_by op location g in
-    record { pieces = refl; waits = omega (arith, given) }
+    record { pieces = refl; given = given_by op location g }
 done_ends op setup place len (EndsPiece rest piece) s (ends _ own) free =
-    on_goes (EndsNoMore (endings s.pieces)) place _ (own_ends (endings s.pieces) setup piece _ (own_by piece.size_in_bits piece.bit_offset piece.location own) (record { pieces = refl; waits = omega arith }))
-done_ends op setup place len (RequestAct rest request on_answer) s h free = record { pieces = refl; waits = omega (arith, free) }
+    on_goes (EndsNoMore (endings s.pieces)) place _ (own_ends (endings s.pieces) setup piece _ (own_by piece.size_in_bits piece.bit_offset piece.location own) (record { pieces = refl; given = refl }))
+done_ends op setup place len (RequestAct rest request on_answer) s h free = record { pieces = refl; given = free }
 done_ends op setup place len (FaultAct fault) s h free = tt
 
 -- ---- the end

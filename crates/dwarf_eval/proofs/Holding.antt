@@ -1,5 +1,5 @@
 -- A location that waits for its piece.
-use Rattle.std.proofs.Common.{ℕ, ◌≡◌, ◌+◌, ◌-◌, ◌<◌, Bool, true, false, List, length, Result, Ok, Err, Option, arith, ap, ◌∙◌, sym, refl, subst}
+use Rattle.std.proofs.Common.{ℕ, ◌≡◌, ◌+◌, ◌-◌, ◌<◌, Bool, true, false, cond, List, length, Result, Ok, Err, Option, arith, ap, ◌∙◌, sym, refl, subst}
 use Rattle.dwarf_base.specs.declared.errors.Error.{Error}
 use Rattle.dwarf_base.specs.declared.errors.Error.TheVariants as error
 use Rattle.dwarf_base.specs.Faults.{Fault, fault_of}
@@ -16,10 +16,10 @@ use Rattle.dwarf_meaning.specs.Meaning.{FaultOutcome}
 use Rattle.dwarf_meaning.specs.Rest.{State, Running, FaultStatus, with_refusal, total_of_course}
 use Rattle.dwarf_meaning.specs.Refusals.{Refusal, Never, before_pushes}
 use Rattle.dwarf_meaning.proofs.Counts.{OnStore, KeepsBoth, Tally, tally_of, both-push_piece}
-use Rattle.dwarf_meaning.specs.Bounds.{piece_due, endings, located, faults_in}
+use Rattle.dwarf_meaning.specs.Bounds.{is_given, endings, faults_in}
 use Rattle.dwarf_meaning.specs.Inputs.{with_status}
 use Rattle.dwarf_eval.specs.inner.Steps.{Does, Refused, Tries, ReadsOperation, EndsLocated, total, ComesBy, Turns, read_to, with_last}
-use Rattle.dwarf_eval.proofs.Endings.{Ending, piece_ends}
+use Rattle.dwarf_eval.proofs.Endings.{Ending, piece_due, piece_ends}
 use Rattle.dwarf_eval.proofs.Loads.{Keeping, kept_in, piece_adds}
 use Rattle.dwarf_eval.proofs.Nearing.{nears_by}
 use Rattle.dwarf_eval.proofs.Spending.{fallen_spends, held_spends}
@@ -37,6 +37,9 @@ module _ (x : State) (location : Location) (runs : x.status ≡ Running) (inside
   waited : waits_of x.store.last ≡ 1
   waited = ap waits_of waits
 
+  due : piece_due x.store.last x.status ≡ 1
+  due = ap (piece_due x.store.last) runs ∙ ap (λ (l : Last). piece_due l Running) waits
+
   -- a fault of what was read: nothing is counted
   module _ (place : ℕ) (new : State) (error : Error) (is : new ≡ with_status (FaultStatus error) (read_to place x)) where
     read_falls : ((inputs : List Input) → total x Never inputs ≡ closed (FaultOutcome (fault_of error)) x.store.count) → Turns x new
@@ -46,13 +49,12 @@ module _ (x : State) (location : Location) (runs : x.status ≡ Running) (inside
         let callers = ap (λ (z : State). length z.callers) is in
         let lists = ap (λ (z : State). length z.store.values + length z.store.pieces) is in
         let decodings = ap (λ (z : State). z.decodings) is in
-        let due = ap (piece_due x.store.last) runs in
         falls_turns x new error runs failed (record {
           refusal = Never;
           may = tt;
           same = λ inputs. same inputs ∙ ap (closed (FaultOutcome (fault_of error))) (sym count);
           kept = record { setup = ap (λ (z : State). z.setup) is; object_address = ap (λ (z : State). z.store.object_address) is; maximum = ap (λ (z : State). z.store.maximum) is };
-          spends = fallen_spends x new error (ap faults_in runs) failed (omega (arith, callers)) (omega (arith, count)) (omega (arith, lists)) (omega (arith, decodings, count, due, waited)) (ap (λ (z : State). z.store.pieces) is) (omega (arith, decodings, count)) (omega (arith, decodings, count));
+          spends = fallen_spends x new error (ap faults_in runs) failed (omega (arith, callers)) (omega (arith, count)) (omega (arith, lists)) (omega (arith, decodings, count, due)) (ap (λ (z : State). z.store.pieces) is) (omega (arith, decodings, count)) (omega (arith, decodings, count));
         })
 
     pub held_unread : read x.setup x.text x.place ≡ Err (fault_of error) → Turns x new
@@ -94,8 +96,7 @@ module _ (x : State) (location : Location) (runs : x.status ≡ Running) (inside
           let callers : length new.callers ≡ length x.callers = ap (λ (z : State). length z.callers) d.alone in
           let added : kept_in new.store ≡ kept_in mid.store + 1 = subst (OnStore (Keeping (kept_in s + 1))) (d.steps.same Never) (piece_adds x.setup piece s) in
           let kept : kept_in new.store ≡ kept_in x.store = omega (arith, added, waited) in
-          let more : endings new.store.pieces ≡ endings x.store.pieces + located (Located location) = subst (OnStore (Ending (endings s.pieces + located (Located location)))) (d.steps.same Never) (piece_ends x.setup piece s) in
-          let ended : endings new.store.pieces ≡ endings x.store.pieces + located x.store.last = more ∙ ap (λ (l : Last). endings x.store.pieces + located l) (sym waits) in
+          let more : endings new.store.pieces ≡ endings x.store.pieces + cond (is_given location) 1 0 = subst (OnStore (Ending (endings s.pieces + cond (is_given location) 1 0))) (d.steps.same Never) (piece_ends x.setup piece s) in
           let was = effort_running x runs in
           let is = effort_running new still in
           record {
@@ -110,7 +111,7 @@ module _ (x : State) (location : Location) (runs : x.status ≡ Running) (inside
                 object_address = ap (λ (m : Tally). m.object_address) tally;
                 maximum = ap (λ (m : Tally). m.maximum) tally;
               };
-              spends = held_spends x new runs still callers count (ap (λ (z : State). z.decodings) d.alone) waited last kept ended;
+              spends = held_spends x new location runs still callers count (ap (λ (z : State). z.decodings) d.alone) waits both.last kept more;
               nears = nears_by x new Running Running runs still (omega (arith, count));
             });
             less = omega (arith, was, is, callers, count, last, waited);
@@ -122,7 +123,6 @@ module _ (x : State) (location : Location) (runs : x.status ≡ Running) (inside
           let callers = h.stays.callers in
           let items = h.stays.items in
           let decodings = h.stays.decodings in
-          let due = ap (piece_due x.store.last) runs in
           falls_turns x new h.error runs h.failed (record {
             refusal = h.gets.refusal;
             may = h.gets.may;
@@ -130,7 +130,7 @@ module _ (x : State) (location : Location) (runs : x.status ≡ Running) (inside
                 held_after_operation h.gets.refusal inputs _ (FaultNext (fault_of h.error)) some (ap (goes place_then) h.gets.same)
                 ∙ (course_failed x.store.count x.setup x.callers (fault_of h.error) ∙ ap (closed (FaultOutcome (fault_of h.error))) (sym count));
             kept = record { setup = h.stays.kept.setup; object_address = h.stays.kept.object_address; maximum = h.stays.kept.maximum };
-            spends = fallen_spends x new h.error (ap faults_in runs) h.failed (omega (arith, callers)) (omega (arith, count)) (omega (arith, items)) (omega (arith, decodings, count, due, waited)) h.stays.pieces (omega (arith, decodings, count)) (omega (arith, decodings, count));
+            spends = fallen_spends x new h.error (ap faults_in runs) h.failed (omega (arith, callers)) (omega (arith, count)) (omega (arith, items)) (omega (arith, decodings, count, due)) h.stays.pieces (omega (arith, decodings, count)) (omega (arith, decodings, count));
           })
 
       piece_turns : (new : State) (done : Bool) → Tries 0 (push_piece x.setup piece) mid new done → Turns x new

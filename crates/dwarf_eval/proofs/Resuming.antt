@@ -13,18 +13,19 @@ use Rattle.dwarf_meaning.specs.Kinds.{kind_of_request, kind_of_answer, is_same_k
 use Rattle.dwarf_meaning.specs.Requests.{Request, OnAnswer, Push, Answer, ValueAnswer, NumberAnswer, Input}
 use Rattle.dwarf_meaning.specs.Acts.{Use, PushesAnswer, Calls, FaultUse, use_of}
 use Rattle.dwarf_meaning.specs.RunLaws.{waits_of}
-use Rattle.dwarf_meaning.specs.Stores.{address_bits, Store, Pushed, Called, push_value, push_caller}
+use Rattle.dwarf_meaning.specs.Stores.{address_bits, Store, Last, Pushed, Called, push_value, push_caller}
 use Rattle.dwarf_meaning.specs.Run.{Position, Course, run_callee, enter_callee, after_push, after_answer, run}
 use Rattle.dwarf_meaning.specs.Meaning.{FaultOutcome}
 use Rattle.dwarf_meaning.specs.Rest.{State, Running, RequestStatus, FaultStatus, with_refusal, total_of_course}
 use Rattle.dwarf_meaning.specs.Refusals.{Refusal, Never, After, taken, MayPick, before_input, before_pushes}
 use Rattle.dwarf_meaning.proofs.Counts.{HasTally, OnStore, Tally, tally_of, tally-push_caller}
 use Rattle.dwarf_meaning.proofs.Effects.{IsUseOf, use_is}
-use Rattle.dwarf_meaning.specs.Bounds.{located, faults_in}
+use Rattle.dwarf_meaning.specs.Bounds.{waiting, faults_in}
 use Rattle.dwarf_meaning.specs.Inputs.{input_of, with_status}
 use Rattle.dwarf_eval.specs.inner.Steps.{Total, total_after, Does, Refused, Stays, Tries, Tried, Enters, TriesToEnter, ComesBy, Takes, with_last, with_values}
 use Rattle.dwarf_eval.specs.inner.Answers.{IsFor, IsWaitingFor}
 use Rattle.dwarf_eval.proofs.AnswerUses.{open_for, value_gives, number_gives}
+use Rattle.dwarf_eval.proofs.Endings.{AllGiven}
 use Rattle.dwarf_eval.proofs.Loads.{HasLast, HasPieces, Keeping, kept_in, value_adds, value_last, value_pieces, frame_adds, frame_last, frame_pieces}
 use Rattle.dwarf_eval.proofs.Nearing.{nears_by}
 use Rattle.dwarf_eval.proofs.Spending.{answered_spends, fallen_spends}
@@ -92,7 +93,8 @@ module _ (x : State) (request : Request) (on_answer : OnAnswer) (open_now : x.st
         let runs : new.status ≡ Running = ap (λ (z : State). z.status) d.alone in
         let s : Store = with_refusal (before_pushes d.steps.pushes Never) answered.store in
         let kept : kept_in new.store ≡ kept_in answered.store + 1 = subst (OnStore (Keeping (kept_in s + 1))) (d.steps.same Never) (value_adds x.setup value s) in
-        let last : waits_of new.store.last ≡ 0 = ap waits_of (subst (OnStore (HasLast s.last)) (d.steps.same Never) (value_last x.setup value s)) in
+        let pushed : new.store.last ≡ Pushed = subst (OnStore (HasLast s.last)) (d.steps.same Never) (value_last x.setup value s) in
+        let last : waits_of new.store.last ≡ 0 = ap waits_of pushed in
         let callers = ap (λ (z : State). length z.callers) d.alone in
         let count : new.store.count ≡ x.store.count = ap (λ (m : Tally). m.count) tally in
         let low = fewer in
@@ -109,7 +111,7 @@ module _ (x : State) (request : Request) (on_answer : OnAnswer) (open_now : x.st
             maximum = ap (λ (m : Tally). m.maximum) tally;
           };
           spends = answered_spends x new request on_answer open_now runs (omega (arith, callers)) (omega (arith, callers, kept, low)) count (ap (λ (z : State). z.decodings) d.alone) (omega (arith, last))
-              (subst (OnStore (HasPieces s.pieces)) (d.steps.same Never) (value_pieces x.setup value s)) (λ given. omega (arith, last));
+              (subst (OnStore (HasPieces s.pieces)) (d.steps.same Never) (value_pieces x.setup value s)) (λ given. subst (λ (l : Last). AllGiven (waiting l Running)) (sym pushed) refl);
           nears = nears_by x new (RequestStatus request on_answer) Running open_now runs (omega (arith, count));
         })
 
@@ -147,7 +149,7 @@ module _ (x : State) (request : Request) (on_answer : OnAnswer) (open_now : x.st
             ∙ (ap (λ (bytes : List ℕ). total_of_course x.store.count x.setup x.callers (run_callee (run x.setup) x.setup position (length x.callers) callee bytes (with_refusal r x.store) inputs)) none
             ∙ sym (total_running r new inputs runs ∙ ap (λ (z : State). going z (with_refusal r z.store) inputs) e));
         kept = record { setup = ap (λ (z : State). z.setup) e; object_address = ap (λ (z : State). z.store.object_address) e; maximum = ap (λ (z : State). z.store.maximum) e };
-        spends = answered_spends x new request on_answer open_now runs (omega (arith, callers)) (omega (arith, callers, kept)) count (ap (λ (z : State). z.decodings) e) (omega (arith, last)) (ap (λ (z : State). z.store.pieces) e) (λ given. omega (arith, last));
+        spends = answered_spends x new request on_answer open_now runs (omega (arith, callers)) (omega (arith, callers, kept)) count (ap (λ (z : State). z.decodings) e) (omega (arith, last)) (ap (λ (z : State). z.store.pieces) e) (λ given. subst (λ (l : Last). AllGiven (waiting l Running)) (ap (λ (z : State). z.store.last) (sym e)) refl);
         nears = nears_by x new (RequestStatus request on_answer) Running open_now runs (omega (arith, count));
       })
 
@@ -166,7 +168,6 @@ module _ (x : State) (request : Request) (on_answer : OnAnswer) (open_now : x.st
         let kept : kept_in new.store ≡ kept_in x.store = subst (OnStore (Keeping (kept_in s))) (d.steps.same Never) (frame_adds x.setup (length x.callers) s) in
         let stays : new.store.last ≡ x.store.last = subst (OnStore (HasLast s.last)) (d.steps.same Never) (frame_last x.setup (length x.callers) s) in
         let last : waits_of new.store.last ≡ waits_of x.store.last = ap waits_of stays in
-        let gave : located new.store.last ≡ located x.store.last = ap located stays in
         let callers : length new.callers ≡ suc (length x.callers) = ap (λ (z : State). length z.callers) d.alone in
         let count : new.store.count ≡ x.store.count = ap (λ (m : Tally). m.count) tally in
         subst (ComesBy x totals new) (sym runs) (record {
@@ -183,7 +184,7 @@ module _ (x : State) (request : Request) (on_answer : OnAnswer) (open_now : x.st
             maximum = ap (λ (m : Tally). m.maximum) tally;
           };
           spends = answered_spends x new request on_answer open_now runs (omega (arith, callers)) (omega (arith, callers, kept)) count (ap (λ (z : State). z.decodings) d.alone) (omega (arith, last))
-              (subst (OnStore (HasPieces s.pieces)) (d.steps.same Never) (frame_pieces x.setup (length x.callers) s)) (λ given. omega (arith, last, gave, given));
+              (subst (OnStore (HasPieces s.pieces)) (d.steps.same Never) (frame_pieces x.setup (length x.callers) s)) (λ given. subst (λ (l : Last). AllGiven (waiting l Running)) (sym stays) given);
           nears = nears_by x new (RequestStatus request on_answer) Running open_now runs (omega (arith, count));
         })
 

@@ -21,7 +21,7 @@ use Rattle.dwarf_meaning.proofs.Turns.{run_turn, below_most}
 use Rattle.dwarf_meaning.specs.Bounds.{endings, faults_in}
 use Rattle.dwarf_meaning.specs.Inputs.{Keeps, with_status}
 use Rattle.dwarf_eval.specs.inner.Steps.{total, CountsOne, ReadsOperation, act_of, done_at, LeadsToPlace, LeadsToRequest, LeadsToFault, LeadsBy, Performs, read_to, with_store, Falls, ComesBy, is_free, IsReady, Turns, effort, effort_by}
-use Rattle.dwarf_eval.proofs.Endings.{EndsNoMore, done_ends, free_waits}
+use Rattle.dwarf_eval.proofs.Endings.{EndsNoMore, done_ends, free_given}
 use Rattle.dwarf_eval.proofs.Loads.{IsLighter, kept_in, done_lighter}
 use Rattle.dwarf_eval.proofs.Nearing.{nears_by}
 use Rattle.dwarf_eval.proofs.Spending.{asked_spends, counted_spends, fallen_spends, waits_little}
@@ -177,7 +177,7 @@ module _ (x : State) (ready : IsReady x) where
       next_ends r next e =
           subst (OnNext (EndsNoMore (endings x.store.pieces))) e
           (done_ends op x.setup place_then (length x.text.bytes) (act_of there op) (with_refusal r there.store) (act_is (address_bits there.setup) there.store.object_address op there.store.values)
-          (free_waits x.store.last ready.free))
+          (free_given x.store.last ready.free))
 
       keeps_by : (new : State) → new.setup ≡ x.setup → tally_of new.store ≡ tally_of there.store → Keeps x new
       keeps_by new setup tally = record { setup = setup; object_address = ap (λ (m : Tally). m.object_address) tally; maximum = ap (λ (m : Tally). m.maximum) tally }
@@ -197,7 +197,7 @@ module _ (x : State) (ready : IsReady x) where
                   ∙ sym (total_running r new inputs runs ∙ ap (λ (y : State). going y (with_refusal r new.store) inputs) goes.alone));
               kept = keeps_by new (ap (λ (z : State). z.setup) goes.alone) tally;
               spends = counted_spends x new ready.runs runs (ap (λ (z : State). length z.callers) goes.alone) count (ap (λ (z : State). z.decodings) goes.alone)
-                  (next_lighter (before_pushes goes.steps.pushes Never) (Goes new.place (with_refusal Never new.store)) (goes.steps.same Never)) ends.pieces ends.waits;
+                  (next_lighter (before_pushes goes.steps.pushes Never) (Goes new.place (with_refusal Never new.store)) (goes.steps.same Never)) ends.pieces ends.given;
               nears = nears_by x new Running Running ready.runs runs (omega (arith, count));
             });
             less = less_counted x new ready.runs runs can (ap (λ (z : State). z.callers) goes.alone) count;
@@ -218,7 +218,7 @@ module _ (x : State) (ready : IsReady x) where
                   ∙ sym (total_waits r new inputs request on_answer open_now ∙ ap (λ (y : State). waiting_total y request on_answer (with_refusal r new.store) inputs) asks.alone)));
               kept = keeps_by new (ap (λ (z : State). z.setup) asks.alone) tally;
               spends = asked_spends x new request on_answer ready.runs open_now (ap (λ (z : State). length z.callers) asks.alone) count (ap (λ (z : State). z.decodings) asks.alone)
-                  (next_lighter (before_pushes asks.steps.pushes Never) (RequestNext request on_answer (with_refusal Never new.store)) (asks.steps.same Never)) ends.pieces ends.waits;
+                  (next_lighter (before_pushes asks.steps.pushes Never) (RequestNext request on_answer (with_refusal Never new.store)) (asks.steps.same Never)) ends.pieces ends.given;
               nears =
                   let below = below_most x.store can in
                   nears_by x new Running (RequestStatus request on_answer) ready.runs open_now (omega (arith, count, below));

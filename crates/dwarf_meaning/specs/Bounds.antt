@@ -1,17 +1,18 @@
 -- How much an evaluation keeps, and how often it decodes, against the operations that it counted (DWARF 5, section
 -- 2.5).
-use Rattle.std.specs.Prelude.{ℕ, ◌+◌, ◌-◌, ◌*◌, ◌≤◌, ◌≡◌, Bool, true, false, ◌&&◌, List, Option, Some, None, is_some, length, count_by, if◌then◌else◌}
+use Rattle.std.specs.Prelude.{ℕ, ◌+◌, ◌-◌, ◌*◌, ◌≤◌, ◌≡◌, Bool, true, false, ◌&&◌, IsTrue, List, [], ◌∷◌, Option, Some, None, is_some, length, count_by}
+use Rattle.std.specs.List.{list_all}
 use Rattle.dwarf_meaning.specs.Locations.{Location, Empty, AtAddress, Piece}
 use Rattle.dwarf_meaning.specs.Run.{most}
-use Rattle.dwarf_meaning.specs.RunLaws.{waits_of}
 use Rattle.dwarf_meaning.specs.Stores.{Last, Located}
 use Rattle.dwarf_meaning.specs.Rest.{State, Status, Start, RequestStatus, CompleteStatus, FaultStatus}
 
--- 1 if a location waits for its piece, until the evaluation is over
-abbrev pub piece_due : Last → Status → ℕ
-piece_due last (CompleteStatus value) = 0
-piece_due last (FaultStatus error) = 0
-piece_due last _ = waits_of last
+-- the location that waits for its piece, if there is one, until the evaluation is over
+abbrev pub waiting : Last → Status → List Location
+waiting last (CompleteStatus value) = []
+waiting last (FaultStatus error) = []
+waiting (Located location) _ = location ∷ []
+waiting _ _ = []
 
 -- 1 if an initial value is still to be pushed
 abbrev pub initial_due : Status → ℕ
@@ -23,19 +24,18 @@ abbrev pub answer_due : Status → ℕ
 answer_due (RequestStatus request on_answer) = 1
 answer_due _ = 0
 
--- how many items the three lists hold together, with those that are due
-abbrev pub item_count : State → ℕ
-item_count x =
-    length x.store.values + length x.callers + length x.store.pieces
-    + piece_due x.store.last x.status + initial_due x.status + answer_due x.status
-
 -- how many callers there are, with one that is due
 abbrev pub caller_count : State → ℕ
 caller_count x = length x.callers + answer_due x.status
 
+-- how many items the three lists hold together, with those that are due
+abbrev pub item_count : State → ℕ
+item_count x = caller_count x + length x.store.values + initial_due x.status
+    + length x.store.pieces + length (waiting x.store.last x.status)
+
 -- how often it decoded, with a piece that is due
 abbrev pub decoding_count : State → ℕ
-decoding_count x = x.decodings + piece_due x.store.last x.status
+decoding_count x = x.decodings + length (waiting x.store.last x.status)
 
 -- whether an operation gives this location; a piece by itself is empty or at an address (section 2.6.1.2)
 abbrev pub is_given : Location → Bool
@@ -47,22 +47,17 @@ is_given _ = true
 abbrev pub endings : List Piece → ℕ
 endings pieces = count_by (λ (piece : Piece). is_some piece.size_in_bits && is_given piece.location) pieces
 
--- 1 if an operation gave the location that waits
-abbrev pub located : Last → ℕ
-located (Located location) = if is_given location then 1 else 0
-located _ = 0
-
 -- 1 if a fault was met
 abbrev pub faults_in : Status → ℕ
 faults_in (FaultStatus error) = 1
 faults_in _ = 0
 
 -- Each operation that was counted was decoded once, and so was each piece that ended a location; nothing else
--- was, but for what stands in the piece's place if that is a fault.
+-- was, but for what stands in the piece's place if that is a fault. An operation gave the location that waits.
 pub record DecodesOnce (x : State) : Type 0 where
   pub each : x.store.count + endings x.store.pieces ≤ x.decodings
   pub no_other : x.decodings ≤ x.store.count + endings x.store.pieces + faults_in x.status
-  pub waits : piece_due x.store.last x.status ≤ located x.store.last
+  pub given : IsTrue (list_all is_given (waiting x.store.last x.status))
 
 -- From the one state to the other each operation that was counted added one item at most, one caller at most, and two
 -- decodings at most; `more` is how many items may be added beside those. What was decoded once still is.

@@ -1,6 +1,8 @@
 -- What is spent by calls in a row.
 use Rattle.std.proofs.Common.{ℕ, ◌≡◌, ◌+◌, List, length, Option, Some, None, arith, ap, ◌∙◌, sym, refl, subst}
 use Rattle.dwarf_meaning.specs.Locations.{Location}
+use Rattle.dwarf_meaning.specs.Requests.{Settings}
+use Rattle.dwarf_meaning.specs.Inputs.{with_settings}
 use Rattle.dwarf_meaning.specs.Rest.{State, Start}
 use Rattle.dwarf_meaning.specs.Bounds.{waiting, initial_due, answer_due, endings, faults_in, DecodesOnce, Spends}
 use Rattle.dwarf_eval.proofs.Endings.{AllGiven, start_waits}
@@ -55,5 +57,5 @@ spent_initial number a b c was is h =
     }
 
 -- the settings
-pub setting_spends : (object : Option ℕ) (maximum : ℕ) (x : State) → Spends 0 x (record x { store = record x.store { object_address = object; maximum = maximum } })
-setting_spends object maximum x = record { items = omega arith; callers = omega arith; decodings = omega arith; once = once_alike x (record x { store = record x.store { object_address = object; maximum = maximum } }) refl refl refl refl refl }
+pub setting_spends : (settings : Settings) (x : State) → Spends 0 x (with_settings settings x)
+setting_spends settings x = record { items = omega arith; callers = omega arith; decodings = omega arith; once = once_alike x (with_settings settings x) refl refl refl refl refl }

@@ -57,7 +57,7 @@ pub piece_keeps : (setup : Setup) (piece : Piece) (old new : State) → Does (pu
 piece_keeps setup piece old new d =
     let s : Store = with_refusal (before_pushes d.steps.pushes Never) old.store in
     let tally : tally_of new.store ≡ tally_of old.store = subst (OnStore (HasTally (tally_of s))) (d.steps.same Never) (tally-push_piece setup piece s) in
-    record { setup = ap (λ (z : State). z.setup) d.alone; object_address = ap (λ (m : Tally). m.object_address) tally; maximum = ap (λ (m : Tally). m.maximum) tally }
+    record { setup = ap (λ (z : State). z.setup) d.alone; settings = ap (λ (m : Tally). m.settings) tally }
 
 -- nothing is counted, and of values and pieces there are this many more at most
 record Adds (more : ℕ) (old new : State) : Type 0 where
@@ -86,7 +86,7 @@ completes_ok value piece old mid new d e =
       };
       alone = e ∙ (ap (with_status (CompleteStatus value)) d.alone ∙ ap (λ (z : State). with_store z.store (with_status (CompleteStatus value) old)) (sym e));
       kept = keeps_more old mid new (piece_keeps old.setup piece old mid d)
-          (record { setup = ap (λ (z : State). z.setup) e; object_address = ap (λ (z : State). z.store.object_address) e; maximum = ap (λ (z : State). z.store.maximum) e });
+          (record { setup = ap (λ (z : State). z.setup) e; settings = ap (λ (z : State). z.store.settings) e });
       count = adds.count;
       items = adds.items;
     })
@@ -131,7 +131,7 @@ stands g old new e is =
             ∙ ap (λ (z : State). CompleteOutcome z.store.pieces None) (sym is);
       };
       alone = is ∙ ap (λ (z : State). with_store z.store (with_status (CompleteStatus None) old)) (sym is);
-      kept = record { setup = ap (λ (z : State). z.setup) is; object_address = ap (λ (z : State). z.store.object_address) is; maximum = ap (λ (z : State). z.store.maximum) is };
+      kept = record { setup = ap (λ (z : State). z.setup) is; settings = ap (λ (z : State). z.store.settings) is };
       count = ap (λ (z : State). z.store.count) is;
       items = omega (arith, values, pieces);
     })
@@ -199,11 +199,7 @@ module _ (x : State) (runs : x.status ≡ Running) (end : x.place ≡ length x.t
               end_total r inputs
               ∙ (ap (λ (fs : List Position). total_of_course x.store.count x.setup fs (only_end (CompleteEnd (with_refusal r x.store) inputs))) h.2
               ∙ sym (total_running r new inputs still ∙ ap (λ (z : State). going z (with_refusal r z.store) inputs) h.3));
-          kept = record {
-            setup = ap (λ (z : State). z.setup) h.3;
-            object_address = ap (λ (s : Store). s.object_address) store;
-            maximum = ap (λ (s : Store). s.maximum) store;
-          };
+          kept = record { setup = ap (λ (z : State). z.setup) h.3; settings = ap (λ (s : Store). s.settings) store };
           spends = back_spends x new runs still callers store (ap (λ (z : State). z.decodings) h.3);
           nears = nears_by x new Running Running runs still (omega (arith, count));
         });

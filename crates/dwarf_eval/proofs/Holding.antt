@@ -53,7 +53,7 @@ module _ (x : State) (location : Location) (runs : x.status ≡ Running) (inside
           refusal = Never;
           may = tt;
           same = λ inputs. same inputs ∙ ap (closed (FaultOutcome (fault_of error))) (sym count);
-          kept = record { setup = ap (λ (z : State). z.setup) is; object_address = ap (λ (z : State). z.store.object_address) is; maximum = ap (λ (z : State). z.store.maximum) is };
+          kept = record { setup = ap (λ (z : State). z.setup) is; settings = ap (λ (z : State). z.store.settings) is };
           spends = fallen_spends x new error (ap faults_in runs) failed (omega (arith, callers)) (omega (arith, count)) (omega (arith, lists)) (omega (arith, decodings, count, due)) (ap (λ (z : State). z.store.pieces) is) (omega (arith, decodings, count)) (omega (arith, decodings, count));
         })
 
@@ -106,11 +106,7 @@ module _ (x : State) (location : Location) (runs : x.status ≡ Running) (inside
                   held_after_operation (before_pushes d.steps.pushes r) inputs _ (Goes place_then (with_refusal r new.store)) some (ap (goes place_then) (d.steps.same r))
                   ∙ (ap (λ (n : ℕ). going (record mid { store = record mid.store { count = n } }) (with_refusal r new.store) inputs) (sym count)
                   ∙ sym (total_running r new inputs still ∙ ap (λ (z : State). going z (with_refusal r new.store) inputs) d.alone));
-              kept = record {
-                setup = ap (λ (z : State). z.setup) d.alone;
-                object_address = ap (λ (m : Tally). m.object_address) tally;
-                maximum = ap (λ (m : Tally). m.maximum) tally;
-              };
+              kept = record { setup = ap (λ (z : State). z.setup) d.alone; settings = ap (λ (m : Tally). m.settings) tally };
               spends = held_spends x new location runs still callers count (ap (λ (z : State). z.decodings) d.alone) waits both.last kept more;
               nears = nears_by x new Running Running runs still (omega (arith, count));
             });
@@ -129,7 +125,7 @@ module _ (x : State) (location : Location) (runs : x.status ≡ Running) (inside
             same = λ inputs.
                 held_after_operation h.gets.refusal inputs _ (FaultNext (fault_of h.error)) some (ap (goes place_then) h.gets.same)
                 ∙ (course_failed x.store.count x.setup x.callers (fault_of h.error) ∙ ap (closed (FaultOutcome (fault_of h.error))) (sym count));
-            kept = record { setup = h.stays.kept.setup; object_address = h.stays.kept.object_address; maximum = h.stays.kept.maximum };
+            kept = record { setup = h.stays.kept.setup; settings = h.stays.kept.settings };
             spends = fallen_spends x new h.error (ap faults_in runs) h.failed (omega (arith, callers)) (omega (arith, count)) (omega (arith, items)) (omega (arith, decodings, count, due)) h.stays.pieces (omega (arith, decodings, count)) (omega (arith, decodings, count));
           })
 

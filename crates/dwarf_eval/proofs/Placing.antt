@@ -48,7 +48,7 @@ done_moved setup place was len (FaultAct fault) s h = refl
 
 stays_beyond : (place : ℕ) (old new : State) → Stays 0 old new → Stays 0 (with_place place old) (with_place place new)
 stays_beyond place old new h = record {
-  kept = record { setup = h.kept.setup; object_address = h.kept.object_address; maximum = h.kept.maximum };
+  kept = record { setup = h.kept.setup; settings = h.kept.settings };
   text = h.text;
   callers = h.callers;
   count = h.count;
@@ -102,7 +102,7 @@ still op _ d h = tt
 -- what takes no branch is done before any place
 pub performs_there : (op : Operation) (left : List ℕ) (old new : State) → IsNoBranch op → Performs (act_of old op) old new → Performs (act_of old op) (at left old) (at left new)
 performs_there op left old new none h =
-    performs_at (act_of old op) left old new (still op (act_of old op) (act_is (address_bits old.setup) old.store.object_address op old.store.values) none) h
+    performs_at (act_of old op) left old new (still op (act_of old op) (act_is (address_bits old.setup) old.store.settings.object_address op old.store.values) none) h
 
 -- ---- what is left
 

@@ -95,7 +95,7 @@ begins_none x new starts is e =
       same = λ r inputs.
           total_start r x inputs None starts is
           ∙ sym (total_running r new inputs runs ∙ ap (λ (z : State). going z (with_refusal r z.store) inputs) e);
-      kept = record { setup = ap (λ (z : State). z.setup) e; object_address = ap (λ (z : State). z.store.object_address) e; maximum = ap (λ (z : State). z.store.maximum) e };
+      kept = record { setup = ap (λ (z : State). z.setup) e; settings = ap (λ (z : State). z.store.settings) e };
       spends =
           let kept = ap (λ (z : State). kept_in z.store) e in
           begun_spends x new None starts runs (ap (λ (z : State). length z.callers) e) (ap (λ (z : State). z.store.count) e) (ap (λ (z : State). z.decodings) e) (ap (λ (z : State). z.store.last) e) (omega (arith, kept)) (ap (λ (z : State). z.store.pieces) e);
@@ -123,11 +123,7 @@ begins_pushed v x new true starts is d =
           ∙ (ap (started_total x inputs) (d.steps.same r)
           ∙ sym (total_running r new inputs still ∙ ap (λ (z : State). going z (with_refusal r new.store) inputs) d.alone
           ∙ ap (λ (n : ℕ). going (record x { store = record x.store { count = n } }) (with_refusal r new.store) inputs) count));
-      kept = record {
-        setup = ap (λ (z : State). z.setup) d.alone;
-        object_address = ap (λ (m : Tally). m.object_address) tally;
-        maximum = ap (λ (m : Tally). m.maximum) tally;
-      };
+      kept = record { setup = ap (λ (z : State). z.setup) d.alone; settings = ap (λ (m : Tally). m.settings) tally };
       spends = begun_spends x new (Some v) starts still (ap (λ (z : State). length z.callers) d.alone) count (ap (λ (z : State). z.decodings) d.alone) last (omega (arith, kept))
           (subst (OnStore (HasPieces s.pieces)) (d.steps.same Never) (value_pieces x.setup (Generic v) s));
       nears = nears_by x new (Start (Some v)) Running starts still (omega (arith, count));
@@ -144,7 +140,7 @@ begins_pushed v x new false starts is d =
           total_start d.gets.refusal x inputs (Some v) starts is
           ∙ (ap (started_total x inputs) d.gets.same
           ∙ (started_fails x inputs (fault_of d.error) ∙ ap (closed (FaultOutcome (fault_of d.error))) (sym d.stays.count)));
-      kept = record { setup = d.stays.kept.setup; object_address = d.stays.kept.object_address; maximum = d.stays.kept.maximum };
+      kept = record { setup = d.stays.kept.setup; settings = d.stays.kept.settings };
       spends = fallen_spends x new d.error (ap faults_in starts) d.failed (omega (arith, callers)) (omega (arith, count)) (omega (arith, items)) (omega (arith, decodings, count)) d.stays.pieces (omega (arith, decodings, count)) (omega (arith, decodings, count));
     })
 

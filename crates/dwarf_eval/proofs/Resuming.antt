@@ -105,11 +105,7 @@ module _ (x : State) (request : Request) (on_answer : OnAnswer) (open_now : x.st
               ∙ (ap (λ (z : Result Store Fault). total_of_course x.store.count x.setup x.callers (after_push (run x.setup) position (length x.callers) inputs z)) (d.steps.same r)
               ∙ (ap (λ (n : ℕ). total_of_course n x.setup x.callers (run x.setup x.text x.place (length x.callers) (with_refusal r new.store) inputs)) (sym count)
               ∙ sym (total_running r new inputs runs ∙ ap (λ (z : State). going z (with_refusal r new.store) inputs) d.alone)));
-          kept = record {
-            setup = ap (λ (z : State). z.setup) d.alone;
-            object_address = ap (λ (m : Tally). m.object_address) tally;
-            maximum = ap (λ (m : Tally). m.maximum) tally;
-          };
+          kept = record { setup = ap (λ (z : State). z.setup) d.alone; settings = ap (λ (m : Tally). m.settings) tally };
           spends = answered_spends x new request on_answer open_now runs (omega (arith, callers)) (omega (arith, callers, kept, low)) count (ap (λ (z : State). z.decodings) d.alone) (omega (arith, last))
               (subst (OnStore (HasPieces s.pieces)) (d.steps.same Never) (value_pieces x.setup value s)) (λ given. subst (λ (l : Last). AllGiven (waiting l Running)) (sym pushed) refl);
           nears = nears_by x new (RequestStatus request on_answer) Running open_now runs (omega (arith, count));
@@ -148,7 +144,7 @@ module _ (x : State) (request : Request) (on_answer : OnAnswer) (open_now : x.st
             answer_rest r inputs (Calls callee) calls
             ∙ (ap (λ (bytes : List ℕ). total_of_course x.store.count x.setup x.callers (run_callee (run x.setup) x.setup position (length x.callers) callee bytes (with_refusal r x.store) inputs)) none
             ∙ sym (total_running r new inputs runs ∙ ap (λ (z : State). going z (with_refusal r z.store) inputs) e));
-        kept = record { setup = ap (λ (z : State). z.setup) e; object_address = ap (λ (z : State). z.store.object_address) e; maximum = ap (λ (z : State). z.store.maximum) e };
+        kept = record { setup = ap (λ (z : State). z.setup) e; settings = ap (λ (z : State). z.store.settings) e };
         spends = answered_spends x new request on_answer open_now runs (omega (arith, callers)) (omega (arith, callers, kept)) count (ap (λ (z : State). z.decodings) e) (omega (arith, last)) (ap (λ (z : State). z.store.pieces) e) (λ given. subst (λ (l : Last). AllGiven (waiting l Running)) (ap (λ (z : State). z.store.last) (sym e)) refl);
         nears = nears_by x new (RequestStatus request on_answer) Running open_now runs (omega (arith, count));
       })
@@ -178,11 +174,7 @@ module _ (x : State) (request : Request) (on_answer : OnAnswer) (open_now : x.st
               call_rest (before_pushes d.steps.pushes r) inputs (Ok t) (d.steps.same r)
               ∙ (ap (λ (n : ℕ). total_of_course n x.setup (position ∷ x.callers) course) (sym count)
               ∙ sym (total_running r new inputs runs ∙ ap (λ (z : State). going z t inputs) d.alone));
-          kept = record {
-            setup = ap (λ (z : State). z.setup) d.alone;
-            object_address = ap (λ (m : Tally). m.object_address) tally;
-            maximum = ap (λ (m : Tally). m.maximum) tally;
-          };
+          kept = record { setup = ap (λ (z : State). z.setup) d.alone; settings = ap (λ (m : Tally). m.settings) tally };
           spends = answered_spends x new request on_answer open_now runs (omega (arith, callers)) (omega (arith, callers, kept)) count (ap (λ (z : State). z.decodings) d.alone) (omega (arith, last))
               (subst (OnStore (HasPieces s.pieces)) (d.steps.same Never) (frame_pieces x.setup (length x.callers) s)) (λ given. subst (λ (l : Last). AllGiven (waiting l Running)) (sym stays) given);
           nears = nears_by x new (RequestStatus request on_answer) Running open_now runs (omega (arith, count));

@@ -11,14 +11,10 @@ use Rattle.dwarf_eval.specs.inner.Steps.{Does, Pops, PopsNumber, Stays, with_las
 use Rattle.dwarf_eval.proofs.Loads.{HasLast, HasPieces, Keeping, kept_in, value_adds, value_last, value_pieces}
 
 pub keeps_here : (x : State) → Keeps x x
-keeps_here x = record { setup = refl; object_address = refl; maximum = refl }
+keeps_here x = record { setup = refl; settings = refl }
 
 pub keeps_more : (a b c : State) → Keeps a b → Keeps b c → Keeps a c
-keeps_more a b c h i = record {
-  setup = i.setup ∙ h.setup;
-  object_address = i.object_address ∙ h.object_address;
-  maximum = i.maximum ∙ h.maximum;
-}
+keeps_more a b c h i = record { setup = i.setup ∙ h.setup; settings = i.settings ∙ h.settings }
 
 pub stays_here : (x : State) → Stays 0 x x
 stays_here x = record { kept = keeps_here x; text = refl; callers = refl; count = refl; decodings = refl; pieces = refl; items = omega arith }
@@ -42,7 +38,7 @@ pub stays_from : (n m : ℕ) (rest : List Value) (last : Last) (status : Status)
 stays_from n m rest last status old new fits h =
     let items = h.items in
     record {
-      kept = record { setup = h.kept.setup; object_address = h.kept.object_address; maximum = h.kept.maximum };
+      kept = record { setup = h.kept.setup; settings = h.kept.settings };
       text = h.text;
       callers = h.callers;
       count = h.count;
@@ -86,7 +82,7 @@ stays_pushed setup value old new d =
     let kept : kept_in new.store ≡ kept_in old.store + 1 = subst (OnStore (Keeping (kept_in s + 1))) (d.steps.same Never) (value_adds setup value s) in
     let last : waits_of new.store.last ≡ waits_of old.store.last = ap waits_of (subst (OnStore (HasLast s.last)) (d.steps.same Never) (value_last setup value s)) in
     record {
-      kept = record { setup = ap (λ (z : State). z.setup) d.alone; object_address = ap (λ (m : Tally). m.object_address) tally; maximum = ap (λ (m : Tally). m.maximum) tally };
+      kept = record { setup = ap (λ (z : State). z.setup) d.alone; settings = ap (λ (m : Tally). m.settings) tally };
       text = ap (λ (z : State). z.text) d.alone;
       callers = ap (λ (z : State). length z.callers) d.alone;
       count = ap (λ (m : Tally). m.count) tally;

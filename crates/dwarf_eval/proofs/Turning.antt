@@ -97,7 +97,7 @@ module _ (x : State) (ready : IsReady x) where
             ready_total Never inputs
             ∙ (ap (total_of_course x.store.count x.setup x.callers) (cond-false (can_count x.store) _ (only_end (FaultEnd TooManyIterations)) h.0)
             ∙ (course_failed x.store.count x.setup x.callers TooManyIterations ∙ ap (closed (FaultOutcome TooManyIterations)) (sym count)));
-        kept = record { setup = ap (λ (z : State). z.setup) h.1; object_address = ap (λ (z : State). z.store.object_address) h.1; maximum = ap (λ (z : State). z.store.maximum) h.1 };
+        kept = record { setup = ap (λ (z : State). z.setup) h.1; settings = ap (λ (z : State). z.store.settings) h.1 };
         spends = fallen_spends x new error.TooManyIterations (ap faults_in ready.runs) failed (omega (arith, callers)) (omega (arith, count)) (omega (arith, lists)) (omega (arith, decodings, count)) (ap (λ (z : State). z.store.pieces) h.1) (omega (arith, decodings, count)) (omega (arith, decodings, count));
       })
 
@@ -124,7 +124,7 @@ module _ (x : State) (ready : IsReady x) where
           same = λ inputs.
               ready_read Never inputs (Err (fault_of error)) e
               ∙ (course_failed (x.store.count + 1) x.setup x.callers (fault_of error) ∙ ap (closed (FaultOutcome (fault_of error))) (sym count));
-          kept = record { setup = ap (λ (z : State). z.setup) is; object_address = ap (λ (z : State). z.store.object_address) is; maximum = ap (λ (z : State). z.store.maximum) is };
+          kept = record { setup = ap (λ (z : State). z.setup) is; settings = ap (λ (z : State). z.store.settings) is };
           spends = fallen_spends x new error (ap faults_in ready.runs) failed (omega (arith, callers)) (omega (arith, count)) (omega (arith, lists)) (omega (arith, decodings, count)) (ap (λ (z : State). z.store.pieces) is) (omega (arith, decodings, count)) (omega (arith, decodings, count));
         })
 
@@ -152,7 +152,7 @@ module _ (x : State) (ready : IsReady x) where
             same = λ inputs.
                 ready_after_operation h.gets.refusal inputs (FaultNext (fault_of error)) h.gets.same
                 ∙ (course_failed (x.store.count + 1) x.setup x.callers (fault_of error) ∙ ap (closed (FaultOutcome (fault_of error))) (sym count));
-            kept = record { setup = h.stays.kept.setup; object_address = h.stays.kept.object_address; maximum = h.stays.kept.maximum };
+            kept = record { setup = h.stays.kept.setup; settings = h.stays.kept.settings };
             spends = fallen_spends x new error (ap faults_in ready.runs) failed (omega (arith, callers)) (omega (arith, count)) (omega (arith, items)) (omega (arith, decodings, count)) h.stays.pieces (omega (arith, decodings, count)) (omega (arith, decodings, count));
           })
 
@@ -170,17 +170,17 @@ module _ (x : State) (ready : IsReady x) where
       next_lighter : (r : Refusal) (next : Next) → done_at (act_of there op) there (with_refusal r there.store) ≡ next → IsLighter (kept_in there.store) next
       next_lighter r next e =
           subst (IsLighter (kept_in there.store)) e
-          (done_lighter x.setup place_then (length x.text.bytes) (act_of there op) (with_refusal r there.store) (act_is (address_bits there.setup) there.store.object_address op there.store.values))
+          (done_lighter x.setup place_then (length x.text.bytes) (act_of there op) (with_refusal r there.store) (act_is (address_bits there.setup) there.store.settings.object_address op there.store.values))
 
       -- no piece that it gives ended a location, and it gave the one that waits
       next_ends : (r : Refusal) (next : Next) → done_at (act_of there op) there (with_refusal r there.store) ≡ next → OnNext (EndsNoMore (endings x.store.pieces)) next
       next_ends r next e =
           subst (OnNext (EndsNoMore (endings x.store.pieces))) e
-          (done_ends op x.setup place_then (length x.text.bytes) (act_of there op) (with_refusal r there.store) (act_is (address_bits there.setup) there.store.object_address op there.store.values)
+          (done_ends op x.setup place_then (length x.text.bytes) (act_of there op) (with_refusal r there.store) (act_is (address_bits there.setup) there.store.settings.object_address op there.store.values)
           (free_given x.store.last ready.free))
 
       keeps_by : (new : State) → new.setup ≡ x.setup → tally_of new.store ≡ tally_of there.store → Keeps x new
-      keeps_by new setup tally = record { setup = setup; object_address = ap (λ (m : Tally). m.object_address) tally; maximum = ap (λ (m : Tally). m.maximum) tally }
+      keeps_by new setup tally = record { setup = setup; settings = ap (λ (m : Tally). m.settings) tally }
 
       ready_goes : (new : State) → new.status ≡ Running → LeadsToPlace (done_at (act_of there op) there) there new → Turns x new
       ready_goes new runs goes =

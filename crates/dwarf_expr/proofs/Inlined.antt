@@ -4,7 +4,7 @@ use Rattle.dwarf_base.specs.declared.errors.Error.{Error}
 use Rattle.dwarf_base.specs.Faults.{Fault}
 use Rattle.dwarf_base.specs.Reads.{Text}
 use Rattle.dwarf_meaning.specs.Operations.{DieReference, UnitRef}
-use Rattle.dwarf_meaning.specs.Requests.{Request, LocationAnswer, Input}
+use Rattle.dwarf_meaning.specs.Requests.{Request, LocationAnswer, Settings}
 use Rattle.dwarf_meaning.specs.Stores.{Setup}
 use Rattle.dwarf_meaning.specs.Meaning.{Outcome, FaultOutcome, First, meaning}
 use Rattle.dwarf_meaning.specs.Rest.{State, FaultStatus}
@@ -74,7 +74,7 @@ module _ (setup : Setup) (site : CallSite) (offset : DieReference) (told : Told)
   at_call = tells told start
 
   abbrev later : List Input
-  later = added at_call.settings beyond
+  later = added at_call.now.settings beyond
 
   abbrev all_steps : List Step
   all_steps = start ++ (Resume (LocationAnswer (called site)) ∷ beyond)
@@ -86,31 +86,12 @@ module _ (setup : Setup) (site : CallSite) (offset : DieReference) (told : Told)
   means_inlined = meaning setup Never (inlined site) first (at_call.inputs ++ later)
 
   module _ (started : at_call.first ≡ Some first)
-      (object : at_call.settings.object_address ≡ (in_force first at_call.inputs).object_address)
-      (maximum : at_call.settings.maximum ≡ (in_force first at_call.inputs).maximum) where
-    same_answer : record {
-      object_address = at_call.settings.object_address;
-      maximum = at_call.settings.maximum;
-      answer = LocationAnswer (called site);
-    } ≡ answered site (in_force first at_call.inputs)
-    same_answer =
-        ap (λ (o : Option ℕ). record {
-          object_address = o;
-          maximum = at_call.settings.maximum;
-          answer = LocationAnswer
-              (called site);
-        }) object
-        ∙ ap (λ (n : ℕ). record {
-          object_address = (in_force first at_call.inputs).object_address;
-          maximum = n;
-          answer = LocationAnswer (called site);
-        }) maximum
-
+      (still : at_call.now.settings ≡ in_force first.settings at_call.inputs) where
     outer_inputs : (tells told all_steps).inputs ≡ with_answer site first at_call.inputs later
     outer_inputs =
         ap (λ (t : Told). t.inputs) (tells_more told start (Resume (LocationAnswer (called site)) ∷ beyond))
         ∙ (tells_inputs at_call (Resume (LocationAnswer (called site)) ∷ beyond) ∙ ap
-        (λ (i : Input). at_call.inputs ++ (i ∷ later)) same_answer)
+        (λ (k : Settings). at_call.inputs ++ (answered site k ∷ later)) still)
 
     outer_first : (tells told all_steps).first ≡ Some first
     outer_first =
@@ -157,20 +138,7 @@ pub inlined_replays : InlinedReplay
 inlined_replays x y new other site offset start beyond replies given h k n sound l m =
     let y_free = subst (λ (s : Setup). s.limits ≡ no_limits) h.setups h.unlimited in
     let same_told : told_at y ≡ told_at x =
-    ap (λ (o : Option ℕ). record {
-      settings = record
-          { initial_value = None; object_address = o; maximum = y.store.maximum };
-      first = None;
-      inputs = [];
-    })
-    (sym h.object_address)
-    ∙ ap (λ (n : ℕ). record {
-      settings = record
-          { initial_value = None; object_address = x.store.object_address; maximum = n };
-      first = None;
-      inputs = [];
-    })
-    (sym h.maximum)
+    ap (λ (k : Settings). record { now = record { initial_value = None; settings = k }; first = None; inputs = [] }) (sym h.settings)
     in
     let first_done =
     subst (λ (t : Text). Done x.setup t (told_at x) (start ++ (Resume (LocationAnswer (called site)) ∷ beyond)) new) h.outer_text
@@ -190,10 +158,9 @@ inlined_replays x y new other site offset start beyond replies given h k n sound
     in
     ends x.setup site offset (told_at x) start beyond h.first
     (subst (λ (t : Told). t.first ≡ Some h.first) at_call h.is_started)
-    (subst (λ (t : Told). t.settings.object_address ≡ (in_force h.first t.inputs).object_address) at_call h.object_in_force)
-    (subst (λ (t : Told). t.settings.maximum ≡ (in_force h.first t.inputs).maximum) at_call h.maximum_in_force) new other
+    (subst (λ (t : Told). t.now.settings ≡ in_force h.first.settings t.inputs) at_call h.still_in_force) new other
     (λ faultless. (inlines x.setup site offset h.first (tells (told_at x) start).inputs
-    (added (tells (told_at x) start).settings beyond) h.requests h.unlimited h.stands h.inlinable
+    (added (tells (told_at x) start).now.settings beyond) h.requests h.unlimited h.stands h.inlinable
     (subst (λ (t : Told). LeadsToCall x.setup site offset h.first t.inputs h.requests) at_call h.leads) faultless).ends)
     first_done sound second_done
 
@@ -207,16 +174,14 @@ may_inline site inputs beyond outcome h =
       setups = refl;
       outer_text = refl;
       inlined_text = refl;
-      object_address = refl;
-      maximum = refl;
+      settings = refl;
       stands = h.stands;
       inlinable = h.inlinable;
-      told = record { settings = unset; first = Some unset; inputs = [] };
+      told = record { now = unset; first = Some unset; inputs = [] };
       told_is = refl;
       first = unset;
       is_started = refl;
       requests = [];
       leads = h.leads;
-      object_in_force = refl;
-      maximum_in_force = refl;
+      still_in_force = refl;
     }

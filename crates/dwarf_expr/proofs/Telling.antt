@@ -4,7 +4,7 @@ use Rattle.std.proofs.lemmas.List.{append-nil}
 use Rattle.dwarf_base.specs.Faults.{Fault}
 use Rattle.dwarf_base.specs.declared.errors.Error.TheVariants.{StackFull}
 use Rattle.dwarf_base.specs.Reads.{Text}
-use Rattle.dwarf_meaning.specs.Requests.{Answer, Input}
+use Rattle.dwarf_meaning.specs.Requests.{Answer, Settings, Input}
 use Rattle.dwarf_meaning.specs.Stores.{Setup}
 use Rattle.dwarf_meaning.specs.Meaning.{IsOver, Outcome, RequestOutcome, FaultOutcome, CompleteOutcome, First, meaning}
 use Rattle.std.specs.Option.{unwrap_or}
@@ -22,20 +22,11 @@ use Rattle.dwarf_laws.proofs.Evaluations.{none_full_beyond, clear_after}
 
 -- what a step tells, if every answer is awaited
 abbrev tell : Told → Step → Told
-tell told (InitialValue number) = record told { settings = record told.settings { initial_value = Some number } }
-tell told (ObjectAddress address) = record told { settings = record told.settings { object_address = Some address } }
-tell told (MaxIterations maximum) = record told { settings = record told.settings { maximum = maximum } }
-tell told Evaluate = record told { first = Some (unwrap_or told.first told.settings) }
-tell told (Resume answer) =
-    record told {
-      inputs =
-          told.inputs
-          ++ record {
-            object_address = told.settings.object_address;
-            maximum = told.settings.maximum;
-            answer = answer;
-          } ∷ [];
-    }
+tell told (InitialValue number) = record told { now = record told.now { initial_value = Some number } }
+tell told (ObjectAddress address) = record told { now = record told.now { settings = record told.now.settings { object_address = Some address } } }
+tell told (MaxIterations maximum) = record told { now = record told.now { settings = record told.now.settings { maximum = maximum } } }
+tell told Evaluate = record told { first = Some (unwrap_or told.first told.now) }
+tell told (Resume answer) = record told { inputs = told.inputs ++ record { settings = told.now.settings; answer = answer } ∷ [] }
 
 -- what steps tell
 abbrev pub tells : Told → List Step → Told
@@ -47,28 +38,23 @@ tells_more told [] more = refl
 tells_more told (step ∷ steps) more = tells_more (tell told step) steps more
 
 -- the inputs that steps add, with these settings
-abbrev pub added : First → List Step → List Input
+abbrev pub added : Settings → List Step → List Input
 added settings [] = []
-added settings (InitialValue number ∷ steps) = added (record settings { initial_value = Some number }) steps
+added settings (InitialValue number ∷ steps) = added settings steps
 added settings (ObjectAddress address ∷ steps) = added (record settings { object_address = Some address }) steps
 added settings (MaxIterations maximum ∷ steps) = added (record settings { maximum = maximum }) steps
 added settings (Evaluate ∷ steps) = added settings steps
-added settings (Resume answer ∷ steps) =
-    record { object_address = settings.object_address; maximum = settings.maximum; answer = answer } ∷ added settings steps
+added settings (Resume answer ∷ steps) = record { settings = settings; answer = answer } ∷ added settings steps
 
-pub tells_inputs : (told : Told) (steps : List Step) → (tells told steps).inputs ≡ told.inputs ++ added told.settings steps
+pub tells_inputs : (told : Told) (steps : List Step) → (tells told steps).inputs ≡ told.inputs ++ added told.now.settings steps
 tells_inputs told [] = sym (append-nil told.inputs)
 tells_inputs told (InitialValue number ∷ steps) = tells_inputs (tell told (InitialValue number)) steps
 tells_inputs told (ObjectAddress address ∷ steps) = tells_inputs (tell told (ObjectAddress address)) steps
 tells_inputs told (MaxIterations maximum ∷ steps) = tells_inputs (tell told (MaxIterations maximum)) steps
 tells_inputs told (Evaluate ∷ steps) = tells_inputs (tell told Evaluate) steps
 tells_inputs told (Resume answer ∷ steps) =
-    let input : Input = record {
-      object_address = told.settings.object_address;
-      maximum = told.settings.maximum;
-      answer = answer;
-    } in
-    tells_inputs (tell told (Resume answer)) steps ∙ append_assoc told.inputs (input ∷ []) (added told.settings steps)
+    let input : Input = record { settings = told.now.settings; answer = answer } in
+    tells_inputs (tell told (Resume answer)) steps ∙ append_assoc told.inputs (input ∷ []) (added told.now.settings steps)
 
 same_begun : (settings first : First) (o : Option First) → o ≡ Some first → Some (unwrap_or o settings) ≡ Some first
 same_begun settings first None e = absurd (cc)
@@ -81,7 +67,7 @@ tells_first told (InitialValue number ∷ steps) first e = tells_first (tell tol
 tells_first told (ObjectAddress address ∷ steps) first e = tells_first (tell told (ObjectAddress address)) steps first e
 tells_first told (MaxIterations maximum ∷ steps) first e = tells_first (tell told (MaxIterations maximum)) steps first e
 tells_first told (Evaluate ∷ steps) first e =
-    tells_first (tell told Evaluate) steps first (same_begun told.settings first told.first e)
+    tells_first (tell told Evaluate) steps first (same_begun told.now first told.first e)
 tells_first told (Resume answer ∷ steps) first e = tells_first (tell told (Resume answer)) steps first e
 
 module _ (setup : Setup) (refusal : Refusal) (text : Text) where
@@ -101,9 +87,9 @@ module _ (setup : Setup) (refusal : Refusal) (text : Text) where
   step_keeps told (InitialValue number) fault e = e
   step_keeps told (ObjectAddress address) fault e = e
   step_keeps told (MaxIterations maximum) fault e = e
-  step_keeps told Evaluate fault e = begun_keeps told.settings told.inputs told.first fault e
+  step_keeps told Evaluate fault e = begun_keeps told.now told.inputs told.first fault e
   step_keeps told (Resume answer) fault e =
-      subst (λ (o : Option Outcome). outcome_from setup refusal text (heard told.settings told.inputs answer o)
+      subst (λ (o : Option Outcome). outcome_from setup refusal text (heard told.now told.inputs answer o)
       told.first ≡ Some (FaultOutcome fault)) (sym e) e
 
   steps_keep : (told : Told) (steps : List Step) (fault : Fault) → comes told ≡ Some (FaultOutcome fault)
@@ -125,7 +111,7 @@ module _ (setup : Setup) (refusal : Refusal) (text : Text) where
   tell_keeps told (InitialValue number) fault e = e
   tell_keeps told (ObjectAddress address) fault e = e
   tell_keeps told (MaxIterations maximum) fault e = e
-  tell_keeps told Evaluate fault e = begun_keeps told.settings told.inputs told.first fault e
+  tell_keeps told Evaluate fault e = begun_keeps told.now told.inputs told.first fault e
   tell_keeps told (Resume answer) fault e = more_keeps told.inputs _ told.first fault e
 
   tells_keep : (told : Told) (steps : List Step) (fault : Fault) → comes told ≡ Some (FaultOutcome fault)

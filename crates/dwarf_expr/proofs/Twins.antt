@@ -90,7 +90,7 @@ stopped_of fault Running h = absurd h
 stand_alike : (bits : ℕ) (x y : State) (told told' : Told) (o o' : Option Outcome) → AgreeingTold bits told told'
     → Both (AgreeingOutcomes bits) o o'
     → StandsAt told x o → StandsAt told' y o' → StatesStandAlike bits x y
-stand_alike bits x y told told' o o' t nothing h k = unstarted _ _ h.0 k.0 t.settings.initial_value
+stand_alike bits x y told told' o o' t nothing h k = unstarted _ _ h.0 k.0 t.now.initial_value
 stand_alike bits x y told told' o o' t (something (agreeing.requests {request = request} {positions = positions})) h k =
     let first = asking_of x request positions x.status h.0 in
     let second = asking_of y request positions y.status k.0 in
@@ -217,12 +217,7 @@ module _ (x y : State) (steps others : List Step) (h : MayReplay x y steps other
   told_alike : AgreeingTold w (told_at x) (told_at y)
   told_alike =
       record {
-        settings = record {
-          initial_value = nothing;
-          object_address = h.twins.object_address;
-          maximum =
-              h.twins.maximum;
-        };
+        now = record { initial_value = nothing; settings = h.twins.settings };
         first = nothing;
         inputs = tt;
       }
@@ -446,6 +441,6 @@ pub may_replay : (text : Text) (steps others : List Step) → AllZip (AgreeingSt
 may_replay text steps others h =
     record {
       width = record { some_bit = omega arith; within_64 = omega arith };
-      twins = record { text = refl; encoding = refl; offset_bits = refl; object_address = nothing; maximum = refl };
+      twins = record { text = refl; encoding = refl; offset_bits = refl; settings = record { object_address = nothing; maximum = refl } };
       agreeing = h;
     }

@@ -20,8 +20,7 @@ pub record MayInline (x y : State) (site : CallSite) (offset : DieReference) (st
   pub setups : x.setup ≡ y.setup
   pub outer_text : x.text ≡ outer site
   pub inlined_text : y.text ≡ inlined site
-  pub object_address : x.store.object_address ≡ y.store.object_address
-  pub maximum : x.store.maximum ≡ y.store.maximum
+  pub settings : x.store.settings ≡ y.store.settings
   pub stands : StandsIn x.setup site offset
   pub inlinable : IsInlinable x.setup site
   pub told : Told
@@ -30,8 +29,7 @@ pub record MayInline (x y : State) (site : CallSite) (offset : DieReference) (st
   pub is_started : told.first ≡ Some first
   pub requests : List Request
   pub leads : LeadsToCall x.setup site offset first told.inputs requests
-  pub object_in_force : told.settings.object_address ≡ (in_force first told.inputs).object_address
-  pub maximum_in_force : told.settings.maximum ≡ (in_force first told.inputs).maximum
+  pub still_in_force : told.now.settings ≡ in_force first.settings told.inputs
 
 -- both wait in the same request, or are complete with the same pieces and value
 pub data StatesEndAlike (x y : State) : Type 0 where

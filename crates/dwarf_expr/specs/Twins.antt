@@ -16,7 +16,7 @@ use Rattle.dwarf_meaning.specs.Rows.{plain, unset}
 use Rattle.dwarf_meaning.specs.Rest.{State, Start, RequestStatus, CompleteStatus, FaultStatus}
 use Rattle.dwarf_meaning.specs.Steps.{Step, Reply}
 use Rattle.dwarf_meaning.specs.Refusals.{Never, HasFreeList}
-use Rattle.dwarf_laws.specs.Agreement.{Both, AgreeingNumbers, AgreeingSteps, AgreeingPieces}
+use Rattle.dwarf_laws.specs.Agreement.{Both, AgreeingNumbers, AgreeingSteps, AgreeingSettings, AgreeingPieces}
 use Rattle.dwarf_laws.specs.TwoRuns.{NoneIsFull}
 use Rattle.dwarf_replay.specs.Replays.{Walks, WalksTo, WalksOver}
 
@@ -39,8 +39,7 @@ pub record AreTwins (x y : State) : Type 0 where
   pub text : x.text ≡ y.text
   pub encoding : x.setup.encoding ≡ y.setup.encoding
   pub offset_bits : x.setup.offset_bits ≡ y.setup.offset_bits
-  pub object_address : Both (AgreeingNumbers (address_bits x.setup)) x.store.object_address y.store.object_address
-  pub maximum : x.store.maximum ≡ y.store.maximum
+  pub settings : AgreeingSettings (address_bits x.setup) x.store.settings y.store.settings
 
 -- twins, with addresses of 1 to 64 bits, and steps that agree
 pub record MayReplay (x y : State) (steps others : List Step) : Type 0 where

@@ -14,12 +14,11 @@ use Rattle.dwarf_meaning.specs.Locations.{Location}
 use Rattle.dwarf_meaning.specs.Spelling.{Spells}
 use Rattle.dwarf_meaning.specs.Splitting.{Joined}
 use Rattle.dwarf_meaning.specs.Splitting as splitting
-use Rattle.dwarf_meaning.specs.Requests.{Request, RequiresAtLocation, Push, Input}
+use Rattle.dwarf_meaning.specs.Requests.{Request, RequiresAtLocation, Push, Input, Settings}
 use Rattle.dwarf_meaning.specs.Kinds.{kind_of_request, kind_of_answer, is_same_kind}
 use Rattle.dwarf_meaning.specs.Acts.{act, Use, PushesAnswer, Calls, FaultUse, use_of}
 use Rattle.dwarf_meaning.specs.Stores.{Setup, address_bits, Store, Last, Nothing, Plain, Pieced, Pushed, Called, Located, push_value, push_caller, done}
 use Rattle.dwarf_meaning.specs.Run.{Position, End, CompleteEnd, RequestEnd, FaultEnd, Course, only_end, prepend, return_to_caller, run_callee, after_answer, await_answer, after_operation, read, can_count, counted, do_operation, turn_counted, counted_act, located_act, turn_by, run}
-use Rattle.dwarf_meaning.specs.Meaning.{First}
 use Rattle.dwarf_meaning.proofs.Turns.{run_turn}
 use Rattle.dwarf_meaning.proofs.Callees.{EndOpen, run_open}
 use Rattle.dwarf_meaning.proofs.Decoded.{spelled_operation, some_bytes}
@@ -75,7 +74,7 @@ module _ (encoding : Encoding) (bits : ℕ) (A K B : List ℕ) (big : Bool) (off
   does_call s inputs =
       ap (do_operation (run S) S outer 0 s inputs (counted_act S s)) read_call
       ∙ ap (λ (k : ℕ). after_operation (run S) S outer 0 k inputs
-      (done S k (length (A ++ (K ++ B))) (act (address_bits S) s.object_address (operation.Call offset) s.values)
+      (done S k (length (A ++ (K ++ B))) (act (address_bits S) s.settings.object_address (operation.Call offset) s.values)
       s)) call_place
 
   counts_call : (t : Store) (before : List Input) → AtCall (turn_counted (run S) S outer (length A) 0 (calm t) before).end
@@ -169,10 +168,10 @@ module _ (encoding : Encoding) (bits : ℕ) (A K B : List ℕ) (big : Bool) (off
     asked_not t input inputs =
         cond_both (is_same_kind (kind_of_request call) (kind_of_answer input.answer)) _ _ (λ (c : Course). AtCall c.end → ⊥)
         (λ fits. used_not (use_of (address_bits S) Push input.answer t.values) (record t
-        { count = t.count + 1; object_address = input.object_address; maximum = input.maximum }) inputs)
+        { count = t.count + 1; settings = input.settings }) inputs)
         (λ other at_call. let x : input ∷ inputs ≡ [] = ap inputs_of at_call in cc)
 
-  module _ (target : First) where
+  module _ (target : Settings) where
     abbrev From : ℕ → Type 0
     From p = phase.From encoding bits A K B big offset spelled target p
 

@@ -1,5 +1,5 @@
 -- Without limits and refusals nothing that is kept depends on the count.
-use Rattle.std.proofs.Common.{ℕ, ◌+◌, ◌≡◌, ◌≤◌, ℤ, false, List, [], ◌∷◌, ◌++◌, Option, None, Result, Ok, refl, sym, subst, arith, nat_lt}
+use Rattle.std.proofs.Common.{ℕ, ◌+◌, ◌≡◌, ◌≤◌, ℤ, false, List, [], ◌∷◌, ◌++◌, None, Result, Ok, refl, sym, subst, arith, nat_lt}
 use Rattle.std.proofs.lemmas.Bool.{cond-false, cond_both}
 use Rattle.std.proofs.lemmas.Bool.Decides.{nat_tests}
 use Rattle.dwarf_base.specs.declared.common.Encoding.{Encoding}
@@ -9,7 +9,7 @@ use Rattle.dwarf_value.specs.declared.types.Value.{Value}
 use Rattle.dwarf_meaning.specs.Operations as operation
 use Rattle.dwarf_meaning.specs.Operations.{Operation}
 use Rattle.dwarf_meaning.specs.Locations.{Location, sized}
-use Rattle.dwarf_meaning.specs.Requests.{Request, OnAnswer}
+use Rattle.dwarf_meaning.specs.Requests.{Request, OnAnswer, Settings}
 use Rattle.dwarf_meaning.specs.Acts.{Act, Pushes, Branches, Locates, EndsPiece, RequestAct, FaultAct}
 use Rattle.dwarf_meaning.specs.Stores.{Setup, Store, Plain, Pieced, Located, push_value, push_piece, push_values, Next, Goes, RequestNext, FaultNext, goes, done, branch_target, branch}
 use Rattle.dwarf_meaning.specs.Run.{located_act}
@@ -50,12 +50,12 @@ module _ (encoding : Encoding) (bits : ℕ) where
   piles_ahead n (value ∷ more) t = piles_ahead n more (record t { values = value ∷ t.values })
 
   -- what two operations lead to, at places that are related; the settings stay
-  pub data NextBoth (n : ℕ) (Al : ℕ → ℕ → Type 0) (object : Option ℕ) (maximum : ℕ) : Next → Next → Type 0 where
-    goes_both : {q q' : ℕ} (t : Store) → Al q q' → t.object_address ≡ object → t.maximum ≡ maximum
-        → NextBoth n Al object maximum (Goes q (ahead n t)) (Goes q' (calm t))
-    request_both : {request : Request} {on_answer : OnAnswer} (t : Store) → t.object_address ≡ object → t.maximum ≡ maximum
-        → NextBoth n Al object maximum (RequestNext request on_answer (ahead n t)) (RequestNext request on_answer (calm t))
-    fails_both : {fault : Fault} {next : Next} → NextBoth n Al object maximum (FaultNext fault) next
+  pub data NextBoth (n : ℕ) (Al : ℕ → ℕ → Type 0) (settings : Settings) : Next → Next → Type 0 where
+    goes_both : {q q' : ℕ} (t : Store) → Al q q' → t.settings ≡ settings
+        → NextBoth n Al settings (Goes q (ahead n t)) (Goes q' (calm t))
+    request_both : {request : Request} {on_answer : OnAnswer} (t : Store) → t.settings ≡ settings
+        → NextBoth n Al settings (RequestNext request on_answer (ahead n t)) (RequestNext request on_answer (calm t))
+    fails_both : {fault : Fault} {next : Next} → NextBoth n Al settings (FaultNext fault) next
 
   module _ (n : ℕ) (Al : ℕ → ℕ → Type 0) (len len' place place' : ℕ) where
     -- a branch to a place of the text leads to a place beside it
@@ -65,42 +65,42 @@ module _ (encoding : Encoding) (bits : ℕ) where
         (branch_target S place target) (branch_target S place' target)
 
     branch_both : (target : ℤ) (t : Store) → Lands target
-        → NextBoth n Al t.object_address t.maximum (branch len (branch_target S place target) (ahead n t))
+        → NextBoth n Al t.settings (branch len (branch_target S place target) (ahead n t))
         (branch len' (branch_target S place' target) (calm t))
     branch_both target t h =
-        cond_both (nat_lt len (branch_target S place target)) _ _ (λ (x : Next). NextBoth n Al t.object_address t.maximum x
+        cond_both (nat_lt len (branch_target S place target)) _ _ (λ (x : Next). NextBoth n Al t.settings x
         (branch len' (branch_target S place' target) (calm t)))
         (λ e. fails_both)
         (λ e.
         let lands = h (grind (arith, nat_tests)) in
         let no : nat_lt len' (branch_target S place' target) ≡ false = let l = lands.0 in grind (arith, nat_tests) in
-        subst (λ (x : Next). NextBoth n Al t.object_address t.maximum
+        subst (λ (x : Next). NextBoth n Al t.settings
         (Goes (branch_target S place target) (ahead n t)) x)
         (sym (cond-false (nat_lt len' (branch_target S place' target))
         (FaultNext (BadBranchTarget (branch_target S place' target))) (Goes (branch_target S place' target) (calm t))
-        no)) (goes_both t lands.1 refl refl))
+        no)) (goes_both t lands.1 refl))
 
     pub done_both : (a : Act) (t : Store) → Al place place' → Jumping Lands a
-        → NextBoth n Al t.object_address t.maximum (done S place len a (ahead n t)) (done S place' len' a (calm t))
+        → NextBoth n Al t.settings (done S place len a (ahead n t)) (done S place' len' a (calm t))
     unfolding push_piece
     done_both (Pushes rest pushed) t al pushes =
         let u : Store = record t { values = rest; last = Plain } in
         let v : Store = record u { values = piled pushed rest } in
-        subst (λ (r : Result Store Fault). NextBoth n Al t.object_address t.maximum (goes place r)
+        subst (λ (r : Result Store Fault). NextBoth n Al t.settings (goes place r)
         (goes place' (push_values S pushed (calm u)))) (sym (piles_ahead n pushed u))
-        (subst (λ (r : Result Store Fault). NextBoth n Al t.object_address t.maximum (Goes place (ahead n v))
-        (goes place' r)) (sym (piles_calm pushed u)) (goes_both v al refl refl))
+        (subst (λ (r : Result Store Fault). NextBoth n Al t.settings (Goes place (ahead n v))
+        (goes place' r)) (sym (piles_calm pushed u)) (goes_both v al refl))
     done_both (Branches rest target) t al (branches h) = branch_both target (record t { values = rest; last = Plain }) h
-    done_both (Locates rest location) t al locates = goes_both (record t { values = rest; last = Located location }) al refl refl
+    done_both (Locates rest location) t al locates = goes_both (record t { values = rest; last = Located location }) al refl
     done_both (EndsPiece rest piece) t al ends =
-        goes_both (record t { values = rest; last = Pieced; pieces = t.pieces ++ piece ∷ [] }) al refl refl
-    done_both (RequestAct rest request on_answer) t al asks = request_both (record t { values = rest }) refl refl
+        goes_both (record t { values = rest; last = Pieced; pieces = t.pieces ++ piece ∷ [] }) al refl
+    done_both (RequestAct rest request on_answer) t al asks = request_both (record t { values = rest }) refl
     done_both (FaultAct fault) t al refuses = fails_both
 
     pub located_both : (location : Location) (t : Store) (op : Operation) → Al place place'
-        → NextBoth n Al t.object_address t.maximum (done S place len (located_act location t place op) (ahead n t))
+        → NextBoth n Al t.settings (done S place len (located_act location t place op) (ahead n t))
         (done S place' len' (located_act location t place' op) (calm t))
     unfolding push_piece
     located_both location t (operation.Piece size_in_bits bit_offset) al =
-        goes_both (record t { last = Pieced; pieces = t.pieces ++ sized size_in_bits bit_offset location ∷ [] }) al refl refl
+        goes_both (record t { last = Pieced; pieces = t.pieces ++ sized size_in_bits bit_offset location ∷ [] }) al refl
     located_both location t op al = fails_both

@@ -46,11 +46,11 @@ module _ (w : ℕ) where
 
   untold_both : (told told' : Told) → AgreeingTold w told told' → IsUntold told → IsUntold told'
   untold_both told told' t h =
-      record { first = none_both _ _ _ t.first h.first; initial_value = none_both _ _ _ t.settings.initial_value h.initial_value }
+      record { first = none_both _ _ _ t.first h.first; initial_value = none_both _ _ _ t.now.initial_value h.initial_value }
 
   untold_back : (told told' : Told) → AgreeingTold w told told' → IsUntold told' → IsUntold told
   untold_back told told' t h =
-      record { first = none_back _ _ _ t.first h.first; initial_value = none_back _ _ _ t.settings.initial_value h.initial_value }
+      record { first = none_back _ _ _ t.first h.first; initial_value = none_back _ _ _ t.now.initial_value h.initial_value }
 
   allows_both : (told told' : Told) (o o' : Option Outcome) (x y : Step) → AgreeingTold w told told'
       → Both (AgreeingOutcomes w) o o' → AgreeingSteps w x y → Allows told o x ↔ Allows told' o' y
@@ -72,7 +72,7 @@ module _ (w : ℕ) where
       → Both (AgreeingOutcomes w) o o' → AllZip (AgreeingInputs w) (heard x inputs a o) (heard y inputs' b o')
   heard_both x y inputs inputs' a b o o' f i k nothing = i
   heard_both x y inputs inputs' a b o o' f i k (something requests) =
-      AllZip-push (AgreeingInputs w) _ _ _ _ i (record { object_address = f.object_address; maximum = f.maximum; answer = k })
+      AllZip-push (AgreeingInputs w) _ _ _ _ i (record { settings = f.settings; answer = k })
   heard_both x y inputs inputs' a b o o' f i k (something faults) = i
   heard_both x y inputs inputs' a b o o' f i k (something (completions p v)) = i
 
@@ -80,41 +80,32 @@ module _ (w : ℕ) where
       → Both (AgreeingOutcomes w) o o' → AgreeingSteps w x y → AgreeingTold w (after told o x) (after told' o' y)
   after_both told told' o o' x y t h (initial_value e) =
       record {
-        settings = record {
-          initial_value = something e;
-          object_address = t.settings.object_address;
-          maximum =
-              t.settings.maximum;
-        };
+        now = record { initial_value = something e; settings = t.now.settings };
         first = t.first;
         inputs = t.inputs;
       }
   after_both told told' o o' x y t h (object_address e) =
       record {
-        settings = record {
-          initial_value = t.settings.initial_value;
-          object_address = something e;
-          maximum =
-              t.settings.maximum;
+        now = record {
+          initial_value = t.now.initial_value;
+          settings = record { object_address = something e; maximum = t.now.settings.maximum };
         };
         first = t.first;
         inputs = t.inputs;
       }
   after_both told told' o o' x y t h max_iterations =
       record {
-        settings = record {
-          initial_value = t.settings.initial_value;
-          object_address =
-              t.settings.object_address;
-          maximum = refl;
+        now = record {
+          initial_value = t.now.initial_value;
+          settings = record { object_address = t.now.settings.object_address; maximum = refl };
         };
         first = t.first;
         inputs = t.inputs;
       }
   after_both told told' o o' x y t h evaluate =
-      record { settings = t.settings; first = something (begun_both _ _ _ _ t.settings t.first); inputs = t.inputs }
+      record { now = t.now; first = something (begun_both _ _ _ _ t.now t.first); inputs = t.inputs }
   after_both told told' o o' x y t h (resume k) =
-      record { settings = t.settings; first = t.first; inputs = heard_both _ _ _ _ _ _ o o' t.settings t.inputs k h }
+      record { now = t.now; first = t.first; inputs = heard_both _ _ _ _ _ _ o o' t.now t.inputs k h }
 
   -- ---- what a step answers
 
@@ -248,7 +239,7 @@ two_runs setup limits refusal another text told second steps others width t p (i
 pub nothing_told : (w : ℕ) → AgreeingTold w untold untold
 nothing_told w =
     record {
-      settings = record { initial_value = nothing; object_address = nothing; maximum = refl };
+      now = record { initial_value = nothing; settings = record { object_address = nothing; maximum = refl } };
       first = nothing;
       inputs = tt;
     }

@@ -11,7 +11,7 @@ use Rattle.dwarf_meaning.specs.Requests.{Request, OnAnswer}
 use Rattle.dwarf_meaning.specs.Acts.{Act}
 use Rattle.dwarf_meaning.specs.Stores.{Setup, address_bits, Store, Last, Nothing, Plain, Pieced, Pushed, Called, Located, push_value, push_piece, push_caller, push_values, Next, Goes, RequestNext, FaultNext, goes, done}
 use Rattle.dwarf_meaning.specs.Refusals.{Limits, Refusal, Never, After, spent, room}
-use Rattle.dwarf_laws.specs.Agreement.{Both, AgreeingNumbers, AgreeingLocations, AgreeingPieces}
+use Rattle.dwarf_laws.specs.Agreement.{AgreeingSettings, AgreeingLocations, AgreeingPieces}
 use Rattle.dwarf_laws.proofs.Pairs.{Pairwise, none, more, same_length, snoc_both, if_pair}
 use Rattle.dwarf_laws.proofs.Actions.{AgreeingActs, pushes, branches, locates, ends, asks, refuses}
 
@@ -29,8 +29,7 @@ pub record AgreeingStores (Free : Type 0) (w : ℕ) (s t : Store) : Type 0 where
   pub values : Pairwise (Agree w) s.values t.values
   pub pieces : Pairwise (AgreeingPieces w) s.pieces t.pieces
   pub count : s.count ≡ t.count
-  pub object_address : Both (AgreeingNumbers w) s.object_address t.object_address
-  pub maximum : s.maximum ≡ t.maximum
+  pub settings : AgreeingSettings w s.settings t.settings
   pub last : AgreeingLasts w s.last t.last
   pub refusal : Free ⊎ (s.refusal ≡ t.refusal)
 
@@ -109,8 +108,7 @@ changed a v l =
       values = v;
       pieces = a.pieces;
       count = a.count;
-      object_address = a.object_address;
-      maximum = a.maximum;
+      settings = a.settings;
       last = l;
       refusal = a.refusal;
     }
@@ -142,9 +140,7 @@ module _ (Free : Type 0) (setup : Setup) (limits : Limits) (premise : Free ⊎ (
         values = more a h.values;
         pieces = h.pieces;
         count = h.count;
-        object_address =
-            h.object_address;
-        maximum = h.maximum;
+        settings = h.settings;
         last = h.last;
         refusal = e;
       })
@@ -161,9 +157,7 @@ module _ (Free : Type 0) (setup : Setup) (limits : Limits) (premise : Free ⊎ (
         values = h.values;
         pieces = snoc_both h.pieces a;
         count = h.count;
-        object_address =
-            h.object_address;
-        maximum = h.maximum;
+        settings = h.settings;
         last = h.last;
         refusal = e;
       })
@@ -179,9 +173,7 @@ module _ (Free : Type 0) (setup : Setup) (limits : Limits) (premise : Free ⊎ (
         values = h.values;
         pieces = h.pieces;
         count = h.count;
-        object_address =
-            h.object_address;
-        maximum = h.maximum;
+        settings = h.settings;
         last = h.last;
         refusal = e;
       })

@@ -9,7 +9,7 @@ use Rattle.dwarf_meaning.specs.Operands.{context_of}
 use Rattle.dwarf_meaning.specs.Operations.{Operation, DieReference}
 use Rattle.dwarf_meaning.specs.Splitting.{Joined, items_at}
 use Rattle.dwarf_meaning.specs.Splitting as splitting
-use Rattle.dwarf_meaning.specs.Requests.{Request, RequiresAtLocation, LocationAnswer, Push, Input}
+use Rattle.dwarf_meaning.specs.Requests.{Request, RequiresAtLocation, LocationAnswer, Push, Input, Settings}
 use Rattle.dwarf_meaning.specs.Kinds.{is_same_kind}
 use Rattle.dwarf_meaning.specs.Acts.{use_of}
 use Rattle.dwarf_meaning.specs.Stores.{Setup, Store, Last, Nothing, Plain, Pieced, Pushed, Called, Located, push_caller, push_value, push_piece}
@@ -31,22 +31,8 @@ use Rattle.dwarf_laws.proofs.Calling.{call_course, call_turn, straight_beyond, f
 -- ---- settings
 
 -- the called text as an answer that changes no setting
-abbrev pub answered : CallSite → First → Input
-answered site settings = record {
-  object_address = settings.object_address;
-  maximum = settings.maximum;
-  answer = LocationAnswer (inlining.called site);
-}
-
-keeps_initial : (first : First) (inputs : List Input) → (in_force first inputs).initial_value ≡ first.initial_value
-keeps_initial first [] = refl
-keeps_initial first (input ∷ inputs) =
-    keeps_initial (record first { object_address = input.object_address; maximum = input.maximum }) inputs
-
-fits_so : (first : First) (inputs : List Input) → Fits (in_force first inputs) inputs first.object_address first.maximum
-fits_so first inputs =
-    ap (λ (k : Option ℕ). in_force (record
-    { initial_value = k; object_address = first.object_address; maximum = first.maximum }) inputs) (keeps_initial first inputs)
+abbrev pub answered : CallSite → Settings → Input
+answered site settings = record { settings = settings; answer = LocationAnswer (inlining.called site) }
 
 snoc_same : {A : Type 0} (a b : List A) (x : A) → a ++ x ∷ [] ≡ b ++ x ∷ [] → a ≡ b
 snoc_same [] [] x e = refl
@@ -93,7 +79,7 @@ module _ (encoding : Encoding) (bits : ℕ) where
       record { positions = h.positions; same = ap (λ (l : List Request). more ++ l) h.same; is = h.is }
   ends_beyond more front (FaultEnd fault) requests end' h = tt
 
-  settled : (target : First) (T : Text) (front : List Request) (end : End) (requests : List Request) (end' : End)
+  settled : (target : Settings) (T : Text) (front : List Request) (end : End) (requests : List Request) (end' : End)
       → MirrorsAt encoding bits target 1 T (length T.bytes) 0 front end requests end' → EndsAt front end requests end'
   settled target T front (CompleteEnd s inputs) requests end' h =
       let over = at_end encoding bits target 1 T 0 (calm h.store) inputs in
@@ -178,8 +164,8 @@ module _ (encoding : Encoding) (bits : ℕ) where
         subst AllStraight (sym (splitting_items encoding bits site.is_big outer.bytes stands.operations stands.fault
         stands.splits)) (straight_items stands.operations stands.fault stands.straight)
 
-    module _ (straight : StraightFrom encoding bits outer (length A + length K)) (target : First) where
-      after_callee : (t : Store) (inputs : List Input) → Fits target inputs t.object_address t.maximum
+    module _ (straight : StraightFrom encoding bits outer (length A + length K)) (target : Settings) where
+      after_callee : (t : Store) (inputs : List Input) → Fits target inputs t.settings
           → let x = run S outer (length A + length K) 0 (ahead 1 t) inputs in
           let y = run S inlined (length A + length C) 0 (calm t) inputs in EndsAt x.requests x.end y.requests y.end
       after_callee t inputs f =
@@ -209,7 +195,7 @@ module _ (encoding : Encoding) (bits : ℕ) where
           (sym h.goes_on.end) both))
 
       -- the callee in its call's place, and what follows
-      callee_ends : (t : Store) (inputs : List Input) → Fits target inputs t.object_address t.maximum
+      callee_ends : (t : Store) (inputs : List Input) → Fits target inputs t.settings
           → let c = run S callee 0 1 (ahead 1 t) inputs in let x = return_to_caller (run S) after_call 0 c c.end in
           let y = run S inlined (length A) 0 (calm t) inputs in EndsAt x.requests x.end y.requests y.end
       callee_ends t inputs f =
@@ -220,15 +206,14 @@ module _ (encoding : Encoding) (bits : ℕ) where
           fit.short) 0 (length A) 1 0 t inputs (omega arith, omega arith) f)
 
     -- the outer run from the call on, with the answer
-    answered_call : (t : Store) (settings : First) (inputs : List Input)
+    answered_call : (t : Store) (settings : Settings) (inputs : List Input)
         → await_answer (run S) S after_call 0 (RequiresAtLocation offset) Push (counted (calm t))
         (answered site settings ∷ inputs)
-        ≡ (let u : Store = record t { object_address = settings.object_address; maximum = settings.maximum } in
+        ≡ (let u : Store = record t { settings = settings } in
         let c = run S callee 0 1 (ahead 1 u) inputs in return_to_caller (run S) after_call 0 c c.end)
     unfolding use_of is_same_kind
     answered_call t settings inputs =
-        enters after_call callee C (record t
-        { object_address = settings.object_address; maximum = settings.maximum }) inputs fit.some
+        enters after_call callee C (record t { settings = settings }) inputs fit.some
 
     -- ---- the whole
 
@@ -244,15 +229,15 @@ module _ (encoding : Encoding) (bits : ℕ) where
     starts (Some number) first text inputs = refl
 
     starts_fit : (o : Option ℕ) (first : First) (inputs : List Input) → let t = started o first in
-        Fits (in_force first inputs) inputs t.object_address t.maximum
+        Fits (in_force first.settings inputs) inputs t.settings
     unfolding started
-    starts_fit None first inputs = fits_so first inputs
-    starts_fit (Some number) first inputs = fits_so first inputs
+    starts_fit None first inputs = refl
+    starts_fit (Some number) first inputs = refl
 
     module _ (first : First) (earlier : List Input) (requests : List Request)
         (leads : LeadsToCall S site offset first earlier requests) where
-      abbrev settings : First
-      settings = in_force first earlier
+      abbrev settings : Settings
+      settings = in_force first.settings earlier
 
       abbrev course : Text → List Input → Course
       course text inputs = course_of S Never text first inputs
@@ -298,12 +283,8 @@ module _ (encoding : Encoding) (bits : ℕ) where
             (sym ((r.goes_on (K ++ B) []).requests ∙ ap (λ (c : Course). r.front ++ c.requests) (calls []))
             ∙ (ap (λ (inputs : List Input). (course outer inputs).requests) (append-nil earlier) ∙ leads.asked))
 
-        same_store : record r.store { object_address = settings.object_address; maximum = settings.maximum } ≡ r.store
-        same_store =
-            let object : settings.object_address ≡ r.store.object_address = sym (ap (λ (f : First). f.object_address) r.fits) in
-            let maximum : settings.maximum ≡ r.store.maximum = sym (ap (λ (f : First). f.maximum) r.fits) in
-            ap (λ (k : Option ℕ). record r.store { object_address = k; maximum = settings.maximum }) object ∙ ap
-            (λ (k : ℕ). record r.store { maximum = k }) maximum
+        same_store : record r.store { settings = settings } ≡ r.store
+        same_store = ap (λ (k : Settings). record r.store { settings = k }) (sym r.fits)
 
         module _ (later : List Input) where
           abbrev callee_course : Store → Course
@@ -316,9 +297,7 @@ module _ (encoding : Encoding) (bits : ℕ) where
           second_rest = run S inlined (length A) 0 (calm r.store) later
 
           rests : EndsAt first_rest.requests first_rest.end second_rest.requests second_rest.end
-          rests =
-              let now : First = record settings { object_address = r.store.object_address; maximum = r.store.maximum } in
-              callee_ends straight (in_force now later) r.store later (fits_so now later)
+          rests = callee_ends straight (in_force r.store.settings later) r.store later refl
 
           calls_so : run S outer (length A) 0 (calm r.store) (answered site settings ∷ later) ≡ prepend (record { text = outer; place = length A } ∷ []) [] (prepend [] (call ∷ []) first_rest)
           calls_so =

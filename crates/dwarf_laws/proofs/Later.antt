@@ -118,7 +118,7 @@ module _ (encoding : Encoding) (bits : ℕ) (T : Text) (q : ℕ) where
     counts_later =
         cond_both (can_count s) _ _ (λ (c : Course). AsksBeyond T q c.end)
         (λ e. does_later (counted s) (counted_act S s) (read S T p)
-        (λ place op straight. act_jumps (λ z. ⊥) (address_bits S) s.object_address op s.values
+        (λ place op straight. act_jumps (λ z. ⊥) (address_bits S) s.settings.object_address op s.values
         (straight_jumps (λ z. ⊥) op straight)) refl) (λ e. tt)
 
     by_later : (last : Last) → AsksBeyond T q (turn_by go S T p d s inputs last).end

@@ -119,8 +119,7 @@ module _ (Free : Type 0) (setup : Setup) (limits : Limits) (premise : Free ⊎ (
           values = none;
           pieces = none;
           count = refl;
-          object_address = a.object_address;
-          maximum = a.maximum;
+          settings = a.settings;
           last = both_nothing;
           refusal = same_refusal;
         }

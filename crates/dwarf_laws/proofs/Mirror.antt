@@ -1,5 +1,5 @@
 -- A run in one text, and a run in another that reads the same operations, if the first has counted more.
-use Rattle.std.proofs.Common.{ℕ, zero, suc, ◌+◌, ◌-◌, ◌≡◌, true, false, List, [], ◌∷◌, ◌++◌, length, Option, Result, Ok, Err, refl, sym, ap, subst, ◌∙◌, ◌==◌, arith, append_assoc}
+use Rattle.std.proofs.Common.{ℕ, zero, suc, ◌+◌, ◌-◌, ◌≡◌, true, false, List, [], ◌∷◌, ◌++◌, length, Result, Ok, Err, refl, sym, ap, subst, ◌∙◌, ◌==◌, arith, append_assoc}
 use Rattle.std.proofs.lemmas.Bool.{cond-true, cond-false, cond_both}
 use Rattle.std.proofs.lemmas.Bool.Decides.{nat_tests}
 use Rattle.std.proofs.lemmas.List.{append-nil}
@@ -9,12 +9,11 @@ use Rattle.dwarf_base.specs.declared.errors.Error.TheVariants.{TooManyIterations
 use Rattle.dwarf_base.specs.Reads.{Text}
 use Rattle.dwarf_meaning.specs.Operations.{Operation}
 use Rattle.dwarf_meaning.specs.Locations.{Location}
-use Rattle.dwarf_meaning.specs.Requests.{Request, OnAnswer, Input}
+use Rattle.dwarf_meaning.specs.Requests.{Request, OnAnswer, Input, Settings}
 use Rattle.dwarf_meaning.specs.Kinds.{kind_of_request, kind_of_answer, is_same_kind}
 use Rattle.dwarf_meaning.specs.Acts.{act, Use, PushesAnswer, Calls, FaultUse, use_of}
 use Rattle.dwarf_meaning.specs.Stores.{Setup, address_bits, Store, Last, Nothing, Plain, Pieced, Pushed, Called, Located, push_value, push_caller, Next}
 use Rattle.dwarf_meaning.specs.Run.{Position, End, CompleteEnd, RequestEnd, FaultEnd, Course, only_end, prepend, Continues, return_to_caller, run_callee, after_answer, await_answer, after_operation, read, can_count, counted, do_operation, turn_counted, counted_act, located_act, turn_by, turn, out_of_turns, run_for, enough, run}
-use Rattle.dwarf_meaning.specs.Meaning.{First}
 use Rattle.dwarf_laws.specs.Inlining.{in_force}
 use Rattle.dwarf_meaning.proofs.Turns.{run_turn}
 use Rattle.dwarf_laws.proofs.Pairs.{if_pair}
@@ -22,8 +21,8 @@ use Rattle.dwarf_laws.proofs.Jumps.{AllJumps, every_jump, act_jumps}
 use Rattle.dwarf_laws.proofs.Calm.{free, calm, ahead, NextBoth, goes_both, request_both, fails_both, Lands, done_both, located_both}
 
 -- the settings that will be in force once the inputs are taken
-abbrev pub Fits : First → List Input → (object : Option ℕ) (maximum : ℕ) → Type 0
-Fits target inputs object maximum = in_force (record target { object_address = object; maximum = maximum }) inputs ≡ target
+abbrev pub Fits : Settings → List Input → Settings → Type 0
+Fits target inputs settings = in_force settings inputs ≡ target
 
 -- a course asks these first, and goes on as another
 pub record GoesOn (front all : List Request) (last : End) (course : Course) : Type 0 where
@@ -37,7 +36,7 @@ pub record AsksToo (front : List Request) (request : Request) (inputs : List Inp
   pub same : requests ≡ front
   pub is : end ≡ RequestEnd request positions inputs
 
-module _ (encoding : Encoding) (bits : ℕ) (target : First) (n : ℕ) where
+module _ (encoding : Encoding) (bits : ℕ) (target : Settings) (n : ℕ) where
   abbrev S : Setup
   S = free encoding bits
 
@@ -46,7 +45,7 @@ module _ (encoding : Encoding) (bits : ℕ) (target : First) (n : ℕ) where
       (requests : List Request) (end : End) : Type 0 where
     pub store : Store
     pub is : s ≡ ahead n store
-    pub fits : Fits target inputs store.object_address store.maximum
+    pub fits : Fits target inputs store.settings
     pub goes_on : GoesOn front requests end (run S text stop depth (calm store) inputs)
 
   abbrev pub MirrorsAt : (text : Text) (stop depth : ℕ) → List Request → End → List Request → End → Type 0
@@ -90,7 +89,7 @@ module _ (encoding : Encoding) (bits : ℕ) (target : First) (n : ℕ) where
   abbrev pub GoMirrors : Continues → Type 1
   GoMirrors go =
       (T T' : Text) (Al : ℕ → ℕ → Type 0) (stop : ℕ) → Alignment T T' Al stop
-      → (p p' d d' : ℕ) (t : Store) (inputs : List Input) → Al p p' → Fits target inputs t.object_address t.maximum
+      → (p p' d d' : ℕ) (t : Store) (inputs : List Input) → Al p p' → Fits target inputs t.settings
       → Mirrors T' stop d' (go T p d (ahead n t) inputs) (run S T' p' d' (calm t) inputs)
 
   -- a run that begins at the end is over
@@ -126,7 +125,7 @@ module _ (encoding : Encoding) (bits : ℕ) (target : First) (n : ℕ) where
     at text place = record { text = text; place = place }
 
     goes_mirror : (q q' : ℕ) (t : Store) (inputs : List Input) → Al q q'
-        → Fits target inputs t.object_address t.maximum → Here (go T q d (ahead n t) inputs) (run S T' q' d' (calm t) inputs)
+        → Fits target inputs t.settings → Here (go T q d (ahead n t) inputs) (run S T' q' d' (calm t) inputs)
     goes_mirror q q' t inputs a f = H T T' Al stop al q q' d d' t inputs a f
 
     back_asks : (q q' : ℕ) (c c' : Course) (request : Request) (positions : List Position) (inputs : List Input)
@@ -156,7 +155,7 @@ module _ (encoding : Encoding) (bits : ℕ) (target : First) (n : ℕ) where
         (l ++ outer.requests) outer.end) (sym r) joins))
 
     called_mirror : (q q' : ℕ) (callee : Text) (bytes : List ℕ) (t : Store) (inputs : List Input) → Al q q'
-        → Fits target inputs t.object_address t.maximum
+        → Fits target inputs t.settings
         → Here (run_callee go S (at T q) d callee bytes (ahead n t) inputs)
         (run_callee (run S) S (at T' q') d' callee bytes (calm t) inputs)
     unfolding push_caller
@@ -167,7 +166,7 @@ module _ (encoding : Encoding) (bits : ℕ) (target : First) (n : ℕ) where
         (H callee callee Equal (length callee.bytes) (same_text callee) 0 0 (suc d) (suc d') t inputs refl f)
 
     used_mirror : (q q' : ℕ) (u : Use) (t : Store) (inputs : List Input) → Al q q'
-        → Fits target inputs t.object_address t.maximum
+        → Fits target inputs t.settings
         → Here (after_answer go S (at T q) d u (ahead n t) inputs)
         (after_answer (run S) S (at T' q') d' u (calm t) inputs)
     unfolding push_value
@@ -177,51 +176,50 @@ module _ (encoding : Encoding) (bits : ℕ) (target : First) (n : ℕ) where
     used_mirror q q' (FaultUse fault) t inputs a f = tt
 
     asked_mirror : (q q' : ℕ) (request : Request) (on_answer : OnAnswer) (t : Store) (inputs : List Input) → Al q q'
-        → Fits target inputs t.object_address t.maximum
+        → Fits target inputs t.settings
         → Here (await_answer go S (at T q) d request on_answer (ahead n t) inputs)
         (await_answer (run S) S (at T' q') d' request on_answer (calm t) inputs)
     asked_mirror q q' request on_answer t [] a f = record { positions = at T' q' ∷ []; same = refl; is = refl }
     asked_mirror q q' request on_answer t (input ∷ inputs) a f =
         if_pair Here (is_same_kind (kind_of_request request) (kind_of_answer input.answer)) _ _ _ _ _ refl
         (used_mirror q q' (use_of (address_bits S) on_answer input.answer t.values)
-        (record t { object_address = input.object_address; maximum = input.maximum }) inputs a f)
+        (record t { settings = input.settings }) inputs a f)
         (record { positions = at T' q' ∷ []; same = refl; is = refl })
 
-    after_operation_mirror : (place place' : ℕ) (inputs : List Input) (object : Option ℕ) (maximum : ℕ) (x y : Next)
-        → Al place place' → Fits target inputs object maximum → NextBoth encoding bits n Al object maximum x y
+    after_operation_mirror : (place place' : ℕ) (inputs : List Input) (settings : Settings) (x y : Next)
+        → Al place place' → Fits target inputs settings → NextBoth encoding bits n Al settings x y
         → Here (after_operation go S T d place inputs x) (after_operation (run S) S T' d' place' inputs y)
-    after_operation_mirror place place' inputs object maximum x y a f (goes_both t b o m) =
-        goes_mirror _ _ t inputs b (subst (λ k. Fits target inputs k t.maximum) (sym o)
-        (subst (λ k. Fits target inputs object k) (sym m) f))
-    after_operation_mirror place place' inputs object maximum x y a f (request_both {request = request} {on_answer = on_answer} t o m) =
+    after_operation_mirror place place' inputs settings x y a f (goes_both t b e) =
+        goes_mirror _ _ t inputs b (subst (Fits target inputs) (sym e) f)
+    after_operation_mirror place place' inputs settings x y a f (request_both {request = request} {on_answer = on_answer} t e) =
         let first = await_answer go S (at T place) d request on_answer (ahead n t) inputs in
         let second = await_answer (run S) S (at T' place') d' request on_answer (calm t) inputs in
         beyond T' stop d' (request ∷ []) first.requests first.end second.requests second.end
         (asked_mirror place place' request on_answer t inputs a
-        (subst (λ k. Fits target inputs k t.maximum) (sym o) (subst (λ k. Fits target inputs object k) (sym m) f)))
-    after_operation_mirror place place' inputs object maximum x y a f fails_both = tt
+        (subst (Fits target inputs) (sym e) f))
+    after_operation_mirror place place' inputs settings x y a f fails_both = tt
 
     does_mirror : (p p' : ℕ) (t : Store) (inputs : List Input) (r : Result (Operation × List ℕ) Fault) → Al p p'
-        → Fits target inputs t.object_address t.maximum → read S T p ≡ r
+        → Fits target inputs t.settings → read S T p ≡ r
         → Here (do_operation go S T d (ahead n t) inputs (counted_act S t) r) (do_operation (run S) S T' d' (calm t) inputs (counted_act S t) (read S T' p'))
     does_mirror p p' t inputs (Err fault) a f e = tt
     does_mirror p p' t inputs (Ok x) a f e =
         let too = al.reads p p' a x.0 x.1 e in
         subst (λ (r : Result (Operation × List ℕ) Fault). Here (do_operation go S T d (ahead n t) inputs (counted_act S t) (Ok x))
         (do_operation (run S) S T' d' (calm t) inputs (counted_act S t) r)) (sym too.same)
-        (after_operation_mirror _ _ inputs t.object_address t.maximum _ _ too.next f
-        (done_both encoding bits n Al _ _ _ _ (act (address_bits S) t.object_address x.0 t.values) t too.next
-        (act_jumps _ (address_bits S) t.object_address x.0 t.values too.jumps)))
+        (after_operation_mirror _ _ inputs t.settings _ _ too.next f
+        (done_both encoding bits n Al _ _ _ _ (act (address_bits S) t.settings.object_address x.0 t.values) t too.next
+        (act_jumps _ (address_bits S) t.settings.object_address x.0 t.values too.jumps)))
 
     held_mirror : (p p' : ℕ) (location : Location) (t : Store) (inputs : List Input)
-        (r : Result (Operation × List ℕ) Fault) → Al p p' → Fits target inputs t.object_address t.maximum → read S T p ≡ r
+        (r : Result (Operation × List ℕ) Fault) → Al p p' → Fits target inputs t.settings → read S T p ≡ r
         → Here (do_operation go S T d (ahead n t) inputs (located_act location t) r) (do_operation (run S) S T' d' (calm t) inputs (located_act location t) (read S T' p'))
     held_mirror p p' location t inputs (Err fault) a f e = tt
     held_mirror p p' location t inputs (Ok x) a f e =
         let too = al.reads p p' a x.0 x.1 e in
         subst (λ (r : Result (Operation × List ℕ) Fault). Here (do_operation go S T d (ahead n t) inputs (located_act location t) (Ok x))
         (do_operation (run S) S T' d' (calm t) inputs (located_act location t) r)) (sym too.same)
-        (after_operation_mirror _ _ inputs t.object_address t.maximum _ _ too.next f
+        (after_operation_mirror _ _ inputs t.settings _ _ too.next f
         (located_both encoding bits n Al (length T.bytes) (length T'.bytes) _ _ location t x.0 too.next))
 
     counted_ahead : (t : Store) → ahead n (record t { count = t.count + 1 }) ≡ counted (ahead n t)
@@ -231,7 +229,7 @@ module _ (encoding : Encoding) (bits : ℕ) (target : First) (n : ℕ) where
     can_too : (t : Store) → can_count (ahead n t) ≡ true → can_count (calm t) ≡ true
     can_too t e = grind (arith, nat_tests)
 
-    counts_mirror : (p p' : ℕ) (t : Store) (inputs : List Input) → Al p p' → Fits target inputs t.object_address t.maximum
+    counts_mirror : (p p' : ℕ) (t : Store) (inputs : List Input) → Al p p' → Fits target inputs t.settings
         → Here (turn_counted go S T p d (ahead n t) inputs) (turn_counted (run S) S T' p' d' (calm t) inputs)
     counts_mirror p p' t inputs a f =
         cond_both (can_count (ahead n t)) _ _ (λ (c : Course). Here c (turn_counted (run S) S T' p' d' (calm t) inputs))
@@ -248,7 +246,7 @@ module _ (encoding : Encoding) (bits : ℕ) (target : First) (n : ℕ) where
         (λ e. tt)
 
     by_mirror : (p p' : ℕ) (t : Store) (inputs : List Input) (last : Last) → Al p p'
-        → Fits target inputs t.object_address t.maximum
+        → Fits target inputs t.settings
         → Here (turn_by go S T p d (ahead n t) inputs last) (turn_by (run S) S T' p' d' (calm t) inputs last)
     by_mirror p p' t inputs (Located location) a f = held_mirror p p' location t inputs (read S T p) a f refl
     by_mirror p p' t inputs Nothing a f = counts_mirror p p' t inputs a f
@@ -258,7 +256,7 @@ module _ (encoding : Encoding) (bits : ℕ) (target : First) (n : ℕ) where
     by_mirror p p' t inputs Called a f = counts_mirror p p' t inputs a f
 
     turn_mirror : (p p' : ℕ) (t : Store) (inputs : List Input) → Al p p'
-        → Fits target inputs t.object_address t.maximum
+        → Fits target inputs t.settings
         → Here (turn go S T p d (ahead n t) inputs) (run S T' p' d' (calm t) inputs)
     turn_mirror p p' t inputs a f =
         cond_both (p == length T.bytes) _ _ (λ (c : Course). Here c (run S T' p' d' (calm t) inputs))
@@ -290,6 +288,6 @@ module _ (encoding : Encoding) (bits : ℕ) (target : First) (n : ℕ) where
 
   -- a run keeps to the settings that its inputs bring
   pub mirror_same : (T : Text) (p d : ℕ) (t : Store) (inputs : List Input)
-      → Fits target inputs t.object_address t.maximum
+      → Fits target inputs t.settings
       → Mirrors T (length T.bytes) d (run S T p d (ahead n t) inputs) (run S T p d (calm t) inputs)
   mirror_same T p d t inputs f = mirror T T Equal (length T.bytes) (same_text T) p p d d t inputs refl f

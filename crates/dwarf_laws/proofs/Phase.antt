@@ -10,12 +10,11 @@ use Rattle.dwarf_meaning.specs.Operations as operation
 use Rattle.dwarf_meaning.specs.Operands.{context_of}
 use Rattle.dwarf_meaning.specs.Operations.{Operation, DieReference}
 use Rattle.dwarf_meaning.specs.Spelling.{Spells}
-use Rattle.dwarf_meaning.specs.Requests.{Request, RequiresAtLocation, OnAnswer, Input}
+use Rattle.dwarf_meaning.specs.Requests.{Request, RequiresAtLocation, OnAnswer, Input, Settings}
 use Rattle.dwarf_meaning.specs.Kinds.{kind_of_request, kind_of_answer, is_same_kind}
 use Rattle.dwarf_meaning.specs.Acts.{Act, Pushes, Branches, Locates, EndsPiece, RequestAct, FaultAct, act, Use, PushesAnswer, Calls, FaultUse, use_of}
 use Rattle.dwarf_meaning.specs.Stores.{Setup, address_bits, Store, Last, Nothing, Plain, Pieced, Pushed, Called, Located, push_value, push_piece, push_caller, Next, Goes, RequestNext, FaultNext, goes, done}
 use Rattle.dwarf_meaning.specs.Run.{Position, End, CompleteEnd, RequestEnd, FaultEnd, Course, only_end, prepend, return_to_caller, run_callee, after_answer, await_answer, after_operation, read, can_count, do_operation, turn_counted, counted_act, located_act, turn_by, run}
-use Rattle.dwarf_meaning.specs.Meaning.{First}
 use Rattle.dwarf_meaning.specs.RunLaws.{IsSettled, end_before, course_before, Open, alone, calling}
 use Rattle.dwarf_meaning.proofs.Turns.{run_turn}
 use Rattle.dwarf_meaning.proofs.Inputs.{extends_run}
@@ -46,11 +45,11 @@ open_some inputs text positions (calling position callee inner c o) = omega (ari
 
 -- ---- what an operation that is no branch leads to
 
-pub data NextCalm (object : Option ℕ) (maximum place : ℕ) : Next → Type 0 where
-  goes_calm : (t : Store) → t.object_address ≡ object → t.maximum ≡ maximum → NextCalm object maximum place (Goes place (calm t))
-  request_calm : {request : Request} {on_answer : OnAnswer} (t : Store) → t.object_address ≡ object → t.maximum ≡ maximum
-      → NextCalm object maximum place (RequestNext request on_answer (calm t))
-  fails_calm : {fault : Fault} → NextCalm object maximum place (FaultNext fault)
+pub data NextCalm (settings : Settings) (place : ℕ) : Next → Type 0 where
+  goes_calm : (t : Store) → t.settings ≡ settings → NextCalm settings place (Goes place (calm t))
+  request_calm : {request : Request} {on_answer : OnAnswer} (t : Store) → t.settings ≡ settings
+      → NextCalm settings place (RequestNext request on_answer (calm t))
+  fails_calm : {fault : Fault} → NextCalm settings place (FaultNext fault)
 
 same_len : (setup : Setup) (place len other : ℕ) (a : Act) (s : Store) → Jumping (λ z. ⊥) a
     → done setup place len a s ≡ done setup place other a s
@@ -66,22 +65,22 @@ module _ (encoding : Encoding) (bits : ℕ) where
   S = free encoding bits
 
   done_calm : (place len : ℕ) (a : Act) (t : Store) → Jumping (λ z. ⊥) a
-      → NextCalm t.object_address t.maximum place (done S place len a (calm t))
+      → NextCalm t.settings place (done S place len a (calm t))
   unfolding push_piece
   done_calm place len (Pushes rest pushed) t pushes =
       let u : Store = record t { values = rest; last = Plain } in
-      subst (λ (r : Result Store Fault). NextCalm t.object_address t.maximum place (goes place r))
-      (sym (piles_calm encoding bits pushed u)) (goes_calm (record u { values = piled pushed rest }) refl refl)
+      subst (λ (r : Result Store Fault). NextCalm t.settings place (goes place r))
+      (sym (piles_calm encoding bits pushed u)) (goes_calm (record u { values = piled pushed rest }) refl)
   done_calm place len (Branches rest target) t (branches h) = absurd h
   done_calm place len (Locates rest location) t locates =
-      goes_calm (record t { values = rest; last = Located location }) refl refl
+      goes_calm (record t { values = rest; last = Located location }) refl
   done_calm place len (EndsPiece rest piece) t ends =
-      goes_calm (record t { values = rest; last = Pieced; pieces = t.pieces ++ piece ∷ [] }) refl refl
-  done_calm place len (RequestAct rest request on_answer) t asks = request_calm (record t { values = rest }) refl refl
+      goes_calm (record t { values = rest; last = Pieced; pieces = t.pieces ++ piece ∷ [] }) refl
+  done_calm place len (RequestAct rest request on_answer) t asks = request_calm (record t { values = rest }) refl
   done_calm place len (FaultAct fault) t refuses = fails_calm
 
   module _ (A K B : List ℕ) (big : Bool) (offset : DieReference)
-      (spelled : Spells (context_of encoding bits big) K (operation.Call offset)) (target : First) where
+      (spelled : Spells (context_of encoding bits big) K (operation.Call offset)) (target : Settings) where
     -- a text that begins with the bytes before the call
     abbrev pub text : List ℕ → Text
     text X = record { bytes = A ++ X; is_big = big }
@@ -102,7 +101,7 @@ module _ (encoding : Encoding) (bits : ℕ) where
     pub record Reached (R : List ℕ → List Input → List Request) (E : List ℕ → List Input → End) : Type 0 where
       pub front : List Request
       pub store : Store
-      pub fits : Fits target [] store.object_address store.maximum
+      pub fits : Fits target [] store.settings
       pub at_call : AtCall (run S outer (length A) 0 (calm store) []).end
       pub goes_on : (X : List ℕ) (more : List Input)
           → GoesOn front (R X more) (E X more) (run S (text X) (length A) 0 (calm store) more)
@@ -149,7 +148,7 @@ module _ (encoding : Encoding) (bits : ℕ) where
     -- from a place on
     abbrev pub From : ℕ → Type 0
     From p =
-        (t : Store) (inputs : List Input) → Fits target inputs t.object_address t.maximum
+        (t : Store) (inputs : List Input) → Fits target inputs t.settings
         → Leads (run S outer p 0 (calm t) inputs) (λ X more. run S (text X) p 0 (calm t) (inputs ++ more))
 
     -- ---- the outcome of one operation before the call
@@ -157,13 +156,13 @@ module _ (encoding : Encoding) (bits : ℕ) where
     record EndsCalm (s : Store) (left : List Input) : Type 0 where
       store : Store
       is : s ≡ calm store
-      fits : Fits target left store.object_address store.maximum
+      fits : Fits target left store.settings
 
     none_ahead : (t : Store) → ahead 0 t ≡ calm t
     none_ahead t = ap (λ (k : ℕ). record (calm t) { count = k }) (let e : t.count + 0 ≡ t.count = omega arith in e)
 
     ends_calm : (T : Text) (p d : ℕ) (t : Store) (inputs : List Input) (s : Store) (left : List Input)
-        → Fits target inputs t.object_address t.maximum → (run S T p d (calm t) inputs).end ≡ CompleteEnd s left → EndsCalm s left
+        → Fits target inputs t.settings → (run S T p d (calm t) inputs).end ≡ CompleteEnd s left → EndsCalm s left
     ends_calm T p d t inputs s left f e =
         let c = run S T p d (calm t) inputs in
         let m : MirrorsAt encoding bits target 0 T (length T.bytes) d c.requests c.end c.requests c.end = subst
@@ -185,7 +184,7 @@ module _ (encoding : Encoding) (bits : ℕ) where
           omega (arith, x, before)
 
       back_leads : (callee : Text) (t : Store) (inputs : List Input) (end : End)
-          → Fits target inputs t.object_address t.maximum → (run S callee 0 1 (calm t) inputs).end ≡ end
+          → Fits target inputs t.settings → (run S callee 0 1 (calm t) inputs).end ≡ end
           → Leads (return_to_caller (run S) (at (K ++ B)) 0 (run S callee 0 1 (calm t) inputs) end)
           (λ X more. let c = run S callee 0 1 (calm t) (inputs ++ more) in return_to_caller (run S) (at X) 0 c c.end)
       back_leads callee t inputs (FaultEnd fault) f e =
@@ -208,14 +207,14 @@ module _ (encoding : Encoding) (bits : ℕ) where
           (λ at_call. reached_beyond c.requests _ _ (H k.store left k.fits at_call))
 
       called_leads : (callee : Text) (bytes : List ℕ) (t : Store) (inputs : List Input)
-          → Fits target inputs t.object_address t.maximum
+          → Fits target inputs t.settings
           → Leads (run_callee (run S) S (at (K ++ B)) 0 callee bytes (calm t) inputs)
           (λ X more. run_callee (run S) S (at X) 0 callee bytes (calm t) (inputs ++ more))
       unfolding push_caller
       called_leads callee [] t inputs f = H (record t { last = Called }) inputs f
       called_leads callee (byte ∷ bytes) t inputs f = back_leads callee t inputs _ f refl
 
-      used_leads : (u : Use) (t : Store) (inputs : List Input) → Fits target inputs t.object_address t.maximum
+      used_leads : (u : Use) (t : Store) (inputs : List Input) → Fits target inputs t.settings
           → Leads (after_answer (run S) S (at (K ++ B)) 0 u (calm t) inputs)
           (λ X more. after_answer (run S) S (at X) 0 u (calm t) (inputs ++ more))
       unfolding push_value
@@ -224,7 +223,7 @@ module _ (encoding : Encoding) (bits : ℕ) where
       used_leads (FaultUse fault) t inputs f = leads_failed fault (λ X more. only_end (FaultEnd fault))
 
       asked_leads : (request : Request) (on_answer : OnAnswer) (t : Store) (inputs : List Input)
-          → Fits target inputs t.object_address t.maximum
+          → Fits target inputs t.settings
           → Leads (await_answer (run S) S (at (K ++ B)) 0 request on_answer (calm t) inputs)
           (λ X more. await_answer (run S) S (at X) 0 request on_answer (calm t) (inputs ++ more))
       asked_leads request on_answer t [] f = λ at_call. absurd (not_here request [] [] at_call)
@@ -232,18 +231,18 @@ module _ (encoding : Encoding) (bits : ℕ) where
           leads_if (is_same_kind (kind_of_request request) (kind_of_answer input.answer)) _ _ _
           (λ X more. only_end (RequestEnd request (at X ∷ []) (input ∷ (inputs ++ more))))
           (used_leads (use_of (address_bits S) on_answer input.answer t.values)
-          (record t { object_address = input.object_address; maximum = input.maximum }) inputs f)
+          (record t { settings = input.settings }) inputs f)
           (λ at_call. absurd (not_here request [] (input ∷ inputs) at_call))
 
-      after_operation_leads : (inputs : List Input) (object : Option ℕ) (maximum : ℕ) (next : Next)
-          → Fits target inputs object maximum → NextCalm object maximum p next
+      after_operation_leads : (inputs : List Input) (settings : Settings) (next : Next)
+          → Fits target inputs settings → NextCalm settings p next
           → Leads (after_operation (run S) S outer 0 p inputs next) (λ X more. after_operation (run S) S (text X) 0 p (inputs ++ more) next)
-      after_operation_leads inputs object maximum next f (goes_calm t o m) =
-          H t inputs (subst (λ k. Fits target inputs k t.maximum) (sym o) (subst (λ k. Fits target inputs object k) (sym m) f))
-      after_operation_leads inputs object maximum next f (request_calm {request = request} {on_answer = on_answer} t o m) = λ at_call.
+      after_operation_leads inputs settings next f (goes_calm t e) =
+          H t inputs (subst (Fits target inputs) (sym e) f)
+      after_operation_leads inputs settings next f (request_calm {request = request} {on_answer = on_answer} t e) = λ at_call.
           reached_beyond (request ∷ []) _ _ (asked_leads request on_answer t inputs
-          (subst (λ k. Fits target inputs k t.maximum) (sym o) (subst (λ k. Fits target inputs object k) (sym m) f)) at_call)
-      after_operation_leads inputs object maximum next f (fails_calm {fault = fault}) = leads_failed fault (λ X more. only_end (FaultEnd fault))
+          (subst (Fits target inputs) (sym e) f) at_call)
+      after_operation_leads inputs settings next f (fails_calm {fault = fault}) = leads_failed fault (λ X more. only_end (FaultEnd fault))
 
       -- the operation that stands at q, and leads to p
       module _ (q : ℕ) (op : Operation) (rest : List ℕ)
@@ -259,7 +258,7 @@ module _ (encoding : Encoding) (bits : ℕ) where
               ∙ (ap (λ (k : ℕ). after_operation (run S) S (text X) 0 k inputs (done S k (length (A ++ X)) (act_at k op) s)) (place X)
               ∙ ap (after_operation (run S) S (text X) 0 p inputs) (same_len S p (length (A ++ X)) 0 (act_at p op) s (jumps p)))
 
-          does_leads : (u : Store) (inputs : List Input) → Fits target inputs u.object_address u.maximum
+          does_leads : (u : Store) (inputs : List Input) → Fits target inputs u.settings
               → Leads (do_operation (run S) S outer 0 (calm u) inputs act_at (read S outer q))
               (λ X more. do_operation (run S) S (text X) 0 (calm u) (inputs ++ more) act_at (read S (text X) q))
           does_leads u inputs f =
@@ -268,9 +267,9 @@ module _ (encoding : Encoding) (bits : ℕ) where
               (λ X more. after_operation (run S) S (text X) 0 p (inputs ++ more) (done S p 0 (act_at p op) (calm u)))
               (λ X more. do_operation (run S) S (text X) 0 (calm u) (inputs ++ more) act_at (read S (text X) q))
               (does_is (K ++ B) (calm u) inputs) (λ X more. does_is X (calm u) (inputs ++ more))
-              (after_operation_leads inputs u.object_address u.maximum _ f (done_calm p 0 (act_at p op) u (jumps p)))
+              (after_operation_leads inputs u.settings _ f (done_calm p 0 (act_at p op) u (jumps p)))
 
-        counts_leads : (t : Store) (inputs : List Input) → Fits target inputs t.object_address t.maximum
+        counts_leads : (t : Store) (inputs : List Input) → Fits target inputs t.settings
             → Leads (turn_counted (run S) S outer q 0 (calm t) inputs)
             (λ X more. turn_counted (run S) S (text X) q 0 (calm t) (inputs ++ more))
         counts_leads t inputs f =
@@ -279,7 +278,7 @@ module _ (encoding : Encoding) (bits : ℕ) where
             (does_leads (counted_act S t) (λ k. straight _ _ _) u inputs f)
             (leads_failed TooManyIterations (λ X more. only_end (FaultEnd TooManyIterations)))
 
-        by_leads : (last : Last) (t : Store) (inputs : List Input) → Fits target inputs t.object_address t.maximum
+        by_leads : (last : Last) (t : Store) (inputs : List Input) → Fits target inputs t.settings
             → Leads (turn_by (run S) S outer q 0 (calm t) inputs last)
             (λ X more. turn_by (run S) S (text X) q 0 (calm t) (inputs ++ more) last)
         by_leads (Located location) t inputs f =

@@ -74,9 +74,7 @@ module _ (Free : Type 0) (setup : Setup) (limits : Limits) (premise : Free ⊎ (
         values = h.values;
         pieces = h.pieces;
         count = h.count;
-        object_address = a.object_address;
-        maximum =
-            a.maximum;
+        settings = a.settings;
         last = h.last;
         refusal = map_free taken s.refusal t.refusal h.refusal;
       }
@@ -172,15 +170,13 @@ module _ (Free : Type 0) (setup : Setup) (limits : Limits) (premise : Free ⊎ (
           values = h.values;
           pieces = h.pieces;
           count = ap (λ (n : ℕ). n + 1) h.count;
-          object_address =
-              h.object_address;
-          maximum = h.maximum;
+          settings = h.settings;
           last = h.last;
           refusal = h.refusal;
         }
 
     same_can : (s t : Store) → AgreeingStores Free w s t → can_count s ≡ can_count t
-    same_can s t h = let p = h.count in let q = h.maximum in cc
+    same_can s t h = let p = h.count in let q = h.settings.maximum in cc
 
     counts_both : (text : Text) (place depth : ℕ) (s t : Store) (inputs inputs' : List Input)
         → AgreeingStores Free w s t → Pairwise (AgreeingInputs w) inputs inputs'
@@ -189,7 +185,7 @@ module _ (Free : Type 0) (setup : Setup) (limits : Limits) (premise : Free ⊎ (
         if_pair (AgreeingCourses Free w) (can_count s) (can_count t) _ _ _ _ (same_can s t h)
         (passing_both Free w (record { text = text; place = place }) _ _
         (does_both text depth (counted s) (counted t) inputs inputs' (counted_act setup s) (counted_act other t) (read setup text place)
-        (λ after op. act_both w s.object_address t.object_address op s.values t.values h.object_address h.values)
+        (λ after op. act_both w s.settings.object_address t.settings.object_address op s.values t.values h.settings.object_address h.values)
         (counted_both s t h) i))
         (ended_both Free w _ _ fail_both)
 

@@ -8,7 +8,7 @@ use Rattle.dwarf_value.specs.declared.types.ValueType.{ValueType}
 use Rattle.dwarf_value.specs.Values.{Agree}
 use Rattle.dwarf_meaning.specs.Locations.{Location, HoldsValue, Piece}
 use Rattle.dwarf_meaning.specs.declared.kinds.WaitingKind.{WaitingKind}
-use Rattle.dwarf_meaning.specs.Requests.{Request, Answer, ValueAnswer, NumberAnswer, LocationAnswer, BaseTypeAnswer, Input}
+use Rattle.dwarf_meaning.specs.Requests.{Request, Answer, ValueAnswer, NumberAnswer, LocationAnswer, BaseTypeAnswer, Settings, Input}
 use Rattle.dwarf_meaning.specs.Run.{Position}
 use Rattle.dwarf_meaning.specs.Meaning.{Outcome, RequestOutcome, FaultOutcome, CompleteOutcome, First}
 use Rattle.dwarf_meaning.specs.Steps.{Step, InitialValue, ObjectAddress, MaxIterations, Evaluate, Resume, Told}
@@ -40,21 +40,24 @@ pub data AgreeingSteps (w : ℕ) : Step → Step → Type 0 where
   evaluate : AgreeingSteps w Evaluate Evaluate
   resume : {first second : Answer} → AgreeingAnswers w first second → AgreeingSteps w (Resume first) (Resume second)
 
--- the same maximum, and numbers that agree, set on both sides or on neither
-pub record AgreeingFirsts (w : ℕ) (first second : First) : Type 0 where
-  pub initial_value : Both (AgreeingNumbers w) first.initial_value second.initial_value
+-- the same maximum, and object addresses that agree, set on both sides or on neither
+pub record AgreeingSettings (w : ℕ) (first second : Settings) : Type 0 where
   pub object_address : Both (AgreeingNumbers w) first.object_address second.object_address
   pub maximum : first.maximum ≡ second.maximum
 
+-- settings that agree, and initial values that agree, set on both sides or on neither
+pub record AgreeingFirsts (w : ℕ) (first second : First) : Type 0 where
+  pub initial_value : Both (AgreeingNumbers w) first.initial_value second.initial_value
+  pub settings : AgreeingSettings w first.settings second.settings
+
 -- answers that agree, with settings that agree
 pub record AgreeingInputs (w : ℕ) (first second : Input) : Type 0 where
-  pub object_address : Both (AgreeingNumbers w) first.object_address second.object_address
-  pub maximum : first.maximum ≡ second.maximum
+  pub settings : AgreeingSettings w first.settings second.settings
   pub answer : AgreeingAnswers w first.answer second.answer
 
 -- What was told so far: settings and answers that agree, started on both sides or on neither.
 pub record AgreeingTold (w : ℕ) (told other : Told) : Type 0 where
-  pub settings : AgreeingFirsts w told.settings other.settings
+  pub now : AgreeingFirsts w told.now other.now
   pub first : Both (AgreeingFirsts w) told.first other.first
   pub inputs : AllZip (AgreeingInputs w) told.inputs other.inputs
 

@@ -10,12 +10,12 @@ use Rattle.dwarf_meaning.specs.Spelling.{Spells}
 use Rattle.dwarf_meaning.specs.Splitting.{Splitting, Joined}
 use Rattle.dwarf_meaning.specs.Branches.{AreBytes}
 use Rattle.dwarf_meaning.specs.Locations.{Piece}
-use Rattle.dwarf_meaning.specs.Requests.{Request, RequiresAtLocation, LocationAnswer, Input}
+use Rattle.dwarf_meaning.specs.Requests.{Request, RequiresAtLocation, LocationAnswer, Settings, Input}
 use Rattle.dwarf_meaning.specs.Stores.{Setup}
 use Rattle.dwarf_meaning.specs.Run.{Position, RequestEnd}
 use Rattle.dwarf_meaning.specs.Meaning.{Outcome, RequestOutcome, FaultOutcome, CompleteOutcome, First, course_of, meaning}
 use Rattle.dwarf_meaning.specs.Refusals.{Never}
-use Rattle.dwarf_meaning.specs.Rows.{no_limits, given}
+use Rattle.dwarf_meaning.specs.Rows.{no_limits}
 
 -- ---- the texts
 
@@ -42,15 +42,14 @@ inlined site = record { bytes = site.before ++ (site.callee ++ site.beyond); is_
 -- ---- the inputs
 
 -- the settings in force once these inputs are taken
-abbrev pub in_force : First → List Input → First
-in_force first [] = first
-in_force first (input ∷ inputs) =
-    in_force (record first { object_address = input.object_address; maximum = input.maximum }) inputs
+abbrev pub in_force : Settings → List Input → Settings
+in_force settings [] = settings
+in_force settings (input ∷ inputs) = in_force input.settings inputs
 
 -- the inputs of the outer text: the earlier ones, the called text as an answer that changes no setting, the later ones
 abbrev pub with_answer : CallSite → First → (earlier later : List Input) → List Input
 with_answer site first earlier later =
-    earlier ++ (given (in_force first earlier) (LocationAnswer (called site) ∷ []) ++ later)
+    earlier ++ record { settings = in_force first.settings earlier; answer = LocationAnswer (called site) } ∷ later
 
 -- ---- the premises
 

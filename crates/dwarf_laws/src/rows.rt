@@ -168,7 +168,7 @@ pub fn premises_of_high_bits()
         (record unset { initial_value = Some 0 }) unset
         [] [] (valued 0 0) (FaultOutcome NotEnoughStackItems) }
     ensures one_object_address { Disagree plain plain Never Never (0x97 ∷ [])
-        (record unset { object_address = Some 0 }) unset
+        (record unset { settings = record unset.settings { object_address = Some 0 } }) unset
         [] [] (valued 0 0) (FaultOutcome InvalidPushObjectAddress) }
     ensures numbers_differ { Disagree plain plain Never Never (0x9c ∷ []) unset unset
         (given unset (NumberAnswer kind.CallFrameCfa 0 ∷ [])) (given unset (NumberAnswer kind.CallFrameCfa 1 ∷ []))
@@ -232,7 +232,8 @@ pub fn premises_of_inlining()
         (at_most 1) (given (at_most 3) (calls (0x31 ∷ 0x96 ∷ []) ∷ [])) []
         (valued 1 1) (FaultOutcome TooManyIterations) }
     ensures object_is_set_at_the_answer { EndUnlike plain (0x98 ∷ 0x05 ∷ 0x00 ∷ []) (0x97 ∷ [])
-        unset (given (record unset { object_address = Some 7 }) (calls (0x97 ∷ []) ∷ [])) []
+        unset (given (record unset { settings = record unset.settings { object_address = Some 7 } })
+        (calls (0x97 ∷ []) ∷ [])) []
         (valued 7 7)
         (FaultOutcome InvalidPushObjectAddress) }
     ensures outer_run_meets_a_fault { EndUnlike plain (0x98 ∷ 0x05 ∷ 0x00 ∷ []) (0x31 ∷ [])

@@ -19,11 +19,11 @@ use Rattle.dwarf_meaning.proofs.Counts.{OnStore, OnNext, Tally, tally_of, HasTal
 -- P holds of each maximum that they set
 abbrev AllMaxima : (ℕ → Type 0) → List Input → Type 0
 AllMaxima P [] = Unit {0}
-AllMaxima P (input ∷ inputs) = P input.maximum × AllMaxima P inputs
+AllMaxima P (input ∷ inputs) = P input.settings.maximum × AllMaxima P inputs
 
-all_maxima : (P : ℕ → Type 0) (inputs : List Input) → All (λ (input : Input). P input.maximum) inputs → AllMaxima P inputs
+all_maxima : (P : ℕ → Type 0) (inputs : List Input) → All (λ (input : Input). P input.settings.maximum) inputs → AllMaxima P inputs
 all_maxima P [] h = tt
-all_maxima P (input ∷ inputs) h = let Q : Input → Type 0 = λ input. P input.maximum in (All-head Q input inputs h, all_maxima P inputs (All-tail Q input inputs h))
+all_maxima P (input ∷ inputs) h = let Q : Input → Type 0 = λ input. P input.settings.maximum in (All-head Q input inputs h, all_maxima P inputs (All-tail Q input inputs h))
 
 -- what is known of each maximum, and the bound on counts that it gives
 pub record Bounded (bound : ℕ) (Fits : ℕ → Type 0) : Type 0 where
@@ -32,13 +32,13 @@ pub record Bounded (bound : ℕ) (Fits : ℕ → Type 0) : Type 0 where
 -- this many operations may be counted, under this maximum and those to come
 pub record Allowed (bound : ℕ) (Fits : ℕ → Type 0) (n : Tally) (inputs : List Input) : Type 0 where
   pub count : n.count ≤ bound
-  pub maximum : Fits n.maximum
+  pub maximum : Fits n.settings.maximum
   pub others : AllMaxima Fits inputs
 
 -- where the text ends
 pub record Stands (Fits : ℕ → Type 0) (total : ℕ) (s : Store) (left : List Input) : Type 0 where
   pub count : s.count ≡ total
-  pub maximum : Fits s.maximum
+  pub maximum : Fits s.settings.maximum
   pub others : AllMaxima Fits left
 
 abbrev pub EndStands : (ℕ → Type 0) → (total : ℕ) → End → Type 0
@@ -127,7 +127,7 @@ module _ (bound : ℕ) (Fits : ℕ → Type 0) where
     counted_counts : (setup : Setup) (text : Text) (place depth : ℕ) (s : Store) (inputs : List Input) → Allowed bound Fits (tally_of s) inputs → Counted bound Fits s.count (turn_counted go setup text place depth s inputs)
     counted_counts setup text place depth s inputs a =
         cond_both (can_count s) _ _ (Counted bound Fits s.count)
-        (λ can. let below = bounded.below s.maximum a.maximum s.count (grind (arith, nat_tests)) (grind (arith, nat_tests)) in
+        (λ can. let below = bounded.below s.settings.maximum a.maximum s.count (grind (arith, nat_tests)) (grind (arith, nat_tests)) in
         counted_passing s.count _ _ (counted_does setup text depth (counted s) inputs (counted_act setup s) (read setup text place)
         (record { count = omega (arith, below); maximum = a.maximum; others = a.others })))
         (λ e. counted_failed s.count TooManyIterations a.count)
@@ -173,7 +173,7 @@ total_at total Fits (CompleteEnd s left) i = i.count
 total_at total Fits (RequestEnd request positions left) i = tt
 total_at total Fits (FaultEnd fault) i = tt
 
-maximum_at : (bound total : ℕ) (end : End) → EndStands (λ m. m ≤ bound) total end → AtEnd (λ s. s.maximum ≤ bound) end
+maximum_at : (bound total : ℕ) (end : End) → EndStands (λ m. m ≤ bound) total end → AtEnd (λ s. s.settings.maximum ≤ bound) end
 maximum_at bound total (CompleteEnd s left) i = i.maximum
 maximum_at bound total (RequestEnd request positions left) i = tt
 maximum_at bound total (FaultEnd fault) i = tt
@@ -181,11 +181,11 @@ maximum_at bound total (FaultEnd fault) i = tt
 counts_within : (bound start : ℕ) (Fits : ℕ → Type 0) (course : Course) → Counted bound Fits start course → CountsWithin bound start course
 counts_within bound start Fits course h = record { few = omega (arith, h.few); count = count_at bound _ Fits course.end h.few h.at_end }
 
-pub count_within : (bound : ℕ) (setup : Setup) (text : Text) (place depth : ℕ) (s : Store) (inputs : List Input) → s.count ≤ bound → s.maximum ≤ bound → MaximaWithin bound inputs → CountsWithin bound s.count (run setup text place depth s inputs)
+pub count_within : (bound : ℕ) (setup : Setup) (text : Text) (place depth : ℕ) (s : Store) (inputs : List Input) → s.count ≤ bound → s.settings.maximum ≤ bound → MaximaWithin bound inputs → CountsWithin bound s.count (run setup text place depth s inputs)
 count_within bound setup text place depth s inputs h i j =
     counts_within bound s.count _ _ (counted_run_for bound (λ m. m ≤ bound) (within_bounded bound) enough setup text place depth s inputs (record { count = h; maximum = i; others = all_maxima (λ m. m ≤ bound) inputs j }))
 
-pub maximum_within : (bound : ℕ) (setup : Setup) (text : Text) (place depth : ℕ) (s : Store) (inputs : List Input) → s.count ≤ bound → s.maximum ≤ bound → MaximaWithin bound inputs → AtEnd (λ s. s.maximum ≤ bound) (run setup text place depth s inputs).end
+pub maximum_within : (bound : ℕ) (setup : Setup) (text : Text) (place depth : ℕ) (s : Store) (inputs : List Input) → s.count ≤ bound → s.settings.maximum ≤ bound → MaximaWithin bound inputs → AtEnd (λ s. s.settings.maximum ≤ bound) (run setup text place depth s inputs).end
 maximum_within bound setup text place depth s inputs h i j =
     maximum_at bound _ _ (counted_run_for bound (λ m. m ≤ bound) (within_bounded bound) enough setup text place depth s inputs (record { count = h; maximum = i; others = all_maxima (λ m. m ≤ bound) inputs j })).at_end
 

@@ -1,11 +1,12 @@
 -- What an operation does, a piece after a location and an answer leave the count and the settings as they are.
-use Rattle.std.proofs.Common.{ℕ, ◌≡◌, nat_lt, List, [], ◌∷◌, ◌++◌, length, Option, Result, Ok, Err, refl, ◌∙◌}
+use Rattle.std.proofs.Common.{ℕ, ◌≡◌, nat_lt, List, [], ◌∷◌, ◌++◌, length, Result, Ok, Err, refl, ◌∙◌}
 use Rattle.std.proofs.lemmas.Bool.{cond_both}
 use Rattle.dwarf_base.specs.Faults.{Fault, ◌>>=◌}
 use Rattle.dwarf_value.specs.declared.types.Value.{Value}
 use Rattle.dwarf_meaning.specs.Operations as operation
 use Rattle.dwarf_meaning.specs.Operations.{Operation}
 use Rattle.dwarf_meaning.specs.Locations.{Location, Piece, sized}
+use Rattle.dwarf_meaning.specs.Requests.{Settings}
 use Rattle.dwarf_meaning.specs.Acts.{Act, Pushes, Branches, Locates, EndsPiece, RequestAct, FaultAct}
 use Rattle.dwarf_meaning.specs.Stores.{Setup, Store, Last, Plain, Pieced, push_value, push_piece, push_caller, push_values, Next, Goes, RequestNext, FaultNext, goes, branch_target, done}
 use Rattle.dwarf_meaning.specs.Run.{located_act}
@@ -25,11 +26,10 @@ OnNext P (FaultNext fault) = Unit {0}
 -- what only counting and inputs change
 pub record Tally : Type 0 where
   pub count : ℕ
-  pub object_address : Option ℕ
-  pub maximum : ℕ
+  pub settings : Settings
 
 abbrev pub tally_of : Store → Tally
-tally_of s = record { count = s.count; object_address = s.object_address; maximum = s.maximum }
+tally_of s = record { count = s.count; settings = s.settings }
 
 abbrev pub HasTally : Tally → Store → Type 0
 HasTally m s = tally_of s ≡ m

@@ -148,7 +148,7 @@ module _ (setup : Setup) where
     limited_counts text place depth s inputs d h =
         cond_both (can_count s) _ _ (λ (c : Course). EndWithin setup.limits text depth c.end)
         (λ can. limited_does text depth (counted s) inputs (counted_act setup s) (read setup text place) d
-        (λ place len op. kept_done place len _ (counted s) (act_is (address_bits setup) s.object_address op s.values) (record { values = h.values; pieces = h.pieces })))
+        (λ place len op. kept_done place len _ (counted s) (act_is (address_bits setup) s.settings.object_address op s.values) (record { values = h.values; pieces = h.pieces })))
         (λ e. tt)
 
     limited_by : (text : Text) (place depth : ℕ) (s : Store) (inputs : List Input) (last : Last) → IsWithin setup.limits.callers depth → Kept s → EndWithin setup.limits text depth (turn_by go setup text place depth s inputs last).end

@@ -1,19 +1,18 @@
 -- The inputs of a state, and its settings.
 use Rattle.std.specs.Prelude.{ℕ, ◌≡◌, [], Option}
-use Rattle.dwarf_meaning.specs.Requests.{Answer, Input}
+use Rattle.dwarf_meaning.specs.Requests.{Answer, Settings, Input}
 use Rattle.dwarf_meaning.specs.Refusals.{Never}
 use Rattle.dwarf_meaning.specs.Meaning.{fresh}
 use Rattle.dwarf_meaning.specs.Rest.{State, Status, first_of}
 
 -- an answer, with the settings as they stand
 abbrev pub input_of : State → Answer → Input
-input_of x answer = record { object_address = x.store.object_address; maximum = x.store.maximum; answer = answer }
+input_of x answer = record { settings = x.store.settings; answer = answer }
 
 -- the setup and the settings stay
 pub record Keeps (old new : State) : Type 0 where
   pub setup : new.setup ≡ old.setup
-  pub object_address : new.store.object_address ≡ old.store.object_address
-  pub maximum : new.store.maximum ≡ old.store.maximum
+  pub settings : new.store.settings ≡ old.store.settings
 
 -- the same state, but for the status
 abbrev pub with_status : Status → State → State
@@ -25,10 +24,14 @@ pub record IsFresh (x : State) (initial_value : Option ℕ) : Type 0 where
   pub callers : x.callers ≡ []
   pub store : x.store ≡ fresh (first_of x initial_value) Never
 
+-- the same state, with these settings in force
+abbrev pub with_settings : Settings → State → State
+with_settings settings x = record x { store = record x.store { settings = settings } }
+
 -- the same state, with this object address in force
 abbrev pub with_object : Option ℕ → State → State
-with_object address x = record x { store = record x.store { object_address = address } }
+with_object address x = with_settings (record x.store.settings { object_address = address }) x
 
 -- the same state, with this maximum in force
 abbrev pub with_maximum : ℕ → State → State
-with_maximum maximum x = record x { store = record x.store { maximum = maximum } }
+with_maximum maximum x = with_settings (record x.store.settings { maximum = maximum }) x

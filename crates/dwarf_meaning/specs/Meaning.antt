@@ -8,7 +8,7 @@ use Rattle.dwarf_value.specs.declared.types.Value.{Value}
 use Rattle.dwarf_value.specs.declared.types.Value.TheVariants.{Generic}
 use Rattle.dwarf_value.specs.Values.{to_u64_of}
 use Rattle.dwarf_meaning.specs.Locations.{Location, AtAddress, Piece}
-use Rattle.dwarf_meaning.specs.Requests.{Request, Input}
+use Rattle.dwarf_meaning.specs.Requests.{Request, Settings, Input}
 use Rattle.dwarf_meaning.specs.Acts.{on_top}
 use Rattle.dwarf_meaning.specs.Stores.{Setup, address_bits, Store, Last, Nothing, Plain, Pushed, Located, push_value, push_piece}
 use Rattle.dwarf_meaning.specs.Run.{Position, End, CompleteEnd, RequestEnd, FaultEnd, Course, after_push, run}
@@ -69,23 +69,14 @@ outcome_of_end setup (CompleteEnd s inputs) = finish setup s
 outcome_of_end setup (RequestEnd request positions inputs) = RequestOutcome request positions
 outcome_of_end setup (FaultEnd fault) = FaultOutcome fault
 
--- the settings when an evaluation starts
+-- the initial value, if there is one, and the settings, when an evaluation starts
 pub record First : Type 0 where
   pub initial_value : Option ℕ
-  pub object_address : Option ℕ
-  pub maximum : ℕ
+  pub settings : Settings
 
 -- what is kept at the start: nothing but the settings
 abbrev pub fresh : First → Refusal → Store
-fresh first refusal = record {
-  values = [];
-  pieces = [];
-  count = 0;
-  last = Nothing;
-  refusal = refusal;
-  object_address = first.object_address;
-  maximum = first.maximum;
-}
+fresh first r = record { values = []; pieces = []; count = 0; settings = first.settings; last = Nothing; refusal = r }
 
 -- the initial value is pushed, if there is one
 abbrev pub with_initial : Setup → Option ℕ → Store → Result Store Fault

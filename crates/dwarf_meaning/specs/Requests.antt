@@ -37,8 +37,12 @@ pub data Answer : Type 0 where
   LocationAnswer : (text : Text) → Answer
   BaseTypeAnswer : (value_type : ValueType) → Answer
 
--- an answer, with the object address and the maximum of operations that hold from then on
-pub record Input : Type 0 where
+-- the settings in force: the address of the object that is described, if one is known, and the maximum of operations
+pub record Settings : Type 0 where
   pub object_address : Option ℕ
   pub maximum : ℕ
+
+-- an answer, with the settings that hold from then on
+pub record Input : Type 0 where
+  pub settings : Settings
   pub answer : Answer

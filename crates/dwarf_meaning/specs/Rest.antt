@@ -48,8 +48,7 @@ total_of_course n setup callers course =
 
 -- the settings as they stand when the evaluation starts
 abbrev pub first_of : State → Option ℕ → First
-first_of x initial_value =
-    record { initial_value = initial_value; object_address = x.store.object_address; maximum = x.store.maximum }
+first_of x initial_value = record { initial_value = initial_value; settings = x.store.settings }
 
 -- the total, by the status: at the start that of the meaning; else the run goes on, or takes the first input
 abbrev pub total_by : State → Store → List Input → Status → Total

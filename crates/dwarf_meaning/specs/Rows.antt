@@ -29,7 +29,7 @@ plain = with_limits no_limits
 
 -- no initial value, no object address, and this maximum
 abbrev pub at_most : (maximum : ℕ) → First
-at_most maximum = record { initial_value = None; object_address = None; maximum = maximum }
+at_most maximum = record { initial_value = None; settings = record { object_address = None; maximum = maximum } }
 
 -- the settings of a caller who sets nothing
 abbrev pub unset : First
@@ -38,8 +38,7 @@ unset = at_most 4294967295
 -- answers, with these settings still in force
 abbrev pub given : First → List Answer → List Input
 given first [] = []
-given first (answer ∷ answers) =
-    record { object_address = first.object_address; maximum = first.maximum; answer = answer } ∷ given first answers
+given first (answer ∷ answers) = record { settings = first.settings; answer = answer } ∷ given first answers
 
 -- a called text's bytes
 abbrev pub calls : List ℕ → Answer

@@ -45,8 +45,7 @@ Continues = (text : Text) (place depth : ℕ) → Store → List Input → Cours
 
 -- what is kept once an input is taken
 abbrev pub with_input : Input → Store → Store
-with_input input s =
-    record s { object_address = input.object_address; maximum = input.maximum; refusal = taken s.refusal }
+with_input input s = record s { settings = input.settings; refusal = taken s.refusal }
 
 -- the operation at a place, and the bytes after it
 abbrev pub read : Setup → Text → (place : ℕ) → Result (Operation × List ℕ) Fault
@@ -59,7 +58,7 @@ most = 4294967295
 
 -- the maximum allows one more operation
 abbrev pub can_count : Store → Bool
-can_count s = nat_lt s.count s.maximum && nat_lt s.count most
+can_count s = nat_lt s.count s.settings.maximum && nat_lt s.count most
 
 -- one more operation is counted
 abbrev pub counted : Store → Store
@@ -67,7 +66,7 @@ counted s = record s { count = s.count + 1 }
 
 -- what an operation that is counted does; `place` is the one after it
 abbrev pub counted_act : Setup → Store → (place : ℕ) → Operation → Act
-counted_act setup s place op = act (address_bits setup) s.object_address op s.values
+counted_act setup s place op = act (address_bits setup) s.settings.object_address op s.values
 
 -- what the operation after a location does: it ends the piece there, and none else may follow
 abbrev pub located_act : Location → Store → (place : ℕ) → Operation → Act

@@ -57,7 +57,7 @@ EndTook inputs requests (FaultEnd fault) = length requests ≤ length inputs
 
 -- no input sets a maximum beyond the bound
 abbrev pub MaximaWithin : (bound : ℕ) → List Input → Type 0
-MaximaWithin bound inputs = All (λ (input : Input). input.maximum ≤ bound) inputs
+MaximaWithin bound inputs = All (λ (input : Input). input.settings.maximum ≤ bound) inputs
 
 -- if it ends at the end of the text, P holds of what is kept there
 abbrev pub AtEnd : (Store → Type 0) → End → Type 0

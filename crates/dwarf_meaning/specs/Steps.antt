@@ -17,17 +17,16 @@ pub data Step : Type 0 where
   Evaluate : Step
   Resume : (answer : Answer) → Step
 
--- What some steps told: the settings that hold now, those that held at the start, if there was one, and the inputs
--- since.
+-- What some steps told: what is set now, what was set at the start, if there was one, and the inputs since.
 pub record Told : Type 0 where
-  pub settings : First
+  pub now : First
   pub first : Option First
   pub inputs : List Input
 
 -- no step was done: nothing is set, and nothing was started
 abbrev pub untold : Told
 untold = record {
-  settings = record { initial_value = None; object_address = None; maximum = most };
+  now = record { initial_value = None; settings = record { object_address = None; maximum = most } };
   first = None;
   inputs = [];
 }
@@ -47,7 +46,7 @@ Awaits answer _ = ⊥
 -- it wasn't started, and has no initial value
 pub record IsUntold (told : Told) : Type 0 where
   pub first : told.first ≡ None
-  pub initial_value : told.settings.initial_value ≡ None
+  pub initial_value : told.now.initial_value ≡ None
 
 -- whether a step may come after steps with this outcome
 abbrev pub Allows : Told → Option Outcome → Step → Type 0
@@ -61,19 +60,19 @@ Allows told outcome (Resume answer) = Awaits answer outcome
 
 -- an answer, with the settings that hold now; after a fault it says nothing
 abbrev pub heard : First → List Input → Answer → Option Outcome → List Input
-heard settings inputs answer (Some (RequestOutcome request positions)) =
-    inputs ++ record { object_address = settings.object_address; maximum = settings.maximum; answer = answer } ∷ []
-heard settings inputs answer _ = inputs
+heard now inputs answer (Some (RequestOutcome request positions)) =
+    inputs ++ record { settings = now.settings; answer = answer } ∷ []
+heard now inputs answer _ = inputs
 
 -- what was told once a step is done; the settings at the start are those of the first start
 abbrev pub after : Told → Option Outcome → Step → Told
-after told outcome (InitialValue number) =
-    record told { settings = record told.settings { initial_value = Some number } }
+after told outcome (InitialValue number) = record told { now = record told.now { initial_value = Some number } }
 after told outcome (ObjectAddress address) =
-    record told { settings = record told.settings { object_address = Some address } }
-after told outcome (MaxIterations maximum) = record told { settings = record told.settings { maximum = maximum } }
-after told outcome Evaluate = record told { first = Some (unwrap_or told.first told.settings) }
-after told outcome (Resume answer) = record told { inputs = heard told.settings told.inputs answer outcome }
+    record told { now = record told.now { settings = record told.now.settings { object_address = Some address } } }
+after told outcome (MaxIterations maximum) =
+    record told { now = record told.now { settings = record told.now.settings { maximum = maximum } } }
+after told outcome Evaluate = record told { first = Some (unwrap_or told.first told.now) }
+after told outcome (Resume answer) = record told { inputs = heard told.now told.inputs answer outcome }
 
 -- ---- what the steps reply
 

@@ -7,7 +7,7 @@ use Rattle.dwarf_base.specs.declared.errors.Error.TheVariants.{BadBranchTarget}
 use Rattle.dwarf_base.specs.Numbers.{residue}
 use Rattle.dwarf_value.specs.declared.types.Value.{Value}
 use Rattle.dwarf_meaning.specs.Locations.{Location, Piece}
-use Rattle.dwarf_meaning.specs.Requests.{Request, OnAnswer}
+use Rattle.dwarf_meaning.specs.Requests.{Request, OnAnswer, Settings}
 use Rattle.dwarf_meaning.specs.Acts.{Act, Pushes, Branches, Locates, EndsPiece, RequestAct, FaultAct}
 use Rattle.dwarf_meaning.specs.Refusals.{Limits, Refusal, room}
 
@@ -49,9 +49,7 @@ pub record Store : Type 0 where
   pub pieces : List Piece
   -- how many operations were counted
   pub count : ℕ
-  -- the settings in force
-  pub object_address : Option ℕ
-  pub maximum : ℕ
+  pub settings : Settings
   pub last : Last
   pub refusal : Refusal
 

@@ -5,7 +5,7 @@ use Rattle.dwarf_base.specs.declared.errors.Error.{Error}
 use Rattle.dwarf_base.specs.Faults.{Fault, fault_of}
 use Rattle.dwarf_base.specs.Reads.{Text}
 use Rattle.dwarf_value.specs.declared.types.Value.{Value}
-use Rattle.dwarf_meaning.specs.Requests.{Request, OnAnswer, Answer, Input}
+use Rattle.dwarf_meaning.specs.Requests.{Request, OnAnswer, Answer, Input, Settings}
 use Rattle.dwarf_meaning.specs.Kinds.{kind_of_request, kind_of_answer}
 use Rattle.dwarf_meaning.specs.Stores.{Setup}
 use Rattle.dwarf_meaning.specs.Run.{Position}
@@ -60,7 +60,7 @@ module _ (first : State) where
         ap (λ (t : Reply). given ++ t ∷ []) e
         ∙ ap (λ (l : List Reply). given ++ l) (sym (answers_one (totals r []).outcome) ∙ ap (step_replies step) (sym (called_outcome r)))
 
-    called_going : faults_in new.status ≡ 0 → Holds first now new → Spends (initial_items now.settings.initial_value) first new → ((r : Refusal) → IsLater r → told ≡ reply (totals r []).outcome → Tells first (steps ++ step ∷ []) (given ++ told ∷ []) now (before_inputs n r)) → Going first (steps ++ step ∷ []) (given ++ told ∷ []) new
+    called_going : faults_in new.status ≡ 0 → Holds first now new → Spends (initial_items now.now.initial_value) first new → ((r : Refusal) → IsLater r → told ≡ reply (totals r []).outcome → Tells first (steps ++ step ∷ []) (given ++ told ∷ []) now (before_inputs n r)) → Going first (steps ++ step ∷ []) (given ++ told ∷ []) new
     called_going o holds spent walked = record {
       told = now;
       taken = n;
@@ -73,7 +73,7 @@ module _ (first : State) where
       spent = spent;
     }
 
-    called_over : (error : Error) → new.status ≡ FaultStatus error → MayPick first.setup.limits (before_inputs n h.refusal) → Spends (initial_items now.settings.initial_value) first new → Tells first (steps ++ step ∷ []) (given ++ told ∷ []) now (before_inputs n h.refusal) → Over first (steps ++ step ∷ []) (given ++ told ∷ []) new error
+    called_over : (error : Error) → new.status ≡ FaultStatus error → MayPick first.setup.limits (before_inputs n h.refusal) → Spends (initial_items now.now.initial_value) first new → Tells first (steps ++ step ∷ []) (given ++ told ∷ []) now (before_inputs n h.refusal) → Over first (steps ++ step ∷ []) (given ++ told ∷ []) new error
     called_over error e may spent walked = record {
       told = now;
       refusal = before_inputs n h.refusal;
@@ -88,7 +88,7 @@ module _ (first : State) where
       spent = spent;
     }
 
-    called_by : (status : Status) → new.status ≡ status → MayPick first.setup.limits (before_inputs n h.refusal) → Holds first now new → Spends (initial_items now.settings.initial_value) first new → ((r : Refusal) → (IsLater r ⊎ (r ≡ h.refusal)) → told ≡ reply (totals r []).outcome → Tells first (steps ++ step ∷ []) (given ++ told ∷ []) now (before_inputs n r)) → WentBy first (steps ++ step ∷ []) (given ++ told ∷ []) new status
+    called_by : (status : Status) → new.status ≡ status → MayPick first.setup.limits (before_inputs n h.refusal) → Holds first now new → Spends (initial_items now.now.initial_value) first new → ((r : Refusal) → (IsLater r ⊎ (r ≡ h.refusal)) → told ≡ reply (totals r []).outcome → Tells first (steps ++ step ∷ []) (given ++ told ∷ []) now (before_inputs n r)) → WentBy first (steps ++ step ∷ []) (given ++ told ∷ []) new status
     called_by (RequestStatus request on_answer) e may holds spent walked =
         called_going (ap faults_in e) holds spent (λ r l. walked r (inl l))
     called_by (CompleteStatus value) e may holds spent walked =
@@ -103,12 +103,11 @@ module _ (first : State) (steps : List Step) (given : List Reply) (x new : State
   -- `evaluate` at the start
   starts : (told : Reply) (initial_value : Option ℕ) → x.status ≡ Start initial_value → Unstarted first steps given x initial_value → Follows x (total x) told new → Went first (steps ++ Evaluate ∷ []) (given ++ told ∷ []) new
   starts told initial_value e w h =
-      let settings = w.told.settings in
-      let now : Told = record { settings = settings; first = Some settings; inputs = w.told.inputs } in
+      let settings = w.told.now in
+      let now : Told = record { now = settings; first = Some settings; inputs = w.told.inputs } in
       let settings_are : first_of x initial_value ≡ settings =
-      ap (λ (v : Option ℕ). record { initial_value = v; object_address = x.store.object_address; maximum = x.store.maximum }) (sym w.initial)
-      ∙ (ap (λ (a : Option ℕ). record { initial_value = settings.initial_value; object_address = a; maximum = x.store.maximum }) w.holds.object_address
-      ∙ ap (λ (m : ℕ). record { initial_value = settings.initial_value; object_address = settings.object_address; maximum = m }) w.holds.maximum) in
+      ap (λ (v : Option ℕ). record { initial_value = v; settings = x.store.settings }) (sym w.initial)
+      ∙ ap (λ (k : Settings). record { initial_value = settings.initial_value; settings = k }) w.holds.settings in
       let means_is : (r : Refusal) (inputs : List Input) → (total x r inputs).outcome ≡ meaning first.setup (before_inputs 0 r) first.text settings (now.inputs ++ inputs) = λ r inputs.
       total_meaning r x inputs initial_value e
       ∙ ap (λ (s : Setup). meaning s r x.text (first_of x initial_value) inputs) w.holds.setup
@@ -118,21 +117,17 @@ module _ (first : State) (steps : List Step) (given : List Reply) (x new : State
       let unstarted : (r : Refusal) → outcome_of first.setup r first.text w.told ≡ None = λ r. ap (outcome_from first.setup r first.text w.told.inputs) w.started in
       called_by first steps given Evaluate x new told (total x) h now 0 settings refl (ap length w.inputs) means_is (λ o. refl) new.status refl
       (subst (λ (s : Setup). MayPick s.limits h.refusal) w.holds.setup h.may)
-      (record {
-        setup = h.kept.setup ∙ w.holds.setup;
-        object_address = h.kept.object_address ∙ w.holds.object_address;
-        maximum = h.kept.maximum ∙ w.holds.maximum;
-      })
+      (record { setup = h.kept.setup ∙ w.holds.setup; settings = h.kept.settings ∙ w.holds.settings })
       (spent_more (initial_items settings.initial_value) first x new w.spent h.spends)
       (λ r l e. walked_more first steps given (given ++ told ∷ []) Evaluate r w.told now (w.walked r)
       (subst (λ (o : Option Outcome). IfSome o IsOver) (sym (unstarted r)) tt)
-      (ap (λ (f : Option First). record { settings = settings; first = Some (unwrap_or f settings); inputs = w.told.inputs }) w.started)
+      (ap (λ (f : Option First). record { now = settings; first = Some (unwrap_or f settings); inputs = w.told.inputs }) w.started)
       (called_replies first steps given Evaluate x new told (total x) h now 0 settings refl (ap length w.inputs) means_is (λ o. refl) r e))
 
   begun_already : (told : Told) (settings : First) (o : Option Outcome) → told.first ≡ Some settings → after told o Evaluate ≡ told
   begun_already told settings o e =
-      ap (λ (f : Option First). record { settings = told.settings; first = Some (unwrap_or f told.settings); inputs = told.inputs }) e
-      ∙ ap (λ (f : Option First). record { settings = told.settings; first = f; inputs = told.inputs }) (sym e)
+      ap (λ (f : Option First). record { now = told.now; first = Some (unwrap_or f told.now); inputs = told.inputs }) e
+      ∙ ap (λ (f : Option First). record { now = told.now; first = f; inputs = told.inputs }) (sym e)
 
   -- `evaluate` once it is complete
   completes_again : (value : Option Value) → x.status ≡ CompleteStatus value → Going first steps given x → Going first (steps ++ Evaluate ∷ []) (given ++ CompleteReply ∷ []) x
@@ -177,15 +172,14 @@ module _ (first : State) (steps : List Step) (given : List Reply) (x new : State
   goes_on : (told : Reply) (answer : Answer) (request : Request) (on_answer : OnAnswer) → x.status ≡ RequestStatus request on_answer → kind_of_request request ≡ kind_of_answer answer → Going first steps given x → Follows x (total_after x (input_of x answer)) told new → Went first (steps ++ Resume answer ∷ []) (given ++ told ∷ []) new
   goes_on told answer request on_answer e kind w h =
       let input = input_of x answer in
-      let settings = w.told.settings in
-      let now : Told = record { settings = settings; first = w.told.first; inputs = w.told.inputs ++ input ∷ [] } in
+      let settings = w.told.now in
+      let now : Told = record { now = settings; first = w.told.first; inputs = w.told.inputs ++ input ∷ [] } in
       let position : Position = record { text = x.text; place = x.place } in
       let is : (r : Refusal) → outcome_of first.setup (before_inputs w.taken (before_input r)) first.text w.told ≡ Some (RequestOutcome request (position ∷ x.callers)) = λ r.
       going_outcome first steps given x w (before_input r) (later_before r)
       ∙ ap (λ (t : Total). Some t.outcome) (total_open (before_input r) x request on_answer e) in
-      let input_is : record { object_address = settings.object_address; maximum = settings.maximum; answer = answer } ≡ input =
-      ap (λ (a : Option ℕ). record { object_address = a; maximum = settings.maximum; answer = answer }) (sym w.holds.object_address)
-      ∙ ap (λ (m : ℕ). record { object_address = x.store.object_address; maximum = m; answer = answer }) (sym w.holds.maximum) in
+      let input_is : record { settings = settings.settings; answer = answer } ≡ input =
+      ap (λ (k : Settings). record { settings = k; answer = answer }) (sym w.holds.settings) in
       let means_is : (r : Refusal) (inputs : List Input) → (total_after x input r inputs).outcome ≡ meaning first.setup (before_inputs (suc w.taken) r) first.text w.settings (now.inputs ++ inputs) = λ r inputs.
       sym (w.rest_is (before_input r) (input ∷ inputs) (later_before r))
       ∙ ap (meaning first.setup (before_inputs (suc w.taken) r) first.text w.settings) (sym (append_assoc w.told.inputs (input ∷ []) inputs)) in
@@ -194,16 +188,12 @@ module _ (first : State) (steps : List Step) (given : List Reply) (x new : State
       let counted : length now.inputs ≡ suc w.taken = omega (arith, lengths, was) in
       called_by first steps given (Resume answer) x new told (total_after x input) h now (suc w.taken) w.settings w.started counted means_is (λ o. refl) new.status refl
       (may_inputs first.setup.limits (suc w.taken) h.refusal (subst (λ (s : Setup). MayPick s.limits h.refusal) w.holds.setup h.may))
-      (record {
-        setup = h.kept.setup ∙ w.holds.setup;
-        object_address = h.kept.object_address ∙ w.holds.object_address;
-        maximum = h.kept.maximum ∙ w.holds.maximum;
-      })
+      (record { setup = h.kept.setup ∙ w.holds.setup; settings = h.kept.settings ∙ w.holds.settings })
       (spent_more (initial_items settings.initial_value) first x new w.spent h.spends)
       (λ r l s. walked_more first steps given (given ++ told ∷ []) (Resume answer) (before_inputs (suc w.taken) r) w.told now (w.walked (before_input r) (later_before r))
       (subst (Awaits answer) (sym (is r)) kind)
       (ap (λ (o : Option Outcome). after w.told o (Resume answer)) (is r)
-      ∙ ap (λ (i : Input). record { settings = settings; first = w.told.first; inputs = w.told.inputs ++ i ∷ [] }) input_is)
+      ∙ ap (λ (i : Input). record { now = settings; first = w.told.first; inputs = w.told.inputs ++ i ∷ [] }) input_is)
       (called_replies first steps given (Resume answer) x new told (total_after x input) h now (suc w.taken) w.settings w.started counted means_is (λ o. refl) r s))
 
 module _ {R O P : Type 0} (text : R → Text) (number : O → ℕ) (first : State) (steps : List Step) (given : List Reply) (x new : State) where

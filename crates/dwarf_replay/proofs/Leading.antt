@@ -37,7 +37,7 @@ module _ (first : State) (steps : List Step) (given : List Reply) (x : State) wh
   }
 
 module _ (first : State) (steps : List Step) (given : List Reply) (x : State) (P : Told → Option Outcome → Type 0) where
-  led : (told : Told) (refusal : Refusal) (outcome : Option Outcome) → Tells first steps given told refusal → MayPick first.setup.limits refusal → outcome_of first.setup refusal first.text told ≡ outcome → StandsAt told x outcome → Spends (initial_items told.settings.initial_value) first x → Leaves first steps given told x x.status → P told outcome → Led first steps given x P
+  led : (told : Told) (refusal : Refusal) (outcome : Option Outcome) → Tells first steps given told refusal → MayPick first.setup.limits refusal → outcome_of first.setup refusal first.text told ≡ outcome → StandsAt told x outcome → Spends (initial_items told.now.initial_value) first x → Leaves first steps given told x x.status → P told outcome → Led first steps given x P
   led told refusal outcome w may is stands spent leaves holds = record {
     walks = record {
       refusal = refusal;
@@ -53,25 +53,22 @@ module _ (first : State) (steps : List Step) (given : List Reply) (x : State) (P
 
   -- what has to hold of what was told, by where the evaluation stands
   abbrev Wanted : Status → Type 0
-  Wanted (Start initial_value) = (told : Told) → told.first ≡ None → told.settings.initial_value ≡ initial_value → P told None
+  Wanted (Start initial_value) = (told : Told) → told.first ≡ None → told.now.initial_value ≡ initial_value → P told None
   Wanted (RequestStatus request on_answer) = (told : Told) (settings : First) (positions : List Position) → told.first ≡ Some settings → P told (Some (RequestOutcome request positions))
   Wanted (CompleteStatus value) = (told : Told) (settings : First) → told.first ≡ Some settings → P told (Some (CompleteOutcome x.store.pieces value))
   Wanted (FaultStatus error) = (told : Told) (settings : First) → told.first ≡ Some settings → P told (Some (FaultOutcome (fault_of error)))
   Wanted Running = Unit {0}
 
-  are_set : (told : Told) → Holds first told x → AreSet told x
-  are_set told h = record { object_address = h.object_address; maximum = h.maximum }
-
   led_by : (status : Status) → x.status ≡ status → WentBy first steps given x status → Wanted status → Led first steps given x P
   led_by (Start initial_value) e w wanted =
-      led w.told Never None (w.walked Never) tt (ap (outcome_from first.setup Never first.text w.told.inputs) w.started) (e ∙ ap Start (sym w.initial), are_set w.told w.holds) w.spent
+      led w.told Never None (w.walked Never) tt (ap (outcome_from first.setup Never first.text w.told.inputs) w.started) (e ∙ ap Start (sym w.initial), w.holds.settings) w.spent
       (subst (Leaves first steps given w.told x) (sym e) (unbegun_leaves first steps given x initial_value w)) (wanted w.told w.started w.initial)
   led_by (RequestStatus request on_answer) e w wanted =
       let position : Position = record { text = x.text; place = x.place } in
       led w.told (before_inputs w.taken Never) (Some (RequestOutcome request (position ∷ x.callers))) (w.walked Never tt) (may_inputs first.setup.limits w.taken Never tt)
       (going_outcome first steps given x w Never tt
       ∙ ap (λ (t : Total). Some t.outcome) (total_open Never x request on_answer e))
-      (subst (IsInRequest request (position ∷ x.callers) x) (sym e) (refl, refl), are_set w.told w.holds)
+      (subst (IsInRequest request (position ∷ x.callers) x) (sym e) (refl, refl), w.holds.settings)
       w.spent
       (subst (Leaves first steps given w.told x) (sym e) (going_leaves first steps given x w))
       (wanted w.told w.settings (position ∷ x.callers) w.started)

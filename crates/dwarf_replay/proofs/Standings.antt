@@ -16,8 +16,7 @@ use Rattle.dwarf_eval.proofs.CallSpending.{spent_here}
 -- the settings are those that were told
 pub record Holds (first : State) (told : Told) (x : State) : Type 0 where
   pub setup : x.setup ≡ first.setup
-  pub object_address : x.store.object_address ≡ told.settings.object_address
-  pub maximum : x.store.maximum ≡ told.settings.maximum
+  pub settings : x.store.settings ≡ told.now.settings
 
 -- it wasn't started
 pub record Unstarted (first : State) (steps : List Step) (given : List Reply) (x : State) (initial_value : Option ℕ) : Type 0 where
@@ -25,10 +24,10 @@ pub record Unstarted (first : State) (steps : List Step) (given : List Reply) (x
   pub walked : (r : Refusal) → Tells first steps given told r
   pub started : told.first ≡ None
   pub inputs : told.inputs ≡ []
-  pub initial : told.settings.initial_value ≡ initial_value
+  pub initial : told.now.initial_value ≡ initial_value
   pub text : x.text ≡ first.text
   pub holds : Holds first told x
-  pub spent : Spends (initial_items told.settings.initial_value) first x
+  pub spent : Spends (initial_items told.now.initial_value) first x
 
 -- it waits or is complete: what is left of it is what the meaning gives, for all inputs to come
 pub record Going (first : State) (steps : List Step) (given : List Reply) (x : State) : Type 0 where
@@ -40,7 +39,7 @@ pub record Going (first : State) (steps : List Step) (given : List Reply) (x : S
   pub started : told.first ≡ Some settings
   pub rest_is : (r : Refusal) (inputs : List Input) → IsLater r → meaning first.setup (before_inputs taken r) first.text settings (told.inputs ++ inputs) ≡ (total x r inputs).outcome
   pub holds : Holds first told x
-  pub spent : Spends (initial_items told.settings.initial_value) first x
+  pub spent : Spends (initial_items told.now.initial_value) first x
 
 -- it met a fault, for some refusal
 pub record Over (first : State) (steps : List Step) (given : List Reply) (x : State) (error : Error) : Type 0 where
@@ -51,7 +50,7 @@ pub record Over (first : State) (steps : List Step) (given : List Reply) (x : St
   pub settings : First
   pub started : told.first ≡ Some settings
   pub fails : meaning first.setup refusal first.text settings told.inputs ≡ FaultOutcome (fault_of error)
-  pub spent : Spends (initial_items told.settings.initial_value) first x
+  pub spent : Spends (initial_items told.now.initial_value) first x
 
 abbrev pub WentBy : State → List Step → List Reply → State → Status → Type 0
 WentBy first steps given x (Start initial_value) = Unstarted first steps given x initial_value
@@ -73,7 +72,7 @@ went_at_first x e =
       inputs = refl;
       initial = refl;
       text = refl;
-      holds = record { setup = refl; object_address = refl; maximum = refl };
+      holds = record { setup = refl; settings = refl };
       spent = spent_here x;
     })
 

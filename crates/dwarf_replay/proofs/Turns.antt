@@ -60,7 +60,7 @@ module _ (setup : Setup) (refusal : Refusal) (text : Text) where
       }
 
   call_replies : {R O P : Type 0} (view : R → Text) (number : O → ℕ) (step : Step) (told : Told) (x new : State) (given : Result (EvaluationResult R O P) Error) → HasReplied view number step x new given → Allows told (outcome_of setup refusal text told) step → Replies step told
-  call_replies view number Evaluate told x new given c h = record { reply_is = reply (meaning setup refusal text (unwrap_or told.first told.settings) told.inputs); one = refl }
+  call_replies view number Evaluate told x new given c h = record { reply_is = reply (meaning setup refusal text (unwrap_or told.first told.now) told.inputs); one = refl }
   call_replies view number (Resume answer) told x new given c h = started_replies answer told told.first refl h
   call_replies view number (InitialValue value) told x new given c h = absurd c
   call_replies view number (ObjectAddress address) told x new given c h = absurd c

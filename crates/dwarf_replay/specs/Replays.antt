@@ -33,7 +33,7 @@ module _ {R O P : Type 0} (text : R → Text) (number : O → ℕ) where
 
 -- nothing was told but the settings
 abbrev pub told_at : State → Told
-told_at x = record { settings = first_of x None; first = None; inputs = [] }
+told_at x = record { now = first_of x None; first = None; inputs = [] }
 
 -- ---- where an evaluation stands
 
@@ -49,13 +49,12 @@ IsInFault fault (FaultStatus error) = fault_of error ≡ fault
 IsInFault fault _ = ⊥
 
 -- the settings that were told last hold
-pub record AreSet (told : Told) (x : State) : Type 0 where
-  pub object_address : x.store.object_address ≡ told.settings.object_address
-  pub maximum : x.store.maximum ≡ told.settings.maximum
+abbrev pub AreSet : Told → State → Type 0
+AreSet told x = x.store.settings ≡ told.now.settings
 
 -- it is where the steps lead: not started yet, in a request, at a fault, or complete with pieces and a value
 abbrev pub StandsAt : Told → State → Option Outcome → Type 0
-StandsAt told x None = (x.status ≡ Start told.settings.initial_value) × AreSet told x
+StandsAt told x None = (x.status ≡ Start told.now.initial_value) × AreSet told x
 StandsAt told x (Some (RequestOutcome request positions)) = IsInRequest request positions x x.status × AreSet told x
 StandsAt told x (Some (FaultOutcome fault)) = IsInFault fault x.status
 StandsAt told x (Some (CompleteOutcome pieces value)) = (x.status ≡ CompleteStatus value) × (x.store.pieces ≡ pieces)
@@ -102,7 +101,7 @@ pub record Walks (old : State) (steps : List meaning.Step) (replies : List Reply
   pub tells : Tells old steps replies told refusal
   pub stands : StandsAt told new (outcome_of old.setup refusal old.text told)
   -- it kept and decoded no more than the operations that it counted allow, and an initial value
-  pub spent : Spends (initial_items told.settings.initial_value) old new
+  pub spent : Spends (initial_items told.now.initial_value) old new
   pub leaves : Leaves old steps replies told new new.status
 
 -- the steps before this one were done, and it isn't allowed

@@ -138,12 +138,12 @@ text_as bytes bytes' order order' e f = ap₂ text_by e f
 
 abbrev pub told_by : Option ℕ → ℕ → Told
 told_by object_address maximum = record {
-  settings = record { initial_value = None; object_address = object_address; maximum = maximum };
+  now = record { initial_value = None; settings = record { object_address = object_address; maximum = maximum } };
   first = None;
   inputs = [];
 }
 
-pub told_as : (x : State) → x.store.object_address ≡ None → x.store.maximum ≡ most → told_at x ≡ untold
+pub told_as : (x : State) → x.store.settings.object_address ≡ None → x.store.settings.maximum ≡ most → told_at x ≡ untold
 told_as x e f = ap₂ told_by e f
 
 -- ---- what lines say

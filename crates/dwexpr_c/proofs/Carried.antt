@@ -205,7 +205,7 @@ module _ (P : Text → Type 0) (Q : List ℕ → Type 0) where
 
     does_carries : (text : Text) (depth : ℕ) (s : Store) (inputs : List Input) (r : Result (Operation × List ℕ) Fault) → P text → OnRead Q r → Holds Q s → OnInputs P inputs → OnEnd (do_operation go setup text depth s inputs (counted_act setup s) r).end
     does_carries text depth s inputs (Ok x) p b h i =
-        after_operation_carries text depth _ inputs _ p (done_holds Q setup _ _ _ s (act_holds Q x.0 _ (act_is (address_bits setup) s.object_address x.0 s.values) b) h) i
+        after_operation_carries text depth _ inputs _ p (done_holds Q setup _ _ _ s (act_holds Q x.0 _ (act_is (address_bits setup) s.settings.object_address x.0 s.values) b) h) i
     does_carries text depth s inputs (Err fault) p b h i = tt
 
     counts_carries : (text : Text) (place depth : ℕ) (s : Store) (inputs : List Input) → P text → Holds Q s → OnInputs P inputs → OnEnd (turn_counted go setup text place depth s inputs).end

@@ -167,7 +167,7 @@ module _ (texts : List DwexprText) where
   on_after told o (ObjectAddress address) h a = h
   on_after told o (MaxIterations maximum) h a = h
   on_after told o Evaluate h a = h
-  on_after told o (Resume answer) h a = on_heard told.settings told.inputs answer o h a
+  on_after told o (Resume answer) h a = on_heard told.now told.inputs answer o h a
 
   on_told : (setup : Setup) (refusal : Refusal) (text : Text) (told : Told) (steps : List Step) → OnInputs P told.inputs → OnSteps steps → OnInputs P (after_steps setup refusal text told steps).inputs
   on_told setup refusal text told [] h a = h

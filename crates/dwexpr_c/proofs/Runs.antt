@@ -93,7 +93,7 @@ no_fault texts told x (Some (FaultOutcome fault)) (CompleteStatus value) out e s
 no_fault texts told x (Some (FaultOutcome fault)) Running out e s h = absurd (subst (IsInFault fault) e h)
 
 stopped_by : (told : Told) (x : State) (o : Option Outcome) (error : Error) → x.status ≡ FaultStatus error → StandsAt told x o → o ≡ Some (FaultOutcome (fault_of error))
-stopped_by told x None error e h = absurd (let s : FaultStatus error ≡ Start told.settings.initial_value = sym e ∙ h.0 in cc)
+stopped_by told x None error e h = absurd (let s : FaultStatus error ≡ Start told.now.initial_value = sym e ∙ h.0 in cc)
 stopped_by told x (Some (RequestOutcome request positions)) error e h = absurd (subst (IsInRequest request positions x) e h.0)
 stopped_by told x (Some (FaultOutcome fault)) error e h = ap (λ (f : Fault). Some (FaultOutcome f)) (sym (subst (IsInFault fault) e h))
 stopped_by told x (Some (CompleteOutcome pieces value)) error e h = absurd (let s : FaultStatus error ≡ CompleteStatus value = sym e ∙ h.0 in cc)
@@ -114,7 +114,7 @@ BlockNowhere texts (Some (RequestOutcome request positions)) = AsksNowhere texts
 BlockNowhere texts _ = ⊥
 
 request_asks : (texts : List DwexprText) (told : Told) (x : State) (o : Option Outcome) (request : Request) (on_answer : requests.OnAnswer) → x.status ≡ RequestStatus request on_answer → AsksNowhere texts (RequestReply request) → StandsAt told x o → BlockNowhere texts o
-request_asks texts told x None request on_answer e a h = absurd (let s : RequestStatus request on_answer ≡ Start told.settings.initial_value = sym e ∙ h.0 in cc)
+request_asks texts told x None request on_answer e a h = absurd (let s : RequestStatus request on_answer ≡ Start told.now.initial_value = sym e ∙ h.0 in cc)
 request_asks texts told x (Some (RequestOutcome other positions)) request on_answer e a h =
     let is : IsInRequest other positions x (RequestStatus request on_answer) = subst (IsInRequest other positions x) e h.0 in
     subst (λ (r : Request). AsksNowhere texts (RequestReply r)) is.0 a

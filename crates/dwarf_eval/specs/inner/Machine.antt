@@ -95,8 +95,7 @@ store_of text number values pieces count object_address maximum last location = 
   values = reverse values;
   pieces = map (piece_of text number) pieces;
   count = count;
-  object_address = object_address;
-  maximum = maximum;
+  settings = record { object_address = object_address; maximum = maximum };
   last = last_of last (location_of text number location);
   refusal = Never;
 }

@@ -141,7 +141,7 @@ pub record ReadsOperation (op : Operation) (old new : State) : Type 0 where
 
 -- what an operation does with the stack as it is
 abbrev pub act_of : State → Operation → Act
-act_of x op = act (address_bits x.setup) x.store.object_address op x.store.values
+act_of x op = act (address_bits x.setup) x.store.settings.object_address op x.store.values
 
 -- the operation takes no branch
 abbrev pub IsNoBranch : Operation → Type 0

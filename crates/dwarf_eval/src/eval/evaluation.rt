@@ -58,8 +58,8 @@ impl<R: Reader + Copy> Expression<R> {
         ensures status { result.status ≡ Start None }
         ensures setup { result.setup ≡ setup_of encoding R.Offset.BITS None None None }
         ensures text { result.text ≡ R.text self.0 }
-        ensures object_address { result.store.object_address ≡ None }
-        ensures maximum { result.store.maximum ≡ most }
+        ensures object_address { result.store.settings.object_address ≡ None }
+        ensures maximum { result.store.settings.maximum ≡ most }
         ensures unspent { IsUnspent result }
     {
         Evaluation::new(alloc, self.0, encoding)
@@ -76,8 +76,8 @@ impl<R: Reader + Copy, A: Allocator + Copy> Evaluation<R, StoreOnHeap<A>> {
         ensures status { result.status ≡ Start None }
         ensures setup { result.setup ≡ setup_of encoding R.Offset.BITS None None None }
         ensures text { result.text ≡ R.text bytecode }
-        ensures object_address { result.store.object_address ≡ None }
-        ensures maximum { result.store.maximum ≡ most }
+        ensures object_address { result.store.settings.object_address ≡ None }
+        ensures maximum { result.store.settings.maximum ≡ most }
         ensures unspent { IsUnspent result }
     {
         Evaluation::new_in(
@@ -120,8 +120,8 @@ impl<R: Reader + Copy, S: EvaluationStorage<R>> Evaluation<R, S> {
             ≡ setup_of encoding R.Offset.BITS (S.Stack.limit stack)
             (S.ExpressionStack.limit expression_stack) (S.Result.limit pieces) }
         ensures text { result.text ≡ R.text bytecode }
-        ensures object_address { result.store.object_address ≡ None }
-        ensures maximum { result.store.maximum ≡ most }
+        ensures object_address { result.store.settings.object_address ≡ None }
+        ensures maximum { result.store.settings.maximum ≡ most }
         ensures unspent { IsUnspent result }
     {
         Evaluation {
@@ -142,8 +142,8 @@ impl<R: Reader + Copy, S: EvaluationStorage<R>> Evaluation<R, S> {
             ≡ setup_of encoding R.Offset.BITS self.old.setup.limits.values
             self.old.setup.limits.callers self.old.setup.limits.pieces }
         ensures text { self.new.text ≡ R.text bytecode }
-        ensures object_address { self.new.store.object_address ≡ None }
-        ensures maximum { self.new.store.maximum ≡ most }
+        ensures object_address { self.new.store.settings.object_address ≡ None }
+        ensures maximum { self.new.store.settings.maximum ≡ most }
         ensures unspent { IsUnspent self.new }
     {
         self.machine.restart(bytecode, encoding);

@@ -334,7 +334,7 @@ impl<R: Reader + Copy, S: EvaluationStorage<R>> Machine<R, S> {
     /// The address of the object that is described, if it is set.
     #[inline(always)]
     pub(crate) fn object_address(&self) -> Option<u64>
-        ensures { result ≡ self.now.store.object_address }
+        ensures { result ≡ self.now.store.settings.object_address }
     {
         self.object_address
     }
@@ -529,8 +529,8 @@ impl<R: Reader + Copy, S: EvaluationStorage<R>> Machine<R, S> {
             ≡ setup_of encoding R.Offset.BITS self.old.setup.limits.values
             self.old.setup.limits.callers self.old.setup.limits.pieces }
         ensures text { self.new.text ≡ R.text bytecode }
-        ensures object_address { self.new.store.object_address ≡ None }
-        ensures maximum { self.new.store.maximum ≡ most }
+        ensures object_address { self.new.store.settings.object_address ≡ None }
+        ensures maximum { self.new.store.settings.maximum ≡ most }
         ensures fresh { IsFresh self.new None }
         ensures unspent { IsUnspent self.new }
     {
@@ -567,8 +567,8 @@ impl<R: Reader + Copy, S: EvaluationStorage<R>> Machine<R, S> {
             ≡ setup_of encoding R.Offset.BITS (S.Stack.limit stack)
             (S.ExpressionStack.limit expression_stack) (S.Result.limit pieces) }
         ensures text { result.text ≡ R.text bytecode }
-        ensures object_address { result.store.object_address ≡ None }
-        ensures maximum { result.store.maximum ≡ most }
+        ensures object_address { result.store.settings.object_address ≡ None }
+        ensures maximum { result.store.settings.maximum ≡ most }
         ensures fresh { IsFresh result None }
         ensures unspent { IsUnspent result }
     {

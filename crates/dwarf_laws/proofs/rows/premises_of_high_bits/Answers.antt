@@ -48,7 +48,7 @@ returns c = record {
   };
   one_object_address = record {
     one_comes =
-        in_twenty plain Never (text (0x97 ∷ [])) (record unset { object_address = Some 0 }) [] (valued 0 0) (λ more. refl);
+        in_twenty plain Never (text (0x97 ∷ [])) (record unset { settings = record unset.settings { object_address = Some 0 } }) [] (valued 0 0) (λ more. refl);
     other_comes = in_twenty plain Never (text (0x97 ∷ [])) unset [] (FaultOutcome InvalidPushObjectAddress) (λ more. refl);
     differ = λ h. agree_alike 32 _ _ h;
   };

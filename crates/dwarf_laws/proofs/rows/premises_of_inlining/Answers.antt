@@ -87,7 +87,7 @@ returns c = record {
   object_is_set_at_the_answer = record {
     outer_comes =
         in_twenty plain Never (text (0x98 ∷ 0x05 ∷ 0x00 ∷ [])) unset
-        (given (record unset { object_address = Some 7 }) (calls (0x97 ∷ []) ∷ [])) (valued 7 7) (λ more. refl);
+        (given (record unset { settings = record unset.settings { object_address = Some 7 } }) (calls (0x97 ∷ []) ∷ [])) (valued 7 7) (λ more. refl);
     inlined_comes = in_twenty plain Never (text (0x97 ∷ [])) unset [] (FaultOutcome InvalidPushObjectAddress) (λ more. refl);
     differ = λ h. end_ended _ _ h;
   };

@@ -223,10 +223,10 @@ returns c = record {
   object_address = record {
     agree = (agreeing.object_address refl, (evaluate, tt));
     one = set_once plain (0x97 ∷ []) (ObjectAddress 0x10) (valued 0x10 0x10) (λ o. refl) tt refl
-        (ap Some (in_twenty plain Never (text (0x97 ∷ [])) (record unset { object_address = Some 0x10 }) []
+        (ap Some (in_twenty plain Never (text (0x97 ∷ [])) (record unset { settings = record unset.settings { object_address = Some 0x10 } }) []
         (valued 0x10 0x10) (λ more. refl)));
     another = set_once plain (0x97 ∷ []) (ObjectAddress 0x100000010) (valued 0x100000010 0x10) (λ o. refl) tt refl
-        (ap Some (in_twenty plain Never (text (0x97 ∷ [])) (record unset { object_address = Some 0x100000010 }) []
+        (ap Some (in_twenty plain Never (text (0x97 ∷ [])) (record unset { settings = record unset.settings { object_address = Some 0x100000010 } }) []
         (valued 0x100000010 0x10) (λ more. refl)));
   };
   initial_value = record {

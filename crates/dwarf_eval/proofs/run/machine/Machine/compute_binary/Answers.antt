@@ -1,18 +1,13 @@
 use Rattle.std.proofs.Common.{◌∙◌, sym, subst}
 use Rattle.dwarf_value.specs.declared.types.Value.TheVariants.{Generic}
 use Rattle.dwarf_value.specs.Values.{binary_of}
-use Rattle.dwarf_meaning.specs.Acts.{binary}
-use Rattle.dwarf_meaning.specs.Rest.{State}
-use Rattle.dwarf_meaning.specs.Stores.{address_bits}
-use Rattle.dwarf_eval.specs.inner.Steps.{Performs}
-use Rattle.dwarf_eval.proofs.Computes.{binary_pushes, binary_refuses}
+use Rattle.dwarf_eval.proofs.Computes.{binary_pushes, binary_refuses, same_binary}
 use Rattle.dwarf_eval.proofs.Generics.{same_two}
 use Rattle.dwarf_eval.proofs.run.machine.Machine.compute_binary.Goals as goal
 
 pub returns-in_default : goal.returns-in_default
 returns-in_default g c =
-    subst (λ (x : State). Performs (binary (binary_of g.O.BinaryOperator.operator (address_bits x.setup)) x.store.values) x c.compute_typed.new.self)
-    c.in_default.ensures c.compute_typed.ensures
+    same_binary (binary_of g.O.BinaryOperator.operator) c.args.self.now c.pop_generics.new.self c.compute_typed.new.self c.in_default.ensures c.compute_typed.ensures
 
 pub returns-in-Ok : goal.returns-in-Ok
 returns-in-Ok g c =

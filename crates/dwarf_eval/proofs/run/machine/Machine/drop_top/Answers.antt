@@ -15,5 +15,5 @@ returns-in_default g c =
 
 pub returns : goal.returns
 returns g c =
-    performs_as (act_of c.args.self.now operation.Drop) (Pushes c.in-Some.ensures.0 []) c.args.self.now c.mark_plain.new.self (some_drop (address_bits c.args.self.now.setup) c.args.self.now.store.object_address c.args.self.now.store.values c.in-Some.field-0 c.in-Some.ensures.0 c.in-Some.ensures.1)
+    performs_as (act_of c.args.self.now operation.Drop) (Pushes c.in-Some.ensures.0 []) c.args.self.now c.mark_plain.new.self (some_drop (address_bits c.args.self.now.setup) c.args.self.now.store.settings.object_address c.args.self.now.store.values c.in-Some.field-0 c.in-Some.ensures.0 c.in-Some.ensures.1)
     (performs_none c.in-Some.ensures.0 c.args.self.now c.mark_plain.new.self c.requires (c.mark_plain.ensures ∙ ap (with_last Plain) c.in-Some.ensures.2))

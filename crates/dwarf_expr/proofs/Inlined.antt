@@ -4,7 +4,7 @@ use Rattle.dwarf_base.specs.declared.errors.Error.{Error}
 use Rattle.dwarf_base.specs.Faults.{Fault}
 use Rattle.dwarf_base.specs.Reads.{Text}
 use Rattle.dwarf_meaning.specs.Operations.{DieReference, UnitRef}
-use Rattle.dwarf_meaning.specs.Requests.{Request, LocationAnswer, Settings}
+use Rattle.dwarf_meaning.specs.Requests.{Request, LocationAnswer, Settings, Input}
 use Rattle.dwarf_meaning.specs.Stores.{Setup}
 use Rattle.dwarf_meaning.specs.Meaning.{Outcome, FaultOutcome, First, meaning}
 use Rattle.dwarf_meaning.specs.Rest.{State, FaultStatus}
@@ -119,7 +119,7 @@ module _ (setup : Setup) (site : CallSite) (offset : DieReference) (told : Told)
         → Done setup (outer site) told all_steps new → ((error : Error) → new.status ≢ FaultStatus error)
         → Done setup (inlined site) told (start ++ beyond) other → StatesEndAlike new other
     ends new other law d sound d' =
-        let clear = sound_outcome new _ _ d.stands sound in
+        let clear = sound_outcome new (after_steps setup Never (outer site) told all_steps) _ d.stands sound in
         let outer_told = told_is setup Never (outer site) told all_steps d.allowed clear in
         let outer_is = ap (λ (t : Told). outcome_of setup Never (outer site) t) outer_told ∙ outer_comes in
         let alike = law (λ fault e. clear fault (outer_is ∙ ap Some e)) in
@@ -154,7 +154,7 @@ inlined_replays x y new other site offset start beyond replies given h k n sound
     sym h.told_is
     ∙ (ap (λ (t : Text). after_steps x.setup Never t (told_at x) start) h.outer_text
     ∙ told_before x.setup Never (outer site) (told_at x) start (Resume (LocationAnswer (called site)) ∷ beyond)
-    first_done.allowed (sound_outcome new _ _ first_done.stands sound))
+    first_done.allowed (sound_outcome new (after_steps x.setup Never (outer site) (told_at x) (start ++ (Resume (LocationAnswer (called site)) ∷ beyond))) _ first_done.stands sound))
     in
     ends x.setup site offset (told_at x) start beyond h.first
     (subst (λ (t : Told). t.first ≡ Some h.first) at_call h.is_started)

@@ -252,7 +252,7 @@ module _ (texts : List DwexprText) (all : List DwexprStep) (index : ℕ) (at : D
     ends_by end h = record {
       before = r.steps;
       taken = taken;
-      no_fault = no_fault texts _ x (comes_of given r.steps) x.status out refl r.shown walks.stands;
+      no_fault = no_fault texts (told_by given r.steps) x (comes_of given r.steps) x.status out refl r.shown walks.stands;
       at = at;
       is_there = is_there;
       ends = h;
@@ -290,13 +290,13 @@ module _ (texts : List DwexprText) (all : List DwexprStep) (index : ℕ) (at : D
         inr (record {
           allowed = w.allowed;
           fault = fault_of h.error;
-          comes = stands_at_fault _ new _ (fault_of h.error) new.status refl told w.stands;
+          comes = stands_at_fault (told_by given (r.steps ++ step ∷ [])) new _ (fault_of h.error) new.status refl told w.stands;
           shown = ap (λ (e : FaultNumbers). ended_outcome e.code e.number index) h.shown;
         })
     ends_at end step one (inr (inr h)) =
         let w = called_walks step (Ok h.told) h.called in
         let told = told_by_call x new (Ok h.told) texts out step r.shown h.called in
-        absurd (nowhere_never step one _ refl (stands_at_block texts _ new _ (ok_reply text_of_placed (λ x. x) h.told) new.status refl told h.asks w.stands))
+        absurd (nowhere_never step one _ refl (stands_at_block texts (told_by given (r.steps ++ step ∷ [])) new _ (ok_reply text_of_placed (λ x. x) h.told) new.status refl told h.asks w.stands))
 
     cut_short_by : (end : FaultNumbers) (o : Result Step ℕ) → step_coded first.text.is_big texts at ≡ o → Stops texts o x new end → EndsByStep given r.steps o (ended_outcome end.code end.number index)
     cut_short_by end (Ok step) one h = ends_at end step one h

@@ -9,12 +9,9 @@ use Rattle.dwarf_meaning.specs.RunLaws.{waits_of}
 use Rattle.dwarf_meaning.specs.Stores.{Last, Pieced, Located}
 use Rattle.dwarf_meaning.specs.Rest.{State, Start, Running, RequestStatus, CompleteStatus, FaultStatus}
 use Rattle.dwarf_meaning.specs.Bounds.{waiting, initial_due, answer_due, is_given, endings, faults_in, DecodesOnce, Spends}
+use Rattle.dwarf_meaning.proofs.Turns.{waits_little}
 use Rattle.dwarf_eval.proofs.Endings.{AllGiven, piece_due, due_waits, start_waits, request_waits}
 use Rattle.dwarf_eval.proofs.Loads.{kept_in}
-
-pub waits_little : (last : Last) → waits_of last ≤ 1
-waits_little (Located location) = omega arith
-waits_little _ = omega arith
 
 pub spends_here : (x : State) → Spends 0 x x
 spends_here x = record { items = omega arith; callers = omega arith; decodings = omega arith; once = λ d. d }

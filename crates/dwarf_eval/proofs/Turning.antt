@@ -21,10 +21,11 @@ use Rattle.dwarf_meaning.proofs.Turns.{run_turn, below_most}
 use Rattle.dwarf_meaning.specs.Bounds.{endings, faults_in}
 use Rattle.dwarf_meaning.specs.Inputs.{Keeps, with_status}
 use Rattle.dwarf_eval.specs.inner.Steps.{total, CountsOne, ReadsOperation, act_of, done_at, LeadsToPlace, LeadsToRequest, LeadsToFault, LeadsBy, Performs, read_to, with_store, Falls, ComesBy, is_free, IsReady, Turns, effort, effort_by}
+use Rattle.dwarf_meaning.proofs.Turns.{waits_little}
 use Rattle.dwarf_eval.proofs.Endings.{EndsNoMore, done_ends, free_given}
 use Rattle.dwarf_eval.proofs.Loads.{IsLighter, kept_in, done_lighter}
 use Rattle.dwarf_eval.proofs.Nearing.{nears_by}
-use Rattle.dwarf_eval.proofs.Spending.{asked_spends, counted_spends, fallen_spends, waits_little}
+use Rattle.dwarf_eval.proofs.Spending.{asked_spends, counted_spends, fallen_spends}
 use Rattle.dwarf_eval.proofs.Totals.{closed, going, waiting_total, total_running, total_waits, course_failed, course_counted, course_asked}
 
 -- ---- what there is still to do

@@ -15,13 +15,9 @@ use Rattle.dwarf_meaning.specs.Run.{Position, End, CompleteEnd, RequestEnd, Faul
 use Rattle.dwarf_meaning.specs.RunLaws.{waits_of, turns_left}
 use Rattle.dwarf_meaning.proofs.Counts.{OnStore, OnNext, Tally, tally_of, HasTally, OnPiece, tally-push_value, tally-push_caller, tally-done, both-located}
 
-waits_little : (last : Last) → waits_of last ≤ 1
-waits_little Nothing = omega arith
-waits_little Plain = omega arith
-waits_little Pieced = omega arith
-waits_little Pushed = omega arith
-waits_little Called = omega arith
+pub waits_little : (last : Last) → waits_of last ≤ 1
 waits_little (Located location) = omega arith
+waits_little _ = omega arith
 
 -- what is left if this many were counted
 abbrev room_at : ℕ → ℕ

@@ -8,10 +8,10 @@ use Rattle.dwarf_meaning.specs.Rest.{State, Status, Start, Running, RequestStatu
 use Rattle.dwarf_meaning.proofs.Outcomes.{outcome_from}
 use Rattle.dwarf_meaning.specs.Steps.{Step, InitialValue, ObjectAddress, MaxIterations, Evaluate, Resume, Told, Reply, Allows, outcome_of}
 use Rattle.dwarf_replay.specs.Stepping.{MayTake}
-use Rattle.dwarf_replay.specs.Replays.{IsInRequest, IsInFault, AreSet, StandsAt, Tells, IsUnbegun, IsLeft, Leaves, Walks, WalksTo}
+use Rattle.dwarf_replay.specs.Replays.{IsInRequest, IsInFault, StandsAt, Tells, IsUnbegun, IsLeft, Leaves, Walks, WalksTo}
 use Rattle.dwarf_meaning.specs.Bounds.{Spends, initial_items}
 use Rattle.dwarf_eval.proofs.Following.{total_open, total_complete}
-use Rattle.dwarf_replay.proofs.Standings.{Holds, Unstarted, Going, WentBy, Went, may_inputs}
+use Rattle.dwarf_replay.proofs.Standings.{Unstarted, Going, WentBy, Went, may_inputs}
 use Rattle.dwarf_replay.proofs.Calling.{some_not_none, going_outcome}
 
 -- ---- where the steps lead

@@ -1,6 +1,7 @@
 -- What a call of an evaluation replies: the nested meaning, and what is left of it.
 pub use Rattle.dwarf_meaning.specs.Inputs.{input_of, Keeps, with_status, IsFresh, with_object, with_maximum}
-use Rattle.std.specs.Prelude.{ℕ, ◌≡◌, List, [], Option, Some, None, option_map, unwrap_or, Result, Ok, Err}
+use Rattle.std.specs.Prelude.{ℕ, ◌≡◌, List, [], Option, Some, None, Result, Ok, Err}
+use Rattle.std.specs.Option.{option_map_or}
 use Rattle.dwarf_base.specs.declared.errors.Error.{Error}
 use Rattle.dwarf_base.specs.Faults.{fault_of}
 use Rattle.dwarf_base.specs.Reads.{Text}
@@ -37,7 +38,7 @@ module _ {R O P : Type 0} (text : R → Text) (number : O → ℕ) where
 
   -- the reply of a result: what it asks, or completion
   abbrev pub ok_reply : EvaluationResult R O P → Reply
-  ok_reply replied = unwrap_or (option_map RequestReply (request_in replied)) CompleteReply
+  ok_reply replied = option_map_or RequestReply (request_in replied) CompleteReply
 
   -- the reply of a call: a result's, or a fault
   abbrev pub reply_of : Result (EvaluationResult R O P) Error → Reply

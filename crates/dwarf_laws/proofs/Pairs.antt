@@ -1,7 +1,8 @@
 -- Two lists, options and choices that are related.
 use Rattle.std.proofs.Common.{ℕ, zero, suc, ◌≡◌, ap, refl, subst, Bool, true, false, List, [], ◌∷◌, ◌++◌, length, Option, Result, Ok, Err, cond}
-use Rattle.std.specs.Prelude.{slice_get, option_map, unwrap_or}
+use Rattle.std.specs.Prelude.{slice_get}
 use Rattle.std.specs.List.{AllZip}
+use Rattle.std.specs.Option.{option_map_or}
 use Rattle.dwarf_base.specs.declared.errors.Error.{Error}
 use Rattle.dwarf_base.specs.Faults.{Fault, fault_of}
 use Rattle.dwarf_value.specs.declared.types.Value.{Value}
@@ -62,7 +63,7 @@ module _ {A : Type 0} (R : A → A → Type 0) where
   top_pair w vs ws x x' go go' (more a bs) h g = g _ _ _ _ a bs
 
   pub some_pair : {X : Type 0} (Q : X → X → Type 0) (o o' : Option X) (x x' : A) (go go' : X → A) → Both Q o o' → R x x'
-      → ((v v' : X) → Q v v' → R (go v) (go' v')) → R (unwrap_or (option_map go o) x) (unwrap_or (option_map go' o') x')
+      → ((v v' : X) → Q v v' → R (go v) (go' v')) → R (option_map_or go o x) (option_map_or go' o' x')
   some_pair Q o o' x x' go go' nothing h g = h
   some_pair Q o o' x x' go go' (something q) h g = g _ _ q
 

@@ -1,5 +1,6 @@
 -- The words of the definitions, case by case.
-use Rattle.std.proofs.Common.{suc, length, ◌≡◌, refl, ap, List, [], ◌∷◌, Option, Some, None, option_map, unwrap_or, Result, Ok, Err}
+use Rattle.std.proofs.Common.{suc, length, ◌≡◌, refl, ap, List, [], ◌∷◌, Option, Some, None, Result, Ok, Err}
+use Rattle.std.specs.Option.{option_map_or}
 use Rattle.dwarf_base.specs.declared.errors.Error.{Error}
 use Rattle.dwarf_base.specs.declared.errors.Error.TheVariants.{UnexpectedEof}
 use Rattle.dwarf_base.specs.Faults.{Fault, fault_of}
@@ -13,7 +14,7 @@ unfolding on_top
 top_both P [] none go p q = p
 top_both P (x ∷ rest) none go p q = q x rest refl
 
-pub some_both : {X A : Type 0} (P : A → Type 0) (o : Option X) (none : A) (go : X → A) → P none → ((x : X) → P (go x)) → P (unwrap_or (option_map go o) none)
+pub some_both : {X A : Type 0} (P : A → Type 0) (o : Option X) (none : A) (go : X → A) → P none → ((x : X) → P (go x)) → P (option_map_or go o none)
 some_both P None none go p q = p
 some_both P (Some x) none go p q = q x
 
@@ -33,11 +34,11 @@ pub top_some : {A : Type 0} (values : List Value) (none : A) (go : Value → Lis
 unfolding on_top
 top_some values none go x rest e = ap (λ (vs : List Value). on_top vs none go) e
 
-pub some_none : {X A : Type 0} (o : Option X) (none : A) (go : X → A) → o ≡ None → unwrap_or (option_map go o) none ≡ none
-some_none o none go e = ap (λ (p : Option _). unwrap_or (option_map go p) none) e
+pub some_none : {X A : Type 0} (o : Option X) (none : A) (go : X → A) → o ≡ None → option_map_or go o none ≡ none
+some_none o none go e = ap (λ (p : Option _). option_map_or go p none) e
 
-pub some_some : {X A : Type 0} (o : Option X) (none : A) (go : X → A) (x : X) → o ≡ Some x → unwrap_or (option_map go o) none ≡ go x
-some_some o none go x e = ap (λ (p : Option _). unwrap_or (option_map go p) none) e
+pub some_some : {X A : Type 0} (o : Option X) (none : A) (go : X → A) (x : X) → o ≡ Some x → option_map_or go o none ≡ go x
+some_some o none go x e = ap (λ (p : Option _). option_map_or go p none) e
 
 -- a call's answer that is a value, and one that is an error
 pub answer_ok : {X A : Type 0} (r : Result X Error) (refused : Fault → A) (go : X → A) (x : X) → r ≡ Ok x → on_result r refused go ≡ go x

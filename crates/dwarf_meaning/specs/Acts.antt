@@ -1,5 +1,6 @@
 -- What each operation does with the stack, apart from the lists' limits (DWARF 5, sections 2.5.1 and 2.6.1).
-use Rattle.std.specs.Prelude.{ℕ, ◌*◌, ℤ, ◌==◌, pos, ◌+ℤ◌, true, false, List, [], ◌∷◌, Option, Some, None, option_map, unwrap_or, Result, Ok, Err, nat_lt, slice_get, if◌then◌else◌}
+use Rattle.std.specs.Prelude.{ℕ, ◌*◌, ℤ, ◌==◌, pos, ◌+ℤ◌, true, false, List, [], ◌∷◌, Option, Some, None, Result, Ok, Err, nat_lt, slice_get, if◌then◌else◌}
+use Rattle.std.specs.Option.{option_map_or}
 use Rattle.dwarf_base.specs.declared.errors.Error.{Error}
 use Rattle.dwarf_base.specs.Faults.{Fault, fault_of}
 use Rattle.dwarf_base.specs.declared.errors.Error.TheVariants.{NotEnoughStackItems, InvalidDerefSize, InvalidPushObjectAddress, UnsupportedEvaluation}
@@ -63,7 +64,7 @@ module _ (bits : ℕ) (object : Option ℕ) where
   -- what an operation does with the values on the stack
   unfoldable pub act : Operation → List Value → Act
   act Drop values = on_top values short (λ x rest. Pushes rest [])
-  act (Pick index) values = unwrap_or (option_map (push values) (slice_get values index)) short
+  act (Pick index) values = option_map_or (push values) (slice_get values index) short
   act Swap (y ∷ x ∷ rest) = Pushes rest (y ∷ x ∷ [])
   act Swap _ = short
   act Rot (z ∷ y ∷ x ∷ rest) = Pushes rest (z ∷ x ∷ y ∷ [])
@@ -74,7 +75,7 @@ module _ (bits : ℕ) (object : Option ℕ) where
   act (UnsignedConstant value) values = push values (Generic value)
   act (SignedConstant value) values = push values (Generic (residue 64 value))
   act PushObjectAddress values =
-      unwrap_or (option_map (λ address. push values (Generic address)) object) (FaultAct InvalidPushObjectAddress)
+      option_map_or (λ address. push values (Generic address)) object (FaultAct InvalidPushObjectAddress)
   act (Bra target) values =
       on_top values short (λ x rest. if to_u64_of bits x == 0 then Pushes rest [] else Branches rest target)
   act (Skip target) values = Branches values target

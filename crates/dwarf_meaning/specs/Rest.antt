@@ -58,8 +58,8 @@ total_by x s inputs Running =
     total_of_course x.store.count x.setup x.callers (run x.setup x.text x.place (length x.callers) s inputs)
 total_by x s inputs (RequestStatus request on_answer) =
     total_of_course x.store.count x.setup x.callers
-    (await_answer (run x.setup) x.setup (record { text = x.text; place = x.place }) (length x.callers) request on_answer s
-    inputs)
+    (await_answer (run x.setup) x.setup (record { text = x.text; place = x.place }) (length x.callers) request on_answer
+    s inputs)
 total_by x s inputs (CompleteStatus value) = record { outcome = CompleteOutcome s.pieces value; count = x.store.count }
 total_by x s inputs (FaultStatus error) = record { outcome = FaultOutcome (fault_of error); count = x.store.count }
 

@@ -121,7 +121,8 @@ module _ (go : Continues) where
       abbrev pub after_operation : (depth place : ℕ) → List Input → Next → Course
       after_operation depth place inputs (Goes to s) = go text to depth s inputs
       after_operation depth place inputs (RequestNext request on_answer s) =
-          prepend [] (request ∷ []) (await_answer (record { text = text; place = place }) depth request on_answer s inputs)
+          prepend [] (request ∷ [])
+          (await_answer (record { text = text; place = place }) depth request on_answer s inputs)
       after_operation depth place inputs (FaultNext fault) = only_end (FaultEnd fault)
 
       -- the operation that was read is done

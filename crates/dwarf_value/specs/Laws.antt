@@ -42,7 +42,8 @@ OneHolds a b c = (Holds a × Fails b × Fails c) ⊎ (Fails a × Holds b × Fail
 -- of two values of one type, the first is below, equal to or above the second
 abbrev pub Trichotomy : Type 0
 Trichotomy =
-    (w : ℕ) (x y : Value) → IsWidth w → type_of x ≡ type_of y → OneHolds (binary_of Lt w x y) (binary_of Eq w x y) (binary_of Gt w x y)
+    (w : ℕ) (x y : Value) → IsWidth w → type_of x ≡ type_of y
+    → OneHolds (binary_of Lt w x y) (binary_of Eq w x y) (binary_of Gt w x y)
 
 -- one of two results is 1, and the other 0
 abbrev pub AreOpposite : (first second : Result Value Error) → Type 0

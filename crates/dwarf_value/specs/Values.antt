@@ -178,8 +178,8 @@ floor_quotient (negsuc n) m = negsuc (n / m)
 abbrev pub compared : (ℤ → ℤ → Bool) → (w : ℕ) → Value → Value → Result Value Error
 compared passes w x y = of_one_type x y (Generic (if passes (signed_integer w x) (signed_integer w y) then 1 else 0))
 
--- What each operator on one value gives: the absolute value; the negated integer, which unsigned types have none of;
--- and each binary digit turned, which is to negate the integer and take one off.
+-- What each operator on one value gives: the absolute value; the negated integer, or a fault for an unsigned type; each
+-- binary digit turned, which is to negate the integer and take one off.
 abbrev pub unary_of : UnaryOperator → (w : ℕ) → Value → Result Value Error
 unary_of Abs w x = Ok (value_of 64 (type_of x) (pos (unsigned_abs (signed_integer w x))))
 unary_of Neg w x =
@@ -189,8 +189,8 @@ unary_of Not w x = Ok (value_of 64 (type_of x) (neg_ℤ (unsigned_integer w x) -
 
 -- What each operator on two values gives, of which `y` is the top. A quotient is rounded towards zero, and a remainder
 -- has the dividend's sign. `And`, `Or` and `Xor` combine two numbers of 64 bits digit by digit. To shift is to multiply
--- by 2 ^ n, or to divide and round down: from the type's size on all bits are shifted out to the left, signed types have
--- no `Shr`, and unsigned ones no `Shra`.
+-- by 2 ^ n, or to divide and round down: from the type's size on all bits are shifted out to the left, signed types
+-- have no `Shr`, and unsigned ones no `Shra`.
 abbrev pub binary_of : BinaryOperator → (w : ℕ) → Value → Value → Result Value Error
 binary_of Plus w x y = combined ◌+ℤ◌ w x y
 binary_of Minus w x y = combined ◌-ℤ◌ w x y

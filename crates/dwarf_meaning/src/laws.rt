@@ -73,10 +73,12 @@ pub fn run_laws()
         → let course = run setup text place depth s inputs in
         AtEnd (λ end. end.count ≡ s.count + length course.path) course.end }
     ensures maximum { (bound : ℕ) (setup : Setup) (text : Text) (place depth : ℕ) (s : Store)
-        (inputs : List Input) → s.count ≤ bound → s.settings.maximum ≤ bound → MaximaWithin bound inputs
+        (inputs : List Input) → s.count ≤ bound → s.settings.maximum ≤ bound
+        → MaximaWithin bound inputs
         → CountsWithin bound s.count (run setup text place depth s inputs) }
     ensures maximum_kept { (bound : ℕ) (setup : Setup) (text : Text) (place depth : ℕ) (s : Store)
-        (inputs : List Input) → s.count ≤ bound → s.settings.maximum ≤ bound → MaximaWithin bound inputs
+        (inputs : List Input) → s.count ≤ bound → s.settings.maximum ≤ bound
+        → MaximaWithin bound inputs
         → AtEnd (λ end. end.settings.maximum ≤ bound) (run setup text place depth s inputs).end }
     ensures most_of_all { (setup : Setup) (text : Text) (place depth : ℕ) (s : Store)
         (inputs : List Input) → s.count ≤ most

@@ -81,7 +81,8 @@ impl<R: Reader + Copy, S: EvaluationStorage<R>> Machine<R, S> {
     pub(crate) fn compute_unary(&mut self, operator: UnaryOperator)
         requires { self.old.status ≡ Running }
         ensures { Performs
-            (unary (unary_of (operator_of operator) (address_bits self.old.setup)) self.old.store.values)
+            (unary (unary_of (operator_of operator) (address_bits self.old.setup))
+            self.old.store.values)
             self.old self.new }
     {
         let Some(value) = self.pop() else {
@@ -98,7 +99,8 @@ impl<R: Reader + Copy, S: EvaluationStorage<R>> Machine<R, S> {
     #[inline(never)]
     pub(crate) fn compute_binary<O: BinaryOperator>(&mut self)
         requires { self.old.status ≡ Running }
-        ensures { Performs (binary (binary_of O.operator (address_bits self.old.setup)) self.old.store.values)
+        ensures { Performs
+            (binary (binary_of O.operator (address_bits self.old.setup)) self.old.store.values)
             self.old self.new }
     {
         let Some((left, right)) = self.pop_generics() else {
@@ -119,7 +121,8 @@ impl<R: Reader + Copy, S: EvaluationStorage<R>> Machine<R, S> {
     #[inline(never)]
     fn compute_typed<O: BinaryOperator>(&mut self)
         requires { self.old.status ≡ Running }
-        ensures { Performs (binary (binary_of O.operator (address_bits self.old.setup)) self.old.store.values)
+        ensures { Performs
+            (binary (binary_of O.operator (address_bits self.old.setup)) self.old.store.values)
             self.old self.new }
     {
         let Some(right) = self.pop() else {
@@ -141,7 +144,8 @@ impl<R: Reader + Copy, S: EvaluationStorage<R>> Machine<R, S> {
     #[tactic(auto, unfolding(dwarf_value::specs::Values::type_of))]
     pub(crate) fn sum(&self, value: Value, constant: u64) -> Result<Value>
         ensures { result
-            ≡ binary_of Plus (address_bits self.now.setup) value (from_u64_of (type_of value) constant) }
+            ≡ binary_of Plus (address_bits self.now.setup) value
+            (from_u64_of (type_of value) constant) }
     {
         let Value::Generic(content) = value else {
             return self.typed_sum(value, constant);
@@ -154,7 +158,8 @@ impl<R: Reader + Copy, S: EvaluationStorage<R>> Machine<R, S> {
     #[inline(never)]
     fn typed_sum(&self, value: Value, constant: u64) -> Result<Value>
         ensures { result
-            ≡ binary_of Plus (address_bits self.now.setup) value (from_u64_of (type_of value) constant) }
+            ≡ binary_of Plus (address_bits self.now.setup) value
+            (from_u64_of (type_of value) constant) }
     {
         let addend = Value::from_u64(value.value_type(), constant)?;
         value.add(addend, self.addr_mask())

@@ -1,5 +1,5 @@
 -- What is spent by calls in a row.
-use Rattle.std.proofs.Common.{ℕ, ◌≡◌, ◌+◌, List, length, Option, Some, None, arith, ap, ◌∙◌, sym, refl, subst}
+use Rattle.std.proofs.Common.{ℕ, ◌≡◌, ◌+◌, List, length, Some, None, arith, ap, ◌∙◌, sym, refl, subst}
 use Rattle.dwarf_meaning.specs.Locations.{Location}
 use Rattle.dwarf_meaning.specs.Requests.{Settings}
 use Rattle.dwarf_meaning.specs.Inputs.{with_settings}

@@ -15,7 +15,7 @@ use Rattle.dwarf_meaning.specs.Rest.{State, Status, Start, Running, RequestStatu
 use Rattle.dwarf_meaning.specs.Steps.{Step, Told, Reply, outcome_of, Allows, AllAllowed, step_replies, after_step, after_steps, replies_of}
 use Rattle.dwarf_meaning.specs.Refusals.{Limits, Refusal, Never, After, HasFreeList, MayPick}
 use Rattle.dwarf_laws.specs.Agreement as agreeing
-use Rattle.dwarf_laws.specs.Agreement.{Both, nothing, something, AgreeingNumbers, AgreeingSteps, AgreeingTold, AgreeingOutcomes}
+use Rattle.dwarf_laws.specs.Agreement.{Both, nothing, something, AgreeingSteps, AgreeingTold, AgreeingOutcomes}
 use Rattle.dwarf_laws.specs.TwoRuns.{NoneIsFull, AreAlike}
 use Rattle.dwarf_laws.proofs.Pairs.{Pairwise, none, more, zipped, pairs, same_length, get_both}
 use Rattle.dwarf_laws.proofs.Evaluations.{two_runs}

@@ -18,7 +18,7 @@ use Rattle.dwarf_meaning.specs.Acts.{on_top, on_result, Act, Pushes, Branches, L
 use Rattle.dwarf_meaning.specs.Stores.{Store}
 use Rattle.dwarf_meaning.specs.Run.{located_act}
 use Rattle.dwarf_laws.specs.Agreement as agreeing
-use Rattle.dwarf_laws.specs.Agreement.{Both, nothing, something, AgreeingNumbers, AgreeingAnswers, AgreeingLocations, same, AgreeingPieces}
+use Rattle.dwarf_laws.specs.Agreement.{Both, AgreeingNumbers, AgreeingAnswers, AgreeingLocations, same, AgreeingPieces}
 use Rattle.dwarf_laws.proofs.Pairs.{Pairwise, none, more, get_both, if_pair, top_pair, some_pair, answer_pair, read_pair, answers_agree}
 
 pub data AgreeingActs (w : ℕ) : Act → Act → Type 0 where

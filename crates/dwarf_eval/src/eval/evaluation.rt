@@ -2,7 +2,7 @@ ghost use Rattle.std.specs.Prelude.{◌≡◌, ◌<◌, ◌≤◌, [], None, Som
 ghost use Rattle.dwarf_meaning.specs.declared.kinds.WaitingKind.TheVariants as kind;
 ghost use Rattle.dwarf_meaning.specs.Kinds.{kind_of_answer};
 ghost use Rattle.dwarf_meaning.specs.Requests as requests;
-ghost use Rattle.dwarf_meaning.specs.Rest.{Start, CompleteStatus};
+ghost use Rattle.dwarf_meaning.specs.Rest.{Start};
 ghost use Rattle.dwarf_meaning.specs.Run.{most};
 ghost use Rattle.dwarf_eval.specs.Permits.{Admits, AnswersWith, IsOpenFor, Permits, Shows};
 ghost use Rattle.dwarf_eval.specs.inner.Answers.{answer_of};

@@ -1,4 +1,4 @@
-use Rattle.std.proofs.Common.{◌∙◌, sym, subst}
+use Rattle.std.proofs.Common.{◌∙◌, sym}
 use Rattle.dwarf_value.specs.declared.types.Value.TheVariants.{Generic}
 use Rattle.dwarf_value.specs.Values.{binary_of}
 use Rattle.dwarf_eval.proofs.Computes.{binary_pushes, binary_refuses, same_binary}

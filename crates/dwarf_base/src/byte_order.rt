@@ -1,10 +1,8 @@
 ghost use Rattle.std.specs.Prelude.{◌≡◌, Bool, true, false};
 ghost use Rattle.dwarf_base.specs.ByteOrder.{is_big_of};
 
-use std::fmt::Debug;
-
 /// A byte order (DWARF 5, section 7).
-pub trait Endianity: Debug + Copy {
+pub trait Endianity: Copy {
     ghost is_big: { Self → Bool };
 
     /// Whether the first byte of a number is its highest.

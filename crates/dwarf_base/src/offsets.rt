@@ -141,7 +141,7 @@ impl ReaderOffset for usize {
 
     ghost number = { λ x. x };
 
-    const BITS: u32 = 64;
+    const BITS: u32 = usize::BITS;
 
     #[inline]
     fn from_u8(offset: u8) -> Self {
@@ -165,7 +165,7 @@ impl ReaderOffset for usize {
 
     #[inline]
     fn from_u64(offset: u64) -> Result<Self> {
-        Ok(offset as usize)
+        usize::try_from(offset).map_err(|_| Error::UnsupportedOffset)
     }
 
     #[inline]

@@ -5,14 +5,13 @@ ghost use Rattle.dwarf_base.specs.Reads.{Reads, Text, IsSuffix, u8_at, split_at,
 use crate::common::Format;
 use crate::errors::{Error, Result};
 use crate::offsets::ReaderOffset;
-use std::fmt::Debug;
 
 /// Bytes in a byte order, read from the front.
 ///
 /// What a read answers depends on the bytes that it takes, the byte order and its arguments alone, but for
 /// the identifier that `UnexpectedEof` carries. After an `Ok` the reader has the bytes that follow those, and after an
 /// `Err` some suffix of the bytes that it had. No call takes memory.
-pub trait Reader: Debug {
+pub trait Reader {
     /// How it counts bytes.
     type Offset: ReaderOffset;
 

@@ -17,9 +17,6 @@ pub struct EndianSlice<'input, E> {
     endian: E,
 }
 
-// Where a read went past the end. Nothing depends on it.
-const NOWHERE: ReaderOffsetId = ReaderOffsetId(0);
-
 impl<'input, E: Endianity> EndianSlice<'input, E> {
     /// The bytes of the slice, in this order.
     #[inline]
@@ -28,6 +25,28 @@ impl<'input, E: Endianity> EndianSlice<'input, E> {
         ensures order { slice_order result ≡ endian }
     {
         EndianSlice { slice, endian }
+    }
+
+    /// The bytes that are left to read.
+    #[inline]
+    pub fn slice(&self) -> &'input [u8]
+        ensures { result.now ≡ slice_bytes self.now }
+    {
+        self.slice
+    }
+
+    /// The byte order.
+    #[inline]
+    pub fn endian(&self) -> E
+        ensures { result ≡ slice_order self.now }
+    {
+        self.endian
+    }
+
+    // Where a read goes past the end. It is left open, and nothing depends on it.
+    #[inline]
+    fn offset_id(&self) -> ReaderOffsetId {
+        ReaderOffsetId(0)
     }
 
     // Takes the first `N` bytes.
@@ -40,7 +59,7 @@ impl<'input, E: Endianity> EndianSlice<'input, E> {
         ensures order { self.new.endian ≡ self.old.endian }
     {
         let Some((front, rest)) = self.slice.split_first_chunk::<N>() else {
-            return Err(Error::UnexpectedEof(NOWHERE));
+            return Err(Error::UnexpectedEof(self.offset_id()));
         };
         self.slice = rest;
         Ok(*front)
@@ -152,7 +171,7 @@ impl<'input, E: Endianity> Reader for EndianSlice<'input, E> {
         ensures kept { OnErr result (self.new ≡ self.old) }
     {
         if self.slice.len() < len {
-            return Err(Error::UnexpectedEof(NOWHERE));
+            return Err(Error::UnexpectedEof(self.offset_id()));
         }
         let (front, rest) = self.slice.split_at(len);
         self.slice = rest;

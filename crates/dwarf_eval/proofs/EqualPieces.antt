@@ -46,17 +46,17 @@ equal_parts {a} {b} {c} x y sizes offsets places =
     )
 
 module _ (R O P : RattleType)
-    (a : reader.Ghosts R.Denot P.Denot) (b : Dict) (c : debug.Ghosts R.Denot) (d : Dict)
-    (e : reader_offset.Ghosts P.Denot) (f : Dict) (h : debug.Ghosts P.Denot) (i : Dict)
+    (a : reader.Ghosts R.Denot P.Denot) (b : Dict) (e : reader_offset.Ghosts P.Denot) (f : Dict)
+    (h : debug.Ghosts P.Denot) (i : Dict)
     (j : clone.Ghosts P.Denot) (k : Dict) (l : eq.Ghosts P.Denot) (m : Dict) (n : partial_eq.Ghosts P.Denot) (o : Dict)
     (are_readers_equal : partial_eq.Ghosts R.Denot) (p : Dict) (are_offsets_equal : partial_eq.Ghosts O.Denot) (q : Dict)
     (text : R.Denot → Text) (number : O.Denot → ℕ)
     (texts : IsEqualityOf text are_readers_equal.eq) (numbers : IsEqualityOf number are_offsets_equal.eq) where
   abbrev are_locations_equal : Location R.Denot O.Denot P.Denot → Location R.Denot O.Denot P.Denot → Bool
-  are_locations_equal = (locations.ghosts R O P a b c d e f h i j k l m n o are_readers_equal p are_offsets_equal q).eq
+  are_locations_equal = (locations.ghosts R O P a b e f h i j k l m n o are_readers_equal p are_offsets_equal q).eq
 
   abbrev are_pieces_equal : Piece R.Denot O.Denot P.Denot → Piece R.Denot O.Denot P.Denot → Bool
-  are_pieces_equal = (pieces.ghosts R O P a b c d e f h i j k l m n o are_readers_equal p are_offsets_equal q).eq
+  are_pieces_equal = (pieces.ghosts R O P a b e f h i j k l m n o are_readers_equal p are_offsets_equal q).eq
 
   equal_locations : IsEqualityOf (location_of text number) are_locations_equal
   equal_locations = search (rules, texts, numbers)

@@ -185,12 +185,12 @@ module _ (O : RattleType) (o : partial_eq.Ghosts O.Denot) (p : Dict)
 
 -- what the derived test takes
 module _ (R O P : RattleType)
-    (a : reader.Ghosts R.Denot P.Denot) (b : Dict) (c : debug.Ghosts R.Denot) (d : Dict)
-    (e : reader_offset.Ghosts P.Denot) (f : Dict) (h : debug.Ghosts P.Denot) (i : Dict)
+    (a : reader.Ghosts R.Denot P.Denot) (b : Dict) (e : reader_offset.Ghosts P.Denot) (f : Dict)
+    (h : debug.Ghosts P.Denot) (i : Dict)
     (j : clone.Ghosts P.Denot) (k : Dict) (l : eq.Ghosts P.Denot) (m : Dict) (n : partial_eq.Ghosts P.Denot) (o : Dict)
     (are_readers_equal : partial_eq.Ghosts R.Denot) (p : Dict) (are_offsets_equal : partial_eq.Ghosts O.Denot) (q : Dict) where
   abbrev are_operations_equal : Operation R.Denot O.Denot P.Denot → Operation R.Denot O.Denot P.Denot → Bool
-  are_operations_equal = (operations.ghosts R O P a b c d e f h i j k l m n o are_readers_equal p are_offsets_equal q).eq
+  are_operations_equal = (operations.ghosts R O P a b e f h i j k l m n o are_readers_equal p are_offsets_equal q).eq
 
   module _ (text : R.Denot → Text) (number : O.Denot → ℕ)
       (texts : IsEqualityOf text are_readers_equal.eq) (numbers : IsEqualityOf number are_offsets_equal.eq) where
@@ -200,7 +200,7 @@ module _ (R O P : RattleType)
     -- in the order of `Operation`
     unfoldable lines : Lines (code.the_parts R O P) view 0
     lines =
-        line (λ x. refl) (λ x y. decided (both (unsigned_Decides x.0 y.0) (both (numbers x.1.0.0 y.1.0.0) (bools x.1.1.0 y.1.1.0))) (λ (h, (t, u)). cc) (λ h. (cc, (cc, cc))))
+        line (λ x. refl) (λ x y. decided (both (unsigned_Decides x.0 y.0) (both (bools x.1.0 y.1.0) (numbers x.1.1.0.0 y.1.1.0.0))) (λ (h, (t, u)). cc) (λ h. (cc, (cc, cc))))
         ⊳ none (λ x. refl)
         ⊳ line (λ x. refl) (λ x y. decided (unsigned_Decides x.0 y.0) (λ h. cc) (λ h. cc))
         ⊳ none (λ x. refl)

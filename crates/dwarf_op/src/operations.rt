@@ -16,16 +16,17 @@ pub enum DieReference<T = usize> {
 ///
 /// The base type at offset 0 is the generic type.
 #[derive(Copy, Debug, PartialEq, Eq)]
+#[repr(u8)]
 pub enum Operation<R: Reader, O = <R as Reader>::Offset> {
     /// Pop an address and push what memory holds there: `DW_OP_deref`, `DW_OP_deref_size`, `DW_OP_deref_type` and,
     /// with an address space, `DW_OP_xderef`, `DW_OP_xderef_size`, `DW_OP_xderef_type`.
     Deref {
         /// How many bytes are read.
         size: u8,
-        /// The type of what is pushed; 0 is the generic type.
-        base_type: UnitOffset<O>,
         /// Whether an address space is popped too, from below the address.
         space: bool,
+        /// The type of what is pushed; 0 is the generic type.
+        base_type: UnitOffset<O>,
     },
     /// Drop the top: `DW_OP_drop`.
     Drop,

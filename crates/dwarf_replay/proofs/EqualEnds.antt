@@ -25,17 +25,17 @@ both_of true false p q = (λ passes. absurd (let no : false ≡ true = passes in
 both_of false c p q = (λ passes. absurd (let no : false ≡ true = passes in cc), λ h. p.1 h.0)
 
 module _ (R O P : RattleType)
-    (a : reader.Ghosts R.Denot P.Denot) (b : Dict) (c : debug.Ghosts R.Denot) (d : Dict)
-    (e : reader_offset.Ghosts P.Denot) (f : Dict) (h : debug.Ghosts P.Denot) (i : Dict)
+    (a : reader.Ghosts R.Denot P.Denot) (b : Dict) (e : reader_offset.Ghosts P.Denot) (f : Dict)
+    (h : debug.Ghosts P.Denot) (i : Dict)
     (j : clone.Ghosts P.Denot) (k : Dict) (l : eq.Ghosts P.Denot) (m : Dict) (n : partial_eq.Ghosts P.Denot) (o : Dict)
     (are_readers_equal : partial_eq.Ghosts R.Denot) (p : Dict) (are_offsets_equal : partial_eq.Ghosts O.Denot) (q : Dict)
     (text : R.Denot → Text) (number : O.Denot → ℕ)
     (texts : IsEqualityOf text are_readers_equal.eq) (numbers : IsEqualityOf number are_offsets_equal.eq) where
   abbrev are_answers_equal : Answer R.Denot O.Denot P.Denot → Answer R.Denot O.Denot P.Denot → Bool
-  are_answers_equal = (answers.ghosts R O P a b c d e f h i j k l m n o are_readers_equal p are_offsets_equal q).eq
+  are_answers_equal = (answers.ghosts R O P a b e f h i j k l m n o are_readers_equal p are_offsets_equal q).eq
 
   abbrev are_ends_equal : Replayed R.Denot O.Denot P.Denot → Replayed R.Denot O.Denot P.Denot → Bool
-  are_ends_equal = (ends.ghosts R O P a b c d e f h i j k l m n o are_readers_equal p are_offsets_equal q).eq
+  are_ends_equal = (ends.ghosts R O P a b e f h i j k l m n o are_readers_equal p are_offsets_equal q).eq
 
   equal_answers : IsEqualityOf (λ (x : Answer R.Denot O.Denot P.Denot). given_of text number x.0) are_answers_equal
   equal_answers = search (rules, texts, numbers)

@@ -1,6 +1,7 @@
 //! Evaluation of expressions, which asks where the caller has to answer.
 
 mod evaluation;
+mod heap;
 mod requests;
 mod states;
 

@@ -29,8 +29,6 @@ impl<T: Copy> ArrayLike for RefusesOne<T> {
 
     ghost limit = { λ _. None };
 
-    ghost has_memory = { λ _. false };
-
     fn len(&self) -> usize {
         self.items.len()
     }
@@ -41,10 +39,6 @@ impl<T: Copy> ArrayLike for RefusesOne<T> {
 
     fn pop(&mut self) -> Option<T> {
         self.items.pop()
-    }
-
-    fn has_room(&self) -> bool {
-        false
     }
 
     fn push(&mut self, item: T) -> Result<(), T> {

@@ -1,4 +1,4 @@
-ghost use Rattle.std.specs.Prelude.{◌≡◌, ◌<◌, ◌≤◌, [], None, Some, IfOk, map};
+ghost use Rattle.std.specs.Prelude.{◌≡◌, ◌<◌, ◌≤◌, [], None, Some, IfOk, map, true, false};
 ghost use Rattle.dwarf_meaning.specs.declared.kinds.WaitingKind.TheVariants as kind;
 ghost use Rattle.dwarf_meaning.specs.Kinds.{kind_of_answer};
 ghost use Rattle.dwarf_meaning.specs.Requests as requests;
@@ -13,13 +13,13 @@ ghost use Rattle.dwarf_op.specs.Views.{piece_of};
 
 use crate::eval::requests::{kind_of, reply};
 use crate::eval::states::Status;
-use crate::op::{EvaluationResult, Expression, Piece};
+use crate::op::{EvaluationResult, Piece};
 use crate::run::machine::Machine;
 use crate::run::states::{EvaluationState, Given};
-use crate::store::{EvaluationStorage, StoreOnHeap};
+use crate::store::EvaluationStorage;
 use dwarf_base::{Encoding, Reader, Result};
+use dwarf_meaning::WaitingKind;
 use dwarf_value::{Value, ValueType};
-use std::alloc::Allocator;
 use std::marker::Model;
 
 /// An evaluation of an expression (DWARF 5, section 2.5).
@@ -42,61 +42,6 @@ impl<R: Reader + Copy, S: EvaluationStorage<R>> Model for Evaluation<R, S> {
     ghost view = { λ e. e.machine };
 
     ghost invariant = { λ e. IsAtRest e.machine };
-}
-
-impl<R: Reader + Copy> Expression<R> {
-    /// A fresh evaluation of the expression, on the heap. It takes no memory yet.
-    ///
-    /// The encoding's addresses have from 1 to 8 bytes.
-    pub fn evaluation<A: Allocator + Copy>(
-        self,
-        alloc: A,
-        encoding: Encoding,
-    ) -> Evaluation<R, StoreOnHeap<A>>
-        requires some { 0 < encoding.address_size }
-        requires fits { encoding.address_size ≤ 8 }
-        ensures status { result.status ≡ Start None }
-        ensures setup { result.setup ≡ setup_of encoding R.Offset.BITS None None None }
-        ensures text { result.text ≡ R.text self.0 }
-        ensures object_address { result.store.settings.object_address ≡ None }
-        ensures maximum { result.store.settings.maximum ≡ most }
-        ensures unspent { IsUnspent result }
-    {
-        Evaluation::new(alloc, self.0, encoding)
-    }
-}
-
-impl<R: Reader + Copy, A: Allocator + Copy> Evaluation<R, StoreOnHeap<A>> {
-    /// A fresh evaluation of `bytecode`, on the heap. It takes no memory yet.
-    ///
-    /// The encoding's addresses have from 1 to 8 bytes.
-    pub fn new(alloc: A, bytecode: R, encoding: Encoding) -> Self
-        requires some { 0 < encoding.address_size }
-        requires fits { encoding.address_size ≤ 8 }
-        ensures status { result.status ≡ Start None }
-        ensures setup { result.setup ≡ setup_of encoding R.Offset.BITS None None None }
-        ensures text { result.text ≡ R.text bytecode }
-        ensures object_address { result.store.settings.object_address ≡ None }
-        ensures maximum { result.store.settings.maximum ≡ most }
-        ensures unspent { IsUnspent result }
-    {
-        Evaluation::new_in(
-            bytecode,
-            encoding,
-            Vec::new(alloc),
-            Vec::new(alloc),
-            Vec::new(alloc),
-        )
-    }
-
-    /// The pieces of a complete evaluation.
-    pub fn result(self) -> Vec<Piece<R>, A>
-        requires { IsComplete self.status }
-        ensures { map (piece_of R.text R.Offset.number) result.items
-            ≡ self.store.pieces }
-    {
-        self.machine.into_pieces()
-    }
 }
 
 impl<R: Reader + Copy, S: EvaluationStorage<R>> Evaluation<R, S> {
@@ -163,8 +108,22 @@ impl<R: Reader + Copy, S: EvaluationStorage<R>> Evaluation<R, S> {
                 None => Status::Complete,
             },
             EvaluationState::Complete(_) => Status::Complete,
-            EvaluationState::Failed(error) => Status::Failed(error),
+            EvaluationState::Failed(error) => Status::Failed(*error),
             EvaluationState::Running => unreachable!(),
+        }
+    }
+
+    /// Whether a resume with an answer of this kind is allowed: a request of the kind is open, or the evaluation met a
+    /// fault. It costs less than [`status`](Self::status).
+    #[inline(always)]
+    pub fn is_open_for(&self, kind: WaitingKind) -> bool
+        ensures open { result ≡ true → IsOpenFor kind self.now.status }
+        ensures closed { result ≡ false → IsOpenFor kind self.now.status → ⊥ }
+    {
+        match self.machine.state() {
+            EvaluationState::Replied(replied) => kind_of(replied) == Some(kind),
+            EvaluationState::Failed(_) => true,
+            _ => false,
         }
     }
 
@@ -220,7 +179,7 @@ impl<R: Reader + Copy, S: EvaluationStorage<R>> Evaluation<R, S> {
             result self.old.status }
         ensures admits { IfOk result (λ replied. Admits replied self.new.status) }
     {
-        let EvaluationState::Start(initial_value) = self.machine.state() else {
+        let EvaluationState::Start(initial_value) = *self.machine.state() else {
             return reply(&self.machine);
         };
         self.machine.start(initial_value);
@@ -433,9 +392,18 @@ impl<R: Reader + Copy, S: EvaluationStorage<R>> Evaluation<R, S> {
         ensures { HasResult result self.now.status }
     {
         match self.machine.state() {
-            EvaluationState::Complete(value) => Some(value),
+            EvaluationState::Complete(value) => Some(*value),
             _ => None,
         }
+    }
+
+    /// The list of the pieces of a complete evaluation.
+    pub(crate) fn into_pieces(self) -> S::Result
+        requires { IsComplete self.status }
+        ensures { map (piece_of R.text R.Offset.number) (S.Result.items result)
+            ≡ self.store.pieces }
+    {
+        self.machine.into_pieces()
     }
 
     /// The pieces of a complete evaluation.

@@ -13,8 +13,8 @@ use dwarf_base::{Reader, Result};
 use dwarf_meaning::WaitingKind;
 
 /// The kind of answer that a result asks for, or `None` if it is complete.
-pub(crate) fn kind_of<R: Reader + Copy>(replied: EvaluationResult<R>) -> Option<WaitingKind>
-    ensures { result ≡ option_map kind_of_request (request_in R.text R.Offset.number replied) }
+pub(crate) fn kind_of<R: Reader + Copy>(replied: &EvaluationResult<R>) -> Option<WaitingKind>
+    ensures { result ≡ option_map kind_of_request (request_in R.text R.Offset.number replied.now) }
 {
     Some(match replied {
         EvaluationResult::Complete => return None,
@@ -48,7 +48,7 @@ pub(crate) fn reply<R: Reader + Copy, S: EvaluationStorage<R>>(
     ensures admits { IfOk result (λ replied. Admits replied machine.now.status) }
 {
     // Most replies are requests. A test of that first costs less than a jump by a table.
-    let state = machine.state();
+    let state = *machine.state();
     if let EvaluationState::Replied(replied) = state {
         return Ok(replied);
     }

@@ -259,10 +259,10 @@ impl<R: Reader + Copy, S: EvaluationStorage<R>> Machine<R, S> {
 
     /// Where the evaluation stands.
     #[inline(always)]
-    pub(crate) fn state(&self) -> EvaluationState<R>
-        ensures { IsIn R.text R.Offset.number result self.now.status }
+    pub(crate) fn state(&self) -> &EvaluationState<R>
+        ensures { IsIn R.text R.Offset.number result.now self.now.status }
     {
-        self.state
+        &self.state
     }
 
     /// What is done with the answer to the open request.
@@ -441,12 +441,6 @@ impl<R: Reader + Copy, S: EvaluationStorage<R>> Machine<R, S> {
             return false;
         };
         opcode == constants::DW_OP_piece.0 && size < 128
-    }
-
-    /// Whether there is memory for one more piece. Nothing depends on it but speed.
-    #[inline(always)]
-    pub(crate) fn has_room_for_piece(&self) -> bool {
-        self.pieces.has_room()
     }
 
     /// Goes to a place of the running text, or keeps the fault of a place that it doesn't have.

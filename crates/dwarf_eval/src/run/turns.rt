@@ -88,17 +88,6 @@ impl<R: Reader + Copy, S: EvaluationStorage<R>> Machine<R, S> {
         });
     }
 
-    /// The same, if there may be no memory for it yet.
-    #[cold]
-    #[inline(never)]
-    fn grow_and_push_located(&mut self, size_in_bits: u64, bit_offset: Option<u64>)
-        requires { is_free self.old.store.last ≡ false }
-        ensures { (location : _) → self.old.store.last ≡ Located location →
-            EndsLocated location (meant.Piece size_in_bits bit_offset) self.old self.new }
-    {
-        self.push_located(size_in_bits, bit_offset);
-    }
-
     /// Ends the piece of the location that waits for it, if the operation that was read ends one.
     #[inline(always)]
     fn end_located(&mut self, operation: Operation<R>)
@@ -116,11 +105,7 @@ impl<R: Reader + Copy, S: EvaluationStorage<R>> Machine<R, S> {
             self.fail(Error::InvalidExpressionTerminator(place - 1));
             return;
         };
-        if self.has_room_for_piece() {
-            self.push_located(size_in_bits, bit_offset);
-        } else {
-            self.grow_and_push_located(size_in_bits, bit_offset);
-        }
+        self.push_located(size_in_bits, bit_offset);
     }
 
     /// Reads the piece of a location that waits for it.

@@ -1,4 +1,4 @@
-ghost use Rattle.std.specs.Prelude.{◌≡◌, [], length, nat_lt, Some};
+ghost use Rattle.std.specs.Prelude.{◌≡◌, [], length, Some};
 
 use super::lists::ArrayLike;
 use std::marker::Model;
@@ -39,8 +39,6 @@ impl<'a, T: Copy> ArrayLike for SliceVec<'a, T> {
 
     ghost limit = { λ v. Some v.capacity };
 
-    ghost has_memory = { λ v. nat_lt (length v.items) v.capacity };
-
     #[inline(always)]
     fn len(&self) -> usize {
         self.len
@@ -58,13 +56,8 @@ impl<'a, T: Copy> ArrayLike for SliceVec<'a, T> {
     }
 
     #[inline(always)]
-    fn has_room(&self) -> bool {
-        self.len < self.slots.len()
-    }
-
-    #[inline(always)]
     fn push(&mut self, item: T) -> Result<(), T> {
-        if !self.has_room() {
+        if self.len == self.slots.len() {
             return Err(item);
         }
         self.slots[self.len] = item;

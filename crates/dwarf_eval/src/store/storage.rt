@@ -3,7 +3,6 @@ use super::slices::SliceVec;
 use dwarf_base::Reader;
 use dwarf_op::Piece;
 use dwarf_value::Value;
-use std::alloc::Allocator;
 use std::marker::PhantomData;
 
 /// Where an evaluation keeps its lists.
@@ -16,17 +15,6 @@ pub trait EvaluationStorage<R: Reader + Copy> {
 
     /// The pieces.
     type Result: ArrayLike<Item = Piece<R>>;
-}
-
-/// Lists on the heap, over an allocator.
-pub struct StoreOnHeap<A>(PhantomData<A>);
-
-impl<R: Reader + Copy, A: Allocator> EvaluationStorage<R> for StoreOnHeap<A> {
-    type Stack = Vec<Value, A>;
-
-    type ExpressionStack = Vec<(R, R), A>;
-
-    type Result = Vec<Piece<R>, A>;
 }
 
 /// Lists over slices that the caller lends.

@@ -1,0 +1,68 @@
+ghost use Rattle.std.specs.Prelude.{◌≡◌, ◌<◌, ◌≤◌, None, map};
+ghost use Rattle.dwarf_meaning.specs.Rest.{Start};
+ghost use Rattle.dwarf_meaning.specs.Run.{most};
+ghost use Rattle.dwarf_meaning.specs.Bounds.{IsUnspent};
+ghost use Rattle.dwarf_eval.specs.Evaluation.{IsComplete};
+ghost use Rattle.dwarf_meaning.specs.Stores.{setup_of};
+ghost use Rattle.dwarf_op.specs.Views.{piece_of};
+
+use crate::eval::evaluation::Evaluation;
+use crate::op::{Expression, Piece};
+use crate::store::StoreOnHeap;
+use dwarf_base::{Encoding, Reader};
+use std::alloc::Allocator;
+
+impl<R: Reader + Copy> Expression<R> {
+    /// A fresh evaluation of the expression, on the heap. It takes no memory yet.
+    ///
+    /// The encoding's addresses have from 1 to 8 bytes.
+    pub fn evaluation<A: Allocator + Copy>(
+        self,
+        alloc: A,
+        encoding: Encoding,
+    ) -> Evaluation<R, StoreOnHeap<A>>
+        requires some { 0 < encoding.address_size }
+        requires fits { encoding.address_size ≤ 8 }
+        ensures status { result.status ≡ Start None }
+        ensures setup { result.setup ≡ setup_of encoding R.Offset.BITS None None None }
+        ensures text { result.text ≡ R.text self.0 }
+        ensures object_address { result.store.settings.object_address ≡ None }
+        ensures maximum { result.store.settings.maximum ≡ most }
+        ensures unspent { IsUnspent result }
+    {
+        Evaluation::new(alloc, self.0, encoding)
+    }
+}
+
+impl<R: Reader + Copy, A: Allocator + Copy> Evaluation<R, StoreOnHeap<A>> {
+    /// A fresh evaluation of `bytecode`, on the heap. It takes no memory yet.
+    ///
+    /// The encoding's addresses have from 1 to 8 bytes.
+    pub fn new(alloc: A, bytecode: R, encoding: Encoding) -> Self
+        requires some { 0 < encoding.address_size }
+        requires fits { encoding.address_size ≤ 8 }
+        ensures status { result.status ≡ Start None }
+        ensures setup { result.setup ≡ setup_of encoding R.Offset.BITS None None None }
+        ensures text { result.text ≡ R.text bytecode }
+        ensures object_address { result.store.settings.object_address ≡ None }
+        ensures maximum { result.store.settings.maximum ≡ most }
+        ensures unspent { IsUnspent result }
+    {
+        Evaluation::new_in(
+            bytecode,
+            encoding,
+            Vec::new(alloc),
+            Vec::new(alloc),
+            Vec::new(alloc),
+        )
+    }
+
+    /// The pieces of a complete evaluation.
+    pub fn result(self) -> Vec<Piece<R>, A>
+        requires { IsComplete self.status }
+        ensures { map (piece_of R.text R.Offset.number) result.items
+            ≡ self.store.pieces }
+    {
+        self.into_pieces()
+    }
+}

@@ -232,8 +232,8 @@ pub enum Operation<R: Reader, O = <R as Reader>::Offset> {
     },
 }
 
-// A copy, and not a clone of each field, which takes long to prove.
 impl<R: Reader + Copy, O: Copy> Clone for Operation<R, O> {
+    // A copy, and not a clone of each field, which takes long to prove.
     ghost is_clone = { λ x y. y ≡ x };
 
     ghost is_infallible = { λ _. ⊤ };

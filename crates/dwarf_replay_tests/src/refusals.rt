@@ -1,5 +1,5 @@
 //! Each push of an evaluation is refused in turn, and each growth of its lists and of the answers.
-ghost use Rattle.std.specs.Prelude.{◌≡◌, [], None, false};
+ghost use Rattle.std.specs.Prelude.{◌≡◌, [], None};
 
 use crate::allocators::{NEVER, RefusesGrowth};
 use crate::evaluation::{COMPLETE, SMALL, Slice, little, replayed};

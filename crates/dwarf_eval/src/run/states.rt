@@ -36,8 +36,8 @@ pub(crate) enum OnAnswer<R> {
     Reinterpret,
 }
 
-// A copy, and not a clone of each field, which takes long to prove.
 impl<R: Copy> Clone for OnAnswer<R> {
+    // A copy, and not a clone of each field, which takes long to prove.
     ghost is_clone = { λ x y. y ≡ x };
 
     ghost is_infallible = { λ _. ⊤ };
@@ -75,8 +75,8 @@ pub(crate) enum EvaluationState<R: Reader, O = <R as Reader>::Offset> {
     Failed(Error),
 }
 
-// A copy too.
 impl<R: Reader + Copy, O: Copy> Clone for EvaluationState<R, O> {
+    // A copy, and not a clone of each field, which takes long to prove.
     ghost is_clone = { λ x y. y ≡ x };
 
     ghost is_infallible = { λ _. ⊤ };
@@ -115,8 +115,8 @@ pub(crate) enum Given<R> {
     BaseType(ValueType),
 }
 
-// A copy too.
 impl<R: Copy> Clone for Given<R> {
+    // A copy, and not a clone of each field, which takes long to prove.
     ghost is_clone = { λ x y. y ≡ x };
 
     ghost is_infallible = { λ _. ⊤ };

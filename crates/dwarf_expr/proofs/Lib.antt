@@ -1,3 +1,4 @@
 pub mod Twins
 pub mod Telling
 pub mod Inlined
+pub mod Refused

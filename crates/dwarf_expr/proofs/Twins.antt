@@ -169,9 +169,12 @@ same_setup : (a b : Setup) → a.encoding ≡ b.encoding → a.offset_bits ≡ b
 same_setup a b e o =
     ap (λ c. record b { encoding = c }) (sym e) ∙ ap (λ (n : ℕ). record a { offset_bits = n; limits = b.limits }) (sym o)
 
-never_picked : (limits : Limits) (refusal : Refusal) → MayPick limits refusal → (HasFreeList limits → ⊥) → refusal ≡ Never
-never_picked limits Never h k = refl
-never_picked limits (After inputs pushes) h k = absurd (k h)
+-- if every list has a limit, both are `Never`
+same_refusal : (limits : Limits) (refusal another : Refusal) → MayPick limits refusal → MayPick limits another
+    → (HasFreeList limits → refusal ≡ another) → refusal ≡ another
+same_refusal limits Never Never m m' h = refl
+same_refusal limits Never (After inputs pushes) m m' h = h m'
+same_refusal limits (After inputs pushes) another m m' h = h m
 
 both_some : {A : Type 0} (R : A → A → Type 0) (o o' : Option A) (x : A) → Both R o o' → o ≡ Some x
     → (y : A) × (o' ≡ Some y) × R x y
@@ -245,13 +248,9 @@ module _ (x y : State) (steps others : List Step) (h : MayReplay x y steps other
   Terms r r' replies given = ((x.setup.limits ≡ y.setup.limits) × (r ≡ r')) ⊎ (NoneIsFull replies × NoneIsFull given)
 
   terms : (r r' : Refusal) (replies given : List Reply) → MayPick x.setup.limits r → MayPick y.setup.limits r'
-      → AreComparableReplays x y replies given → Terms r r' replies given
+      → AreComparableReplays x y r r' replies given → Terms r r' replies given
   terms r r' replies given m m' (inl e) =
-      inl (
-        e.0,
-        never_picked x.setup.limits r m e.1 ∙ sym
-            (never_picked y.setup.limits r' m' (λ (free : HasFreeList y.setup.limits). e.1 (subst HasFreeList (sym e.0) free))),
-      )
+      inl (e.0, same_refusal x.setup.limits r r' m (subst (λ (l : Limits). MayPick l r') (sym e.0) m') e.1)
   terms r r' replies given m m' (inr e) = inr e
 
   -- no more steps than each side did
@@ -329,16 +328,17 @@ module _ (x y : State) (steps others : List Step) (h : MayReplay x y steps other
       subst (λ (l : List Step). Did other_setup x.text (told_at y) l k.refusal replies new) all_others
       (carry (λ s t. Did s t (told_at y) others k.refusal replies new) (did y others replies new k))
 
-  pub done_done : (new other : State) (replies given : List Reply) → Walks x steps replies new
-      → Walks y others given other → AreComparableReplays x y replies given
+  pub done_done : (new other : State) (replies given : List Reply) (k : Walks x steps replies new)
+      (l : Walks y others given other) → AreComparableReplays x y k.refusal l.refusal replies given
       → (replies ≡ given) × StatesStandAlike w new other
   done_done new other replies given k l c =
       equal (length steps) k.refusal l.refusal replies given new other (all_first replies new k) (all_second given other l)
       (terms k.refusal l.refusal replies given k.may l.may c)
 
   pub to_to : (index second_index : ℕ) (new other : State) (replies given : List Reply)
-      → WalksTo index x steps replies new → WalksTo second_index y others given other
-      → AreComparableReplays x y replies given → (index ≡ second_index) × (replies ≡ given) × StatesStandAlike w new other
+      (k : WalksTo index x steps replies new) (l : WalksTo second_index y others given other)
+      → AreComparableReplays x y k.walks.refusal l.walks.refusal replies given
+      → (index ≡ second_index) × (replies ≡ given) × StatesStandAlike w new other
   to_to i j new other replies given k l c = by_order (order i j)
     where
       t : Terms k.walks.refusal l.walks.refusal replies given
@@ -358,29 +358,29 @@ module _ (x y : State) (steps others : List Step) (h : MayReplay x y steps other
           absurd (not_second j i k.walks.refusal l.walks.refusal replies given new other gt
           (did_to i x steps replies new k).did (second_to j given other l) t)
 
-  pub to_done : (index : ℕ) (new other : State) (replies given : List Reply) → AreComparableReplays x y replies given
-      → WalksTo index x steps replies new → Walks y others given other → ⊥
-  to_done i new other replies given c k l =
+  pub to_done : (index : ℕ) (new other : State) (replies given : List Reply) (k : WalksTo index x steps replies new)
+      (l : Walks y others given other) → AreComparableReplays x y k.walks.refusal l.refusal replies given → ⊥
+  to_done i new other replies given k l c =
       not_first i (length steps) k.walks.refusal l.refusal replies given new other
       (slice_get_within steps i k.step k.is_next) (did_to i x steps replies new k) (all_second given other l)
       (terms k.walks.refusal l.refusal replies given k.walks.may l.may c)
 
-  pub done_to : (index : ℕ) (new other : State) (replies given : List Reply) → AreComparableReplays x y replies given
-      → Walks x steps replies new → WalksTo index y others given other → ⊥
-  done_to i new other replies given c k l =
+  pub done_to : (index : ℕ) (new other : State) (replies given : List Reply) (k : Walks x steps replies new)
+      (l : WalksTo index y others given other) → AreComparableReplays x y k.refusal l.walks.refusal replies given → ⊥
+  done_to i new other replies given k l c =
       not_second i (length steps) k.refusal l.walks.refusal replies given new other
       (subst (λ (n : ℕ). i < n) (sym (same_length paired)) (slice_get_within others i l.step l.is_next))
       (all_first replies new k) (second_to i given other l)
       (terms k.refusal l.walks.refusal replies given k.may l.walks.may c)
 
-  module _ (n : ℕ) (other : State) (given : List Reply) (l : FindsNoRoom n y others given other) where
+  module _ (n : ℕ) (r' : Refusal) (other : State) (given : List Reply) (l : FindsNoRoom n r' y others given other) where
     over : Second (suc n) l.3.walks.refusal given other
     over =
-        subst (λ (k : List Reply). Second (suc n) l.3.walks.refusal k other) (sym l.4)
+        subst (λ (k : List Reply). Second (suc n) l.3.walks.refusal k other) (sym l.5)
         (second (suc n) (l.0 ++ l.1 ∷ []) other l.3.walks)
 
-    pub done_over : (new : State) (replies : List Reply) → Walks x steps replies new
-        → AreComparableReplays x y replies given → IsFront given replies
+    pub done_over : (new : State) (replies : List Reply) (k : Walks x steps replies new)
+        → AreComparableReplays x y k.refusal l.3.walks.refusal replies given → IsFront given replies
     done_over new replies k c =
         let inside : n < length steps = subst (λ (m : ℕ). n < m) (sym (same_length paired))
         (slice_get_within others n l.3.inside.0 l.3.inside.1) in
@@ -388,8 +388,8 @@ module _ (x y : State) (steps others : List Step) (h : MayReplay x y steps other
         (all_first replies new k) over
         (terms k.refusal l.3.walks.refusal replies given k.may l.3.walks.may c)
 
-    pub to_over : (index : ℕ) (new : State) (replies : List Reply) → WalksTo index x steps replies new
-        → AreComparableReplays x y replies given
+    pub to_over : (index : ℕ) (new : State) (replies : List Reply) (k : WalksTo index x steps replies new)
+        → AreComparableReplays x y k.walks.refusal l.3.walks.refusal replies given
         → (n < index) × IsFront given replies
     to_over i new replies k c = by_order (order n i)
       where
@@ -410,29 +410,42 @@ module _ (x y : State) (steps others : List Step) (h : MayReplay x y steps other
         by_order (same e) = absurd (late (omega arith))
         by_order (above gt) = absurd (late (omega arith))
 
-    pub over_over : (index : ℕ) (new : State) (replies : List Reply) → FindsNoRoom index x steps replies new
-        → n ≤ index → AreComparableReplays x y replies given → IsFront given replies
-    over_over i new replies k le c =
+    pub over_over : (index : ℕ) (r : Refusal) (new : State) (replies : List Reply)
+        (k : FindsNoRoom index r x steps replies new)
+        → n ≤ index → AreComparableReplays x y k.3.walks.refusal l.3.walks.refusal replies given → IsFront given replies
+    over_over i r new replies k le c =
         front (suc n) (suc i) k.3.walks.refusal l.3.walks.refusal replies given new other (omega arith)
-        (subst (λ (r : List Reply). First (suc i) k.3.walks.refusal r new) (sym k.4)
+        (subst (λ (r : List Reply). First (suc i) k.3.walks.refusal r new) (sym k.5)
         (did x (take (suc i) steps) (k.0 ++ k.1 ∷ []) new k.3.walks)) over
         (terms k.3.walks.refusal l.3.walks.refusal replies given k.3.walks.may l.3.walks.may c)
 
 -- ---- the law
 
+-- the refusals of the walks are these
+by_walks : (x y : State) (replies given : List Reply) (r r' refusal another : Refusal) → r ≡ refusal → r' ≡ another
+    → AreComparableReplays x y refusal another replies given → AreComparableReplays x y r r' replies given
+by_walks x y replies given r r' refusal another e e' (inl c) = inl (c.0, λ free. e ∙ (c.1 free ∙ sym e'))
+by_walks x y replies given r r' refusal another e e' (inr c) = inr c
+
 pub two_replays : TwoReplays
-two_replays x y new other steps others replies given h c =
+two_replays x y new other steps others refusal another replies given h c =
     record {
-      done = λ k l. done_done x y steps others h new other replies given k l c;
-      misplaced = λ index second k l. to_to x y steps others h index second new other replies given k l c;
+      done = λ k l. done_done x y steps others h new other replies given k.0 l.0 (comparable _ _ k.1 l.1);
+      misplaced = λ index second k l. to_to x y steps others h index second new other replies given k.0 l.0 (comparable _ _ k.1 l.1);
       not_alone = λ index. (
-        to_done x y steps others h index new other replies given c,
-        done_to x y steps others h index new other replies given c,
+        λ k l. to_done x y steps others h index new other replies given k.0 l.0 (comparable _ _ k.1 l.1),
+        λ k l. done_to x y steps others h index new other replies given k.0 l.0 (comparable _ _ k.1 l.1),
       );
-      no_room = λ second k l. done_over x y steps others h second other given l new replies k c;
-      no_room_before = λ index second k l. to_over x y steps others h second other given l index new replies k c;
-      no_room_twice = λ index second k l le. over_over x y steps others h second other given l index new replies k le c;
+      no_room = λ second k l. done_over x y steps others h second another other given l new replies k.0 (comparable _ _ k.1 l.4);
+      no_room_before =
+          λ index second k l. to_over x y steps others h second another other given l index new replies k.0 (comparable _ _ k.1 l.4);
+      no_room_twice =
+          λ index second k l le. over_over x y steps others h second another other given l index refusal new replies k le
+          (comparable _ _ k.4 l.4);
     }
+  where
+    comparable : (r r' : Refusal) → r ≡ refusal → r' ≡ another → AreComparableReplays x y r r' replies given
+    comparable r r' e e' = by_walks x y replies given r r' refusal another e e' c
 
 -- ---- the premises, of fresh evaluations
 

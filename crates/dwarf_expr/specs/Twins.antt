@@ -12,10 +12,10 @@ use Rattle.dwarf_meaning.specs.Requests.{Request, OnAnswer}
 use Rattle.dwarf_meaning.specs.Stores.{address_bits}
 use Rattle.dwarf_meaning.specs.Run.{Position}
 use Rattle.dwarf_meaning.specs.Meaning.{fresh}
-use Rattle.dwarf_meaning.specs.Rows.{plain, unset}
+use Rattle.dwarf_meaning.specs.Rows.{text, plain, unset}
 use Rattle.dwarf_meaning.specs.Rest.{State, Start, RequestStatus, CompleteStatus, FaultStatus}
 use Rattle.dwarf_meaning.specs.Steps.{Step, Reply}
-use Rattle.dwarf_meaning.specs.Refusals.{Never, HasFreeList}
+use Rattle.dwarf_meaning.specs.Refusals.{Refusal, Never, HasFreeList}
 use Rattle.dwarf_laws.specs.Agreement.{Both, AgreeingNumbers, AgreeingSteps, AgreeingSettings, AgreeingPieces}
 use Rattle.dwarf_laws.specs.TwoRuns.{NoneIsFull}
 use Rattle.dwarf_replay.specs.Replays.{Walks, WalksTo, WalksOver}
@@ -47,10 +47,11 @@ pub record MayReplay (x y : State) (steps others : List Step) : Type 0 where
   pub twins : AreTwins x y
   pub agreeing : AllZip (AgreeingSteps (address_bits x.setup)) steps others
 
--- three limits each, which are equal; or no push that was refused
-abbrev pub AreComparableReplays : (x y : State) → (replies given : List Reply) → Type 0
-AreComparableReplays x y replies given =
-    ((x.setup.limits ≡ y.setup.limits) × (HasFreeList x.setup.limits → ⊥)) ⊎ (NoneIsFull replies × NoneIsFull given)
+-- the same limits, and the same refusal if a list has no limit; or no push that was refused
+abbrev pub AreComparableReplays : (x y : State) → (refusal another : Refusal) → (replies given : List Reply) → Type 0
+AreComparableReplays x y refusal another replies given =
+    ((x.setup.limits ≡ y.setup.limits) × (HasFreeList x.setup.limits → refusal ≡ another))
+    ⊎ (NoneIsFull replies × NoneIsFull given)
 
 -- ---- what is said
 
@@ -75,37 +76,60 @@ pub data StatesStandAlike (bits : ℕ) (x y : State) : Type 0 where
 abbrev pub IsFront : List Reply → List Reply → Type 0
 IsFront replies all = (more : List Reply) × (replies ++ more ≡ all)
 
--- the steps up to this one were done, and its reply, which is the last of these, found no room
-abbrev pub FindsNoRoom : (index : ℕ) → State → List Step → List Reply → State → Type 0
-FindsNoRoom index old steps replies new =
+-- all steps were done, with this refusal
+abbrev pub DoesAll : Refusal → State → List Step → List Reply → State → Type 0
+DoesAll refusal old steps replies new = (walks : Walks old steps replies new) × (walks.refusal ≡ refusal)
+
+-- the steps before this one were done, with this refusal, and it isn't allowed
+abbrev pub FindsMisplaced : (index : ℕ) → Refusal → State → List Step → List Reply → State → Type 0
+FindsMisplaced index refusal old steps replies new =
+    (walks_to : WalksTo index old steps replies new) × (walks_to.walks.refusal ≡ refusal)
+
+-- the steps up to this one were done, with this refusal, and its reply, which is the last of these, found no room
+abbrev pub FindsNoRoom : (index : ℕ) → Refusal → State → List Step → List Reply → State → Type 0
+FindsNoRoom index refusal old steps replies new =
     (before : List Reply) × (last : Reply) × (limit : Option ℕ)
-    × WalksOver index last limit old steps before new × (replies ≡ before ++ last ∷ [])
+    × (walks_over : WalksOver index last limit old steps before new)
+    × (walks_over.walks.refusal ≡ refusal) × (replies ≡ before ++ last ∷ [])
 
 -- What two replays have in common, by how each ended: the same replies, as far as both go, and where both stand.
-pub record ReplayAlike (x y new other : State) (steps others : List Step) (replies given : List Reply) : Type 0 where
+pub record ReplayAlike (x y new other : State) (steps others : List Step) (refusal another : Refusal)
+    (replies given : List Reply) : Type 0 where
   -- all steps were done on both sides: the replies are the same
-  pub done : Walks x steps replies new → Walks y others given other
+  pub done : DoesAll refusal x steps replies new → DoesAll another y others given other
       → (replies ≡ given) × StatesStandAlike (address_bits x.setup) new other
   -- a step was misplaced on both sides: it is the same step, and the replies before it are the same
-  pub misplaced : (index second : ℕ) → WalksTo index x steps replies new → WalksTo second y others given other
+  pub misplaced : (index second : ℕ) → FindsMisplaced index refusal x steps replies new
+      → FindsMisplaced second another y others given other
       → (index ≡ second) × (replies ≡ given) × StatesStandAlike (address_bits x.setup) new other
   -- no step is misplaced on one side if all were done on the other
-  pub not_alone : (index : ℕ) → (WalksTo index x steps replies new → Walks y others given other → ⊥)
-      × (Walks x steps replies new → WalksTo index y others given other → ⊥)
+  pub not_alone : (index : ℕ)
+      → (FindsMisplaced index refusal x steps replies new → DoesAll another y others given other → ⊥)
+      × (DoesAll refusal x steps replies new → FindsMisplaced index another y others given other → ⊥)
   -- A reply found no room on the second side, and all steps were done on the first: the replies of the second, with
   -- that one, are a front of the first's.
-  pub no_room : (second : ℕ) → Walks x steps replies new → FindsNoRoom second y others given other
+  pub no_room : (second : ℕ) → DoesAll refusal x steps replies new → FindsNoRoom second another y others given other
       → IsFront given replies
   -- The same if a step was misplaced on the first, which then comes later.
-  pub no_room_before : (index second : ℕ) → WalksTo index x steps replies new
-      → FindsNoRoom second y others given other → (second < index) × IsFront given replies
+  pub no_room_before : (index second : ℕ) → FindsMisplaced index refusal x steps replies new
+      → FindsNoRoom second another y others given other → (second < index) × IsFront given replies
   -- The same if a reply found no room on the first either, at that step or later.
-  pub no_room_twice : (index second : ℕ) → FindsNoRoom index x steps replies new
-      → FindsNoRoom second y others given other → second ≤ index → IsFront given replies
+  pub no_room_twice : (index second : ℕ) → FindsNoRoom index refusal x steps replies new
+      → FindsNoRoom second another y others given other → second ≤ index → IsFront given replies
 
--- Twins whose replays are comparable replay alike.
+-- Twins whose replays are comparable replay alike, each with its refusal.
 abbrev pub TwoReplays : Type 0
 TwoReplays =
-    (x y new other : State) (steps others : List Step) (replies given : List Reply)
-    → MayReplay x y steps others → AreComparableReplays x y replies given
-    → ReplayAlike x y new other steps others replies given
+    (x y new other : State) (steps others : List Step) (refusal another : Refusal) (replies given : List Reply)
+    → MayReplay x y steps others → AreComparableReplays x y refusal another replies given
+    → ReplayAlike x y new other steps others refusal another replies given
+
+-- ---- a worked row
+
+-- Steps that agree, of fresh evaluations of one text without limits: both evaluations do all steps with this refusal
+-- and give these replies.
+pub record MeetRefusal (refusal : Refusal) (bytes : List ℕ) (steps others : List Step)
+    (replied : List Reply) : Type 0 where
+  pub agree : AllZip (AgreeingSteps 32) steps others
+  pub one : (new : State) × DoesAll refusal (fresh_at (text bytes)) steps replied new
+  pub another : (new : State) × DoesAll refusal (fresh_at (text bytes)) others replied new

@@ -1,17 +1,20 @@
 //! Laws over the definitions, each the contract of a function that does nothing.
 
 ghost use Rattle.std.specs.Prelude.{List, [], ◌∷◌};
+ghost use Rattle.dwarf_base.specs.declared.errors.Error.TheVariants.{StackFull};
 ghost use Rattle.dwarf_base.specs.Reads.{Text};
 ghost use Rattle.dwarf_meaning.specs.Operations.{UnitRef};
-ghost use Rattle.dwarf_meaning.specs.Requests.{Request, Input};
+ghost use Rattle.dwarf_meaning.specs.declared.kinds.WaitingKind.TheVariants as kind;
+ghost use Rattle.dwarf_meaning.specs.Requests.{Request, RequiresCallFrameCfa, NumberAnswer, Input};
+ghost use Rattle.dwarf_meaning.specs.Refusals.{After};
 ghost use Rattle.dwarf_meaning.specs.Meaning.{Outcome};
-ghost use Rattle.dwarf_meaning.specs.Steps.{Step, Evaluate};
+ghost use Rattle.dwarf_meaning.specs.Steps.{Step, Evaluate, RequestReply, FaultReply};
 ghost use Rattle.std.specs.List.{AllZip};
 ghost use Rattle.dwarf_laws.specs.Agreement.{AgreeingSteps};
 ghost use Rattle.dwarf_laws.specs.Inlining.{CallSite, outer, inlined};
-ghost use Rattle.dwarf_laws.specs.Rows.{IsWorked};
+ghost use Rattle.dwarf_laws.specs.Rows.{IsWorked, started_steps};
 ghost use Rattle.dwarf_expr.specs.Inlined.{MayInline, InlinedReplay};
-ghost use Rattle.dwarf_expr.specs.Twins.{fresh_at, MayReplay, TwoReplays};
+ghost use Rattle.dwarf_expr.specs.Twins.{fresh_at, MayReplay, TwoReplays, MeetRefusal};
 
 pub use dwarf_laws::{
     called_rows, high_bits, inlining, premises_of_high_bits, premises_of_inlining, twin_rows,
@@ -22,12 +25,17 @@ pub use dwarf_value::value_laws;
 /// Bits above an address change nothing that matters, of two evaluations that were replayed.
 ///
 /// It does nothing. Its contract is the law, over what `replay` says of each of them, in whatever way each ended; and
-/// that the premises hold of fresh evaluations of one text, as those of `twin_rows`.
+/// that the premises hold of fresh evaluations of one text, as those of `twin_rows`. The last clause is a worked row: two
+/// evaluations without limits meet the same refusal, at the push of the answer.
 pub fn two_replays()
     ensures alike { TwoReplays }
     ensures met { (text : Text) (steps others : List Step)
         → AllZip (AgreeingSteps 32) steps others
         → MayReplay (fresh_at text) (fresh_at text) steps others }
+    ensures refused { MeetRefusal (After 1 0) (0x9c ∷ [])
+        (started_steps (NumberAnswer kind.CallFrameCfa 0x10 ∷ []))
+        (started_steps (NumberAnswer kind.CallFrameCfa 0x100000010 ∷ []))
+        (RequestReply RequiresCallFrameCfa ∷ FaultReply StackFull ∷ []) }
 {}
 
 /// A called text may be written in its call's place, of two evaluations that were replayed.

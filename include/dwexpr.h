@@ -390,22 +390,29 @@ static inline dwexpr_text dwexpr_operation_block(const dwexpr_operation *operati
     return block;
 }
 
-/* The bytes of the block that an outcome asks about. */
-static inline dwexpr_text dwexpr_outcome_block(const dwexpr_outcome *outcome, const dwexpr_text *texts)
+/* The bytes of a block of a text, or no bytes if the table has no such text or the text no such block. */
+static inline dwexpr_text dwexpr_block_of(const dwexpr_text *texts, size_t texts_length, size_t text, size_t offset,
+                                          size_t length)
 {
-    dwexpr_text block = {NULL, outcome->block_length};
-    if (block.length)
-        block.bytes = texts[outcome->block_text].bytes + outcome->block_offset;
+    dwexpr_text block = {NULL, 0};
+    if (length && text < texts_length && offset <= texts[text].length && length <= texts[text].length - offset) {
+        block.bytes = texts[text].bytes + offset;
+        block.length = length;
+    }
     return block;
 }
 
-/* The bytes that a piece holds. */
-static inline dwexpr_text dwexpr_piece_block(const dwexpr_piece *piece, const dwexpr_text *texts)
+/* The bytes of the block that an outcome asks about; `texts` are those that the call was given. */
+static inline dwexpr_text dwexpr_outcome_block(const dwexpr_outcome *outcome, const dwexpr_text *texts,
+                                               size_t texts_length)
 {
-    dwexpr_text block = {NULL, piece->block_length};
-    if (block.length)
-        block.bytes = texts[piece->block_text].bytes + piece->block_offset;
-    return block;
+    return dwexpr_block_of(texts, texts_length, outcome->block_text, outcome->block_offset, outcome->block_length);
+}
+
+/* The bytes that a piece holds; `texts` are those that the call was given. */
+static inline dwexpr_text dwexpr_piece_block(const dwexpr_piece *piece, const dwexpr_text *texts, size_t texts_length)
+{
+    return dwexpr_block_of(texts, texts_length, piece->block_text, piece->block_offset, piece->block_length);
 }
 
 /* What a code says, in a few words; NULL if there is no such code. */

@@ -9,8 +9,27 @@
 extern "C" {
 #endif
 
-/* What an expression may ask for. Each gives back 0; any other number refuses, and ends the evaluation. One that is
- * NULL refuses with -1. */
+/* How many different texts a run has room for, the called ones too, and how many operations dwexpr_run allows. Define
+ * them before the header to change them. */
+#ifndef DWEXPR_RUN_TEXTS
+#define DWEXPR_RUN_TEXTS 64
+#endif
+#ifndef DWEXPR_RUN_OPERATIONS
+#define DWEXPR_RUN_OPERATIONS 100000
+#endif
+
+/* The texts of a run: first the expression, then each text that it called, once. Pieces and outcomes name a text by its
+ * index here:
+ *
+ *     block = dwexpr_piece_block(&pieces[0], texts.items, texts.length);
+ */
+typedef struct dwexpr_texts {
+    dwexpr_text items[DWEXPR_RUN_TEXTS];
+    size_t length;
+} dwexpr_texts;
+
+/* The answers to what an expression may ask for. Each callback returns 0. Any other number refuses, and ends the
+ * evaluation. A callback that is NULL refuses with -1. */
 typedef struct dwexpr_callbacks {
     /* `size` bytes at an address; `space` is NULL unless an address space is named */
     int (*memory)(void *context, uint64_t address, uint32_t size, const uint64_t *space, uint64_t *content);
@@ -20,7 +39,8 @@ typedef struct dwexpr_callbacks {
     int (*tls)(void *context, uint64_t offset, uint64_t *address);
     /* the value that the expression had on entry of the function */
     int (*entry_value)(void *context, const uint8_t *bytes, size_t length, uint64_t *content);
-    /* the expression of the entry at an offset in the unit, or in .debug_info; it stays until dwexpr_run ends */
+    /* the expression of the entry at an offset in the unit, or in .debug_info. Its bytes stay until the run has ended,
+     * and as long as its blocks are used */
     int (*location)(void *context, int in_debug_info, uint64_t offset, dwexpr_text *text);
     int (*parameter)(void *context, uint64_t offset, uint64_t *value);
     /* if it is NULL, the address stays as it is */
@@ -28,23 +48,16 @@ typedef struct dwexpr_callbacks {
     int (*indexed)(void *context, uint64_t index, int relocate, uint64_t *address);
     /* the type of the entry at an offset in the unit, DWEXPR_I8 to DWEXPR_U64; it isn't asked for offset 0 */
     int (*base_type)(void *context, uint64_t offset, uint32_t *value_type);
+    /* what WebAssembly has at an index: `request` is DWEXPR_WANTS_WASM_LOCAL, _GLOBAL or _STACK. The type is
+     * DWEXPR_GENERIC unless the callback writes another */
+    int (*wasm)(void *context, uint32_t request, uint64_t index, uint32_t *value_type, uint64_t *content);
 } dwexpr_callbacks;
-
-/* How many different texts a run has room for, the called ones too, and how many operations dwexpr_run allows; define
- * them before the header for others. An expression may loop: without a maximum it ends after 4294967295 operations,
- * which takes a minute. */
-#ifndef DWEXPR_RUN_TEXTS
-#define DWEXPR_RUN_TEXTS 64
-#endif
-#ifndef DWEXPR_RUN_OPERATIONS
-#define DWEXPR_RUN_OPERATIONS 100000
-#endif
 
 /* What a run gives back if a callback refused. */
 #define DWEXPR_REFUSED (-1)
 
 /* Answers what the outcome asks for, into the step. Gives back 0, or what a callback refused with. */
-static inline int dwexpr_answer(const dwexpr_outcome *asked, const dwexpr_text *texts, const dwexpr_callbacks *calls,
+static inline int dwexpr_answer(const dwexpr_outcome *asked, const dwexpr_texts *texts, const dwexpr_callbacks *calls,
                                 void *context, dwexpr_step *step, dwexpr_text *called)
 {
     uint64_t *number = &step->number;
@@ -77,7 +90,7 @@ static inline int dwexpr_answer(const dwexpr_outcome *asked, const dwexpr_text *
         return calls->location ? calls->location(context, asked->flag != 0, asked->number, called) : -1;
     case DWEXPR_WANTS_ENTRY_VALUE:
         step->kind = DWEXPR_ANSWER_ENTRY_VALUE;
-        block = dwexpr_outcome_block(asked, texts);
+        block = dwexpr_outcome_block(asked, texts->items, texts->length);
         return calls->entry_value ? calls->entry_value(context, block.bytes, block.length, number) : -1;
     case DWEXPR_WANTS_PARAMETER:
         step->kind = DWEXPR_ANSWER_PARAMETER;
@@ -93,45 +106,45 @@ static inline int dwexpr_answer(const dwexpr_outcome *asked, const dwexpr_text *
         step->kind = DWEXPR_ANSWER_BASE_TYPE;
         return 0;
     default: /* WebAssembly */
-        return -1;
+        step->kind = DWEXPR_ANSWER_WASM;
+        return calls->wasm ? calls->wasm(context, asked->request, asked->number, &step->value_type, number) : -1;
     }
 }
 
-/* The index of a text in the table, to which it is added if it isn't there; `texts_length` is too large if there is no
- * room. */
-static inline size_t dwexpr_index_of(dwexpr_text *texts, size_t *texts_length, dwexpr_text called)
+/* The index of a text in the table, to which it is added if it isn't there; DWEXPR_RUN_TEXTS if there is no room. */
+static inline size_t dwexpr_index_of(dwexpr_texts *texts, dwexpr_text called)
 {
     size_t i;
-    for (i = 0; i < *texts_length; i++)
-        if (texts[i].bytes == called.bytes && texts[i].length == called.length)
+    for (i = 0; i < texts->length; i++)
+        if (texts->items[i].bytes == called.bytes && texts->items[i].length == called.length)
             return i;
     if (i < DWEXPR_RUN_TEXTS)
-        texts[i] = called;
-    *texts_length = i + 1;
+        texts->items[texts->length++] = called;
     return i;
 }
 
 /* Evaluates an expression with the settings, DWEXPR_SET_*, in an evaluation of the caller's, which was begun.
  *
  * Gives back 0 if it is complete; a code above 0; or DWEXPR_REFUSED if a callback gave another number than 0, which is
- * then written to `refusal` unless that is NULL. There may be any number of requests. If more than DWEXPR_RUN_TEXTS
- * different texts are called, it gives back DWEXPR_TOO_MANY_TEXTS. */
+ * then written to `refusal` unless that is NULL. There may be any number of requests. If the table has no room for a
+ * called text, it gives back DWEXPR_TOO_MANY_TEXTS. `texts` and `outcome` are written in each case.
+ *
+ * An expression may loop. Without a maximum it ends after 4294967295 operations, which takes about half a minute. */
 static inline int dwexpr_run_in(dwexpr_evaluation *evaluation, const dwexpr_step *settings, size_t settings_length,
                                 dwexpr_text text, dwexpr_encoding encoding, const dwexpr_callbacks *calls,
-                                void *context, int *refusal, dwexpr_outcome *outcome, dwexpr_piece *pieces,
-                                size_t pieces_length)
+                                void *context, int *refusal, dwexpr_texts *texts, dwexpr_outcome *outcome,
+                                dwexpr_piece *pieces, size_t pieces_length)
 {
-    dwexpr_text texts[DWEXPR_RUN_TEXTS];
-    size_t texts_length = 1;
     dwexpr_step step = {DWEXPR_EVALUATE, DWEXPR_GENERIC, 0, 0};
     uint32_t code;
-    texts[0] = text;
-    code = dwexpr_evaluation_start(evaluation, texts, 1, encoding, settings, settings_length, outcome, pieces,
+    texts->items[0] = text;
+    texts->length = 1;
+    code = dwexpr_evaluation_start(evaluation, texts->items, 1, encoding, settings, settings_length, outcome, pieces,
                                    pieces_length);
     while (code == DWEXPR_OK) {
         dwexpr_text called = {NULL, 0};
         int refused;
-        code = dwexpr_evaluation_resume(evaluation, texts, texts_length, step, outcome, pieces, pieces_length);
+        code = dwexpr_evaluation_resume(evaluation, texts->items, texts->length, step, outcome, pieces, pieces_length);
         if (code != DWEXPR_OK || outcome->request == DWEXPR_COMPLETE)
             break;
         step.value_type = DWEXPR_GENERIC;
@@ -142,24 +155,26 @@ static inline int dwexpr_run_in(dwexpr_evaluation *evaluation, const dwexpr_step
             return DWEXPR_REFUSED;
         }
         if (step.kind == DWEXPR_ANSWER_LOCATION) {
-            step.text = dwexpr_index_of(texts, &texts_length, called);
-            if (texts_length > DWEXPR_RUN_TEXTS)
+            step.text = dwexpr_index_of(texts, called);
+            if (step.text == DWEXPR_RUN_TEXTS)
                 return DWEXPR_TOO_MANY_TEXTS;
         }
     }
     return (int)code;
 }
 
-/* The same with one setting, a maximum of DWEXPR_RUN_OPERATIONS, and an evaluation on the stack. */
+/* The same with one setting, a maximum of DWEXPR_RUN_OPERATIONS, in an evaluation on the stack, which it begins anew.
+ * That alone takes about as long as a short expression: for many of them begin one, and call dwexpr_run_in. */
 static inline int dwexpr_run(dwexpr_text text, dwexpr_encoding encoding, const dwexpr_callbacks *calls, void *context,
-                             int *refusal, dwexpr_outcome *outcome, dwexpr_piece *pieces, size_t pieces_length)
+                             int *refusal, dwexpr_texts *texts, dwexpr_outcome *outcome, dwexpr_piece *pieces,
+                             size_t pieces_length)
 {
     const dwexpr_step maximum = {DWEXPR_SET_MAX_ITERATIONS, DWEXPR_NO_TYPE, DWEXPR_RUN_OPERATIONS, 0};
     uint64_t memory[DWEXPR_EVALUATION_SIZE / 8];
     dwexpr_evaluation evaluation;
     evaluation.memory = memory;
     dwexpr_evaluation_begin(&evaluation);
-    return dwexpr_run_in(&evaluation, &maximum, 1, text, encoding, calls, context, refusal, outcome, pieces,
+    return dwexpr_run_in(&evaluation, &maximum, 1, text, encoding, calls, context, refusal, texts, outcome, pieces,
                          pieces_length);
 }
 

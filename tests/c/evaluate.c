@@ -1,7 +1,5 @@
-/* Each request, answer, kind of piece and code, of dwexpr_evaluate and of an evaluation that is held, and the callbacks
- * of dwexpr_run. */
+/* Each request, answer, kind of piece and code, of dwexpr_evaluate and of an evaluation that is held. */
 #include "check.h"
-#include "dwexpr_run.h"
 
 #define MANY 40
 
@@ -395,153 +393,6 @@ static void arguments(void)
     want.request = DWEXPR_COMPLETE, want.value_type = DWEXPR_GENERIC, want.value = 5, want.pieces = 1, expect();
 }
 
-/* ---- callbacks */
-
-static int give(void *context, uint64_t *number)
-{
-    *number = *(uint64_t *)context;
-    return 0;
-}
-
-static int give_memory(void *context, uint64_t address, uint32_t size, const uint64_t *space, uint64_t *content)
-{
-    *content = *(uint64_t *)context + address + size + (space ? *space : 0);
-    return 0;
-}
-
-static int give_register(void *context, uint32_t register_number, uint64_t *content)
-{
-    *content = *(uint64_t *)context + register_number;
-    return 0;
-}
-
-static int give_more(void *context, uint64_t number, uint64_t *more)
-{
-    *more = *(uint64_t *)context + number;
-    return 0;
-}
-
-static int give_entry(void *context, const uint8_t *expression, size_t length, uint64_t *content)
-{
-    *content = *(uint64_t *)context + expression[0] + length;
-    return 0;
-}
-
-static int give_text(void *context, int in_debug_info, uint64_t offset, dwexpr_text *text)
-{
-    (void)context;
-    (void)offset;
-    text->bytes = (const uint8_t *)(in_debug_info ? "\x37" : "\x36");
-    text->length = 1;
-    return 0;
-}
-
-static int give_indexed(void *context, uint64_t index, int relocate, uint64_t *address)
-{
-    *address = *(uint64_t *)context + index + (relocate ? 1000 : 0);
-    return 0;
-}
-
-static int give_type(void *context, uint64_t offset, uint32_t *value_type)
-{
-    (void)context;
-    *value_type = (uint32_t)offset;
-    return 0;
-}
-
-/* Two texts in turn, or a new one each time. */
-static int give_many(void *context, int in_debug_info, uint64_t offset, dwexpr_text *text)
-{
-    static const uint8_t nops[2 * DWEXPR_RUN_TEXTS] = {0};
-    uint64_t *calls = (uint64_t *)context;
-    (void)offset;
-    text->bytes = nops + (in_debug_info ? *calls % (2 * DWEXPR_RUN_TEXTS) : *calls % 2);
-    text->length = 0;
-    *calls += 1;
-    return 0;
-}
-
-static int refuse(void *context, uint64_t *number)
-{
-    (void)context;
-    (void)number;
-    return 77;
-}
-
-static void callbacks(void)
-{
-    static const struct {
-        const char *name, *bytes;
-        uint64_t value;
-    } rows[] = {
-        {"memory", "3a 06", 118}, {"memory in a space", "37 3a 18", 125}, {"register", "77 08", 115},
-        {"frame base", "91 02", 102}, {"cfa", "9c", 100}, {"tls", "35 9b", 105}, {"entry value", "a3 01 57", 188},
-        {"location in the unit", "98 0500", 6}, {"location in .debug_info", "9a 05000000", 7},
-        {"parameter", "fa 01000000", 101}, {"relocated", "03 0100000000000000", 101},
-        {"indexed address", "a1 05", 1105},
-        {"indexed constant", "a2 05", 105}, {"two requests", "77 00 9c 22", 207},
-    };
-    uint64_t context = 100;
-    dwexpr_callbacks calls, none;
-    int refusal;
-    size_t i;
-    memset(&none, 0, sizeof none);
-    calls = none;
-    calls.memory = give_memory, calls.register_content = give_register, calls.frame_base = give, calls.cfa = give;
-    calls.tls = give_more, calls.entry_value = give_entry, calls.location = give_text, calls.parameter = give_more;
-    calls.relocated = give_more, calls.indexed = give_indexed, calls.base_type = give_type;
-    for (i = 0; i < sizeof rows / sizeof *rows; i++) {
-        begin(rows[i].name, rows[i].bytes);
-        check(dwexpr_run(texts[0], LE8, &calls, &context, NULL, &outcome, pieces, MANY) == 0, name, "the result");
-        check(outcome.request == DWEXPR_COMPLETE && outcome.value == rows[i].value, name, "a callback: the value");
-        if (strcmp(rows[i].name, "relocated")) {
-            refusal = 0;
-            check(dwexpr_run(texts[0], LE8, &none, &context, &refusal, &outcome, pieces, MANY) == DWEXPR_REFUSED, name,
-                  "no callback");
-            check(refusal == -1, name, "no callback: the refusal");
-        }
-    }
-    begin("relocated without a callback", "03 0100000000000000");
-    check(dwexpr_run(texts[0], LE8, &none, NULL, NULL, &outcome, pieces, MANY) == 0, name, "the result");
-    check(outcome.value == 1, name, "the value");
-    begin("a type", "09 ff a8 02 9f");
-    check(dwexpr_run(texts[0], LE8, &calls, &context, NULL, &outcome, pieces, MANY) == 0, name, "the result");
-    check(pieces[0].kind == DWEXPR_HOLDS_VALUE && pieces[0].value_type == DWEXPR_I8, name, "the piece");
-    begin("a refusal", "9c");
-    calls.cfa = refuse;
-    check(dwexpr_run(texts[0], LE8, &calls, &context, &refusal, &outcome, pieces, MANY) == DWEXPR_REFUSED, name, "it");
-    check(refusal == 77, name, "its number");
-    check(dwexpr_run(texts[0], LE8, &calls, &context, NULL, &outcome, pieces, MANY) == DWEXPR_REFUSED, name, "again");
-    begin("a fault", "01");
-    check(dwexpr_run(texts[0], LE8, &calls, &context, NULL, &outcome, pieces, MANY) == DWEXPR_INVALID_EXPRESSION, name,
-          "it");
-    begin("a bad encoding", "01");
-    check(dwexpr_run(texts[0], encoding_of(9, 4, 5, 0), &calls, &context, NULL, &outcome, pieces, MANY) ==
-              DWEXPR_BAD_ENCODING,
-          name, "it");
-    begin("a branch for ever", "2f fdff");
-    check(dwexpr_run(texts[0], LE8, &calls, &context, NULL, &outcome, pieces, MANY) == DWEXPR_TOO_MANY_ITERATIONS, name,
-          "it");
-    begin("settings", "97 22"), step(DWEXPR_SET_INITIAL_VALUE, 0, 3, 0), step(DWEXPR_SET_OBJECT_ADDRESS, 0, 4, 0);
-    check(dwexpr_run_in(&evaluation, steps, 2, texts[0], LE8, &none, NULL, NULL, &outcome, pieces, MANY) == 0, name,
-          "the result");
-    check(outcome.value == 7 && pieces[0].number == 7, name, "the value");
-    begin("many answers", "77 00 13 2f faff");
-    check(dwexpr_run(texts[0], LE8, &calls, &context, NULL, &outcome, pieces, MANY) == DWEXPR_TOO_MANY_ITERATIONS, name,
-          "it");
-    calls.location = give_many;
-    context = 0;
-    begin("two texts, many times", "98 0000 2f faff");
-    check(dwexpr_run(texts[0], LE8, &calls, &context, NULL, &outcome, pieces, MANY) == DWEXPR_TOO_MANY_ITERATIONS, name,
-          "it");
-    check(context == DWEXPR_RUN_OPERATIONS / 2, name, "the calls");
-    context = 0;
-    begin("many texts", "9a 00000000 2f f8ff");
-    check(dwexpr_run(texts[0], LE8, &calls, &context, NULL, &outcome, pieces, MANY) == DWEXPR_TOO_MANY_TEXTS, name,
-          "it");
-    check(context == DWEXPR_RUN_TEXTS, name, "the calls");
-}
-
 /* What an evaluation that is held does, and dwexpr_evaluate can't. */
 static void holding(void)
 {
@@ -551,6 +402,7 @@ static void holding(void)
     const dwexpr_step object = {DWEXPR_SET_OBJECT_ADDRESS, 0, 5, 0};
     dwexpr_evaluation unstarted;
     uint64_t more[DWEXPR_EVALUATION_SIZE / 8];
+    dwexpr_text block;
 
     name = "the size";
     check(dwexpr_evaluation_size() <= DWEXPR_EVALUATION_SIZE, name, "at most");
@@ -590,8 +442,8 @@ static void holding(void)
     begin("other texts", "a3 01 55 a3 01 56"), start();
     dwexpr_evaluation_start(&evaluation, texts, 1, LE8, steps, 1, &outcome, pieces, MANY);
     check(outcome.request == DWEXPR_WANTS_ENTRY_VALUE, name, "the request");
-    check(dwexpr_outcome_block(&outcome, texts).length == 1, name, "the length of its block");
-    check(*dwexpr_outcome_block(&outcome, texts).bytes == 0x55, name, "the bytes of its block");
+    block = dwexpr_outcome_block(&outcome, texts, 1);
+    check(block.length == 1 && block.bytes == texts[0].bytes + 2, name, "its block");
     texts[1].bytes = other, texts[1].length = sizeof other;
     check(dwexpr_evaluation_resume(&evaluation, texts + 1, 1, entry_value, &outcome, pieces, MANY) == DWEXPR_LOST_TEXT,
           name, "the code");
@@ -623,7 +475,6 @@ int main(void)
     all_pieces();
     faults();
     arguments();
-    callbacks();
     holding();
     names();
     return finish();

@@ -9,6 +9,7 @@
 enum { STACK = 16 * 1024 };
 
 static dwexpr_outcome outcome;
+static dwexpr_texts texts;
 static dwexpr_piece pieces[4];
 static int result = 99;
 
@@ -39,7 +40,7 @@ static void on_signal(int number)
     calls.memory = give_memory;
     text.bytes = bytes;
     text.length = sizeof bytes;
-    result = dwexpr_run(text, encoding_of(8, 4, 5, 0), &calls, NULL, NULL, &outcome, pieces, 4);
+    result = dwexpr_run(text, encoding_of(8, 4, 5, 0), &calls, NULL, NULL, &texts, &outcome, pieces, 4);
 }
 
 int main(void)

@@ -1,0 +1,346 @@
+/* The callbacks of dwexpr_run, the texts that a run gives back, and the blocks of these texts. */
+#include "check.h"
+#include "dwexpr_run.h"
+
+#define MANY 4
+
+static uint8_t bytes[256];
+static dwexpr_texts texts;
+static dwexpr_outcome outcome;
+static dwexpr_piece pieces[MANY];
+static uint64_t context;
+static int refusal;
+static const char *name;
+
+#define LE8 encoding_of(8, 4, 5, 0)
+
+static int run(const char *row, const char *digits, const dwexpr_callbacks *calls)
+{
+    dwexpr_text text = {bytes, bytes_of(digits, bytes)};
+    name = row;
+    return dwexpr_run(text, LE8, calls, &context, &refusal, &texts, &outcome, pieces, MANY);
+}
+
+/* ---- callbacks, which add their arguments to the context */
+
+static int give(void *number, uint64_t *answer)
+{
+    *answer = *(uint64_t *)number;
+    return 0;
+}
+
+static int give_memory(void *number, uint64_t address, uint32_t size, const uint64_t *space, uint64_t *content)
+{
+    *content = *(uint64_t *)number + address + size + (space ? 1000 + *space : 0);
+    return 0;
+}
+
+static int give_register(void *number, uint32_t register_number, uint64_t *content)
+{
+    *content = *(uint64_t *)number + register_number;
+    return 0;
+}
+
+static int give_more(void *number, uint64_t asked, uint64_t *more)
+{
+    *more = *(uint64_t *)number + asked;
+    return 0;
+}
+
+static int give_entry(void *number, const uint8_t *expression, size_t length, uint64_t *content)
+{
+    *content = *(uint64_t *)number + expression[0] + length;
+    return 0;
+}
+
+static int give_indexed(void *number, uint64_t index, int relocate, uint64_t *address)
+{
+    *address = *(uint64_t *)number + index + (relocate ? 1000 : 0);
+    return 0;
+}
+
+static int give_type(void *number, uint64_t offset, uint32_t *value_type)
+{
+    (void)number;
+    *value_type = (uint32_t)offset;
+    return 0;
+}
+
+static int give_wasm(void *number, uint32_t request, uint64_t index, uint32_t *value_type, uint64_t *content)
+{
+    if (index == 9)
+        *value_type = DWEXPR_I32;
+    *content = *(uint64_t *)number + index +
+               (request == DWEXPR_WANTS_WASM_LOCAL ? 1000 : request == DWEXPR_WANTS_WASM_GLOBAL ? 2000 : 3000);
+    return 0;
+}
+
+static int refuse(void *number, uint64_t *answer)
+{
+    (void)number;
+    (void)answer;
+    return 77;
+}
+
+static int give_text(void *number, int in_debug_info, uint64_t offset, dwexpr_text *text)
+{
+    (void)number;
+    (void)offset;
+    text->bytes = (const uint8_t *)(in_debug_info ? "\x37" : "\x36");
+    text->length = 1;
+    return 0;
+}
+
+static const dwexpr_callbacks none;
+static const dwexpr_callbacks all = {
+    .memory = give_memory,
+    .register_content = give_register,
+    .frame_base = give,
+    .cfa = give,
+    .tls = give_more,
+    .entry_value = give_entry,
+    .location = give_text,
+    .parameter = give_more,
+    .relocated = give_more,
+    .indexed = give_indexed,
+    .base_type = give_type,
+    .wasm = give_wasm,
+};
+
+static void callbacks(void)
+{
+    static const struct {
+        const char *name, *bytes;
+        uint64_t value;
+    } rows[] = {
+        {"memory", "3a 06", 118},
+        {"memory in a space", "37 3a 18", 1125},
+        {"memory in space 0", "30 3a 18", 1118},
+        {"register", "77 08", 115},
+        {"frame base", "91 02", 102},
+        {"cfa", "9c", 100},
+        {"tls", "35 9b", 105},
+        {"entry value", "a3 01 57", 188},
+        {"location in the unit", "98 0500", 6},
+        {"location in .debug_info", "9a 05000000", 7},
+        {"parameter", "fa 01000000", 101},
+        {"relocated", "03 0100000000000000", 101},
+        {"indexed address", "a1 05", 1105},
+        {"indexed constant", "a2 05", 105},
+        {"WebAssembly local", "ed 00 07", 1107},
+        {"WebAssembly global", "ed 01 07", 2107},
+        {"WebAssembly stack", "ed 02 07", 3107},
+        {"two requests", "77 00 9c 22", 207},
+        {"a generic value after one of a type", "a5 03 02 13 3a 06", 118},
+        {"the same in WebAssembly", "ed 00 09 13 ed 00 07", 1107},
+    };
+    dwexpr_callbacks calls = all;
+    size_t i;
+    context = 100;
+    for (i = 0; i < sizeof rows / sizeof *rows; i++) {
+        check(run(rows[i].name, rows[i].bytes, &all) == 0, name, "the result");
+        check(outcome.request == DWEXPR_COMPLETE && outcome.value == rows[i].value, name, "the value");
+        check(outcome.value_type == DWEXPR_GENERIC, name, "the type");
+        if (strcmp(rows[i].name, "relocated")) {
+            refusal = 0;
+            check(run(rows[i].name, rows[i].bytes, &none) == DWEXPR_REFUSED, name, "no callback");
+            check(refusal == -1, name, "no callback: the refusal");
+        }
+    }
+    check(run("relocated without a callback", "03 0100000000000000", &none) == 0, name, "the result");
+    check(outcome.value == 1, name, "the value");
+    check(run("a type", "09 ff a8 02 9f", &all) == 0, name, "the result");
+    check(pieces[0].kind == DWEXPR_HOLDS_VALUE && pieces[0].value_type == DWEXPR_I8, name, "the piece");
+    check(run("a type of WebAssembly", "ed 00 09 9f", &all) == 0, name, "the result");
+    check(pieces[0].value_type == DWEXPR_I32 && pieces[0].number == 1109, name, "the piece");
+    calls.cfa = refuse;
+    check(run("a refusal", "9c", &calls) == DWEXPR_REFUSED, name, "it");
+    check(refusal == 77, name, "its number");
+    check(run("a fault", "01", &all) == DWEXPR_INVALID_EXPRESSION, name, "it");
+    check(run("a branch for ever", "2f fdff", &all) == DWEXPR_TOO_MANY_ITERATIONS, name, "it");
+    check(run("many answers", "77 00 13 2f faff", &all) == DWEXPR_TOO_MANY_ITERATIONS, name, "it");
+}
+
+static void arguments(void)
+{
+    static uint64_t memory[DWEXPR_EVALUATION_SIZE / 8];
+    static const uint8_t addition[] = {0x97, 0x22}, call[] = {0x9c};
+    const dwexpr_step settings[] = {{DWEXPR_SET_INITIAL_VALUE, 0, 3, 0}, {DWEXPR_SET_OBJECT_ADDRESS, 0, 4, 0}};
+    dwexpr_text text = {addition, sizeof addition};
+    dwexpr_evaluation evaluation = {memory};
+    dwexpr_callbacks calls = all;
+    dwexpr_evaluation_begin(&evaluation);
+    name = "settings";
+    check(dwexpr_run_in(&evaluation, settings, 2, text, LE8, &none, NULL, NULL, &texts, &outcome, pieces, MANY) == 0,
+          name, "the result");
+    check(outcome.value == 7 && pieces[0].number == 7, name, "the value");
+    name = "a bad encoding";
+    check(dwexpr_run(text, encoding_of(9, 4, 5, 0), &none, NULL, NULL, &texts, &outcome, pieces, MANY) ==
+              DWEXPR_BAD_ENCODING,
+          name, "it");
+    check(texts.length == 1 && texts.items[0].bytes == addition, name, "the texts");
+    name = "a refusal that isn't wanted";
+    calls.cfa = refuse;
+    text.bytes = call, text.length = sizeof call;
+    check(dwexpr_run(text, LE8, &calls, NULL, NULL, &texts, &outcome, pieces, MANY) == DWEXPR_REFUSED, name, "it");
+}
+
+/* ---- texts */
+
+/* The text of the digits at the offset in the unit. */
+static const char *called[3];
+static uint8_t called_bytes[3][16];
+
+static int give_called(void *number, int in_debug_info, uint64_t offset, dwexpr_text *text)
+{
+    (void)number;
+    (void)in_debug_info;
+    text->bytes = called_bytes[offset];
+    text->length = bytes_of(called[offset], called_bytes[offset]);
+    return 0;
+}
+
+/* Whether the piece's bytes are those of a called text, from `place` on, and no shorter table gives any. */
+static int holds(const dwexpr_piece *piece, size_t text, size_t place, const char *wanted)
+{
+    dwexpr_text block = dwexpr_piece_block(piece, texts.items, texts.length);
+    size_t i;
+    for (i = 0; i <= piece->block_text; i++) {
+        /* on the heap, where a sanitizer sees a read past the table */
+        dwexpr_text *shorter = malloc(i * sizeof *shorter + 1), lost;
+        memcpy(shorter, texts.items, i * sizeof *shorter);
+        lost = dwexpr_piece_block(piece, shorter, i);
+        free(shorter);
+        if (lost.bytes || lost.length)
+            return 0;
+    }
+    return piece->kind == DWEXPR_HOLDS_BYTES && block.length == strlen(wanted) &&
+           block.bytes == called_bytes[text] + place && !memcmp(block.bytes, wanted, block.length);
+}
+
+static void blocks(void)
+{
+    dwexpr_callbacks calls = all;
+    dwexpr_text block;
+    calls.location = give_called;
+    called[0] = "9e 02 aabb", called[1] = "96 9e 03 aabbcc", called[2] = "a3 01 57";
+    check(run("a block in a called text", "99 00000000", &calls) == 0, name, "the result");
+    check(outcome.pieces == 1 && texts.length == 2, name, "a piece and two texts");
+    check(holds(&pieces[0], 0, 2, "\xaa\xbb"), name, "its bytes");
+    check(run("a text that is called twice", "98 0000 9302 98 0000 9302", &calls) == 0, name, "the result");
+    check(outcome.pieces == 2 && texts.length == 2, name, "two pieces and two texts");
+    check(holds(&pieces[0], 0, 2, "\xaa\xbb") && holds(&pieces[1], 0, 2, "\xaa\xbb"), name, "their bytes");
+    check(run("two texts", "98 0000 9302 98 0100 9303 98 0000 9302", &calls) == 0, name, "the result");
+    check(outcome.pieces == 3 && texts.length == 3, name, "three pieces and texts");
+    check(holds(&pieces[0], 0, 2, "\xaa\xbb") && holds(&pieces[1], 1, 3, "\xaa\xbb\xcc"), name, "their bytes");
+    check(holds(&pieces[2], 0, 2, "\xaa\xbb"), name, "the bytes of the last");
+    context = 100;
+    check(run("an expression in a called text", "98 0200", &calls) == 0, name, "the result");
+    check(outcome.value == 188, name, "the value");
+    calls.entry_value = NULL;
+    check(run("the same, refused", "98 0200", &calls) == DWEXPR_REFUSED, name, "the result");
+    block = dwexpr_outcome_block(&outcome, texts.items, texts.length);
+    check(block.bytes == called_bytes[2] + 2 && block.length == 1, name, "what was asked");
+    block = dwexpr_outcome_block(&outcome, texts.items, 1);
+    check(!block.bytes && !block.length, name, "a table that lacks the text");
+    block = dwexpr_outcome_block(&outcome, NULL, 0);
+    check(!block.bytes && !block.length, name, "no table");
+}
+
+/* A block that isn't within its text has no bytes. */
+static void bounds(void)
+{
+    static const struct {
+        size_t text, offset, length, got;
+    } rows[] = {
+        {0, 0, 3, 3}, {0, 1, 2, 2}, {0, 2, 1, 1}, {0, 3, 0, 0}, {0, 0, 4, 0}, {0, 1, 3, 0}, {0, 3, 1, 0}, {0, 4, 1, 0},
+        {1, 0, 1, 0}, {2, 0, 1, 0}, {SIZE_MAX, 0, 1, 0}, {0, SIZE_MAX, 1, 0}, {0, 1, SIZE_MAX, 0},
+        {0, SIZE_MAX, SIZE_MAX, 0},
+    };
+    const dwexpr_text table[] = {{bytes, 3}, {NULL, 0}};
+    size_t i;
+    name = "bounds";
+    for (i = 0; i < sizeof rows / sizeof *rows; i++) {
+        dwexpr_text block = dwexpr_block_of(table, 2, rows[i].text, rows[i].offset, rows[i].length);
+        check(block.length == rows[i].got, name, "the length");
+        check(block.bytes == (rows[i].got ? bytes + rows[i].offset : NULL), name, "the bytes");
+    }
+}
+
+/* A text of one literal, on the heap. The one before it is freed. */
+static int give_freed(void *number, int in_debug_info, uint64_t offset, dwexpr_text *text)
+{
+    uint8_t **last = number;
+    (void)in_debug_info;
+    free(*last);
+    *last = malloc(1);
+    **last = (uint8_t)(0x30 + offset);
+    text->bytes = *last;
+    text->length = 1;
+    return 0;
+}
+
+/* The bytes of the expression's first call are freed before its second one. */
+static void freed(void)
+{
+    static const uint8_t calls_three[] = {0x98, 1, 0, 0x98, 2, 0, 0x22, 0x98, 4, 0, 0x22};
+    const dwexpr_text text = {calls_three, sizeof calls_three};
+    uint8_t *last = NULL;
+    dwexpr_callbacks calls = none;
+    calls.location = give_freed;
+    name = "a call whose bytes are freed by the next callback";
+    check(dwexpr_run(text, LE8, &calls, &last, NULL, &texts, &outcome, pieces, MANY) == 0, name, "the result");
+    check(outcome.value == 7, name, "the value");
+    free(last);
+}
+
+/* Two numbers and their sum, or a front of these. */
+static int give_front(void *number, int in_debug_info, uint64_t offset, dwexpr_text *text)
+{
+    static const uint8_t sum[] = {0x31, 0x32, 0x22};
+    (void)number;
+    (void)in_debug_info;
+    text->bytes = sum;
+    text->length = offset;
+    return 0;
+}
+
+/* Two texts in turn, or a new one each time. */
+static int give_many(void *number, int in_debug_info, uint64_t offset, dwexpr_text *text)
+{
+    static const uint8_t nops[2 * DWEXPR_RUN_TEXTS] = {0};
+    uint64_t *calls = (uint64_t *)number;
+    (void)offset;
+    text->bytes = nops + (in_debug_info ? *calls % (2 * DWEXPR_RUN_TEXTS) : *calls % 2);
+    text->length = 0;
+    *calls += 1;
+    return 0;
+}
+
+static void tables(void)
+{
+    dwexpr_callbacks calls = all;
+    calls.location = give_front;
+    check(run("a text and its front", "98 0300 98 0100 22", &calls) == 0, name, "the result");
+    check(outcome.value == 4 && texts.length == 3, name, "the value and the texts");
+    check(run("a front and its text", "98 0100 98 0300 22", &calls) == 0, name, "the result");
+    check(outcome.value == 4 && texts.length == 3, name, "the value and the texts");
+    calls.location = give_many;
+    context = 0;
+    check(run("two texts, many times", "98 0000 2f faff", &calls) == DWEXPR_TOO_MANY_ITERATIONS, name, "it");
+    check(context == DWEXPR_RUN_OPERATIONS / 2 && texts.length == 3, name, "the calls and the texts");
+    context = 0;
+    check(run("many texts", "9a 00000000 2f f8ff", &calls) == DWEXPR_TOO_MANY_TEXTS, name, "it");
+    check(context == DWEXPR_RUN_TEXTS && texts.length == DWEXPR_RUN_TEXTS, name, "the calls and the texts");
+}
+
+int main(void)
+{
+    callbacks();
+    arguments();
+    blocks();
+    bounds();
+    freed();
+    tables();
+    return finish();
+}

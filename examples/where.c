@@ -95,10 +95,12 @@ static int read_frame_base(void *context, uint64_t *address)
     struct place *place = context;
     Dwarf_Attribute attribute;
     dwexpr_text text;
+    dwexpr_texts texts;
     dwexpr_outcome outcome;
     dwexpr_piece piece;
     if (!dwarf_attr_integrate(&place->function, DW_AT_frame_base, &attribute) || !find_here(place, &attribute, &text) ||
-        dwexpr_run(text, place->encoding, &callbacks, place, NULL, &outcome, &piece, 1) || outcome.pieces != 1)
+        dwexpr_run(text, place->encoding, &callbacks, place, NULL, &texts, &outcome, &piece, 1) ||
+        outcome.pieces != 1)
         return -1;
     *address = piece.number;
     return piece.kind == DWEXPR_IN_REGISTER ? read_register(place, (uint32_t)piece.number, address) : 0;
@@ -111,11 +113,12 @@ static int read_entry_value(void *context, const uint8_t *bytes, size_t length, 
     struct place caller;
     Dwarf_Die function = place->function, site;
     dwexpr_text text;
+    dwexpr_texts texts;
     dwexpr_outcome outcome;
     if (find_caller(place, &caller) ||
         find_call_site(&caller.function, caller.registers.contents[RIP] - caller.bias, &site) ||
         !calls_function(&site, &function) || find_passed(&site, bytes, length, &text) ||
-        dwexpr_run(text, caller.encoding, &callbacks, &caller, NULL, &outcome, NULL, 0) ||
+        dwexpr_run(text, caller.encoding, &callbacks, &caller, NULL, &texts, &outcome, NULL, 0) ||
         outcome.value_type == DWEXPR_NO_TYPE)
         return -1;
     *content = outcome.value;
@@ -123,9 +126,11 @@ static int read_entry_value(void *context, const uint8_t *bytes, size_t length, 
 }
 
 /* the bytes of a piece; -1 if it has none */
-static int read_piece(struct place *place, dwexpr_text text, const dwexpr_piece *piece, uint8_t *bytes, size_t length)
+static int read_piece(struct place *place, const dwexpr_texts *texts, const dwexpr_piece *piece, uint8_t *bytes,
+                      size_t length)
 {
     uint64_t word = piece->number;
+    dwexpr_text block = dwexpr_piece_block(piece, texts->items, texts->length);
     switch (piece->kind) {
     case DWEXPR_AT_ADDRESS:
         return piece->bit_offset % 8 ? -1 : read_bytes(place->process, word + piece->bit_offset / 8, bytes, length);
@@ -136,9 +141,9 @@ static int read_piece(struct place *place, dwexpr_text text, const dwexpr_piece 
     case DWEXPR_HOLDS_VALUE:
         break;
     case DWEXPR_HOLDS_BYTES:
-        if (piece->block_text || piece->block_length < length)
+        if (block.length < length)
             return -1;
-        memcpy(bytes, text.bytes + piece->block_offset, length);
+        memcpy(bytes, block.bytes, length);
         return 0;
     default:
         return -1;
@@ -172,9 +177,11 @@ static void print_bytes(const uint8_t *bytes, size_t length, Dwarf_Word sign)
 static int read_value(struct place *place, dwexpr_text text, uint8_t *bytes, size_t size)
 {
     static dwexpr_piece pieces[DWEXPR_MAX_PIECES];
+    dwexpr_texts texts;
     dwexpr_outcome outcome;
     size_t i, done = 0;
-    int ended = dwexpr_run(text, place->encoding, &callbacks, place, NULL, &outcome, pieces, DWEXPR_MAX_PIECES);
+    int ended =
+        dwexpr_run(text, place->encoding, &callbacks, place, NULL, &texts, &outcome, pieces, DWEXPR_MAX_PIECES);
     if (ended) {
         if (ended < 0)
             printf("unknown: request %" PRIu32 " isn't answered\n", outcome.request);
@@ -186,7 +193,7 @@ static int read_value(struct place *place, dwexpr_text text, uint8_t *bytes, siz
         size_t length = pieces[i].has_size ? pieces[i].size_in_bits / 8 : size;
         if (length > size - done)
             length = size - done;
-        if (read_piece(place, text, &pieces[i], bytes + done, length)) {
+        if (read_piece(place, &texts, &pieces[i], bytes + done, length)) {
             printf("not whole: piece %zu is of kind %" PRIu32 "\n", i, pieces[i].kind);
             return -1;
         }

@@ -1,24 +1,24 @@
 /* DWARF expressions, decoded and evaluated. Link with libdwexpr.a.
  *
- * Debug information says by small programs, DWARF expressions, where a variable is, what a frame's base is, or which
- * value a register had in the caller (DWARF 5, sections 2.5 and 2.6). Here are
+ * A DWARF expression is a small program in debug information. It says where a variable is, what a frame's base is, or
+ * which value a register had in the caller (DWARF 5, sections 2.5 and 2.6). The calls are
  *
- *   dwexpr_decode        the operation at an offset of an expression
- *   dwexpr_evaluate      what an expression comes to, given the answers to what it asked so far
- *   dwexpr_evaluation_*  the same, one answer after another, in memory of the caller's
- *   dwexpr_value_*       an operation on values alone; dwexpr_type_* is of their types
+ *   dwexpr_decode        decodes the operation at an offset of an expression
+ *   dwexpr_evaluate      evaluates an expression, given the answers to its requests so far
+ *   dwexpr_evaluation_*  does the same one answer after another, in memory of the caller's
+ *   dwexpr_value_*       does an operation on values; dwexpr_type_* is about their types
  *
  * Each result of these is proved. dwexpr_run.h has plain C over them: one call, with callbacks that answer.
  *
- * No call takes memory, waits, or touches errno, a global or a thread-local variable, and none but dwexpr_evaluation_*
- * keeps a pointer. So each may be made from any thread and from a signal handler; 16 KiB of stack suffice.
+ * No call takes memory, waits, or touches errno, a global or a thread-local variable. Only dwexpr_evaluation_* keep a
+ * pointer. So each may be made from any thread and from a signal handler; 16 KiB of stack suffice.
  *
- * What a caller owes, as no call can test it:
+ * No call can test these, so the caller sees to them:
  *   - a pointer that is given with a count points to that many items, aligned, which nothing else writes during the
  *     call; if the count is 0 it may be NULL;
  *   - each other pointer is not NULL and points to one item;
- *   - what a call writes overlaps nothing else that it is given.
- * All else is tested, and answered by a code: any bits may stand in any struct.
+ *   - a call's results overlap nothing else that it is given.
+ * All else is tested, and a code says if it is bad: any bits may stand in any struct.
  */
 #ifndef DWEXPR_H
 #define DWEXPR_H
@@ -34,17 +34,17 @@ extern "C" {
 
 /* ---------------------------------------------------------------- codes */
 
-/* What a call answers. 1 to 21 are faults of the expression, 64 and above of the arguments. Some faults carry a number,
- * which stands in the field `detail` of what the call wrote. */
+/* A call answers with one of these. 1 to 21 are faults of the expression, 64 and above of the arguments. Some faults
+ * carry a number, in the field `detail` of the struct that the call wrote. */
 enum dwexpr_code {
     DWEXPR_OK = 0,
     DWEXPR_UNEXPECTED_EOF = 1,                  /* an operation is cut off */
     DWEXPR_BAD_UNSIGNED_LEB128 = 2,
     DWEXPR_BAD_SIGNED_LEB128 = 3,
-    DWEXPR_UNSUPPORTED_ADDRESS_SIZE = 4,        /* carries the size, none of 1, 2, 4 and 8 */
-    DWEXPR_UNSUPPORTED_OFFSET = 5,              /* an offset of more than 64 bits, of which there is none */
+    DWEXPR_UNSUPPORTED_ADDRESS_SIZE = 4,        /* carries the size, which isn't 1, 2, 4 or 8 */
+    DWEXPR_UNSUPPORTED_OFFSET = 5,              /* never answered: each offset has at most 64 bits */
     DWEXPR_UNSUPPORTED_REGISTER = 6,            /* carries the register, above 65535 */
-    DWEXPR_INVALID_EXPRESSION = 7,              /* carries the opcode, of which there is no operation */
+    DWEXPR_INVALID_EXPRESSION = 7,              /* carries the unknown opcode */
     DWEXPR_INVALID_PIECE_SIZE = 8,              /* carries the size in bytes */
     DWEXPR_UNSUPPORTED_TYPE_OPERATION = 9,
     DWEXPR_TYPE_MISMATCH = 10,
@@ -58,18 +58,19 @@ enum dwexpr_code {
     DWEXPR_TOO_MANY_ITERATIONS = 18,
     DWEXPR_INVALID_PIECE = 19,
     DWEXPR_INVALID_EXPRESSION_TERMINATOR = 20,  /* carries the place */
-    DWEXPR_STACK_FULL = 21,                     /* one of the lists below was full */
-    DWEXPR_BAD_ENCODING = 64,                   /* a number of the encoding is none of those allowed */
+    DWEXPR_STACK_FULL = 21,                     /* DWEXPR_MAX_* values, callers or pieces are there */
+    DWEXPR_BAD_ENCODING = 64,                   /* a number of the encoding isn't allowed */
     DWEXPR_BAD_OFFSET = 65,                     /* decode: there is no byte at the offset */
     DWEXPR_BAD_TEXT = 66,                       /* evaluate: no texts, or a step names one that isn't there */
-    DWEXPR_BAD_STEP = 67,                       /* evaluate: kind or type of a step is none, or its maximum too large */
+    DWEXPR_BAD_STEP = 67,                       /* evaluate: unknown step kind or value type, or a maximum of 2^32 or
+                                                   more */
     DWEXPR_MISPLACED = 68,                      /* evaluate: the step isn't allowed where it stands */
-    DWEXPR_LOST_TEXT = 69,                      /* resume: bytes of an earlier text are in none of those given now */
+    DWEXPR_LOST_TEXT = 69,                      /* resume: the texts lack bytes of an earlier one */
     DWEXPR_TOO_MANY_TEXTS = 70,                 /* run: more texts are called than there is room for */
     DWEXPR_BAD_VALUE = 71                       /* value: no such operation, type, byte order or mask */
 };
 
-/* How an expression is to be read: what its unit says. */
+/* How to read an expression, from the header of its unit. */
 typedef struct dwexpr_encoding {
     uint8_t address_size; /* bytes of an address: 1 to 8 */
     uint8_t offset_size;  /* bytes of an offset: 4 in the 32-bit format of DWARF, 8 in the 64-bit one */
@@ -139,7 +140,7 @@ enum dwexpr_operation_kind {
     DWEXPR_OP_VARIABLE_VALUE = 55      /* number: offset of an entry in .debug_info */
 };
 
-/* An operation. What its kind doesn't name is 0. */
+/* An operation. Fields that its kind doesn't name are 0. */
 typedef struct dwexpr_operation {
     size_t offset;            /* where it begins: the offset that was given */
     size_t size;              /* its bytes: the next one begins at offset + size; 0 if the code isn't 0 */
@@ -170,12 +171,12 @@ uint32_t dwexpr_decode(const uint8_t *bytes, size_t length, dwexpr_encoding enco
 
 /* ---------------------------------------------------------------- evaluation */
 
-/* An evaluation asks for what only its caller knows: a register, memory, the frame's base. dwexpr_evaluate keeps
- * nothing between calls. The caller keeps a list of steps, of which the first mostly is DWEXPR_EVALUATE; it adds its
- * answer to what was asked, and calls again with the longer list, until the evaluation is complete.
+/* An evaluation asks its caller for a register, memory, or the frame's base. dwexpr_evaluate keeps nothing between
+ * calls. The caller keeps a list of steps, whose first is mostly DWEXPR_EVALUATE. It adds its answer to each request,
+ * and calls again with the longer list, until the evaluation is complete.
  *
- * An expression of length 0 says of a variable that it was optimized away. It isn't to be evaluated, which would be
- * DWEXPR_NOT_ENOUGH_STACK_ITEMS; but a call may be answered by a text of length 0. */
+ * An empty expression means that the variable was optimized away: don't evaluate it, which would be
+ * DWEXPR_NOT_ENOUGH_STACK_ITEMS. An empty text is a valid answer to a call. */
 
 /* The most values, waiting callers and pieces that an evaluation holds. One more is DWEXPR_STACK_FULL. */
 #define DWEXPR_MAX_VALUES 64
@@ -247,12 +248,12 @@ enum dwexpr_request {
     DWEXPR_WANTS_WASM_STACK = 15    /* number: index */
 };
 
-/* What the steps came to. What the request doesn't name is 0. */
+/* What the steps led to. Fields that the request doesn't name are 0. */
 typedef struct dwexpr_outcome {
     uint32_t code;            /* what the call answered */
     uint32_t request;         /* DWEXPR_NOTHING, DWEXPR_COMPLETE or DWEXPR_WANTS_* */
     uint64_t detail;          /* the number that a fault carries */
-    size_t step;              /* if the code isn't 0, the step that ended the evaluation; later ones weren't read */
+    size_t step;              /* if the code isn't 0, the index of the step that ended it; later ones weren't read */
     uint64_t number;
     uint64_t base_type;       /* the type that the answer is to have: offset of its entry in the unit, 0 for generic */
     uint64_t space;
@@ -264,7 +265,7 @@ typedef struct dwexpr_outcome {
     size_t block_text;        /* the index of the text in which the block is */
     size_t block_offset;
     size_t block_length;
-    size_t pieces;            /* how many pieces a complete evaluation has, of which no more are written than fit */
+    size_t pieces;            /* how many pieces a complete evaluation has; no more are written than fit */
 } dwexpr_outcome;
 
 enum dwexpr_piece_kind {
@@ -276,7 +277,7 @@ enum dwexpr_piece_kind {
     DWEXPR_POINTS_INTO = 6          /* number: offset of an object's entry in .debug_info; byte_offset into it */
 };
 
-/* A part of a variable, or all of it. What its kind doesn't name is 0. */
+/* A part of a variable, or all of it. Fields that its kind doesn't name are 0. */
 typedef struct dwexpr_piece {
     uint32_t kind;
     uint32_t has_size;        /* 0: it is the whole variable */
@@ -291,8 +292,8 @@ typedef struct dwexpr_piece {
     size_t block_length;
 } dwexpr_piece;
 
-/* Evaluates texts[0] from nothing in the steps, one after another, and tells what the last of them answered. The first
- * step that is none, isn't allowed or meets a fault ends it, and is named by `step`.
+/* Evaluates texts[0] from the start in the steps, one after another, and tells what the last of them answered.
+ * Evaluation stops at the first step that is unknown, isn't allowed or meets a fault; `step` is its index.
  *
  * Answers 0; a fault; DWEXPR_BAD_ENCODING; or DWEXPR_BAD_TEXT to DWEXPR_MISPLACED. `outcome` is written in each case;
  * of `pieces` as many as fit are written once the evaluation is complete, and the others stay. */
@@ -302,8 +303,8 @@ uint32_t dwexpr_evaluate(const dwexpr_text *texts, size_t texts_length, dwexpr_e
 
 /* ---------------------------------------------------------------- an evaluation that is held */
 
-/* dwexpr_evaluate begins anew at each request. An evaluation that is held goes on: it is started once, and resumed with
- * each answer. It lies in memory of the caller's, and can be started again as often as there are expressions:
+/* dwexpr_evaluate begins anew at each request. An evaluation that is held goes on: start it once, and resume it with
+ * each answer. It lies in memory of the caller's, and can be started again for the next expression:
  *
  *     dwexpr_evaluation evaluation = {malloc(dwexpr_evaluation_size())};
  *     dwexpr_evaluation_begin(&evaluation);
@@ -311,7 +312,7 @@ uint32_t dwexpr_evaluate(const dwexpr_text *texts, size_t texts_length, dwexpr_e
  *     while (code == DWEXPR_OK && outcome.request != DWEXPR_COMPLETE)
  *         code = dwexpr_evaluation_resume(&evaluation, texts, 1, answer_to(&outcome), &outcome, pieces, 32);
  *
- * What a caller owes besides:
+ * The caller sees to these too:
  *   - the memory has dwexpr_evaluation_size() bytes, is aligned to 8, and is not moved;
  *   - `begin` is called once on it, before `start` and `resume`, and nothing else writes there;
  *   - one call at a time;
@@ -326,12 +327,11 @@ size_t dwexpr_evaluation_size(void);
 
 #define DWEXPR_EVALUATION_SIZE 4864
 
-/* Makes the memory an evaluation that can be started. */
+/* Makes an evaluation in the memory, which can then be started. */
 void dwexpr_evaluation_begin(dwexpr_evaluation *evaluation);
 
-/* Starts texts[0] in the steps, mostly settings and then DWEXPR_EVALUATE. It forgets what was started before. What it
- * answers and writes is what dwexpr_evaluate does; if that is DWEXPR_BAD_ENCODING, or DWEXPR_BAD_TEXT with `step` 0 and
- * no texts, the evaluation is as it was. */
+/* Starts texts[0] in the steps, mostly settings and then DWEXPR_EVALUATE. It forgets the expression before. It answers
+ * and writes the same as dwexpr_evaluate. If the encoding is bad or there are no texts, the evaluation is as it was. */
 uint32_t dwexpr_evaluation_start(dwexpr_evaluation *evaluation, const dwexpr_text *texts, size_t texts_length,
                                  dwexpr_encoding encoding, const dwexpr_step *steps, size_t steps_length,
                                  dwexpr_outcome *outcome, dwexpr_piece *pieces, size_t pieces_length);
@@ -347,12 +347,12 @@ uint32_t dwexpr_evaluation_resume(dwexpr_evaluation *evaluation, const dwexpr_te
 
 /* ---------------------------------------------------------------- values */
 
-/* What an evaluation does with values, each operation as a call: for who converts or compares values that an evaluation
- * gave. No evaluation needs it. */
+/* The operations of an evaluation on values, each as a call: to convert or compare values that it gave. No evaluation
+ * needs them. */
 typedef struct dwexpr_value {
     uint32_t value_type; /* DWEXPR_GENERIC to DWEXPR_U64; DWEXPR_NO_TYPE if a call gives no value */
-    uint64_t content;    /* of a value that is given the lowest bits, as many as its type has; one that is written is
-                            extended to 64 bits by its sign */
+    uint64_t content;    /* in an argument the lowest bits count, as many as its type has; a result is extended to 64
+                            bits by its sign */
 } dwexpr_value;
 
 /* An operation, by its kind: DWEXPR_OP_ABS, _NEG or _NOT of one value; of two, whose second was on top of the stack,
@@ -378,12 +378,12 @@ uint32_t dwexpr_value_parse(uint32_t value_type, const uint8_t *bytes, size_t le
 uint32_t dwexpr_type_bit_size(uint32_t value_type, uint64_t addr_mask);
 
 /* The type of an integer by DW_AT_encoding of its base type, 5 for signed and 7 for unsigned ones, and its size in
- * bytes; DWEXPR_NO_TYPE if it is none. */
+ * bytes; DWEXPR_NO_TYPE if there is no such type. */
 uint32_t dwexpr_type_from_encoding(uint8_t encoding, uint64_t byte_size);
 
 /* ---------------------------------------------------------------- blocks and names */
 
-/* The bytes of an operation's block; `bytes` are those that were decoded. */
+/* The bytes of an operation's block; `bytes` are those that dwexpr_decode was given. */
 static inline dwexpr_text dwexpr_operation_block(const dwexpr_operation *operation, const uint8_t *bytes)
 {
     dwexpr_text block = {operation->block_length ? bytes + operation->block_offset : NULL, operation->block_length};

@@ -10,7 +10,12 @@ of parts, each a text or a pair of a text and how often it stands. A row may say
 - `output_to`: `full`, a device on which every write fails, or `closed`, a pipe that nobody reads, with the signal of
   that ignored;
 - `megabytes`: how much memory the program may have;
-- `output_pattern`: a regular expression for all of the output, in place of it.
+- `output_pattern`: a regular expression for all of the output, in place of it;
+- `error`, or `error_pattern`: the same of standard error, which isn't looked at in a row that has neither;
+- `by`: the script of the repository that is run in place of the program.
+
+The rows of bin/dwexpr are run once more in a copy without the proved program. There it makes an unproved one, and
+keeps that.
 
 The last line is `N passed, M failed`; the status is 1 if a row failed.
 
@@ -23,17 +28,25 @@ import os
 import pathlib
 import re
 import resource
+import shutil
 import subprocess
 import sys
+import tempfile
 
 TOP = pathlib.Path(__file__).resolve().parent.parent
 ROWS = TOP / "tests" / "rows"
 BUILD = TOP / "bin" / "build"
 PROGRAM = TOP / "crates" / "dwexpr" / "out" / "dwexpr"
 SECONDS = 60
+# Of a row whose program may have to be built.
+BUILD_SECONDS = 600
 INPUTS = {"input", "input_hex", "input_from"}
 OUTPUTS = {"output", "output_pattern"}
-FIELDS = {"name", "words", "program", "status", "input_times", "output_to", "megabytes"} | INPUTS | OUTPUTS
+ERRORS = {"error", "error_pattern"}
+FIELDS = {"name", "words", "program", "by", "status", "input_times", "output_to", "megabytes"}
+FIELDS |= INPUTS | OUTPUTS | ERRORS
+# What bin/dwexpr and bin/build say of a program that isn't proved.
+UNPROVED = re.compile(rb"^bin/.*\n", re.MULTILINE)
 
 
 def rows_of(file):
@@ -109,44 +122,64 @@ def limit_of(row):
     return lambda: resource.setrlimit(resource.RLIMIT_AS, (size, size))
 
 
-def run(row):
+def run(row, top):
+    program = str(top / row["by"] if "by" in row else PROGRAM)
     with input_of(row) as source, output_of(row) as sink:
         return subprocess.run(
-            [bytes_of(row.get("program", str(PROGRAM))), *map(bytes_of, row["words"])],
-            executable=str(PROGRAM),
+            [bytes_of(row.get("program", program)), *map(bytes_of, row["words"])],
+            executable=program,
             **source,
             stdout=sink,
             stderr=subprocess.PIPE,
             preexec_fn=limit_of(row),
             # Python ignores SIGPIPE, and so does the program then: it has to see that its write failed.
             restore_signals=False,
-            timeout=SECONDS,
+            timeout=SECONDS if top == TOP else BUILD_SECONDS,
             check=False,
         )
 
 
-def is_wanted(row, printed):
-    if "output_pattern" in row:
-        return re.fullmatch(row["output_pattern"].encode("utf-8"), printed) is not None
-    return printed == bytes_of(row["output"])
+def is_wanted(row, field, printed):
+    """Whether what was printed is the row's text of a field, or matches its pattern."""
+    if f"{field}_pattern" in row:
+        return re.fullmatch(row[f"{field}_pattern"].encode("utf-8"), printed, re.DOTALL) is not None
+    return field not in row or printed == bytes_of(row[field])
 
 
-def complaints_of(row):
+def complaints_of(row, top=TOP):
     """What is wrong with the program's answer to a row: nothing, if it passes."""
     try:
-        ran = run(row)
+        ran = run(row, top)
     except subprocess.TimeoutExpired:
-        return [f"it had not ended after {SECONDS} seconds"]
+        return ["it had not ended in time"]
     complaints = []
-    printed = ran.stdout or b""
-    if not is_wanted(row, printed):
-        wanted = row["output_pattern"] if "output_pattern" in row else bytes_of(row["output"])[-200:]
-        complaints.append(f"it printed {printed[-200:]!r}, and {wanted!r} is wanted")
+    said = ran.stderr if top == TOP else UNPROVED.sub(b"", ran.stderr)
+    for field, printed in (("output", ran.stdout or b""), ("error", said)):
+        if not is_wanted(row, field, printed):
+            pattern = f"{field}_pattern"
+            wanted = row[pattern] if pattern in row else bytes_of(row[field])[-200:]
+            complaints.append(f"as its {field} it printed {printed[-200:]!r}, and {wanted!r} is wanted")
     if ran.returncode != row["status"]:
         complaints.append(f"it ended with status {ran.returncode}, and {row['status']} is wanted")
     if complaints and ran.stderr:
         complaints.append(f"to standard error it wrote {ran.stderr!r}")
     return complaints
+
+
+def unproved_complaints(rows):
+    """What is wrong with the answers of bin/dwexpr where there is no proved program: by each row's name."""
+    with tempfile.TemporaryDirectory() as folder:
+        top = pathlib.Path(folder)
+        for name in ("bin", "crates", "include"):
+            shutil.copytree(TOP / name, top / name, ignore=shutil.ignore_patterns("out"))
+        shutil.copy(TOP / "crates.txt", top)
+        kept = top / "crates/dwexpr/out/unproved/dwexpr"
+        complaints, built = {}, set()
+        for row in rows:
+            complaints[row["name"]] = complaints_of(row, top)
+            built |= {kept.stat().st_ctime_ns} if kept.exists() else set()
+        complaints["one build for all rows"] = [] if len(built) == 1 else [f"there were {len(built)}"]
+        return complaints
 
 
 def main():
@@ -156,17 +189,24 @@ def main():
         print(f"bin/build ended with status {built.returncode}, so no row was run")
         print("0 passed, 1 failed")
         return 1
-    passed = failed = 0
+    complaints = {}
+    by_script = []
     for file in sorted(ROWS.glob("*.json")):
         for row in rows_of(file):
             name = f"{file.stem}: {row['name']}"
             if wanted not in name:
                 continue
-            complaints = complaints_of(row)
-            passed += not complaints
-            failed += bool(complaints)
-            for complaint in complaints:
-                print(f"{name} ({' '.join(repr(bytes_of(word))[1:60] for word in row['words'])}): {complaint}")
+            words = " ".join(repr(bytes_of(word))[1:60] for word in row["words"])
+            complaints[f"{name} ({words})"] = complaints_of(row)
+            by_script += [row] if "by" in row else []
+    if by_script:
+        found = unproved_complaints(by_script)
+        complaints |= {f"bin/dwexpr, unproved: {name}": found[name] for name in found}
+    failed = sum(map(bool, complaints.values()))
+    passed = len(complaints) - failed
+    for name, said in complaints.items():
+        for complaint in said:
+            print(f"{name}: {complaint}")
     if passed + failed == 0:
         print("there are no rows")
         failed = 1

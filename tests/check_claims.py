@@ -1,11 +1,14 @@
 #!/usr/bin/env python3
-"""What README.md says of gdb and libdw is so.
+"""README.md and docs/GUIDE.md do what they say.
 
-An object file is made of two units by hand, one with addresses of 8 bytes and one of 4, whose variables have the
-expressions of `VARIABLES`. gdb prints each of them. The headers of libdw are searched for a call that evaluates.
+- Each command after a `$` prints the lines that follow it. `bin/test` is the gate itself, and isn't run.
+- Each program in C, a fence with a `main`, is built from a package by the command in front of it, in which DIR is the
+  package. It prints what the remarks after `printf` say. So does each program in Rust, with the crate of `bin/crate`.
+- What README.md says of gdb and libdw is so. gdb prints variables of a file that is made by hand, of two units, one
+  with addresses of 8 bytes and one of 4. The headers of libdw are searched for a call that evaluates.
 
-It wants cc for x86-64, the gdb that README.md names and the headers of libdw; what is missing is left out, and said so.
-The last line is `N passed, M failed`.
+It wants the program and the archive built, cc, pkg-config, cargo, the gdb that README.md names, and the headers of
+libdw. What is missing is left out, and said so. The last line is `N passed, M failed`.
 """
 
 import pathlib
@@ -17,6 +20,17 @@ import sys
 import tempfile
 
 TOP = pathlib.Path(__file__).resolve().parent.parent
+PAGES = {name: (TOP / name).read_text(encoding="utf-8") for name in ("README.md", "docs/GUIDE.md")}
+# A command and what it prints, up to an empty line or the next command.
+SESSION = re.compile(r"^    \$ (.+)\n((?:    (?!\$).+\n)*)", re.MULTILINE)
+GATE = "bin/test"
+# A fence that names no file, with all that is in it.
+FENCE = re.compile(r"^```(\w+)\n(.*?)^```$", re.MULTILINE | re.DOTALL)
+PRINTED = re.compile(r"print(?:f|ln!)\(.*;.*?(?:/\*|//) (.*?)(?: \*/)?$", re.MULTILINE)
+# The command that builds a program in C, by its last line.
+BUILD = re.compile(r"((?:^    .+\n)*^    cc program\.c .+\n)", re.MULTILINE)
+SECONDS = 600
+
 # By the size of an address: each variable's expression, and a pattern for what gdb prints, None if it doesn't end.
 VARIABLES = {
     8: {
@@ -30,12 +44,11 @@ VARIABLES = {
         "shifted": ("310e0100000001000000249f", r"\$1 = 2\n"),
     },
 }
-SECONDS = 60
 # How long an endless expression is waited for.
 PATIENCE = 5
 LIBDW = ["/usr/include/elfutils/libdw.h", "/usr/include/elfutils/libdwfl.h"]
 
-# A unit, a base type with its size and encoding, and a variable with its type and location (DWARF 4, section 7.5.3).
+# A unit, a base type with its encoding and size, and a variable with its type and location (DWARF 4, section 7.5.3).
 ABBREVIATIONS = """\
     .section .debug_abbrev
     .byte 1, 0x11, 1, 0x03, 0x08, 0, 0
@@ -64,9 +77,83 @@ VARIABLE = """\
     .long type{0} - begin{0} + 4
     .byte {2}
 """
+CARGO = """\
+[package]
+name = "program"
+version = "0.0.0"
+edition = "2024"
+
+[dependencies]
+dwexpr = {{ path = "{0}" }}
+
+[workspace]
+"""
+
+
+def run(words, folder=TOP, **more):
+    return subprocess.run(
+        words, cwd=folder, stdin=subprocess.DEVNULL, capture_output=True, text=True, timeout=SECONDS, check=False, **more
+    )
+
+
+def lacks(what, *tools):
+    """Whether a tool is missing, which is then said."""
+    missing = [tool for tool in tools if not shutil.which(tool)]
+    if missing:
+        print(f"left out: {what}: there is no {missing[0]}")
+    return bool(missing)
+
+
+def sessions():
+    """Each command prints what the page says."""
+    for page, text in PAGES.items():
+        for command, wanted in SESSION.findall(text):
+            if command == GATE:
+                continue
+            said = run(["bash", "-c", command]).stdout
+            good = said == re.sub(r"^    ", "", wanted, flags=re.MULTILINE)
+            yield None if good else f"{page}: `{command}` prints\n{said}"
+
+
+def programs(language, entry):
+    """Each program of a page in the language: the page, the text before it, the program, and what it is to print."""
+    for page, text in PAGES.items():
+        for fence in FENCE.finditer(text):
+            if fence[1] == language and entry in fence[2]:
+                yield page, text[: fence.start()], fence[2], "".join(line + "\n" for line in PRINTED.findall(fence[2]))
+
+
+def in_c():
+    """Each program in C prints what it says, if it is built from a package as the page says."""
+    if lacks("the programs in C", "cc", "pkg-config", "rt"):
+        return
+    with tempfile.TemporaryDirectory() as folder:
+        packed = run([TOP / "bin/package", "--prefix", f"{folder}/package"])
+        yield f"bin/package: {packed.stderr}" if packed.returncode else None
+        for page, before, program, wanted in programs("c", "int main("):
+            pathlib.Path(folder, "program.c").write_text(program)
+            command = BUILD.findall(before)[-1].replace("DIR", f"{folder}/package")
+            said = run(["bash", "-ec", f"{command}\n./a.out"], folder)
+            yield None if said.stdout == wanted else f"{page}: a program in C prints\n{said.stdout}{said.stderr}"
+
+
+def in_rust():
+    """Each program in Rust prints what it says."""
+    if lacks("the programs in Rust", "cargo", "rustfmt"):
+        return
+    with tempfile.TemporaryDirectory() as folder:
+        made = run([TOP / "bin/crate", f"{folder}/crate"])
+        yield f"bin/crate: {made.stdout}{made.stderr}" if made.returncode else None
+        pathlib.Path(folder, "src").mkdir()
+        pathlib.Path(folder, "Cargo.toml").write_text(CARGO.format(f"{folder}/crate"))
+        for page, _, program, wanted in programs("rust", "fn main("):
+            pathlib.Path(folder, "src/main.rs").write_text(program)
+            said = run(["cargo", "run", "--quiet", "--offline"], folder)
+            yield None if said.stdout == wanted else f"{page}: a program in Rust prints\n{said.stdout}{said.stderr}"
 
 
 def assembly():
+    """The source of the object file for gdb."""
     text = ABBREVIATIONS
     for size, variables in VARIABLES.items():
         entries = ""
@@ -77,7 +164,7 @@ def assembly():
     return text
 
 
-def printed(file, name, pattern):
+def is_printed(file, name, pattern):
     """Whether gdb prints this of a variable, or with no pattern goes on until it is interrupted."""
     words = ["gdb", "-q", "-nx", "-batch", "-ex", f"print {name}", file]
     with subprocess.Popen(words, stdout=subprocess.PIPE, stderr=subprocess.STDOUT, text=True) as ran:
@@ -90,27 +177,27 @@ def printed(file, name, pattern):
 
 
 def of_gdb():
-    for tool in ("cc", "gdb"):
-        if not shutil.which(tool):
-            print(f"left out: what gdb prints: there is no {tool}")
-            return
-    version = subprocess.run(["gdb", "--version"], capture_output=True, text=True, check=False).stdout.split("\n")[0]
-    named = re.search(r"gdb \d+\.\d+", (TOP / "README.md").read_text())[0]
-    if not version.endswith(named.removeprefix("gdb")):
-        print(f"left out: what gdb prints: {named} is named, and {version} is there")
+    """gdb prints what the table says."""
+    if lacks("what gdb prints", "cc", "gdb"):
+        return
+    version = run(["gdb", "--version"]).stdout.split("\n")[0]
+    named = re.search(r"gdb (\d+\.\d+)", PAGES["README.md"])[1]
+    if not version.endswith(f" {named}"):
+        print(f"left out: what gdb {named} prints: {version} is there")
         return
     with tempfile.TemporaryDirectory() as folder:
         source, made = pathlib.Path(folder, "units.s"), pathlib.Path(folder, "units.o")
         source.write_text(assembly())
-        if subprocess.run(["cc", "-c", source, "-o", made], capture_output=True, check=False).returncode:
+        if run(["cc", "-c", source, "-o", made]).returncode:
             print("left out: what gdb prints: cc isn't for x86-64")
             return
         for variables in VARIABLES.values():
             for name, (digits, pattern) in variables.items():
-                yield None if printed(made, name, pattern) else f"gdb prints something else for {digits}"
+                yield None if is_printed(made, name, pattern) else f"gdb prints something else for {digits}"
 
 
 def of_libdw():
+    """No call of libdw evaluates."""
     for header in LIBDW:
         if not pathlib.Path(header).exists():
             print(f"left out: the calls of libdw: there is no {header}")
@@ -120,7 +207,7 @@ def of_libdw():
 
 
 def main():
-    found = [*of_gdb(), *of_libdw()]
+    found = [*sessions(), *in_c(), *in_rust(), *of_gdb(), *of_libdw()]
     failed = [line for line in found if line]
     for line in failed:
         print(f"FAILED {line}")

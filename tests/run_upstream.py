@@ -5,8 +5,9 @@
 
 FOLDER holds the test modules of gimli 0.34.0, which are no part of this repository: of src/read/value.rs as
 `tests-part1.rs.txt`, and of src/read/op.rs as `tests-part2.rs.txt`. Their `use` lines are changed to name this crate,
-and nothing else but what is left out, by name below. A few lines stand in for the crate `test_assembler`, for
-`leb128::write`, and for a private function of gimli's.
+and nothing else but what is left out, by name below. If the copy of op.rs ends within its last test, the rest of that
+test isn't run either, and this is said. A few lines stand in for the crate `test_assembler`, for `leb128::write`, and
+for a private function of gimli's.
 
 The last line is `N passed, M failed`.
 """
@@ -174,6 +175,7 @@ def carried(text):
     """A test module in the form in which it runs here, and the names of its tests."""
     names = re.findall(r"#\[test\]\n(?: *#\[.*\]\n)* *fn (\w+)", text)
     if text.count("{") != text.count("}") and names[-1] == LAST[0]:
+        print(f"cut: {LAST[0]}: its copy ends within it")
         text = text[: text.index(LAST[1])] + "    }\n}\n"
     for name in LEFT_OUT.keys() & set(names):
         text = re.sub(rf"^    #\[test\]\n(?:    #\[.*\]\n)*    fn {name}\(.*?^    \}}\n", "", text, flags=re.M | re.S)

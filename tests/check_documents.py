@@ -4,14 +4,16 @@
 - docs/GLOSSARY.md is what `bin/glossary` makes of the comments under `specs/`, and each definition has one.
 - Each name in docs/DEFINITIONS.md is one of `specs/` (a file, a definition, a field, a constructor), a public one of
   `src/` (an item, a field, a variant, a method, a module), or a crate.
-- Each path in README.md, CONTRIBUTING.md, bench/README.md and docs/ leads to a file or folder of the repository; what
-  is built, gimli's files and the web aside.
+- Each path in README.md, CHANGELOG.md, CONTRIBUTING.md, SECURITY.md, bench/README.md and docs/ leads to a file or
+  folder of the repository; what is built, gimli's files and the web aside. Each link to a part of a page finds its
+  heading.
+- docs/GUIDE.md lists exactly the operations that are known. The lists' limits, the logic's sum and the ratios that
+  README.md names are those of include/dwexpr.h, docs/PROOFS.md and docs/SPEED.md.
 - Each block of README.md, docs/GUIDE.md and docs/PROOFS.md whose fence names a file is what stands in that file, byte
   for byte. docs/GUIDE.md has the loop over requests and its proof.
 - Each text that a wrong body takes away stands once in the file that it names. The gate tries few of them.
 
-What fails is printed, a line each. The last line is `N passed, M failed`, of the names, paths, blocks and wrong bodies;
-the status is 1 if one failed.
+It prints a line for each failure. The last line is `N passed, M failed`, and the status is 1 if one failed.
 """
 
 import fnmatch
@@ -23,13 +25,16 @@ import subprocess
 import sys
 
 TOP = pathlib.Path(__file__).resolve().parent.parent
+README = "README.md"
 DEFINITIONS = "docs/DEFINITIONS.md"
 GLOSSARY = "docs/GLOSSARY.md"
+PROOFS = "docs/PROOFS.md"
+SPEED = "docs/SPEED.md"
 # Folders of what is built or kept beside the repository, and no part of it; and those of a package.
 BESIDE = {"out", "build", "target", "__pycache__", ".git", "dist", "lib", "share"}
 # The pages whose blocks are compared with the files that they name.
-SHOWING = ["README.md", "docs/GUIDE.md", "docs/PROOFS.md"]
 GUIDE = "docs/GUIDE.md"
+SHOWING = [README, GUIDE, PROOFS]
 # What the guide has to show.
 SHOWN = {
     "crates/dwarf_example/src/requests.rt",
@@ -44,11 +49,26 @@ PATHS_ELSEWHERE = {
 
 QUOTED = re.compile(r"`([^`\n]+)`")
 LINK = re.compile(r"\]\(([^)#]+)")
+# A link to a part of a page: the page, which may be the same one, and the part.
+PART = re.compile(r"\]\(([^)#\s]*)#([^)\s]+)\)")
+HEADING = re.compile(r"^#+ (.*)$", re.MULTILINE)
+# Fences and blocks with an indent, in which nothing is a heading.
+CODE = re.compile(r"^```.*?^```$", re.MULTILINE | re.DOTALL)
 WORD = re.compile(r"[A-Za-z_][A-Za-z0-9_]*")
 # A path has a slash, or the ending of a file of the repository.
 PATH = re.compile(r"[\w.*/-]*(?:/[\w.*-]*|\.(?:rt|antt|edit|md|py|json|txt|rs|c|h))")
 # A block whose fence names a file after its language.
 BLOCK = re.compile(r"^```\w+ (\S+)\n(.*?)^```$", re.MULTILINE | re.DOTALL)
+
+# The name and number of an opcode's constant; a name or a range of names in a list of operations; an arm of the
+# decoder's table, by a number or a range of them.
+CONSTANT = re.compile(r"^pub const (DW_OP_\w+): DwOp = DwOp\(0x(\w\w)\)", re.MULTILINE)
+LISTED = re.compile(r"`(DW_OP_\w+?)(\d*)`(?: to `DW_OP_\w+?(\d+)`)?")
+ARM = re.compile(r"^        0x(\w\w)(?:\.\.=0x(\w\w))? => Entry::", re.MULTILINE)
+LIMITS = re.compile(r"(\d+)\s+values,\s+(\d+)\s+callers\s+and\s+(\d+)\s+pieces")
+LIMIT = re.compile(r"#define DWEXPR_MAX_(?:VALUES|CALLERS|PIECES) (\d+)")
+RATIO = re.compile(r"\b\d\.\d\d\b")
+LOGIC = re.compile(r"`([0-9a-f]{16})`")
 
 # A definition that other files see: `abbrev pub NAME`, `unfoldable pub NAME`, `pub data NAME`, `pub NAME : ..`; those
 # of a module within a file stand further in.
@@ -91,7 +111,7 @@ def folders():
 
 
 def documents():
-    pages = ("README.md", "CONTRIBUTING.md", "bench/README.md")
+    pages = (README, "CHANGELOG.md", "CONTRIBUTING.md", "SECURITY.md", "bench/README.md")
     return [name for name in files() if name in pages or name.startswith("docs/")]
 
 
@@ -161,6 +181,49 @@ def astray():
             yield f"{document} names {path}, which isn't there" if missing else None
 
 
+@functools.cache
+def parts(page):
+    """The names by which a link finds the headings of a page."""
+    words = (re.sub(r"[^\w\s-]", "", heading.lower()) for heading in HEADING.findall(CODE.sub("", read(page))))
+    return {re.sub(r"\s", "-", heading) for heading in words}
+
+
+def partless():
+    """Each link to a part of a page: that page has the heading."""
+    for document in documents():
+        for page, part in PART.findall(read(document)):
+            there = os.path.normpath(os.path.join(os.path.dirname(document), page)) if page else document
+            missing = there.endswith(".md") and part not in parts(there)
+            yield f"{document} links to {page}#{part}, which isn't there" if missing else None
+
+
+def operations():
+    """The operations that are known: those of the guide's list, of the constants and of the decoder's table."""
+    constants = dict(CONSTANT.findall(read("crates/dwarf_base/src/constants.rt")))
+    of_guide = read(GUIDE).split("\n## The operations\n")[1].split("\n## ")[0].split("\n\n`DW_OP")[0]
+    listed = []
+    for name, first, last in LISTED.findall(of_guide):
+        listed += [f"{name}{number}" for number in range(int(first), int(last) + 1)] if last else [name + first]
+    yield None if sorted(listed) == sorted(constants) else f"{GUIDE} lists other operations than are known"
+    arms = ARM.findall(read("crates/dwarf_op/src/opcodes.rt"))
+    numbers = [number for first, last in arms for number in range(int(first, 16), int(last or first, 16) + 1)]
+    same = sorted(numbers) == sorted(int(number, 16) for number in constants.values())
+    yield None if same else "the decoder's table has other opcodes than there are constants"
+
+
+def figures():
+    """Figures that a page takes from elsewhere: they are the same there."""
+    limits = tuple(LIMIT.findall(read("include/dwexpr.h")))
+    # SPEED.md names the lists of the benchmark.
+    for page in filter(SPEED.__ne__, documents()):
+        for named in LIMITS.findall(read(page)):
+            yield None if named == limits else f"{page} names the limits {named}, and they are {limits}"
+    logic = set(LOGIC.findall(read(PROOFS)))
+    yield None if logic == set(LOGIC.findall(read(README))) else f"{README} and {PROOFS} name different logics"
+    for ratio in RATIO.findall(read(README)):
+        yield None if ratio in RATIO.findall(read(SPEED)) else f"{README} names {ratio}, and {SPEED} doesn't"
+
+
 def shows(path, block):
     """Whether a block is what stands in the file: whole lines of it, and all of them if it is a proof."""
     if path not in files():
@@ -196,7 +259,7 @@ def stale():
 
 
 def main():
-    found = [*glossary(), *unknown(), *astray(), *changed(), *stale()]
+    found = [*glossary(), *unknown(), *astray(), *partless(), *operations(), *figures(), *changed(), *stale()]
     failed = [line for line in found if line]
     for line in failed:
         print(line)

@@ -7,8 +7,8 @@
 - What README.md says of gdb and libdw is so. gdb prints variables of a file that is made by hand, of two units, one
   with addresses of 8 bytes and one of 4. The headers of libdw are searched for a call that evaluates.
 
-It wants the program and the archive built, cc, pkg-config, cargo, the gdb that README.md names, and the headers of
-libdw. What is missing is left out, and said so. The last line is `N passed, M failed`.
+It wants the program and the archive built, cc, pkg-config, rustc, rustfmt, the gdb that README.md names, and the
+headers of libdw. What is missing is left out, and said so. The last line is `N passed, M failed`.
 """
 
 import pathlib
@@ -77,17 +77,6 @@ VARIABLE = """\
     .long type{0} - begin{0} + 4
     .byte {2}
 """
-CARGO = """\
-[package]
-name = "program"
-version = "0.0.0"
-edition = "2024"
-
-[dependencies]
-dwexpr = {{ path = "{0}" }}
-
-[workspace]
-"""
 
 
 def run(words, folder=TOP, **more):
@@ -139,16 +128,19 @@ def in_c():
 
 def in_rust():
     """Each program in Rust prints what it says."""
-    if lacks("the programs in Rust", "cargo", "rustfmt"):
+    if lacks("the programs in Rust", "rustc", "rustfmt"):
         return
     with tempfile.TemporaryDirectory() as folder:
         made = run([TOP / "bin/crate", f"{folder}/crate"])
         yield f"bin/crate: {made.stdout}{made.stderr}" if made.returncode else None
-        pathlib.Path(folder, "src").mkdir()
-        pathlib.Path(folder, "Cargo.toml").write_text(CARGO.format(f"{folder}/crate"))
+        # Without Cargo, which would look for the crates of the features.
+        words = ["rustc", "--edition", "2024"]
+        built = run([*words, "--crate-type", "lib", "--crate-name", "dwexpr", "crate/src/lib.rs"], folder)
+        yield f"the crate by rustc: {built.stderr}" if built.returncode else None
         for page, _, program, wanted in programs("rust", "fn main("):
-            pathlib.Path(folder, "src/main.rs").write_text(program)
-            said = run(["cargo", "run", "--quiet", "--offline"], folder)
+            pathlib.Path(folder, "program.rs").write_text(program)
+            built = run([*words, "--extern", "dwexpr=libdwexpr.rlib", "program.rs"], folder)
+            said = built if built.returncode else run(["./program"], folder)
             yield None if said.stdout == wanted else f"{page}: a program in Rust prints\n{said.stdout}{said.stderr}"
 
 

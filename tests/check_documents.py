@@ -218,6 +218,8 @@ def figures():
     for page in filter(SPEED.__ne__, documents()):
         for named in LIMITS.findall(read(page)):
             yield None if named == limits else f"{page} names the limits {named}, and they are {limits}"
+    size = re.search(r"#define DWEXPR_EVALUATION_SIZE (\d+)", read("include/dwexpr.h"))[1]
+    yield None if f"at most {int(size):,} bytes" in read(GUIDE) else f"{GUIDE} names another size of an evaluation"
     logic = set(LOGIC.findall(read(PROOFS)))
     yield None if logic == set(LOGIC.findall(read(README))) else f"{README} and {PROOFS} name different logics"
     for ratio in RATIO.findall(read(README)):

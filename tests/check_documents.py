@@ -7,8 +7,8 @@
 - Each path in README.md, CHANGELOG.md, CONTRIBUTING.md, SECURITY.md, bench/README.md and docs/ leads to a file or
   folder of the repository; what is built, gimli's files and the web aside. Each link to a part of a page finds its
   heading.
-- docs/GUIDE.md lists exactly the operations that are known. The lists' limits, the logic's sum and the ratios that
-  README.md names are those of include/dwexpr.h, docs/PROOFS.md and docs/SPEED.md.
+- docs/GUIDE.md lists exactly the operations that are known. The number of faults, the limits of the archive's lists,
+  the size of an evaluation there, the logic's sum and README.md's ratios are those of the sources and docs/SPEED.md.
 - Each block of README.md, docs/GUIDE.md and docs/PROOFS.md whose fence names a file is what stands in that file, byte
   for byte. docs/GUIDE.md has the loop over requests and its proof.
 - Each text that a wrong body takes away stands once in the file that it names. The gate tries few of them.
@@ -66,6 +66,7 @@ CONSTANT = re.compile(r"^pub const (DW_OP_\w+): DwOp = DwOp\(0x(\w\w)\)", re.MUL
 LISTED = re.compile(r"`(DW_OP_\w+?)(\d*)`(?: to `DW_OP_\w+?(\d+)`)?")
 ARM = re.compile(r"^        0x(\w\w)(?:\.\.=0x(\w\w))? => Entry::", re.MULTILINE)
 LIMITS = re.compile(r"(\d+)\s+values,\s+(\d+)\s+callers\s+and\s+(\d+)\s+pieces")
+FAULTS = re.compile(r"\b(\d+)\s+(?:faults|errors)\b")
 LIMIT = re.compile(r"#define DWEXPR_MAX_(?:VALUES|CALLERS|PIECES) (\d+)")
 RATIO = re.compile(r"\b\d\.\d\d\b")
 LOGIC = re.compile(r"`([0-9a-f]{16})`")
@@ -218,6 +219,11 @@ def figures():
     for page in filter(SPEED.__ne__, documents()):
         for named in LIMITS.findall(read(page)):
             yield None if named == limits else f"{page} names the limits {named}, and they are {limits}"
+    body = dict(OPENED.findall(read("crates/dwarf_base/src/errors.rt")))["enum"]
+    faults = str(len(INSIDE["enum"][0].findall(body)))
+    for page in documents():
+        for named in FAULTS.findall(read(page)):
+            yield None if named == faults else f"{page} names {named} faults, and there are {faults}"
     size = re.search(r"#define DWEXPR_EVALUATION_SIZE (\d+)", read("include/dwexpr.h"))[1]
     yield None if f"at most {int(size):,} bytes" in read(GUIDE) else f"{GUIDE} names another size of an evaluation"
     logic = set(LOGIC.findall(read(PROOFS)))

@@ -24,6 +24,7 @@ PAGES = {name: (TOP / name).read_text(encoding="utf-8") for name in ("README.md"
 # A command and what it prints, up to an empty line or the next command.
 SESSION = re.compile(r"^    \$ (.+)\n((?:    (?!\$).+\n)*)", re.MULTILINE)
 GATE = "bin/test"
+ARCHIVE = TOP / "crates/dwexpr_c/out/libdwexpr_c.a"
 # A fence that names no file, with all that is in it.
 FENCE = re.compile(r"^```(\w+)\n(.*?)^```$", re.MULTILINE | re.DOTALL)
 PRINTED = re.compile(r"print(?:f|ln!)\(.*;.*?(?:/\*|//) (.*?)(?: \*/)?$", re.MULTILINE)
@@ -79,10 +80,12 @@ VARIABLE = """\
 """
 
 
-def run(words, folder=TOP, **more):
-    return subprocess.run(
-        words, cwd=folder, stdin=subprocess.DEVNULL, capture_output=True, text=True, timeout=SECONDS, check=False, **more
-    )
+def run(words, folder=TOP):
+    given = {"cwd": folder, "stdin": subprocess.DEVNULL, "capture_output": True, "text": True, "timeout": SECONDS}
+    try:
+        return subprocess.run(words, check=False, **given)
+    except subprocess.TimeoutExpired as error:
+        return subprocess.CompletedProcess(words, 1, "", str(error))
 
 
 def lacks(what, *tools):
@@ -115,6 +118,9 @@ def programs(language, entry):
 def in_c():
     """Each program in C prints what it says, if it is built from a package as the page says."""
     if lacks("the programs in C", "cc", "pkg-config", "rt"):
+        return
+    if not ARCHIVE.exists():
+        print("left out: the programs in C: the archive isn't built")
         return
     with tempfile.TemporaryDirectory() as folder:
         packed = run([TOP / "bin/package", "--prefix", f"{folder}/package"])

@@ -6,4 +6,3 @@ pub mod Settings
 pub mod Standings
 pub mod Telling
 pub mod Turns
-pub mod WaitingKinds

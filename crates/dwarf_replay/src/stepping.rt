@@ -1,5 +1,3 @@
-ghost use Rattle.std.specs.Prelude.{◌≡◌, ◌↔◌, true};
-ghost use Rattle.dwarf_eval.specs.Permits.{IsOpenFor};
 ghost use Rattle.dwarf_meaning.specs.Steps as meaning;
 ghost use Rattle.dwarf_replay.specs.Stepping.{IsStepped, step_of};
 
@@ -38,21 +36,6 @@ fn try_evaluate<R: Reader + Copy, S: EvaluationStorage<R>>(
     }
 }
 
-/// Whether an answer of this kind may come now.
-fn awaits<R: Reader + Copy, S: EvaluationStorage<R>>(
-    eval: &Evaluation<R, S>,
-    kind: WaitingKind,
-) -> bool
-    ensures { (result ≡ true) ↔ IsOpenFor kind eval.now.status }
-{
-    match eval.status() {
-        Status::Start { initial: _ } => false,
-        Status::Waiting(awaited) => awaited == kind,
-        Status::Complete => false,
-        Status::Failed(_) => true,
-    }
-}
-
 /// Takes one step of an evaluation, if it is allowed (DWARF 5, section 2.5).
 ///
 /// `Misplaced`: it isn't allowed where the evaluation stands, and nothing is changed. `Set`: the setting holds from now
@@ -75,40 +58,40 @@ pub fn take_step<R: Reader + Copy, S: EvaluationStorage<R>>(
             Stepped::Set
         }
         Step::Evaluate => try_evaluate(eval),
-        Step::Memory(value) if awaits(eval, WaitingKind::Memory) => {
+        Step::Memory(value) if eval.is_open_for(WaitingKind::Memory) => {
             Stepped::Answered(Answer(eval.resume_with_memory(value)))
         }
-        Step::Register(value) if awaits(eval, WaitingKind::Register) => {
+        Step::Register(value) if eval.is_open_for(WaitingKind::Register) => {
             Stepped::Answered(Answer(eval.resume_with_register(value)))
         }
-        Step::WasmValue(value) if awaits(eval, WaitingKind::WasmValue) => {
+        Step::WasmValue(value) if eval.is_open_for(WaitingKind::WasmValue) => {
             Stepped::Answered(Answer(eval.resume_with_wasm_value(value)))
         }
-        Step::EntryValue(value) if awaits(eval, WaitingKind::EntryValue) => {
+        Step::EntryValue(value) if eval.is_open_for(WaitingKind::EntryValue) => {
             Stepped::Answered(Answer(eval.resume_with_entry_value(value)))
         }
-        Step::FrameBase(frame_base) if awaits(eval, WaitingKind::FrameBase) => {
+        Step::FrameBase(frame_base) if eval.is_open_for(WaitingKind::FrameBase) => {
             Stepped::Answered(Answer(eval.resume_with_frame_base(frame_base)))
         }
-        Step::Tls(address) if awaits(eval, WaitingKind::Tls) => {
+        Step::Tls(address) if eval.is_open_for(WaitingKind::Tls) => {
             Stepped::Answered(Answer(eval.resume_with_tls(address)))
         }
-        Step::CallFrameCfa(address) if awaits(eval, WaitingKind::CallFrameCfa) => {
+        Step::CallFrameCfa(address) if eval.is_open_for(WaitingKind::CallFrameCfa) => {
             Stepped::Answered(Answer(eval.resume_with_call_frame_cfa(address)))
         }
-        Step::ParameterRef(number) if awaits(eval, WaitingKind::ParameterRef) => {
+        Step::ParameterRef(number) if eval.is_open_for(WaitingKind::ParameterRef) => {
             Stepped::Answered(Answer(eval.resume_with_parameter_ref(number)))
         }
-        Step::RelocatedAddress(address) if awaits(eval, WaitingKind::RelocatedAddress) => {
+        Step::RelocatedAddress(address) if eval.is_open_for(WaitingKind::RelocatedAddress) => {
             Stepped::Answered(Answer(eval.resume_with_relocated_address(address)))
         }
-        Step::IndexedAddress(number) if awaits(eval, WaitingKind::IndexedAddress) => {
+        Step::IndexedAddress(number) if eval.is_open_for(WaitingKind::IndexedAddress) => {
             Stepped::Answered(Answer(eval.resume_with_indexed_address(number)))
         }
-        Step::AtLocation(callee) if awaits(eval, WaitingKind::AtLocation) => {
+        Step::AtLocation(callee) if eval.is_open_for(WaitingKind::AtLocation) => {
             Stepped::Answered(Answer(eval.resume_with_at_location(callee)))
         }
-        Step::BaseType(base_type) if awaits(eval, WaitingKind::BaseType) => {
+        Step::BaseType(base_type) if eval.is_open_for(WaitingKind::BaseType) => {
             Stepped::Answered(Answer(eval.resume_with_base_type(base_type)))
         }
         _ => Stepped::Misplaced,

@@ -1,4 +1,4 @@
-ghost use Rattle.std.specs.Prelude.{◌≡◌, ◌<◌, ◌≤◌, [], None, Some, IfOk, map, true, false};
+ghost use Rattle.std.specs.Prelude.{◌≡◌, ◌<◌, ◌≤◌, [], None, Some, IfOk, map, true, ◌↔◌};
 ghost use Rattle.dwarf_meaning.specs.declared.kinds.WaitingKind.TheVariants as kind;
 ghost use Rattle.dwarf_meaning.specs.Kinds.{kind_of_answer};
 ghost use Rattle.dwarf_meaning.specs.Requests as requests;
@@ -117,8 +117,7 @@ impl<R: Reader + Copy, S: EvaluationStorage<R>> Evaluation<R, S> {
     /// fault. It costs less than [`status`](Self::status).
     #[inline(always)]
     pub fn is_open_for(&self, kind: WaitingKind) -> bool
-        ensures open { result ≡ true → IsOpenFor kind self.now.status }
-        ensures closed { result ≡ false → IsOpenFor kind self.now.status → ⊥ }
+        ensures { (result ≡ true) ↔ IsOpenFor kind self.now.status }
     {
         match self.machine.state() {
             EvaluationState::Replied(replied) => kind_of(replied) == Some(kind),

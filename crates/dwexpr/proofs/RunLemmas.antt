@@ -1,6 +1,6 @@
 -- What is printed of an evaluation that was replayed is what its steps come to.
-use Rattle.std.proofs.Common.{◌≡◌, ◌⊎◌, inl, inr, ℕ, zero, suc, List, [], ◌∷◌, take, Option, Some, None, refl, ◌∙◌, ap, sym, subst, length, ◌<◌, ◌^◌, arith, ap₂, Result, Ok, Err, Bool}
-use Rattle.std.proofs.lemmas.List.{length-map, take_all}
+use Rattle.std.proofs.Common.{◌≡◌, ◌⊎◌, inl, inr, ℕ, zero, suc, List, [], ◌∷◌, ◌++◌, take, Option, Some, None, refl, ◌∙◌, ap, sym, subst, length, ◌<◌, ◌^◌, arith, ap₂, Result, Ok, Err, Bool}
+use Rattle.std.proofs.lemmas.List.{append_assoc, append_cancel_left, length-map, take_all}
 use Rattle.std.proofs.lemmas.Option.{slice_get_within, slice_get_past}
 use Rattle.std.specs.Prelude.{slice_get}
 use Rattle.dwarf_replay.specs.Stepping.{step_of}
@@ -15,13 +15,13 @@ use Rattle.dwarf_meaning.specs.Rest.{State, Status, Start, Running, RequestStatu
 use Rattle.dwarf_meaning.specs.Stores.{Setup}
 use Rattle.dwarf_meaning.specs.Refusals.{Refusal}
 use Rattle.dwarf_meaning.specs.Steps as meaning
-use Rattle.dwarf_meaning.specs.Steps.{Allows, AllAllowed, AreDone, Told, after_step, after_steps, outcome_of, untold}
-use Rattle.dwarf_replay.specs.Replays.{IsInRequest, IsInFault, Replays, StandsAt, replies_in, steps_of, told_at}
+use Rattle.dwarf_meaning.specs.Steps.{Allows, AllAllowed, AreDone, Reply, Told, after_step, after_steps, outcome_of, replies_of, step_replies, untold}
+use Rattle.dwarf_replay.specs.Replays.{IsInRequest, IsInFault, Replays, StandsAt, replies_in, reply_in, steps_of, told_at}
 use Rattle.dwarf_replay.specs.declared.steps.Answer.{Answer}
 use Rattle.dwarf_replay.specs.declared.steps.Replayed.{Replayed}
 use Rattle.dwarf_replay.specs.declared.steps.Replayed.TheVariants as replayed
 use Rattle.dwarf_replay.specs.declared.steps.Step.{Step}
-use Rattle.dwexpr.specs.Evaluates.{EndsAt, all_done, not_allowed, without_memory, EvaluatesSteps, EvaluatesSaid, after_replies, outcome_ending, bad_steps}
+use Rattle.dwexpr.specs.Evaluates.{EndsAt, HasReply, all_done, not_allowed, without_memory, EvaluatesSteps, EvaluatesSaid, after_replies, outcome_ending, bad_steps}
 use Rattle.dwexpr.specs.Steps.{ReadsSteps}
 use Rattle.dwexpr.specs.declared.steps.StepsFault.{StepsFault}
 use Rattle.dwexpr.specs.declared.steps.StepsFault.TheVariants as fault
@@ -64,6 +64,27 @@ allowed_at setup refusal text told (first ∷ steps) (suc index) step e h =
     let later = allowed_at setup refusal text (after_step setup refusal text told first) steps index step e h.1 in
     ((h.0, later.0), later.1)
 
+-- a step after which there is one reply more is one that replies
+replied_at : (setup : Setup) (refusal : Refusal) (text : Text) (told : Told) (steps : List meaning.Step) (index : ℕ) (step : meaning.Step) (answer : Reply)
+    → slice_get steps index ≡ Some step
+    → replies_of setup refusal text told (take index steps) ++ answer ∷ [] ≡ replies_of setup refusal text told (take (suc index) steps)
+    → HasReply step
+replied_at setup refusal text told [] index step answer e h = absurd (cc)
+replied_at setup refusal text told (first ∷ steps) zero step answer e h = subst HasReply (cc) (of_first first h)
+  where
+    of_first : (s : meaning.Step) → answer ∷ [] ≡ step_replies s (outcome_of setup refusal text (after_step setup refusal text told s)) ++ []
+        → HasReply s
+    of_first meaning.Evaluate h = tt
+    of_first (meaning.Resume a) h = tt
+    of_first (meaning.InitialValue n) h = absurd (cc)
+    of_first (meaning.ObjectAddress n) h = absurd (cc)
+    of_first (meaning.MaxIterations n) h = absurd (cc)
+replied_at setup refusal text told (first ∷ steps) (suc index) step answer e h =
+    let now = after_step setup refusal text told first in
+    let replied = step_replies first (outcome_of setup refusal text now) in
+    replied_at setup refusal text now steps index step answer e
+    (append_cancel_left replied _ _ (sym (append_assoc replied _ _) ∙ h))
+
 pub evaluates_to : {R O P : Type 0} (text : R → Text) (number : O → ℕ) (limit : Option ℕ) (old new : State) (steps : List (Step R))
     (given : List (Answer R O P)) (ended : Replayed R O P) → Replays text number limit old steps given new ended
     → EvaluatesSteps old.setup old.text (told_at old) (steps_of text steps) (after_replies (replies_in text number given) (ending_of new ended))
@@ -100,6 +121,8 @@ evaluates_to text number limit old new steps given (replayed.NoRoom index answer
     let refusal = w.walks.refusal in
     let now = after_steps old.setup refusal old.text (told_at old) (take index (steps_of text steps)) in
     let allowed = allowed_at old.setup refusal old.text (told_at old) (steps_of text steps) index w.inside.0 w.inside.1 w.walks.tells.allowed in
+    let replied = replied_at old.setup refusal old.text (told_at old) (steps_of text steps) index w.inside.0 (reply_in text number answer) w.inside.1
+    (ap (λ z. z ++ reply_in text number answer ∷ []) (sym w.before) ∙ w.walks.tells.replies_are) in
     record {
       refusal = refusal;
       index = index;
@@ -108,7 +131,7 @@ evaluates_to text number limit old new steps given (replayed.NoRoom index answer
       done = record { allowed = allowed.0; replies_are = w.before; told_is = refl };
       last = no_memory;
       ends =
-          subst (λ z. EndsAt index now (outcome_of old.setup refusal old.text now) z no_memory) (sym w.inside.1) (without_memory allowed.1);
+          subst (λ z. EndsAt index now (outcome_of old.setup refusal old.text now) z no_memory) (sym w.inside.1) (without_memory allowed.1 replied);
       ending_is = refl;
     }
 

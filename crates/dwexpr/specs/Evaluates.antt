@@ -4,7 +4,7 @@ use Rattle.dwarf_base.specs.declared.common.Encoding.{Encoding}
 use Rattle.dwarf_base.specs.Reads.{Text}
 use Rattle.dwarf_meaning.specs.Stores.{Setup}
 use Rattle.dwarf_meaning.specs.Meaning.{Outcome, RequestOutcome, FaultOutcome, CompleteOutcome}
-use Rattle.dwarf_meaning.specs.Steps.{Step, Told, Reply, Allows, AreDone, outcome_of, untold}
+use Rattle.dwarf_meaning.specs.Steps.{Step, Evaluate, Resume, Told, Reply, Allows, AreDone, outcome_of, untold}
 use Rattle.dwarf_meaning.specs.Refusals.{Refusal}
 use Rattle.dwexpr_text.specs.Lines.{reply_lines}
 use Rattle.dwexpr.specs.declared.steps.StepsFault.{StepsFault}
@@ -29,11 +29,18 @@ outcome_ending (Some (CompleteOutcome pieces value)) = complete_ending pieces va
 abbrev pub after_replies : List Reply → Ending → Ending
 after_replies replies ending = record ending { text = reply_lines replies ++ ending.text }
 
+-- the call of this step replies
+abbrev pub HasReply : Step → Type 0
+HasReply Evaluate = Unit {0}
+HasReply (Resume answer) = Unit {0}
+HasReply _ = ⊥
+
 -- how it ends, by the step that comes next: there is none; it isn't allowed; or there was no memory for its reply
 pub data EndsAt (index : ℕ) (now : Told) (outcome : Option Outcome) : (next : Option Step) → Ending → Type 0 where
   all_done : EndsAt index now outcome None (outcome_ending outcome)
   not_allowed : {step : Step} → (Allows now outcome step → ⊥) → EndsAt index now outcome (Some step) (misplaced index)
-  without_memory : {step : Step} → Allows now outcome step → EndsAt index now outcome (Some step) no_memory
+  without_memory : {step : Step} → Allows now outcome step → HasReply step
+      → EndsAt index now outcome (Some step) no_memory
 
 -- the steps before some index were done, for some push that memory was refused to, or for none, and it ended there
 pub record EvaluatesSteps (setup : Setup) (text : Text) (told : Told) (steps : List Step) (ending : Ending)

@@ -1,0 +1,263 @@
+"""The tokens of a Rattle source, and which of them are Rust. `bin/crate` uses it."""
+
+import bisect
+import re
+
+# White space, a comment, a lifetime, a word or a number, or one sign.
+TOKEN = re.compile(r"\s+|//[^\n]*|'[a-z]\w*|\w+|.", re.DOTALL)
+# What may be left of code. No source has literals of text, so their signs aren't known.
+KNOWN = re.compile(r"'?\w+|[][(){}<>!#%&*+,./:;=?@^|-]", re.ASCII)
+KNOWN_ATTRIBUTE = re.compile(
+    r"#\[derive\(((Clone|Copy|Debug|Default|Eq|Hash|PartialEq)[,)])+\]"
+    r"|#\[(cold|inline|inline\(always\)|inline\(never\)|repr\(u8\))\]|#!\[allow\(non_upper_case_globals\)\]"
+)
+KNOWN_MACROS = {"matches", "unreachable"}
+CLOSING = {"(": ")", "[": "]", "{": "}"}
+
+
+class Refused(Exception):
+    """Something in a source that isn't known."""
+
+
+def split(text):
+    """The tokens of a text, without the white space."""
+    return [token for token in TOKEN.findall(text) if not token.isspace()]
+
+
+def is_comment(token):
+    return token.startswith("//")
+
+
+class Source:
+    """The tokens of a file, each of which is kept, deleted, or replaced by other text.
+
+    Most calls take places: indices into the tokens of code that were left when `settle` was called.
+    """
+
+    def __init__(self, path, text):
+        self.path = path
+        self.tokens = TOKEN.findall(text)
+        self.changed = {}  # the text in a token's place, by its index; none if it is deleted
+        self.conditions = []  # the name of each public function that has a precondition, and the precondition
+        self.settle()
+        self.partners = {}  # the index of the bracket that closes, by that of the one that opens
+        opened = []
+        for at, index in enumerate(self.code):
+            if self.word(at) in CLOSING:
+                opened.append(at)
+            elif self.word(at) in CLOSING.values():
+                self.want(opened and CLOSING[self.word(opened[-1])] == self.word(at), at, "this bracket isn't open")
+                self.partners[self.code[opened.pop()]] = index
+        self.want(not opened, (opened or [0])[-1], "this bracket isn't closed")
+
+    def settle(self):
+        """Takes places anew, after tokens were deleted or replaced."""
+        tokens = enumerate(self.tokens)
+        self.code = [i for i, token in tokens if i not in self.changed and not token.isspace() and not is_comment(token)]
+
+    def word(self, at):
+        """The token at a place, or an empty one outside of the file."""
+        return self.tokens[self.code[at]] if 0 <= at < len(self.code) else ""
+
+    def words(self, first, last):
+        return [self.word(at) for at in range(first, last + 1)]
+
+    def find(self, word, at):
+        """The next place of a word."""
+        while self.word(at) != word:
+            self.want(self.word(at), at - 1, f"no `{word}` follows")
+            at += 1
+        return at
+
+    def close(self, at):
+        """Where the bracket closes that opens here."""
+        return bisect.bisect_left(self.code, self.partners[self.code[at]])
+
+    def begin(self, at):
+        """Where the item begins whose keyword is here: at its visibility, if it has one."""
+        if self.words(at - 4, at - 1) == ["pub", "(", "crate", ")"]:
+            return at - 4
+        return at - (self.word(at - 1) == "pub")
+
+    def want(self, holds, at, why):
+        """Refuses the source if something doesn't hold at a place."""
+        if not holds:
+            index = self.code[min(at, len(self.code) - 1)]
+            line = 1 + "".join(self.tokens[:index]).count("\n")
+            raise Refused(f"{self.path}:{line}: {why}: `{self.tokens[index]}`")
+
+    # Changes.
+
+    def replace(self, first, last, text):
+        """Puts text in the place of code; gives the place after it."""
+        self.changed.update(dict.fromkeys(range(self.code[first], self.code[last] + 1), ""))
+        self.changed[self.code[first]] = text
+        return last + 1
+
+    def delete(self, first, last, above="//"):
+        """Deletes code, and the comments in the lines right above it that begin so; gives the place after it."""
+        index = self.code[first]
+        while above and (comment := self.comment_above(index)):
+            self.want(above == "///" or not comment.startswith("///"), first, "docs of what isn't Rust")
+            index -= 2
+        self.changed.update(dict.fromkeys(range(index, self.code[first]), ""))
+        return self.replace(first, last, "")
+
+    def comment_above(self, index):
+        """The comment in the line above a token, if it isn't the file's own."""
+        *_, before, comment, space = ["", "", "\n", *self.tokens[max(index - 3, 0) : index]]
+        is_line = is_comment(comment) and "\n" in before and space.count("\n") == 1
+        return comment if is_line and not comment.startswith("//!") else ""
+
+    def replace_each(self, old, new):
+        """Replaces each run of these tokens, or deletes it with its comments if there are no new ones; gives how many."""
+        wanted = split(old)
+        block = wanted[-1] == "_" and wanted.pop()  # FIXME until the sources change
+        places = [at for at, index in enumerate(self.code) if self.tokens[index] == wanted[0]]
+        places = [at for at in places if self.words(at, at + len(wanted) - 1) == wanted]
+        for at in places:
+            last = at + len(wanted) - 1
+            within = self.tokens[self.code[at] : self.code[last]]
+            if block:
+                last = self.close(last)
+                within = []
+            self.want(not any(map(is_comment, within)), at, "a comment within what a row replaces")
+            self.replace(at, last, new) if new else self.delete(at, last, above="///")
+        if places:
+            self.settle()
+        return len(places)
+
+    # What isn't Rust.
+
+    def delete_contracts(self):
+        """Deletes all that isn't Rust."""
+        forms = {
+            "ghost": self.ghost,
+            "requires": self.clause,
+            "ensures": self.clause,
+            "impl": self.model,
+            "#": self.attribute,
+            "final": self.final,
+            "Drop": self.bound,
+        }
+        at = 0
+        while at < len(self.code):
+            at = forms.get(self.word(at), lambda at: at + 1)(at)
+        self.settle()
+        for at, index in enumerate(self.code):
+            self.want(KNOWN.fullmatch(self.word(at)), at, "an unknown sign")
+            if self.tokens[index + 1 : index + 2] == ["!"] and self.word(at + 2) in CLOSING and self.word(at).isidentifier():
+                self.want(self.word(at) in KNOWN_MACROS, at, "an unknown macro")
+
+    def ghost(self, at):
+        if self.word(at + 1) == "use":
+            end = self.find(";", at)
+            is_known = re.fullmatch(r"ghost use [\w. ]+(\{[^{}]*\} )?;", " ".join(self.words(at, end)))
+        else:
+            is_known = re.fullmatch(r"ghost \w+ [:=] \{", " ".join(self.words(at, at + 3)))
+            end = self.close(at + 3) + 1 if is_known else at
+            is_known = self.word(end) in (";", ",")
+        self.want(is_known, at, "an unknown form of a ghost item")
+        return self.delete(self.begin(at), end)
+
+    def clause(self, at):
+        block = at + 1 if self.word(at + 1) == "{" else at + 2
+        self.want(self.word(block) == "{", at, "a clause without a block")
+        end = self.close(block)
+        self.want(self.word(end + 1) in ("requires", "ensures", "{", ";"), end + 1, "no body follows the clauses")
+        function = next(place for place in range(at, -2, -1) if self.word(place) in ("fn", ""))
+        if self.word(at) == "requires" and self.word(function - 1) == "pub":
+            self.conditions.append((self.word(function + 1), " ".join(self.words(block + 1, end - 1))))
+        return self.delete(at, end)
+
+    def model(self, at):
+        block = self.find("{", at)
+        head = self.words(at, block)
+        if "Model" not in head:
+            return at + 1
+        self.want(head[head.index("Model") + 1] == "for", at, "an unknown form of `impl`")
+        return self.delete(at, self.close(block))
+
+    def attribute(self, at):
+        end = self.close(self.find("[", at))
+        text = "".join(self.words(at, end))
+        if re.match(r"#!?\[tactic\(", text) or text == "#[derive(Drop)]":
+            return self.delete(at, end, above="")
+        self.want(KNOWN_ATTRIBUTE.fullmatch(text), at, f"the unknown attribute {text}")
+        return end + 1
+
+    def final(self, at):
+        self.want(self.word(at + 1) == "fn", at, "no function")
+        return self.delete(at, at, above="")
+
+    def bound(self, at):
+        if self.word(at - 1) in ("{", ",") or self.word(at - 2) == ":":
+            return at + 1  # the operation
+        self.want(self.word(at - 1) == ":" and self.word(at + 1) == "{", at, "an unknown form of a bound")
+        return self.delete(at - 1, at, above="")
+
+    def does_nothing(self):
+        """Whether only functions that do nothing are left, and what they use."""
+        text = re.sub(r"use [^;]*;", "", " ".join(self.words(0, len(self.code) - 1)))
+        return not re.sub(r"pub fn \w+ (< [^()]* > )?\( \) \{ \}", "", text).strip()
+
+    def forget(self, module, left_out):
+        """Deletes what names modules that are left out, or laws by their names. `module` is this one's place."""
+        bases = {"crate": module.partition("/")[0], "super": module.rpartition("/")[0]}
+        for at in range(len(self.code)):
+            if self.word(at) not in ("mod", "use"):
+                continue
+            end = self.find(";", at)
+            root, *path = "".join(self.words(at + 1, end - 1)).partition("::{")[0].split("::")
+            path = "/".join([bases.get(root, f"{module}/{root}"), *path, ""])
+            if any(path.startswith(f"{place}/") for place in left_out):
+                self.delete(self.begin(at), end)
+                continue
+            for name in range(at, end):
+                if self.word(name).endswith("_laws"):
+                    self.delete(name, name + (self.word(name + 1) == ","), above="")
+        self.settle()
+
+    # What is left.
+
+    def left(self):
+        """The texts that are left, in order."""
+        return [self.changed.get(index, token) for index, token in enumerate(self.tokens)]
+
+    def text(self):
+        """What is left as one text. Of the white space around what was deleted, that with more lines stays."""
+        parts = [""]
+        for text in filter(None, self.left()):
+            if text.isspace() and parts[-1].isspace():
+                parts[-1] = max(parts[-1], text, key=lambda space: space.count("\n"))
+            else:
+                parts.append(text)
+        return "".join(parts).strip() + "\n"
+
+
+USES = re.compile(r"(?:(?:#\n\[\n[^]]*\n\]\n)?(?:pub\n)?(?:\(\ncrate\n\)\n)?(?:use|mod)\n[^;]*\n;\n)+")
+LIST = re.compile(r"\{\n(.*?)\n\}\n", re.DOTALL)
+
+
+def settled(tokens):
+    """The same text for all that rustfmt may make of the tokens: it sorts `use`, `mod` and the names in their lists, drops
+    the braces around one name, and adds or drops a comma before a bracket that closes."""
+
+    def sort_names(found):
+        names = sorted(found[1].split("\n,\n"))
+        return "\n".join(["{", *names, "}", ""] if len(names) > 1 else [*names, ""])
+
+    def sort_uses(found):
+        return "".join(sorted(LIST.sub(sort_names, use) + ";\n" for use in found[0].split(";\n")[:-1]))
+
+    return USES.sub(sort_uses, re.sub(r"\n,(?=\n[])}>]\n)", "", "\n".join(["", *tokens, ""])))
+
+
+def difference(texts, written):
+    """The first place where the tokens of some texts and those of what was written differ, or None."""
+    ours, theirs = settled([token for text in texts for token in split(text)]), settled(split(written))
+    ours, theirs = ours.split("\n"), theirs.split("\n")
+    for at, (one, other) in enumerate(zip(ours, theirs)):
+        if one != other:
+            return f"{' '.join(ours[max(at - 4, 0) : at + 4])} | {' '.join(theirs[max(at - 4, 0) : at + 4])}"
+    return None

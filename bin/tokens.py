@@ -187,7 +187,7 @@ class Source:
         return end + 1
 
     def final(self, at):
-        self.want(self.word(at + 1) == "fn", at, "no function")
+        self.want(self.word(at + 1) == "fn", at, "no function follows")
         return self.delete(at, at, above="")
 
     def bound(self, at):
@@ -245,7 +245,7 @@ def settled(tokens):
 
     def sort_names(found):
         names = sorted(found[1].split("\n,\n"))
-        return "\n".join(["{", *names, "}", ""] if len(names) > 1 else [*names, ""])
+        return "{\n" + "\n,\n".join(names) + "\n}\n" if len(names) > 1 else names[0] + "\n"
 
     def sort_uses(found):
         return "".join(sorted(LIST.sub(sort_names, use) + ";\n" for use in found[0].split(";\n")[:-1]))

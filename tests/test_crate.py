@@ -1,0 +1,193 @@
+#!/usr/bin/env python3
+"""Tries bin/crate: on copies of the sources with a change that it has to refuse, or to take; on tokens that are left out,
+doubled or swapped in what it writes; and on folders that it may write or may not.
+
+It wants git and rustfmt, and no Rattle kit. The last line is `N passed, M failed`.
+"""
+
+import importlib.machinery
+import importlib.util
+import os
+import pathlib
+import shutil
+import subprocess
+import sys
+import tempfile
+
+TOP = pathlib.Path(__file__).resolve().parent.parent
+sys.dont_write_bytecode = True
+loader = importlib.machinery.SourceFileLoader("crate", str(TOP / "bin/crate"))
+crate = importlib.util.module_from_spec(importlib.util.spec_from_loader("crate", loader))
+loader.exec_module(crate)
+tokens = sys.modules["tokens"]
+
+# A file, what is changed in it at its first place, and a part of the message that refuses the change.
+REFUSED = [
+    ("base/reading", "#[inline]", "#[must_use]", "the unknown attribute #[must_use]"),
+    ("base/reading", "#[inline]", "#[inline(sometimes)]", "the unknown attribute #[inline(sometimes)]"),
+    ("base/reading", "#[inline]", "#![no_std]", "the unknown attribute"),
+    ("base/common", "Debug, PartialEq", "Debug, Ord, PartialEq", "the unknown attribute"),
+    ("eval/run/machine", "#[derive(Drop)]", "#[derive(Clone, Drop)]", "the unknown attribute"),
+    ("base/reading", "self.read_fixed(8)", "prove!(8 == 8)", "an unknown macro: `prove`"),
+    ("base/reading", "use crate::common", "use std::env;\nuse crate::common", "an unknown crate: `use`"),
+    ("base/reading", "self.read_fixed(8)", "std::mem::take(self)", "an unknown crate: `std`"),
+    ("op/decoding", "use dwarf_base::{", "use dwarf_laws::run;\nuse dwarf_base::{", "an unknown crate: `use`"),
+    ("base/reading", "self.read_fixed(8)", "self.read_fixed(8 × 1)", "an unknown sign: `×`"),
+    ("base/reading", "let number = ", "let λ = ", "an unknown sign: `λ`"),
+    ("base/reading", "self.read_fixed(8)", 'self.named("{")', "isn't closed"),
+    ("base/reading", "self.read_fixed(8)", 'self.named("8")', 'an unknown sign: `"`'),
+    ("base/reading", "self.read_fixed(8)", "self.named('8')", "an unknown sign: `'`"),
+    ("base/reading", "self.read_fixed(8)", "self.read_fixed(8) /* 8 bytes { */", "isn't closed"),
+    ("base/common", "ensures { Returns", "ensures nothing Returns {", "a clause without a block"),
+    ("value/masks", "ensures { IsTrue result ↔ IsAddressMask addr_mask }", "ensures nothing", "no body follows"),
+    ("base/reading", "final fn", "final const fn", "no function follows: `final`"),
+    ("base/common", "Offset<T = usize>", "Offset<T: Drop = usize>", "an unknown form of a bound"),
+    ("base/common", "Offset<T = usize>", "Offset<T: Copy + Drop = usize>", "an unknown form of a bound"),
+    ("eval/run/ticks", "impl Model for", "impl Model<u8> for", "an unknown form of `impl`"),
+    ("base/reading", "ghost text: { Self → Text };", "ghost text: { Self → Text }", "an unknown form of a ghost item"),
+    ("base/reading", "ghost text: { Self → Text };", "ghost fn text() {}", "an unknown form of a ghost item"),
+    ("base/reading", "ghost text: { Self → Text };", "ghost text: { Self → (Text };", "isn't open"),
+    ("base/reading", ".Leb.{", ".Leb * {", "an unknown form of a ghost item"),
+    ("base/reading", "    // The bytes that are left", "    /// The bytes that are left", "docs of what isn't Rust"),
+    ("base/laws", "\n{}", "\n{ panic!() }", "an unknown macro"),
+    ("base/laws", "\n{}", "\n{ reader_laws() }", "a module of laws that does something"),
+    ("eval/run/states", "Ok(*self)", "Ok(self.copied())", "is met 3 times, and not 4"),
+    ("eval/store/slices", "use std::marker::Model;", "use std::marker::Model;\nuse std::marker::Model;", "and not"),
+    ("eval/run/states", "        Ok(*self)", "        // A copy.\n        Ok(*self)", "a comment within what a row replaces"),
+    ("eval/run/operate", "value.add(addend, self.addr_mask())", "value.add(addend)", "no mask in a call"),
+    ("value/masks", "    ensures { IsTrue", "    requires { addr_mask ≡ 1 }\n    ensures { IsTrue", "conditions on masks"),
+    ("value/shifts", "        requires { IsAddressMask addr_mask }\n", "", "conditions on masks"),
+    ("base/reading", "pub trait Reader", "lemma one() {}\n\npub trait Reader", "isn't Rust"),
+    ("base/mod", "mod reading;", "mod reading;\nmod writing;", "isn't Rust"),
+]
+
+# The same of changes that it has to take, and how what is written for that file changes.
+TAKEN = [
+    ("base/common", "ensures { Returns", "ensures more { ⊤ }\n        ensures { Returns", "", ""),
+    ("base/common", "        ensures { Returns", "        // More.\n        ensures { Returns", "", ""),
+    ("value/word", "    ghost some_bit:", "    // About {more.\n    pub(crate) ghost more: { ⊤ },\n    ghost some_bit:", "", ""),
+    ("value/masks", "#[inline(always)]", "#[tactic(auto, using(crate::a::b))]\n#[inline(always)]", "", ""),
+    ("base/common", "ghost use", "ghost use Rattle.std.specs.Lists as lists;\nghost use", "", ""),
+    ("base/laws", "/// What is read", "/// More.\npub fn more_laws()\n    ensures { ⊤ }\n{}\n\n/// What is read", "", ""),
+    ("op/mod", "{operation_equality_laws,", "{more_laws, operation_equality_laws,", "", ""),
+    ("eval/op", "{expression_equality_laws,", "{more_laws, expression_equality_laws,", "", ""),
+    ("base/reading", "self.read_fixed(8)", "self.read_fixed(4)", "self.read_fixed(8)", "self.read_fixed(4)"),
+    ("base/reading", "// The bytes that are left to read", "// The bytes", "", ""),
+    ("op/decoding", "// A register, and the type", "// The number, and the type", "A register, and the type", "The number, and the type"),
+]
+
+passed = failed = 0
+
+
+def count(good, said):
+    global passed, failed
+    passed += bool(good)
+    failed += not good
+    if not good:
+        print(f"FAILED {said}")
+
+
+def path_of(module):
+    """The source of a module, under crates/."""
+    name, _, place = module.partition("/")
+    crates = {module: name for name, module in crate.CRATES.items()}
+    return f"{crates[name]}/src/{'lib' if place == 'mod' else place}.rt"
+
+
+def written(crates, folder):
+    """What is written for the sources in a folder of crates, or the message that refuses them."""
+    try:
+        crate.write(crate.proved(crates), folder)
+    except tokens.Refused as why:
+        return str(why)
+    return {str(path.relative_to(folder).with_suffix("")): path.read_text() for path in folder.rglob("*.rs")}
+
+
+def with_change(module, old, new):
+    """What is written if one file has a change."""
+    with tempfile.TemporaryDirectory() as folder:
+        crates, path = pathlib.Path(folder) / "crates", path_of(module)
+        for name in crate.CRATES:
+            shutil.copytree(TOP / "crates" / name / "src", crates / name / "src")
+        text = (crates / path).read_text()
+        count(old in text, f"{path} has no {old!r}")
+        (crates / path).write_text(text.replace(old, new, 1))
+        return written(crates, pathlib.Path(folder) / "proved")
+
+
+def without_commas(found):
+    """The tokens but for a comma before a bracket that closes, which rustfmt adds or drops."""
+    return [token for token, following in zip(found, [*found[1:], ""]) if token != "," or following not in ")]}>"]
+
+
+def try_tokens(module, source, text):
+    """Leaves out, doubles, and swaps with the next, each token of what was written."""
+    texts = [text.partition("\n")[0], *source.left()]
+    found = tokens.split(text)
+    for at, token in enumerate(found[:-1]):
+        following = found[at + 1]
+        for changed in ([following], [token, token, following], [following, token]):
+            changed = found[:at] + changed + found[at + 2 :]
+            is_same = tokens.difference(texts, "\n".join(changed)) is None
+            may_be_same = without_commas(changed) == without_commas(found)
+            count(is_same == may_be_same, f"{module}: {' '.join(changed[at - 3 : at + 4])}: is_same is {is_same}")
+
+
+def run(folder, **environment):
+    command = [str(TOP / "bin/crate"), str(folder)]
+    return subprocess.run(command, capture_output=True, text=True, check=False, env={**os.environ, **environment})
+
+
+def try_folders(folder):
+    """Writes a crate on a PATH with three programs, then once more; and not over a folder of something else."""
+    programs, made, other = folder / "programs", folder / "made", folder / "other"
+    programs.mkdir()
+    for name in ("python3", "git", "rustfmt"):
+        (programs / name).symlink_to(sys.executable if name == "python3" else shutil.which(name))
+    done = run(made, PATH=str(programs))
+    count(done.returncode == 0, f"on a PATH of three programs: {done.stderr}")
+    files = {path.relative_to(made): path.read_bytes() for path in made.rglob("*") if path.is_file()}
+    for name in ("Cargo.toml", "README.md", "src/lib.rs", "src/proved/mod.rs", "LICENSE-MIT", "LICENSE-APACHE"):
+        count(pathlib.Path(name) in files, f"{name} isn't written")
+    (made / "target").mkdir()
+    (made / "target/kept").touch()
+    (made / "src/proved/stale.rs").touch()
+    count(run(made).returncode == 0, "the crate isn't written once more")
+    again = {path.relative_to(made): path.read_bytes() for path in made.rglob("*") if path.is_file()}
+    count(again == files | {pathlib.Path("target/kept"): b""}, "the crate isn't the same when written once more")
+    other.mkdir()
+    (other / "Cargo.toml").touch()
+    done = run(other)
+    count(done.returncode == 1 and "isn't a crate that this wrote" in done.stderr, "another folder is written over")
+    count([path.name for path in other.iterdir()] == ["Cargo.toml"], "another folder is changed")
+
+
+def main():
+    with tempfile.TemporaryDirectory() as folder:
+        folder = pathlib.Path(folder)
+        sources = crate.proved(TOP / "crates")
+        plain = written(TOP / "crates", folder / "plain")
+        # Each source has its module, but for those that are left out by name.
+        modules = {module for module in crate.LAWS + crate.HEAP} | set(plain) - {"mod"}
+        paths = {path for name in crate.CRATES for path in (TOP / "crates" / name / "src").rglob("*.rt")}
+        count({TOP / "crates" / path_of(module) for module in modules} == paths, "a source has no module")
+        for module, text in plain.items():
+            count(module == "mod" or f" crates/{path_of(module)}," in text.split("\n")[0], f"{module} names no source")
+            words = {token for token in tokens.split(text) if not tokens.is_comment(token)}
+            count(not words & {"ghost", "requires", "ensures", "tactic", "final", "std"}, f"{module} has a contract")
+        for module, old, new, message in REFUSED:
+            said = with_change(module, old, new)
+            count(isinstance(said, str) and message in said, f"{new!r} for {old!r} in {module}: {str(said)[:200]}")
+        for module, old, new, before, after in TAKEN:
+            expected = plain | ({module: plain[module].replace(before, after, 1)} if before else {})
+            said = with_change(module, old, new)
+            count(said == expected, f"{new!r} for {old!r} in {module}: {said if isinstance(said, str) else 'other text'}")
+        for module in ("base/mod", "value/word", "eval/store/lists"):
+            try_tokens(module, sources[module], plain[module])
+        try_folders(folder)
+    print(f"{passed} passed, {failed} failed")
+    return 1 if failed else 0
+
+
+if __name__ == "__main__":
+    sys.exit(main())

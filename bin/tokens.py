@@ -112,15 +112,11 @@ class Source:
     def replace_each(self, old, new):
         """Replaces each run of these tokens, or deletes it with its comments if there are no new ones; gives how many."""
         wanted = split(old)
-        block = wanted[-1] == "_" and wanted.pop()  # FIXME until the sources change
         places = [at for at, index in enumerate(self.code) if self.tokens[index] == wanted[0]]
         places = [at for at in places if self.words(at, at + len(wanted) - 1) == wanted]
         for at in places:
             last = at + len(wanted) - 1
             within = self.tokens[self.code[at] : self.code[last]]
-            if block:
-                last = self.close(last)
-                within = []
             self.want(not any(map(is_comment, within)), at, "a comment within what a row replaces")
             self.replace(at, last, new) if new else self.delete(at, last, above="///")
         if places:

@@ -24,10 +24,6 @@ def split(text):
     return [token for token in TOKEN.findall(text) if not token.isspace()]
 
 
-def is_comment(token):
-    return token.startswith("//")
-
-
 class Source:
     """The tokens of a file, each of which is kept, deleted, or replaced by other text.
 
@@ -44,16 +40,16 @@ class Source:
         opened = []
         for at, index in enumerate(self.code):
             if self.word(at) in CLOSING:
-                opened.append(at)
+                opened.append(index)
             elif self.word(at) in CLOSING.values():
-                self.want(opened and CLOSING[self.word(opened[-1])] == self.word(at), at, "this bracket isn't open")
-                self.partners[self.code[opened.pop()]] = index
-        self.want(not opened, (opened or [0])[-1], "this bracket isn't closed")
+                self.want(opened and CLOSING[self.tokens[opened[-1]]] == self.word(at), at, "a bracket that isn't open")
+                self.partners[opened.pop()] = index
+        self.want(not opened, len(self.code), "a bracket that isn't closed before the end")
 
     def settle(self):
         """Takes places anew, after tokens were deleted or replaced."""
-        tokens = enumerate(self.tokens)
-        self.code = [i for i, token in tokens if i not in self.changed and not token.isspace() and not is_comment(token)]
+        no_code = re.compile(r"\s|//")
+        self.code = [i for i, token in enumerate(self.tokens) if i not in self.changed and not no_code.match(token)]
 
     def word(self, at):
         """The token at a place, or an empty one outside of the file."""
@@ -106,7 +102,7 @@ class Source:
     def comment_above(self, index):
         """The comment in the line above a token, if it isn't the file's own."""
         *_, before, comment, space = ["", "", "\n", *self.tokens[max(index - 3, 0) : index]]
-        is_line = is_comment(comment) and "\n" in before and space.count("\n") == 1
+        is_line = comment.startswith("//") and "\n" in before and space.count("\n") == 1
         return comment if is_line and not comment.startswith("//!") else ""
 
     def replace_each(self, old, new):
@@ -116,8 +112,8 @@ class Source:
         places = [at for at in places if self.words(at, at + len(wanted) - 1) == wanted]
         for at in places:
             last = at + len(wanted) - 1
-            within = self.tokens[self.code[at] : self.code[last]]
-            self.want(not any(map(is_comment, within)), at, "a comment within what a row replaces")
+            within = "".join(self.tokens[self.code[at] : self.code[last]])
+            self.want("//" not in within, at, "a comment within what a row replaces")
             self.replace(at, last, new) if new else self.delete(at, last, above="///")
         if places:
             self.settle()
@@ -127,15 +123,8 @@ class Source:
 
     def delete_contracts(self):
         """Deletes all that isn't Rust."""
-        forms = {
-            "ghost": self.ghost,
-            "requires": self.clause,
-            "ensures": self.clause,
-            "impl": self.model,
-            "#": self.attribute,
-            "final": self.final,
-            "Drop": self.bound,
-        }
+        clauses = {"requires": self.clause, "ensures": self.clause}
+        forms = {"ghost": self.ghost, **clauses, "impl": self.model, "#": self.attribute}
         at = 0
         while at < len(self.code):
             at = forms.get(self.word(at), lambda at: at + 1)(at)
@@ -146,14 +135,11 @@ class Source:
                 self.want(self.word(at) in KNOWN_MACROS, at, "an unknown macro")
 
     def ghost(self, at):
-        if self.word(at + 1) == "use":
-            end = self.find(";", at)
-            is_known = re.fullmatch(r"ghost use [\w. ]+(\{[^{}]*\} )?;", " ".join(self.words(at, end)))
-        else:
-            is_known = re.fullmatch(r"ghost \w+ [:=] \{", " ".join(self.words(at, at + 3)))
-            end = self.close(at + 3) + 1 if is_known else at
-            is_known = self.word(end) in (";", ",")
-        self.want(is_known, at, "an unknown form of a ghost item")
+        form, end = "", at
+        while self.word(end) not in (";", ",", ""):
+            form += self.word(end) + " "
+            end = (self.close(end) if self.word(end) in CLOSING else end) + 1
+        self.want(re.fullmatch(r"ghost (use [\w. ]+(\{ )?|\w+ [:=] \{ )", form), at, "an unknown ghost item")
         return self.delete(self.begin(at), end)
 
     def clause(self, at):
@@ -182,31 +168,18 @@ class Source:
         self.want(KNOWN_ATTRIBUTE.fullmatch(text), at, f"the unknown attribute {text}")
         return end + 1
 
-    def final(self, at):
-        self.want(self.word(at + 1) == "fn", at, "no function follows")
-        return self.delete(at, at, above="")
-
-    def bound(self, at):
-        if self.word(at - 1) in ("{", ",") or self.word(at - 2) == ":":
-            return at + 1  # the operation
-        self.want(self.word(at - 1) == ":" and self.word(at + 1) == "{", at, "an unknown form of a bound")
-        return self.delete(at - 1, at, above="")
-
     def does_nothing(self):
         """Whether only functions that do nothing are left, and what they use."""
         text = re.sub(r"use [^;]*;", "", " ".join(self.words(0, len(self.code) - 1)))
         return not re.sub(r"pub fn \w+ (< [^()]* > )?\( \) \{ \}", "", text).strip()
 
-    def forget(self, module, left_out):
-        """Deletes what names modules that are left out, or laws by their names. `module` is this one's place."""
-        bases = {"crate": module.partition("/")[0], "super": module.rpartition("/")[0]}
+    def forget(self, modules):
+        """Deletes what names modules of these names, and the names of laws."""
         for at in range(len(self.code)):
             if self.word(at) not in ("mod", "use"):
                 continue
             end = self.find(";", at)
-            root, *path = "".join(self.words(at + 1, end - 1)).partition("::{")[0].split("::")
-            path = "/".join([bases.get(root, f"{module}/{root}"), *path, ""])
-            if any(path.startswith(f"{place}/") for place in left_out):
+            if modules & set("".join(self.words(at + 1, end - 1)).partition("{")[0].split("::")):
                 self.delete(self.begin(at), end)
                 continue
             for name in range(at, end):
@@ -217,18 +190,14 @@ class Source:
     # What is left.
 
     def left(self):
-        """The texts that are left, in order."""
+        """The text in the place of each token."""
         return [self.changed.get(index, token) for index, token in enumerate(self.tokens)]
 
     def text(self):
-        """What is left as one text. Of the white space around what was deleted, that with more lines stays."""
-        parts = [""]
-        for text in filter(None, self.left()):
-            if text.isspace() and parts[-1].isspace():
-                parts[-1] = max(parts[-1], text, key=lambda space: space.count("\n"))
-            else:
-                parts.append(text)
-        return "".join(parts).strip() + "\n"
+        """What is left. Of the white space on both sides of what was deleted, that with more lines stays."""
+        text = "".join(token or "\0" for token in self.left())
+        spaces = re.compile(r"\s*(\0\s*)+")
+        return spaces.sub(lambda found: max(found[0].split("\0"), key=lambda space: (space.count("\n"), space)), text)
 
 
 USES = re.compile(r"(?:(?:#\n\[\n[^]]*\n\]\n)?(?:pub\n)?(?:\(\ncrate\n\)\n)?(?:use|mod)\n[^;]*\n;\n)+")

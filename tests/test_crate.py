@@ -34,25 +34,25 @@ REFUSED = [
     ("op/decoding", "use dwarf_base::{", "use dwarf_laws::run;\nuse dwarf_base::{", "an unknown crate: `use`"),
     ("base/reading", "self.read_fixed(8)", "self.read_fixed(8 × 1)", "an unknown sign: `×`"),
     ("base/reading", "let number = ", "let λ = ", "an unknown sign: `λ`"),
-    ("base/reading", "self.read_fixed(8)", 'self.named("{")', "isn't closed"),
+    ("base/reading", "self.read_fixed(8)", 'self.named("{")', "a bracket that isn't open"),
     ("base/reading", "self.read_fixed(8)", 'self.named("8")', 'an unknown sign: `"`'),
     ("base/reading", "self.read_fixed(8)", "self.named('8')", "an unknown sign: `'`"),
-    ("base/reading", "self.read_fixed(8)", "self.read_fixed(8) /* 8 bytes { */", "isn't closed"),
+    ("base/reading", "self.read_fixed(8)", "self.read_fixed(8) /* 8 bytes { */", "isn't closed before the end"),
     ("base/common", "ensures { Returns", "ensures nothing Returns {", "a clause without a block"),
     ("value/masks", "ensures { IsTrue result ↔ IsAddressMask addr_mask }", "ensures nothing", "no body follows"),
-    ("base/reading", "final fn", "final const fn", "no function follows: `final`"),
-    ("base/common", "Offset<T = usize>", "Offset<T: Drop = usize>", "an unknown form of a bound"),
-    ("base/common", "Offset<T = usize>", "Offset<T: Copy + Drop = usize>", "an unknown form of a bound"),
+    ("base/reading", "final fn", "final const fn", "is met 2 times, and not 3"),
+    ("base/common", "Offset<T = usize>", "Offset<T: Drop = usize>", "an unknown bound"),
+    ("base/common", "Offset<T = usize>", "Offset<T: Copy + Drop = usize>", "an unknown bound"),
     ("eval/run/ticks", "impl Model for", "impl Model<u8> for", "an unknown form of `impl`"),
-    ("base/reading", "ghost text: { Self → Text };", "ghost text: { Self → Text }", "an unknown form of a ghost item"),
-    ("base/reading", "ghost text: { Self → Text };", "ghost fn text() {}", "an unknown form of a ghost item"),
+    ("base/reading", "ghost text: { Self → Text };", "ghost text: { Self → Text }", "an unknown ghost item"),
+    ("base/reading", "ghost text: { Self → Text };", "ghost fn text() {}", "an unknown ghost item"),
     ("base/reading", "ghost text: { Self → Text };", "ghost text: { Self → (Text };", "isn't open"),
-    ("base/reading", ".Leb.{", ".Leb * {", "an unknown form of a ghost item"),
+    ("base/reading", ".Leb.{", ".Leb * {", "an unknown ghost item"),
     ("base/reading", "    // The bytes that are left", "    /// The bytes that are left", "docs of what isn't Rust"),
     ("base/laws", "\n{}", "\n{ panic!() }", "an unknown macro"),
     ("base/laws", "\n{}", "\n{ reader_laws() }", "a module of laws that does something"),
     ("eval/run/states", "Ok(*self)", "Ok(self.copied())", "is met 3 times, and not 4"),
-    ("eval/store/slices", "use std::marker::Model;", "use std::marker::Model;\nuse std::marker::Model;", "and not"),
+    ("eval/store/slices", "use std::marker::Model;", "use std::marker::Model;\nuse std::marker::Model;", "met 4 times, and not 3"),
     ("eval/run/states", "        Ok(*self)", "        // A copy.\n        Ok(*self)", "a comment within what a row replaces"),
     ("eval/run/operate", "value.add(addend, self.addr_mask())", "value.add(addend)", "no mask in a call"),
     ("value/masks", "    ensures { IsTrue", "    requires { addr_mask ≡ 1 }\n    ensures { IsTrue", "conditions on masks"),
@@ -173,7 +173,7 @@ def main():
         count({TOP / "crates" / path_of(module) for module in modules} == paths, "a source has no module")
         for module, text in plain.items():
             count(module == "mod" or f" crates/{path_of(module)}," in text.split("\n")[0], f"{module} names no source")
-            words = {token for token in tokens.split(text) if not tokens.is_comment(token)}
+            words = {token for token in tokens.split(text) if not token.startswith("//")}
             count(not words & {"ghost", "requires", "ensures", "tactic", "final", "std"}, f"{module} has a contract")
         for module, old, new, message in REFUSED:
             said = with_change(module, old, new)

@@ -6,7 +6,7 @@ import re
 # White space, a comment, a lifetime, a word or a number, or one sign.
 TOKEN = re.compile(r"\s+|//[^\n]*|'[a-z]\w*|\w+|.", re.DOTALL)
 # What may be left of code. No source has literals of text, so their signs aren't known.
-KNOWN = re.compile(r"'?\w+|[][(){}<>!#%&*+,./:;=?@^|-]", re.ASCII)
+KNOWN = re.compile(r"'?\w+|[][(){}<>!#%&*+,./:;=?^|-]", re.ASCII)
 KNOWN_ATTRIBUTE = re.compile(
     r"#\[derive\(((Clone|Copy|Debug|Default|Eq|Hash|PartialEq)[,)])+\]"
     r"|#\[(cold|inline|inline\(always\)|inline\(never\)|repr\(u8\))\]|#!\[allow\(non_upper_case_globals\)\]"
@@ -200,7 +200,7 @@ class Source:
         return spaces.sub(lambda found: max(found[0].split("\0"), key=lambda space: (space.count("\n"), space)), text)
 
 
-USES = re.compile(r"(?:(?:#\n\[\n[^]]*\n\]\n)?(?:pub\n)?(?:\(\ncrate\n\)\n)?(?:use|mod)\n[^;]*\n;\n)+")
+USES = re.compile(r"(?:^(?:#\n\[\n[^]]*\n\]\n)?(?:pub\n)?(?:\(\ncrate\n\)\n)?(?:use|mod)\n[^;]*\n;\n)+", re.MULTILINE)
 LIST = re.compile(r"\{\n(.*?)\n\}\n", re.DOTALL)
 
 

@@ -1,8 +1,8 @@
 #!/usr/bin/env python3
-"""Tries bin/crate: on copies of the sources with a change that it has to refuse, or to take; on tokens that are left out,
-doubled or swapped in what it writes; and on folders that it may write or may not.
+"""Tests bin/crate. It has to refuse some changes of the sources, and to take others; to see each token that is left out,
+doubled or swapped in what it writes; and to write no folder that isn't its own.
 
-It wants git and rustfmt, and no Rattle kit. The last line is `N passed, M failed`.
+It wants git and rustfmt, and no Rattle kit. What fails is printed. The last line is `N passed, M failed`.
 """
 
 import importlib.machinery
@@ -133,6 +133,15 @@ def try_tokens(module, source, text):
             count(is_same == may_be_same, f"{module}: {' '.join(changed[at - 3 : at + 4])}: is_same is {is_same}")
 
 
+def try_other_text(folder):
+    """Changes what is written after the contracts are taken out."""
+    text = tokens.Source.text
+    tokens.Source.text = lambda source: text(source).replace("self.read_fixed(8)", "self.read_fixed(4)")
+    said = written(TOP / "crates", folder / "other text")
+    tokens.Source.text = text
+    count("what rustfmt wrote differs: self . read_fixed ( 8 )" in said, f"other text is written: {str(said)[:200]}")
+
+
 def run(folder, **environment):
     command = [str(TOP / "bin/crate"), str(folder)]
     return subprocess.run(command, capture_output=True, text=True, check=False, env={**os.environ, **environment})
@@ -184,6 +193,7 @@ def main():
             count(said == expected, f"{new!r} for {old!r} in {module}: {said if isinstance(said, str) else 'other text'}")
         for module in ("base/mod", "value/word", "eval/store/lists"):
             try_tokens(module, sources[module], plain[module])
+        try_other_text(folder)
         try_folders(folder)
     print(f"{passed} passed, {failed} failed")
     return 1 if failed else 0

@@ -85,13 +85,13 @@ class Source:
     # Changes.
 
     def replace(self, first, last, text):
-        """Puts text in the place of code; gives the place after it."""
+        """Puts text in the place of code. Gives the place after it."""
         self.changed.update(dict.fromkeys(range(self.code[first], self.code[last] + 1), ""))
         self.changed[self.code[first]] = text
         return last + 1
 
     def delete(self, first, last, above="//"):
-        """Deletes code, and the comments in the lines right above it that begin so; gives the place after it."""
+        """Deletes code, and the comments that begin so in the lines right above it. Gives the place after it."""
         index = self.code[first]
         while above and (comment := self.comment_above(index)):
             self.want(above == "///" or not comment.startswith("///"), first, "docs of what isn't Rust")
@@ -106,7 +106,7 @@ class Source:
         return comment if is_line and not comment.startswith("//!") else ""
 
     def replace_each(self, old, new):
-        """Replaces each run of these tokens, or deletes it with its comments if there are no new ones; gives how many."""
+        """Replaces each run of these tokens, or deletes it and its comments if there are no new ones. Gives how many."""
         wanted = split(old)
         places = [at for at, index in enumerate(self.code) if self.tokens[index] == wanted[0]]
         places = [at for at in places if self.words(at, at + len(wanted) - 1) == wanted]
@@ -205,8 +205,8 @@ LIST = re.compile(r"\{\n(.*?)\n\}\n", re.DOTALL)
 
 
 def settled(tokens):
-    """The same text for all that rustfmt may make of the tokens: it sorts `use`, `mod` and the names in their lists, drops
-    the braces around one name, and adds or drops a comma before a bracket that closes."""
+    """The same tokens for all that rustfmt may make of them: it sorts `use`, `mod` and the names in their lists, drops the
+    braces around one name, and adds or drops a comma before a bracket that closes."""
 
     def sort_names(found):
         names = sorted(found[1].split("\n,\n"))
@@ -215,13 +215,12 @@ def settled(tokens):
     def sort_uses(found):
         return "".join(sorted(LIST.sub(sort_names, use) + ";\n" for use in found[0].split(";\n")[:-1]))
 
-    return USES.sub(sort_uses, re.sub(r"\n,(?=\n[])}>]\n)", "", "\n".join(["", *tokens, ""])))
+    return USES.sub(sort_uses, re.sub(r"\n,(?=\n[])}>]\n)", "", "\n".join(["", *tokens, ""]))).split("\n")
 
 
 def difference(texts, written):
-    """The first place where the tokens of some texts and those of what was written differ, or None."""
+    """Where the tokens of some texts and those of what was written differ first, or None."""
     ours, theirs = settled([token for text in texts for token in split(text)]), settled(split(written))
-    ours, theirs = ours.split("\n"), theirs.split("\n")
     for at, (one, other) in enumerate(zip(ours, theirs)):
         if one != other:
             return f"{' '.join(ours[max(at - 4, 0) : at + 4])} | {' '.join(theirs[max(at - 4, 0) : at + 4])}"

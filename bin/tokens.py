@@ -106,7 +106,7 @@ class Source:
         return comment if is_line and not comment.startswith("//!") else ""
 
     def replace_each(self, old, new):
-        """Replaces each run of these tokens, or deletes it and its comments if there are no new ones. Gives how many."""
+        """Replaces each run of these tokens; without new ones, deletes it and its comments. Gives how many it met."""
         wanted = split(old)
         places = [at for at, index in enumerate(self.code) if self.tokens[index] == wanted[0]]
         places = [at for at in places if self.words(at, at + len(wanted) - 1) == wanted]
@@ -131,8 +131,8 @@ class Source:
         self.settle()
         for at, index in enumerate(self.code):
             self.want(KNOWN.fullmatch(self.word(at)), at, "an unknown sign")
-            if self.tokens[index + 1 : index + 2] == ["!"] and self.word(at + 2) in CLOSING and self.word(at).isidentifier():
-                self.want(self.word(at) in KNOWN_MACROS, at, "an unknown macro")
+            is_macro = self.word(at).isidentifier() and self.tokens[index + 1 : index + 2] == ["!"]
+            self.want(not is_macro or self.word(at) in KNOWN_MACROS, at, "an unknown macro")
 
     def ghost(self, at):
         form, end = "", at
@@ -205,8 +205,8 @@ LIST = re.compile(r"\{\n(.*?)\n\}\n", re.DOTALL)
 
 
 def settled(tokens):
-    """The same tokens for all that rustfmt may make of them: it sorts `use`, `mod` and the names in their lists, drops the
-    braces around one name, and adds or drops a comma before a bracket that closes."""
+    """The same tokens for all that rustfmt may make of them: it sorts `use`, `mod` and the names in their lists, drops
+    the braces around one name, and adds or drops a comma before a bracket that closes."""
 
     def sort_names(found):
         names = sorted(found[1].split("\n,\n"))

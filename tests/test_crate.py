@@ -52,7 +52,7 @@ REFUSED = [
     ("base/laws", "\n{}", "\n{ panic!() }", "an unknown macro"),
     ("base/laws", "\n{}", "\n{ reader_laws() }", "a module of laws that does something"),
     ("eval/run/states", "Ok(*self)", "Ok(self.copied())", "is met 3 times, and not 4"),
-    ("eval/store/slices", "use super", "use std::marker::Model;\nuse super", "is met 4 times, and not 3"),
+    ("eval/store/slices", "use super", "use std::marker::Model;\nuse super", "a row about models is met"),
     ("eval/run/states", "        Ok(*self)", "        // A copy.\n        Ok(*self)", "a comment within what a row"),
     ("eval/run/operate", "value.add(addend, self.addr_mask())", "value.add(addend)", "no mask in a call"),
     ("value/masks", "ensures { Is", "requires { addr_mask ≡ 1 } ensures { Is", "24 preconditions on masks, and 28"),

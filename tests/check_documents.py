@@ -9,6 +9,7 @@
   heading.
 - docs/GUIDE.md lists exactly the operations that are known. The number of faults, the limits of the archive's lists,
   the size of an evaluation there, the logic's sum and README.md's ratios are those of the sources and docs/SPEED.md.
+- No line of a page but a table's row has more than 120 columns.
 - Each block of README.md, docs/GUIDE.md and docs/PROOFS.md whose fence names a file is what stands in that file, byte
   for byte. docs/GUIDE.md has the loop over requests and its proof.
 - Each text that a wrong body takes away stands once in the file that it names. The gate tries few of them.
@@ -45,6 +46,9 @@ SHOWN = {
 PATHS_ELSEWHERE = {
     "src/read/op.rs": "a file of gimli's",
     "src/read/value.rs": "a file of gimli's",
+    "op.rs": "the same",
+    "value.rs": "the same",
+    "src/proved": "a folder of the Rust crate, which bin/crate writes",
 }
 
 QUOTED = re.compile(r"`([^`\n]+)`")
@@ -232,6 +236,13 @@ def figures():
         yield None if ratio in RATIO.findall(read(SPEED)) else f"{README} names {ratio}, and {SPEED} doesn't"
 
 
+def wide():
+    """Each page has lines of at most 120 columns, but for the rows of tables."""
+    for page in filter(GLOSSARY.__ne__, documents()):
+        lines = [line for line in read(page).splitlines() if len(line) > 120 and not line.startswith("|")]
+        yield f"{page} has a line of {len(lines[0])} columns: {lines[0]}" if lines else None
+
+
 def shows(path, block):
     """Whether a block is what stands in the file: whole lines of it, and all of them if it is a proof."""
     if path not in files():
@@ -267,7 +278,7 @@ def stale():
 
 
 def main():
-    found = [*glossary(), *unknown(), *astray(), *partless(), *operations(), *figures(), *changed(), *stale()]
+    found = [*glossary(), *unknown(), *astray(), *partless(), *operations(), *figures(), *wide(), *changed(), *stale()]
     failed = [line for line in found if line]
     for line in failed:
         print(line)

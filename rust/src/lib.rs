@@ -1,8 +1,8 @@
 //! DWARF expressions, decoded and evaluated (DWARF 5, sections 2.5 and 2.6), under the names of the crate
 //! [gimli](https://github.com/gimli-rs/gimli) 0.34.
 //!
-//! Each operation, request, fault, piece and value is computed by the archive `libdwexpr_c.a`, which is proved to match
-//! a separate specification. This crate hands over what it is given, and is tested alone.
+//! The module `proved` is taken from proved Rattle sources. The rest is written by hand: it checks the preconditions
+//! of the proved calls, and adds what gimli's types have besides.
 //!
 //! ```
 //! use dwexpr::{EndianSlice, Encoding, Evaluation, EvaluationResult, Format, LittleEndian, Location};
@@ -14,18 +14,68 @@
 //! assert_eq!(evaluation.resume_with_frame_base(0x3000), Ok(EvaluationResult::Complete));
 //! assert_eq!(evaluation.as_result()[0].location, Location::Address { address: 0x2ff0 });
 //! ```
+//!
+//! Features:
+//!
+//! - `arrayvec`: an evaluation can keep its lists in arrays, see [`EvaluationStorage`].
+//! - `gimli`: `GimliReader` reads from any `gimli::Reader` that is `Copy`, and the types of both crates convert.
+#![no_std]
+#![forbid(unsafe_code)]
 #![warn(missing_docs)]
 
-mod common;
-pub mod constants;
-mod endianity;
-mod raw;
-pub mod read;
+extern crate alloc;
 
-pub use crate::common::{DebugAddrIndex, DebugInfoOffset, Encoding, Format, Register};
+#[allow(clippy::derivable_impls, clippy::module_inception, clippy::redundant_pattern_matching)]
+#[allow(clippy::should_implement_trait, clippy::upper_case_acronyms)]
+mod proved;
+
+mod errors;
+mod evaluation;
+mod heap;
+#[cfg(feature = "gimli")]
+mod interop;
+mod names;
+mod orders;
+mod slices;
+mod storage;
+mod values;
+
+/// The numbers that DWARF gives to operations and encodings, by the standard's names.
+pub mod constants {
+    pub use crate::names::*;
+    pub use crate::proved::base::constants::*;
+}
+
+/// Decoding and evaluating.
+pub mod read {
+    pub use crate::evaluation::Evaluation;
+    #[cfg(feature = "gimli")]
+    pub use crate::interop::GimliReader;
+    pub use crate::proved::base::{EndianSlice, Error, Reader, ReaderOffset, ReaderOffsetId, Result, UnitOffset};
+    pub use crate::proved::eval::eval::{Status, WaitingKind};
+    pub use crate::proved::eval::op::{
+        DieReference, EvaluationResult, Expression, Location, Operation, OperationIter, Piece,
+    };
+    pub use crate::proved::eval::store::{SliceVec, StoreInSlices};
+    pub use crate::proved::value::{Value, ValueType, is_addr_mask};
+    pub use crate::storage::{ArrayLike, EvaluationStorage, StoreOnHeap};
+}
+
 pub use crate::constants::*;
-pub use crate::endianity::{BigEndian, Endianity, LittleEndian, RunTimeEndian};
+pub use crate::proved::base::{
+    BigEndian, DebugAddrIndex, DebugInfoOffset, Encoding, Endianity, Format, LittleEndian, Register, RunTimeEndian,
+};
 pub use crate::read::*;
+
+/// This machine's byte order.
+#[cfg(target_endian = "little")]
+pub type NativeEndian = LittleEndian;
+/// This machine's byte order.
+#[cfg(target_endian = "big")]
+pub type NativeEndian = BigEndian;
+
+// `usize` is an offset, and an offset takes any number of 32 bits.
+const _: () = assert!(usize::BITS >= 32, "a machine's word has to have 32 bits or more");
 
 #[cfg(doctest)]
 #[doc = include_str!("../README.md")]

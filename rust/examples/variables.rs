@@ -1,0 +1,207 @@
+//! Prints where the variables of a program are, in a frame with this canonical frame address:
+//!
+//!     cargo run --features gimli --example variables -- PROGRAM CFA
+//!
+//! PROGRAM is a 64-bit little-endian ELF file with uncompressed debug information, and CFA a hexadecimal number. gimli
+//! reads the units, and dwexpr evaluates the expressions. There is no process, so of a variable that wants a register or
+//! memory it prints the request.
+
+use dwexpr::{DieReference, Error, Evaluation, EvaluationResult, GimliReader, Location, Piece, ValueType};
+use gimli::{AttributeValue, DebuggingInformationEntry, DwAt, EndianSlice, EntriesTreeNode, LittleEndian};
+use std::borrow::Cow;
+use std::process::ExitCode;
+
+type Bytes<'a> = EndianSlice<'a, LittleEndian>;
+
+/// The content of a section of an ELF file; `None` if there is no such section.
+fn section<'a>(file: &'a [u8], name: &str) -> Option<&'a [u8]> {
+    let number = |place: usize, size: usize| {
+        let bytes = file.get(place..)?.get(..size)?;
+        Some(bytes.iter().rev().fold(0, |number, byte| number << 8 | usize::from(*byte)))
+    };
+    let (headers, header_size, count) = (number(0x28, 8)?, number(0x3a, 2)?, number(0x3c, 2)?);
+    let content = |index| {
+        let header = headers + index * header_size;
+        file.get(number(header + 0x18, 8)?..)?.get(..number(header + 0x20, 8)?)
+    };
+    let names = content(number(0x3e, 2)?)?;
+    let is_named = |index: usize| {
+        let rest = names.get(number(headers + index * header_size, 4)?..)?;
+        Some(rest.strip_prefix(name.as_bytes())?.first() == Some(&0))
+    };
+    (0..count).find(|index| is_named(*index) == Some(true)).and_then(content)
+}
+
+fn attribute<'a>(entry: &DebuggingInformationEntry<Bytes<'a>>, name: DwAt) -> Option<AttributeValue<Bytes<'a>>> {
+    for attribute in entry.attrs() {
+        if attribute.name() == name {
+            return Some(attribute.value());
+        }
+    }
+    None
+}
+
+/// A unit of the program, and the frame to which its variables belong.
+struct Unit<'a> {
+    dwarf: &'a gimli::Dwarf<Bytes<'a>>,
+    unit: gimli::Unit<Bytes<'a>>,
+    cfa: u64,
+}
+
+/// What an expression gave, or the request that only a process can answer.
+enum Outcome<'a> {
+    Pieces(Vec<Piece<GimliReader<Bytes<'a>>>>),
+    Needs(String),
+}
+
+impl<'a> Unit<'a> {
+    fn evaluate(&self, bytes: Bytes<'a>, frame_base: Option<Bytes<'a>>) -> gimli::Result<Outcome<'a>> {
+        let mut evaluation = Evaluation::new(GimliReader(bytes), self.unit.encoding().into());
+        evaluation.set_max_iterations(10_000);
+        let mut result = evaluation.evaluate()?;
+        loop {
+            result = match result {
+                EvaluationResult::Complete => return Ok(Outcome::Pieces(evaluation.result())),
+                EvaluationResult::RequiresCallFrameCfa => evaluation.resume_with_call_frame_cfa(self.cfa)?,
+                EvaluationResult::RequiresFrameBase => {
+                    let Some(bytes) = frame_base else { return Ok(Outcome::Needs("a frame base".into())) };
+                    match self.evaluate(bytes, None)? {
+                        Outcome::Pieces(pieces) => match pieces[..] {
+                            [Piece { location: Location::Address { address }, .. }] => {
+                                evaluation.resume_with_frame_base(address)?
+                            }
+                            _ => return Ok(Outcome::Needs(format!("the frame base {}", shown(&pieces)))),
+                        },
+                        needs => return Ok(needs),
+                    }
+                }
+                // The program isn't moved.
+                EvaluationResult::RequiresRelocatedAddress(address) => {
+                    evaluation.resume_with_relocated_address(address)?
+                }
+                EvaluationResult::RequiresIndexedAddress { index, .. } => {
+                    evaluation.resume_with_indexed_address(self.dwarf.address(&self.unit, index.into())?)?
+                }
+                EvaluationResult::RequiresBaseType(offset) if offset.0 == 0 => {
+                    evaluation.resume_with_base_type(ValueType::Generic)?
+                }
+                EvaluationResult::RequiresBaseType(offset) => {
+                    let value_type = gimli::ValueType::from_entry(&self.unit.entry(offset.into())?)?;
+                    let value_type = value_type.ok_or(Error::UnsupportedTypeOperation)?;
+                    evaluation.resume_with_base_type(value_type.try_into()?)?
+                }
+                EvaluationResult::RequiresAtLocation(DieReference::UnitRef(offset)) => {
+                    let location = attribute(&self.unit.entry(offset.into())?, gimli::DW_AT_location);
+                    let called = match location {
+                        Some(AttributeValue::Exprloc(expression)) => expression.0,
+                        _ => Bytes::new(&[], LittleEndian),
+                    };
+                    evaluation.resume_with_at_location(GimliReader(called))?
+                }
+                other => return Ok(Outcome::Needs(format!("{other:?}"))),
+            }
+        }
+    }
+
+    /// Prints the variables of an entry and of those below it.
+    fn print(&self, node: EntriesTreeNode<Bytes<'a>>, mut frame_base: Option<Bytes<'a>>) -> gimli::Result<()> {
+        let entry = node.entry();
+        if let Some(AttributeValue::Exprloc(expression)) = attribute(entry, gimli::DW_AT_frame_base) {
+            frame_base = Some(expression.0);
+        }
+        if matches!(entry.tag(), gimli::DW_TAG_variable | gimli::DW_TAG_formal_parameter) {
+            let name = self.name(entry)?;
+            match attribute(entry, gimli::DW_AT_location) {
+                Some(AttributeValue::Exprloc(expression)) => {
+                    println!("{name}: {}", self.location(expression.0, frame_base));
+                }
+                Some(list) => {
+                    let Some(mut locations) = self.dwarf.attr_locations(&self.unit, list)? else { return Ok(()) };
+                    while let Some(it) = locations.next()? {
+                        let location = self.location(it.data.0, frame_base);
+                        println!("{name}, from {:#x} to {:#x}: {location}", it.range.begin, it.range.end);
+                    }
+                }
+                None => {}
+            }
+        }
+        let mut children = node.children();
+        while let Some(child) = children.next()? {
+            self.print(child, frame_base)?;
+        }
+        Ok(())
+    }
+
+    fn name(&self, entry: &DebuggingInformationEntry<Bytes<'a>>) -> gimli::Result<Cow<'a, str>> {
+        if let Some(name) = attribute(entry, gimli::DW_AT_name) {
+            return Ok(self.dwarf.attr_string(&self.unit, name)?.to_string_lossy());
+        }
+        match attribute(entry, gimli::DW_AT_abstract_origin) {
+            Some(AttributeValue::UnitRef(origin)) => self.name(&self.unit.entry(origin)?),
+            _ => Ok("(unnamed)".into()),
+        }
+    }
+
+    fn location(&self, bytes: Bytes<'a>, frame_base: Option<Bytes<'a>>) -> String {
+        match self.evaluate(bytes, frame_base) {
+            Ok(Outcome::Pieces(pieces)) => shown(&pieces),
+            Ok(Outcome::Needs(request)) => format!("needs {request}"),
+            Err(error) => format!("error: {error}"),
+        }
+    }
+}
+
+fn shown(pieces: &[Piece<GimliReader<Bytes<'_>>>]) -> String {
+    let shown = pieces.iter().map(|piece| {
+        let place = match piece.location {
+            Location::Empty => "nowhere".into(),
+            Location::Register { register } => format!("in register {}", register.0),
+            Location::Address { address } => format!("at {address:#x}"),
+            Location::Value { value } => format!("the value {value:?}"),
+            Location::Bytes { value } => format!("the bytes {:?}", value.0.slice()),
+            Location::ImplicitPointer { value, byte_offset } => {
+                format!("a pointer to byte {byte_offset} of the object at {:#x} of .debug_info", value.0)
+            }
+        };
+        match piece.size_in_bits {
+            Some(bits) => format!("{bits} bits {place}"),
+            None => place,
+        }
+    });
+    shown.collect::<Vec<_>>().join(", ")
+}
+
+fn print_variables(file: &[u8], cfa: u64) -> gimli::Result<()> {
+    let dwarf = gimli::Dwarf::load(|id| {
+        Ok::<_, gimli::Error>(Bytes::new(section(file, id.name()).unwrap_or(&[]), LittleEndian))
+    })?;
+    let mut units = dwarf.units();
+    while let Some(header) = units.next()? {
+        let unit = Unit { dwarf: &dwarf, unit: dwarf.unit(header)?, cfa };
+        unit.print(unit.unit.entries_tree(None)?.root()?, None)?;
+    }
+    Ok(())
+}
+
+fn main() -> ExitCode {
+    let words: Vec<String> = std::env::args().skip(1).collect();
+    let [program, cfa] = &words[..] else {
+        eprintln!("usage: variables PROGRAM CFA");
+        return ExitCode::from(2);
+    };
+    let Ok(cfa) = u64::from_str_radix(cfa.trim_start_matches("0x"), 16) else {
+        eprintln!("{cfa} isn't a hexadecimal number of 64 bits");
+        return ExitCode::from(2);
+    };
+    let printed = match std::fs::read(program) {
+        Ok(file) => print_variables(&file, cfa).map_err(|error| error.to_string()),
+        Err(error) => Err(error.to_string()),
+    };
+    match printed {
+        Ok(()) => ExitCode::SUCCESS,
+        Err(error) => {
+            eprintln!("{program}: {error}");
+            ExitCode::FAILURE
+        }
+    }
+}

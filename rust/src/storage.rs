@@ -1,0 +1,119 @@
+//! Where an evaluation keeps its lists: gimli's traits, over the proved ones.
+
+use crate::proved::eval::store::{self, SliceVec, StoreInSlices};
+use crate::{Piece, Reader, Value};
+use alloc::vec::Vec;
+#[cfg(feature = "arrayvec")]
+use arrayvec::ArrayVec;
+use core::marker::PhantomData;
+
+/// A list of an evaluation: a `Vec<T>` on the heap, or a [`SliceVec`] over a slice of the caller's; with the feature
+/// `arrayvec` also an array `[T; N]` or an `ArrayVec<T, N>`.
+pub trait ArrayLike {
+    /// The items.
+    type Item: Copy;
+
+    #[doc(hidden)]
+    type List: store::ArrayLike<Item = Self::Item>;
+
+    #[doc(hidden)]
+    fn new_list() -> Self::List;
+}
+
+/// Where an evaluation keeps its lists. [`StoreOnHeap`] is the default.
+///
+/// ```
+/// # #[cfg(feature = "arrayvec")] {
+/// use dwexpr::{EndianSlice, Encoding, Evaluation, EvaluationStorage, Format, LittleEndian, Piece, Reader, Value};
+///
+/// struct InArrays;
+///
+/// impl<R: Reader + Copy> EvaluationStorage<R> for InArrays {
+///     type Stack = [Value; 64];
+///     type ExpressionStack = [(R, R); 4];
+///     type Result = [Piece<R>; 1];
+/// }
+///
+/// let encoding = Encoding { address_size: 8, format: Format::Dwarf32, version: 5 };
+/// let bytes = EndianSlice::new(&[0x35], LittleEndian);
+/// let mut evaluation = Evaluation::<_, InArrays>::new_in(bytes, encoding);
+/// evaluation.evaluate().unwrap();
+/// assert_eq!(evaluation.value_result(), Some(Value::Generic(5)));
+/// # }
+/// ```
+pub trait EvaluationStorage<R: Reader + Copy> {
+    /// The values on the stack.
+    type Stack: ArrayLike<Item = Value>;
+
+    /// The callers of the running expression, each as what is left of it and the whole of it.
+    type ExpressionStack: ArrayLike<Item = (R, R)>;
+
+    /// The pieces.
+    type Result: ArrayLike<Item = Piece<R>>;
+}
+
+/// Lists on the heap, as long as memory allows.
+pub struct StoreOnHeap;
+
+impl<R: Reader + Copy> EvaluationStorage<R> for StoreOnHeap {
+    type Stack = Vec<Value>;
+    type ExpressionStack = Vec<(R, R)>;
+    type Result = Vec<Piece<R>>;
+}
+
+impl<'a, R: Reader + Copy + 'a> EvaluationStorage<R> for StoreInSlices<'a> {
+    type Stack = SliceVec<'a, Value>;
+    type ExpressionStack = SliceVec<'a, (R, R)>;
+    type Result = SliceVec<'a, Piece<R>>;
+}
+
+/// The storage `S`, as the proved evaluation wants it.
+pub(crate) struct Lists<S>(PhantomData<S>);
+
+impl<R: Reader + Copy, S: EvaluationStorage<R>> store::EvaluationStorage<R> for Lists<S> {
+    type Stack = <S::Stack as ArrayLike>::List;
+    type ExpressionStack = <S::ExpressionStack as ArrayLike>::List;
+    type Result = <S::Result as ArrayLike>::List;
+}
+
+impl<T: Copy> ArrayLike for Vec<T> {
+    type Item = T;
+    type List = Vec<T>;
+
+    #[inline]
+    fn new_list() -> Vec<T> {
+        Vec::new()
+    }
+}
+
+impl<'a, T: Copy> ArrayLike for SliceVec<'a, T> {
+    type Item = T;
+    type List = SliceVec<'a, T>;
+
+    #[inline]
+    fn new_list() -> SliceVec<'a, T> {
+        SliceVec::new(&mut [])
+    }
+}
+
+#[cfg(feature = "arrayvec")]
+impl<T: Copy, const N: usize> ArrayLike for [T; N] {
+    type Item = T;
+    type List = ArrayVec<T, N>;
+
+    #[inline]
+    fn new_list() -> ArrayVec<T, N> {
+        ArrayVec::new()
+    }
+}
+
+#[cfg(feature = "arrayvec")]
+impl<T: Copy, const N: usize> ArrayLike for ArrayVec<T, N> {
+    type Item = T;
+    type List = ArrayVec<T, N>;
+
+    #[inline]
+    fn new_list() -> ArrayVec<T, N> {
+        ArrayVec::new()
+    }
+}

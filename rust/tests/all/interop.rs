@@ -1,0 +1,192 @@
+//! gimli's readers and types.
+
+use super::panics;
+use dwexpr::EvaluationResult::*;
+use dwexpr::{Error, Evaluation, Expression, GimliReader, Location, Operation, Value, ValueType};
+use gimli::Reader as _;
+use std::borrow::Cow;
+
+const ENCODING: gimli::Encoding = gimli::Encoding { address_size: 8, format: gimli::Format::Dwarf32, version: 5 };
+
+fn little(bytes: &[u8]) -> gimli::EndianSlice<'_, gimli::LittleEndian> {
+    gimli::EndianSlice::new(bytes, gimli::LittleEndian)
+}
+
+#[test]
+fn an_expression_of_gimlis_is_evaluated() {
+    // DW_OP_fbreg -16, DW_OP_call2 of the entry at 5, DW_OP_implicit_value of a byte.
+    let expression: Expression<_> = gimli::Expression(little(&[0x91, 0x70, 0x98, 5, 0, 0x9e, 1, 7])).into();
+    let mut evaluation = expression.evaluation(ENCODING.into());
+    assert_eq!(evaluation.evaluate(), Ok(RequiresFrameBase));
+    let Ok(RequiresAtLocation(entry)) = evaluation.resume_with_frame_base(0x3000) else { panic!() };
+    assert_eq!(gimli::DieReference::from(entry), gimli::DieReference::UnitRef(gimli::UnitOffset(5)));
+    assert_eq!(evaluation.resume_with_at_location(GimliReader(little(&[0x31]))), Ok(Complete));
+    let Location::Bytes { value } = evaluation.as_result()[0].location else { panic!() };
+    assert_eq!(value, GimliReader(little(&[7])));
+    // DW_OP_lit2, DW_OP_lit1, DW_OP_bra over DW_OP_lit9.
+    let mut evaluation = Evaluation::new(GimliReader(little(&[0x32, 0x31, 0x28, 1, 0, 0x39])), ENCODING.into());
+    assert_eq!(evaluation.evaluate(), Ok(Complete));
+    assert_eq!(evaluation.value_result(), Some(Value::Generic(2)));
+}
+
+#[test]
+fn an_error_tells_where_gimlis_does() {
+    // DW_OP_const4u of two bytes, DW_OP_implicit_value of one and DW_OP_addr of none; addresses of 3 bytes.
+    for bytes in [&[0x0c, 1, 2][..], &[0x9e, 2, 1], &[0x03], &[]] {
+        let ours = Operation::parse(&mut GimliReader(little(bytes)), ENCODING.into());
+        let theirs = gimli::Operation::parse(&mut little(bytes), ENCODING);
+        assert_eq!(ours.map_err(gimli::Error::from).unwrap_err(), theirs.unwrap_err());
+    }
+    let encoding = gimli::Encoding { address_size: 3, ..ENCODING };
+    let ours = Operation::parse(&mut GimliReader(little(&[0x03, 1, 2, 3])), encoding.into());
+    assert_eq!(ours, Err(Error::UnsupportedAddressSize(3)));
+    let mut operations = Expression(GimliReader(little(&[0x96, 0x01, 0x96]))).operations(ENCODING.into());
+    assert_eq!(operations.nth(1), Some(Err(Error::InvalidExpression(dwexpr::DwOp(1)))));
+    assert_eq!(operations.offset_from(&Expression(GimliReader(little(&[0x96, 0x01, 0x96])))), 3);
+    let shorter = Expression(GimliReader(little(&[])));
+    assert!(panics(|| Expression(GimliReader(little(&[0x96]))).operations(ENCODING.into()).offset_from(&shorter)));
+}
+
+/// A reader whose addresses and offsets are relocated by as much as they are far from its end.
+#[derive(Clone, Copy, Debug)]
+struct Relocating<'a>(gimli::EndianSlice<'a, gimli::LittleEndian>);
+
+impl gimli::Reader for Relocating<'_> {
+    type Endian = gimli::LittleEndian;
+    type Offset = usize;
+
+    fn endian(&self) -> gimli::LittleEndian {
+        self.0.endian()
+    }
+
+    fn len(&self) -> usize {
+        self.0.len()
+    }
+
+    fn empty(&mut self) {
+        self.0.empty();
+    }
+
+    fn truncate(&mut self, len: usize) -> gimli::Result<()> {
+        self.0.truncate(len)
+    }
+
+    fn offset_from(&self, base: &Self) -> usize {
+        self.0.offset_from(base.0)
+    }
+
+    fn offset_id(&self) -> gimli::ReaderOffsetId {
+        self.0.offset_id()
+    }
+
+    fn lookup_offset_id(&self, id: gimli::ReaderOffsetId) -> Option<usize> {
+        self.0.lookup_offset_id(id)
+    }
+
+    fn find(&self, byte: u8) -> gimli::Result<usize> {
+        gimli::Reader::find(&self.0, byte)
+    }
+
+    fn skip(&mut self, len: usize) -> gimli::Result<()> {
+        self.0.skip(len)
+    }
+
+    fn split(&mut self, len: usize) -> gimli::Result<Self> {
+        self.0.split(len).map(Relocating)
+    }
+
+    fn to_slice(&self) -> gimli::Result<Cow<'_, [u8]>> {
+        self.0.to_slice()
+    }
+
+    fn to_string(&self) -> gimli::Result<Cow<'_, str>> {
+        gimli::Reader::to_string(&self.0)
+    }
+
+    fn to_string_lossy(&self) -> gimli::Result<Cow<'_, str>> {
+        gimli::Reader::to_string_lossy(&self.0)
+    }
+
+    fn read_slice(&mut self, buf: &mut [u8]) -> gimli::Result<()> {
+        // An error that this crate has no name for.
+        if self.len() < buf.len() { Err(gimli::Error::OffsetOutOfBounds) } else { self.0.read_slice(buf) }
+    }
+
+    fn read_address(&mut self, address_size: u8) -> gimli::Result<u64> {
+        let left = self.len() as u64;
+        Ok(self.0.read_address(address_size)? + left)
+    }
+
+    fn read_offset(&mut self, format: gimli::Format) -> gimli::Result<usize> {
+        let left = self.len();
+        Ok(self.0.read_offset(format)? + left)
+    }
+}
+
+#[test]
+fn relocations_are_kept() {
+    let parse = |bytes| Operation::parse(&mut GimliReader(Relocating(little(bytes))), ENCODING.into()).ok().unwrap();
+    // DW_OP_addr, DW_OP_call_ref, DW_OP_implicit_pointer and DW_OP_const4u. Two bytes follow.
+    let Operation::Address { address } = parse(&[0x03, 0x40, 0, 0, 0, 0, 0, 0, 0, 0, 0]) else { panic!() };
+    assert_eq!(address, 0x4a);
+    let Operation::Call { offset } = parse(&[0x9a, 0x40, 0, 0, 0, 0, 0]) else { panic!() };
+    assert_eq!(offset, dwexpr::DieReference::DebugInfoRef(dwexpr::DebugInfoOffset(0x46)));
+    let Operation::ImplicitPointer { value, .. } = parse(&[0xa0, 0x40, 0, 0, 0, 0, 0]) else { panic!() };
+    assert_eq!(value, dwexpr::DebugInfoOffset(0x46));
+    let Operation::UnsignedConstant { value } = parse(&[0x0c, 0x40, 0, 0, 0, 0, 0]) else { panic!() };
+    assert_eq!(value, 0x40);
+    let mut cut_off = GimliReader(Relocating(little(&[0x0c, 1])));
+    let start = cut_off.0.offset_id();
+    match Operation::parse(&mut cut_off, ENCODING.into()) {
+        Err(Error::UnexpectedEof(id)) => assert_eq!(id.0, start.0 + 1),
+        _ => panic!(),
+    }
+}
+
+/// Both conversions of a value.
+macro_rules! assert_both_ways {
+    ($($name:ident $(($x:expr))? $(:: $variant:ident $(($y:expr))?)?;)+) => {
+        $(
+            let (ours, theirs) = (
+                dwexpr::$name $(($x))? $(:: $variant $(($y.into()))?)?,
+                gimli::$name $(($x))? $(:: $variant $(($y))?)?,
+            );
+            assert_eq!(gimli::$name::from(ours), theirs);
+            assert_eq!(dwexpr::$name::try_from(theirs).unwrap(), ours);
+        )+
+    };
+}
+
+#[test]
+fn types_convert() {
+    assert_both_ways! {
+        Register(7); DwOp(0x91); DwAte(5); ReaderOffsetId(9); UnitOffset(3_usize); DebugInfoOffset(3_usize);
+        DebugAddrIndex(3_usize); DieReference::UnitRef(gimli::UnitOffset(3_usize));
+        DieReference::DebugInfoRef(gimli::DebugInfoOffset(3_usize)); RunTimeEndian::Little; RunTimeEndian::Big;
+        LittleEndian; BigEndian; Format::Dwarf32; Format::Dwarf64; ValueType::Generic; ValueType::I8; ValueType::U8;
+        ValueType::I16; ValueType::U16; ValueType::I32; ValueType::U32; ValueType::I64; ValueType::U64;
+        Value::Generic(1_u64); Value::I8(-1_i8); Value::U8(1_u8); Value::I16(-1_i16); Value::U16(1_u16);
+        Value::I32(-1_i32); Value::U32(1_u32); Value::I64(-1_i64); Value::U64(1_u64);
+    }
+    let encoding = gimli::Encoding { address_size: 4, format: gimli::Format::Dwarf64, version: 3 };
+    let ours = dwexpr::Encoding { address_size: 4, format: dwexpr::Format::Dwarf64, version: 3 };
+    assert_eq!((dwexpr::Encoding::from(encoding), gimli::Encoding::from(ours)), (ours, encoding));
+    assert_eq!(Value::try_from(gimli::Value::F32(3.0)), Err(Error::UnsupportedTypeOperation));
+    assert_eq!(ValueType::try_from(gimli::ValueType::F64), Err(Error::UnsupportedTypeOperation));
+}
+
+#[test]
+fn errors_become_gimlis() {
+    macro_rules! assert_same {
+        ($($name:ident $(($x:expr))?;)+) => {
+            $(assert_eq!(gimli::Error::from(Error::$name $(($x.into()))?), gimli::Error::$name $(($x))?);)+
+        };
+    }
+    assert_same! {
+        UnexpectedEof(gimli::ReaderOffsetId(1)); BadUnsignedLeb128; BadSignedLeb128; UnsupportedAddressSize(9_u8);
+        UnsupportedOffset; UnsupportedRegister(1_u64); InvalidExpression(gimli::DwOp(1)); InvalidPieceSize(1_u64);
+        UnsupportedTypeOperation; TypeMismatch; DivisionByZero; InvalidShiftExpression; NotEnoughStackItems;
+        InvalidDerefSize(9_u8); InvalidPushObjectAddress; UnsupportedEvaluation; BadBranchTarget(1_u64);
+        TooManyIterations; InvalidPiece; InvalidExpressionTerminator(1_u64); StackFull;
+    }
+}

@@ -1,0 +1,75 @@
+//! Errors, names, orders and hashes.
+
+use dwexpr::constants::*;
+use dwexpr::{
+    BigEndian, DebugInfoOffset, Encoding, Error, Format, LittleEndian, NativeEndian, ReaderOffsetId, Register,
+    RunTimeEndian, UnitOffset,
+};
+use std::collections::HashSet;
+
+#[test]
+fn each_error_says_what_it_is() {
+    for (error, text) in [
+        (Error::UnexpectedEof(ReaderOffsetId(5)), "the bytes end within an operation or a value"),
+        (Error::BadUnsignedLeb128, "an unsigned LEB128 number is too large"),
+        (Error::BadSignedLeb128, "a signed LEB128 number is too large"),
+        (Error::UnsupportedAddressSize(9), "an address can't have this size in bytes: 9"),
+        (Error::UnsupportedOffset, "an offset is too large"),
+        (Error::UnsupportedRegister(65536), "a register's number is too large: 65536"),
+        (Error::InvalidExpression(DwOp(1)), "the opcode is unknown: 0x01"),
+        (Error::InvalidPieceSize(1 << 61), "a piece of this size in bytes is too large: 2305843009213693952"),
+        (Error::UnsupportedTypeOperation, "the operation isn't defined for values of this type"),
+        (Error::TypeMismatch, "two values have different types"),
+        (Error::DivisionByZero, "division by zero"),
+        (Error::InvalidShiftExpression, "shift by a negative number"),
+        (Error::NotEnoughStackItems, "a value is missing on the stack"),
+        (Error::InvalidDerefSize(16), "a dereference is larger than an address: 16"),
+        (Error::InvalidPushObjectAddress, "no object address is set"),
+        (Error::UnsupportedEvaluation, "the operation can be decoded, but not evaluated"),
+        (Error::BadBranchTarget(18), "a branch leaves the expression: 0x12"),
+        (Error::TooManyIterations, "the maximum of operations is reached"),
+        (Error::InvalidPiece, "the last piece is missing"),
+        (Error::InvalidExpressionTerminator(3), "a location is followed by another operation than a piece: 0x3"),
+        (Error::StackFull, "a list is full, or memory is refused"),
+    ] {
+        let source: &dyn std::error::Error = &error;
+        assert_eq!(source.to_string(), text);
+        assert!(text.starts_with(error.description()));
+    }
+}
+
+#[test]
+fn constants_have_their_names() {
+    assert_eq!(DW_OP_deref.to_string(), "DW_OP_deref");
+    assert_eq!(DW_OP_GNU_variable_value.static_string(), Some("DW_OP_GNU_variable_value"));
+    assert_eq!(DW_ATE_UTF.to_string(), "DW_ATE_UTF");
+    assert_eq!(DwOp(0xff).to_string(), "Unknown DwOp: 255");
+    assert_eq!(DwAte(0x7f).static_string(), None);
+    // Those of DWARF 5, and GNU's and WebAssembly's.
+    for number in 0..=255 {
+        let is_standard = matches!(number, 0x03..=0xa9) && !matches!(number, 0x04 | 0x05 | 0x07);
+        let is_extension = matches!(number, 0xe0 | 0xed | 0xf0 | 0xf2..=0xf7 | 0xf9..=0xfd);
+        assert_eq!(DwOp(number).static_string().is_some(), is_standard || is_extension, "{number:#x}");
+    }
+}
+
+#[test]
+fn numbers_are_ordered_and_hashed() {
+    assert!(Register(1) < Register(2) && DW_OP_addr < DW_OP_deref && DW_ATE_address < DW_ATE_boolean);
+    assert!(UnitOffset(1) < UnitOffset(2) && DebugInfoOffset(1) < DebugInfoOffset(2));
+    assert_eq!(UnitOffset(2).max(UnitOffset(1)), UnitOffset(2));
+    let hashed: HashSet<_> = [Register(1), Register(2), Register(1)].into();
+    assert_eq!(hashed.len(), 2);
+    let encoding = |version, format| Encoding { address_size: 8, format, version };
+    let hashed: HashSet<_> =
+        [encoding(4, Format::Dwarf32), encoding(5, Format::Dwarf32), encoding(4, Format::Dwarf64)].into();
+    assert!(hashed.len() == 3 && hashed.contains(&encoding(4, Format::Dwarf64)));
+    assert_eq!((Format::Dwarf32.word_size(), Format::Dwarf64.word_size()), (4, 8));
+}
+
+#[test]
+fn a_byte_order_is_little_or_big() {
+    assert!(LittleEndian.is_little_endian() && RunTimeEndian::Little.is_little_endian());
+    assert!(!BigEndian.is_little_endian() && !RunTimeEndian::Big.is_little_endian());
+    assert_eq!(NativeEndian::default().is_little_endian(), cfg!(target_endian = "little"));
+}

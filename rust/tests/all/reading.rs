@@ -1,0 +1,245 @@
+//! Operations, values, slices, and a reader of the user's.
+
+use super::{ENCODING, little, panics};
+use dwexpr::constants::*;
+use dwexpr::{
+    BigEndian, DebugInfoOffset, Encoding, EndianSlice, Error, Evaluation, EvaluationResult, Expression, LittleEndian,
+    Operation, Reader, ReaderOffsetId, Register, Result, RunTimeEndian, UnitOffset, Value, ValueType,
+};
+use std::borrow::Cow;
+
+#[test]
+fn every_opcode_is_known_or_refused() {
+    for opcode in 0..=255 {
+        let all = [opcode, 1, 1, 1, 1, 1, 1, 1, 1, 1, 1];
+        match Operation::parse(&mut little(&all), ENCODING) {
+            Ok(_) => assert!(DwOp(opcode).static_string().is_some()),
+            Err(error) => {
+                assert_eq!(error, Error::InvalidExpression(DwOp(opcode)));
+                assert_eq!(DwOp(opcode).static_string(), None);
+            }
+        }
+    }
+}
+
+#[test]
+fn operations_end_with_the_bytes_or_an_error() {
+    let expression = Expression(little(&[0x91, 0x6c, 0x06, 0x9e, 2, 7, 8]));
+    let operations: Vec<_> = expression.operations(ENCODING).collect();
+    let fbreg = Operation::FrameOffset { offset: -20 };
+    let deref = Operation::Deref { base_type: UnitOffset(0), size: 8, space: false };
+    assert_eq!(operations, [Ok(fbreg), Ok(deref), Ok(Operation::ImplicitValue { data: little(&[7, 8]) })]);
+
+    let expression = Expression(little(&[0x96, 0x01, 0x96]));
+    let mut operations = expression.operations(ENCODING);
+    assert_eq!(operations.next(), Ok(Some(Operation::Nop)));
+    assert_eq!(operations.offset_from(&expression), 1);
+    assert!(panics(|| operations.offset_from(&Expression(little(&[0x96])))));
+    assert_eq!(operations.next(), Err(Error::InvalidExpression(DwOp(1))));
+    assert_eq!(operations.next(), Ok(None));
+    assert_eq!(operations.offset_from(&expression), 3);
+}
+
+#[test]
+fn each_byte_order_is_read() {
+    fn constant(mut bytes: impl Reader + Copy) -> u64 {
+        match Operation::parse(&mut bytes, ENCODING) {
+            Ok(Operation::UnsignedConstant { value }) => value,
+            _ => panic!(),
+        }
+    }
+    // DW_OP_const2u.
+    let bytes = [0x0a, 1, 2];
+    assert_eq!(constant(EndianSlice::new(&bytes, LittleEndian)), 0x0201);
+    assert_eq!(constant(EndianSlice::new(&bytes, BigEndian)), 0x0102);
+    assert_eq!(constant(EndianSlice::new(&bytes, RunTimeEndian::Little)), 0x0201);
+    assert_eq!(constant(EndianSlice::new(&bytes, RunTimeEndian::Big)), 0x0102);
+    assert_eq!(Value::parse(ValueType::U16, EndianSlice::new(&[1, 2], BigEndian)), Ok(Value::U16(0x0102)));
+}
+
+#[test]
+fn versions_but_2_read_alike() {
+    // DW_OP_implicit_pointer has an address in version 2, and else an offset.
+    let bytes = [0xa0, 1, 0, 0, 0, 0, 0, 0, 0, 5];
+    for (version, byte_offset, left) in [(0, 0, 4), (2, 5, 0), (3, 0, 4), (6, 0, 4), (900, 0, 4)] {
+        let mut rest = little(&bytes);
+        let read = Operation::parse(&mut rest, Encoding { version, ..ENCODING });
+        assert_eq!(read, Ok(Operation::ImplicitPointer { value: DebugInfoOffset(1), byte_offset }));
+        assert_eq!(rest.len(), left);
+    }
+}
+
+#[test]
+fn an_operation_without_an_address_has_any_size_of_address() {
+    for address_size in [0, 3, 9, 255] {
+        let encoding = Encoding { address_size, ..ENCODING };
+        assert_eq!(Operation::parse(&mut little(&[0x96]), encoding), Ok(Operation::Nop));
+        let addr = Operation::parse(&mut little(&[0x03, 1, 2, 3, 4, 5, 6, 7, 8]), encoding);
+        assert_eq!(addr, Err(Error::UnsupportedAddressSize(address_size)));
+    }
+}
+
+#[test]
+fn a_register_has_16_bits() {
+    // DW_OP_regx and DW_OP_bregx, with two to 32 and with 65535.
+    for bytes in [&[0x90, 0x80, 0x80, 0x80, 0x80, 0x10][..], &[0x92, 0x80, 0x80, 0x80, 0x80, 0x10, 0]] {
+        assert_eq!(Operation::parse(&mut little(bytes), ENCODING), Err(Error::UnsupportedRegister(1 << 32)));
+    }
+    let regx = Operation::parse(&mut little(&[0x90, 0xff, 0xff, 0x03]), ENCODING);
+    assert_eq!(regx, Ok(Operation::Register { register: Register(0xffff) }));
+    assert_eq!(Register::from_u64(0xffff), Ok(Register(0xffff)));
+    assert_eq!(Register::from_u64(0x10000), Err(Error::UnsupportedRegister(0x10000)));
+}
+
+#[test]
+fn a_slice_has_gimlis_calls() {
+    let bytes = [0x96, 0x0c, 1, 2];
+    let whole = little(&bytes);
+    let mut rest = whole.range_from(1..);
+    // DW_OP_const4u of two bytes: the operand begins at 2.
+    match Operation::parse(&mut rest, ENCODING) {
+        Err(Error::UnexpectedEof(id)) => assert_eq!(whole.lookup_offset_id(id), Some(2)),
+        other => panic!("{other:?}"),
+    }
+    assert_eq!(whole.split_at(1), (little(&[0x96]), little(&[0x0c, 1, 2])));
+    assert_eq!((whole.range(1..3), whole.range_to(..2)), (little(&[0x0c, 1]), little(&[0x96, 0x0c])));
+    assert!(panics(|| whole.range_from(5..)));
+    assert_eq!((whole.find(1), whole.find(3)), (Some(2), None));
+    assert_eq!((whole[1], &whole[2..], whole.first()), (0x0c, &[1, 2][..], Some(&0x96)));
+    assert_eq!(whole.range_from(3..).offset_from(whole), 3);
+    assert!(panics(|| whole.offset_from(whole.range_from(1..))));
+    assert_eq!(whole.lookup_offset_id(ReaderOffsetId(whole.offset_id().0 + 4)), Some(4));
+    assert_eq!(whole.lookup_offset_id(ReaderOffsetId(whole.offset_id().0 + 5)), None);
+    assert_eq!(whole.to_slice(), Ok(Cow::Borrowed(&bytes[..])));
+    assert_eq!(<&[u8]>::from(whole), bytes);
+
+    let mut front = whole;
+    assert_eq!(front.truncate(5), Err(Error::UnexpectedEof(whole.offset_id())));
+    assert_eq!(front, whole);
+    assert_eq!(front.truncate(3), Ok(()));
+    assert_eq!(front, little(&[0x96, 0x0c, 1]));
+}
+
+#[test]
+fn a_mask_is_two_to_a_width_less_one() {
+    for addr_mask in [0, 2, 6, 0xffff_0000, u64::MAX - 1] {
+        assert!(panics(|| Value::Generic(1).abs(addr_mask)));
+        assert!(panics(|| Value::Generic(1).add(Value::Generic(1), addr_mask)));
+        assert!(panics(|| Value::U8(1).to_u64(addr_mask)));
+        assert!(panics(|| Value::U8(1).convert(ValueType::I8, addr_mask)));
+        assert!(panics(|| ValueType::U8.bit_size(addr_mask)));
+    }
+    for width in 1..=64 {
+        let addr_mask = u64::MAX >> (64 - width);
+        assert_eq!(ValueType::Generic.bit_size(addr_mask), width);
+        assert_eq!(Value::Generic(u64::MAX).to_u64(addr_mask), Ok(addr_mask));
+    }
+}
+
+#[test]
+fn each_call_on_values_is_the_one_that_it_names() {
+    let of = |result: Result<Value>| result.unwrap();
+    let (seven, two, minus_seven) = (Value::I8(7), Value::I8(2), Value::I8(-7));
+    let yes = |is| Value::Generic(u64::from(is));
+    let mask = u64::MAX;
+    assert_eq!(of(minus_seven.abs(mask)), seven);
+    assert_eq!(of(seven.neg(mask)), minus_seven);
+    assert_eq!(of(seven.not(mask)), Value::I8(-8));
+    assert_eq!(of(seven.add(two, mask)), Value::I8(9));
+    assert_eq!(of(seven.sub(two, mask)), Value::I8(5));
+    assert_eq!(of(seven.mul(two, mask)), Value::I8(14));
+    assert_eq!(of(minus_seven.div(two, mask)), Value::I8(-3));
+    assert_eq!(of(minus_seven.rem(two, mask)), Value::I8(-1));
+    assert_eq!(of(seven.and(Value::I8(10), mask)), two);
+    assert_eq!(of(seven.or(Value::I8(10), mask)), Value::I8(15));
+    assert_eq!(of(seven.xor(Value::I8(10), mask)), Value::I8(13));
+    assert_eq!(of(seven.shl(two, mask)), Value::I8(28));
+    assert_eq!(of(Value::U8(249).shr(two, mask)), Value::U8(62));
+    assert_eq!(of(minus_seven.shra(two, mask)), Value::I8(-2));
+    for (one, other) in [(seven, two), (two, two), (two, seven)] {
+        let (Value::I8(x), Value::I8(y)) = (one, other) else { unreachable!() };
+        assert_eq!(of(one.eq(other, mask)), yes(x == y));
+        assert_eq!(of(one.ge(other, mask)), yes(x >= y));
+        assert_eq!(of(one.gt(other, mask)), yes(x > y));
+        assert_eq!(of(one.le(other, mask)), yes(x <= y));
+        assert_eq!(of(one.lt(other, mask)), yes(x < y));
+        assert_eq!(of(one.ne(other, mask)), yes(x != y));
+    }
+    assert_eq!(minus_seven.to_u64(mask), Ok(u64::MAX - 6));
+    assert_eq!(of(minus_seven.convert(ValueType::U16, mask)), Value::U16(0xfff9));
+    assert_eq!(of(minus_seven.reinterpret(ValueType::U8, mask)), Value::U8(249));
+    assert_eq!(minus_seven.reinterpret(ValueType::U16, mask), Err(Error::TypeMismatch));
+    assert_eq!(ValueType::I16.bit_size(mask), 16);
+    assert_eq!(ValueType::from_encoding(DW_ATE_unsigned, 4), Some(ValueType::U32));
+    assert_eq!(ValueType::from_encoding(DW_ATE_float, 4), None);
+}
+
+/// Bytes that are nowhere in memory, with offsets of 32 bits: DW_OP_const1u 0, DW_OP_plus, DW_OP_const1u 1, DW_OP_plus,
+/// and so on.
+#[derive(Clone, Copy, Debug, PartialEq, Eq)]
+struct Computed {
+    next: u32,
+    end: u32,
+}
+
+impl Reader for Computed {
+    type Offset = u32;
+
+    fn len(&self) -> u32 {
+        self.end - self.next
+    }
+
+    fn is_empty(&self) -> bool {
+        self.len() == 0
+    }
+
+    fn empty(&mut self) {
+        self.next = self.end;
+    }
+
+    fn offset_from(&self, base: &Self) -> u32 {
+        self.next - base.next
+    }
+
+    fn skip(&mut self, len: u32) -> Result<()> {
+        self.split(len).map(drop)
+    }
+
+    fn split(&mut self, len: u32) -> Result<Self> {
+        if self.len() < len {
+            return Err(Error::UnexpectedEof(ReaderOffsetId(self.next.into())));
+        }
+        let front = Computed { next: self.next, end: self.next + len };
+        self.next = front.end;
+        Ok(front)
+    }
+
+    fn read_fixed(&mut self, n: u8) -> Result<u64> {
+        let byte = |place| match place % 3 {
+            0 => 0x08,
+            1 => u64::from(place / 3),
+            _ => 0x22,
+        };
+        let bytes = self.split(n.into())?;
+        Ok((bytes.next..bytes.end).rev().fold(0, |number, place| number << 8 | byte(place)))
+    }
+}
+
+#[test]
+fn a_reader_may_be_the_users() {
+    let mut bytes = Computed { next: 0, end: 30 };
+    let mut rest = bytes;
+    assert_eq!(Operation::parse(&mut rest, ENCODING), Ok(Operation::UnsignedConstant { value: 0 }));
+    assert_eq!(rest, Computed { next: 2, end: 30 });
+    let mut evaluation = Evaluation::new(bytes, ENCODING);
+    assert_eq!(evaluation.evaluate(), Err(Error::NotEnoughStackItems));
+    evaluation.restart(bytes, ENCODING);
+    evaluation.set_initial_value(100);
+    assert_eq!(evaluation.evaluate(), Ok(EvaluationResult::Complete));
+    // 0 + 1 + .. + 9 = 45.
+    assert_eq!(evaluation.value_result(), Some(Value::Generic(145)));
+    bytes.end = 28;
+    evaluation.restart(bytes, ENCODING);
+    evaluation.set_initial_value(100);
+    assert_eq!(evaluation.evaluate(), Err(Error::UnexpectedEof(ReaderOffsetId(28))));
+}

@@ -1,0 +1,77 @@
+//! Refused memory is an error, and doesn't end the process.
+
+use dwexpr::{Encoding, EndianSlice, Error, Evaluation, EvaluationResult, Format, LittleEndian};
+use std::alloc::{GlobalAlloc, Layout, System};
+use std::cell::Cell;
+use std::ptr::null_mut;
+
+thread_local! {
+    /// How many bytes of memory this thread is given from now on.
+    static LEFT: Cell<usize> = const { Cell::new(usize::MAX) };
+}
+
+struct Refusing;
+
+impl Refusing {
+    fn takes(size: usize) -> bool {
+        LEFT.try_with(|left| left.get().checked_sub(size).map(|rest| left.set(rest)).is_some()).unwrap_or(true)
+    }
+}
+
+// SAFETY: memory is the system's, or refused.
+unsafe impl GlobalAlloc for Refusing {
+    unsafe fn alloc(&self, layout: Layout) -> *mut u8 {
+        if Refusing::takes(layout.size()) { unsafe { System.alloc(layout) } } else { null_mut() }
+    }
+
+    unsafe fn dealloc(&self, place: *mut u8, layout: Layout) {
+        unsafe { System.dealloc(place, layout) }
+    }
+
+    unsafe fn realloc(&self, place: *mut u8, layout: Layout, size: usize) -> *mut u8 {
+        if Refusing::takes(size) { unsafe { System.realloc(place, layout, size) } } else { null_mut() }
+    }
+}
+
+#[global_allocator]
+static ALLOCATOR: Refusing = Refusing;
+
+/// What a call gives if the thread is given so many bytes of memory.
+fn with_memory<T>(bytes: usize, call: impl FnOnce() -> T) -> T {
+    LEFT.set(bytes);
+    let result = call();
+    LEFT.set(usize::MAX);
+    result
+}
+
+const ENCODING: Encoding = Encoding { address_size: 8, format: Format::Dwarf32, version: 5 };
+
+fn little(bytes: &[u8]) -> EndianSlice<'_, LittleEndian> {
+    EndianSlice::new(bytes, LittleEndian)
+}
+
+#[test]
+fn refused_memory_is_an_error() {
+    // A value: DW_OP_lit1.
+    let mut evaluation = with_memory(0, || Evaluation::new(little(&[0x31]), ENCODING));
+    assert_eq!(with_memory(0, || evaluation.evaluate()), Err(Error::StackFull));
+    // It is kept.
+    assert_eq!(evaluation.evaluate(), Err(Error::StackFull));
+    evaluation.restart(little(&[0x31]), ENCODING);
+    assert_eq!(evaluation.evaluate(), Ok(EvaluationResult::Complete));
+    // The lists keep their memory.
+    evaluation.restart(little(&[0x32]), ENCODING);
+    assert_eq!(with_memory(0, || evaluation.evaluate()), Ok(EvaluationResult::Complete));
+    // More values than there is memory for.
+    let many = [0x31; 10_000];
+    evaluation.restart(little(&many), ENCODING);
+    assert_eq!(with_memory(5_000, || evaluation.evaluate()), Err(Error::StackFull));
+    // A piece: DW_OP_reg0.
+    let mut evaluation = Evaluation::new(little(&[0x50]), ENCODING);
+    assert_eq!(with_memory(0, || evaluation.evaluate()), Err(Error::StackFull));
+    // A caller: DW_OP_call2, and DW_OP_nop after it.
+    let mut evaluation = Evaluation::new(little(&[0x98, 1, 0, 0x96]), ENCODING);
+    assert!(matches!(with_memory(0, || evaluation.evaluate()), Ok(EvaluationResult::RequiresAtLocation(_))));
+    let called = with_memory(0, || evaluation.resume_with_at_location(little(&[0x31])));
+    assert_eq!(called, Err(Error::StackFull));
+}

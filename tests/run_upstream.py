@@ -1,5 +1,5 @@
 #!/usr/bin/env python3
-"""Runs gimli's own tests of `op.rs` and `value.rs` on the crate in rust/.
+"""Runs gimli's own tests of `op.rs` and `value.rs` on the crate that bin/crate makes.
 
     tests/run_upstream.py FOLDER
 
@@ -20,10 +20,8 @@ import subprocess
 import sys
 import tempfile
 
-TOP = pathlib.Path(__file__).resolve().parent.parent
 sys.dont_write_bytecode = True
-sys.path.insert(0, str(TOP / "bin"))
-import archive  # noqa: E402
+from run_crate import TOP, find_crates  # noqa: E402
 
 PARTS = {"value": "tests-part1.rs.txt", "op": "tests-part2.rs.txt"}
 SECONDS = 600
@@ -165,7 +163,7 @@ version = "0.0.0"
 edition = "2024"
 
 [dependencies]
-dwexpr = {{ path = "{crate}" }}
+dwexpr = { path = "../crate" }
 
 [workspace]
 """
@@ -192,14 +190,12 @@ def main():
     if not shutil.which("cargo"):
         print("left out: gimli's own tests: there is no cargo\n0 passed, 0 failed")
         return 0
-    failure = archive.build()
-    if failure:
-        print(f"FAILED the archive\n{failure}\n0 passed, 1 failed")
-        return 1
     with tempfile.TemporaryDirectory() as name:
-        folder = pathlib.Path(name)
-        (folder / "src").mkdir()
-        (folder / "Cargo.toml").write_text(CARGO.format(crate=TOP / "rust"))
+        subprocess.run([TOP / "bin/crate", pathlib.Path(name) / "crate"], stdout=subprocess.DEVNULL, check=True)
+        find_crates(pathlib.Path(name))
+        folder = pathlib.Path(name) / "upstream"
+        (folder / "src").mkdir(parents=True)
+        (folder / "Cargo.toml").write_text(CARGO)
         root, all_names = STAND_INS, []
         for part, file in PARTS.items():
             text, names = carried((pathlib.Path(sys.argv[1]) / file).read_text())
@@ -207,9 +203,9 @@ def main():
             root += f"\n#[cfg(test)]\nmod {part};\n"
             all_names += names
         (folder / "src/lib.rs").write_text(root)
-        words = ["cargo", "test", "--offline", "--quiet", "--lib", "--manifest-path", folder / "Cargo.toml"]
-        env = {"DWEXPR_C": str(archive.path_of().parent), **os.environ, "CARGO_TARGET_DIR": str(folder / "target")}
-        done = subprocess.run(words, capture_output=True, text=True, timeout=SECONDS, check=False, env=env)
+        words = ["cargo", "test", "--quiet", "--lib"]
+        env = {**os.environ, "CARGO_TARGET_DIR": str(folder / "target")}
+        done = subprocess.run(words, capture_output=True, text=True, timeout=SECONDS, check=False, cwd=folder, env=env)
     said = re.search(r"(\d+) passed; (\d+) failed", done.stdout)
     good, bad = map(int, said.groups()) if said else (0, 1)
     if bad:

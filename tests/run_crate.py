@@ -129,6 +129,8 @@ def main():
         def cargo(name, *words):
             return runs.run(name, ["cargo", *words], cwd=crate, env=env)
 
+        tree = cargo("tree", "tree") or ""
+        runs.check("without features it depends on nothing", len(tree.splitlines()) == 1, tree)
         for chosen in [[], found] if found else [[]]:
             enabled = ["--features", ",".join(chosen)] if chosen else []
             said = " with " + " and ".join(chosen) if chosen else ""
@@ -139,7 +141,7 @@ def main():
             cargo(f"doc{said}", "doc", "--no-deps", *enabled)
         listed = cargo("package --list", "package", "--list") or ""
         runs.check("the package has its licences", {"LICENSE-APACHE", "LICENSE-MIT"} <= set(listed.split()), listed)
-        cargo("package", "package", "--no-verify")
+        cargo("package", "package")
         if "gimli" in found:
             run_example(runs, cargo, folder)
     print(f"{runs.passed} passed, {runs.failed} failed")

@@ -81,7 +81,7 @@ impl<R: Reader + Copy> Evaluation<R> {
     #[track_caller]
     pub fn result(self) -> Vec<Piece<R>> {
         self.assert_complete("result");
-        self.proved.result()
+        self.proved.into_pieces()
     }
 }
 
@@ -237,13 +237,13 @@ impl<R: Reader + Copy, S: EvaluationStorage<R>> Evaluation<R, S> {
         }
     }
 
-    /// The answer to a resume whose request isn't open: the fault that the evaluation met.
+    /// What a resume gives that the proved evaluation doesn't allow.
     #[cold]
     #[inline(never)]
     #[track_caller]
     fn out_of_turn(&self, call: &str) -> Result<EvaluationResult<R>> {
-        match self.status() {
-            Status::Failed(error) => Err(error),
+        match self.start {
+            Start::Refused(size) => Err(Error::UnsupportedAddressSize(size)),
             _ => panic!("`Evaluation::{call}` was called, and no such request is open"),
         }
     }
@@ -281,7 +281,7 @@ macro_rules! resumes {
                 #[inline(always)]
                 #[track_caller]
                 pub fn $name(&mut self, $argument: $type) -> Result<EvaluationResult<R>> {
-                    if self.proved.status() != Status::Waiting(WaitingKind::$kind) {
+                    if !self.proved.is_open_for(WaitingKind::$kind) {
                         return self.out_of_turn(stringify!($name));
                     }
                     self.proved.$name($argument)

@@ -31,7 +31,6 @@ mod proved;
 
 mod errors;
 mod evaluation;
-mod heap;
 #[cfg(feature = "gimli")]
 mod interop;
 mod names;

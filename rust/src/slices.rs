@@ -5,18 +5,6 @@ use alloc::borrow::Cow;
 use core::ops::{Deref, Index, Range, RangeFrom, RangeTo};
 
 impl<'input, Endian: Endianity> EndianSlice<'input, Endian> {
-    /// The bytes.
-    #[inline]
-    pub fn slice(&self) -> &'input [u8] {
-        self.slice
-    }
-
-    /// The byte order.
-    #[inline]
-    pub fn endian(&self) -> Endian {
-        self.endian
-    }
-
     /// The bytes before an index, and those from there on.
     ///
     /// # Panics

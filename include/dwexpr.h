@@ -340,7 +340,8 @@ uint32_t dwexpr_evaluation_start(dwexpr_evaluation *evaluation, const dwexpr_tex
  *
  * Answers 0; a fault, which every later answer gets too; DWEXPR_BAD_TEXT to DWEXPR_MISPLACED, which change nothing; or
  * DWEXPR_LOST_TEXT. `outcome` is written in each case. It shows what the step answered; after a setting DWEXPR_NOTHING,
- * or again the end; `step` is 0. Of `pieces` as many as fit are written once the evaluation is complete. */
+ * or again the end; `step` is 0. Of `pieces` as many as fit are written if the evaluation is complete. At
+ * DWEXPR_LOST_TEXT some of them may be written. */
 uint32_t dwexpr_evaluation_resume(dwexpr_evaluation *evaluation, const dwexpr_text *texts, size_t texts_length,
                                   dwexpr_step step, dwexpr_outcome *outcome, dwexpr_piece *pieces,
                                   size_t pieces_length);

@@ -1,12 +1,14 @@
 -- Where an evaluation stands that is held between the calls of a caller in C (DWARF 5, section 2.5).
-use Rattle.std.specs.Prelude.{◌≡◌, ◌⊎◌, List, Result, Ok, Err, Option, None, Some, IsSomeAnd}
+use Rattle.std.specs.Prelude.{◌≡◌, ◌⊎◌, false, List, [], Result, Ok, Err, Option, None, Some, IsSomeAnd}
 use Rattle.dwarf_base.specs.declared.common.Encoding.{Encoding}
+use Rattle.dwarf_base.specs.declared.common.Format.TheVariants.{Dwarf32}
 use Rattle.dwarf_base.specs.ByteOrder.{is_big_of}
 use Rattle.dwarf_base.specs.Reads.{Text}
-use Rattle.dwarf_meaning.specs.Rest.{State}
+use Rattle.dwarf_meaning.specs.Rest.{State, Start}
+use Rattle.dwarf_meaning.specs.Run.{most}
 use Rattle.dwarf_meaning.specs.Steps.{Step}
 use Rattle.dwarf_replay.specs.Replays.{StandsAt}
-use Rattle.dwexpr_c.specs.Evaluated.{AreTaken, Beginning, IsCutShort, beginning, capacities, comes_of, told_by}
+use Rattle.dwexpr_c.specs.Evaluated.{AreTaken, Beginning, IsCutShort, beginning, capacities, comes_of, limited_setup, told_by}
 use Rattle.dwexpr_c.specs.Outcomes.{blank_outcome, ended_outcome}
 use Rattle.dwexpr_c.specs.Stepping.{DoesStep, FinishesOutcome, Stops}
 use Rattle.dwexpr_c.specs.Steps.{step_coded}
@@ -24,6 +26,19 @@ HasCapacities x = x.setup.limits ≡ capacities
 -- there is an evaluation
 abbrev pub IsBegun : Option Held → Type 0
 IsBegun handle = IsSomeAnd handle (λ held. HasCapacities held.evaluation)
+
+-- the encoding of an evaluation that wasn't started: addresses of 8 bytes, in the 32-bit format of version 5
+abbrev pub first_encoding : Encoding
+first_encoding = record { address_size = 8; format = Dwarf32; version = 5 }
+
+-- it has no bytes, in the little byte order, and nothing was set or done
+pub record IsUnstarted (held : Held) : Type 0 where
+  pub status : held.evaluation.status ≡ Start None
+  pub setup : held.evaluation.setup ≡ limited_setup first_encoding
+  pub text : held.evaluation.text ≡ record { bytes = []; is_big = false }
+  pub object_address : held.evaluation.store.settings.object_address ≡ None
+  pub maximum : held.evaluation.store.settings.maximum ≡ most
+  pub order : is_big_of held.order ≡ false
 
 -- ---- after a start
 

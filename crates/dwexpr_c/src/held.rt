@@ -1,7 +1,6 @@
 ghost use Rattle.std.specs.Prelude.{◌≡◌, Option, None, Some};
-ghost use Rattle.dwarf_meaning.specs.Rest.{Start};
 ghost use Rattle.dwexpr_c.specs.declared.held.Held.{Held};
-ghost use Rattle.dwexpr_c.specs.Held.{HasCapacities};
+ghost use Rattle.dwexpr_c.specs.Held.{IsUnstarted};
 
 use crate::places::Placed;
 use arrayvec::ArrayVec;
@@ -30,10 +29,9 @@ pub struct Held<'a> {
     pub(crate) order: RunTimeEndian,
 }
 
-/// An evaluation of no bytes, until it is started with a text.
+/// An evaluation of no bytes, before it is started with a text.
 pub(crate) fn unstarted<'a>() -> Held<'a>
-    ensures status { result.evaluation.status ≡ Start None }
-    ensures capacities { HasCapacities result.evaluation }
+    ensures { IsUnstarted result }
 {
     let order = RunTimeEndian::Little;
     let encoding = Encoding {

@@ -3,7 +3,7 @@ ghost use Rattle.std.specs.Prelude.{◌≡◌, IsSomeAnd, None};
 ghost use Rattle.dwexpr_c.specs.Codes.{bad_encoding_code};
 ghost use Rattle.dwexpr_c.specs.Encodings.{IsEncoding, encoding_in, is_big_in};
 ghost use Rattle.dwexpr_c.specs.Evaluated.{EvaluatesFirst};
-ghost use Rattle.dwexpr_c.specs.Held.{HasCapacities, HasResumed, IsBegun, StandsAfterFirst};
+ghost use Rattle.dwexpr_c.specs.Held.{HasCapacities, HasResumed, IsBegun, IsUnstarted, StandsAfterFirst};
 ghost use Rattle.dwexpr_c.specs.Outcomes.{ended_outcome};
 ghost use Rattle.dwexpr_c.specs.Owned.{held_row};
 ghost use Rattle.dwexpr_c.specs.Texts.{text_at};
@@ -47,7 +47,8 @@ pub extern "C" fn dwexpr_evaluation_size() -> usize
 #[unsafe(no_mangle)]
 pub extern "C" fn dwexpr_evaluation_begin(evaluation: &mut DwexprEvaluation)
     requires { evaluation.old.held ≡ None }
-    ensures { IsBegun evaluation.new.held }
+    ensures begun { IsBegun evaluation.new.held }
+    ensures unstarted { IsSomeAnd evaluation.new.held (λ held. IsUnstarted held) }
 {
     evaluation.fill(unstarted());
 }
@@ -87,7 +88,8 @@ pub extern "C" fn dwexpr_evaluation_start(
 ///
 /// It answers 0, or the code of a fault of the expression or of an argument. `outcome` is written in each case. It
 /// shows what the step answered, a request or completion, and nothing after a setting; `step` is 0. Of the pieces of
-/// a complete evaluation as many are written as there is room for.
+/// a complete evaluation as many are written as there is room for. If bytes of a piece are in none of the texts, the
+/// code is 69, and the pieces before it may be written.
 #[unsafe(no_mangle)]
 pub extern "C" fn dwexpr_evaluation_resume(
     evaluation: &mut DwexprEvaluation,

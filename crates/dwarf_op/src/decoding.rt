@@ -406,7 +406,7 @@ impl<R: Reader + Copy> Operation<R> {
     /// `UnexpectedEof` if its bytes are cut off, `InvalidExpression` of an unknown opcode, and `BadUnsignedLeb128`,
     /// `BadSignedLeb128`, `UnsupportedAddressSize`, `UnsupportedOffset`, `UnsupportedRegister` or `InvalidPieceSize`
     /// of an operand; the first operand that isn't allowed decides. After an error `bytes` is at a suffix of what it
-    /// was.
+    /// was. Which suffix is left open: a reader may have taken the opcode and operands, or nothing.
     #[tactic(auto, using(dwarf_base::proofs::Suffixes::suffix_trans), unfolding(dwarf_meaning::specs::Decoding::operation_at))]
     #[inline(always)]
     pub fn parse(bytes: &mut R, encoding: Encoding) -> Result<Operation<R>>

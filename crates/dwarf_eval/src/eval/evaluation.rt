@@ -159,7 +159,7 @@ impl<R: Reader + Copy, S: EvaluationStorage<R>> Evaluation<R, S> {
     ///
     /// # Errors
     ///
-    /// - Those of [`Operation::parse`](crate::op::Operation::parse), if the next operation is malformed.
+    /// - Those of `Operation::parse`, if the next operation is malformed.
     /// - Those of the calls of [`Value`] that it makes: `UnsupportedTypeOperation`, `TypeMismatch`, `DivisionByZero`,
     ///   `InvalidShiftExpression`.
     /// - `NotEnoughStackItems`, if a value is missing on the stack; also at the end, if there are no pieces.

@@ -1,8 +1,11 @@
 #!/usr/bin/env python3
 """Packs the archive as bin/package does, and uses the package with no `rt` on PATH and HOME is empty.
 
-- Two packages are the same, byte for byte.
-- examples/decode.c is built by cc, with the words of pkg-config, and by a CMake project; a caller in C++ by c++.
+- Two packages are the same, byte for byte. A package has the files that it should, no link of its pages leads nowhere,
+  and PROVED names the commit and the kit.
+- An archive of other sources, another one, or one whose proof has no record isn't packed.
+- examples/decode.c is built by cc, with the words of pkg-config, and by a CMake project. So are a caller of dwexpr_run
+  in C and a caller in C++.
 - The Rust crate is built, and its tests run, by cargo.
 - For aarch64 decode.c is built by Debian's cross compiler and run by qemu-user.
 
@@ -11,6 +14,7 @@ It wants cc; what else is missing is left out, and said so. The last line is `N 
 
 import os
 import pathlib
+import re
 import shutil
 import subprocess
 import sys
@@ -49,6 +53,58 @@ int main()
     std::printf("%u 0x%llx\\n", code, static_cast<unsigned long long>(piece.number));
 }
 """
+
+# A call of a text that holds two bytes, after the frame address is dropped.
+RUN = """\
+#include <dwexpr_run.h>
+#include <stdio.h>
+
+static int give_cfa(void *context, uint64_t *address)
+{
+    *address = *(const uint64_t *)context;
+    return 0;
+}
+
+static int give_text(void *context, int in_debug_info, uint64_t offset, dwexpr_text *text)
+{
+    static const uint8_t bytes[] = {0x9e, 2, 0xaa, 0xbb};
+    (void)context;
+    text->bytes = bytes;
+    text->length = sizeof bytes;
+    return in_debug_info || offset != 5;
+}
+
+int main(void)
+{
+    static const uint8_t bytes[] = {0x9c, 0x13, 0x98, 5, 0};
+    const dwexpr_text text = {bytes, sizeof bytes};
+    const dwexpr_encoding encoding = {8, 4, 0, 5};
+    const dwexpr_callbacks calls = {.cfa = give_cfa, .location = give_text};
+    uint64_t frame = 0x3000;
+    dwexpr_texts texts;
+    dwexpr_outcome outcome;
+    dwexpr_piece piece;
+    dwexpr_text block;
+    int code = dwexpr_run(text, encoding, &calls, &frame, NULL, &texts, &outcome, &piece, 1);
+    block = dwexpr_piece_block(&piece, texts.items, texts.length);
+    if (block.length == 2)
+        printf("%d %02x%02x\\n", code, block.bytes[0], block.bytes[1]);
+    return code;
+}
+"""
+
+# What a package holds, besides the sources and tests of the Rust crate.
+FILES = """
+include/dwexpr.h include/dwexpr_run.h lib/libdwexpr.a lib/pkgconfig/dwexpr.pc
+lib/cmake/dwexpr/dwexpr-config.cmake lib/cmake/dwexpr/dwexpr-config-version.cmake
+share/doc/dwexpr/DIFFERENCES.md share/doc/dwexpr/GUIDE.md share/doc/dwexpr/PROOFS.md share/doc/dwexpr/PROVED
+share/doc/dwexpr/LICENSE-APACHE share/doc/dwexpr/LICENSE-MIT
+share/dwexpr/rust/Cargo.toml share/dwexpr/rust/README.md share/dwexpr/rust/build.rs share/dwexpr/rust/libdwexpr_c.a
+share/dwexpr/rust/LICENSE-APACHE share/dwexpr/rust/LICENSE-MIT
+""".split()
+RUST = "share/dwexpr/rust"
+LINK = re.compile(r"\]\(([^)]+)\)")
+PROVED = re.compile(r"libdwexpr.a \S+ for \S+\ncommit \S+\nkit \S.*\nsources [0-9a-f]{64}\narchive [0-9a-f]{64}\n")
 
 WORDS = ["8", "4", "5", "le", "916c06"]
 WANTED = "0 DW_OP_fbreg: -20\n2 DW_OP_deref\n"
@@ -119,6 +175,46 @@ def environment(home):
     return {**kept, "PATH": ":".join([str(links), *plain]), "HOME": str(home)}
 
 
+def files_of(package):
+    """The files are those that it should have, and each link leads somewhere."""
+    found = {str(it.relative_to(package)) for it in package.rglob("*") if it.is_file()}
+    examples = {f"share/dwexpr/examples/{it.name}" for it in TOP.glob("examples/*.[ch]")}
+    crate = {it for it in found if it.startswith((f"{RUST}/src/", f"{RUST}/tests/"))}
+    wanted = {*FILES, *examples, f"{RUST}/src/lib.rs", *crate}
+    check(found == wanted, "the files of the package", f"{sorted(found - wanted)} and {sorted(wanted - found)}")
+    check(PROVED.fullmatch((package / "share/doc/dwexpr/PROVED").read_text()), "PROVED")
+    pages = [it for it in package.rglob("*.md") if RUST not in str(it)]
+    links = [(page, link) for page in pages for link in LINK.findall(page.read_text()) if "://" not in link]
+    dead = [f"{page.name}: {link}" for page, link in links if not (page.parent / (link.split("#")[0] or ".")).exists()]
+    check(not dead, "the links of the package", "\n".join(dead))
+
+
+def refusals(folder):
+    """bin/package packs no archive but that which was proved from these sources."""
+    top = folder / "copy"
+    unneeded = shutil.ignore_patterns("incremental", "rlib", "__pycache__")
+    for name in ("bin", "crates", "docs", "examples", "include", "rust"):
+        shutil.copytree(TOP / name, top / name, ignore=unneeded)
+    for name in ("crates.txt", "LICENSE-MIT", "LICENSE-APACHE"):
+        shutil.copy2(TOP / name, top)
+    archive = top / "crates/dwexpr_c/out/libdwexpr_c.a"
+    words = [top / "bin/package", "--prefix", top / "prefix"]
+    check_run("the copy is packed", words)
+    for name, path in [
+        ("an archive of other sources", top / "crates/dwarf_base/src/lib.rt"),
+        ("another archive", archive),
+        ("an archive whose proof has no record", archive.with_suffix(".proved")),
+    ]:
+        kept, times = path.read_bytes(), (path.stat().st_atime, path.stat().st_mtime)
+        path.unlink() if path.suffix == ".proved" else path.write_bytes(kept + b"\n")
+        if path.exists():
+            os.utime(path, times)
+        done = run(words)
+        check(done.returncode == 1 and "isn't packed" in done.stderr, f"{name} isn't packed", done.stdout + done.stderr)
+        path.write_bytes(kept)
+        os.utime(path, times)
+
+
 def by_compilers(package, folder, env):
     source = package / "share/dwexpr/examples/decode.c"
     flags = [f"-I{package / 'include'}", f"-L{package / 'lib'}", "-ldwexpr"]
@@ -132,6 +228,12 @@ def by_compilers(package, folder, env):
     program = folder / "decode"
     if check_run("decode.c by cc", ["cc", "-std=c11", source, *flags, "-o", program], env=env):
         check_decode("decode.c by cc, run", [program], env=env)
+    caller, program = folder / "run.c", folder / "run"
+    caller.write_text(RUN)
+    words = ["cc", "-std=c11", "-Wall", "-Wextra", caller, *flags, "-o", program]
+    if check_run("a caller of dwexpr_run", words, env=env):
+        done = run([program], env=env)
+        check(done.stdout == "0 aabb\n", "a caller of dwexpr_run, run", done.stdout + done.stderr)
     if not shutil.which("c++"):
         return left_out("a caller in C++", "c++")
     caller, program = folder / "caller.cpp", folder / "caller"
@@ -191,6 +293,8 @@ def main():
             first = package.read_bytes()
             check(packed() == package and package.read_bytes() == first, "two packages are the same")
             here = unpacked(package, folder)
+            files_of(here)
+            refusals(folder)
             by_compilers(here, folder, env)
             by_cmake(here, folder, env)
             by_cargo(here, folder, env)

@@ -1,9 +1,10 @@
 #!/usr/bin/env python3
 """Builds the callers of libdwexpr_c.a in C and Rust, and runs them.
 
-- tests/c/*.c: each field of each operation and outcome, each code, guard pages, a signal handler; as they are, and
-  built with the sanitizers of addresses and of undefined behaviour. decode.c is given the vectors of
-  tests/vectors/decode.json, and cut.c the expressions of tests/rows.
+- tests/c/*.c: each field of each operation and outcome, each code, each block, callbacks, guard pages, a signal
+  handler; as they are, and built with the sanitizers of addresses and of undefined behaviour. decode.c is given the
+  vectors of tests/vectors/decode.json, cut.c the expressions of tests/rows, and names.c the names of libdw's dwarf.h,
+  or the repository's if that lacks them.
 - include: the headers, without a warning as C11, C17 and C++17. The structs of the crate and of rust/ have the fields
   of dwexpr.h, by name, type and order, and so the places that it asserts.
 - rust/: it is built by rustc alone without a warning; its tests and the examples of its documentation, by cargo.
@@ -180,8 +181,22 @@ def expressions():
     return "\n".join(lines)
 
 
+def names():
+    """The lines that tests/c/names.c reads: the number and the name of each opcode."""
+    constants = (TOP / "crates/dwarf_base/src/constants.rt").read_text(encoding="utf-8")
+    numbers = dict(re.findall(r"^pub const (DW_OP_\w+): DwOp = DwOp\(0x(\w+)\);", constants, re.MULTILINE))
+    expanded = run(["cc", "-E", "-x", "c", "-"], given="#include <dwarf.h>\n")
+    if expanded.returncode:
+        left_out("the names of opcodes in dwarf.h", "dwarf.h")
+    else:
+        theirs = dict(re.findall(r"\b(DW_OP_\w+) = 0x(\w+)", expanded.stdout))
+        numbers |= {name: theirs[name] for name in numbers if name in theirs}
+        count_one("opcodes of dwarf.h", len(theirs) > 150, True)
+    return "\n".join(f"{numbers[name]} {name}" for name in numbers)
+
+
 def callers(folder):
-    given = {"decode": vectors(), "cut": expressions()}
+    given = {"decode": vectors(), "cut": expressions(), "names": names()}
     for source in sorted((TOP / "tests" / "c").glob("*.c")):
         for kind, words in [("", ["-O2"]), (" with sanitizers", SANITIZERS)]:
             # A sanitizer keeps what it knows of memory on the stack, which then has to be larger than 16 KiB.

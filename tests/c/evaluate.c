@@ -449,22 +449,6 @@ static void holding(void)
           name, "the code");
 }
 
-/* Each code and opcode has a name. */
-static void names(void)
-{
-    uint32_t number, codes = 0, opcodes = 0;
-    for (number = 0; number < 300; number++) {
-        codes += dwexpr_code_name(number) != NULL;
-        opcodes += dwexpr_opcode_name(number) != NULL;
-    }
-    name = "names";
-    check(codes == 1 + 21 + 8, name, "of codes");
-    check(opcodes == 178, name, "of opcodes");
-    check(!strcmp(dwexpr_opcode_name(0x03), "DW_OP_addr"), name, "of the first opcode");
-    check(!strcmp(dwexpr_opcode_name(0x4f), "DW_OP_lit31"), name, "of a literal");
-    check(!strcmp(dwexpr_opcode_name(0xfd), "DW_OP_GNU_variable_value"), name, "of the last opcode");
-}
-
 int main(void)
 {
     dwexpr_evaluation_begin(&evaluation);
@@ -476,6 +460,5 @@ int main(void)
     faults();
     arguments();
     holding();
-    names();
     return finish();
 }

@@ -1,0 +1,62 @@
+/* The names of opcodes, which are given as lines of a number and a name, and of codes. */
+#include "check.h"
+
+static void opcodes(void)
+{
+    unsigned number, given = 0, named = 0;
+    char name[80];
+    while (scanf("%x %79s", &number, name) == 2) {
+        const char *got = dwexpr_opcode_name(number);
+        check(got && !strcmp(got, name), name, got ? got : "no name");
+        given++;
+    }
+    for (number = 0; number < 1000; number++)
+        named += dwexpr_opcode_name(number) != NULL;
+    check(given > 0 && named == given, "opcodes", "no others have names");
+}
+
+/* words that the name of this code has, and of no other */
+static void codes(void)
+{
+    static const struct {
+        uint32_t code;
+        const char *words;
+    } rows[] = {
+        {DWEXPR_OK, "no fault"}, {DWEXPR_UNEXPECTED_EOF, "cut off"},
+        {DWEXPR_BAD_UNSIGNED_LEB128, "an unsigned LEB128"}, {DWEXPR_BAD_SIGNED_LEB128, "a signed LEB128"},
+        {DWEXPR_UNSUPPORTED_ADDRESS_SIZE, "address has this size"}, {DWEXPR_UNSUPPORTED_OFFSET, "offset is too large"},
+        {DWEXPR_UNSUPPORTED_REGISTER, "register"}, {DWEXPR_INVALID_EXPRESSION, "opcode"},
+        {DWEXPR_INVALID_PIECE_SIZE, "piece is too large"}, {DWEXPR_UNSUPPORTED_TYPE_OPERATION, "values of this type"},
+        {DWEXPR_TYPE_MISMATCH, "different types"}, {DWEXPR_DIVISION_BY_ZERO, "zero"},
+        {DWEXPR_INVALID_SHIFT_EXPRESSION, "shift"}, {DWEXPR_NOT_ENOUGH_STACK_ITEMS, "missing on the stack"},
+        {DWEXPR_INVALID_DEREF_SIZE, "more bytes are read"}, {DWEXPR_INVALID_PUSH_OBJECT_ADDRESS, "object's address"},
+        {DWEXPR_UNSUPPORTED_EVALUATION, "can't be evaluated"}, {DWEXPR_BAD_BRANCH_TARGET, "branch"},
+        {DWEXPR_TOO_MANY_ITERATIONS, "too many operations"}, {DWEXPR_INVALID_PIECE, "piece is missing"},
+        {DWEXPR_INVALID_EXPRESSION_TERMINATOR, "location is followed"}, {DWEXPR_STACK_FULL, "full"},
+        {DWEXPR_BAD_ENCODING, "encoding"}, {DWEXPR_BAD_OFFSET, "at this offset"}, {DWEXPR_BAD_TEXT, "no such text"},
+        {DWEXPR_BAD_STEP, "no such step"}, {DWEXPR_MISPLACED, "isn't allowed here"},
+        {DWEXPR_LOST_TEXT, "text of before"}, {DWEXPR_TOO_MANY_TEXTS, "too many texts"},
+        {DWEXPR_BAD_VALUE, "mask"},
+    };
+    const size_t count = sizeof rows / sizeof *rows;
+    size_t i, named = 0;
+    uint32_t code;
+    for (i = 0; i < count; i++) {
+        check(dwexpr_code_name(rows[i].code) != NULL, rows[i].words, "a name");
+        for (code = 0; code < 1000; code++) {
+            const char *got = dwexpr_code_name(code);
+            if (got && (strstr(got, rows[i].words) != NULL) != (code == rows[i].code))
+                check(0, rows[i].words, got);
+        }
+    }
+    for (code = 0; code < 1000; code++)
+        named += dwexpr_code_name(code) != NULL;
+    check(named == count, "codes", "no others have names");
+}
+
+int main(void)
+{
+    opcodes();
+    codes();
+    return finish();
+}

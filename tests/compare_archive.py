@@ -1,0 +1,193 @@
+#!/usr/bin/env python3
+"""Compares the Rust crate with the archive for C, in one process.
+
+    tests/compare_archive.py [COUNT]           COUNT made-up cases of each kind; without it 1,000,000
+    tests/compare_archive.py --wrong-bodies    tries the wrong bodies of the crate
+
+It makes the crate anew by bin/crate, and builds it into the program of tests/beside_archive, with checks of overflow.
+The program compares each operation, request, fault, value, piece and block that both sides give: of made-up
+expressions, of the expressions of tests/rows, in the rows' steps, and of those of tests/vectors. The archive is the
+proved one, which tests/run_c.py builds, or the one in the folder that the variable DWEXPR_C names.
+
+A wrong body changes a line of the crate's proved modules. tests/beside_archive/wrong-bodies has them: a name, a file
+under src/proved, a text that stands in it once, and another. The program has to see a difference, with fewer cases.
+
+The last line is `N passed, M failed`: kinds and rows, or wrong bodies.
+"""
+
+import concurrent.futures
+import json
+import os
+import pathlib
+import re
+import resource
+import shutil
+import subprocess
+import sys
+import tempfile
+
+TOP = pathlib.Path(__file__).resolve().parent.parent
+sys.dont_write_bytecode = True
+sys.path.insert(0, str(TOP / "bin"))
+import archive  # noqa: E402
+import compiler  # noqa: E402
+import run_rows  # noqa: E402
+
+PROGRAM = TOP / "tests" / "beside_archive"
+COUNT = 1_000_000
+WRONG_BODIES_COUNT = 20_000
+SECONDS = 600
+# Wrong bodies may fill what memory there is.
+MEMORY = 4 << 30
+RUSTC = ["rustc", "--edition", "2024", "-O", "-C", "overflow-checks=on", "-C", "debug-assertions=on"]
+EXPRESSION = re.compile(r"(eval|ops) ([1-8]) ([48]) ([2-5]) (le|be) ((?:[0-9a-fA-F]{2})+|-)")
+DIFFERENCE = re.compile(r"^DIFFERS (.*?): (.*\n.*\n.*)\n", re.MULTILINE)
+
+
+def case_of(row):
+    """The line that says to the program what a row decodes or evaluates; `None` if the row is about other things."""
+    words = b" ".join(run_rows.bytes_of(word) for word in row["words"])
+    said = EXPRESSION.fullmatch(words.decode("utf-8", "replace"))
+    if not said or row.keys() & {"input_from", "output_to", "megabytes"}:
+        return None
+    if run_rows.bytes_of(row.get("output", "")).startswith(b"bad "):
+        return None
+    command, *columns = said.groups()
+    if command == "eval":
+        columns += run_rows.input_bytes_of(row).decode().replace("\r\n", "\n").splitlines()
+    return "\t".join(columns)
+
+
+def cases():
+    """The lines of the rows, and of the vectors, each of which is evaluated up to its first request."""
+    rows = [row for file in sorted(run_rows.ROWS.glob("*.json")) for row in run_rows.rows_of(file)]
+    lines = [line for row in rows if (line := case_of(row)) is not None]
+    vectors = json.loads((TOP / "tests" / "vectors" / "decode.json").read_text(encoding="utf-8"))
+    print(f"{len(lines)} of {len(rows)} rows decode or evaluate; {len(vectors)} vectors", flush=True)
+    lines += ["\t".join([*vector["in"].split(), vector["bytes"].replace(" ", ""), "evaluate"]) for vector in vectors]
+    return "".join(f"{line}\n" for line in lines)
+
+
+def fail(said):
+    print(f"FAILED {said}\n0 passed, 1 failed")
+    sys.exit(1)
+
+
+def archive_folder():
+    """The folder of the archive. Without an archive the run ends."""
+    if "DWEXPR_C" in os.environ:
+        return pathlib.Path(os.environ["DWEXPR_C"])
+    path = archive.path_of()
+    if not compiler.is_newer(path, archive.CRATE.name):
+        fail(f"{path.relative_to(TOP)} isn't there, or is older than its sources: tests/run_c.py builds it")
+    return path.parent
+
+
+def build(crate, folder):
+    """Builds the program with a crate, into a folder. What went wrong, or ""."""
+    library = folder / "libdwexpr.rlib"
+    uses = ["-L", archive_folder(), "--extern", f"dwexpr={library}"]
+    for words in (
+        ["--crate-type", "lib", "--crate-name", "dwexpr", crate / "src" / "lib.rs", "-o", library],
+        ["-D", "warnings", *uses, PROGRAM / "main.rs", "-o", folder / "beside_archive"],
+    ):
+        done = subprocess.run([*RUSTC, *words], capture_output=True, text=True, check=False)
+        if done.returncode:
+            return done.stderr
+    return ""
+
+
+def limit_memory():
+    resource.setrlimit(resource.RLIMIT_AS, (MEMORY, MEMORY))
+
+
+def run(folder, count, lines):
+    """Runs the program of a folder. What it printed, or `None` if it didn't come to its end."""
+    words = [folder / "beside_archive", str(count), lines]
+    try:
+        done = subprocess.run(
+            words, stdout=subprocess.PIPE, text=True, timeout=SECONDS, preexec_fn=limit_memory, check=False
+        )
+    except subprocess.TimeoutExpired:
+        return None
+    return done.stdout if re.search(r"^\d+ passed, \d+ failed\n\Z", done.stdout, re.MULTILINE) else None
+
+
+def compare(crate, folder, lines, count):
+    """Compares the crate with the archive. Whether they are alike."""
+    if failure := build(crate, folder):
+        fail(f"the crate, or the program with it, isn't built\n{failure}")
+    printed = run(folder, count, lines)
+    if printed is None:
+        fail("the program didn't come to its end")
+    print(printed, end="")
+    return printed.endswith(" 0 failed\n")
+
+
+def wrong_bodies():
+    """Each wrong body: its name, the file, the text that is there, and the text that comes in its place."""
+    for block in (PROGRAM / "wrong-bodies").read_text(encoding="utf-8").strip().split("\n\n"):
+        yield [line.partition(": ")[2] for line in block.splitlines()]
+
+
+def try_wrong_body(wrong_body, crate, lines):
+    """Compares the crate with a wrong body in place. Whether a difference was seen, and which."""
+    _, file, old, new = wrong_body
+    with tempfile.TemporaryDirectory(prefix="wrong-body-") as name:
+        folder = pathlib.Path(name)
+        shutil.copytree(crate, folder / "crate")
+        source = folder / "crate" / "src" / "proved" / file
+        text = source.read_text(encoding="utf-8")
+        if text.count(old) != 1:
+            return False, f"its old text stands {text.count(old)} times in {file}"
+        source.write_text(text.replace(old, new), encoding="utf-8")
+        if failure := build(folder / "crate", folder):
+            return False, failure
+        printed = run(folder, WRONG_BODIES_COUNT, lines)
+    if printed is None:
+        return False, "the program didn't come to its end"
+    seen = DIFFERENCE.findall(printed)
+    if not seen:
+        return False, "no difference was seen"
+    kinds = ", ".join(dict.fromkeys(kind for kind, _ in seen))
+    return True, f"{kinds}\n    {min((said for _, said in seen), key=len)}"
+
+
+def try_wrong_bodies(crate, lines):
+    """Tries all wrong bodies. Whether each was seen."""
+    all_of_them = list(wrong_bodies())
+    seen = 0
+    with concurrent.futures.ThreadPoolExecutor(compiler.JOBS) as pool:
+        tried = pool.map(lambda wrong_body: try_wrong_body(wrong_body, crate, lines), all_of_them)
+        for (name, *_), (is_seen, said) in zip(all_of_them, tried):
+            print(f"{'seen' if is_seen else 'NOT SEEN'}: {name}: {said}", flush=True)
+            seen += is_seen
+    print(f"{seen} passed, {len(all_of_them) - seen} failed")
+    return seen == len(all_of_them)
+
+
+def main():
+    words = sys.argv[1:]
+    if len(words) > 1 or not all(word == "--wrong-bodies" or word.isdecimal() for word in words):
+        print(__doc__, file=sys.stderr)
+        return 2
+    if missing := [tool for tool in ("rustc", "rustfmt", "git") if not shutil.which(tool)]:
+        print(f"left out: the Rust crate beside the archive: there is no {missing[0]}\n0 passed, 0 failed")
+        return 0
+    archive_folder()
+    with tempfile.TemporaryDirectory(prefix="beside-archive-") as name:
+        folder = pathlib.Path(name)
+        crate, lines = folder / "crate", folder / "cases"
+        made = subprocess.run([TOP / "bin" / "crate", crate], capture_output=True, text=True, check=False)
+        if made.returncode:
+            fail(f"bin/crate\n{made.stdout}{made.stderr}")
+        lines.write_text(cases(), encoding="utf-8")
+        if words == ["--wrong-bodies"]:
+            is_good = try_wrong_bodies(crate, lines)
+        else:
+            is_good = compare(crate, folder, lines, int(words[0]) if words else COUNT)
+    return 0 if is_good else 1
+
+
+if __name__ == "__main__":
+    sys.exit(main())

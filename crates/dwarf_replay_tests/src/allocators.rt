@@ -21,9 +21,9 @@ impl<B: Allocator> RefusesGrowth<B> {
         }
     }
 
-    /// How many growths come before the refused one.
-    pub(crate) fn before(&self) -> u64 {
-        self.before.get()
+    /// How many growths there were, of one that was made with this many before the refused one.
+    pub(crate) fn growths(&self, before: u64) -> u64 {
+        before.wrapping_sub(self.before.get())
     }
 
     /// Whether a growth was refused.

@@ -6,6 +6,8 @@ mod allocators;
 #[cfg(test)]
 mod evaluation;
 #[cfg(test)]
+mod memory;
+#[cfg(test)]
 mod refusals;
 #[cfg(test)]
 mod replays;

@@ -1,13 +1,13 @@
 //! Each push of an evaluation is refused in turn, and each growth of its lists and of the answers.
-ghost use Rattle.std.specs.Prelude.{◌≡◌, [], None};
+ghost use Rattle.std.specs.Prelude.{◌≡◌, ◌<◌, [], None};
 
 use crate::allocators::{NEVER, RefusesGrowth};
 use crate::evaluation::{COMPLETE, SMALL, Slice, little, replayed};
-use crate::replays::{AGAIN, FULL, ITSELF};
+use crate::replays::{AGAIN, CFA, FULL, ITSELF};
 use dwarf_base::{Error, Reader};
 use dwarf_eval::eval::{Evaluation, Status};
-use dwarf_eval::op::{Expression, Piece};
-use dwarf_eval::store::{ArrayLike, EvaluationStorage, StoreOnHeap};
+use dwarf_eval::op::Piece;
+use dwarf_eval::store::{ArrayLike, EvaluationStorage};
 use dwarf_replay::{Answer, Replayed, Step, Stepped, take_step};
 use dwarf_value::Value::{self, Generic};
 use dwarf_value::ValueType;
@@ -90,14 +90,85 @@ fn later_steps() -> [Step<Slice<'static>>; 13] {
     ]
 }
 
-// An expression, its steps, what they answer with ample memory, the value and the count of pieces.
-#[derive(Clone, Copy)]
+// Which list refuses a push: that of the values, the callers, the pieces or the answers.
+const LISTS: usize = 4;
+
+const PIECES: usize = 2;
+
+const ANSWERS: usize = 3;
+
+// An expression, its steps, and what they answer with ample memory: then each list is pushed to this often, and the
+// stack has at most this many values.
+#[derive(Drop)]
 struct Refusal<'a> {
-    text: &'a [u8],
-    steps: &'a [Step<Slice<'a>>],
-    told: &'a [Answer<Slice<'a>>],
+    text: Vec<u8>,
+    steps: Vec<Step<Slice<'a>>>,
+    told: Vec<Answer<Slice<'a>>>,
     value: Option<Value>,
-    pieces: usize,
+    pushes: [u64; LISTS],
+    values: u64,
+}
+
+// One thing, this many times.
+fn repeated<T: Copy>(alloc: Global, item: T, count: u64) -> Result<Vec<T>, AllocError> {
+    let mut items = Vec::new(alloc);
+    for _ in 0..count {
+        items.push(item)?;
+    }
+    Ok(items)
+}
+
+// This many ones, and their sum. The end answers once more.
+fn sum<'a>(alloc: Global, count: u64) -> Result<Refusal<'a>, AllocError> {
+    let mut text = repeated(alloc, 0x31, count)?;
+    for _ in 1..count {
+        text.push(0x22)?;
+    }
+    Ok(Refusal {
+        text,
+        steps: repeated(alloc, Step::Evaluate, 1)?,
+        told: repeated(alloc, COMPLETE, 1)?,
+        value: Some(Generic(count)),
+        pushes: [count.saturating_mul(2).saturating_sub(1), 0, 1, 2],
+        values: count,
+    })
+}
+
+// This many pieces, each of them in a register.
+fn registers<'a>(alloc: Global, count: u64) -> Result<Refusal<'a>, AllocError> {
+    let mut text = Vec::new(alloc);
+    for _ in 0..count {
+        text.extend_from_slice(&[0x50, 0x93, 0x01])?;
+    }
+    Ok(Refusal {
+        text,
+        steps: repeated(alloc, Step::Evaluate, 1)?,
+        told: repeated(alloc, COMPLETE, 1)?,
+        value: None,
+        pushes: [0, 0, count, 2],
+        values: 0,
+    })
+}
+
+// A text that calls itself this many times, so that there are as many callers. Each call and the end answers.
+fn calls<'a>(alloc: Global, count: u64) -> Result<Refusal<'a>, AllocError> {
+    let mut steps = repeated(alloc, Step::Evaluate, 1)?;
+    for _ in 1..count {
+        steps.push(Step::AtLocation(little(AGAIN)))?;
+    }
+    steps.push(Step::AtLocation(little(&[0x31])))?;
+    let mut told = repeated(alloc, ITSELF, count)?;
+    told.push(COMPLETE)?;
+    let mut text = Vec::new(alloc);
+    text.extend_from_slice(AGAIN)?;
+    Ok(Refusal {
+        text,
+        steps,
+        told,
+        value: Some(Generic(1)),
+        pushes: [1, count, 1, count.saturating_add(2)],
+        values: 1,
+    })
 }
 
 // The answers are those of ample memory up to the refused call, which answers the fault, and so does every later one.
@@ -111,40 +182,80 @@ fn expect_refused(rt: &impl Abort, answers: &[Answer<Slice<'_>>], told: &[Answer
     assert!(rt; failed && answers.len() == told.len() + later_steps().len());
 }
 
-// Replays the case, and then every call that a fault allows, over lists that take this many pushes before the refused
-// one: values, callers and pieces. The refused push is met, or there is none.
+// Replays the case, and then every call that a fault allows, over lists one of which refuses the push that this many
+// others come before, if there is such a push.
 fn expect_push(
     rt: &impl Abort,
     alloc: Global,
     case: &Refusal<'_>,
-    before: [u64; 3],
-    is_met: bool,
-) -> Result<(), AllocError> {
+    refusing: usize,
+    before: u64,
+) -> Result<(), AllocError>
+    requires { refusing < 4 }
+{
+    let mut befores = [NEVER; LISTS];
+    befores[refusing] = before;
     let mut eval: Evaluation<Slice<'_>, ListsOfTests> = Evaluation::new_in(
-        little(case.text),
+        little(&case.text),
         SMALL,
-        list(alloc, before[0]),
-        list(alloc, before[1]),
-        list(alloc, before[2]),
+        list(alloc, befores[0]),
+        list(alloc, befores[1]),
+        list(alloc, befores[PIECES]),
     );
     let mut steps = Vec::new(alloc);
-    steps.extend_from_slice(case.steps)?;
+    steps.extend_from_slice(&case.steps)?;
     steps.extend_from_slice(&later_steps())?;
-    let mut answers = Vec::new(alloc);
+    let mut answers = list(alloc, befores[ANSWERS]);
     let outcome = replayed(rt, alloc, &mut eval, &steps, &mut answers);
-    if is_met {
-        assert!(rt; outcome.end == Replayed::Done);
-        assert!(rt; outcome.status == Status::Failed(Error::StackFull));
-        expect_refused(rt, &answers, case.told);
-    } else {
+    let told = answers.items.as_slice();
+    if before == case.pushes[refusing] {
         // After the end `evaluate` gives `Complete` once more, and no answer is allowed.
         assert!(rt; outcome.end == Replayed::Misplaced(case.steps.len() + 1));
-        assert!(rt; answers.split_last() == Some((&COMPLETE, case.told)));
+        assert!(rt; told.split_last() == Some((&COMPLETE, case.told.as_slice())));
         assert!(rt; outcome.status == Status::Complete);
         assert!(rt; outcome.value == case.value);
-        assert!(rt; outcome.pieces.len() == case.pieces);
+        assert!(rt; outcome.pieces.len() as u64 == case.pushes[PIECES]);
+    } else if refusing == ANSWERS {
+        let index = told.len();
+        let answer = *case.told.as_slice().get(index).unwrap_or(&COMPLETE);
+        assert!(rt; index as u64 == before && case.told.starts_with(told));
+        assert!(rt; outcome.end == Replayed::NoRoom { index, answer });
+    } else {
+        assert!(rt; outcome.end == Replayed::Done);
+        assert!(rt; outcome.status == Status::Failed(Error::StackFull));
+        expect_refused(rt, told, &case.told);
     }
     Ok(())
+}
+
+// Each push to each list is refused in turn, of a hundred items and more.
+#[test]
+fn refused_pushes(rt: HostRuntime) -> Result<(), AllocError> {
+    let alloc = rt.alloc();
+    for case in &[sum(alloc, 100)?, registers(alloc, 100)?, calls(alloc, 100)?] {
+        for refusing in 0..LISTS {
+            for before in 0..=case.pushes[refusing] {
+                expect_push(&rt, alloc, case, refusing, before)?;
+            }
+        }
+    }
+    Ok(())
+}
+
+// How many growths a list meets that takes this many items.
+fn growths_of(rt: &impl Abort, alloc: Global, count: u64) -> u64 {
+    let memory = RefusesGrowth::new(alloc, NEVER);
+    let mut items = Vec::new(&memory);
+    for item in 0..count {
+        assert!(rt; items.push(item).is_ok());
+    }
+    memory.growths(NEVER)
+}
+
+// Of so many growths this one was refused, if there is such a one. None came after it.
+fn expect_memory(rt: &impl Abort, memory: &RefusesGrowth<Global>, before: u64, growths: u64) {
+    assert!(rt; memory.has_refused() == (before < growths));
+    assert!(rt; memory.growths(before) == growths.min(before.saturating_add(1)));
 }
 
 // Takes the case's steps. The call that meets the refusal answers the fault, and so does each later one.
@@ -154,7 +265,7 @@ fn expect_steps<'a, S: EvaluationStorage<Slice<'a>>>(
     case: &Refusal<'a>,
     memory: &RefusesGrowth<Global>,
 ) {
-    for (step, told) in case.steps.iter().zip(case.told) {
+    for (step, told) in case.steps.iter().zip(&case.told) {
         let stepped = take_step(&mut eval, *step);
         let wanted = if memory.has_refused() { FULL } else { *told };
         assert!(rt; stepped == Stepped::Answered(wanted));
@@ -162,130 +273,74 @@ fn expect_steps<'a, S: EvaluationStorage<Slice<'a>>>(
 }
 
 // Replays the case, and keeps the answers in memory one growth of which may be refused. If it is, the answer that meets
-// the refusal is handed back. Says whether one was.
-fn expect_answers<A: Allocator>(
-    rt: &impl Abort,
-    alloc: Global,
-    case: &Refusal<'_>,
-    memory: A,
-) -> bool {
-    let mut eval = Evaluation::new(alloc, little(case.text), SMALL);
+// the refusal is handed back.
+fn expect_answers<A: Allocator>(rt: &impl Abort, alloc: Global, case: &Refusal<'_>, memory: A) {
+    let mut eval = Evaluation::new(alloc, little(&case.text), SMALL);
     let mut answers = Vec::new(memory);
-    let outcome = replayed(rt, alloc, &mut eval, case.steps, &mut answers);
+    let outcome = replayed(rt, alloc, &mut eval, &case.steps, &mut answers);
+    let index = answers.len();
     assert!(rt; case.told.starts_with(answers.as_slice()));
-    let Some(answer) = case.told.get(answers.len()) else {
-        assert!(rt; outcome.end == Replayed::Done);
-        return false;
+    let end = match case.told.as_slice().get(index) {
+        Some(answer) => Replayed::NoRoom {
+            index,
+            answer: *answer,
+        },
+        None => Replayed::Done,
     };
-    let refused = Replayed::NoRoom {
-        index: answers.len(),
-        answer: *answer,
-    };
-    assert!(rt; outcome.end == refused);
-    true
+    assert!(rt; outcome.end == end);
 }
 
-// More growths than the lists of one of these cases have together.
-const GROWTHS: u64 = 16;
-
-// Each growth is refused in turn, of the lists and of the answers.
-fn expect_refused_growths(rt: &impl Abort, alloc: Global, case: &Refusal<'_>) {
-    for before in 0..GROWTHS {
+// Each growth of the lists is refused in turn, and each of the answers.
+fn expect_growths(rt: &impl Abort, alloc: Global, case: &Refusal<'_>) {
+    let mut growths = growths_of(rt, alloc, case.values);
+    growths = growths.saturating_add(growths_of(rt, alloc, case.pushes[1]));
+    growths = growths.saturating_add(growths_of(rt, alloc, case.pushes[PIECES]));
+    for before in 0..=growths {
         let memory = RefusesGrowth::new(alloc, before);
-        let eval = Evaluation::new(&memory, little(case.text), SMALL);
+        let eval = Evaluation::new(&memory, little(&case.text), SMALL);
         expect_steps(rt, eval, case, &memory);
-        let answers = RefusesGrowth::new(alloc, before);
-        let is_refused = expect_answers(rt, alloc, case, &answers);
-        assert!(rt; is_refused == answers.has_refused());
-        assert!(rt; before > 0 || memory.has_refused() && answers.has_refused());
-        assert!(rt; before < GROWTHS - 1 || !memory.has_refused() && !answers.has_refused());
+        expect_memory(rt, &memory, before, growths);
+    }
+    growths = growths_of(rt, alloc, case.told.len() as u64);
+    for before in 0..=growths {
+        let memory = RefusesGrowth::new(alloc, before);
+        expect_answers(rt, alloc, case, &memory);
+        expect_memory(rt, &memory, before, growths);
     }
 }
 
-// Each push is refused in turn, of each list, from the first until a run meets none: this many of each.
-fn expect_refusals(
-    rt: &impl Abort,
-    alloc: Global,
-    case: &Refusal<'_>,
-    pushes: [u64; 3],
-) -> Result<(), AllocError> {
-    for push in 0..=pushes[0] {
-        expect_push(rt, alloc, case, [push, NEVER, NEVER], push < pushes[0])?;
+// Lists of 5,000 items need as many growths as that many pushes to a vector. Each is refused in turn.
+#[test]
+fn refused_growths(rt: HostRuntime) -> Result<(), AllocError> {
+    let alloc = rt.alloc();
+    for case in &[
+        sum(alloc, 5_000)?,
+        registers(alloc, 5_000)?,
+        calls(alloc, 5_000)?,
+    ] {
+        expect_growths(&rt, alloc, case);
     }
-    for push in 0..=pushes[1] {
-        expect_push(rt, alloc, case, [NEVER, push, NEVER], push < pushes[1])?;
-    }
-    for push in 0..=pushes[2] {
-        expect_push(rt, alloc, case, [NEVER, NEVER, push], push < pushes[2])?;
-    }
-    expect_refused_growths(rt, alloc, case);
     Ok(())
 }
 
-// A sum of forty ones, forty values and 39 sums; twenty pieces; and a text that calls itself ten times over.
+// Two answers that agree up to the width of an address meet the same refused push, and are told the same.
 #[test]
-fn refused_pushes(rt: HostRuntime) -> Result<(), AllocError> {
-    let mut sum = Vec::new(rt.alloc());
-    sum.extend_from_slice(&[0x31; 40])?;
-    sum.extend_from_slice(&[0x22; 39])?;
-    let case = Refusal {
-        text: &sum,
-        steps: &[Step::Evaluate],
-        told: &[COMPLETE],
-        value: Some(Generic(40)),
-        pieces: 1,
-    };
-    expect_refusals(&rt, rt.alloc(), &case, [79, 0, 1])?;
-
-    let mut registers = Vec::new(rt.alloc());
-    for _ in 0..20 {
-        registers.extend_from_slice(&[0x50, 0x93, 0x01])?;
+fn refused_pushes_of_agreeing_answers(rt: HostRuntime) {
+    let alloc = rt.alloc();
+    for (values, pieces) in [(0, NEVER), (1, NEVER), (NEVER, 0)] {
+        for cfa in [0x10, 0x1_0000_0010] {
+            let mut eval: Evaluation<Slice<'_>, ListsOfTests> = Evaluation::new_in(
+                little(&[0x9c, 0x31]),
+                SMALL,
+                list(alloc, values),
+                list(alloc, NEVER),
+                list(alloc, pieces),
+            );
+            let steps = [Step::Evaluate, Step::CallFrameCfa(cfa)];
+            let mut answers = Vec::new(alloc);
+            let outcome = replayed(&rt, alloc, &mut eval, &steps, &mut answers);
+            assert!(rt; answers.as_slice() == [CFA, FULL].as_slice());
+            assert!(rt; outcome.status == Status::Failed(Error::StackFull));
+        }
     }
-    let case = Refusal {
-        text: &registers,
-        steps: &[Step::Evaluate],
-        told: &[COMPLETE],
-        value: None,
-        pieces: 20,
-    };
-    expect_refusals(&rt, rt.alloc(), &case, [0, 0, 20])?;
-
-    let mut steps = [Step::AtLocation(little(AGAIN)); 11];
-    steps[0] = Step::Evaluate;
-    steps[10] = Step::AtLocation(little(&[0x31]));
-    let mut told = [ITSELF; 11];
-    told[10] = COMPLETE;
-    let case = Refusal {
-        text: AGAIN,
-        steps: &steps,
-        told: &told,
-        value: Some(Generic(1)),
-        pieces: 1,
-    };
-    expect_refusals(&rt, rt.alloc(), &case, [1, 10, 1])
-}
-
-// Begins in each way, and once more.
-fn begin<A: Allocator + Copy>(memory: A) {
-    let text = little(&[0x31]);
-    let mut eval: Evaluation<Slice<'_>, StoreOnHeap<A>> = Evaluation::new_in(
-        text,
-        SMALL,
-        Vec::new(memory),
-        Vec::new(memory),
-        Vec::new(memory),
-    );
-    eval.restart(text, SMALL);
-    eval = Evaluation::new(memory, text, SMALL);
-    eval.restart(text, SMALL);
-    eval = Expression(text).evaluation(memory, SMALL);
-    eval.restart(text, SMALL);
-}
-
-// An evaluation takes no memory before it has to keep something.
-#[test]
-fn begins_without_memory(rt: HostRuntime) {
-    let memory = RefusesGrowth::new(rt.alloc(), NEVER);
-    begin(&memory);
-    assert!(rt; memory.before() == NEVER);
 }

@@ -14,13 +14,15 @@ use dwarf_value::Value::Generic;
 use std::alloc::{AllocError, Global};
 use std::process::Abort;
 
-// The expression at offset 5 of the unit is wanted.
-const ASKED: Answer<Slice<'static>> = Answer(Ok(EvaluationResult::RequiresAtLocation(
+/// The expression at offset 5 of the unit is wanted.
+pub(crate) const ASKED: Answer<Slice<'static>> = Answer(Ok(EvaluationResult::RequiresAtLocation(
     DieReference::UnitRef(UnitOffset(5)),
 )));
 
-const CFA: Answer<Slice<'static>> = Answer(Ok(EvaluationResult::RequiresCallFrameCfa));
+/// The canonical frame address is wanted.
+pub(crate) const CFA: Answer<Slice<'static>> = Answer(Ok(EvaluationResult::RequiresCallFrameCfa));
 
+/// A list refused an item.
 pub(crate) const FULL: Answer<Slice<'static>> = Answer(Err(Error::StackFull));
 
 const IN_REGISTER: Location<Slice<'static>> = Location::Register {

@@ -5,3 +5,5 @@
 mod operations;
 #[cfg(test)]
 mod readers;
+#[cfg(test)]
+mod reads;

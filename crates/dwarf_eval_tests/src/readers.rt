@@ -11,23 +11,29 @@ use dwarf_value::Value;
 use std::cell::Cell;
 use std::process::Abort;
 
-// Bytes whose reads are counted, and of which none is left once one was refused.
+// Bytes, in memory or not. How many are read is counted, and none is left once a read was refused.
 #[derive(Clone, Copy, Debug)]
-struct Watched<'a> {
+pub(crate) struct Watched<'a, const IN_MEMORY: bool> {
     slice: EndianSlice<'a, LittleEndian>,
-    reads: &'a Cell<u64>,
+    read: &'a Cell<u64>,
 }
 
-impl<'a> Watched<'a> {
-    fn new(bytes: &'a [u8], reads: &'a Cell<u64>) -> Self {
+impl<'a, const IN_MEMORY: bool> Watched<'a, IN_MEMORY> {
+    pub(crate) fn new(bytes: &'a [u8], read: &'a Cell<u64>) -> Self {
         Watched {
             slice: EndianSlice::new(bytes, LittleEndian),
-            reads,
+            read,
         }
+    }
+
+    fn count(&self, bytes: u64) {
+        self.read.set(self.read.get().wrapping_add(bytes));
     }
 }
 
-impl<'a> Reader for Watched<'a> {
+impl<'a, const IN_MEMORY: bool> Reader for Watched<'a, IN_MEMORY> {
+    const IN_MEMORY: bool = IN_MEMORY;
+
     type Offset = usize;
 
     ghost text = { λ reader. text_of (λ _. false) reader.slice };
@@ -59,19 +65,20 @@ impl<'a> Reader for Watched<'a> {
 
     #[tactic(auto, using(dwarf_base::proofs::Suffixes::suffix_none))]
     fn split(&mut self, len: usize) -> Result<Self> {
+        self.count(len as u64);
         let front = self.slice.split(len);
         if front.is_err() {
             self.empty();
         }
         Ok(Watched {
             slice: front?,
-            reads: self.reads,
+            read: self.read,
         })
     }
 
     #[tactic(auto, using(dwarf_base::proofs::Suffixes::suffix_none))]
     fn read_fixed(&mut self, n: u8) -> Result<u64> {
-        self.reads.set(self.reads.get().wrapping_add(1));
+        self.count(u64::from(n));
         let number = self.slice.read_fixed(n);
         if number.is_err() {
             self.empty();
@@ -81,7 +88,7 @@ impl<'a> Reader for Watched<'a> {
 }
 
 // Evaluates. What this gives has no contract, and neither has what the next three give, since the tests look at it.
-fn evaluate<R: Reader + Copy, S: EvaluationStorage<R>>(
+pub(crate) fn evaluate<R: Reader + Copy, S: EvaluationStorage<R>>(
     eval: &mut Evaluation<R, S>,
 ) -> Result<EvaluationResult<R>>
     requires { eval.old.status ≡ Start None }
@@ -90,7 +97,7 @@ fn evaluate<R: Reader + Copy, S: EvaluationStorage<R>>(
 }
 
 // Goes on with the canonical frame address, which has to be wanted.
-fn answer_cfa<R: Reader + Copy, S: EvaluationStorage<R>>(
+pub(crate) fn answer_cfa<R: Reader + Copy, S: EvaluationStorage<R>>(
     rt: &impl Abort,
     eval: &mut Evaluation<R, S>,
     address: u64,
@@ -100,7 +107,7 @@ fn answer_cfa<R: Reader + Copy, S: EvaluationStorage<R>>(
 }
 
 // Goes on with an expression, which has to be wanted.
-fn answer_location<R: Reader + Copy, S: EvaluationStorage<R>>(
+pub(crate) fn answer_location<R: Reader + Copy, S: EvaluationStorage<R>>(
     rt: &impl Abort,
     eval: &mut Evaluation<R, S>,
     callee: R,
@@ -110,7 +117,7 @@ fn answer_location<R: Reader + Copy, S: EvaluationStorage<R>>(
 }
 
 // The value of an evaluation that has to be complete.
-fn value_of<R: Reader + Copy, S: EvaluationStorage<R>>(
+pub(crate) fn value_of<R: Reader + Copy, S: EvaluationStorage<R>>(
     rt: &impl Abort,
     eval: &Evaluation<R, S>,
 ) -> Option<Value> {
@@ -120,8 +127,8 @@ fn value_of<R: Reader + Copy, S: EvaluationStorage<R>>(
 
 #[test]
 fn parses_until_a_read_is_refused(rt: HostRuntime) {
-    let reads = Cell::new(0);
-    let mut bytes = Watched::new(&[0x08, 0x05, 0x9e, 0x01, 0x0a, 0x0c, 0x01, 0x02], &reads);
+    let read = Cell::new(0);
+    let mut bytes = Watched::<false>::new(&[0x08, 0x05, 0x9e, 0x01, 0x0a, 0x0c, 0x01, 0x02], &read);
     let five = Operation::parse(&mut bytes, SMALL);
     assert!(rt; matches!(five, Ok(Operation::UnsignedConstant { value: 5 })));
     let block = Operation::parse(&mut bytes, SMALL);
@@ -134,8 +141,8 @@ fn parses_until_a_read_is_refused(rt: HostRuntime) {
 
 #[test]
 fn evaluates_through_a_request(rt: HostRuntime) {
-    let reads = Cell::new(0);
-    let text = Watched::new(&[0x9c, 0x23, 0x02], &reads);
+    let read = Cell::new(0);
+    let text = Watched::<false>::new(&[0x9c, 0x23, 0x02], &read);
     let mut eval = Evaluation::new(rt.alloc(), text, SMALL);
     let asked = evaluate(&mut eval);
     assert!(rt; matches!(asked, Ok(EvaluationResult::RequiresCallFrameCfa)));
@@ -146,50 +153,12 @@ fn evaluates_through_a_request(rt: HostRuntime) {
 
 #[test]
 fn meets_faults_in_an_evaluation(rt: HostRuntime) {
-    let reads = Cell::new(0);
-    let text = Watched::new(&[0x50, 0x31, 0x93], &reads);
+    let read = Cell::new(0);
+    let text = Watched::<false>::new(&[0x50, 0x31, 0x93], &read);
     let mut eval = Evaluation::new(rt.alloc(), text, SMALL);
     let terminator = Error::InvalidExpressionTerminator(1);
     assert!(rt; evaluate(&mut eval).err() == Some(terminator));
-    let text = Watched::new(&[0x31, 0x0c, 0x01, 0x02], &reads);
+    let text = Watched::<false>::new(&[0x31, 0x0c, 0x01, 0x02], &read);
     let mut eval = Evaluation::new(rt.alloc(), text, SMALL);
     assert!(rt; matches!(evaluate(&mut eval), Err(Error::UnexpectedEof(_))));
-}
-
-// The code of an operation is a read, and so is a number of fixed size and each byte of a LEB128 number.
-#[test]
-fn reads_one_operation_for_each_item(rt: HostRuntime) {
-    let reads = Cell::new(0);
-    let text = Watched::new(&[0x31, 0x0a, 0x01, 0x02, 0x96, 0x9c], &reads);
-    let mut operations = Expression(text).operations(SMALL);
-    for wanted in [1, 3, 4, 5, 5] {
-        assert!(rt; operations.next().is_ok());
-        assert!(rt; reads.get() == wanted);
-    }
-}
-
-// A register with its piece; a frame address, its piece, and a call; there a register, whose piece follows the call;
-// and another frame address. Then a branch for ever, of which the maximum of ten operations allows three turns.
-#[test]
-fn reads_what_an_evaluation_counts(rt: HostRuntime) {
-    let reads = Cell::new(0);
-    let text = Watched::new(
-        &[
-            0x50, 0x93, 0x04, 0x9c, 0x93, 0x04, 0x98, 0x05, 0x00, 0x93, 0x04, 0x9c, 0x2f, 0xfd,
-            0xff,
-        ],
-        &reads,
-    );
-    let callee = Watched::new(&[0x96, 0x50], &reads);
-    let mut eval = Evaluation::new(rt.alloc(), text, SMALL);
-    eval.set_max_iterations(10);
-    assert!(rt; reads.get() == 0);
-    assert!(rt; evaluate(&mut eval).is_ok());
-    assert!(rt; reads.get() == 4);
-    assert!(rt; answer_cfa(&rt, &mut eval, 1).is_ok());
-    assert!(rt; reads.get() == 8);
-    assert!(rt; answer_location(&rt, &mut eval, callee).is_ok());
-    assert!(rt; reads.get() == 13);
-    assert!(rt; answer_cfa(&rt, &mut eval, 1).is_err());
-    assert!(rt; reads.get() == 19);
 }

@@ -1,13 +1,12 @@
 #!/usr/bin/env python3
-"""Builds the callers of libdwexpr_c.a in C and Rust, and runs them.
+"""Builds the callers of libdwexpr_c.a in C, and runs them.
 
 - tests/c/*.c: each field of each operation and outcome, each code, each block, callbacks, guard pages, a signal
   handler; as they are, and built with the sanitizers of addresses and of undefined behaviour. decode.c is given the
   vectors of tests/vectors/decode.json, cut.c the expressions of tests/rows, and names.c the names of libdw's dwarf.h,
   or the repository's if that lacks them.
-- include: the headers, without a warning as C11, C17 and C++17. The structs of the crate and of rust/ have the fields
-  of dwexpr.h, by name, type and order, and so the places that it asserts.
-- rust/: it is built by rustc alone without a warning; its tests and the examples of its documentation, by cargo.
+- include: the headers, without a warning as C11, C17 and C++17. The structs of the crate have the fields of dwexpr.h, by
+  name, type and order, and so the places that it asserts.
 - examples/: decode is compared with what it is to print. expressions and where need libdw, and are run if it is there;
   what where prints is compared with gdb, if that is there.
 
@@ -15,7 +14,6 @@ It wants cc; what else is missing is left out, and said so. The last line is `N 
 """
 
 import json
-import os
 import pathlib
 import re
 import shutil
@@ -126,7 +124,6 @@ def places_of(fields):
 def layout():
     header = (TOP / "include/dwexpr.h").read_text()
     crate = "\n".join(path.read_text() for path in sorted((CRATE / "src").glob("*.rt")))
-    in_rust = (TOP / "rust/src/raw.rs").read_text()
     for name in STRUCTS:
         body = re.search(rf"typedef struct dwexpr_{name} {{\n(.*?)\n}} dwexpr_{name};", header, re.DOTALL)
         declared = re.findall(r"^    (const uint8_t \*|\w+)\s*(\w+);", body.group(1), re.MULTILINE)
@@ -136,7 +133,6 @@ def layout():
         in_crate = re.findall(rf"size_of::<Dwexpr{name.title()}>\(\) == (\d+)", crate)
         in_header = re.findall(rf"sizeof\(dwexpr_{name}\) == (\d+)", header)
         count_one(f"layout of {name}: the crate", fields_of(crate, f"Dwexpr{name.title()}"), wanted)
-        count_one(f"layout of {name}: the Rust crate", fields_of(in_rust, f"Raw{name.title()}"), wanted)
         count_one(f"layout of {name}: places", [(field, int(place)) for field, place in asserted], places)
         count_one(f"layout of {name}: sizes", in_crate + in_header, [str(size)] * 2)
     version = re.search(r'DWEXPR_VERSION "(.*)"', header).group(1)
@@ -212,20 +208,6 @@ def callers(folder):
                 count(0, 1, f"{source.name}{kind}", done.stdout + done.stderr)
             else:
                 count(int(said.group(1)), int(said.group(2)), f"{source.name}{kind}", done.stdout + done.stderr)
-
-
-def rust(folder):
-    if not shutil.which("rustc"):
-        return left_out("the Rust crate", "rustc")
-    words = ["rustc", "--edition", "2024", "-D", "warnings", "-L", ARCHIVE.parent, "--crate-name", "dwexpr"]
-    check("rust: build", [*words, "--crate-type", "lib", TOP / "rust/src/lib.rs", "-o", folder / "libdwexpr.rlib"])
-    if not shutil.which("cargo"):
-        return left_out("the Rust crate's tests", "cargo")
-    words = ["cargo", "test", "--offline", "--manifest-path", TOP / "rust/Cargo.toml"]
-    done = run(words, env={"DWEXPR_C": str(ARCHIVE.parent), **os.environ, "CARGO_TARGET_DIR": str(folder / "target")})
-    said = [(int(good), int(bad)) for good, bad in re.findall(r"(\d+) passed; (\d+) failed", done.stdout)]
-    good, bad = (sum(numbers) for numbers in zip(*said)) if said else (0, 1)
-    count(good, bad or int(done.returncode != 0), "rust: tests", done.stdout + done.stderr)
 
 
 DECODED = """\
@@ -324,7 +306,6 @@ def main():
             headers()
             layout()
             callers(folder)
-            rust(folder)
             decode(folder)
             with_libdw(folder)
     print(f"{passed} passed, {failed} failed")

@@ -6,7 +6,7 @@
 - An archive of other sources, another one, or one whose proof has no record isn't packed.
 - examples/decode.c is built by cc, with the words of pkg-config, and by a CMake project. So are a caller of dwexpr_run
   in C and a caller in C++.
-- The Rust crate is built, and its tests run, by cargo.
+- The Rust crate is the one that bin/crate writes.
 - For aarch64 decode.c is built by Debian's cross compiler and run by qemu-user.
 
 It wants cc; what else is missing is left out, and said so. The last line is `N passed, M failed`.
@@ -93,14 +93,12 @@ int main(void)
 }
 """
 
-# What a package holds, besides the sources and tests of the Rust crate.
+# What a package holds, besides the Rust crate.
 FILES = """
 include/dwexpr.h include/dwexpr_run.h lib/libdwexpr.a lib/pkgconfig/dwexpr.pc
 lib/cmake/dwexpr/dwexpr-config.cmake lib/cmake/dwexpr/dwexpr-config-version.cmake
 share/doc/dwexpr/DIFFERENCES.md share/doc/dwexpr/GUIDE.md share/doc/dwexpr/PROOFS.md share/doc/dwexpr/PROVED
 share/doc/dwexpr/LICENSE-APACHE share/doc/dwexpr/LICENSE-MIT
-share/dwexpr/rust/Cargo.toml share/dwexpr/rust/README.md share/dwexpr/rust/build.rs share/dwexpr/rust/libdwexpr_c.a
-share/dwexpr/rust/LICENSE-APACHE share/dwexpr/rust/LICENSE-MIT
 """.split()
 RUST = "share/dwexpr/rust"
 LINK = re.compile(r"\]\(([^)]+)\)")
@@ -175,12 +173,23 @@ def environment(home):
     return {**kept, "PATH": ":".join([str(links), *plain]), "HOME": str(home)}
 
 
+def crate_files(packed):
+    """The names of the files of the Rust crate, which are those that were packed."""
+    with tempfile.TemporaryDirectory() as name:
+        crate = pathlib.Path(name, "dwexpr")
+        check_run("bin/crate", [TOP / "bin/crate", crate])
+        names = [it.relative_to(crate) for it in crate.rglob("*") if it.is_file()]
+        same = all((packed / it).exists() and (packed / it).read_bytes() == (crate / it).read_bytes() for it in names)
+        check(same, "the Rust crate is the one that bin/crate writes")
+        return names
+
+
 def files_of(package):
     """The files are those that it should have, and each link leads somewhere."""
     found = {str(it.relative_to(package)) for it in package.rglob("*") if it.is_file()}
     examples = {f"share/dwexpr/examples/{it.name}" for it in TOP.glob("examples/*.[ch]")}
-    crate = {it for it in found if it.startswith((f"{RUST}/src/", f"{RUST}/tests/"))}
-    wanted = {*FILES, *examples, f"{RUST}/src/lib.rs", *crate}
+    crate = {f"{RUST}/{name}" for name in crate_files(package / RUST)}
+    wanted = {*FILES, *examples, *crate}
     check(found == wanted, "the files of the package", f"{sorted(found - wanted)} and {sorted(wanted - found)}")
     check(PROVED.fullmatch((package / "share/doc/dwexpr/PROVED").read_text()), "PROVED")
     pages = [it for it in package.rglob("*.md") if RUST not in str(it)]
@@ -257,15 +266,6 @@ def by_cmake(package, folder, env):
         check_decode("CMake: run", [folder / "made/decode"], env=env)
 
 
-def by_cargo(package, folder, env):
-    if not shutil.which("cargo"):
-        return left_out("the crate by cargo", "cargo")
-    words = ["--offline", "--quiet", "--manifest-path", package / "share/dwexpr/rust/Cargo.toml"]
-    env = {**env, "CARGO_TARGET_DIR": str(folder / "target")}
-    check_run("the crate by cargo: build", ["cargo", "build", *words], env=env)
-    check_run("the crate by cargo: tests", ["cargo", "test", *words], env=env)
-
-
 def for_arm(folder, env):
     compiler, runner = "aarch64-linux-gnu-gcc", "qemu-aarch64"
     for program in (compiler, runner):
@@ -297,7 +297,6 @@ def main():
             refusals(folder)
             by_compilers(here, folder, env)
             by_cmake(here, folder, env)
-            by_cargo(here, folder, env)
             check_run("bin/package --prefix", [TOP / "bin/package", "--prefix", folder / "prefix"])
             check((folder / "prefix/lib/libdwexpr.a").exists(), "the prefix has the archive")
             for_arm(folder, env)

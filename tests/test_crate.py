@@ -2,7 +2,7 @@
 """Tests bin/crate. It has to refuse some changes of the sources, and to take others; to see each token that is left
 out, doubled or swapped in what it writes; and to write no folder that isn't its own.
 
-It wants git and rustfmt, and no Rattle kit. What fails is printed. The last line is `N passed, M failed`.
+It wants rustfmt, and no Rattle kit. What fails is printed. The last line is `N passed, M failed`.
 """
 
 import importlib.machinery
@@ -151,7 +151,7 @@ def try_folders(folder):
     """Writes a crate on a PATH with three programs, then once more; and not over a folder of something else."""
     programs, made, other = folder / "programs", folder / "made", folder / "other"
     programs.mkdir()
-    for name in ("python3", "git", "rustfmt"):
+    for name in ("python3", "rustfmt"):
         (programs / name).symlink_to(sys.executable if name == "python3" else shutil.which(name))
     done = run(made, PATH=str(programs))
     count(done.returncode == 0, f"on a PATH of three programs: {done.stderr}")

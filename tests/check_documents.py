@@ -9,6 +9,7 @@
   heading.
 - docs/GUIDE.md lists exactly the operations that are known. The number of faults, the limits of the archive's lists,
   the size of an evaluation there, the logic's sum and README.md's ratios are those of the sources and docs/SPEED.md.
+- docs/ARCHITECTURE.md has the gate's stages in their order.
 - No line of a page but a table's row has more than 120 columns.
 - Each block of README.md, docs/GUIDE.md and docs/PROOFS.md whose fence names a file is what stands in that file, byte
   for byte. docs/GUIDE.md has the loop over requests and its proof.
@@ -236,6 +237,14 @@ def figures():
         yield None if ratio in RATIO.findall(read(SPEED)) else f"{README} names {ratio}, and {SPEED} doesn't"
 
 
+def stages():
+    """The gate's stages in docs/ARCHITECTURE.md are those of bin/test, in their order."""
+    scripts = re.findall(r'"python3", "(tests/\w+\.py)"', read("bin/test"))
+    gate = read("docs/ARCHITECTURE.md").split("\n## The gate\n")[1]
+    named = re.findall(r"^\d+\. `(tests/\w+\.py)`", gate, re.MULTILINE)
+    yield None if named == scripts else f"docs/ARCHITECTURE.md has the stages {named}, and bin/test {scripts}"
+
+
 def wide():
     """Each page has lines of at most 120 columns, but for the rows of tables."""
     for page in filter(GLOSSARY.__ne__, documents()):
@@ -277,8 +286,11 @@ def stale():
         yield None if fits else f"{edit} takes away what doesn't stand once in its file"
 
 
+CHECKS = [glossary, unknown, astray, partless, operations, figures, stages, wide, changed, stale]
+
+
 def main():
-    found = [*glossary(), *unknown(), *astray(), *partless(), *operations(), *figures(), *wide(), *changed(), *stale()]
+    found = [line for check in CHECKS for line in check()]
     failed = [line for line in found if line]
     for line in failed:
         print(line)

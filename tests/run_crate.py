@@ -90,7 +90,7 @@ class Runs:
             print(shown)
 
 
-def run_example(runs, cargo, folder):
+def run_example(runs, cargo, features, folder):
     """Compares what the example says of a program's variables with what the program says."""
     if not shutil.which("cc"):
         print("left out: the example: there is no cc")
@@ -99,8 +99,7 @@ def run_example(runs, cargo, folder):
     source.write_text(PROGRAM)
     runs.run("cc", ["cc", "-g", "-O0", "-no-pie", "-fno-omit-frame-pointer", source, "-o", program])
     said = runs.run("the program", [program])
-    words = ["run", "--quiet", "--features", "gimli", "--example", "variables", program, "100000000000"]
-    printed = cargo("the example", *words)
+    printed = cargo("the example", "run", *features, "--example", "variables", program, "100000000000")
     if said and printed:
         runs.check("the example says where the variables are", printed == said, f"{said}\nisn't\n{printed}")
 
@@ -143,7 +142,7 @@ def main():
         runs.check("the package has its licences", {"LICENSE-APACHE", "LICENSE-MIT"} <= set(listed.split()), listed)
         cargo("package", "package")
         if "gimli" in found:
-            run_example(runs, cargo, folder)
+            run_example(runs, cargo, ["--features", ",".join(found)], folder)
     print(f"{runs.passed} passed, {runs.failed} failed")
     return 1 if runs.failed else 0
 

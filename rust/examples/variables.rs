@@ -3,8 +3,8 @@
 //!     cargo run --features gimli --example variables -- PROGRAM CFA
 //!
 //! PROGRAM is a 64-bit little-endian ELF file with uncompressed debug information, and CFA a hexadecimal number. gimli
-//! reads the units, and dwexpr evaluates the expressions. There is no process, so of a variable that wants a register or
-//! memory it prints the request.
+//! reads the units, and dwexpr evaluates the expressions. There is no process: if an expression asks for a register or
+//! for memory, that request is printed.
 
 use dwexpr::{DieReference, Error, Evaluation, EvaluationResult, GimliReader, Location, Piece, ValueType};
 use gimli::{AttributeValue, DebuggingInformationEntry, DwAt, EndianSlice, EntriesTreeNode, LittleEndian};

@@ -136,8 +136,8 @@ impl<R: Reader + Copy, S: EvaluationStorage<R>> Evaluation<R, S> {
         Evaluation { proved: eval::Evaluation::new_in(bytecode, encoding, stack, expression_stack, result), start }
     }
 
-    /// Makes it a fresh evaluation of another `bytecode`, over the same lists, which keep their memory. It may be called
-    /// at any time, and after a fault too. No setting is kept. gimli has no such call.
+    /// Makes it a fresh evaluation of another `bytecode`, over the same lists, which keep their memory. It may be
+    /// called at any time, and after a fault too. No setting is kept. gimli has no such call.
     #[inline]
     pub fn restart(&mut self, bytecode: R, encoding: Encoding) {
         let (encoding, start) = checked(encoding);
@@ -304,8 +304,8 @@ resumes! {
     resume_with_tls(value: u64) for Tls;
     /// Answers `RequiresCallFrameCfa` with the canonical frame address.
     resume_with_call_frame_cfa(cfa: u64) for CallFrameCfa;
-    /// Answers `RequiresAtLocation` with the expression to evaluate in the call's place, which is empty if the entry has
-    /// none. It is read in its own byte order.
+    /// Answers `RequiresAtLocation` with the expression to evaluate in the call's place, which is empty if the entry
+    /// has none. It is read in its own byte order.
     resume_with_at_location(bytes: R) for AtLocation;
     /// Answers `RequiresEntryValue` with the value of the expression at the function's entry.
     resume_with_entry_value(entry_value: Value) for EntryValue;

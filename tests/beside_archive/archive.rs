@@ -200,7 +200,7 @@ fn texts_of(texts: &[Vec<u8>]) -> Vec<Text> {
     texts.iter().map(|text| Text { bytes: text.as_ptr(), length: text.len() }).collect()
 }
 
-/// What all steps of the first text come to, at once.
+/// Takes all steps of the first text at once.
 pub fn evaluate(texts: &[Vec<u8>], encoding: Encoding, steps: &[Step], shown: &mut Shown) {
     let texts = texts_of(texts);
     // SAFETY: pointers and lengths are those of slices, and what is written overlaps nothing.

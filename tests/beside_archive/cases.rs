@@ -1,9 +1,9 @@
-//! Expressions with settings and answers, and the lines that say them: the words and the steps of the program `dwexpr`.
+//! Expressions with settings and answers, and the lines that say them, in the words and steps of the program `dwexpr`.
 
 use crate::archive::{Encoding, Step};
 use std::fmt;
 
-/// The steps by their kinds, from 1 on, and what follows the name of each.
+/// The name and the operand of each step, by its kind from 1 on.
 const STEPS: [(&str, Operand); 16] = [
     ("initial", Operand::Number),
     ("object", Operand::Number),
@@ -43,25 +43,25 @@ enum Operand {
     Type,
 }
 
-/// An expression, the first of the texts, and what is done with it.
+/// An expression, the first of the texts, and the steps of its evaluation.
 #[derive(Clone, Debug, PartialEq, Eq)]
 pub struct Case {
     pub encoding: Encoding,
     pub texts: Vec<Vec<u8>>,
     pub steps: Vec<Step>,
-    /// The answers that are made up after the steps, if there are any.
+    /// The answers that are made up after the steps, if any are.
     pub answers: Option<Answers>,
 }
 
-/// Answers that are made up for what is asked.
+/// How answers are made up.
 #[derive(Clone, Copy, Debug, PartialEq, Eq)]
 pub struct Answers {
     pub seed: u64,
     /// The most that there are.
     pub count: usize,
-    /// One in that many called texts is surely the last of the case.
+    /// One in so many calls leads to the last text. The others lead to any.
     pub last: usize,
-    /// One in that many steps is any that there is, in turn or out of it.
+    /// One in so many steps is of any kind, in turn or not.
     pub stray: usize,
 }
 
@@ -70,7 +70,7 @@ impl Case {
         self.encoding.big_endian == 1
     }
 
-    /// How many steps come before the first request can be open: the settings, and the start.
+    /// How many steps there are up to the start, the first `evaluate`.
     pub fn beginning(&self) -> usize {
         let start = self.steps.iter().position(|step| step.kind == EVALUATE);
         start.map_or(self.steps.len(), |start| start + 1)
@@ -81,12 +81,12 @@ impl Case {
         self.texts.iter().all(|text| !text.iter().any(|byte| BRANCHES.contains(byte)))
     }
 
-    /// Whether it surely ends soon: it begins with a maximum, which no other step can come before and refuse.
+    /// Whether it can't loop for long: it has no branch, or its first step is a maximum.
     pub fn is_bounded(&self) -> bool {
         self.steps.first().is_some_and(|step| step.kind == MAXIMUM) || self.has_no_branch()
     }
 
-    /// The same, which begins with a large maximum if it isn't bounded.
+    /// The same case, with a large maximum before its steps if it isn't bounded.
     pub fn bounded(mut self) -> Case {
         if !self.is_bounded() {
             self.steps.insert(0, Step { kind: MAXIMUM, number: 1_000_000, ..Step::default() });

@@ -1,4 +1,4 @@
-//! What the crate answers to a case, beside what the archive does.
+//! Compares the answers of the crate and of the archive to a case.
 
 use crate::archive::{self, COMPLETE, Held, MAX_CALLERS, MAX_PIECES, MAX_VALUES, MISPLACED, Memory, STACK_FULL, Step};
 use crate::cases::{Case, EVALUATE, INITIAL_VALUE, MAXIMUM, OBJECT_ADDRESS};
@@ -13,7 +13,7 @@ use dwexpr::{
 use std::fmt::Debug;
 use std::panic::{AssertUnwindSafe, catch_unwind};
 
-/// Something in which the crate and the archive differ.
+/// A difference between the crate and the archive.
 #[derive(Clone, Debug)]
 pub struct Difference {
     pub of: &'static str,
@@ -36,7 +36,7 @@ pub fn same<T: Debug + PartialEq>(of: &'static str, in_archive: &T, in_crate: &T
     Err(Difference { of, in_archive: in_archive.join(" "), in_crate: in_crate.join(" "), steps: Vec::new() })
 }
 
-/// Compares, and takes a panic for a difference after these steps.
+/// Compares. A panic is a difference, after these steps.
 pub fn caught(steps: &[Step], compare: impl FnOnce() -> Compared) -> Compared {
     catch_unwind(AssertUnwindSafe(compare)).unwrap_or_else(|panic| {
         let message = panic.downcast::<String>().map_or_else(|_| "a panic".to_owned(), |message| *message);
@@ -159,7 +159,7 @@ impl<'a, S: EvaluationStorage<Text<'a>>> Stepped<'a, S> {
         shown::complete(self.evaluation.value_result(), self.evaluation.as_result().len())
     }
 
-    /// What is shown after a step of one that is held.
+    /// Takes a step as `dwexpr_evaluation_resume` does.
     fn resume(&mut self, step: &Step) -> archive::Outcome {
         match self.take(step) {
             Some(outcome) => outcome,
@@ -168,7 +168,7 @@ impl<'a, S: EvaluationStorage<Text<'a>>> Stepped<'a, S> {
         }
     }
 
-    /// What is shown after all steps, up to the first that ends it.
+    /// Takes steps as `dwexpr_evaluate` does, up to the first that ends the evaluation.
     fn start(&mut self, steps: &[Step]) -> archive::Outcome {
         let mut outcome = archive::Outcome::default();
         for (index, step) in steps.iter().enumerate() {
@@ -210,7 +210,7 @@ impl Slots<'_> {
     }
 }
 
-/// What evaluates one case after another: the archive's memory, and an evaluation over slices that is restarted.
+/// Both sides, for one case after another: the archive's memory, and an evaluation over slices that is restarted.
 pub struct Sides<'a> {
     memory: Memory,
     in_slices: Stepped<'a, StoreInSlices<'a>>,
@@ -240,8 +240,8 @@ impl<'a> Sides<'a> {
         done.map_err(|difference| Difference { steps, ..difference })
     }
 
-    /// Evaluates step by step, and adds the steps that are taken: in slices of the archive's limits, and on the heap up
-    /// to the first limit, as the heap has none.
+    /// Evaluates step by step, and adds the steps that are taken. The heap has no limits, so it is compared up to the
+    /// first list that is full.
     fn hold(&mut self, case: &'a Case, steps: &mut Vec<Step>, met: &mut Met) -> Compared {
         self.in_slices.restart(case);
         let evaluation = Evaluation::new(text_of(case, 0), encoding_of(case));

@@ -1,6 +1,6 @@
 //! Made-up cases: expressions of each kind, their settings, and answers to what they ask.
 
-use crate::archive::{Encoding, Outcome, Step};
+use crate::archive::{COMPLETE, Encoding, Outcome, Step};
 use crate::cases::{Answers, Case, EVALUATE, INITIAL_VALUE, LAST_ANSWER, MAXIMUM, OBJECT_ADDRESS};
 use crate::numbers::Numbers;
 
@@ -22,10 +22,10 @@ pub const KINDS: [Kind; 9] = [
     Kind { name: "settings and answers out of turn", make: Maker::out_of_turn },
 ];
 
-/// The opcodes of DWARF 5, section 7.7.1, and of GNU's and WebAssembly's extensions, with their operands: `1`, `2`, `4`
-/// and `8` bytes, an address (`a`), an offset (`o`), a reference of version 2 (`p`), LEB128 numbers without a sign (`u`)
-/// and with one (`s`), a register (`r`), a base type (`t`), a block (`b`), a literal of the type before it (`l`), and the
-/// index of WebAssembly (`w`).
+/// The opcodes of DWARF 5, section 7.7.1, and those of GNU and WebAssembly: the first and the last of some, and a sign
+/// for each operand. `1`, `2`, `4` and `8` are as many bytes, `a` an address, `o` an offset, `p` an offset that is an
+/// address in version 2, `u` and `s` LEB128 numbers without and with a sign, `r` a register, `t` a base type, `b` a
+/// block, `l` a literal of the type before it, and `w` a kind of WebAssembly and its index.
 const OPERANDS: [(u8, u8, &str); 51] = [
     (0x03, 0x03, "a"),
     (0x06, 0x06, ""),
@@ -87,8 +87,8 @@ const UNARY: [u8; 5] = [0x19, 0x1f, 0x20, 0x23, 0x96];
 /// All that take two values, and `swap`.
 const BINARY: [u8; 18] =
     [0x1a, 0x1b, 0x1c, 0x1d, 0x1e, 0x21, 0x22, 0x24, 0x25, 0x26, 0x27, 0x29, 0x2a, 0x2b, 0x2c, 0x2d, 0x2e, 0x16];
-/// What pushes a value that its caller gives: `breg`, `fbreg`, `bregx`, `push_object_address`, `call_frame_cfa`, the
-/// indexed and the entry values, parameters, WebAssembly's, and addresses.
+/// All that push a value of the caller's: `breg`, `fbreg`, `bregx`, `push_object_address`, `call_frame_cfa`, `addrx`,
+/// `constx`, `entry_value`, `GNU_parameter_ref`, `WASM_location`, `addr`.
 const ASKED: [u8; 12] = [0x70, 0x77, 0x91, 0x92, 0x97, 0x9c, 0xa1, 0xa2, 0xa3, 0xfa, 0xed, 0x03];
 /// `const_type`, `regval_type`, each twice, and `dup`.
 const TYPED: [u8; 5] = [0xa4, 0xa5, 0xf4, 0xf5, 0x12];
@@ -96,8 +96,11 @@ const TYPED: [u8; 5] = [0xa4, 0xa5, 0xf4, 0xf5, 0x12];
 const CONVERSIONS: [u8; 6] = [0xa8, 0xa9, 0xa6, 0xf7, 0xf9, 0xf6];
 /// `deref`, `deref_size`, `form_tls_address`.
 const READS: [u8; 3] = [0x06, 0x94, 0x9b];
-/// Bytes of a type's values: of the types at the offsets from 1 on.
+/// The bytes of a value of each type, by its code from 1 on. The generic type has as many as its largest.
 const SIZES: [usize; 9] = [8, 1, 1, 2, 2, 4, 4, 8, 8];
+
+/// The step that answers each request.
+const ANSWERS: [u32; 16] = [EVALUATE, EVALUATE, 5, 6, 9, 10, 11, 15, 8, 12, 13, 14, 16, 7, 7, 7];
 
 /// The case of a kind with this number.
 pub fn case(kind: &Kind, number: u64) -> Case {
@@ -136,20 +139,20 @@ fn any_encoding(numbers: &mut Numbers) -> Encoding {
     }
 }
 
-/// The step that answers a request, or one that is allowed after the end; `None` if the case has enough of them.
+/// The step that is taken after an outcome, mostly the answer to its request; `None` if no more are taken.
 pub fn answer(case: &Case, taken: usize, outcome: &Outcome, numbers: &mut Numbers) -> Option<Step> {
     let answers = case.answers?;
     if taken >= case.steps.len() + answers.count {
         return None;
     }
-    const KINDS: [u32; 16] = [EVALUATE, EVALUATE, 5, 6, 9, 10, 11, 15, 8, 12, 13, 14, 16, 7, 7, 7];
-    let is_over = outcome.code != 0 || outcome.request <= 1;
-    // Faults are kept, and completion too: that is tried now and then.
+    // An evaluation keeps a fault, and stays complete. That is tried now and then.
+    let is_over = outcome.code != 0 || outcome.request <= COMPLETE;
     if is_over && !numbers.one_in(8) {
         return None;
     }
     let is_stray = numbers.one_in(answers.stray) || outcome.code != 0;
-    let kind = if is_stray { numbers.below(LAST_ANSWER as usize) as u32 + 1 } else { KINDS[outcome.request as usize] };
+    let any = numbers.below(LAST_ANSWER as usize) as u32 + 1;
+    let kind = if is_stray { any } else { ANSWERS[outcome.request as usize] };
     let wanted = if outcome.base_type == 0 { 1 } else { type_at(outcome.base_type) };
     Some(Step {
         kind,
@@ -159,18 +162,18 @@ pub fn answer(case: &Case, taken: usize, outcome: &Outcome, numbers: &mut Number
     })
 }
 
-/// The type that stands at an offset of a unit: made-up units have all types at small offsets.
+/// The code of the type at an offset of a made-up unit: each type stands at many.
 fn type_at(offset: u64) -> u32 {
-    ((offset.wrapping_sub(1)) % 9) as u32 + 1
+    (offset.wrapping_sub(1) % 9) as u32 + 1
 }
 
-/// What makes a case.
+/// Makes a case, one text after another.
 struct Maker {
     numbers: Numbers,
     encoding: Encoding,
-    /// The text that is made now.
+    /// The bytes of the text that is made now.
     bytes: Vec<u8>,
-    /// How many values it leaves on the stack, if nothing branches.
+    /// The values that it leaves on the stack, if nothing branches.
     depth: usize,
     texts: Vec<Vec<u8>>,
     steps: Vec<Step>,
@@ -180,7 +183,7 @@ struct Maker {
 }
 
 impl Maker {
-    /// A maximum, and then an initial value and an object's address, or one of them, or none.
+    /// A maximum, then maybe an initial value, and maybe an object's address.
     fn settings(&mut self) {
         let number = if self.numbers.one_in(4) { self.numbers.below(16) as u64 } else { 100 };
         self.steps.push(Step { kind: MAXIMUM, number, ..Step::default() });
@@ -198,7 +201,7 @@ impl Maker {
         self.steps.push(Step { kind, number, ..Step::default() });
     }
 
-    /// Ends the text, and begins one of nothing.
+    /// Ends the text, and begins the next.
     fn finish_text(&mut self) {
         self.texts.push(std::mem::take(&mut self.bytes));
         self.depth = 0;
@@ -212,7 +215,7 @@ impl Maker {
         }
     }
 
-    /// Whole operations of any opcode, after values that they may take.
+    /// Whole operations of any opcode, after some values for them.
     fn operations(&mut self) {
         self.push_some();
         for _ in 0..1 + self.numbers.below(4) {
@@ -241,7 +244,7 @@ impl Maker {
         self.end_value();
     }
 
-    /// Branches to the ends of operations, or near them, and calls of texts that branch and call too, but for the last.
+    /// Texts that branch, mostly to where an operation begins. All but the last have calls.
     fn branches_and_calls(&mut self) {
         self.answers.count = 24;
         for _ in 0..1 + self.numbers.below(2) {
@@ -339,7 +342,7 @@ impl Maker {
         }
     }
 
-    /// What compilers write for variables: a place, a value that is computed, or pieces.
+    /// The shapes that compilers write for variables: a place, a value that is computed, or pieces.
     fn shapes_of_compilers(&mut self) {
         match self.numbers.below(10) {
             0..4 => self.place_of_variable(),
@@ -358,7 +361,7 @@ impl Maker {
         }
     }
 
-    /// A register, a place in the frame or beside a register, or an address; or what stands there.
+    /// A register, a place in the frame or beside a register, an address, or a place to which a pointer leads.
     fn place_of_variable(&mut self) {
         let register = self.numbers.below(32) as u8;
         match self.numbers.below(8) {
@@ -381,7 +384,7 @@ impl Maker {
         self.bytes.push(0x9f);
     }
 
-    /// Short expressions, settings in any order and at any time, and steps that aren't asked for.
+    /// Short expressions, with settings at any time, and answers that aren't asked for.
     fn out_of_turn(&mut self) {
         self.answers.stray = 3;
         for _ in 0..self.numbers.below(4) {
@@ -413,7 +416,7 @@ impl Maker {
         }
     }
 
-    /// An operation that pushes; without a value to copy it pushes a literal.
+    /// An operation that pushes; if it copies a value that isn't there, a literal in its place.
     fn push(&mut self, opcode: u8) {
         let copied_from = match opcode {
             0x12 => 1,
@@ -443,7 +446,7 @@ impl Maker {
         }
     }
 
-    /// Nothing, or that the variable is the value itself.
+    /// Maybe `stack_value`.
     fn end_value(&mut self) {
         if self.numbers.one_in(2) {
             self.bytes.push(0x9f);
@@ -469,7 +472,7 @@ impl Maker {
         }
     }
 
-    /// Once in a while, changes a byte or leaves out the last.
+    /// Now and then, drops the last byte or changes one.
     fn spoil(&mut self) {
         if self.bytes.is_empty() || !self.numbers.one_in(16) {
             return;
@@ -487,7 +490,7 @@ impl Maker {
         first + self.numbers.below(usize::from(last - first) + 1) as u8
     }
 
-    /// An operation with operands that are made up.
+    /// An operation with made-up operands.
     fn operation(&mut self, opcode: u8) {
         self.bytes.push(opcode);
         let known = OPERANDS.iter().find(|(first, last, _)| (*first..=*last).contains(&opcode));
@@ -530,7 +533,7 @@ impl Maker {
         }
     }
 
-    /// How far a value is below the top, or how many bytes are read: mostly few.
+    /// A byte. An index of `pick` and a size of a read are mostly small.
     fn byte_operand(&mut self, opcode: u8) {
         let is_few = matches!(opcode, 0x15 | 0x94..=0xa7 | 0xf6) && !self.numbers.one_in(8);
         let most = if is_few { self.encoding.address_size } else { u8::MAX };
@@ -553,7 +556,7 @@ impl Maker {
         }
     }
 
-    /// The offset of a type, mostly of the same; how many bytes its values have.
+    /// The offset of a type, mostly of the same in one case. Gives the bytes of a value.
     fn base_type(&mut self) -> usize {
         let offset = if self.numbers.one_in(4) { self.numbers.below(10) as u64 } else { self.home.into() };
         let offset = if self.numbers.one_in(64) { self.numbers.any() } else { offset };
@@ -572,7 +575,7 @@ impl Maker {
         }
     }
 
-    /// An unsigned LEB128 number, which now and then has bytes that say nothing, or too many.
+    /// An unsigned LEB128 number, now and then with more bytes than it needs, or with too many.
     fn unsigned(&mut self, mut number: u64) {
         while number >= 0x80 {
             self.bytes.push(number as u8 | 0x80);

@@ -2,9 +2,9 @@
 //!
 //!     beside_archive COUNT FILE
 //!
-//! COUNT is how many cases of each kind are made up. The lines of FILE say the others, as `Case::of_line` reads them. It
-//! prints a line for each kind, and each difference that it finds, in the smallest case that has it. The last line is
-//! `N passed, M failed`, of kinds and lines.
+//! COUNT is how many cases of each kind are made up. The lines of FILE say the others, as `Case::of_line` reads them.
+//! It prints a line for each kind, and each difference in a small case. The last line is `N passed, M failed`: kinds
+//! and lines.
 
 mod archive;
 mod cases;
@@ -44,7 +44,7 @@ fn compare_one(case: &Case, met: &mut Met) -> Compared {
     compare_all(std::slice::from_ref(case), met).map_err(|(_, difference)| difference)
 }
 
-/// What was compared, and what came of it.
+/// Counts of all comparisons.
 #[derive(Default)]
 struct Report {
     passed: u64,
@@ -115,7 +115,7 @@ impl Report {
         println!("rows: {} alike, {} differ, {:.1} s", self.passed, self.failed, began.elapsed().as_secs_f64());
     }
 
-    /// Fails if something never came up that can.
+    /// Fails if something that can come up never did.
     fn require_all(&mut self) {
         let missing = self.met.missing();
         if missing.is_empty() {

@@ -1,4 +1,4 @@
-//! What came up: a comparison that meets little shows little.
+//! Counts of the operations, requests and faults that came up. A comparison that meets few of them shows little.
 
 use crate::archive::{COMPLETE, Operation, STACK_FULL, Shown};
 use std::fmt;
@@ -58,8 +58,8 @@ impl Met {
         }
     }
 
-    /// What never came up and can: no offset is larger than 64 bits, each piece has a kind, and the archive is given no
-    /// arguments that aren't allowed.
+    /// The names of all that can come up and never did. No offset has more than 64 bits, each piece has a kind, and the
+    /// archive is given allowed arguments alone.
     pub fn missing(&mut self) -> Vec<String> {
         let can_be = |list: &str, number: usize| match list {
             "fault of decoding" => number != 5,

@@ -1,4 +1,4 @@
-//! What the crate gives, in the archive's structs and numbers.
+//! Shows the crate's results in the archive's structs.
 
 use crate::archive::{self, COMPLETE};
 use dwexpr::{
@@ -203,7 +203,7 @@ pub fn ended(code: u32, detail: u64) -> archive::Outcome {
     archive::Outcome { code, detail, ..archive::Outcome::default() }
 }
 
-/// What an evaluation replied, but for the value and the pieces of a complete one.
+/// A reply, without the value and the pieces of a complete evaluation.
 pub fn reply(reply: EvaluationResult<Text<'_>>, texts: &[Vec<u8>]) -> archive::Outcome {
     let mut shown = archive::Outcome::default();
     match reply {
@@ -241,7 +241,7 @@ pub fn reply(reply: EvaluationResult<Text<'_>>, texts: &[Vec<u8>]) -> archive::O
     shown
 }
 
-/// What a complete evaluation came to.
+/// The outcome of a complete evaluation.
 pub fn complete(value: Option<Value>, pieces: usize) -> archive::Outcome {
     let value = value.map(numbers_of).unwrap_or_default();
     archive::Outcome {

@@ -22,8 +22,8 @@ enum Change {
     Bytes(usize, usize, usize),
 }
 
-/// A case that differs still, and of which no change leaves less; and what differs. A case that differs only after others
-/// comes back as it is.
+/// The smallest case that the changes lead to and that differs still, and its difference. A case that differs only
+/// after others comes back as it is.
 pub fn of(case: &Case, difference: Difference) -> (Case, Difference) {
     // The answers that were made up become steps, as those for another expression would be others.
     let mut case = Case { steps: difference.steps.clone(), answers: None, ..case.clone() };
@@ -53,7 +53,7 @@ fn changes(case: &Case) -> Vec<Change> {
     changes
 }
 
-/// The changed case, if it is another one and differs still; and what differs.
+/// The changed case and its difference, if it is another case and differs still.
 fn changed(case: &Case, change: Change) -> Option<(Case, Difference)> {
     let mut smaller = case.clone();
     match change {

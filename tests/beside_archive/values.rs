@@ -50,8 +50,8 @@ fn binary(operation: u32, left: dwexpr::Value, right: dwexpr::Value, mask: u64) 
     }
 }
 
-/// Compares a call of each sort, with numbers that the seed makes. The mask is that of an address of 1 to 64 bits. What
-/// differs comes with the numbers.
+/// Compares a call of each sort, with numbers that the seed makes. The mask has from 1 to 64 bits. A difference comes
+/// with the numbers.
 pub fn compare(seed: u64) -> Result<(), (String, Difference)> {
     let mut numbers = Numbers::new(seed);
     let mask = u64::MAX >> numbers.below(64);

@@ -1,4 +1,5 @@
-//! Each byte of an operation that is decoded is read once, and no other byte is.
+//! Each byte of an operation that is decoded is read once, and no other byte is, but for two exceptions: the first two
+//! bytes of a long number, and in memory a look at the piece after a location.
 
 use crate::operations::SMALL;
 use crate::readers::{Watched, answer_cfa, answer_location, evaluate, value_of};
@@ -110,10 +111,32 @@ fn expect_items<const IN_MEMORY: bool>(rt: &impl Abort, alloc: Global) -> Result
     Ok(())
 }
 
+// A number of three bytes or more has its first two read once more: short numbers are read on a copy of the reader.
+fn expect_numbers<const IN_MEMORY: bool>(rt: &impl Abort, alloc: Global) -> Result<(), AllocError> {
+    for opcode in [0x10, 0x11] {
+        for len in 1..=10u64 {
+            let mut text = Vec::new(alloc);
+            text.push(opcode)?;
+            for _ in 1..len {
+                text.push(0x80)?;
+            }
+            text.extend_from_slice(&[0x00, 0x01])?;
+            let read = Cell::new(0);
+            let number = Watched::<IN_MEMORY>::new(&text, &read);
+            assert!(rt; Expression(number).operations(SMALL).next().is_ok());
+            let again = if len < 3 { 0 } else { 2 };
+            assert!(rt; read.get() == len.saturating_add(1 + again), "{len}");
+        }
+    }
+    Ok(())
+}
+
 #[test]
 fn iterator_reads_each_byte_once(rt: HostRuntime) -> Result<(), AllocError> {
     expect_items::<false>(&rt, rt.alloc())?;
-    expect_items::<true>(&rt, rt.alloc())
+    expect_items::<true>(&rt, rt.alloc())?;
+    expect_numbers::<false>(&rt, rt.alloc())?;
+    expect_numbers::<true>(&rt, rt.alloc())
 }
 
 // Evaluates three literals and an operation of the opcode, which is the last that the maximum allows. The operation

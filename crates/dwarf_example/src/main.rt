@@ -52,12 +52,13 @@ struct Stopped<'a> {
 }
 
 impl<'a> Process<Bytes<'a>> for Stopped<'a> {
-    /// Each byte of memory is 7.
-    fn memory(&self, _address: u64, size: u8, _space: Option<u64>) -> Result<Value> {
-        match size {
-            1 => Ok(Value::U8(0x07)),
-            2 => Ok(Value::U16(0x0707)),
-            _ => Ok(Value::Generic(0x0707_0707)),
+    /// Each byte of memory is 7. An address space holds its own number.
+    fn memory(&self, _address: u64, size: u8, space: Option<u64>) -> Result<Value> {
+        match (space, size) {
+            (Some(number), _) => Ok(Value::Generic(number)),
+            (None, 1) => Ok(Value::U8(0x07)),
+            (None, 2) => Ok(Value::U16(0x0707)),
+            (None, _) => Ok(Value::Generic(0x0707_0707)),
         }
     }
 
@@ -158,12 +159,17 @@ fn show_restarted<'a>(
     Ok(())
 }
 
-/// Prints what registers alone make of the bytes.
-fn show_registers<'a>(rt: &HostRuntime, bytes: Bytes<'a>, process: &Stopped<'a>) -> io::Result<()> {
+/// Prints what registers alone make of the bytes, with at most `step` operations more for each.
+fn show_registers<'a>(
+    rt: &HostRuntime,
+    bytes: Bytes<'a>,
+    process: &Stopped<'a>,
+    step: u32,
+) -> io::Result<()> {
     let mut evaluation = Evaluation::new(rt.alloc(), bytes, ENCODING);
-    match complete_with_registers(&mut evaluation, &process.registers, 2) {
-        Ok(complete) => println!(rt; "registers alone: {complete}"),
-        Err(error) => println!(rt; "registers alone: {error:?}"),
+    match complete_with_registers(&mut evaluation, &process.registers, step) {
+        Ok(complete) => println!(rt; "registers alone, in steps of {step}: {complete}"),
+        Err(error) => println!(rt; "registers alone, in steps of {step}: {error:?}"),
     }
 }
 
@@ -186,18 +192,23 @@ fn show_all(rt: &HostRuntime) -> io::Result<()> {
         // DW_OP_lit3
         called: EndianSlice::new(&[0x33], RunTimeEndian::Little),
     };
-    let expressions: [&[u8]; 3] = [
+    let expressions: [&[u8]; 5] = [
         // DW_OP_fbreg -16
         &[0x91, 0x70],
         // DW_OP_breg0 -1, DW_OP_breg1 1, DW_OP_plus, DW_OP_piece 4
         &[0x70, 0x7f, 0x71, 0x01, 0x22, 0x93, 0x04],
         // DW_OP_call2 5, DW_OP_call_frame_cfa, DW_OP_plus, DW_OP_deref
         &[0x98, 0x05, 0x00, 0x9c, 0x22, 0x06],
+        // DW_OP_breg0 0, DW_OP_breg1 0, DW_OP_breg0 0, DW_OP_plus
+        &[0x70, 0x00, 0x71, 0x00, 0x70, 0x00, 0x22],
+        // DW_OP_lit5, DW_OP_lit1, DW_OP_xderef_size 1
+        &[0x35, 0x31, 0x95, 0x01],
     ];
     for expression in expressions {
         let bytes = EndianSlice::new(expression, RunTimeEndian::Little);
         show_both(rt, bytes, &process)?;
-        show_registers(rt, bytes, &process)?;
+        show_registers(rt, bytes, &process, 1)?;
+        show_registers(rt, bytes, &process, 2)?;
         show_requests(rt, bytes)?;
     }
     show_restarted(rt, &expressions, &process)

@@ -1,0 +1,105 @@
+/* Names of requests and pieces, and operations as lines. */
+#include "check.h"
+#include "dwexpr_names.h"
+
+/* An expression of one operation, and its line. Each form of operands is there. */
+static const struct {
+    const char *digits, *line;
+} rows[] = {
+    {"03 f0debc9a78563412", "DW_OP_addr 0x123456789abcdef0"},
+    {"06", "DW_OP_deref"},
+    {"08 ff", "DW_OP_const1u 255"},
+    {"09 ff", "DW_OP_const1s -1"},
+    {"0e ffffffffffffffff", "DW_OP_const8u 18446744073709551615"},
+    {"0f 0000000000000080", "DW_OP_const8s -9223372036854775808"},
+    {"10 8001", "DW_OP_constu 128"},
+    {"11 807f", "DW_OP_consts -128"},
+    {"12", "DW_OP_dup"},
+    {"14", "DW_OP_over"},
+    {"15 03", "DW_OP_pick 3"},
+    {"18", "DW_OP_xderef"},
+    {"23 10", "DW_OP_plus_uconst 16"},
+    {"28 fdff", "DW_OP_bra -3"},
+    {"2f 0300", "DW_OP_skip 3"},
+    {"3f", "DW_OP_lit15"},
+    {"53", "DW_OP_reg3"},
+    {"76 70", "DW_OP_breg6 -16"},
+    {"90 9401", "DW_OP_regx 148"},
+    {"91 6c", "DW_OP_fbreg -20"},
+    {"92 11 70", "DW_OP_bregx 17, -16"},
+    {"93 04", "DW_OP_piece 4"},
+    {"94 02", "DW_OP_deref_size 2"},
+    {"95 02", "DW_OP_xderef_size 2"},
+    {"96", "DW_OP_nop"},
+    {"98 2f00", "DW_OP_call2 <0x2f>"},
+    {"99 2f000000", "DW_OP_call4 <0x2f>"},
+    {"9a 2f000000", "DW_OP_call_ref <0x2f>"},
+    {"9b", "DW_OP_form_tls_address"},
+    {"9d 03 05", "DW_OP_bit_piece 3, 5"},
+    {"9e 02 aa 0b", "DW_OP_implicit_value 2 byte block: aa 0b"},
+    {"9e 00", "DW_OP_implicit_value 0 byte block:"},
+    {"9f", "DW_OP_stack_value"},
+    {"a0 2f000000 7c", "DW_OP_implicit_pointer <0x2f>, -4"},
+    {"a1 07", "DW_OP_addrx 7"},
+    {"a2 07", "DW_OP_constx 7"},
+    {"a3 01 55", "DW_OP_entry_value 1 byte block: 55"},
+    {"a4 2f 02 aa bb", "DW_OP_const_type <0x2f>, 2 byte block: aa bb"},
+    {"a5 11 2f", "DW_OP_regval_type 17, <0x2f>"},
+    {"a6 04 2f", "DW_OP_deref_type 4, <0x2f>"},
+    {"a7 04 2f", "DW_OP_xderef_type 4, <0x2f>"},
+    {"a8 2f", "DW_OP_convert <0x2f>"},
+    {"a9 2f", "DW_OP_reinterpret <0x2f>"},
+    {"e0", "DW_OP_GNU_push_tls_address"},
+    {"ed 00 03", "DW_OP_WASM_location local, 3"},
+    {"ed 01 03", "DW_OP_WASM_location global, 3"},
+    {"ed 02 03", "DW_OP_WASM_location stack, 3"},
+    {"f2 2f000000 04", "DW_OP_GNU_implicit_pointer <0x2f>, 4"},
+    {"f3 01 55", "DW_OP_GNU_entry_value 1 byte block: 55"},
+    {"f4 2f 01 aa", "DW_OP_GNU_const_type <0x2f>, 1 byte block: aa"},
+    {"f5 11 2f", "DW_OP_GNU_regval_type 17, <0x2f>"},
+    {"f6 04 2f", "DW_OP_GNU_deref_type 4, <0x2f>"},
+    {"f7 2f", "DW_OP_GNU_convert <0x2f>"},
+    {"f9 2f", "DW_OP_GNU_reinterpret <0x2f>"},
+    {"fa 2f000000", "DW_OP_GNU_parameter_ref <0x2f>"},
+    {"fb 07", "DW_OP_GNU_addr_index 7"},
+    {"fc 07", "DW_OP_GNU_const_index 7"},
+    {"fd 2f000000", "DW_OP_GNU_variable_value <0x2f>"},
+    {"01", "fault"},
+    {"03 00", "DW_OP_addr"},
+};
+
+int main(void)
+{
+    uint8_t bytes[64];
+    char line[128];
+    dwexpr_operation operation;
+    size_t i, room, length;
+    uint32_t number;
+    for (i = 0; i < sizeof rows / sizeof *rows; i++) {
+        const size_t wanted = strlen(rows[i].line);
+        dwexpr_decode(bytes, bytes_of(rows[i].digits, bytes), encoding_of(8, 4, 5, 0), 0, &operation);
+        length = dwexpr_operation_line(line, sizeof line, bytes, &operation);
+        check(length == wanted && !strcmp(line, rows[i].line), rows[i].line, line);
+        /* cut off, with a 0 at the end */
+        for (room = 0; room <= wanted; room++) {
+            memset(line, '#', sizeof line);
+            length = dwexpr_operation_line(line, room, bytes, &operation);
+            check(length == wanted && line[room] == '#' && (room == 0 || line[room - 1] == 0) &&
+                      (room == 0 || !strncmp(line, rows[i].line, room - 1)),
+                  rows[i].line, "cut off");
+        }
+    }
+    for (number = DWEXPR_NOTHING; number <= DWEXPR_WANTS_WASM_STACK; number++)
+        check(dwexpr_request_name(number) != NULL, "a request", "it has a name");
+    check(!strcmp(dwexpr_request_name(DWEXPR_WANTS_MEMORY), "memory"), "a request", "memory");
+    check(!strcmp(dwexpr_request_name(DWEXPR_WANTS_ENTRY_VALUE), "an entry value"), "a request", "entry value");
+    check(!strcmp(dwexpr_request_name(DWEXPR_WANTS_BASE_TYPE), "a base type"), "a request", "base type");
+    check(!strcmp(dwexpr_request_name(DWEXPR_WANTS_WASM_STACK), "a WebAssembly stack value"), "a request", "wasm");
+    check(dwexpr_request_name(DWEXPR_WANTS_WASM_STACK + 1) == NULL, "a request", "there is no such");
+    for (number = DWEXPR_EMPTY; number <= DWEXPR_POINTS_INTO; number++)
+        check(dwexpr_piece_name(number) != NULL, "a piece", "it has a name");
+    check(!strcmp(dwexpr_piece_name(DWEXPR_AT_ADDRESS), "in memory"), "a piece", "in memory");
+    check(!strcmp(dwexpr_piece_name(DWEXPR_POINTS_INTO), "an implicit pointer"), "a piece", "implicit pointer");
+    check(dwexpr_piece_name(0) == NULL && dwexpr_piece_name(DWEXPR_POINTS_INTO + 1) == NULL, "a piece", "no such");
+    return finish();
+}

@@ -1,0 +1,48 @@
+/* A frame whose registers and memory are known. Its context says whether the byte order is big-endian. */
+#ifndef FRAME_H
+#define FRAME_H
+
+#include "dwexpr_libdw.h"
+
+/* Register 0 has 0x1122334455667788, 1 has 0x99aabbccddeeff00, and 17 the bytes 00 to 0f. */
+static int read_register(void *context, uint32_t number, uint8_t *content, size_t *size)
+{
+    static const uint64_t contents[] = {0x1122334455667788, 0x99aabbccddeeff00};
+    size_t i;
+    if (number == 17) {
+        for (i = 0; i < 16; i++)
+            content[i] = (uint8_t)i;
+        *size = 16;
+        return 0;
+    }
+    if (number > 1)
+        return 1;
+    for (i = 0; i < 8; i++)
+        content[*(int *)context ? 7 - i : i] = (uint8_t)(contents[number] >> (8 * i));
+    *size = 8;
+    return 0;
+}
+
+/* memory from 0x1000 to 0x2000, in which each byte is the lowest one of its address */
+static int read_memory(void *context, uint64_t address, uint8_t *content, size_t size)
+{
+    size_t i;
+    (void)context;
+    if (address < 0x1000 || size > 0x2000 - address)
+        return 1;
+    for (i = 0; i < size; i++)
+        content[i] = (uint8_t)(address + i);
+    return 0;
+}
+
+static void begin_frame(dwexpr_libdw_frame *frame, int *big_endian)
+{
+    memset(frame, 0, sizeof *frame);
+    frame->read_register = read_register;
+    frame->read_memory = read_memory;
+    frame->context = big_endian;
+    /* it stands in no module; expressions have their units */
+    frame->is_located = 1;
+}
+
+#endif

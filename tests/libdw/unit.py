@@ -1,0 +1,70 @@
+"""Units of debug information in each encoding, and the object files that hold them."""
+
+import struct
+
+
+def unsigned_leb(number, length=1):
+    made = bytearray()
+    while number or not made or len(made) < length:
+        made.append(number & 0x7F | 0x80)
+        number >>= 7
+    made[-1] &= 0x7F
+    return bytes(made)
+
+
+def signed_leb(number, length=1):
+    made = bytearray()
+    while not made or len(made) < length or number != (-1 if made[-1] & 0x40 else 0):
+        made.append(number & 0x7F | 0x80)
+        number >>= 7
+    made[-1] &= 0x7F
+    return bytes(made)
+
+
+class Unit:
+    def __init__(self, address_size, offset_size, version, order):
+        self.address_size, self.offset_size, self.version = address_size, offset_size, version
+        self.order = "<" if order == "le" else ">"
+        self.name = f"{address_size}-{offset_size}-{version}-{order}"
+
+    def pack(self, form, *numbers):
+        return struct.pack(self.order + form, *numbers)
+
+    def address(self, number):
+        return self.pack("Q" if self.address_size == 8 else "I", number)
+
+    def offset(self, number):
+        return self.pack("Q" if self.offset_size == 8 else "I", number)
+
+    def length(self, number):
+        return (b"" if self.offset_size == 4 else b"\xff" * 4) + self.offset(number)
+
+    def header(self):
+        """What a unit's header has after its length; its abbreviations are at 0."""
+        if self.version >= 5:
+            return self.pack("HBB", 5, 1, self.address_size) + self.offset(0)
+        return self.pack("H", self.version) + self.offset(0) + bytes([self.address_size])
+
+    def info(self, entries):
+        """.debug_info with one unit of these entries."""
+        return self.length(len(self.header()) + len(entries)) + self.header() + entries
+
+    def elf(self, sections):
+        """The bytes of an object file with these sections, by name."""
+        wide = self.address_size == 8
+        names = b"\0" + b"".join(name.encode() + b"\0" for name in [*sections, ".shstrtab"])
+        sections = sections | {".shstrtab": names}
+        word = "Q" if wide else "I"
+        place, body, headers = 64 if wide else 52, b"", bytes(64 if wide else 40)
+        for name, content in sections.items():
+            kind = 3 if name == ".shstrtab" else 1
+            at = names.index(name.encode() + b"\0")
+            form = f"II{word * 4}II{word * 2}"
+            headers += self.pack(form, at, kind, 0, 0, place + len(body), len(content), 0, 0, 1, 0)
+            body += content
+        body += bytes(-(place + len(body)) % 8)
+        ident = b"\x7fELF" + bytes([2 if wide else 1, 1 if self.order == "<" else 2, 1]) + bytes(9)
+        machine = (62 if self.order == "<" else 21) if wide else (3 if self.order == "<" else 20)
+        sizes = [place, 0, 0, 64 if wide else 40, len(sections) + 1, len(sections)]
+        last = self.pack(f"HHI{word * 3}IHHHHHH", 1, machine, 1, 0, 0, place + len(body), 0, *sizes)
+        return ident + last + body + headers

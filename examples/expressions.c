@@ -1,27 +1,15 @@
 /* Decodes every expression of object files by this library and by libdw (elfutils), and compares them operation by
- * operation.
+ * operation. The bytes of expressions in lists of locations are put together from libdw's operations.
  *
- *     cc -Iinclude examples/expressions.c crates/dwexpr_c/out/libdwexpr_c.a -ldw -lelf -o build/expressions
- *     build/expressions FILE..
+ *     cc expressions.c $(pkg-config --cflags --libs dwexpr-libdw) -o expressions
+ *     ./expressions FILE..
  *
  * The last line counts. The status is 1 if an operation that both decode differs. */
-#include <dwarf.h>
-#include <elfutils/libdw.h>
-#include <fcntl.h>
-#include <gelf.h>
-#include <inttypes.h>
-#include <stdio.h>
-#include <stdlib.h>
-#include <string.h>
-#include <unistd.h>
-
-#include "dwexpr.h"
-#include "lists.h"
+#include "dwexpr_libdw.h"
 
 static const char *file;
 static dwexpr_encoding encoding;
-static struct section lists_of_4, lists_of_5;
-static size_t expressions, operations, differing, refused_by_libdw, refused_by_both, refused_here;
+static size_t expressions, operations, differing, refused_by_libdw, refused_by_both, refused_here, refused_lists;
 
 /* ---- one operation */
 
@@ -145,14 +133,21 @@ static int same(const Dwarf_Op *theirs, const dwexpr_operation *op, const uint8_
 
 /* ---- one expression */
 
+/* the first twenty that differ are printed, up to the operation */
 static void differ(const uint8_t *bytes, size_t length, size_t at, const char *why)
 {
-    size_t i;
+    char line[4096];
+    dwexpr_operation op;
+    size_t place;
     if (differing++ >= 20)
         return;
-    printf("%s: %s at %zu of", file, why, at);
-    for (i = 0; i < length && i < 40; i++)
-        printf(" %02x", bytes[i]);
+    printf("%s: %s at %zu:", file, why, at);
+    for (place = 0; place < length && place <= at; place += op.size) {
+        if (dwexpr_decode(bytes, length, encoding, place, &op))
+            break;
+        dwexpr_operation_line(line, sizeof line, bytes, &op);
+        printf(" %s;", line);
+    }
     printf("\n");
 }
 
@@ -188,25 +183,21 @@ static void compare(const uint8_t *bytes, size_t length, const Dwarf_Op *theirs,
 
 static void compare_list(Dwarf_Attribute *attribute)
 {
-    struct section section = encoding.version >= 5 ? lists_of_5 : lists_of_4;
-    Dwarf_Word offset;
-    const uint8_t *at, *end = section.bytes + section.length;
+    Dwarf_Addr base, first, last;
+    Dwarf_Op *theirs;
+    size_t count;
     ptrdiff_t place = 0;
-    if (list_offset(attribute, section, encoding, &offset) || offset >= section.length)
-        return;
-    for (at = section.bytes + offset;;) {
-        struct expression found;
-        Dwarf_Addr base, first, last;
-        Dwarf_Op *theirs = NULL;
-        size_t count = 0;
-        int more = next_expression(encoding, &at, end, &found);
-        place = dwarf_getlocations(attribute, place, &base, &first, &last, &theirs, &count);
-        if (!more || place == 0)
-            break;
-        compare(found.bytes, found.length, theirs, count, place < 0);
-        if (place < 0)
-            break;
+    while ((place = dwarf_getlocations(attribute, place, &base, &first, &last, &theirs, &count)) > 0) {
+        dwexpr_libdw_text expression;
+        memset(&expression, 0, sizeof expression);
+        expression.encoding = encoding;
+        if (dwexpr_libdw_from_operations(theirs, count, &expression))
+            printf("%s: an expression can't be put together\n", file);
+        else
+            compare(expression.text.bytes, expression.text.length, theirs, count, 0);
+        dwexpr_libdw_free(expression.memory);
     }
+    refused_lists += place < 0;
 }
 
 /* ---- files */
@@ -254,39 +245,29 @@ static void walk(Dwarf_Die *die)
 
 static int compare_file(void)
 {
-    int descriptor = open(file, O_RDONLY);
-    Elf *elf = elf_begin(descriptor, ELF_C_READ, NULL);
-    Dwarf *dwarf = dwarf_begin(open(file, O_RDONLY), DWARF_C_READ);
+    const int descriptor = open(file, O_RDONLY);
+    Dwarf *dwarf = dwarf_begin(descriptor, DWARF_C_READ);
     Dwarf_CU *unit = NULL;
-    Dwarf_Half version;
-    uint8_t type;
-    Dwarf_Die die, part;
-    GElf_Ehdr header;
-    if (!elf || !dwarf || !gelf_getehdr(elf, &header)) {
+    Dwarf_Die entry;
+    if (!dwarf)
         fprintf(stderr, "%s: no debug information\n", file);
-        return 1;
-    }
-    lists_of_4 = section_of(elf, ".debug_loc");
-    lists_of_5 = section_of(elf, ".debug_loclists");
-    while (dwarf_get_units(dwarf, unit, &unit, &version, &type, &die, &part) == 0) {
-        dwarf_cu_die(unit, &part, NULL, NULL, &encoding.address_size, &encoding.offset_size, NULL, NULL);
-        encoding.version = (uint8_t)version;
-        encoding.big_endian = header.e_ident[EI_DATA] == ELFDATA2MSB;
-        walk(&die);
-    }
+    while (dwarf && dwarf_get_units(dwarf, unit, &unit, NULL, NULL, &entry, NULL) == 0)
+        if (!dwexpr_libdw_encoding(unit, &encoding))
+            walk(&entry);
     dwarf_end(dwarf);
-    return 0;
+    close(descriptor);
+    return !dwarf;
 }
 
 int main(int argc, char **argv)
 {
     int i, failed = 0;
-    elf_version(EV_CURRENT);
     for (i = 1; i < argc; i++) {
         file = argv[i];
         failed |= compare_file();
     }
-    printf("%zu expressions, %zu operations, %zu differing; refused by libdw alone %zu, here alone %zu, by both %zu\n",
-           expressions, operations, differing, refused_by_libdw, refused_here, refused_by_both);
+    printf("%zu expressions, %zu operations, %zu differing; refused by libdw alone %zu, here alone %zu, by both %zu; "
+           "lists that libdw refuses %zu\n",
+           expressions, operations, differing, refused_by_libdw, refused_here, refused_by_both, refused_lists);
     return failed || differing;
 }

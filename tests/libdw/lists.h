@@ -16,6 +16,15 @@ struct section {
     size_t length;
 };
 
+static inline uint64_t read_number(const uint8_t *bytes, size_t size, int big_endian)
+{
+    uint64_t number = 0;
+    size_t i;
+    for (i = 0; i < size; i++)
+        number |= (uint64_t)bytes[big_endian ? size - 1 - i : i] << (8 * i);
+    return number;
+}
+
 static inline uint64_t read_leb(const uint8_t **at, const uint8_t *end)
 {
     uint64_t number = 0;
@@ -42,24 +51,22 @@ struct expression {
 };
 
 /* the expression of the next entry of a list; 0 at its end */
-static inline int next_of_4(size_t address_size, const uint8_t **at, const uint8_t *end, struct expression *found)
+static inline int next_of_4(dwexpr_encoding encoding, const uint8_t **at, const uint8_t *end, struct expression *found)
 {
-    size_t size = address_size;
+    size_t size = encoding.address_size;
     uint64_t most = size == 8 ? UINT64_MAX : 0xffffffff;
     while ((size_t)(end - *at) >= 2 * size + 2) {
-        uint64_t first = 0, last = 0;
-        uint16_t length;
-        memcpy(&first, *at, size);
-        memcpy(&last, *at + size, size);
+        uint64_t first = read_number(*at, size, encoding.big_endian);
+        uint64_t last = read_number(*at + size, size, encoding.big_endian);
         *at += 2 * size;
         if (!first && !last)
             return 0;
         if (first == most)
             continue;
-        memcpy(&length, *at, 2);
+        found->length = read_number(*at, 2, encoding.big_endian);
         *at += 2;
-        found->bytes = *at, found->length = length;
-        *at += length;
+        found->bytes = *at;
+        *at += found->length;
         return *at <= end;
     }
     return 0;
@@ -104,7 +111,7 @@ static inline int next_expression(dwexpr_encoding encoding, const uint8_t **at, 
 {
     found->bytes = NULL, found->length = 0;
     return encoding.version >= 5 ? next_of_5(encoding.address_size, at, end, found)
-                                 : next_of_4(encoding.address_size, at, end, found);
+                                 : next_of_4(encoding, at, end, found);
 }
 
 static inline struct section section_of(Elf *elf, const char *name)
@@ -134,7 +141,7 @@ static inline int list_offset(Dwarf_Attribute *attribute, struct section lists, 
 {
     Dwarf_Die unit, part;
     Dwarf_Attribute base;
-    Dwarf_Word start, at, relative = 0;
+    Dwarf_Word start, at;
     if (dwarf_whatform(attribute) != DW_FORM_loclistx)
         return dwarf_formudata(attribute, offset);
     if (dwarf_cu_info(attribute->cu, NULL, NULL, &unit, &part, NULL, NULL, NULL) ||
@@ -143,39 +150,7 @@ static inline int list_offset(Dwarf_Attribute *attribute, struct section lists, 
     at = start + encoding.offset_size * read_leb_at(attribute->valp);
     if (at + encoding.offset_size > lists.length)
         return -1;
-    memcpy(&relative, lists.bytes + at, encoding.offset_size);
-    *offset = start + relative;
-    return 0;
-}
-
-/* the bytes of an attribute's expression at an address; 0 if there is none */
-static inline int find_expression(Dwarf_Attribute *attribute, struct section lists, dwexpr_encoding encoding,
-                                  Dwarf_Addr address, dwexpr_text *text)
-{
-    Dwarf_Block block;
-    Dwarf_Word offset;
-    const uint8_t *at, *end = lists.bytes + lists.length;
-    Dwarf_Addr base, first, last;
-    Dwarf_Op *ops;
-    size_t count;
-    ptrdiff_t next = 0;
-    struct expression found;
-    if (!dwarf_formblock(attribute, &block)) {
-        text->bytes = block.data, text->length = block.length;
-        return 1;
-    }
-    if (list_offset(attribute, lists, encoding, &offset) || offset >= lists.length)
-        return 0;
-    at = lists.bytes + offset;
-    while (next_expression(encoding, &at, end, &found)) {
-        next = dwarf_getlocations(attribute, next, &base, &first, &last, &ops, &count);
-        if (next <= 0)
-            return 0;
-        if (first <= address && address < last) {
-            text->bytes = found.bytes, text->length = found.length;
-            return 1;
-        }
-    }
+    *offset = start + read_number(lists.bytes + at, encoding.offset_size, encoding.big_endian);
     return 0;
 }
 

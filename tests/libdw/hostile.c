@@ -1,0 +1,220 @@
+/* Reads the variables of a program whose debug information has wrong bytes: at addresses all over the program, in
+ * frames that call each other, with made-up registers and memory. Or those of a core dump whose headers and notes have
+ * wrong bytes. It prints how many it read. What counts is that it ends, and that the sanitizers find nothing.
+ *
+ *     hostile FILE FIRST LAST FOLDER    copies FILE to FOLDER, changed as each number from FIRST to LAST says */
+#include "dwexpr_libdw.h"
+
+static unsigned long long state;
+
+static unsigned long long next_number(void)
+{
+    state ^= state << 13;
+    state ^= state >> 7;
+    return state ^= state << 17;
+}
+
+static int read_register(void *context, uint32_t number, uint8_t *bytes, size_t *size)
+{
+    (void)context;
+    *size = number > 16 ? 16 : 8;
+    memset(bytes, (int)(0x10 + number), *size);
+    return number > 33;
+}
+
+static int read_memory(void *context, uint64_t address, uint8_t *bytes, size_t size)
+{
+    (void)context;
+    memset(bytes, (int)(address & 0xff), size);
+    return address % 16 == 3;
+}
+
+static size_t variables, values, whole;
+
+static void read_variable(dwexpr_libdw_frame *frame, Dwarf_Die *variable)
+{
+    static uint8_t bytes[256], unknown[256];
+    dwexpr_libdw_value value;
+    Dwarf_Die type;
+    int code = dwexpr_libdw_variable(frame, variable, &value);
+    variables++;
+    dwexpr_libdw_type(variable, &type);
+    if (!code) {
+        values++;
+        whole += !dwexpr_libdw_read(frame, &value, 1 + next_number() % (8 * sizeof bytes), bytes, unknown);
+    }
+    dwexpr_libdw_release(&value);
+}
+
+static void read_frame(dwexpr_libdw_frame *frame)
+{
+    Dwarf_Die *scopes, entry;
+    int i, more, count = dwexpr_libdw_scopes(frame, &scopes);
+    for (i = 0; i < count; i++)
+        for (more = dwarf_child(&scopes[i], &entry); more == 0; more = dwarf_siblingof(&entry, &entry))
+            if (dwarf_tag(&entry) == DW_TAG_variable || dwarf_tag(&entry) == DW_TAG_formal_parameter)
+                read_variable(frame, &entry);
+    free(scopes);
+}
+
+static uint8_t content[1 << 20]; /* of the file as it was */
+static GElf_Addr text_address;
+static GElf_Off text_offset;
+static GElf_Xword text_size;
+
+/* an address of code; the program is position-independent, and begins at 0 */
+static Dwarf_Addr next_address(Dwarf_Addr first)
+{
+    return first + text_address + next_number() % text_size;
+}
+
+/* where a call on x86-64 returns to, mostly */
+static Dwarf_Addr next_return(Dwarf_Addr first)
+{
+    Dwarf_Addr address = next_address(first);
+    while (content[text_offset + (address - first - text_address)] != 0xe8 && next_number() % 1000)
+        address = next_address(first);
+    return address + 5;
+}
+
+/* three frames, each of which called the one before it */
+static void read_frames(Dwfl *dwfl, Dwarf_Addr first)
+{
+    dwexpr_libdw_frame frames[3];
+    int i;
+    memset(frames, 0, sizeof frames);
+    for (i = 0; i < 3; i++) {
+        frames[i].dwfl = dwfl;
+        frames[i].pc = i ? next_return(first) : next_address(first);
+        frames[i].is_activation = i == 0;
+        frames[i].caller = i < 2 ? &frames[i + 1] : NULL;
+        frames[i].read_register = read_register;
+        frames[i].read_memory = read_memory;
+    }
+    read_frame(&frames[0]);
+}
+
+static void read_rules(Dwfl_Module *module, Dwarf_Addr first)
+{
+    Dwarf_Addr bias, address = next_address(first), bias_of_elf;
+    Dwarf_CFI *table = dwfl_module_eh_cfi(module, &bias);
+    Elf *elf = dwfl_module_getelf(module, &bias_of_elf);
+    Dwarf_Frame *rules;
+    dwexpr_libdw_text expression;
+    int number;
+    if (!table || !elf || dwarf_cfi_addrframe(table, address - bias, &rules))
+        return;
+    for (number = -1; number < 17; number++) {
+        const unsigned char *ident = (const unsigned char *)elf_getident(elf, NULL);
+        if (number < 0)
+            dwexpr_libdw_cfa_expression(rules, ident, &expression);
+        else
+            dwexpr_libdw_register_expression(rules, ident, number, &expression);
+        dwexpr_libdw_free(expression.memory);
+    }
+    free(rules);
+}
+
+static void read_core(const char *path)
+{
+    dwexpr_libdw_stack stack;
+    size_t i;
+    dwexpr_libdw_open_core(&stack, path, NULL);
+    for (i = 0; i < stack.length; i++)
+        read_frame(&stack.frames[i]);
+    dwexpr_libdw_close(&stack);
+}
+
+static void read_program(const char *path)
+{
+    static const Dwfl_Callbacks finders = {dwfl_build_id_find_elf, dwfl_standard_find_debuginfo,
+                                           dwfl_offline_section_address, NULL};
+    Dwfl *dwfl = dwfl_begin(&finders);
+    Dwfl_Module *module = dwfl_report_offline(dwfl, "hostile", path, -1);
+    Dwarf_Addr first;
+    int i;
+    dwfl_report_end(dwfl, NULL, NULL);
+    if (module && dwfl_module_info(module, NULL, &first, NULL, NULL, NULL, NULL, NULL))
+        for (i = 0; i < 40; i++) {
+            read_frames(dwfl, first);
+            read_rules(module, first);
+        }
+    dwfl_end(dwfl);
+}
+
+/* Where the sections of debug information are in the file, or the front of a core dump: pairs of an offset and a
+ * length. And where the code is. */
+static size_t find_sections(const char *path, size_t places[][2], size_t most, int *is_core)
+{
+    static const char *const names[] = {".debug_info",     ".debug_loclists", ".debug_loc",      ".debug_abbrev",
+                                        ".debug_addr",     ".debug_rnglists", ".debug_str_offsets", ".eh_frame"};
+    int file = open(path, O_RDONLY);
+    Elf *elf = elf_begin(file, ELF_C_READ, NULL);
+    Elf_Scn *section = NULL;
+    size_t count = 0, index, i;
+    GElf_Ehdr start;
+    *is_core = gelf_getehdr(elf, &start) && start.e_type == ET_CORE;
+    elf_getshdrstrndx(elf, &index);
+    if (*is_core) {
+        places[0][0] = 0;
+        places[0][1] = 0x1800;
+        count = 1;
+    }
+    while (!*is_core && (section = elf_nextscn(elf, section)) && count < most) {
+        GElf_Shdr header;
+        gelf_getshdr(section, &header);
+        if (!strcmp(elf_strptr(elf, index, header.sh_name), ".text")) {
+            text_address = header.sh_addr;
+            text_offset = header.sh_offset;
+            text_size = header.sh_size;
+        }
+        for (i = 0; i < sizeof names / sizeof *names; i++)
+            if (!strcmp(elf_strptr(elf, index, header.sh_name), names[i]) && header.sh_size) {
+                places[count][0] = header.sh_offset;
+                places[count++][1] = header.sh_size;
+            }
+    }
+    elf_end(elf);
+    close(file);
+    return count;
+}
+
+int main(int argc, char **argv)
+{
+    static uint8_t changed[1 << 20];
+    size_t places[8][2], count, length, bytes = 0;
+    unsigned long number, last;
+    char path[4096];
+    FILE *file;
+    int is_core;
+    if (argc != 5)
+        return 2;
+    elf_version(EV_CURRENT);
+    count = find_sections(argv[1], places, 8, &is_core);
+    file = fopen(argv[1], "rb");
+    length = fread(content, 1, sizeof content, file);
+    fclose(file);
+    last = strtoul(argv[3], NULL, 10);
+    for (number = strtoul(argv[2], NULL, 10); number <= last; number++) {
+        unsigned changes, i;
+        state = 0x9e3779b97f4a7c15u * (number + 1);
+        memcpy(changed, content, length);
+        changes = number ? 1 + (unsigned)(next_number() % 20) : 0;
+        for (i = 0; i < changes; i++) {
+            const size_t *place = places[next_number() % count];
+            changed[place[0] + next_number() % place[1]] = (uint8_t)next_number();
+        }
+        bytes += changes;
+        snprintf(path, sizeof path, "%s/hostile-%lu", argv[4], number);
+        file = fopen(path, "wb");
+        fwrite(changed, 1, length, file);
+        fclose(file);
+        if (is_core)
+            read_core(path);
+        else
+            read_program(path);
+        remove(path);
+    }
+    printf("%zu bytes changed, %zu variables, %zu with a value, %zu of them whole\n", bytes, variables, values, whole);
+    return 0;
+}

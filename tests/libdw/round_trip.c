@@ -1,0 +1,96 @@
+/* Puts each expression of object files together from libdw's operations, and compares it with the file's bytes, which
+ * lists.h finds in lists of locations. The last line counts. The status is 1 if one differs. */
+#include "dwexpr_libdw.h"
+#include "lists.h"
+
+static const char *file;
+static dwexpr_encoding encoding;
+static struct section lists_of_4, lists_of_5;
+static size_t same, differing, refused;
+
+static void compare(const uint8_t *bytes, size_t length, const Dwarf_Op *operations, size_t count)
+{
+    dwexpr_libdw_text expression;
+    int code;
+    memset(&expression, 0, sizeof expression);
+    expression.encoding = encoding;
+    code = dwexpr_libdw_from_operations(operations, count, &expression);
+    if (!code && expression.text.length == length && !memcmp(expression.text.bytes, bytes, length)) {
+        same++;
+    } else {
+        size_t i;
+        *(code ? &refused : &differing) += 1;
+        printf("%s: %s:", file, code ? dwexpr_libdw_code_name(code) : "other bytes");
+        for (i = 0; i < length; i++)
+            printf(" %02x", bytes[i]);
+        printf("\n");
+    }
+    dwexpr_libdw_free(expression.memory);
+}
+
+static void compare_list(Dwarf_Attribute *attribute)
+{
+    struct section section = encoding.version >= 5 ? lists_of_5 : lists_of_4;
+    const uint8_t *at, *end = section.bytes + section.length;
+    struct expression found;
+    Dwarf_Addr base, first, last;
+    Dwarf_Word offset;
+    Dwarf_Op *operations;
+    size_t count;
+    ptrdiff_t place = 0;
+    if (list_offset(attribute, section, encoding, &offset) || offset >= section.length)
+        return;
+    at = section.bytes + offset;
+    while (next_expression(encoding, &at, end, &found) &&
+           (place = dwarf_getlocations(attribute, place, &base, &first, &last, &operations, &count)) > 0)
+        compare(found.bytes, found.length, operations, count);
+}
+
+static int on_attribute(Dwarf_Attribute *attribute, void *unused)
+{
+    const unsigned form = dwarf_whatform(attribute), name = dwarf_whatattr(attribute);
+    Dwarf_Block block;
+    Dwarf_Op *operations;
+    size_t count;
+    (void)unused;
+    if (form == DW_FORM_exprloc || form == DW_FORM_block1 || form == DW_FORM_block2) {
+        if (name != DW_AT_const_value && !dwarf_formblock(attribute, &block) &&
+            !dwarf_getlocation(attribute, &operations, &count))
+            compare(block.data, block.length, operations, count);
+    } else if (name == DW_AT_location || name == DW_AT_frame_base) {
+        compare_list(attribute);
+    }
+    return DWARF_CB_OK;
+}
+
+static void walk(Dwarf_Die *entry)
+{
+    do {
+        Dwarf_Die child;
+        dwarf_getattrs(entry, on_attribute, NULL, 0);
+        if (dwarf_child(entry, &child) == 0)
+            walk(&child);
+    } while (dwarf_siblingof(entry, entry) == 0);
+}
+
+int main(int argc, char **argv)
+{
+    int i;
+    for (i = 1; i < argc; i++) {
+        const int descriptor = open(file = argv[i], O_RDONLY);
+        Dwarf *dwarf = dwarf_begin(descriptor, DWARF_C_READ);
+        Dwarf_CU *unit = NULL;
+        Dwarf_Die entry;
+        if (dwarf) {
+            lists_of_4 = section_of(dwarf_getelf(dwarf), ".debug_loc");
+            lists_of_5 = section_of(dwarf_getelf(dwarf), ".debug_loclists");
+        }
+        while (dwarf && dwarf_get_units(dwarf, unit, &unit, NULL, NULL, &entry, NULL) == 0)
+            if (!dwexpr_libdw_encoding(unit, &encoding))
+                walk(&entry);
+        dwarf_end(dwarf);
+        close(descriptor);
+    }
+    printf("%zu the same, %zu differing, %zu refused\n", same, differing, refused);
+    return differing != 0 || refused != 0;
+}

@@ -7,8 +7,7 @@
   or the repository's if that lacks them.
 - include: the headers, without a warning as C11, C17 and C++17. The structs of the crate have the fields of dwexpr.h, by
   name, type and order, and so the places that it asserts.
-- examples/: decode is compared with what it is to print. expressions and where need libdw, and are run if it is there;
-  what where prints is compared with gdb, if that is there.
+- examples/decode.c is compared with what it is to print.
 
 It wants cc; what else is missing is left out, and said so. The last line is `N passed, M failed`.
 """
@@ -230,70 +229,6 @@ def decode(folder):
         count(good, not good, "examples/decode.c", done.stdout + done.stderr)
 
 
-# Its variables are in registers, in memory, constants, and one in two pieces.
-STOPPED = """\
-struct pair { long first, second; };
-static volatile int sink;
-__attribute__((noinline)) static int stop(int given, struct pair both)
-{
-    int twice = 2 * given;
-    long sum = both.first - both.second;
-    __asm__ volatile("ud2" : : "r"(given), "r"(twice), "r"(sum) : "memory");
-    return sink = twice + (int)sum;
-}
-int main(int count, char **words) { struct pair both = {6 + count, 8 + count}; return stop(20 + count, both) == !words; }
-"""
-
-WANTED = ["given = 21", "twice = 42", "sum = -2", "sink = 0"]
-
-
-def with_libdw(folder):
-    links = ["-ldw", "-lelf"]
-    with tempfile.NamedTemporaryFile("w", suffix=".c") as file:
-        file.write("#include <elfutils/libdwfl.h>\nint main(void) { return dwfl_errno(); }\n")
-        file.flush()
-        if run(["cc", file.name, *links, "-o", folder / "has_libdw"]).returncode != 0:
-            return left_out("examples/expressions.c, examples/where.c", "libdw")
-    words = ["cc", "-std=c11", *WARNINGS, f"-I{TOP / 'examples'}"]
-    source = folder / "stopped.c"
-    source.write_text(STOPPED)
-    expressions, where = folder / "expressions", folder / "where"
-    built, stops = (
-        check(f"{name}: build", [*words, TOP / name, ARCHIVE, *links, "-o", program])
-        for name, program in [("examples/expressions.c", expressions), ("examples/where.c", where)]
-    )
-    for compiler in ["gcc", "clang"]:
-        if not shutil.which(compiler):
-            left_out(f"programs of {compiler}", compiler)
-            continue
-        for level in ["-O0", "-O1", "-O2", "-O3"]:
-            for version in ["4", "5"]:
-                name = f"{compiler} {level} -gdwarf-{version}"
-                program = folder / "stopped"
-                if not check(name, [compiler, level, "-g", f"-gdwarf-{version}", source, "-o", program]):
-                    continue
-                if built:
-                    check(f"examples/expressions.c on {name}", [expressions, program])
-                if stops:
-                    lines = run([where, program]).stdout.splitlines()
-                    good = all(line in lines for line in WANTED)
-                    count(good, not good, f"examples/where.c on {name}", "\n".join(lines))
-    if stops:
-        with_gdb()
-
-
-def with_gdb():
-    if not shutil.which("gdb"):
-        return left_out("tests/compare_gdb.py", "gdb")
-    done = run([sys.executable, TOP / "tests/compare_gdb.py", "gcc", "-O0", "-O2"])
-    said = re.search(r"^(\d+) equal$", done.stdout, re.MULTILINE)
-    if done.returncode == 2 or not said:
-        return left_out("tests/compare_gdb.py", "gdb with Python, or gcc")
-    different = re.search(r"^(\d+) different$", done.stdout, re.MULTILINE)
-    bad = int(different.group(1)) if different else 0
-    count(int(said.group(1)), bad, "examples/where.c and gdb", done.stdout)
-
-
 def main():
     if not shutil.which("cc"):
         print("tests/run_c.py: cc isn't on PATH: add a C compiler")
@@ -307,7 +242,6 @@ def main():
             layout()
             callers(folder)
             decode(folder)
-            with_libdw(folder)
     print(f"{passed} passed, {failed} failed")
     return 1 if failed else 0
 

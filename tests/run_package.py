@@ -7,6 +7,7 @@
 - examples/decode.c is built by cc, with the words of pkg-config, and by a CMake project. So are a caller of dwexpr_run
   in C and a caller in C++.
 - The Rust crate is the one that bin/crate writes.
+- examples/variable.c is built with the words of pkg-config, and prints a variable of a stopped process.
 - For aarch64 decode.c is built by Debian's cross compiler and run by qemu-user.
 
 It wants cc; what else is missing is left out, and said so. The last line is `N passed, M failed`.
@@ -16,10 +17,12 @@ import os
 import pathlib
 import re
 import shutil
+import signal
 import subprocess
 import sys
 import tarfile
 import tempfile
+import time
 
 TOP = pathlib.Path(__file__).resolve().parent.parent
 ARM = "aarch64-unknown-linux-gnu"
@@ -93,9 +96,21 @@ int main(void)
 }
 """
 
+# It goes on until it is stopped, within the function whose variable is asked for.
+LOOP = """\
+int main(void)
+{
+    volatile int answer = 42;
+    while (answer == 42)
+        ;
+    return 0;
+}
+"""
+
 # What a package holds, besides the Rust crate.
 FILES = """
-include/dwexpr.h include/dwexpr_run.h lib/libdwexpr.a lib/pkgconfig/dwexpr.pc
+include/dwexpr.h include/dwexpr_libdw.h include/dwexpr_names.h include/dwexpr_run.h lib/libdwexpr.a
+lib/pkgconfig/dwexpr.pc lib/pkgconfig/dwexpr-libdw.pc
 lib/cmake/dwexpr/dwexpr-config.cmake lib/cmake/dwexpr/dwexpr-config-version.cmake
 share/doc/dwexpr/DIFFERENCES.md share/doc/dwexpr/GUIDE.md share/doc/dwexpr/PROOFS.md share/doc/dwexpr/PROVED
 share/doc/dwexpr/LICENSE-APACHE share/doc/dwexpr/LICENSE-MIT
@@ -252,6 +267,24 @@ def by_compilers(package, folder, env):
         check(done.stdout == "0 0x2ff0\n", "a caller in C++, run", done.stdout + done.stderr)
 
 
+def by_libdw(package, folder, env):
+    asked = {**env, "PKG_CONFIG_PATH": str(package / "lib/pkgconfig")}
+    done = run(["pkg-config", "--cflags", "--libs", "dwexpr-libdw"], env=asked) if shutil.which("pkg-config") else None
+    if not done or done.returncode:
+        return left_out("examples/variable.c", "libdw for pkg-config")
+    source, variable = package / "share/dwexpr/examples/variable.c", folder / "variable"
+    check_run("variable.c by cc", ["cc", "-std=c11", source, *done.stdout.split(), "-o", variable], env=env)
+    loop, program = folder / "loop.c", folder / "loop"
+    loop.write_text(LOOP)
+    check_run("a program with a variable", ["cc", "-g", "-O0", loop, "-o", program], env=env)
+    with subprocess.Popen([program]) as process:
+        time.sleep(1)
+        process.send_signal(signal.SIGSTOP)
+        done = run([variable, process.pid, "answer"], env=env)
+        process.kill()
+    check(done.stdout == "answer = 42\n", "variable.c, run", done.stdout + done.stderr)
+
+
 def by_cmake(package, folder, env):
     if not shutil.which("cmake"):
         return left_out("a CMake project", "cmake")
@@ -296,6 +329,7 @@ def main():
             files_of(here)
             refusals(folder)
             by_compilers(here, folder, env)
+            by_libdw(here, folder, env)
             by_cmake(here, folder, env)
             check_run("bin/package --prefix", [TOP / "bin/package", "--prefix", folder / "prefix"])
             check((folder / "prefix/lib/libdwexpr.a").exists(), "the prefix has the archive")

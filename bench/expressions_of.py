@@ -1,7 +1,8 @@
 #!/usr/bin/env python3
-"""expressions_of.py FILE..: the DWARF expressions of ELF files, in the form that `bench --expressions` reads.
+"""expressions_of.py [--all] FILE..: prints the DWARF expressions of ELF files as a list that bench/run reads.
 
-Those of attributes and of the location lists that attributes name, each once. It takes `readelf` and `objcopy`
+It takes those of attributes and of the location lists that attributes name, but for empty ranges, which mean nothing:
+each once, or with --all as often as it stands there, in the order of the files. It needs `readelf` and `objcopy`
 (binutils).
 """
 
@@ -49,7 +50,9 @@ def of_list(section, offset, address_size):
         if start == end == 0:
             return
         if start != 2 ** (8 * address_size) - 1:
-            yield section.take(section.number(2))
+            expression = section.take(section.number(2))
+            if start != end:
+                yield expression
 
 
 # What stands between the kind of an entry of .debug_loclists and its expression (DWARF 5, section 7.7.3): addresses,
@@ -73,11 +76,12 @@ def of_list_of_version_5(section, offset, address_size):
         if kind not in KINDS:
             return
         addresses, numbers, has_expression = KINDS[kind]
-        section.take(address_size * addresses)
-        for _ in range(numbers):
-            section.leb128()
+        found = [section.number(address_size) for _ in range(addresses)] + [section.leb128() for _ in range(numbers)]
         if has_expression:
-            yield section.take(section.leb128())
+            expression = section.take(section.leb128())
+            # An empty range has the same ends, or a length of 0.
+            if not found or found[-1] != (0 if kind in (3, 8) else found[0]):
+                yield expression
 
 
 def expressions_of(path):
@@ -85,7 +89,7 @@ def expressions_of(path):
     with open(path, "rb") as file:
         order = "be" if file.read(6)[5] == 2 else "le"
     old, new = Section(path, ".debug_loc", order), Section(path, ".debug_loclists", order)
-    words = ["readelf", "--debug-dump=info", path]
+    words = ["readelf", "--debug-dump=info", "--debug-dump=no-follow-links", path]
     said = subprocess.run(words, capture_output=True, text=True, errors="replace", check=False).stdout
     address_size = offset_size = version = 0
     for line in said.splitlines():
@@ -107,12 +111,11 @@ def expressions_of(path):
 
 
 def main():
-    seen = {}
-    for path in sys.argv[1:]:
-        seen.update(dict.fromkeys(expressions_of(path)))
-    for each in seen:
-        if each[4]:
-            print(*each, sep="\t")
+    words = sys.argv[1:]
+    is_all = words[:1] == ["--all"]
+    found = (it for path in words[is_all:] for it in expressions_of(path) if it[4])
+    for each in found if is_all else dict.fromkeys(found):
+        print(*each, sep="\t")
 
 
 main()

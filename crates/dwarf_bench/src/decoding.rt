@@ -1,12 +1,23 @@
 //! Decoding, from the first operation to the end or to a fault.
 
-use crate::jobs::Job;
+use crate::jobs::{Case, Job};
 use crate::sums::{mix, mix_operation};
 use dwarf_base::Reader;
 use dwarf_eval::op::Operation;
 
+pub fn decode_all(cases: &[Case<'_>], times: u32) -> u64 {
+    let mut total = 0u64;
+    for case in cases {
+        for _ in 0..times {
+            total = total.wrapping_add(decode(case.bytes, case.job));
+        }
+    }
+    total
+}
+
 /// The number of operations before the end or the first fault, and a checksum of those that aren't only counted.
-pub fn decode(bytes: &[u8], job: Job) -> u64 {
+#[inline(never)]
+fn decode(bytes: &[u8], job: Job) -> u64 {
     let encoding = job.encoding();
     let mut text = job.text(bytes);
     // How many more operations are only counted.

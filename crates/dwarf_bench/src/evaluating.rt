@@ -9,8 +9,8 @@ use crate::sums::{mix, mix_location, mix_option, mix_request, mix_value};
 use arrayvec::ArrayVec;
 use dwarf_base::{Encoding, EndianSlice, Format, Reader, Result, RunTimeEndian};
 use dwarf_eval::eval::{Evaluation, Status};
-use dwarf_eval::op::{EvaluationResult, Piece};
-use dwarf_eval::store::{EvaluationStorage, StoreOnHeap};
+use dwarf_eval::op::{EvaluationResult, Location, Piece};
+use dwarf_eval::store::{EvaluationStorage, SliceVec, StoreInSlices, StoreOnHeap};
 use dwarf_value::{Value, ValueType};
 use std::alloc::Global;
 
@@ -32,30 +32,67 @@ impl<'a> EvaluationStorage<Text<'a>> for Arrays {
     type Result = ArrayVec<Piece<Text<'a>>, 16>;
 }
 
-pub fn evaluate_on_heap(alloc: Global, bytes: &[u8], job: &Job) -> u64 {
-    if !is_evaluated(job) {
-        return 0;
+pub fn evaluate_on_heap(alloc: Global, cases: &[Case<'_>], times: u32) -> u64 {
+    let mut total = 0u64;
+    for case in cases {
+        for _ in 0..times {
+            if is_evaluated(&case.job) {
+                let mut evaluation: Evaluation<_, StoreOnHeap<Global>> = Evaluation::new(
+                    alloc,
+                    case.job.text(case.bytes),
+                    case.job.encoding(),
+                );
+                total = total.wrapping_add(finish(&mut evaluation, case.bytes, &case.job));
+            }
+        }
     }
-    let mut evaluation: Evaluation<_, StoreOnHeap<Global>> = Evaluation::new(
-        alloc,
-        job.text(bytes),
-        job.encoding(),
-    );
-    finish(&mut evaluation, bytes, job)
+    total
 }
 
-pub fn evaluate_in_arrays(bytes: &[u8], job: &Job) -> u64 {
-    if !is_evaluated(job) {
-        return 0;
+pub fn evaluate_in_arrays(cases: &[Case<'_>], times: u32) -> u64 {
+    let mut total = 0u64;
+    for case in cases {
+        for _ in 0..times {
+            if is_evaluated(&case.job) {
+                let mut evaluation: Evaluation<_, Arrays> = Evaluation::new_in(
+                    case.job.text(case.bytes),
+                    case.job.encoding(),
+                    ArrayVec::new(),
+                    ArrayVec::new(),
+                    ArrayVec::new(),
+                );
+                total = total.wrapping_add(finish(&mut evaluation, case.bytes, &case.job));
+            }
+        }
     }
-    let mut evaluation: Evaluation<_, Arrays> = Evaluation::new_in(
-        job.text(bytes),
-        job.encoding(),
-        ArrayVec::new(),
-        ArrayVec::new(),
-        ArrayVec::new(),
-    );
-    finish(&mut evaluation, bytes, job)
+    total
+}
+
+pub fn evaluate_in_slices(cases: &[Case<'_>], times: u32) -> u64 {
+    let nothing = EndianSlice::new(&[], RunTimeEndian::Little);
+    let mut values = [Value::Generic(0); 64];
+    let mut callers = [(nothing, nothing); 8];
+    let mut pieces = [Piece {
+        size_in_bits: None,
+        bit_offset: None,
+        location: Location::Empty,
+    }; 16];
+    let mut total = 0u64;
+    for case in cases {
+        for _ in 0..times {
+            if is_evaluated(&case.job) {
+                let mut evaluation: Evaluation<_, StoreInSlices<'_>> = Evaluation::new_in(
+                    case.job.text(case.bytes),
+                    case.job.encoding(),
+                    SliceVec::new(&mut values),
+                    SliceVec::new(&mut callers),
+                    SliceVec::new(&mut pieces),
+                );
+                total = total.wrapping_add(finish(&mut evaluation, case.bytes, &case.job));
+            }
+        }
+    }
+    total
 }
 
 pub fn restart_on_heap(alloc: Global, cases: &[Case<'_>], times: u32) -> u64 {
@@ -65,34 +102,12 @@ pub fn restart_on_heap(alloc: Global, cases: &[Case<'_>], times: u32) -> u64 {
         nothing,
         ANY_ENCODING,
     );
-    restart_all(&mut evaluation, cases, times)
-}
-
-pub fn restart_in_arrays(cases: &[Case<'_>], times: u32) -> u64 {
-    let nothing = EndianSlice::new(&[], RunTimeEndian::Little);
-    let mut evaluation: Evaluation<Text<'_>, Arrays> = Evaluation::new_in(
-        nothing,
-        ANY_ENCODING,
-        ArrayVec::new(),
-        ArrayVec::new(),
-        ArrayVec::new(),
-    );
-    restart_all(&mut evaluation, cases, times)
-}
-
-/// Evaluates each case `times` times by one evaluation: the sum of what `complete` gives.
-#[inline(always)]
-fn restart_all<'a, S: EvaluationStorage<Text<'a>>>(
-    evaluation: &mut Evaluation<Text<'a>, S>,
-    cases: &[Case<'a>],
-    times: u32,
-) -> u64 {
     let mut total = 0u64;
     for case in cases {
         for _ in 0..times {
             if is_evaluated(&case.job) {
                 evaluation.restart(case.job.text(case.bytes), case.job.encoding());
-                total = total.wrapping_add(finish(evaluation, case.bytes, &case.job));
+                total = total.wrapping_add(finish(&mut evaluation, case.bytes, &case.job));
             }
         }
     }
@@ -106,8 +121,8 @@ fn is_evaluated(job: &Job) -> bool
     0 < job.address_size && job.address_size <= 8
 }
 
-/// Evaluates to the end, to a fault or until no more answers are given: the number of answers that were given, and a
-/// checksum of the requests that aren't only counted and, if none is, of the pieces and of the value.
+/// Evaluates to the end, to a fault or until no more answers are given: the number of answers that were given, and if
+/// it is asked for a checksum of the requests, of the pieces and of the value.
 #[inline(always)]
 fn finish<'a, S: EvaluationStorage<Text<'a>>>(
     evaluation: &mut Evaluation<Text<'a>, S>,
@@ -116,10 +131,10 @@ fn finish<'a, S: EvaluationStorage<Text<'a>>>(
 ) -> u64
     requires { IsClosed evaluation.old.status }
 {
-    if job.counted == u32::MAX {
-        complete::<S, false>(evaluation, bytes, job)
-    } else {
+    if job.counted == 0 {
         complete::<S, true>(evaluation, bytes, job)
+    } else {
+        complete::<S, false>(evaluation, bytes, job)
     }
 }
 
@@ -144,7 +159,7 @@ fn complete<'a, S: EvaluationStorage<Text<'a>>, const SUMS: bool>(
         let Ok(request) = reply else {
             break;
         };
-        if SUMS && met >= job.counted {
+        if SUMS {
             sum = mix_request(sum, &request);
         }
         if matches!(request, EvaluationResult::Complete) {
@@ -154,7 +169,7 @@ fn complete<'a, S: EvaluationStorage<Text<'a>>, const SUMS: bool>(
         met += 1;
         reply = respond::<S, SUMS>(evaluation, request, bytes, job, is_deep);
     }
-    if SUMS && job.counted == 0 {
+    if SUMS {
         sum = mix_end(sum, evaluation);
     }
     sum.wrapping_add(u64::from(met))

@@ -20,8 +20,8 @@ pub struct Job {
     pub version: u16,
     /// How many operations may be evaluated.
     pub maximum: u32,
-    /// How many operations or requests are only counted. What comes later goes into a checksum too: all of it if
-    /// this is 0, and nothing if it is above what there is.
+    /// After how many operations a checksum begins: 0 asks for one of all operations or of a whole evaluation, and
+    /// `u32::MAX` for none.
     pub counted: u32,
     /// How many requests are answered.
     pub answers: u32,

@@ -1,8 +1,8 @@
-/* The works as a program in C does them: over dwexpr_decode, and over one evaluation that is held, with made-up answers,
- * the same that src/theirs.rs gives. */
+/* The works as a program in C does them: over dwexpr_decode, and over one evaluation that is held, with the made-up
+ * answers that src/work.rs gives. */
 #include "dwexpr.h"
 
-/* Job of src/job.rs, field by field */
+/* Job and Case of src/cases.rs, field by field */
 struct job {
     uint8_t address_size;
     uint8_t is_wide;
@@ -12,6 +12,12 @@ struct job {
     uint32_t counted;
     uint32_t answers;
     uint32_t depth;
+};
+
+struct bench_case {
+    const uint8_t *bytes;
+    size_t length;
+    struct job job;
 };
 
 static dwexpr_encoding encoding_of(const struct job *job)
@@ -25,7 +31,7 @@ static dwexpr_encoding encoding_of(const struct job *job)
 }
 
 /* how many operations there are to the end or to the first fault */
-uint64_t from_c_decode(const uint8_t *bytes, size_t length, const struct job *job)
+static uint64_t decode(const uint8_t *bytes, size_t length, const struct job *job)
 {
     const dwexpr_encoding encoding = encoding_of(job);
     dwexpr_operation operation;
@@ -80,7 +86,7 @@ static dwexpr_step answer_to(const dwexpr_outcome *asked)
 }
 
 /* how many answers were given; calls are answered by no bytes */
-uint64_t from_c_evaluate(const uint8_t *bytes, size_t length, const struct job *job)
+static uint64_t evaluate(const uint8_t *bytes, size_t length, const struct job *job)
 {
     static uint64_t memory[DWEXPR_EVALUATION_SIZE / 8];
     static dwexpr_evaluation evaluation;
@@ -105,4 +111,22 @@ uint64_t from_c_evaluate(const uint8_t *bytes, size_t length, const struct job *
         given++;
     }
     return given;
+}
+
+uint64_t from_c_decode(const struct bench_case *cases, size_t count, uint32_t times)
+{
+    uint64_t total = 0;
+    for (size_t i = 0; i < count; i++)
+        for (uint32_t j = 0; j < times; j++)
+            total += decode(cases[i].bytes, cases[i].length, &cases[i].job);
+    return total;
+}
+
+uint64_t from_c_evaluate(const struct bench_case *cases, size_t count, uint32_t times)
+{
+    uint64_t total = 0;
+    for (size_t i = 0; i < count; i++)
+        for (uint32_t j = 0; j < times; j++)
+            total += evaluate(cases[i].bytes, cases[i].length, &cases[i].job);
+    return total;
 }

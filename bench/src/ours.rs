@@ -1,54 +1,40 @@
-//! The proved library. Each export takes any bytes and any job.
+//! By the Rust crate of the proved sources.
 
-use crate::job::{Case, Job};
+pub use dwexpr as layer;
 
-// A slice crosses as a pointer and a length, and an allocator as nothing.
-unsafe extern "C" {
-    fn dwarf_bench_decode(bytes: *const u8, length: usize, job: &Job) -> u64;
-    fn dwarf_bench_evaluate(bytes: *const u8, length: usize, job: &Job) -> u64;
-    fn dwarf_bench_evaluate_in_arrays(bytes: *const u8, length: usize, job: &Job) -> u64;
-    fn dwarf_bench_restart(cases: *const BorrowedCase, length: usize, times: u32) -> u64;
-    fn dwarf_bench_restart_in_arrays(cases: *const BorrowedCase, length: usize, times: u32) -> u64;
+#[path = "sums.rs"]
+#[allow(clippy::duplicate_mod)]
+mod sums;
+#[path = "work.rs"]
+#[allow(clippy::duplicate_mod)]
+mod work;
+
+use crate::cases::Case;
+use dwexpr::{EndianSlice, Evaluation, GimliReader, RunTimeEndian};
+use work::{all, complete, encoding_of, finish, text_of};
+pub use work::{decode, in_arrays, on_heap};
+
+/// By one evaluation on the heap, which is restarted for each.
+pub fn restarted(cases: &[Case], times: u32) -> u64 {
+    let Some(first) = cases.first() else { return 0 };
+    let nothing = EndianSlice::new(&[], RunTimeEndian::Little);
+    let mut evaluation = Evaluation::new(nothing, encoding_of(&first.job));
+    all(cases, times, |case| {
+        let text = text_of(case.bytes(), &case.job);
+        evaluation.restart(text, encoding_of(&case.job));
+        finish(&mut evaluation, text, &case.job)
+    })
 }
 
-// `Case` of `crates/dwarf_bench/src/jobs.rt`, field by field.
-#[repr(C)]
-struct BorrowedCase {
-    bytes: *const u8,
-    length: usize,
-    job: Job,
+/// By a new evaluation on the heap, from gimli's reader. It makes no checksum.
+pub fn by_gimlis_reader(cases: &[Case], times: u32) -> u64 {
+    all(cases, times, one_by_gimlis_reader)
 }
 
-fn borrowed(cases: &[Case]) -> Vec<BorrowedCase> {
-    cases
-        .iter()
-        .map(|case| BorrowedCase { bytes: case.bytes.as_ptr(), length: case.bytes.len(), job: case.job })
-        .collect()
-}
-
-pub fn decode(bytes: &[u8], job: &Job) -> u64 {
-    // SAFETY: the pointer and the length are those of one slice, which is borrowed for the call.
-    unsafe { dwarf_bench_decode(bytes.as_ptr(), bytes.len(), job) }
-}
-
-pub fn evaluate_on_heap(bytes: &[u8], job: &Job) -> u64 {
-    // SAFETY: as in `decode`.
-    unsafe { dwarf_bench_evaluate(bytes.as_ptr(), bytes.len(), job) }
-}
-
-pub fn evaluate_in_arrays(bytes: &[u8], job: &Job) -> u64 {
-    // SAFETY: as in `decode`.
-    unsafe { dwarf_bench_evaluate_in_arrays(bytes.as_ptr(), bytes.len(), job) }
-}
-
-pub fn restart_on_heap(cases: &[Case], times: u32) -> u64 {
-    let cases = borrowed(cases);
-    // SAFETY: as in `decode`, and so are the pointer and the length of each case.
-    unsafe { dwarf_bench_restart(cases.as_ptr(), cases.len(), times) }
-}
-
-pub fn restart_in_arrays(cases: &[Case], times: u32) -> u64 {
-    let cases = borrowed(cases);
-    // SAFETY: as in `restart_on_heap`.
-    unsafe { dwarf_bench_restart_in_arrays(cases.as_ptr(), cases.len(), times) }
+#[inline(never)]
+fn one_by_gimlis_reader(case: &Case) -> u64 {
+    let order = if case.job.is_big_endian { gimli::RunTimeEndian::Big } else { gimli::RunTimeEndian::Little };
+    let [text, nothing] = [case.bytes(), &[]].map(|bytes| GimliReader(gimli::EndianSlice::new(bytes, order)));
+    let mut evaluation = Evaluation::new(text, encoding_of(&case.job));
+    complete(&mut evaluation, text, nothing, &case.job, |_| ()).0.into()
 }

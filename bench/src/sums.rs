@@ -1,5 +1,5 @@
-//! Checksums of what gimli decodes and answers, as `crates/dwarf_bench/src/sums.rt` makes them of ours; in `rust/`, of
-//! what the crate `dwexpr` does too.
+//! Checksums of what either crate decodes and answers, as `crates/dwarf_bench/src/sums.rt` makes them in Rattle. This
+//! file is compiled for each, and `layer` is the crate.
 
 use super::layer::{DieReference, EndianSlice, EvaluationResult, Location, Operation, RunTimeEndian, Value};
 

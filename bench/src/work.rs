@@ -1,0 +1,176 @@
+//! The works by either crate: this file is compiled for each, and `layer` is the crate.
+
+use super::layer::{
+    Encoding, EndianSlice, Evaluation, EvaluationResult, EvaluationStorage, Format, Operation, Piece, Reader, Result,
+    RunTimeEndian, StoreOnHeap, Value, ValueType,
+};
+use super::sums::{Text, mix, mix_location, mix_operation, mix_option, mix_request, mix_value};
+use crate::cases::{Case, Job};
+use std::hint::black_box;
+
+/// Lists of fixed capacities.
+pub struct Arrays;
+
+impl<R: Reader + Copy> EvaluationStorage<R> for Arrays {
+    type Stack = [Value; 64];
+    type ExpressionStack = [(R, R); 8];
+    type Result = [Piece<R>; 16];
+}
+
+pub fn encoding_of(job: &Job) -> Encoding {
+    Encoding {
+        address_size: job.address_size,
+        format: if job.is_wide { Format::Dwarf64 } else { Format::Dwarf32 },
+        version: job.version,
+    }
+}
+
+pub fn text_of<'a>(bytes: &'a [u8], job: &Job) -> Text<'a> {
+    EndianSlice::new(bytes, if job.is_big_endian { RunTimeEndian::Big } else { RunTimeEndian::Little })
+}
+
+/// Does each case `times` times before the next: the sum of the single numbers.
+#[inline(always)]
+pub fn all(cases: &[Case], times: u32, mut one: impl FnMut(&Case) -> u64) -> u64 {
+    let mut total = 0u64;
+    for case in cases {
+        for _ in 0..times {
+            total = total.wrapping_add(one(black_box(case)));
+        }
+    }
+    total
+}
+
+/// The number of operations before the end or the first fault, and a checksum of those that aren't only counted.
+pub fn decode(cases: &[Case], times: u32) -> u64 {
+    all(cases, times, decode_one)
+}
+
+#[inline(never)]
+fn decode_one(case: &Case) -> u64 {
+    let encoding = encoding_of(&case.job);
+    let mut text = text_of(case.bytes(), &case.job);
+    let mut count = 0u64;
+    let mut sum = 0u64;
+    while !text.is_empty() {
+        match Operation::parse(&mut text, encoding) {
+            Ok(operation) => {
+                if count >= u64::from(case.job.counted) {
+                    sum = mix_operation(sum, &operation);
+                }
+                // It is built in memory, as it is in Rattle: else only the parts that the checksum wants would be.
+                black_box(&operation);
+                count += 1;
+            }
+            Err(_) => {
+                if count >= u64::from(case.job.counted) {
+                    sum = mix(sum, 99);
+                }
+                break;
+            }
+        }
+    }
+    sum.wrapping_add(count)
+}
+
+/// By a new evaluation on the heap: the number of answers that were given, and a checksum if it is asked for.
+pub fn on_heap(cases: &[Case], times: u32) -> u64 {
+    all(cases, times, anew::<StoreOnHeap>)
+}
+
+/// The same, with new lists of fixed capacities.
+pub fn in_arrays(cases: &[Case], times: u32) -> u64 {
+    all(cases, times, anew::<Arrays>)
+}
+
+#[inline(never)]
+fn anew<S: for<'a> EvaluationStorage<Text<'a>>>(case: &Case) -> u64 {
+    let text = text_of(case.bytes(), &case.job);
+    let mut evaluation = Evaluation::<_, S>::new_in(text, encoding_of(&case.job));
+    finish(&mut evaluation, text, &case.job)
+}
+
+#[inline(always)]
+pub fn finish<'a, S: EvaluationStorage<Text<'a>>>(
+    evaluation: &mut Evaluation<Text<'a>, S>,
+    text: Text<'a>,
+    job: &Job,
+) -> u64 {
+    let nothing = text_of(&[], job);
+    if job.counted != 0 {
+        return complete(evaluation, text, nothing, job, |_| ()).0.into();
+    }
+    let mut sum = 0u64;
+    let (met, reply) = complete(evaluation, text, nothing, job, |request| sum = mix_request(sum, request));
+    sum = match reply {
+        Ok(EvaluationResult::Complete) => mix_end(sum, evaluation),
+        Ok(_) => sum,
+        Err(_) => mix(sum, 98),
+    };
+    sum.wrapping_add(met.into())
+}
+
+/// Evaluates to the end, to a fault or until no more answers are given, and shows each request: the number of answers,
+/// and the last reply.
+#[inline(always)]
+pub fn complete<R: Reader + Copy, S: EvaluationStorage<R>>(
+    evaluation: &mut Evaluation<R, S>,
+    text: R,
+    nothing: R,
+    job: &Job,
+    mut show: impl FnMut(&EvaluationResult<R>),
+) -> (u32, Result<EvaluationResult<R>>) {
+    evaluation.set_max_iterations(job.maximum);
+    evaluation.set_object_address(0x7000);
+    let mut met = 0;
+    let mut reply = evaluation.evaluate();
+    while met < job.answers {
+        let Ok(request) = reply else { break };
+        show(&request);
+        if matches!(request, EvaluationResult::Complete) {
+            return (met, Ok(request));
+        }
+        let called = if met < job.depth { text } else { nothing };
+        met += 1;
+        reply = respond(evaluation, request, called);
+    }
+    (met, reply)
+}
+
+/// Gives the open request a made-up answer.
+#[inline(always)]
+fn respond<R: Reader + Copy, S: EvaluationStorage<R>>(
+    evaluation: &mut Evaluation<R, S>,
+    request: EvaluationResult<R>,
+    called: R,
+) -> Result<EvaluationResult<R>> {
+    match request {
+        EvaluationResult::Complete => Ok(EvaluationResult::Complete),
+        EvaluationResult::RequiresMemory { .. } => evaluation.resume_with_memory(Value::Generic(0x1234)),
+        EvaluationResult::RequiresRegister { .. } => evaluation.resume_with_register(Value::Generic(0x7ffe_0000)),
+        EvaluationResult::RequiresWasmLocal { index }
+        | EvaluationResult::RequiresWasmGlobal { index }
+        | EvaluationResult::RequiresWasmStack { index } => evaluation.resume_with_wasm_value(Value::U32(index)),
+        EvaluationResult::RequiresFrameBase => evaluation.resume_with_frame_base(0x7ffe_1000),
+        EvaluationResult::RequiresTls(_) => evaluation.resume_with_tls(0x10),
+        EvaluationResult::RequiresCallFrameCfa => evaluation.resume_with_call_frame_cfa(0x7ffe_2000),
+        EvaluationResult::RequiresAtLocation(_) => evaluation.resume_with_at_location(called),
+        EvaluationResult::RequiresEntryValue(_) => evaluation.resume_with_entry_value(Value::Generic(5)),
+        EvaluationResult::RequiresParameterRef(_) => evaluation.resume_with_parameter_ref(5),
+        EvaluationResult::RequiresRelocatedAddress(address) => evaluation.resume_with_relocated_address(address),
+        EvaluationResult::RequiresIndexedAddress { .. } => evaluation.resume_with_indexed_address(5),
+        EvaluationResult::RequiresBaseType(_) => evaluation.resume_with_base_type(ValueType::Generic),
+    }
+}
+
+#[inline(never)]
+fn mix_end<'a, S: EvaluationStorage<Text<'a>>>(mut sum: u64, evaluation: &Evaluation<Text<'a>, S>) -> u64 {
+    for piece in evaluation.as_result() {
+        sum = mix_option(mix_option(sum, piece.size_in_bits), piece.bit_offset);
+        sum = mix_location(sum, piece.location);
+    }
+    match evaluation.value_result() {
+        None => mix(sum, 0),
+        Some(value) => mix_value(sum, value),
+    }
+}

@@ -1,4 +1,6 @@
-use dwarf_base::{DebugAddrIndex, DebugInfoOffset, EndianSlice, Error, Register, RunTimeEndian, UnitOffset};
+use dwarf_base::{
+    DebugAddrIndex, DebugInfoOffset, EndianSlice, Error, Register, RunTimeEndian, UnitOffset,
+};
 use dwarf_op::DieReference;
 use dwarf_value::Value;
 use dwexpr_text::{

@@ -93,6 +93,12 @@ fn writers(rt: HostRuntime) {
     for odd_call in 0..calls {
         expect_interrupted(&rt, alloc, usize::MAX, odd_call, calls);
         expect_failed(&rt, alloc, odd_call, None, ErrorKind::WriteZero);
-        expect_failed(&rt, alloc, odd_call, Some(ErrorKind::BrokenPipe), ErrorKind::BrokenPipe);
+        expect_failed(
+            &rt,
+            alloc,
+            odd_call,
+            Some(ErrorKind::BrokenPipe),
+            ErrorKind::BrokenPipe,
+        );
     }
 }

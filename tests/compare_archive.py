@@ -36,7 +36,8 @@ import run_rows  # noqa: E402
 PROGRAM = TOP / "tests" / "beside_archive"
 COUNT = 1_000_000
 WRONG_BODIES_COUNT = 20_000
-SECONDS = 600
+# It takes a minute of processor time, of which a busy machine gives little.
+SECONDS = 3600
 # Wrong bodies may fill what memory there is.
 MEMORY = 4 << 30
 RUSTC = ["rustc", "--edition", "2024", "-O", "-C", "overflow-checks=on", "-C", "debug-assertions=on"]

@@ -7,6 +7,8 @@
 - Reads, of a byte each: if one is refused, nothing is printed, and the status is 1.
 - Writes, of a byte each: if one is refused, nothing is printed after the bytes before it, and the status is 1.
 
+A refused read or write is named on standard error.
+
 The last line is `N passed, M failed`, of the runs; the status is 1 if a run failed. It wants cc.
 """
 
@@ -72,17 +74,17 @@ def count(good, said):
 
 
 def run(library, kind, number, digits, text):
-    """What is printed and the status, if this call of a kind is refused."""
+    """What is printed, what is said on standard error, and the status, if this call of a kind is refused."""
     ran = subprocess.run(
         [str(PROGRAM), "eval", "4", "4", "4", "le", digits],
         input=text,
         text=True,
-        stdout=subprocess.PIPE,
+        capture_output=True,
         env={**os.environ, "LD_PRELOAD": str(library), f"REFUSED_{kind}": str(number)},
         timeout=SECONDS,
         check=False,
     )
-    return ran.stdout, ran.returncode
+    return ran.stdout, ran.stderr, ran.returncode
 
 
 def is_allowed(steps, ample, printed, status):
@@ -98,7 +100,7 @@ def refuse_allocations(library):
     for number in range(1, MOST):
         is_met = False
         for name, (digits, steps, ample) in CASES.items():
-            text, status = run(library, "ALLOCATION", number, digits, "".join(f"{step}\n" for step in steps))
+            text, _, status = run(library, "ALLOCATION", number, digits, "".join(f"{step}\n" for step in steps))
             printed = text.splitlines()
             is_whole = (printed, status) == (ample, 0)
             is_met = is_met or not is_whole
@@ -116,15 +118,17 @@ def refuse_reads(library):
     for text in INPUTS:
         # The last of them is the read that finds the end.
         for number in range(1, len(text) + 2):
-            got = run(library, "READ", number, "31", text)
-            count(got == ("", 1), f"input {text!r}, read {number} refused: {got!r}")
+            printed, said, status = got = run(library, "READ", number, "31", text)
+            good = (printed, status) == ("", 1) and said.startswith("dwexpr: standard input can't be read: ")
+            count(good, f"input {text!r}, read {number} refused: {got!r}")
 
 
 def refuse_writes(library):
     for digits, text, wanted in RUNS:
         for number in range(1, len(wanted) + 1):
-            got = run(library, "WRITE", number, digits, text)
-            count(got == (wanted[: number - 1], 1), f"{digits}, write {number} refused: {got!r}")
+            printed, said, status = got = run(library, "WRITE", number, digits, text)
+            good = (printed, status) == (wanted[: number - 1], 1) and "standard output can't be written: " in said
+            count(good, f"{digits}, write {number} refused: {got!r}")
 
 
 def main():

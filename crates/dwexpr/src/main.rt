@@ -1,28 +1,35 @@
 //! `dwexpr` evaluates DWARF expressions, one answer a line.
 #![tactic(auto)]
 
+mod explaining;
 mod program;
 mod results;
 mod steps;
 
 pub use dwexpr_text::{HexFault, bytes_of};
 pub use program::run;
-use program::run_without_words;
+use program::{run_explained, run_without_words};
 use std::alloc::AllocError;
 use std::process::ExitCode;
 use std::{env, io};
 
 fn main(rt: HostRuntime) -> ExitCode {
-    let mut output = io::writer(&rt);
+    let (mut output, mut errors) = (io::writer(&rt), rt.stderr());
     let mut arguments = match env::args(&rt) {
         Ok(arguments) => arguments,
-        Err(error) => return ExitCode::from(run_without_words(error, &mut output)),
+        Err(error) => return ExitCode::from(run_without_words(error, &mut output, &mut errors)),
     };
     // The first one is the program's name.
     let _ = arguments.next();
     let collected: Result<Vec<String>, AllocError> = arguments.collect(rt.alloc());
     ExitCode::from(match collected {
-        Ok(words) => run(rt.alloc(), words.as_slice(), rt.reader(), &mut output),
-        Err(refused) => run_without_words(io::Error::from(refused), &mut output),
+        Ok(words) => run_explained(
+            rt.alloc(),
+            words.as_slice(),
+            rt.reader(),
+            &mut output,
+            &mut errors,
+        ),
+        Err(refused) => run_without_words(io::Error::from(refused), &mut output, &mut errors),
     })
 }

@@ -1,5 +1,6 @@
 ghost use Rattle.std.specs.IoError.{error_kind};
-ghost use Rattle.std.specs.Prelude.{◌<◌, ◌≤◌, ◌-◌, ◌^◌, length, map, string_bytes};
+ghost use Rattle.std.specs.Prelude.{◌≡◌, ◌<◌, ◌≤◌, ◌-◌, ◌^◌, length, map, string_bytes};
+ghost use Rattle.std.specs.Result.{result_unwrap_or};
 ghost use Rattle.dwarf_base.specs.EndianSlice.{slice_text};
 ghost use Rattle.dwarf_base.specs.ByteOrder.{is_big_of};
 ghost use Rattle.dwarf_op.specs.Views.{piece_of};
@@ -13,6 +14,9 @@ ghost use Rattle.dwexpr_text.specs.Endings.{Ending, WritesEnding, complete_endin
 ghost use Rattle.dwexpr.specs.inner.Replayed.{HasLine, ending_of, standing};
 ghost use Rattle.dwexpr_text.specs.Writing.{Prints};
 
+use crate::explaining::{
+    explain_no_words, explain_read, explain_replayed, explain_steps, explain_words, explain_write,
+};
 use crate::results::{print_piece, print_reply};
 use crate::steps::{StepsFault, borrow_steps, steps_in};
 use dwarf_base::EndianSlice;
@@ -120,13 +124,15 @@ fn print_replay<A: Allocator + Copy, W: Write>(
     print_end(output, evaluation, replayed)
 }
 
-/// Does the steps on the bytes, and prints each answer and what comes out.
-fn evaluate<'a, A: Allocator + Copy, W: Write>(
+/// Does the steps on the bytes, and prints each answer and what comes out. The lines are those of the steps.
+fn evaluate<'a, A: Allocator + Copy, W: Write, E: Write>(
     alloc: A,
     bytes: &'a [u8],
     reading: Reading,
     steps: &[Step<Text<'a>>],
+    lines: &[u8],
     output: &mut W,
+    errors: &mut E,
 ) -> io::Result<u8>
     requires some { 0 < reading.encoding.address_size }
     requires fits { reading.encoding.address_size ≤ 8 }
@@ -145,7 +151,9 @@ fn evaluate<'a, A: Allocator + Copy, W: Write>(
     );
     let mut answers = Vec::new(alloc);
     let replayed = replay(&mut evaluation, steps, &mut answers);
-    print_replay(output, answers.as_slice(), &evaluation, replayed)
+    let printed = print_replay(output, answers.as_slice(), &evaluation, replayed);
+    explain_replayed(lines, replayed, evaluation.status(), errors);
+    printed
 }
 
 /// Prints why the lines give no steps.
@@ -160,12 +168,13 @@ fn print_bad_steps<W: Write>(output: &mut W, fault: StepsFault) -> io::Result<u8
 }
 
 /// Judges the lines, and evaluates the bytes in the steps that they say.
-fn run_lines<A: Allocator + Copy, W: Write>(
+fn run_lines<A: Allocator + Copy, W: Write, E: Write>(
     alloc: A,
     bytes: &[u8],
     reading: Reading,
     lines: &[u8],
     output: &mut W,
+    errors: &mut E,
 ) -> io::Result<u8>
     requires some { 0 < reading.encoding.address_size }
     requires fits { reading.encoding.address_size ≤ 8 }
@@ -176,21 +185,34 @@ fn run_lines<A: Allocator + Copy, W: Write>(
 {
     let owned = match steps_in(alloc, lines) {
         Ok(steps) => steps,
-        Err(fault) => return print_bad_steps(output, fault),
+        Err(fault) => {
+            let printed = print_bad_steps(output, fault);
+            explain_steps(lines, fault, errors);
+            return printed;
+        }
     };
     match borrow_steps(alloc, owned.as_slice(), reading.order) {
-        Ok(steps) => evaluate(alloc, bytes, reading, steps.as_slice(), output),
+        Ok(steps) => evaluate(
+            alloc,
+            bytes,
+            reading,
+            steps.as_slice(),
+            lines,
+            output,
+            errors,
+        ),
         Err(_) => no_memory(output),
     }
 }
 
 /// Reads the steps, and evaluates the bytes in them.
-fn run_eval<A: Allocator + Copy, I: Read + Drop, W: Write>(
+fn run_eval<A: Allocator + Copy, I: Read + Drop, W: Write, E: Write>(
     alloc: A,
     bytes: &[u8],
     reading: Reading,
     mut input: I,
     output: &mut W,
+    errors: &mut E,
 ) -> io::Result<u8>
     requires some { 0 < reading.encoding.address_size }
     requires fits { reading.encoding.address_size ≤ 8 }
@@ -201,10 +223,13 @@ fn run_eval<A: Allocator + Copy, I: Read + Drop, W: Write>(
 {
     let mut lines = Vec::new(alloc);
     match input.read_to_end(&mut lines) {
-        Ok(_) => run_lines(alloc, bytes, reading, lines.as_slice(), output),
+        Ok(_) => run_lines(alloc, bytes, reading, lines.as_slice(), output, errors),
         Err(error) => match error.kind() {
             ErrorKind::OutOfMemory => no_memory(output),
-            _ => Ok(FAILED),
+            _ => {
+                explain_read(&error, errors);
+                Ok(FAILED)
+            }
         },
     }
 }
@@ -222,11 +247,12 @@ fn run_ops<W: Write>(bytes: &[u8], reading: Reading, output: &mut W) -> io::Resu
 }
 
 /// Judges the words, and does what they say.
-fn run_words<A: Allocator + Copy, I: Read + Drop, W: Write>(
+fn run_words<A: Allocator + Copy, I: Read + Drop, W: Write, E: Write>(
     alloc: A,
     words: &[String<A>],
     input: I,
     output: &mut W,
+    errors: &mut E,
 ) -> io::Result<u8>
     ensures { (ending : Ending)
         × EndsFor (map string_bytes words.now) (I.remaining input) ending
@@ -253,7 +279,7 @@ fn run_words<A: Allocator + Copy, I: Read + Drop, W: Write>(
     };
     match command {
         Command::Ops => run_ops(bytes.as_slice(), reading, output),
-        Command::Eval => run_eval(alloc, bytes.as_slice(), reading, input, output),
+        Command::Eval => run_eval(alloc, bytes.as_slice(), reading, input, output, errors),
     }
 }
 
@@ -268,12 +294,49 @@ fn refuse_words<W: Write>(kind: ErrorKind, output: &mut W) -> io::Result<u8>
     }
 }
 
+/// The status of what was printed. Of a failed write, says so.
+fn status_of<E: Write>(printed: io::Result<u8>, errors: &mut E) -> u8
+    ensures { result ≡ result_unwrap_or printed 1 }
+{
+    if let Err(error) = &printed {
+        explain_write(error, errors);
+    }
+    printed.unwrap_or(FAILED)
+}
+
 /// Answers for words that could not be had: one isn't UTF-8, or there was no memory for them.
-pub(crate) fn run_without_words<W: Write>(error: io::Error, output: &mut W) -> u8
+pub(crate) fn run_without_words<W: Write, E: Write>(
+    error: io::Error,
+    output: &mut W,
+    errors: &mut E,
+) -> u8
     ensures { Exits (W.contents output.old) (W.contents output.new)
         (without_words (error_kind error)) result }
 {
-    refuse_words(error.kind(), output).unwrap_or(FAILED)
+    let printed = refuse_words(error.kind(), output);
+    explain_no_words(&error, errors);
+    status_of(printed, errors)
+}
+
+/// Runs the program as `run` does, and says on standard error, `errors`, what is wrong with a word or a line, or which
+/// read or write failed.
+pub(crate) fn run_explained<A: Allocator + Copy, I: Read + Drop, W: Write, E: Write>(
+    alloc: A,
+    words: &[String<A>],
+    input: I,
+    output: &mut W,
+    errors: &mut E,
+) -> u8
+    ensures { (ending : Ending)
+        × EndsFor (map string_bytes words.now) (I.remaining input) ending
+        × Exits (W.contents output.old) (W.contents output.new) ending result }
+{
+    let printed = run_words(alloc, words, input, output, errors);
+    let status = status_of(printed, errors);
+    if status != DONE {
+        explain_words(alloc, words, errors);
+    }
+    status
 }
 
 /// Runs the program on the words after its name, and answers its exit status.
@@ -295,5 +358,5 @@ pub fn run<A: Allocator + Copy, I: Read + Drop, W: Write>(
         × EndsFor (map string_bytes words.now) (I.remaining input) ending
         × Exits (W.contents output.old) (W.contents output.new) ending result }
 {
-    run_words(alloc, words, input, output).unwrap_or(FAILED)
+    run_explained(alloc, words, input, output, &mut io::sink())
 }

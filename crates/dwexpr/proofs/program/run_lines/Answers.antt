@@ -15,7 +15,7 @@ pub returns-in-Err : goal.returns-in-Err
 returns-in-Err g c = (
   bad_steps c.in-Err.fault,
   follows_refused (is_big_of c.args.reading.order) _ _ _ g.row.A.Denot g.row.A.Denot c.in-Err.fault (c.in-Err.ensures (is_big_of c.args.reading.order)),
-  c.print_bad_steps.ensures,
+  c.print_bad_steps-printed.ensures,
 )
 
 pub returns-in-Ok-borrow_steps : goal.returns-in-Ok-borrow_steps

@@ -1,0 +1,221 @@
+// What the program says on standard error. No contract speaks of it, and what can't be written there is lost.
+use crate::steps::StepsFault;
+use dwarf_eval::eval::{Status, WaitingKind};
+use dwarf_replay::Replayed;
+use dwexpr_text::{HexFault, Text, bytes_of, command_of, first_line, reading_of};
+use std::alloc::Allocator;
+use std::io;
+use std::io::Write;
+
+/// How many bytes of a word or a line are shown.
+const SHOWN: usize = 60;
+
+/// A word or a line that is wrong.
+#[derive(Clone, Copy)]
+struct Complaint<'a> {
+    /// `word` or `line`.
+    kind: &'static str,
+    /// Its number, from 1.
+    number: usize,
+    text: &'a [u8],
+    /// What it may be.
+    expected: &'static str,
+}
+
+fn put_complaint<E: Write>(errors: &mut E, complaint: Complaint<'_>) -> io::Result<()> {
+    let text = complaint.text;
+    let more = if text.len() > SHOWN { ".." } else { "" };
+    writeln!(
+        errors,
+        "dwexpr: {} {}, \"{}{more}\": expected {}",
+        complaint.kind,
+        complaint.number,
+        text.get(..SHOWN).unwrap_or(text).escape_ascii(),
+        complaint.expected
+    )
+}
+
+fn bad_word<'a>(number: usize, text: &'a str, expected: &'static str) -> Option<Complaint<'a>> {
+    Some(Complaint {
+        kind: "word",
+        number,
+        text: text.as_bytes(),
+        expected,
+    })
+}
+
+/// The first of the six words that is bad, if one is.
+fn complaint_of<'a, A: Allocator>(alloc: A, words: [&'a str; 6]) -> Option<Complaint<'a>> {
+    let [command, size, offsets, version, order, hexadecimal] = words;
+    if command_of(command).is_none() {
+        return bad_word(1, command, "ops or eval");
+    }
+    // Each of these words is judged beside three that are good.
+    if reading_of(size, "4", "5", "le").is_none() {
+        return bad_word(2, size, "the size of an address in bytes, 1 to 8");
+    }
+    if reading_of("4", offsets, "5", "le").is_none() {
+        return bad_word(3, offsets, "the size of an offset in bytes, 4 or 8");
+    }
+    if reading_of("4", "4", version, "le").is_none() {
+        return bad_word(4, version, "the version of DWARF, 2 to 5");
+    }
+    if reading_of("4", "4", "5", order).is_none() {
+        return bad_word(5, order, "the byte order, le or be");
+    }
+    match bytes_of(alloc, hexadecimal) {
+        Err(HexFault::Bad) => bad_word(
+            6,
+            hexadecimal,
+            "pairs of hexadecimal digits, or - for no bytes",
+        ),
+        _ => None,
+    }
+}
+
+/// Says which word is bad, and what it may be, if one is.
+pub(crate) fn explain_words<A: Allocator + Copy, E: Write>(
+    alloc: A,
+    words: &[String<A>],
+    errors: &mut E,
+) {
+    let [command, size, offsets, version, order, hexadecimal] = words else {
+        let _ = writeln!(
+            errors,
+            "dwexpr: {} words: expected 6, ops or eval and ADDR OFFSET VERSION ORDER HEX",
+            words.len()
+        );
+        return;
+    };
+    let words = [
+        command.as_str(),
+        size.as_str(),
+        offsets.as_str(),
+        version.as_str(),
+        order.as_str(),
+        hexadecimal.as_str(),
+    ];
+    if let Some(complaint) = complaint_of(alloc, words) {
+        let _ = put_complaint(errors, complaint);
+    }
+}
+
+/// Says why there are no words.
+pub(crate) fn explain_no_words<E: Write>(error: &io::Error, errors: &mut E) {
+    let _ = writeln!(errors, "dwexpr: the words can't be read: {error}");
+}
+
+/// Says that the input can't be read.
+pub(crate) fn explain_read<E: Write>(error: &io::Error, errors: &mut E) {
+    let _ = writeln!(errors, "dwexpr: standard input can't be read: {error}");
+}
+
+/// Says that the output can't be written.
+pub(crate) fn explain_write<E: Write>(error: &io::Error, errors: &mut E) {
+    let _ = writeln!(errors, "dwexpr: standard output can't be written: {error}");
+}
+
+/// The line at an index of the input; no bytes if there is none.
+fn line_at(input: &[u8], index: usize) -> &[u8] {
+    let mut left = input;
+    for _ in 0..index {
+        if left.is_empty() {
+            return left;
+        }
+        left = first_line(left).rest;
+    }
+    if left.is_empty() {
+        return left;
+    }
+    first_line(left).text
+}
+
+/// What a line may be that begins with this name.
+fn form_of(name: &str) -> &'static str {
+    match name {
+        "evaluate" => "evaluate alone",
+        "initial" | "object" | "frame" | "tls" | "cfa" | "parameter" | "relocated" | "indexed" => {
+            "a number after the name and one space, as 16 or 0x10"
+        }
+        "max" => "a number below 4294967296 after the name and one space",
+        "memory" | "register" | "wasm" | "entry" => {
+            "a value after the name and one space, as generic:0x10 or i8:-1"
+        }
+        "location" => "pairs of hexadecimal digits after the name and one space, or - for no bytes",
+        "type" => "generic, i8, u8, i16, u16, i32, u32, i64 or u64 after the name and one space",
+        _ => "evaluate, initial N, object N, max N or an answer",
+    }
+}
+
+/// What a bad line may be.
+fn expected_of(line: &[u8]) -> &'static str {
+    match str::from_utf8(line) {
+        Ok(text) => match text.split_once(' ') {
+            Some((name, _)) => form_of(name),
+            None => form_of(text),
+        },
+        Err(_) => form_of(""),
+    }
+}
+
+fn explain_line<E: Write>(lines: &[u8], index: usize, expected: &'static str, errors: &mut E) {
+    let complaint = Complaint {
+        kind: "line",
+        number: index.saturating_add(1),
+        text: line_at(lines, index),
+        expected,
+    };
+    let _ = put_complaint(errors, complaint);
+}
+
+/// Says which line is bad, and what it may be, if one is.
+pub(crate) fn explain_steps<E: Write>(lines: &[u8], fault: StepsFault, errors: &mut E) {
+    match fault {
+        StepsFault::Bad(number) => {
+            let index = number.saturating_sub(1);
+            explain_line(lines, index, expected_of(line_at(lines, index)), errors);
+        }
+        StepsFault::NoMemory => {}
+    }
+}
+
+/// The answer of a kind, and the settings that may come in its place.
+fn answer_of(kind: WaitingKind) -> &'static str {
+    match kind {
+        WaitingKind::Memory => "memory V, object N or max N",
+        WaitingKind::Register => "register V, object N or max N",
+        WaitingKind::WasmValue => "wasm V, object N or max N",
+        WaitingKind::EntryValue => "entry V, object N or max N",
+        WaitingKind::FrameBase => "frame N, object N or max N",
+        WaitingKind::Tls => "tls N, object N or max N",
+        WaitingKind::CallFrameCfa => "cfa N, object N or max N",
+        WaitingKind::ParameterRef => "parameter N, object N or max N",
+        WaitingKind::RelocatedAddress => "relocated N, object N or max N",
+        WaitingKind::IndexedAddress => "indexed N, object N or max N",
+        WaitingKind::AtLocation => "location HEX, object N or max N",
+        WaitingKind::BaseType => "type T, object N or max N",
+    }
+}
+
+/// The steps that may come where an evaluation stands.
+fn allowed_at(status: Status) -> &'static str {
+    match status {
+        Status::Start { initial: false } => "evaluate, initial N, object N or max N",
+        Status::Start { initial: true } => "evaluate, object N or max N",
+        Status::Waiting(kind) => answer_of(kind),
+        Status::Complete => "evaluate, object N or max N",
+        Status::Failed(_) => "evaluate, object N, max N or an answer",
+    }
+}
+
+/// Says which line isn't allowed, and what is, if one isn't.
+pub(crate) fn explain_replayed<E: Write>(
+    lines: &[u8],
+    replayed: Replayed<Text<'_>>,
+    status: Status,
+    errors: &mut E,
+) {
+    if let Replayed::Misplaced(index) = replayed {
+        explain_line(lines, index, allowed_at(status), errors);
+    }
+}

@@ -210,12 +210,12 @@ def callers(folder):
 
 
 DECODED = """\
-0 DW_OP_fbreg: -20
+0 DW_OP_fbreg -20
 2 DW_OP_deref
-3 DW_OP_entry_value
+3 DW_OP_entry_value 1 byte block: 55
   0 DW_OP_reg5
 6 DW_OP_implicit_value 2 byte block: aa bb
-10 DW_OP_bit_piece: size: 3 offset: 5
+10 DW_OP_bit_piece 3, 5
 13 fault: no operation has this opcode (1)
 """
 

@@ -120,7 +120,7 @@ LINK = re.compile(r"\]\(([^)]+)\)")
 PROVED = re.compile(r"libdwexpr.a \S+ for \S+\ncommit \S+\nkit \S.*\nsources [0-9a-f]{64}\narchive [0-9a-f]{64}\n")
 
 WORDS = ["8", "4", "5", "le", "916c06"]
-WANTED = "0 DW_OP_fbreg: -20\n2 DW_OP_deref\n"
+WANTED = "0 DW_OP_fbreg -20\n2 DW_OP_deref\n"
 
 passed = failed = 0
 

@@ -72,7 +72,7 @@ static inline const char *dwexpr_libdw_code_name(int code)
 
 /* ---------------------------------------------------------------- bytes from libdw's operations */
 
-/* Bytes that are written as far as there is room; all are counted. */
+/* Bytes that are written if there is room. All are counted. */
 struct dwexpr_libdw_writer {
     uint8_t *bytes;
     size_t room;
@@ -94,7 +94,7 @@ static inline void dwexpr_libdw_order(uint64_t number, size_t size, int big_endi
         bytes[big_endian ? size - 1 - i : i] = (uint8_t)(i < 8 ? number >> (8 * i) : 0);
 }
 
-/* Writes a number of `size` bytes. Gives back whether it fits. */
+/* Writes a number in `size` bytes. Gives back whether it fits. */
 static inline int dwexpr_libdw_put_fixed(struct dwexpr_libdw_writer *writer, uint64_t number, size_t size,
                                          int is_signed, int big_endian)
 {
@@ -107,7 +107,7 @@ static inline int dwexpr_libdw_put_fixed(struct dwexpr_libdw_writer *writer, uin
     return 1;
 }
 
-/* Writes a LEB128 number in its shortest form, followed by bytes that change nothing until it has `size` bytes. */
+/* Writes a LEB128 number in its shortest form, or with bytes that change nothing at its end, so that it has `size`. */
 static inline void dwexpr_libdw_put_leb(struct dwexpr_libdw_writer *writer, uint64_t number, size_t size, int is_signed)
 {
     uint64_t sign = is_signed && number >> 63 ? UINT64_MAX : 0;
@@ -122,8 +122,8 @@ static inline void dwexpr_libdw_put_leb(struct dwexpr_libdw_writer *writer, uint
     }
 }
 
-/* Writes the operands of an operation. If they have just one LEB128 number, it is made as long as `size` bytes of them
- * want it. Gives back 0, or -1 if there are no such bytes. */
+/* Writes the operands of an operation. If they have `size` bytes, and one LEB128 number, it is made as long as that
+ * takes. Gives back 0, or -1 if there are no such bytes. */
 static inline int dwexpr_libdw_put_operands(struct dwexpr_libdw_writer *writer, const Dwarf_Op *op, size_t size,
                                             dwexpr_encoding encoding)
 {
@@ -234,7 +234,7 @@ static inline int dwexpr_libdw_encode(const Dwarf_Op *operations, size_t count, 
 
 /* ---------------------------------------------------------------- expressions */
 
-/* Memory of this header's, in a list. */
+/* A list of memory that this header took. */
 typedef struct dwexpr_libdw_memory {
     struct dwexpr_libdw_memory *next;
 } dwexpr_libdw_memory;
@@ -255,7 +255,7 @@ typedef struct dwexpr_libdw_text {
     Dwarf_CU *unit;              /* the unit of the entries that it names; NULL in call frame information */
     int on_cfa;                  /* 1: it begins with the CFA on its stack (DW_CFA_expression, DW_CFA_val_expression) */
     int is_value;                /* 1: the register has this value (DW_CFA_val_expression); 0: it is at this address */
-    dwexpr_libdw_memory *memory; /* of bytes that libdw doesn't have: give it to dwexpr_libdw_free in the end */
+    dwexpr_libdw_memory *memory; /* of bytes that libdw doesn't have: free it in the end by dwexpr_libdw_free */
 } dwexpr_libdw_text;
 
 /* How to read a unit's expressions. Answers 0 or DWEXPR_LIBDW_FAILED. */
@@ -292,8 +292,8 @@ static inline int dwexpr_libdw_from_operations(const Dwarf_Op *operations, size_
     return 0;
 }
 
-/* The expression of an attribute: of a block or an exprloc the bytes in the file, of a list of locations those for an
- * address in the debug information, put together by dwexpr_libdw_encode.
+/* The expression of an attribute. A block or an exprloc has its bytes in the file. Those of a list of locations, for an
+ * address in the debug information, are put together by dwexpr_libdw_encode.
  *
  * Answers 0; DWEXPR_LIBDW_OPTIMIZED_AWAY if there is no expression at the address, or an empty one;
  * DWEXPR_LIBDW_FAILED; DWEXPR_LIBDW_NOT_ENCODABLE; or DWEXPR_LIBDW_NO_MEMORY. `expression` is written in each case. */
@@ -321,7 +321,6 @@ static inline int dwexpr_libdw_expression(Dwarf_Attribute *attribute, Dwarf_Addr
     return dwexpr_libdw_from_operations(operations, count, expression);
 }
 
-/* Begins an expression of call frame information. */
 static inline void dwexpr_libdw_begin_frame_text(const unsigned char *ident, dwexpr_libdw_text *expression)
 {
     memset(expression, 0, sizeof *expression);
@@ -384,9 +383,9 @@ static inline int dwexpr_libdw_register_expression(Dwarf_Frame *state, const uns
 /* The most bytes of a register. */
 #define DWEXPR_LIBDW_REGISTER_SIZE 64
 
-/* A frame of a stopped thread. Set the fields up to `context`, all others to 0: or let dwexpr_libdw_open_process,
- * dwexpr_libdw_open_core or dwexpr_libdw_unwind do so. A callback gives back 0, or another number if what it is asked
- * for isn't known, and may be NULL. */
+/* A frame of a stopped thread. dwexpr_libdw_open_process, dwexpr_libdw_open_core and dwexpr_libdw_unwind fill it in. If
+ * you do, set the fields up to `context`, and all others to 0. A callback gives back 0, or another number if the answer
+ * isn't known. It may be NULL. */
 typedef struct dwexpr_libdw_frame {
     Dwfl *dwfl;
     Dwarf_Addr pc;     /* where it stands, as dwfl_frame_pc tells it */
@@ -462,7 +461,7 @@ static inline int dwexpr_libdw_scopes(dwexpr_libdw_frame *frame, Dwarf_Die **sco
 
 /* ---------------------------------------------------------------- evaluation */
 
-/* The value of an expression in a frame. It is to be given to dwexpr_libdw_release, whatever the answer was. */
+/* The value of an expression in a frame. Free it by dwexpr_libdw_release, whatever the answer was. */
 typedef struct dwexpr_libdw_value {
     dwexpr_outcome outcome;
     dwexpr_piece pieces[DWEXPR_MAX_PIECES]; /* outcome.pieces of them */
@@ -477,10 +476,11 @@ static inline void dwexpr_libdw_release(dwexpr_libdw_value *value)
     value->memory = NULL;
 }
 
-/* How many expressions the answers to the requests of one may need in all. Each takes 10 KiB of stack. */
+/* How many more expressions may be evaluated to answer the requests of one. Each takes 10 KiB of stack. */
 #define DWEXPR_LIBDW_EVALUATIONS 64
 
-/* What may be asked for: the base of a frame isn't evaluated by itself, and the CFA by registers and memory alone. */
+/* What an expression is for. That of a frame base can't ask for the frame base, and that of a CFA asks only for
+ * registers and memory. */
 enum dwexpr_libdw_purpose { DWEXPR_LIBDW_FOR_VALUE, DWEXPR_LIBDW_FOR_BASE, DWEXPR_LIBDW_FOR_CFA };
 
 /* The context of the callbacks. */
@@ -530,7 +530,7 @@ static inline int dwexpr_libdw_on_register(void *given, uint32_t number, uint64_
     return 0;
 }
 
-/* Evaluates an expression to a number, which may be the content of a register, and frees it. */
+/* Evaluates an expression to a number, or to a register that has one, and frees it. */
 static inline int dwexpr_libdw_number(enum dwexpr_libdw_purpose purpose, dwexpr_libdw_frame *frame,
                                       dwexpr_libdw_text *expression, unsigned *left, uint64_t *number)
 {
@@ -636,7 +636,7 @@ static inline int dwexpr_libdw_on_location(void *given, int in_debug_info, uint6
     *text = expression.text;
     if (!expression.memory)
         return 0;
-    /* what was put together before for the same call is the same text */
+    /* a second call of the same entry is a call of the same text */
     for (i = 0; i < texts->length; i++)
         if (texts->items[i].length == text->length && !memcmp(texts->items[i].bytes, text->bytes, text->length)) {
             *text = texts->items[i];
@@ -686,7 +686,7 @@ static inline int dwexpr_libdw_moves_only(dwexpr_text text, dwexpr_encoding enco
     return 1;
 }
 
-/* The whole number that stands for a type. It refuses with the request, since the type belongs to another request. */
+/* The type of whole numbers for a base type. It refuses with its own request: the type belongs to another one. */
 static inline int dwexpr_libdw_on_base_type(void *given, uint64_t offset, uint32_t *value_type)
 {
     struct dwexpr_libdw_context *context = (struct dwexpr_libdw_context *)given;
@@ -715,7 +715,7 @@ static inline int dwexpr_libdw_on_base_type(void *given, uint64_t offset, uint32
 
 /* ---- the call that led to a frame */
 
-/* The call site in a scope that returns to an address. The depth bounds the scopes within scopes. */
+/* The call site in a scope that returns to an address. `depth` bounds how deep scopes are in scopes. */
 static inline int dwexpr_libdw_find_call_site(Dwarf_Die *scope, Dwarf_Addr returns_to, int depth, Dwarf_Die *site)
 {
     Dwarf_Die entry;
@@ -765,8 +765,8 @@ static inline int dwexpr_libdw_calls(dwexpr_libdw_frame *caller, Dwarf_Die *site
            !dwarf_entrypc(&called->function, &entry) && entry + called->bias == target;
 }
 
-/* Whether an expression on entry of a function is the place of a call site's parameter: the same bytes, or a register
- * that is read with a type. */
+/* Whether an expression, on entry of a function, is the place of a call site's parameter: it has the same bytes, or
+ * reads its register with a type. */
 static inline int dwexpr_libdw_is_passed_in(dwexpr_text wanted, const Dwarf_Block *place, dwexpr_encoding encoding)
 {
     dwexpr_operation first, second;
@@ -871,14 +871,14 @@ static inline int dwexpr_libdw_evaluate_for(enum dwexpr_libdw_purpose purpose, d
     return code;
 }
 
-/* Evaluates an expression in a frame, which answers its requests by its registers, its memory and libdw: the frame
- * base, the CFA, calls, parameters and entry values by the call site in the caller, .debug_addr, base types of whole
- * numbers, thread-local storage.
+/* Evaluates an expression in a frame. Its requests are answered by the frame's registers and memory, and by libdw: the
+ * frame base, the CFA, calls, entries of .debug_addr and base types; parameters and entry values by the call site in
+ * the caller; thread-local storage by the frame.
  *
  * Answers 0; a fault; DWEXPR_TOO_MANY_TEXTS; DWEXPR_LIBDW_OPTIMIZED_AWAY if the expression is empty; or
  * -DWEXPR_WANTS_* if that isn't known. An expression ends after DWEXPR_RUN_OPERATIONS operations, and the answers take
- * DWEXPR_LIBDW_EVALUATIONS expressions at most. `value` is written in each case. It stands on the expression, which is
- * freed after it. */
+ * DWEXPR_LIBDW_EVALUATIONS expressions at most. `value` is written in each case. It uses the expression's bytes: free
+ * them after it. */
 static inline int dwexpr_libdw_evaluate(dwexpr_libdw_frame *frame, const dwexpr_libdw_text *expression,
                                         dwexpr_libdw_value *value)
 {
@@ -1034,8 +1034,8 @@ static inline int dwexpr_libdw_read_piece(const dwexpr_libdw_frame *frame, const
     return 0;
 }
 
-/* The bytes of a value of so many bits, as they would be in memory: its pieces one after another, from the lowest bit
- * of each byte in little endian, from the highest in big endian. The last byte is filled up with zeros.
+/* The bytes of a value that has this many bits, as they would be in memory. Its pieces follow each other from the
+ * lowest bit of each byte in little endian, and from the highest in big endian. The last byte is filled up with zeros.
  *
  * Answers 0 if every bit is known. Else it answers why the first unknown bit isn't: DWEXPR_LIBDW_OPTIMIZED_AWAY,
  * _IMPLICIT_POINTER, _NOT_READABLE or _TOO_SMALL. Unknown bits are zeros in `bytes` and ones in `unknown`, which may be
@@ -1089,7 +1089,7 @@ struct dwexpr_libdw_registers {
     Dwarf_Word contents[DWEXPR_LIBDW_REGISTERS];
 };
 
-/* The frames of a thread of a process or a core dump. It isn't moved while it is in use. */
+/* The frames of a thread of a process or a core dump. Don't move it while it is in use: the frames point into it. */
 typedef struct dwexpr_libdw_stack {
     dwexpr_libdw_frame *frames; /* the innermost first */
     size_t length;
@@ -1104,7 +1104,7 @@ typedef struct dwexpr_libdw_stack {
     unsigned char ident[EI_NIDENT];
     unsigned machine;
     Dwarf_Addr program; /* an address in the program itself, 0 if it isn't known */
-    /* The kernel's sets of registers of the innermost frame: those in general and of floating point. */
+    /* the kernel's sets of registers of the innermost frame, general and of floating point */
     uint8_t sets[2][512];
     size_t set_lengths[2];
 } dwexpr_libdw_stack;
@@ -1175,7 +1175,7 @@ static inline int dwexpr_libdw_read_memory(void *context, uint64_t address, uint
 
 /* ---- registers */
 
-/* Registers that libdwfl doesn't tell: where they stand in the kernel's sets. */
+/* Where registers that libdwfl doesn't tell are in the kernel's sets. */
 enum { DWEXPR_LIBDW_GENERAL, DWEXPR_LIBDW_FLOATING };
 
 static const struct dwexpr_libdw_kernel_row {
@@ -1206,8 +1206,8 @@ static inline int dwexpr_libdw_read_set(const dwexpr_libdw_stack *stack, uint32_
     return 1;
 }
 
-/* Whether a call kept a register of a caller's frame that the call frame information says nothing of. GCC names a
- * register that a call may change only where it knows that this call didn't. */
+/* Whether a call kept a register of its caller that call frame information says nothing of. GCC names a register that a
+ * call may change only if it knows that this call doesn't. */
 static inline int dwexpr_libdw_is_kept(dwexpr_libdw_frame *caller, unsigned machine, uint32_t number)
 {
     Dwarf_Attribute attribute;
@@ -1245,7 +1245,7 @@ static inline int dwexpr_libdw_read_register(void *context, uint32_t number, uin
 
 /* ---- the notes of a core dump, and what /proc tells of a process */
 
-/* Where the general registers stand in NT_PRSTATUS, and the thread's number. */
+/* Where the general registers are in NT_PRSTATUS, and the thread's number. */
 enum { DWEXPR_LIBDW_REGISTERS_AT = 112, DWEXPR_LIBDW_THREAD_AT = 32 };
 
 static inline void dwexpr_libdw_keep_set(dwexpr_libdw_stack *stack, int set, const uint8_t *bytes, size_t length)
@@ -1335,7 +1335,7 @@ static inline size_t dwexpr_libdw_read_proc(const dwexpr_libdw_stack *stack, con
 
 /* ---- thread-local storage */
 
-/* The program's own is below the thread pointer on x86-64. That of shared libraries libdwfl doesn't tell. */
+/* On x86-64 the program's own is below the thread pointer. libdwfl doesn't tell where that of a shared library is. */
 static inline int dwexpr_libdw_find_tls(void *context, Dwfl_Module *module, uint64_t offset, uint64_t *address)
 {
     const dwexpr_libdw_stack *stack = ((struct dwexpr_libdw_registers *)context)->stack;
@@ -1374,10 +1374,10 @@ static inline int dwexpr_libdw_on_frame(Dwfl_Frame *state, void *given)
     unsigned number;
     if (stack->length == DWEXPR_LIBDW_FRAMES || !dwfl_frame_pc(state, &frame->pc, &is_activation))
         return DWARF_CB_ABORT;
-    /* libdwfl has just stopped the thread */
+    /* the thread is stopped during the walk */
     if (!is_caller && !stack->core)
         for (number = 0; number < 2; number++) {
-            const int types[] = {NT_PRSTATUS, NT_FPREGSET};
+            static const int types[] = {NT_PRSTATUS, NT_FPREGSET};
             struct iovec part;
             part.iov_base = stack->sets[number];
             part.iov_len = sizeof stack->sets[number];
@@ -1419,9 +1419,9 @@ static inline void dwexpr_libdw_close(dwexpr_libdw_stack *stack)
     dwexpr_libdw_begin_stack(stack);
 }
 
-/* Finds the frames of a thread. `dwfl` has its modules, and was attached to the process, or to the core dump `core`;
- * that is NULL for a process. Thread 0 is the one that crashed, in a core dump. The process has to stay stopped as long
- * as the frames are used. Registers of floating point and thread-local storage are known on x86-64 alone.
+/* Finds the frames of a thread. `dwfl` has its modules, and was attached to the process, or to the core dump `core`,
+ * which is NULL for a process. Thread 0 is the one that crashed, in a core dump. The process has to stay stopped as
+ * long as the frames are used. Registers of floating point and thread-local storage are known on x86-64 only.
  *
  * Answers 0, DWEXPR_LIBDW_NO_TARGET or DWEXPR_LIBDW_NO_MEMORY. `stack` is written in each case. */
 static inline int dwexpr_libdw_unwind(dwexpr_libdw_stack *stack, Dwfl *dwfl, Elf *core, pid_t thread)
@@ -1465,8 +1465,8 @@ static inline int dwexpr_libdw_unwind(dwexpr_libdw_stack *stack, Dwfl *dwfl, Elf
     return DWEXPR_LIBDW_NO_TARGET;
 }
 
-/* Opens a process, which is stopped, and finds the frames of its first thread. It uses ptrace, so no other debugger has
- * the process. Answers what dwexpr_libdw_unwind does. */
+/* Opens a stopped process, and finds the frames of its first thread. It uses ptrace, which only one debugger can.
+ * Answers what dwexpr_libdw_unwind does. */
 static inline int dwexpr_libdw_open_process(dwexpr_libdw_stack *stack, pid_t process)
 {
     static const Dwfl_Callbacks finders = {dwfl_linux_proc_find_elf, dwfl_standard_find_debuginfo, NULL, NULL};
@@ -1483,7 +1483,7 @@ static inline int dwexpr_libdw_open_process(dwexpr_libdw_stack *stack, pid_t pro
     return code;
 }
 
-/* Opens a core dump, and finds the frames of the thread that ended it. `program` is the program's file; if it is NULL,
+/* Opens a core dump, and finds the frames of the thread that crashed. `program` is the program's file. If it is NULL,
  * the dump says which it was. Answers what dwexpr_libdw_unwind does. */
 static inline int dwexpr_libdw_open_core(dwexpr_libdw_stack *stack, const char *file, const char *program)
 {

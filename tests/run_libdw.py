@@ -39,7 +39,7 @@ STRICT = ["-std=c11", "-pedantic", "-Wall", "-Wextra", "-Werror", f"-I{TOP / 'in
 SANITIZERS = ["-g", "-fsanitize=address,undefined", "-fno-sanitize-recover=all"]
 DEBUG = pathlib.Path("/usr/lib/debug")
 ALL = "--all" in sys.argv
-SECONDS = 300
+SECONDS = 3000 if ALL else 300
 
 passed = failed = 0
 

@@ -9,7 +9,7 @@
   heading.
 - docs/GUIDE.md lists exactly the operations that are known. The number of faults, the limits of the archive's lists,
   the size of an evaluation there, the logic's sum and README.md's ratios are those of the sources and docs/SPEED.md.
-- docs/ARCHITECTURE.md has the gate's stages in their order.
+- docs/ARCHITECTURE.md has a row for each crate, and the gate's stages in their order.
 - No line of a page but a table's row has more than 120 columns.
 - Each block of README.md, docs/GUIDE.md and docs/PROOFS.md whose fence names a file is what stands in that file, byte
   for byte. docs/GUIDE.md has the loop over requests and its proof.
@@ -237,6 +237,13 @@ def figures():
         yield None if ratio in RATIO.findall(read(SPEED)) else f"{README} names {ratio}, and {SPEED} doesn't"
 
 
+def crates():
+    """Each crate has a row in docs/ARCHITECTURE.md."""
+    rows = re.findall(r"^\| `(\w+)` \|", read("docs/ARCHITECTURE.md"), re.MULTILINE)
+    for name in re.findall(r"^(\w+)\b.*:", read("crates.txt"), re.MULTILINE):
+        yield None if name in rows else f"docs/ARCHITECTURE.md has no row of {name}"
+
+
 def stages():
     """The gate's stages in docs/ARCHITECTURE.md are those of bin/test, in their order."""
     scripts = re.findall(r'"python3", "(tests/\w+\.py)"', read("bin/test"))
@@ -286,7 +293,7 @@ def stale():
         yield None if fits else f"{edit} takes away what doesn't stand once in its file"
 
 
-CHECKS = [glossary, unknown, astray, partless, operations, figures, stages, wide, changed, stale]
+CHECKS = [glossary, unknown, astray, partless, operations, figures, crates, stages, wide, changed, stale]
 
 
 def main():

@@ -54,13 +54,15 @@ fn evaluate_again<'a, A: Allocator + Copy>(
     eval.restart(little(&[]), encoding);
 }
 
-// Each size of an address, format and version.
-fn expect_memory(rt: &impl Abort, alloc: Global) {
-    let lists = RefusesGrowth::new(alloc, NEVER);
-    let mut eval = Evaluation::new(&lists, little(&[]), SMALL);
+// Evaluates the text in one encoding.
+fn evaluate_once<A: Allocator + Copy>(rt: &impl Abort, alloc: Global, lists: A) {
+    let mut eval = Evaluation::new(lists, little(&[]), SMALL);
     evaluate_again(rt, alloc, &mut eval, SMALL);
-    let growths = lists.growths(NEVER);
-    let nothing = RefusesGrowth::new(alloc, NEVER);
+}
+
+// Begins and evaluates in each size of an address, format and version.
+fn evaluate_in_each<A: Allocator + Copy>(rt: &impl Abort, alloc: Global, lists: A, nothing: A) {
+    let mut eval = Evaluation::new(lists, little(&[]), SMALL);
     for address_size in 1..9 {
         assert!(rt; 0 < address_size && address_size <= 8);
         for format in [Format::Dwarf32, Format::Dwarf64] {
@@ -70,14 +72,23 @@ fn expect_memory(rt: &impl Abort, alloc: Global) {
                     format,
                     version,
                 };
-                begin(&nothing, little(TEXT), encoding);
-                begin(&nothing, little(&[]), encoding);
+                begin(nothing, little(TEXT), encoding);
+                begin(nothing, little(&[]), encoding);
                 evaluate_again(rt, alloc, &mut eval, encoding);
             }
         }
     }
+}
+
+// However often it begins, an evaluation takes the memory that it takes once, and nothing before it evaluates.
+fn expect_memory(rt: &impl Abort, alloc: Global) {
+    let once = RefusesGrowth::new(alloc, NEVER);
+    evaluate_once(rt, alloc, &once);
+    let lists = RefusesGrowth::new(alloc, NEVER);
+    let nothing = RefusesGrowth::new(alloc, NEVER);
+    evaluate_in_each(rt, alloc, &lists, &nothing);
     assert!(rt; nothing.growths(NEVER) == 0);
-    assert!(rt; growths > 0 && lists.growths(NEVER) == growths);
+    assert!(rt; once.growths(NEVER) > 0 && lists.growths(NEVER) == once.growths(NEVER));
 }
 
 #[test]

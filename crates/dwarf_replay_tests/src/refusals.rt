@@ -258,14 +258,15 @@ fn expect_memory(rt: &impl Abort, memory: &RefusesGrowth<Global>, before: u64, g
     assert!(rt; memory.growths(before) == growths.min(before.saturating_add(1)));
 }
 
-// Takes the case's steps. The call that meets the refusal answers the fault, and so does each later one.
+// Takes the steps. The call that meets the refusal answers the fault, and so does each later one.
 fn expect_steps<'a, S: EvaluationStorage<Slice<'a>>>(
     rt: &impl Abort,
     mut eval: Evaluation<Slice<'a>, S>,
-    case: &Refusal<'a>,
+    steps: &[Step<Slice<'a>>],
+    answers: &[Answer<Slice<'a>>],
     memory: &RefusesGrowth<Global>,
 ) {
-    for (step, told) in case.steps.iter().zip(&case.told) {
+    for (step, told) in steps.iter().zip(answers) {
         let stepped = take_step(&mut eval, *step);
         let wanted = if memory.has_refused() { FULL } else { *told };
         assert!(rt; stepped == Stepped::Answered(wanted));
@@ -291,14 +292,18 @@ fn expect_answers<A: Allocator>(rt: &impl Abort, alloc: Global, case: &Refusal<'
 }
 
 // Each growth of the lists is refused in turn, and each of the answers.
-fn expect_growths(rt: &impl Abort, alloc: Global, case: &Refusal<'_>) {
+fn expect_growths(rt: &impl Abort, alloc: Global, case: &Refusal<'_>) -> Result<(), AllocError> {
+    let mut steps = Vec::new(alloc);
+    steps.extend_from_slice(&case.steps)?;
+    let mut answers = Vec::new(alloc);
+    answers.extend_from_slice(&case.told)?;
     let mut growths = growths_of(rt, alloc, case.values);
     growths = growths.saturating_add(growths_of(rt, alloc, case.pushes[1]));
     growths = growths.saturating_add(growths_of(rt, alloc, case.pushes[PIECES]));
     for before in 0..=growths {
         let memory = RefusesGrowth::new(alloc, before);
         let eval = Evaluation::new(&memory, little(&case.text), SMALL);
-        expect_steps(rt, eval, case, &memory);
+        expect_steps(rt, eval, &steps, &answers, &memory);
         expect_memory(rt, &memory, before, growths);
     }
     growths = growths_of(rt, alloc, case.told.len() as u64);
@@ -307,6 +312,7 @@ fn expect_growths(rt: &impl Abort, alloc: Global, case: &Refusal<'_>) {
         expect_answers(rt, alloc, case, &memory);
         expect_memory(rt, &memory, before, growths);
     }
+    Ok(())
 }
 
 // Lists of 5,000 items need as many growths as that many pushes to a vector. Each is refused in turn.
@@ -318,7 +324,7 @@ fn refused_growths(rt: HostRuntime) -> Result<(), AllocError> {
         registers(alloc, 5_000)?,
         calls(alloc, 5_000)?,
     ] {
-        expect_growths(&rt, alloc, case);
+        expect_growths(&rt, alloc, case)?;
     }
     Ok(())
 }

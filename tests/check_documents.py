@@ -276,21 +276,29 @@ def changed():
             yield f"{page} has no block of {path}"
 
 
+def applies(edit, folder):
+    """Whether a wrong body can be applied to a file of the folder, one change after another."""
+    text, old, fits = "", "", True
+    for line in edit.splitlines():
+        kind, _, said = line.partition(":")
+        if kind == "file":
+            text = read(os.path.normpath(os.path.join(folder, said.strip())))
+        elif kind == "old":
+            old = said[1:]
+            fits = fits and text.count(old) == 1
+        elif kind == "new":
+            text = text.replace(old, said[1:])
+    return fits
+
+
 def stale():
-    """Each wrong body can be applied, one change after another."""
-    for edit in sorted(fnmatch.filter(files(), "*.edit")):
-        folder = "" if edit.startswith("tests/") else edit.split("/wrong-bodies/")[0].split("/must-fail/")[0]
-        text, old, fits = "", "", True
-        for line in read(edit).splitlines():
-            kind, _, said = line.partition(":")
-            if kind == "file":
-                text = read(os.path.normpath(os.path.join(folder, said.strip())))
-            elif kind == "old":
-                old = said[1:]
-                fits = fits and text.count(old) == 1
-            elif kind == "new":
-                text = text.replace(old, said[1:])
-        yield None if fits else f"{edit} takes away what doesn't stand once in its file"
+    """Each wrong body can be applied."""
+    paths = fnmatch.filter(files(), "crates/*/must-fail/*.edit") + fnmatch.filter(files(), "*/wrong-bodies")
+    for path in sorted(set(paths) - {"tests/beside_archive/wrong-bodies"}):
+        folder = "" if path.startswith("tests/") else re.split("/(?:must-fail|wrong-bodies)", path)[0]
+        for block in read(path).strip("\n").split("\n\n"):
+            name = block.partition("\n")[0]
+            yield None if applies(block, folder) else f"{path}: {name}: takes away what doesn't stand once in its file"
 
 
 CHECKS = [glossary, unknown, astray, partless, operations, figures, crates, stages, wide, changed, stale]

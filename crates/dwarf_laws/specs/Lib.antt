@@ -2,3 +2,4 @@ pub mod Agreement
 pub mod TwoRuns
 pub mod Inlining
 pub mod Rows
+pub mod TightBounds

@@ -1,6 +1,7 @@
 //! Laws over two evaluations of DWARF expressions.
 #![tactic(auto)]
 
+mod bounds;
 mod rows;
 
 ghost use Rattle.std.specs.Prelude.{ℕ};
@@ -9,6 +10,7 @@ ghost use Rattle.dwarf_laws.specs.Agreement.{AgreeingTold};
 ghost use Rattle.dwarf_laws.specs.Inlining.{Inlining};
 ghost use Rattle.dwarf_laws.specs.TwoRuns.{TwoRuns};
 
+pub use bounds::tight_bounds;
 pub use rows::{called_rows, premises_of_high_bits, premises_of_inlining, twin_rows};
 
 /// Bits above an address change nothing that matters.

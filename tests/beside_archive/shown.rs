@@ -71,7 +71,6 @@ pub fn code_of(error: Error) -> (u32, u64) {
         Error::InvalidPiece => (19, 0),
         Error::InvalidExpressionTerminator(place) => (20, place),
         Error::StackFull => (21, 0),
-        #[allow(unreachable_patterns)]
         other => panic!("the archive has no {other:?}"),
     }
 }

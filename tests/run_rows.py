@@ -55,7 +55,8 @@ def rows_of(file):
     names = set()
     for row in rows:
         fields = set(row)
-        if fields - FIELDS or row["name"] in names or len(fields & INPUTS) != 1 or len(fields & OUTPUTS) != 1:
+        is_known = not fields - FIELDS and row["name"] not in names
+        if not is_known or len(fields & INPUTS) != 1 or len(fields & OUTPUTS) != 1 or len(fields & ERRORS) > 1:
             raise SystemExit(f"{file.name}: a row is malformed, or its name stands twice: {row}")
         names.add(row["name"])
     return rows

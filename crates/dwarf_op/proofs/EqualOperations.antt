@@ -200,7 +200,7 @@ module _ (R O P : RattleType)
     -- in the order of `Operation`
     unfoldable lines : Lines (code.the_parts R O P) view 0
     lines =
-        line (λ x. refl) (λ x y. decided (both (unsigned_Decides x.0 y.0) (both (bools x.1.0 y.1.0) (numbers x.1.1.0.0 y.1.1.0.0))) (λ (h, (t, u)). cc) (λ h. (cc, (cc, cc))))
+        line (λ x. refl) (λ x y. decided (both (unsigned_Decides x.0 y.0) (both (numbers x.1.0.0 y.1.0.0) (bools x.1.1.0 y.1.1.0))) (λ (h, (t, u)). cc) (λ h. (cc, (cc, cc))))
         ⊳ none (λ x. refl)
         ⊳ line (λ x. refl) (λ x y. decided (unsigned_Decides x.0 y.0) (λ h. cc) (λ h. cc))
         ⊳ none (λ x. refl)

@@ -20,7 +20,7 @@ reference_of number (reference.DebugInfoRef offset) = meaning.DebugInfoRef (numb
 module _ {R O P : Type 0} (text : R → Text) (number : O → ℕ) where
   -- an operation of the code, as the definitions have it
   abbrev pub operation_of : Operation R O P → meaning.Operation
-  operation_of (operation.Deref size space base_type) = meaning.Deref (number base_type.0) size space
+  operation_of (operation.Deref size base_type space) = meaning.Deref (number base_type.0) size space
   operation_of operation.Drop = meaning.Drop
   operation_of (operation.Pick index) = meaning.Pick index
   operation_of operation.Swap = meaning.Swap

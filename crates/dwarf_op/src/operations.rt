@@ -23,10 +23,10 @@ pub enum Operation<R: Reader, O = <R as Reader>::Offset> {
     Deref {
         /// How many bytes are read.
         size: u8,
-        /// Whether an address space is popped too, from below the address.
-        space: bool,
         /// The type of what is pushed; 0 is the generic type.
         base_type: UnitOffset<O>,
+        /// Whether an address space is popped too, from below the address.
+        space: bool,
     },
     /// Drop the top: `DW_OP_drop`.
     Drop,

@@ -17,8 +17,8 @@ ghost use Rattle.dwarf_expr.specs.Inlined.{MayInline, InlinedReplay};
 ghost use Rattle.dwarf_expr.specs.Twins.{fresh_at, MayReplay, TwoReplays, MeetRefusal};
 
 pub use dwarf_laws::{
-    called_rows, high_bits, inlining, premises_of_high_bits, premises_of_inlining, tight_bounds,
-    twin_rows,
+    bound_rows, called_rows, high_bits, inlining, premises_of_high_bits, premises_of_inlining,
+    tight_bounds, twin_rows,
 };
 pub use dwarf_meaning::{decode_laws, run_laws, worked_rows};
 pub use dwarf_value::value_laws;

@@ -1,8 +1,12 @@
-ghost use Rattle.std.specs.Prelude.{[], ◌∷◌};
+ghost use Rattle.std.specs.Prelude.{◌≡◌, [], ◌∷◌, None, Some};
 ghost use Rattle.dwarf_value.specs.declared.types.Value.TheVariants.{Generic};
-ghost use Rattle.dwarf_meaning.specs.Locations.{InRegister};
-ghost use Rattle.dwarf_meaning.specs.Rows.{open_at};
-ghost use Rattle.dwarf_laws.specs.TightBounds.{IsTight, byte_at, spent};
+ghost use Rattle.dwarf_meaning.specs.Locations.{AtAddress, InRegister};
+ghost use Rattle.dwarf_meaning.specs.Bounds.{DecodesOnce, IsUnspent, Spends, calls_left};
+ghost use Rattle.dwarf_meaning.specs.Refusals.{After, MayPick};
+ghost use Rattle.dwarf_meaning.specs.Rest.{Start};
+ghost use Rattle.dwarf_meaning.specs.RunLaws.{CountsWithin, ListsWithin, turns_left};
+ghost use Rattle.dwarf_meaning.specs.Rows.{no_limits, open_at};
+ghost use Rattle.dwarf_laws.specs.TightBounds.{IsTight, byte_at, counted_at, failed, located, spent};
 
 /// Worked rows of the bounds on lists and decodings.
 ///
@@ -21,4 +25,50 @@ pub fn tight_bounds()
         (spent 1 1 [] [] (byte_at (InRegister 0) ∷ [])) }
     ensures no_other { IsTight (spent 1 1 (Generic 5 ∷ []) [] [])
         (spent 1 2 (Generic 5 ∷ []) [] []) }
+{}
+
+/// Worked rows of the other bounds: on decodings at a fault and at a location, on callers and decodings alone, on calls,
+/// turns, counts and limits, and on what may be refused.
+///
+/// It does nothing. Each clause of its contract gives what a bound still holds of, or what is next to that and it
+/// doesn't hold of.
+#[tactic(auto, unfolding(dwarf_meaning::specs::Run::most))]
+pub fn bound_rows()
+    ensures fault { DecodesOnce (failed (spent 1 2 [] [] [])) }
+    ensures fault_decoded_twice { DecodesOnce (failed (spent 1 3 [] [] [])) → ⊥ }
+    ensures location { DecodesOnce (located (InRegister 0) (spent 1 1 [] [] [])) }
+    ensures location_at_an_address { DecodesOnce
+        (located (AtAddress 0) (spent 1 1 [] [] [])) → ⊥ }
+    ensures piece_at_an_address { DecodesOnce
+        (spent 1 2 [] [] (byte_at (AtAddress 0) ∷ [])) → ⊥ }
+    ensures one_item_more { Spends 1 (spent 0 0 [] [] [])
+        (spent 1 1 (Generic 5 ∷ Generic 6 ∷ []) [] []) }
+    ensures one_caller_more { Spends 1 (spent 0 0 [] [] [])
+        (spent 1 1 [] (open_at [] 0 ∷ open_at [] 0 ∷ []) []) → ⊥ }
+    ensures two_decodings { Spends 0 (spent 0 1 [] [] []) (spent 1 3 [] [] []) }
+    ensures three_decodings { Spends 0 (spent 0 1 [] [] []) (spent 1 4 [] [] []) → ⊥ }
+    ensures unspent { IsUnspent (spent 0 0 [] [] []) }
+    ensures initial_value_is_due { IsUnspent
+        (record (spent 0 0 [] [] []) { status = Start (Some 1) }) → ⊥ }
+    ensures all_calls { calls_left (spent 0 0 [] [] []) ≡ 4294967296 }
+    ensures last_call { calls_left (spent 4294967295 0 [] [] []) ≡ 1 }
+    ensures no_call_after_a_fault { calls_left (failed (spent 0 0 [] [] [])) ≡ 0 }
+    ensures last_turns { turns_left
+        (located (InRegister 0) (spent 4294967294 0 [] [] [])).store ≡ 3 }
+    ensures counts_up_to_the_bound { CountsWithin 3 1
+        (counted_at (open_at [] 0 ∷ open_at [] 0 ∷ [])) }
+    ensures counts_past_the_bound { CountsWithin 3 1
+        (counted_at (open_at [] 0 ∷ open_at [] 0 ∷ open_at [] 0 ∷ [])) → ⊥ }
+    ensures values_at_the_limit { ListsWithin (record no_limits { values = Some 1 })
+        (spent 1 1 (Generic 5 ∷ []) [] []).store }
+    ensures values_past_the_limit { ListsWithin (record no_limits { values = Some 1 })
+        (spent 1 1 (Generic 5 ∷ Generic 6 ∷ []) [] []).store → ⊥ }
+    ensures pieces_at_the_limit { ListsWithin (record no_limits { pieces = Some 1 })
+        (spent 1 1 [] [] (byte_at (AtAddress 1) ∷ [])).store }
+    ensures pieces_past_the_limit { ListsWithin (record no_limits { pieces = Some 0 })
+        (spent 1 1 [] [] (byte_at (AtAddress 1) ∷ [])).store → ⊥ }
+    ensures refusal_without_a_limit { MayPick
+        (record { values = Some 1; callers = Some 1; pieces = None }) (After 0 0) }
+    ensures refusal_within_limits { MayPick
+        (record { values = Some 1; callers = Some 1; pieces = Some 1 }) (After 0 0) → ⊥ }
 {}

@@ -10,7 +10,7 @@ ghost use Rattle.dwarf_laws.specs.Agreement.{AgreeingTold};
 ghost use Rattle.dwarf_laws.specs.Inlining.{Inlining};
 ghost use Rattle.dwarf_laws.specs.TwoRuns.{TwoRuns};
 
-pub use bounds::tight_bounds;
+pub use bounds::{bound_rows, tight_bounds};
 pub use rows::{called_rows, premises_of_high_bits, premises_of_inlining, twin_rows};
 
 /// Bits above an address change nothing that matters.

@@ -25,10 +25,8 @@ def split(text):
 
 
 class Source:
-    """The tokens of a file, each of which is kept, deleted, or replaced by other text.
-
-    Most calls take places: indices into the tokens of code that were left when `settle` was called.
-    """
+    """The tokens of a file, each of which is kept, deleted, or replaced by other text. Most calls take places: indices
+    into the tokens of code that were left when `settle` was called."""
 
     def __init__(self, path, text):
         self.path = path

@@ -156,12 +156,10 @@ finish_plain (Located location) old new e free none h = cc
 abbrev pub top_done : Setup → Store → Value → List Value → Outcome
 top_done setup s x rest = completion_of (Some x) (push_piece setup (whole (AtAddress (to_u64_of (address_bits setup) x))) (record s { values = rest }))
 
-pub value_closes : (x : Value) (address : ℕ) (old low new : State) → Pops (Some x) old low → address ≡ to_u64_of (address_bits low.setup) x → Closes 1 (λ s. completion_of (Some x) (push_piece low.setup (whole (AtAddress address)) s)) low new → Closes 0 (finish_value old.setup) old new
-value_closes x address old low new h e t =
+pub value_closes : (x : Value) (old low new : State) → Pops (Some x) old low → Closes 1 (λ s. completion_of (Some x) (push_piece low.setup (whole (AtAddress (to_u64_of (address_bits low.setup) x))) s)) low new → Closes 0 (finish_value old.setup) old new
+value_closes x old low new h t =
     let rest = h.0 in
-    let is : address ≡ to_u64_of (address_bits old.setup) x = e ∙ ap (λ (z : State). to_u64_of (address_bits z.setup) x) h.2 in
-    let F = λ (z : State) (n : ℕ). Closes 1 (λ s. completion_of (Some x) (push_piece z.setup (whole (AtAddress n)) s)) z new in
-    let there = subst (F (with_values rest old)) is (subst (λ (z : State). F z address) h.2 t) in
+    let there = subst (λ (z : State). Closes 1 (λ s. completion_of (Some x) (push_piece z.setup (whole (AtAddress (to_u64_of (address_bits z.setup) x))) s)) z new) h.2 t in
     let values = ap length h.1 in
     closes_as (λ s. completion_of (Some x) (push_piece old.setup (whole (AtAddress (to_u64_of (address_bits old.setup) x))) s)) (finish_value old.setup) 1 0 old (with_values rest old) new (omega (arith, values)) (stays_low rest old.store.last old (with_values rest old) (fewer_one x rest old.store.values h.1) refl)
     (λ r. top_some old.store.values (FaultOutcome NotEnoughStackItems) (top_done old.setup (with_refusal r old.store)) x rest h.1) (λ s status. refl) there

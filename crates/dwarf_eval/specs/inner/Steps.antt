@@ -94,6 +94,11 @@ abbrev pub Pops : Option Value → State → State → Type 0
 Pops None old new = (old.store.values ≡ []) × (new ≡ old)
 Pops (Some v) old new = (rest : List Value) × (old.store.values ≡ v ∷ rest) × (new ≡ with_values rest old)
 
+-- the top was popped, and is generic; or nothing was done
+abbrev pub PopsGeneric : Option ℕ → State → State → Type 0
+PopsGeneric None old new = new ≡ old
+PopsGeneric (Some number) old new = Pops (Some (Generic number)) old new
+
 -- both on top were popped, the right one was the top and both are generic; or nothing was done
 abbrev pub PopsGenerics : Option (ℕ × ℕ) → State → State → Type 0
 PopsGenerics None old new = new ≡ old

@@ -15,7 +15,7 @@ ghost use Rattle.dwarf_eval.specs.inner.Answers.{IsDoneWith};
 ghost use Rattle.dwarf_eval.specs.inner.Machine.{IsAlike, IsIn, last_of, status_of};
 ghost use Rattle.dwarf_eval.specs.declared.run.states.EvaluationState.TheVariants as states;
 ghost use Rattle.dwarf_eval.specs.declared.run.states.OnAnswer.TheVariants as on;
-ghost use Rattle.dwarf_eval.specs.inner.Steps.{CountsOne, GoesBack, Jumps, Pops, PopsGenerics, ReadsOperation, Tries, TriesToEnter, at, has_failed, is_free, is_running, read_to, with_last};
+ghost use Rattle.dwarf_eval.specs.inner.Steps.{CountsOne, GoesBack, Jumps, Pops, PopsGeneric, PopsGenerics, ReadsOperation, Tries, TriesToEnter, at, has_failed, is_free, is_running, read_to, with_last};
 
 use crate::op::EvaluationResult;
 use crate::run::states::{EvaluationState, LastOperation, OnAnswer};
@@ -118,6 +118,18 @@ impl<R: Reader + Copy, S: EvaluationStorage<R>> Machine<R, S> {
         ensures { Pops result self.old self.new }
     {
         self.stack.pop()
+    }
+
+    /// Pops the top if it is generic.
+    #[inline(always)]
+    pub(crate) fn pop_generic(&mut self) -> Option<u64>
+        ensures { PopsGeneric result self.old self.new }
+    {
+        let Some(Value::Generic(number)) = self.value_at(0) else {
+            return None;
+        };
+        self.pop();
+        Some(number)
     }
 
     /// Pops the two on top if both are generic: the second, and the top.

@@ -5,7 +5,9 @@ ghost use Rattle.dwarf_meaning.specs.Meaning.{whole as meant_whole, finish, fini
 ghost use Rattle.dwarf_meaning.specs.Inputs.{IsFresh, with_status};
 ghost use Rattle.dwarf_meaning.specs.Rest.{Running, Start, CompleteStatus};
 ghost use Rattle.dwarf_meaning.specs.RunLaws.{waits_of};
-ghost use Rattle.dwarf_meaning.specs.Stores.{Located};
+ghost use Rattle.dwarf_meaning.specs.Stores.{Located, address_bits};
+ghost use Rattle.dwarf_meaning.specs.Locations.{AtAddress};
+ghost use Rattle.dwarf_value.specs.Values.{to_u64_of};
 ghost use Rattle.dwarf_op.specs.Views.{operation_of, location_of, piece_of};
 ghost use Rattle.dwarf_eval.specs.inner.Steps.{Closes, Comes, CompletesWith, EndsLocated, HasReply, IsReady, Turns, at, goes_on, is_free, total};
 
@@ -169,17 +171,32 @@ impl<R: Reader + Copy, S: EvaluationStorage<R>> Machine<R, S> {
         }
     }
 
+    /// Ends the run at the address that a value is.
+    #[inline(always)]
+    fn complete_at(&mut self, value: Value)
+        requires { self.old.status ≡ Running }
+        ensures { CompletesWith (meant_whole (AtAddress (to_u64_of (address_bits self.old.setup) value))) (Some value)
+            self.old self.new }
+    {
+        let address = self.number_of(value);
+        self.complete(whole(Location::Address { address }), Some(value));
+    }
+
     /// Ends the run with the value on top.
     fn finish_value(&mut self)
         requires { self.old.status ≡ Running }
         ensures { Closes 0 (finish_value self.old.setup) self.old self.new }
     {
+        // Most are generic. Those are kept in registers. Others are copied in memory, which waits for stores.
+        if let Some(number) = self.pop_generic() {
+            self.complete_at(Value::Generic(number));
+            return;
+        }
         let Some(value) = self.pop() else {
             self.fall_short();
             return;
         };
-        let address = self.number_of(value);
-        self.complete(whole(Location::Address { address }), Some(value));
+        self.complete_at(value);
     }
 
     /// Ends the run: with the pieces, if its last operation may follow them, or else with one piece.
@@ -201,6 +218,11 @@ impl<R: Reader + Copy, S: EvaluationStorage<R>> Machine<R, S> {
         }
         if self.is_free() {
             self.finish_value();
+            return;
+        }
+        // Most are registers. One that is built anew is stored as it was, and not copied as a whole.
+        if let Location::Register { register } = self.location() {
+            self.complete(whole(Location::Register { register }), None);
             return;
         }
         self.complete(whole(self.location()), None);

@@ -1,5 +1,6 @@
 use Rattle.std.proofs.Common.{refl, sym, ◌∙◌, None}
 use Rattle.dwarf_base.specs.declared.errors.Error.TheVariants.{InvalidPiece}
+use Rattle.dwarf_meaning.specs.Locations.{InRegister}
 use Rattle.dwarf_meaning.specs.Meaning.{FaultOutcome, completion_of, finish_value, whole}
 use Rattle.dwarf_meaning.specs.Stores.{Nothing, Plain, Pieced, Pushed, Called, Located, push_piece}
 use Rattle.dwarf_op.specs.Views.{location_of}
@@ -34,10 +35,17 @@ pub returns-then-is_free : goal.returns-then-is_free
 returns-then-is_free g c =
     finish_plain c.args.self.now.store.last c.args.self.now c.finish_value.new.self refl (sym c.is_free.ensures ∙ c.if-is_free.true) (sym c.has_pieces.ensures ∙ c.if-has_pieces.false) c.finish_value.ensures
 
+pub returns-in-Register : goal.returns-in-Register
+returns-in-Register g c =
+    let location = InRegister c.in-Register.register.0 in
+    finish_as (Located location) c.args.self.now c.complete.new.self c.in-Register.ensures
+    (closes_else 1 (λ s. FaultOutcome InvalidPiece) (λ s. completion_of None (push_piece c.args.self.now.setup (whole location) s)) c.args.self.now c.complete.new.self (sym c.has_pieces.ensures ∙ c.if-has_pieces.false)
+    (closes_with None _ (whole location) c.args.self.now c.complete.new.self c.whole.ensures c.complete.ensures))
+
 pub returns : goal.returns
 returns g c =
-    let location = location_of g.R.Reader.text g.R.Offset.ReaderOffset.number c.location.result in
+    let location = location_of g.R.Reader.text g.R.Offset.ReaderOffset.number c.location-2.result in
     let piece = whole location in
-    finish_as (Located location) c.args.self.now c.complete.new.self c.location.ensures
-    (closes_else 1 (λ s. FaultOutcome InvalidPiece) (λ s. completion_of None (push_piece c.args.self.now.setup piece s)) c.args.self.now c.complete.new.self (sym c.has_pieces.ensures ∙ c.if-has_pieces.false)
-    (closes_with None _ piece c.args.self.now c.complete.new.self c.whole.ensures c.complete.ensures))
+    finish_as (Located location) c.args.self.now c.complete-2.new.self c.location-2.ensures
+    (closes_else 1 (λ s. FaultOutcome InvalidPiece) (λ s. completion_of None (push_piece c.args.self.now.setup piece s)) c.args.self.now c.complete-2.new.self (sym c.has_pieces.ensures ∙ c.if-has_pieces.false)
+    (closes_with None _ piece c.args.self.now c.complete-2.new.self c.whole-2.ensures c.complete-2.ensures))

@@ -1,14 +1,20 @@
-use Rattle.std.proofs.Common.{Some}
-use Rattle.dwarf_meaning.specs.Locations.{AtAddress}
-use Rattle.dwarf_meaning.specs.Meaning.{whole}
-use Rattle.dwarf_eval.proofs.Finishing.{value_closes, value_none, closes_with}
+use Rattle.std.proofs.Common.{subst}
+use Rattle.dwarf_value.specs.declared.types.Value.TheVariants.{Generic}
+use Rattle.dwarf_meaning.specs.Meaning.{finish_value}
+use Rattle.dwarf_meaning.specs.Rest.{State}
+use Rattle.dwarf_eval.specs.inner.Steps.{Closes}
+use Rattle.dwarf_eval.proofs.Finishing.{value_closes, value_none}
 use Rattle.dwarf_eval.proofs.run.machine.Machine.finish_value.Goals as goal
 
-pub returns-in_default : goal.returns-in_default
-returns-in_default g c = value_none c.args.self.now c.pop.new.self c.fall_short.new.self c.in_default.ensures c.fall_short.ensures
+pub returns-in-Some : goal.returns-in-Some
+returns-in-Some g c = value_closes (Generic c.in-Some.number) c.args.self.now c.pop_generic.new.self c.complete_at.new.self c.in-Some.ensures c.complete_at.ensures
+
+pub returns-in_default-pop : goal.returns-in_default-pop
+returns-in_default-pop g c =
+    subst (λ (z : State). Closes 0 (finish_value z.setup) z c.fall_short.new.self) c.in_default.ensures
+    (value_none c.pop_generic.new.self c.pop.new.self c.fall_short.new.self c.in_default-pop.ensures c.fall_short.ensures)
 
 pub returns : goal.returns
 returns g c =
-    let address = c.number_of-address.result in
-    value_closes c.in-Some.value address c.args.self.now c.pop.new.self c.complete.new.self c.in-Some.ensures c.number_of-address.ensures
-    (closes_with (Some c.in-Some.value) _ (whole (AtAddress address)) c.pop.new.self c.complete.new.self c.whole.ensures c.complete.ensures)
+    subst (λ (z : State). Closes 0 (finish_value z.setup) z c.complete_at-2.new.self) c.in_default.ensures
+    (value_closes c.in-Some-pop.value c.pop_generic.new.self c.pop.new.self c.complete_at-2.new.self c.in-Some-pop.ensures c.complete_at-2.ensures)

@@ -1,4 +1,4 @@
-//! Expressions evaluated on the heap and on lists of fixed capacities, in three loops that a user may write.
+//! Expressions evaluated on the heap and over lent slices, in three loops that a user may write.
 #![tactic(auto)]
 
 ghost use Rattle.dwarf_eval.specs.Evaluation.{IsClosed};
@@ -10,14 +10,13 @@ mod zeros;
 use crate::registers::complete_with_registers;
 use crate::requests::{Process, complete};
 use crate::zeros::count_requests;
-use arrayvec::ArrayVec;
 use dwarf_base::{
     DebugAddrIndex, Encoding, EndianSlice, Error, Format, Reader, Register, Result, RunTimeEndian,
     UnitOffset,
 };
 use dwarf_expr::eval::Evaluation;
 use dwarf_expr::op::{DieReference, Expression, Piece};
-use dwarf_expr::store::EvaluationStorage;
+use dwarf_expr::store::{EvaluationStorage, SliceVec, StoreInSlices};
 use dwarf_expr::value::{Value, ValueType};
 use std::io;
 use std::process::ExitCode;
@@ -29,17 +28,6 @@ const ENCODING: Encoding = Encoding {
     format: Format::Dwarf32,
     version: 4,
 };
-
-/// Lists of fixed capacities, which take no memory.
-struct Fixed;
-
-impl<R: Reader + Copy + Default> EvaluationStorage<R> for Fixed {
-    type Stack = ArrayVec<Value, 8>;
-
-    type ExpressionStack = ArrayVec<(R, R), 4>;
-
-    type Result = ArrayVec<Piece<R>, 4>;
-}
 
 /// A process that stands still, in one function.
 #[derive(Clone, Copy)]
@@ -129,18 +117,34 @@ fn show_complete<'a, S: EvaluationStorage<Bytes<'a>>>(
     }
 }
 
-/// Prints what it makes of the bytes, on the heap and on fixed lists.
-fn show_both<'a>(rt: &HostRuntime, bytes: Bytes<'a>, process: &Stopped<'a>) -> io::Result<()> {
-    let mut on_heap = Evaluation::new(rt.alloc(), bytes, ENCODING);
-    show_complete(rt, "heap", &mut on_heap, process)?;
-    let mut on_lists: Evaluation<Bytes<'a>, Fixed> = Evaluation::new_in(
-        bytes,
-        ENCODING,
-        ArrayVec::new(),
-        ArrayVec::new(),
-        ArrayVec::new(),
-    );
-    show_complete(rt, "lists", &mut on_lists, process)
+/// Prints what it makes of the bytes, on the heap.
+fn show_on_heap<'a>(rt: &HostRuntime, bytes: Bytes<'a>, process: &Stopped<'a>) -> io::Result<()> {
+    let mut evaluation = Evaluation::new(rt.alloc(), bytes, ENCODING);
+    show_complete(rt, "heap", &mut evaluation, process)
+}
+
+/// Prints what it makes of each expression, by a new evaluation over slices that all of them use. None takes memory,
+/// and none sets a list to zero.
+fn show_lent<'a>(
+    rt: &HostRuntime,
+    expressions: &[&'a [u8]],
+    process: &Stopped<'a>,
+) -> io::Result<()> {
+    let nothing = EndianSlice::new(&[], RunTimeEndian::Little);
+    let mut values = [Value::default(); 8];
+    let mut callers = [(nothing, nothing); 4];
+    let mut pieces = [Piece::default(); 4];
+    for expression in expressions {
+        let mut evaluation: Evaluation<Bytes<'a>, StoreInSlices<'_>> = Evaluation::new_in(
+            EndianSlice::new(expression, RunTimeEndian::Little),
+            ENCODING,
+            SliceVec::new(&mut values),
+            SliceVec::new(&mut callers),
+            SliceVec::new(&mut pieces),
+        );
+        show_complete(rt, "lent", &mut evaluation, process)?;
+    }
+    Ok(())
 }
 
 /// Prints what it makes of each expression. One evaluation serves for all of them, so only the first few take memory.
@@ -206,12 +210,13 @@ fn show_all(rt: &HostRuntime) -> io::Result<()> {
     ];
     for expression in expressions {
         let bytes = EndianSlice::new(expression, RunTimeEndian::Little);
-        show_both(rt, bytes, &process)?;
+        show_on_heap(rt, bytes, &process)?;
         show_registers(rt, bytes, &process, 1)?;
         show_registers(rt, bytes, &process, 2)?;
         show_requests(rt, bytes)?;
     }
-    show_restarted(rt, &expressions, &process)
+    show_restarted(rt, &expressions, &process)?;
+    show_lent(rt, &expressions, &process)
 }
 
 fn main(rt: HostRuntime) -> ExitCode {

@@ -9,6 +9,7 @@
   heading.
 - docs/GUIDE.md lists exactly the operations that are known. The number of faults, the limits of the archive's lists,
   the size of an evaluation there, the logic's sum and README.md's ratios are those of the sources and docs/SPEED.md.
+- The figures in CONTRIBUTING.md are those that `bin/figures` prints.
 - docs/ARCHITECTURE.md has a row for each crate, and the gate's stages in their order.
 - No line of a page but a table's row has more than 120 columns.
 - Each block of README.md, docs/GUIDE.md and docs/PROOFS.md whose fence names a file is what stands in that file, byte
@@ -237,6 +238,13 @@ def figures():
         yield None if ratio in RATIO.findall(read(SPEED)) else f"{README} names {ratio}, and {SPEED} doesn't"
 
 
+def counted():
+    """Each line of figures in CONTRIBUTING.md is one that bin/figures prints."""
+    printed = subprocess.run([TOP / "bin" / "figures"], capture_output=True, text=True, check=True).stdout.splitlines()
+    for line in re.findall(r"^    (.+)$", read("CONTRIBUTING.md").split("\n## Figures\n")[1].split("\n## ")[0], re.M):
+        yield None if line in printed else f"CONTRIBUTING.md has {line!r}, which bin/figures doesn't print"
+
+
 def crates():
     """Each crate has a row in docs/ARCHITECTURE.md."""
     rows = re.findall(r"^\| `(\w+)` \|", read("docs/ARCHITECTURE.md"), re.MULTILINE)
@@ -301,7 +309,7 @@ def stale():
             yield None if applies(block, folder) else f"{path}: {name}: takes away what doesn't stand once in its file"
 
 
-CHECKS = [glossary, unknown, astray, partless, operations, figures, crates, stages, wide, changed, stale]
+CHECKS = [glossary, unknown, astray, partless, operations, figures, counted, crates, stages, wide, changed, stale]
 
 
 def main():

@@ -1,3 +1,3 @@
 pub mod Laws
-pub mod Operands
+pub mod inner
 pub mod Values

@@ -1,6 +1,6 @@
 ghost use Rattle.std.specs.Prelude.{◌≡◌, pos, ◌+ℤ◌, ◌-ℤ◌, ◌*ℤ◌, MatchResult};
 ghost use Rattle.dwarf_base.specs.Numbers.{residue};
-ghost use Rattle.dwarf_value.specs.Operands.{AreDivided, UnfitDivision};
+ghost use Rattle.dwarf_value.specs.inner.Operands.{AreDivided, UnfitDivision};
 ghost use Rattle.dwarf_value.specs.Values.{IsAddressMask, width_of, combined, unary_of, binary_of, Abs, Neg, Div, Mod};
 
 use crate::types::{Value, ValueType};

@@ -1,7 +1,8 @@
 /* Refuses one call of a program: a library to load before the C library, by LD_PRELOAD. Each variable says which call of
    its kind is refused, counted from 1; where it isn't set, none is.
    - REFUSED_ALLOCATION: malloc and realloc, which then give no memory.
-   - REFUSED_READ, REFUSED_WRITE: read and write, which then fail. The others of that kind move one byte at a time. */
+   - REFUSED_READ, REFUSED_WRITE: read and write, which then fail. The others of that kind move one byte at a time.
+   REFUSED_WITH is the error that a read or a write fails with, in place of EIO; 0 is none, and it moves no byte. */
 #define _GNU_SOURCE
 #include <errno.h>
 #include <stddef.h>
@@ -19,6 +20,7 @@ struct kind {
 };
 
 static struct kind allocations, reads, writes;
+static int failure;
 
 static struct kind kind_of(const char *variable)
 {
@@ -29,6 +31,8 @@ static struct kind kind_of(const char *variable)
 
 __attribute__((constructor)) static void begin(void)
 {
+    const char *number = getenv("REFUSED_WITH");
+    failure = number != NULL ? atoi(number) : EIO;
     allocations = kind_of("REFUSED_ALLOCATION");
     reads = kind_of("REFUSED_READ");
     writes = kind_of("REFUSED_WRITE");
@@ -59,12 +63,12 @@ void *realloc(void *old, size_t size)
 
 ssize_t read(int file, void *bytes, size_t size)
 {
-    return is_refused(&reads, EIO) ? -1 : syscall(SYS_read, file, bytes, moved(&reads, size));
+    return is_refused(&reads, failure) ? -(failure != 0) : syscall(SYS_read, file, bytes, moved(&reads, size));
 }
 
 ssize_t write(int file, const void *bytes, size_t size)
 {
-    return is_refused(&writes, EIO) ? -1 : syscall(SYS_write, file, bytes, moved(&writes, size));
+    return is_refused(&writes, failure) ? -(failure != 0) : syscall(SYS_write, file, bytes, moved(&writes, size));
 }
 
 /* The C library's other name of it. */

@@ -5,13 +5,17 @@
   and then `fault StackFull` for that call and each later one, or `no memory`; and it has to end with status 1. N
   grows until no run meets a refusal: then each prints what it prints with ample memory.
 - Reads, of a byte each: if one is refused, nothing is printed, and the status is 1.
-- Writes, of a byte each: if one is refused, nothing is printed after the bytes before it, and the status is 1.
+- Writes, of a byte each: if one is refused, or takes no byte, nothing is printed after the bytes before it, and the
+  status is 1.
+- A read or a write that a signal interrupts changes nothing.
 
 A refused read or write is named on standard error.
 
 The last line is `N passed, M failed`, of the runs; the status is 1 if a run failed. It wants cc.
 """
 
+import errno
+import itertools
 import os
 import pathlib
 import subprocess
@@ -54,12 +58,59 @@ CASES = {
 # Inputs of which a byte, or the end, can't be read.
 INPUTS = ["", "evaluate\n", "nonsense\n"]
 
-# Runs that print: the bytes, the input, and what is printed.
+# Each request, and the answer that it gets, after which the stack has no value.
+REQUESTS = [
+    ("9c13", "cfa", "cfa 1"),
+    ("310613", "memory 0x1 4 none 0", "memory generic:2"),
+    ("3334950113", "memory 0x4 1 0x3 0", "memory u8:7"),
+    ("700013", "register 0 0", "register generic:5"),
+    ("a5016413", "register 1 100", "register i8:-1"),
+    ("ed000513", "wasm-local 5", "wasm u32:1"),
+    ("ed010613", "wasm-global 6", "wasm i32:1"),
+    ("ed020713", "wasm-stack 7", "wasm i64:1"),
+    ("910013", "frame-base", "frame 16"),
+    ("329b13", "tls 0x2", "tls 3"),
+    ("980500", "location unit 5", "location 96"),
+    ("9a06000000", "location info 6", "location -"),
+    ("a3015013", "entry 50", "entry u16:9"),
+    ("fa0700000013", "parameter 7", "parameter 1"),
+    ("031000000013", "relocated 0x10", "relocated 1"),
+    ("a10813", "indexed 8 relocate", "indexed 1"),
+    ("a20913", "indexed 9 keep", "indexed 1"),
+    ("31a86413", "type 100", "type u8"),
+]
+
+# Each kind of piece.
+PIECES = [
+    ("9304", "piece 32 none empty"),
+    ("509301", "piece 8 none register 0"),
+    ("319302", "piece 16 none address 0x1"),
+    ("319f9301", "piece 8 none value generic:0x1"),
+    ("9e02aabb9302", "piece 16 none bytes aabb"),
+    ("a00a0000007f9d0803", "piece 8 3 pointer 10 -1"),
+]
+
+
+def lines(texts):
+    return "".join(f"{text}\n" for text in texts)
+
+
+# Runs that print: the command and the bytes, the input, what is printed, and the status.
 RUNS = [
-    ("333522", "evaluate\n", "complete\npiece none none address 0x8\nvalue generic:0x8\n"),
-    ("9c", "evaluate\nevaluate\n", "cfa\nmisplaced 2\n"),
-    ("22", "evaluate\n", "fault NotEnoughStackItems\n"),
-    ("31", "evaluate\n\n", "bad step 2\n"),
+    ("eval", "333522", "evaluate\n", "complete\npiece none none address 0x8\nvalue generic:0x8\n", 0),
+    ("eval", "9c", "evaluate\nevaluate\n", "cfa\nmisplaced 2\n", 2),
+    ("eval", "22", "evaluate\n", "fault NotEnoughStackItems\n", 1),
+    ("eval", "ff", "evaluate\n", "fault InvalidExpression 255\n", 1),
+    ("eval", "31", "evaluate\n\n", "bad step 2\n", 2),
+    ("eval", "3", "", "bad words\n", 2),
+    ("ops", "5093040a01", "", "0 50 Register\n1 9304 Piece\n3 fault UnexpectedEof\n", 1),
+    (
+        "eval",
+        "".join(digits for digits, *_ in [*REQUESTS, *PIECES]),
+        lines(["evaluate", *(answer for _, _, answer in REQUESTS)]),
+        lines([*(request for _, request, _ in REQUESTS), "complete", *(piece for _, piece in PIECES), "value none"]),
+        0,
+    ),
 ]
 
 passed = failed = 0
@@ -73,14 +124,14 @@ def count(good, said):
         print(said)
 
 
-def run(library, kind, number, digits, text):
-    """What is printed, what is said on standard error, and the status, if this call of a kind is refused."""
+def run(library, kind, number, digits, text, command="eval", failure=errno.EIO):
+    """What is printed, what is said on standard error, and the status, if this call of a kind is refused so."""
     ran = subprocess.run(
-        [str(PROGRAM), "eval", "4", "4", "4", "le", digits],
+        [str(PROGRAM), command, "4", "4", "4", "le", digits],
         input=text,
         text=True,
         capture_output=True,
-        env={**os.environ, "LD_PRELOAD": str(library), f"REFUSED_{kind}": str(number)},
+        env={**os.environ, "LD_PRELOAD": str(library), f"REFUSED_{kind}": str(number), "REFUSED_WITH": str(failure)},
         timeout=SECONDS,
         check=False,
     )
@@ -124,11 +175,20 @@ def refuse_reads(library):
 
 
 def refuse_writes(library):
-    for digits, text, wanted in RUNS:
-        for number in range(1, len(wanted) + 1):
-            printed, said, status = got = run(library, "WRITE", number, digits, text)
+    for command, digits, text, wanted, _ in RUNS:
+        for number, failure in itertools.product(range(1, len(wanted) + 1), (errno.EIO, 0)):
+            printed, said, status = got = run(library, "WRITE", number, digits, text, command, failure)
             good = (printed, status) == (wanted[: number - 1], 1) and "standard output can't be written: " in said
-            count(good, f"{digits}, write {number} refused: {got!r}")
+            count(good, f"{digits}, write {number} refused by {failure}: {got!r}")
+
+
+def interrupt(library):
+    for command, digits, text, wanted, wanted_status in RUNS:
+        for kind, moved in (("READ", len(text) + 1), ("WRITE", len(wanted))):
+            for number in range(1, moved + 1):
+                printed, _, status = got = run(library, kind, number, digits, text, command, errno.EINTR)
+                good = (printed, status) == (wanted, wanted_status)
+                count(good, f"{digits}, {kind.lower()} {number} interrupted: {got!r}")
 
 
 def main():
@@ -143,6 +203,7 @@ def main():
             refuse_allocations(library)
             refuse_reads(library)
             refuse_writes(library)
+            interrupt(library)
     print(f"{passed} passed, {failed} failed")
     return 1 if failed else 0
 

@@ -1,11 +1,13 @@
-ghost use Rattle.std.specs.Prelude.{◌≡◌, [], ◌∷◌, None, Some};
+ghost use Rattle.std.specs.Prelude.{◌≡◌, ◌<◌, [], ◌∷◌, None, Some, length};
 ghost use Rattle.dwarf_value.specs.declared.types.Value.TheVariants.{Generic};
 ghost use Rattle.dwarf_meaning.specs.Locations.{AtAddress, InRegister};
 ghost use Rattle.dwarf_meaning.specs.Bounds.{DecodesOnce, IsUnspent, Spends, calls_left};
 ghost use Rattle.dwarf_meaning.specs.Refusals.{After, MayPick};
 ghost use Rattle.dwarf_meaning.specs.Rest.{Start};
 ghost use Rattle.dwarf_meaning.specs.RunLaws.{CountsWithin, ListsWithin, turns_left};
-ghost use Rattle.dwarf_meaning.specs.Rows.{no_limits, open_at};
+ghost use Rattle.dwarf_meaning.specs.Branches.{AreBytes};
+ghost use Rattle.dwarf_meaning.specs.Rows.{no_limits, open_at, plain};
+ghost use Rattle.dwarf_laws.specs.Inlining.{CallSite, inlined, IsInlinable};
 ghost use Rattle.dwarf_laws.specs.TightBounds.{IsTight, byte_at, counted_at, failed, located, spent};
 
 /// Worked rows of the bounds on lists and decodings.
@@ -28,7 +30,7 @@ pub fn tight_bounds()
 {}
 
 /// Worked rows of the other bounds: on decodings at a fault and at a location, on callers and decodings alone, on calls,
-/// turns, counts and limits, and on what may be refused.
+/// turns, counts and limits, on what may be refused, and on the length of an inlined text.
 ///
 /// It does nothing. Each clause of its contract gives what a bound still holds of, or what is next to that and it
 /// doesn't hold of.
@@ -71,4 +73,9 @@ pub fn bound_rows()
         (record { values = Some 1; callers = Some 1; pieces = None }) (After 0 0) }
     ensures refusal_within_limits { MayPick
         (record { values = Some 1; callers = Some 1; pieces = Some 1 }) (After 0 0) → ⊥ }
+    ensures longest_inlined_text { (site : CallSite) → 0 < length site.callee → AreBytes site.callee
+        → length (inlined site).bytes ≡ 4294934527
+        → IsInlinable (record plain { offset_bits = 32 }) site }
+    ensures text_one_byte_longer { (site : CallSite) → length (inlined site).bytes ≡ 4294934528
+        → IsInlinable (record plain { offset_bits = 32 }) site → ⊥ }
 {}

@@ -66,11 +66,18 @@ QuotientAndRemainder =
     → (quotient remainder product : Value) × (binary_of Div w x y ≡ Ok quotient) × (binary_of Mod w x y ≡ Ok remainder)
     × (binary_of Mul w quotient y ≡ Ok product) × (binary_of Plus w product remainder ≡ Ok x)
 
+-- an operator that is done twice gives the value back
+abbrev pub GivesBack : (operator : ℕ → Value → Result Value Error) → (w : ℕ) → Value → Type 0
+GivesBack operator w x = (there : Value) × (operator w x ≡ Ok there) × (operator w there ≡ Ok x)
+
+-- it gives back each value of a signed type
+abbrev pub GivesBackSigned : (operator : ℕ → Value → Result Value Error) → Type 0
+GivesBackSigned operator =
+    (w : ℕ) (x : Value) → IsWidth w → InRange x → is_signed false (type_of x) ≡ true → GivesBack operator w x
+
 -- to negate twice, at a signed type
 abbrev pub NegateTwice : Type 0
-NegateTwice =
-    (w : ℕ) (x : Value) → IsWidth w → InRange x → is_signed false (type_of x) ≡ true
-    → (negated : Value) × (unary_of Neg w x ≡ Ok negated) × (unary_of Neg w negated ≡ Ok x)
+NegateTwice = GivesBackSigned (unary_of Neg)
 
 -- to negate a generic value twice
 abbrev pub NegateTwiceGeneric : Type 0

@@ -1,6 +1,15 @@
-ghost use Rattle.dwarf_value.specs.Laws.{Trichotomy, Opposites, QuotientAndRemainder, NegateTwice, NegateTwiceGeneric, ReinterpretTwice, AgreementIsKept};
+ghost use Rattle.std.specs.Prelude.{◌≡◌, ℕ, pos, negsuc, Result, Ok, Err};
+ghost use Rattle.dwarf_base.specs.declared.errors.Error.{Error};
+ghost use Rattle.dwarf_base.specs.declared.errors.Error.TheVariants.{UnsupportedTypeOperation};
+ghost use Rattle.dwarf_value.specs.declared.types.Value.{Value};
+ghost use Rattle.dwarf_value.specs.declared.types.Value.TheVariants.{I8, U8, I16, I32, I64};
+ghost use Rattle.dwarf_value.specs.Values.{unary_of, Neg};
+ghost use Rattle.dwarf_value.specs.Laws.{InRange, Trichotomy, Opposites, QuotientAndRemainder, GivesBack, GivesBackSigned, NegateTwice, NegateTwiceGeneric, ReinterpretTwice, AgreementIsKept};
 
-/// Laws of what the calls on values answer, at every address mask. It does nothing; its contract is the laws.
+/// Laws of what the calls on values answer, at every address mask, and worked rows of negation.
+///
+/// It does nothing. Its contract is the laws. The rows say that the law of negation holds at the least value of each
+/// signed type, whatever the operator is; and what negation gives at the least byte and its neighbours.
 pub fn value_laws()
     ensures trichotomy { Trichotomy }
     ensures opposites { Opposites }
@@ -9,4 +18,12 @@ pub fn value_laws()
     ensures negate_twice_generic { NegateTwiceGeneric }
     ensures reinterpret_twice { ReinterpretTwice }
     ensures agreement_is_kept { AgreementIsKept }
+    ensures each_signed_type { (operator : ℕ → Value → Result Value Error) → GivesBackSigned operator
+        → GivesBack operator 32 (I8 (negsuc 127)) × GivesBack operator 32 (I16 (negsuc 32767))
+        × GivesBack operator 32 (I32 (negsuc 2147483647))
+        × GivesBack operator 32 (I64 (negsuc 9223372036854775807)) }
+    ensures least_byte { unary_of Neg 32 (I8 (negsuc 127)) ≡ Ok (I8 (negsuc 127)) }
+    ensures next_byte { unary_of Neg 32 (I8 (negsuc 126)) ≡ Ok (I8 (pos 127)) }
+    ensures byte_below { InRange (I8 (negsuc 128)) → ⊥ }
+    ensures unsigned_byte { unary_of Neg 32 (U8 128) ≡ Err UnsupportedTypeOperation }
 {}

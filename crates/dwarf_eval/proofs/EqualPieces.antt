@@ -16,21 +16,10 @@ use Rattle.dwarf_op.specs.contracts.locations.LocationPartialEq.TheImpl as locat
 use Rattle.dwarf_op.specs.contracts.locations.PiecePartialEq.TheImpl as pieces
 use Rattle.dwarf_op.specs.declared.locations.Location.{Location}
 use Rattle.dwarf_op.specs.declared.locations.Piece.{Piece}
+use Rattle.dwarf_op.proofs.EqualOperations.{both_of, options}
 use Rattle.dwarf_op.specs.Views.{location_of, piece_of}
 use denote.RattleType.{RattleType}
 use mir.Syntax.{Dict}
-
-options : (x y : Option ℕ) → Decides (option_eq nat_eq x y) (x ≡ y)
-options None None = (λ _. refl, λ _. refl)
-options None (Some n) = (λ h. cc, λ h. cc)
-options (Some m) None = (λ h. cc, λ h. cc)
-options (Some m) (Some n) =
-    (λ h. let same : m ≡ n = (unsigned_Decides m n).0 h in cc, λ h. let same : m ≡ n = cc in (unsigned_Decides m n).1 same)
-
-both_of : {P Q : Type 0} (b c : Bool) → Decides b P → Decides c Q → Decides (b && c) (P × Q)
-both_of true true p q = (λ _. (p.0 refl, q.0 refl), λ _. refl)
-both_of true false p q = (λ passes. absurd (let no : false ≡ true = passes in cc), λ h. q.1 h.1)
-both_of false c p q = (λ passes. absurd (let no : false ≡ true = passes in cc), λ h. p.1 h.0)
 
 equal_parts : {a b c : Bool} (x y : meaning.Piece) → Decides a (x.size_in_bits ≡ y.size_in_bits)
     → Decides b (x.bit_offset ≡ y.bit_offset) → Decides c (x.location ≡ y.location)

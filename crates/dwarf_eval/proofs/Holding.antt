@@ -22,9 +22,10 @@ use Rattle.dwarf_eval.specs.inner.Steps.{Does, Refused, Tries, ReadsOperation, E
 use Rattle.dwarf_eval.proofs.Endings.{Ending, piece_due, piece_ends}
 use Rattle.dwarf_eval.proofs.Loads.{Keeping, kept_in, piece_adds}
 use Rattle.dwarf_eval.proofs.Nearing.{nears_by}
-use Rattle.dwarf_eval.proofs.Spending.{fallen_spends, held_spends}
+use Rattle.dwarf_eval.proofs.Spending.{held_spends}
+use Rattle.dwarf_eval.proofs.Staying.{stays_status}
 use Rattle.dwarf_eval.proofs.Totals.{closed, going, total_running, course_failed}
-use Rattle.dwarf_eval.proofs.Turning.{total_inside, effort_running, falls_turns}
+use Rattle.dwarf_eval.proofs.Turning.{ReadsOn, total_inside, effort_running, falls_from}
 
 module _ (x : State) (location : Location) (runs : x.status ≡ Running) (inside : x.place < length x.text.bytes) (waits : x.store.last ≡ Located location) where
   held_total : (r : Refusal) (inputs : List Input) (z : Result (Operation × List ℕ) Fault) → read x.setup x.text x.place ≡ z → total x r inputs ≡ total_of_course x.store.count x.setup x.callers (do_operation (run x.setup) x.setup x.text (length x.callers) (with_refusal r x.store) inputs (located_act location x.store) z)
@@ -40,22 +41,15 @@ module _ (x : State) (location : Location) (runs : x.status ≡ Running) (inside
   due : piece_due x.store.last x.status ≡ 1
   due = ap (piece_due x.store.last) runs ∙ ap (λ (l : Last). piece_due l Running) waits
 
+  reads_piece : (place : ℕ) (last : Last) → ReadsOn x (with_last last (read_to place x))
+  reads_piece place last = record { setup = refl; settings = refl; callers = refl; items = refl; pieces = refl; count = omega arith; decodings = omega (arith, due); each = omega arith; one = omega arith }
+
   -- a fault of what was read: nothing is counted
   module _ (place : ℕ) (new : State) (error : Error) (is : new ≡ with_status (FaultStatus error) (read_to place x)) where
     read_falls : ((inputs : List Input) → total x Never inputs ≡ closed (FaultOutcome (fault_of error)) x.store.count) → Turns x new
     read_falls same =
-        let failed : new.status ≡ FaultStatus error = ap (λ (z : State). z.status) is in
-        let count : new.store.count ≡ x.store.count = ap (λ (z : State). z.store.count) is in
-        let callers = ap (λ (z : State). length z.callers) is in
-        let lists = ap (λ (z : State). length z.store.values + length z.store.pieces) is in
-        let decodings = ap (λ (z : State). z.decodings) is in
-        falls_turns x new error runs failed (record {
-          refusal = Never;
-          may = tt;
-          same = λ inputs. same inputs ∙ ap (closed (FaultOutcome (fault_of error))) (sym count);
-          kept = record { setup = ap (λ (z : State). z.setup) is; settings = ap (λ (z : State). z.store.settings) is };
-          spends = fallen_spends x new error (ap faults_in runs) failed (omega (arith, callers)) (omega (arith, count)) (omega (arith, lists)) (omega (arith, decodings, count, due)) (ap (λ (z : State). z.store.pieces) is) (omega (arith, decodings, count)) (omega (arith, decodings, count));
-        })
+        falls_from x (read_to place x) new error Never runs (ap (λ (z : State). z.status) is) tt same (reads_piece place x.store.last)
+        (stays_status (FaultStatus error) (read_to place x) new is)
 
     pub held_unread : read x.setup x.text x.place ≡ Err (fault_of error) → Turns x new
     held_unread e = read_falls (λ inputs. held_total Never inputs (Err (fault_of error)) e ∙ course_failed x.store.count x.setup x.callers (fault_of error))
@@ -115,19 +109,11 @@ module _ (x : State) (location : Location) (runs : x.status ≡ Running) (inside
 
       piece_falls : (new : State) → Refused 0 (push_piece x.setup piece) mid new → Turns x new
       piece_falls new h =
-          let count : new.store.count ≡ x.store.count = h.stays.count in
-          let callers = h.stays.callers in
-          let items = h.stays.items in
-          let decodings = h.stays.decodings in
-          falls_turns x new h.error runs h.failed (record {
-            refusal = h.gets.refusal;
-            may = h.gets.may;
-            same = λ inputs.
-                held_after_operation h.gets.refusal inputs _ (FaultNext (fault_of h.error)) some (ap (goes place_then) h.gets.same)
-                ∙ (course_failed x.store.count x.setup x.callers (fault_of h.error) ∙ ap (closed (FaultOutcome (fault_of h.error))) (sym count));
-            kept = record { setup = h.stays.kept.setup; settings = h.stays.kept.settings };
-            spends = fallen_spends x new h.error (ap faults_in runs) h.failed (omega (arith, callers)) (omega (arith, count)) (omega (arith, items)) (omega (arith, decodings, count, due)) h.stays.pieces (omega (arith, decodings, count)) (omega (arith, decodings, count));
-          })
+          falls_from x mid new h.error h.gets.refusal runs h.failed h.gets.may
+          (λ inputs.
+              held_after_operation h.gets.refusal inputs _ (FaultNext (fault_of h.error)) some (ap (goes place_then) h.gets.same)
+              ∙ course_failed x.store.count x.setup x.callers (fault_of h.error))
+          (reads_piece place_then Pieced) h.stays
 
       piece_turns : (new : State) (done : Bool) → Tries 0 (push_piece x.setup piece) mid new done → Turns x new
       piece_turns new true h = piece_turned new h

@@ -15,12 +15,13 @@ use Rattle.dwarf_eval.specs.inner.Steps.{Total, total, Tries, Reaches, Falls, Co
 use Rattle.dwarf_eval.proofs.Refusals.{before_more, may_before}
 use Rattle.dwarf_eval.proofs.Loads.{HasLast, HasPieces, Keeping, kept_in, value_adds, value_last, value_pieces}
 use Rattle.dwarf_eval.proofs.Nearing.{nears_by, nears_more}
-use Rattle.dwarf_eval.proofs.Spending.{begun_spends, fallen_spends, spends_here, spends_more}
+use Rattle.dwarf_eval.proofs.CallSpending.{spent_here, spent_more}
+use Rattle.dwarf_eval.proofs.Spending.{begun_spends, fallen_spends}
 use Rattle.dwarf_eval.proofs.Staying.{keeps_here, keeps_more}
 use Rattle.dwarf_eval.proofs.Totals.{closed, going, started_total, started_fails, total_running, total_start}
 
 pub reaches_here : (x : State) → x.status ≡ Running → Reaches x (total x) x
-reaches_here x runs = record { pushes = 0; same = λ r inputs. refl; kept = keeps_here x; spends = spends_here x; nears = nears_by x x Running Running runs runs (omega arith) }
+reaches_here x runs = record { pushes = 0; same = λ r inputs. refl; kept = keeps_here x; spends = spent_here x; nears = nears_by x x Running Running runs runs (omega arith) }
 
 pub may_along : (a b : State) (r : Refusal) → Keeps a b → MayPick b.setup.limits r → MayPick a.setup.limits r
 may_along a b r h m = subst (λ (z : Setup). MayPick z.limits r) h.setup m
@@ -32,7 +33,7 @@ module _ (old : State) (totals : Refusal → List Input → Total) where
     same = λ r inputs.
         ap (λ (q : Refusal). totals q inputs) (before_more h.pushes i.pushes r) ∙ (h.same (before_pushes i.pushes r) inputs ∙ i.same r inputs);
     kept = keeps_more old a b h.kept i.kept;
-    spends = spends_more old a b h.spends i.spends;
+    spends = spent_more 0 old a b h.spends i.spends;
     nears = nears_more old a b h.nears i.nears;
   }
 
@@ -42,7 +43,7 @@ module _ (old : State) (totals : Refusal → List Input → Total) where
     may = may_before old.setup.limits h.pushes i.refusal (may_along old a i.refusal h.kept i.may);
     same = λ inputs. h.same i.refusal inputs ∙ i.same inputs;
     kept = keeps_more old a b h.kept i.kept;
-    spends = spends_more old a b h.spends i.spends;
+    spends = spent_more 0 old a b h.spends i.spends;
   }
 
   comes_by : (a b : State) (status : Status) → Reaches old totals a → ComesBy a (total a) b status → ComesBy old totals b status

@@ -1,5 +1,5 @@
 -- One operation that is counted is one turn of the nested run.
-use Rattle.std.proofs.Common.{[], ◌∷◌, ℕ, ◌≡◌, ◌+◌, ◌-◌, ◌*◌, ◌<◌, true, false, List, length, Result, Ok, Err, arith, ap, ◌∙◌, sym, refl, subst, ◌==◌}
+use Rattle.std.proofs.Common.{[], ◌∷◌, ℕ, ◌≡◌, ◌+◌, ◌-◌, ◌*◌, ◌<◌, ◌≤◌, true, false, List, length, Result, Ok, Err, arith, ap, ◌∙◌, sym, refl, subst, ◌==◌}
 use Rattle.std.proofs.lemmas.Bool.{cond-true, cond-false}
 use Rattle.std.proofs.lemmas.Bool.Decides.{nat_tests}
 use Rattle.dwarf_base.specs.declared.errors.Error.{Error}
@@ -14,18 +14,19 @@ use Rattle.dwarf_meaning.specs.Stores.{Setup, address_bits, Store, Last, Nothing
 use Rattle.dwarf_meaning.specs.Run.{Position, CompleteEnd, FaultEnd, Course, only_end, prepend, read, most, can_count, counted, counted_act, do_operation, turn_counted, after_operation, await_answer, turn_by, run}
 use Rattle.dwarf_meaning.specs.Meaning.{FaultOutcome}
 use Rattle.dwarf_meaning.specs.Rest.{State, Status, Start, Running, RequestStatus, CompleteStatus, FaultStatus, with_refusal, total_of_course}
-use Rattle.dwarf_meaning.specs.Refusals.{Refusal, Never, before_pushes}
+use Rattle.dwarf_meaning.specs.Refusals.{Refusal, Never, MayPick, before_pushes}
 use Rattle.dwarf_meaning.proofs.Counts.{HasTally, OnNext, Tally, tally_of, tally-done}
 use Rattle.dwarf_meaning.proofs.Effects.{act_is}
 use Rattle.dwarf_meaning.proofs.Turns.{run_turn, below_most}
 use Rattle.dwarf_meaning.specs.Bounds.{endings, faults_in}
 use Rattle.dwarf_meaning.specs.Inputs.{Keeps, with_status}
-use Rattle.dwarf_eval.specs.inner.Steps.{total, CountsOne, ReadsOperation, act_of, done_at, LeadsToPlace, LeadsToRequest, LeadsToFault, LeadsBy, Performs, read_to, with_store, Falls, ComesBy, is_free, IsReady, Turns, effort, effort_by}
+use Rattle.dwarf_eval.specs.inner.Steps.{Stays, total, CountsOne, ReadsOperation, act_of, done_at, LeadsToPlace, LeadsToRequest, LeadsToFault, LeadsBy, Performs, read_to, with_store, Falls, ComesBy, is_free, IsReady, Turns, effort, effort_by}
 use Rattle.dwarf_meaning.proofs.Turns.{waits_little}
-use Rattle.dwarf_eval.proofs.Endings.{EndsNoMore, done_ends, free_given}
+use Rattle.dwarf_eval.proofs.Endings.{EndsNoMore, done_ends, free_given, piece_due}
 use Rattle.dwarf_eval.proofs.Loads.{IsLighter, kept_in, done_lighter}
 use Rattle.dwarf_eval.proofs.Nearing.{nears_by}
 use Rattle.dwarf_eval.proofs.Spending.{asked_spends, counted_spends, fallen_spends}
+use Rattle.dwarf_eval.proofs.Staying.{stays_status}
 use Rattle.dwarf_eval.proofs.Totals.{closed, going, waiting_total, total_running, total_waits, course_failed, course_counted, course_asked}
 
 -- ---- what there is still to do
@@ -74,9 +75,46 @@ falls_turns x new error runs failed falls = record {
   less = less_stopped x new (FaultStatus error) runs failed refl;
 }
 
+-- From the beginning of a turn to where a fault is met: the lists stay, and each operation that was counted was decoded,
+-- and one more at most.
+pub record ReadsOn (x y : State) : Type 0 where
+  pub setup : y.setup ≡ x.setup
+  pub settings : y.store.settings ≡ x.store.settings
+  pub callers : length y.callers ≡ length x.callers
+  pub items : length y.store.values + length y.store.pieces ≡ length x.store.values + length x.store.pieces
+  pub pieces : y.store.pieces ≡ x.store.pieces
+  pub count : x.store.count ≤ y.store.count
+  pub decodings : y.decodings + 2 * x.store.count ≤ x.decodings + piece_due x.store.last x.status + 2 * y.store.count
+  pub each : x.decodings + y.store.count ≤ y.decodings + x.store.count
+  pub one : y.decodings + x.store.count ≤ x.decodings + y.store.count + 1
+
+-- a turn that met a fault, and nothing else was done
+pub falls_from : (x y new : State) (error : Error) (refusal : Refusal) → x.status ≡ Running → new.status ≡ FaultStatus error → MayPick x.setup.limits refusal → ((inputs : List Input) → total x refusal inputs ≡ closed (FaultOutcome (fault_of error)) y.store.count) → ReadsOn x y → Stays 0 y new → Turns x new
+falls_from x y new error refusal runs failed may same reads stays =
+    let count = reads.count in
+    let callers = reads.callers in
+    let items = reads.items in
+    let decodings = reads.decodings in
+    let each = reads.each in
+    let one = reads.one in
+    let count_then = stays.count in
+    let callers_then = stays.callers in
+    let items_then = stays.items in
+    let decodings_then = stays.decodings in
+    falls_turns x new error runs failed (record {
+      refusal = refusal;
+      may = may;
+      same = λ inputs. same inputs ∙ ap (closed (FaultOutcome (fault_of error))) (sym count_then);
+      kept = record { setup = stays.kept.setup ∙ reads.setup; settings = stays.kept.settings ∙ reads.settings };
+      spends = fallen_spends x new error (ap faults_in runs) failed (omega (arith, callers, callers_then)) (omega (arith, count, count_then)) (omega (arith, items, items_then)) (omega (arith, decodings, decodings_then, count_then)) (stays.pieces ∙ reads.pieces) (omega (arith, each, decodings_then, count_then)) (omega (arith, one, decodings_then, count_then));
+    })
+
 -- if the operation was read
 abbrev pub beyond_op : State → ℕ → State
 beyond_op x place = read_to place (with_store (counted x.store) x)
+
+counts_and_reads : (x : State) (place : ℕ) → ReadsOn x (beyond_op x place)
+counts_and_reads x place = record { setup = refl; settings = refl; callers = refl; items = refl; pieces = refl; count = omega arith; decodings = omega arith; each = omega arith; one = omega arith }
 
 module _ (x : State) (ready : IsReady x) where
   ready_total : (r : Refusal) (inputs : List Input) → total x r inputs ≡ total_of_course x.store.count x.setup x.callers (turn_counted (run x.setup) x.setup x.text x.place (length x.callers) (with_refusal r x.store) inputs)
@@ -86,21 +124,13 @@ module _ (x : State) (ready : IsReady x) where
 
   pub ready_none : (new : State) → CountsOne x new false → Turns x new
   ready_none new h =
-      let failed : new.status ≡ FaultStatus error.TooManyIterations = ap (λ (z : State). z.status) h.1 in
-      let count : new.store.count ≡ x.store.count = ap (λ (z : State). z.store.count) h.1 in
-      let callers = ap (λ (z : State). length z.callers) h.1 in
-      let lists = ap (λ (z : State). length z.store.values + length z.store.pieces) h.1 in
-      let decodings = ap (λ (z : State). z.decodings) h.1 in
-      falls_turns x new error.TooManyIterations ready.runs failed (record {
-        refusal = Never;
-        may = tt;
-        same = λ inputs.
-            ready_total Never inputs
-            ∙ (ap (total_of_course x.store.count x.setup x.callers) (cond-false (can_count x.store) _ (only_end (FaultEnd TooManyIterations)) h.0)
-            ∙ (course_failed x.store.count x.setup x.callers TooManyIterations ∙ ap (closed (FaultOutcome TooManyIterations)) (sym count)));
-        kept = record { setup = ap (λ (z : State). z.setup) h.1; settings = ap (λ (z : State). z.store.settings) h.1 };
-        spends = fallen_spends x new error.TooManyIterations (ap faults_in ready.runs) failed (omega (arith, callers)) (omega (arith, count)) (omega (arith, lists)) (omega (arith, decodings, count)) (ap (λ (z : State). z.store.pieces) h.1) (omega (arith, decodings, count)) (omega (arith, decodings, count));
-      })
+      falls_from x x new error.TooManyIterations Never ready.runs (ap (λ (z : State). z.status) h.1) tt
+      (λ inputs.
+          ready_total Never inputs
+          ∙ (ap (total_of_course x.store.count x.setup x.callers) (cond-false (can_count x.store) _ (only_end (FaultEnd TooManyIterations)) h.0)
+          ∙ course_failed x.store.count x.setup x.callers TooManyIterations))
+      (record { setup = refl; settings = refl; callers = refl; items = refl; pieces = refl; count = omega arith; decodings = omega arith; each = omega arith; one = omega arith })
+      (stays_status (FaultStatus error.TooManyIterations) x new h.1)
 
   module _ (can : can_count x.store ≡ true) where
     ready_read : (r : Refusal) (inputs : List Input) (z : Result (Operation × List ℕ) Fault) → read x.setup x.text x.place ≡ z → total x r inputs ≡ total_of_course (x.store.count + 1) x.setup x.callers (do_operation (run x.setup) x.setup x.text (length x.callers) (counted (with_refusal r x.store)) inputs (counted_act x.setup x.store) z)
@@ -114,20 +144,9 @@ module _ (x : State) (ready : IsReady x) where
 
     pub ready_unread : (new : State) (error : Error) (place : ℕ) → read x.setup x.text x.place ≡ Err (fault_of error) → new ≡ with_status (FaultStatus error) (beyond_op x place) → Turns x new
     ready_unread new error place e is =
-        let failed : new.status ≡ FaultStatus error = ap (λ (z : State). z.status) is in
-        let count : new.store.count ≡ x.store.count + 1 = ap (λ (z : State). z.store.count) is in
-        let callers = ap (λ (z : State). length z.callers) is in
-        let lists = ap (λ (z : State). length z.store.values + length z.store.pieces) is in
-        let decodings = ap (λ (z : State). z.decodings) is in
-        falls_turns x new error ready.runs failed (record {
-          refusal = Never;
-          may = tt;
-          same = λ inputs.
-              ready_read Never inputs (Err (fault_of error)) e
-              ∙ (course_failed (x.store.count + 1) x.setup x.callers (fault_of error) ∙ ap (closed (FaultOutcome (fault_of error))) (sym count));
-          kept = record { setup = ap (λ (z : State). z.setup) is; settings = ap (λ (z : State). z.store.settings) is };
-          spends = fallen_spends x new error (ap faults_in ready.runs) failed (omega (arith, callers)) (omega (arith, count)) (omega (arith, lists)) (omega (arith, decodings, count)) (ap (λ (z : State). z.store.pieces) is) (omega (arith, decodings, count)) (omega (arith, decodings, count));
-        })
+        falls_from x (beyond_op x place) new error Never ready.runs (ap (λ (z : State). z.status) is) tt
+        (λ inputs. ready_read Never inputs (Err (fault_of error)) e ∙ course_failed (x.store.count + 1) x.setup x.callers (fault_of error))
+        (counts_and_reads x place) (stays_status (FaultStatus error) (beyond_op x place) new is)
 
     module _ (op : Operation) (beyond : List ℕ) (was : read x.setup x.text x.place ≡ Ok (op, beyond)) where
       abbrev place_then : ℕ
@@ -143,19 +162,11 @@ module _ (x : State) (ready : IsReady x) where
 
       ready_fails : (new : State) (error : Error) → new.status ≡ FaultStatus error → LeadsToFault (done_at (act_of there op) there) error there new → Turns x new
       ready_fails new error failed h =
-          let count : new.store.count ≡ x.store.count + 1 = h.stays.count in
-          let callers = h.stays.callers in
-          let items = h.stays.items in
-          let decodings = h.stays.decodings in
-          falls_turns x new error ready.runs failed (record {
-            refusal = h.gets.refusal;
-            may = h.gets.may;
-            same = λ inputs.
-                ready_after_operation h.gets.refusal inputs (FaultNext (fault_of error)) h.gets.same
-                ∙ (course_failed (x.store.count + 1) x.setup x.callers (fault_of error) ∙ ap (closed (FaultOutcome (fault_of error))) (sym count));
-            kept = record { setup = h.stays.kept.setup; settings = h.stays.kept.settings };
-            spends = fallen_spends x new error (ap faults_in ready.runs) failed (omega (arith, callers)) (omega (arith, count)) (omega (arith, items)) (omega (arith, decodings, count)) h.stays.pieces (omega (arith, decodings, count)) (omega (arith, decodings, count));
-          })
+          falls_from x there new error h.gets.refusal ready.runs failed h.gets.may
+          (λ inputs.
+              ready_after_operation h.gets.refusal inputs (FaultNext (fault_of error)) h.gets.same
+              ∙ course_failed (x.store.count + 1) x.setup x.callers (fault_of error))
+          (counts_and_reads x place_then) h.stays
 
       -- an operation leaves the count and the settings
       next_tally : (r : Refusal) (next : Next) → done_at (act_of there op) there (with_refusal r there.store) ≡ next → OnNext (HasTally (tally_of there.store)) next

@@ -37,7 +37,7 @@ decided decides there back = (λ passes. there (decides.0 passes), λ a. decides
 same : {A : Type 0} {x : A} → IsTrue true ↔ (x ≡ x)
 same = (λ _. refl, λ _. refl)
 
-both_of : {P Q : Type 0} (b c : Bool) → Decides b P → Decides c Q → Decides (b && c) (P × Q)
+pub both_of : {P Q : Type 0} (b c : Bool) → Decides b P → Decides c Q → Decides (b && c) (P × Q)
 both_of true true p q = (λ _. (p.0 refl, q.0 refl), λ _. refl)
 both_of true false p q = (λ passes. absurd (let no : false ≡ true = passes in cc), λ h. q.1 h.1)
 both_of false c p q = (λ passes. absurd (let no : false ≡ true = passes in cc), λ h. p.1 h.0)
@@ -51,7 +51,7 @@ bools true false = (λ h. cc, λ h. cc)
 bools false true = (λ h. cc, λ h. cc)
 bools false false = (λ _. refl, λ _. refl)
 
-options : (x y : Option ℕ) → Decides (option_eq nat_eq x y) (x ≡ y)
+pub options : (x y : Option ℕ) → Decides (option_eq nat_eq x y) (x ≡ y)
 options None None = (λ _. refl, λ _. refl)
 options None (Some n) = (λ h. cc, λ h. cc)
 options (Some m) None = (λ h. cc, λ h. cc)

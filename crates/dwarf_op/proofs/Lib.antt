@@ -1,4 +1,4 @@
-mod EqualOperations
+pub mod EqualOperations
 pub mod OneByte
 pub mod Rows
 pub mod ShortLeb

@@ -10,6 +10,7 @@ use Rattle.dwarf_base.specs.declared.offsets.ReaderOffset as reader_offset
 use Rattle.dwarf_base.specs.declared.reading.Reader as reader
 use Rattle.dwarf_base.specs.Equality.{IsEqualityOf}
 use Rattle.dwarf_base.specs.Reads.{Text}
+use Rattle.dwarf_op.proofs.EqualOperations.{both_of}
 use Rattle.dwarf_replay.specs.contracts.steps.AnswerPartialEq.TheImpl as answers
 use Rattle.dwarf_replay.specs.contracts.steps.ReplayedPartialEq.TheImpl as ends
 use Rattle.dwarf_replay.specs.declared.steps.Answer.{Answer}
@@ -18,11 +19,6 @@ use Rattle.dwarf_replay.specs.declared.steps.Replayed.TheVariants as replayed
 use Rattle.dwarf_replay.specs.Equality.{given_of, ended_of}
 use denote.RattleType.{RattleType}
 use mir.Syntax.{Dict}
-
-both_of : {P Q : Type 0} (b c : Bool) → Decides b P → Decides c Q → Decides (b && c) (P × Q)
-both_of true true p q = (λ _. (p.0 refl, q.0 refl), λ _. refl)
-both_of true false p q = (λ passes. absurd (let no : false ≡ true = passes in cc), λ h. q.1 h.1)
-both_of false c p q = (λ passes. absurd (let no : false ≡ true = passes in cc), λ h. p.1 h.0)
 
 module _ (R O P : RattleType)
     (a : reader.Ghosts R.Denot P.Denot) (b : Dict) (e : reader_offset.Ghosts P.Denot) (f : Dict)

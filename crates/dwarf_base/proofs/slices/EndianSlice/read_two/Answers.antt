@@ -1,5 +1,6 @@
+use Rattle.std.proofs.Common.{true, false}
 use Rattle.std.proofs.lemmas.Result.{err_from_is_err_and}
-use Rattle.dwarf_base.proofs.FixedNumbers.{fixed_refused, fixed_little_two, fixed_big_two}
+use Rattle.dwarf_base.proofs.FixedNumbers.{fixed_refused, fixed_two}
 use Rattle.dwarf_base.proofs.slices.EndianSlice.read_two.Goals as goal
 
 pub returns-in_err-bytes-clause-value : goal.returns-in_err-bytes-clause-value
@@ -9,8 +10,8 @@ returns-in_err-bytes-clause-value g c =
 
 pub returns-then-is_big_endian-clause-value : goal.returns-then-is_big_endian-clause-value
 returns-then-is_big_endian-clause-value g c =
-    fixed_big_two _ _ _ _ _ c.in_ok-bytes.ensures.value (cc) c.from_be_bytes.ensures
+    fixed_two _ true _ _ _ _ c.in_ok-bytes.ensures.value (cc) c.from_be_bytes.ensures
 
 pub returns-else-is_big_endian-clause-value : goal.returns-else-is_big_endian-clause-value
 returns-else-is_big_endian-clause-value g c =
-    fixed_little_two _ _ _ _ _ c.in_ok-bytes.ensures.value (cc) c.from_le_bytes.ensures
+    fixed_two _ false _ _ _ _ c.in_ok-bytes.ensures.value (cc) c.from_le_bytes.ensures

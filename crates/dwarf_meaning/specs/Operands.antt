@@ -2,7 +2,8 @@
 use Rattle.std.specs.Prelude.{ℕ, ◌*◌, ◌^◌, ◌==◌, nat_lt, Bool, List, Result, Ok, Err, if◌then◌else◌}
 use Rattle.dwarf_base.specs.declared.common.Encoding.{Encoding}
 use Rattle.dwarf_base.specs.Faults.{Fault}
-use Rattle.dwarf_base.specs.declared.errors.Error.TheVariants.{BadUnsignedLeb128, InvalidPieceSize}
+use Rattle.dwarf_base.specs.declared.errors.Error.TheVariants.{InvalidPieceSize}
+use Rattle.dwarf_base.specs.Leb.{within_u32}
 use Rattle.dwarf_base.specs.Numbers.{offset_of, register_of}
 use Rattle.dwarf_base.specs.Reads.{offset_size, Text}
 
@@ -39,4 +40,4 @@ operand_value bits Any number = Ok number
 operand_value bits Offset number = offset_of bits number
 operand_value bits Register number = register_of number
 operand_value bits PieceSize number = if nat_lt (8 * number) (2 ^ 64) then Ok number else Err (InvalidPieceSize number)
-operand_value bits U32 number = if nat_lt number (2 ^ 32) then Ok number else Err BadUnsignedLeb128
+operand_value bits U32 number = within_u32 number

@@ -1,11 +1,14 @@
 -- Reading a LEB128 number byte by byte, as the code does it.
-use Rattle.std.proofs.Common.{◌≡◌, ℕ, zero, suc, ◌+◌, ◌*◌, ◌%◌, ◌^◌, ◌<◌, ◌≤◌, List, [], ◌∷◌, Ok, Err, arith, refl, ap, sym, ◌∙◌, pow-suc, add-one, ℤ, pos, ◌-ℤ◌}
+use Rattle.std.proofs.Common.{◌≡◌, ℕ, zero, suc, ◌+◌, ◌*◌, ◌%◌, ◌^◌, ◌<◌, ◌≤◌, List, [], ◌∷◌, Result, Ok, Err, inl, inr, arith, refl, ap, sym, ◌∙◌, pow-suc, add-one, ℤ, pos, ◌+ℤ◌, ◌-ℤ◌, ◌*ℤ◌}
+use Rattle.std.proofs.lemmas.Bool.{cases_lt}
 use Rattle.std.proofs.lemmas.Bool.Decides.{nat_tests}
+use Rattle.std.proofs.lemmas.Int.{ints}
 use Rattle.std.proofs.lemmas.Nat.{shl_whole, mul-le, pow-add}
 use Rattle.std.proofs.Math.Nat.{pow-le-pow_right, mul-suc}
 use Rattle.dwarf_base.specs.Faults.{Fault, past_the_end}
 use Rattle.dwarf_base.specs.Leb.{LebForm, unsigned_leb, signed_leb, sign_extended, leb_from, uleb_at, sleb_at}
-use Rattle.dwarf_base.specs.Reads.{u8_at}
+use Rattle.dwarf_base.specs.Reads.{Gives, u8_at}
+use Rattle.dwarf_base.specs.declared.errors.Error.{Error}
 use Rattle.dwarf_base.proofs.Splits.{ok_pair}
 
 -- ---- the places
@@ -116,16 +119,6 @@ pub unsigned_first : (bytes : List ℕ) (byte number : ℕ) (rest : List ℕ) �
 unfolding uleb_at
 unsigned_first bytes byte number rest read same end = rw same (first_last unsigned_leb bytes byte rest read end)
 
-pub unsigned_more : (bytes : List ℕ) (byte low : ℕ) (rest : List ℕ) → u8_at bytes ≡ Ok (byte, rest) → low ≡ byte % 128 → 128 ≤ byte
-    → uleb_at bytes ≡ leb_from unsigned_leb 1 low rest
-unfolding uleb_at
-unsigned_more bytes byte low rest read low_is high = first_more unsigned_leb bytes byte low rest read low_is high
-
-pub signed_more : (bytes : List ℕ) (byte low : ℕ) (rest : List ℕ) → u8_at bytes ≡ Ok (byte, rest) → low ≡ byte % 128 → 128 ≤ byte
-    → sleb_at bytes ≡ leb_from signed_leb 1 low rest
-unfolding sleb_at
-signed_more bytes byte low rest read low_is high = first_more signed_leb bytes byte low rest read low_is high
-
 -- ---- signs
 
 without_sign : (sum count last : ℕ) → last < 64 → sign_extended sum count last ≡ pos sum
@@ -134,17 +127,10 @@ without_sign sum count last low = grind (arith, nat_tests)
 with_sign : (sum count last : ℕ) → 64 ≤ last → sign_extended sum count last ≡ pos sum -ℤ pos (128 ^ count)
 with_sign sum count last high = grind (arith, nat_tests)
 
-pub signed_first_low : (bytes : List ℕ) (byte : ℕ) (value : ℤ) (rest : List ℕ) → u8_at bytes ≡ Ok (byte, rest) → value ≡ pos byte → byte < 64
+pub signed_first : (bytes : List ℕ) (byte : ℕ) (value : ℤ) (rest : List ℕ) → u8_at bytes ≡ Ok (byte, rest) → value ≡ sign_extended byte 1 byte → byte < 128
     → sleb_at bytes ≡ Ok (value, rest)
 unfolding sleb_at
-signed_first_low bytes byte value rest read same low =
-    first_last signed_leb bytes byte rest read (omega arith) ∙ ap (λ z. Ok (z, rest)) (without_sign byte 1 byte low ∙ sym same)
-
-pub signed_first_high : (bytes : List ℕ) (byte : ℕ) (value : ℤ) (rest : List ℕ) → u8_at bytes ≡ Ok (byte, rest) → value ≡ pos byte -ℤ pos 128 → 64 ≤ byte → byte < 128
-    → sleb_at bytes ≡ Ok (value, rest)
-unfolding sleb_at
-signed_first_high bytes byte value rest read same high end =
-    first_last signed_leb bytes byte rest read end ∙ ap (λ z. Ok (z, rest)) (with_sign byte 1 byte high ∙ sym same)
+signed_first bytes byte value rest read same end = first_last signed_leb bytes byte rest read end ∙ ap (λ z. Ok (z, rest)) (sym same)
 
 pub signed_last_low : (place sum : ℕ) (bytes : List ℕ) (byte low : ℕ) (value : ℤ) (rest : List ℕ) → u8_at bytes ≡ Ok (byte, rest) → low ≡ byte % 128
     → place < 9 → byte < 64 → value ≡ pos (sum + low * 2 ^ (7 * place) % 2 ^ 64) → leb_from signed_leb place sum bytes ≡ Ok (value, rest)
@@ -157,3 +143,73 @@ pub signed_last_high : (place sum : ℕ) (bytes : List ℕ) (byte low : ℕ) (va
 signed_last_high place sum bytes byte low value rest read low_is most high end same =
     let value_is : value ≡ pos (sum + low * 2 ^ (7 * place) % 2 ^ 64) -ℤ pos (128 ^ (place + 1)) = rw (whole_is place most) at same in
     last_from signed_leb place sum bytes byte low rest read low_is most end ∙ ap (λ z. Ok (z, rest)) (with_sign _ (place + 1) byte high ∙ sym value_is)
+
+-- ---- the first two bytes
+
+pub gives_from : {X : Type 0} (result : Result X Error) (left : List ℕ) (one other : Result (X × List ℕ) Fault)
+    → Gives (λ x. x) result left other → one ≡ other → Gives (λ x. x) result left one
+gives_from result left one other h same = rw same h
+
+-- at place 1 the weight is 128
+at_place_one : (first second low : ℕ) → low ≡ first % 128 + 128 * (second % 128) → first % 128 + second % 128 * 2 ^ (7 * 1) % 2 ^ 64 ≡ low
+at_place_one first second low low_is = omega arith
+
+second_none : {A : Type 0} (form : LebForm A) (bytes after : List ℕ) (first : ℕ) (fault : Fault) → u8_at bytes ≡ Ok (first, after) → 128 ≤ first
+    → u8_at after ≡ Err fault → leb_from form 0 0 bytes ≡ Err fault
+second_none form bytes after first fault read high none =
+    first_more form bytes first (first % 128) after read refl high ∙ none_from form 1 (first % 128) after fault none
+
+second_more : {A : Type 0} (form : LebForm A) (bytes after rest : List ℕ) (first second low : ℕ) → u8_at bytes ≡ Ok (first, after) → 128 ≤ first
+    → u8_at after ≡ Ok (second, rest) → 128 ≤ second → low ≡ first % 128 + 128 * (second % 128) → leb_from form 0 0 bytes ≡ leb_from form 2 low rest
+second_more form bytes after rest first second low read high next more low_is =
+    first_more form bytes first (first % 128) after read refl high
+    ∙ (more_from form 1 (first % 128) after second (second % 128) rest next refl (omega arith) more
+    ∙ ap (λ (sum : ℕ). leb_from form 2 sum rest) (at_place_one first second low low_is))
+
+pub unsigned_second_none : (bytes after : List ℕ) (first : ℕ) (fault : Fault) → u8_at bytes ≡ Ok (first, after) → 128 ≤ first
+    → u8_at after ≡ Err fault → uleb_at bytes ≡ Err fault
+unfolding uleb_at
+unsigned_second_none bytes after first fault read high none = second_none unsigned_leb bytes after first fault read high none
+
+pub unsigned_second_more : (bytes after rest : List ℕ) (first second low : ℕ) → u8_at bytes ≡ Ok (first, after) → 128 ≤ first
+    → u8_at after ≡ Ok (second, rest) → 128 ≤ second → low ≡ first % 128 + 128 * (second % 128) → uleb_at bytes ≡ leb_from unsigned_leb 2 low rest
+unfolding uleb_at
+unsigned_second_more bytes after rest first second low read high next more low_is =
+    second_more unsigned_leb bytes after rest first second low read high next more low_is
+
+pub unsigned_second : (bytes after rest : List ℕ) (first second low : ℕ) → u8_at bytes ≡ Ok (first, after) → 128 ≤ first
+    → u8_at after ≡ Ok (second, rest) → second < 128 → low ≡ first % 128 + 128 * (second % 128) → uleb_at bytes ≡ Ok (low, rest)
+unfolding uleb_at
+unsigned_second bytes after rest first second low read high next end low_is =
+    first_more unsigned_leb bytes first (first % 128) after read refl high
+    ∙ (last_from unsigned_leb 1 (first % 128) after second (second % 128) rest next refl (omega arith) end
+    ∙ ap (λ (sum : ℕ). Ok (sum, rest)) (at_place_one first second low low_is))
+
+pub signed_second_none : (bytes after : List ℕ) (first : ℕ) (fault : Fault) → u8_at bytes ≡ Ok (first, after) → 128 ≤ first
+    → u8_at after ≡ Err fault → sleb_at bytes ≡ Err fault
+unfolding sleb_at
+signed_second_none bytes after first fault read high none = second_none signed_leb bytes after first fault read high none
+
+pub signed_second_more : (bytes after rest : List ℕ) (first second low : ℕ) → u8_at bytes ≡ Ok (first, after) → 128 ≤ first
+    → u8_at after ≡ Ok (second, rest) → 128 ≤ second → low ≡ first % 128 + 128 * (second % 128) → sleb_at bytes ≡ leb_from signed_leb 2 low rest
+unfolding sleb_at
+signed_second_more bytes after rest first second low read high next more low_is =
+    second_more signed_leb bytes after rest first second low read high next more low_is
+
+pub signed_second : (bytes after rest : List ℕ) (first second : ℕ) (value : ℤ) → u8_at bytes ≡ Ok (first, after) → 128 ≤ first
+    → u8_at after ≡ Ok (second, rest) → second < 128 → value ≡ pos (first % 128) +ℤ pos 128 *ℤ sign_extended second 1 second
+    → sleb_at bytes ≡ Ok (value, rest)
+unfolding sleb_at
+signed_second bytes after rest first second value read high next end same =
+    first_more signed_leb bytes first (first % 128) after read refl high
+    ∙ elim (cases_lt second 64) [
+      | inl low ↦
+          let value_is : value ≡ pos (first % 128 + second % 128 * 2 ^ (7 * 1) % 2 ^ 64) =
+          omega (arith, ints, without_sign second 1 second low) in
+          signed_last_low 1 (first % 128) after second (second % 128) value rest next refl (omega arith) low value_is
+      | inr above ↦
+          let value_is : value ≡ pos (first % 128 + second % 128 * 2 ^ (7 * 1) % 2 ^ 64) -ℤ pos (128 * 2 ^ (7 * 1) % 2 ^ 64) =
+          omega (arith, ints, with_sign second 1 second above) in
+          signed_last_high 1 (first % 128) after second (second % 128) value rest next refl (omega arith)
+          above end value_is
+    ]

@@ -1,5 +1,5 @@
-ghost use Rattle.std.specs.Prelude.{◌≡◌, ℕ, Bool, List, [], length, ◌-◌, ◌%◌, ◌^◌, ◌<◌, ◌==◌, IfOk, IsTrue};
-ghost use Rattle.dwarf_base.specs.Leb.{uleb_at, uleb_u32_at, sleb_at, leb_from, unsigned_leb, signed_leb};
+ghost use Rattle.std.specs.Prelude.{◌≡◌, ℕ, Bool, List, [], length, ◌-◌, ◌^◌, ◌<◌, ◌==◌, IfOk, IsTrue, pos, neg_ℤ, ◌≤ℤ◌, ◌<ℤ◌};
+ghost use Rattle.dwarf_base.specs.Leb.{uleb_at, uleb_u32_at, sleb_at, leb_from, sign_extended, unsigned_leb, signed_leb};
 ghost use Rattle.dwarf_base.specs.Reads.{Reads, Text, IsSuffix, u8_at, split_at, skip_at, fixed_at, signed_at, address_at, format_at, is_fixed_size};
 
 use crate::common::Format;
@@ -170,6 +170,8 @@ pub trait Reader {
     /// neither `00` nor `01`, so that nine `80` and a `00` are zero. `UnexpectedEof` if the bytes end before.
     #[inline(always)]
     final fn read_uleb128(&mut self) -> Result<u64>
+    where
+        Self: Copy,
         ensures { Reads (λ x. x) (text self.old) (text self.new) result
             (uleb_at (text self.old).bytes) }
     {
@@ -177,13 +179,20 @@ pub trait Reader {
         if first < 128 {
             return Ok(u64::from(first));
         }
-        rest_of_uleb128(self, first)
+        let second = self.read_u8()?;
+        let low = u64::from(first % 128) + 128 * u64::from(second % 128);
+        if second < 128 {
+            return Ok(low);
+        }
+        rest_of_uleb128_on_copy(self, low)
     }
 
     /// Reads an unsigned LEB128 number of 32 bits. The errors of `read_uleb128`, and `BadUnsignedLeb128` if
     /// the number is above 4294967295.
     #[inline(always)]
     final fn read_uleb128_u32(&mut self) -> Result<u32>
+    where
+        Self: Copy,
         ensures { Reads (λ x. x) (text self.old) (text self.new) result
             (uleb_u32_at (text self.old).bytes) }
     {
@@ -198,29 +207,57 @@ pub trait Reader {
     /// `00` nor `7f`. `UnexpectedEof` if the bytes end before.
     #[inline(always)]
     final fn read_sleb128(&mut self) -> Result<i64>
+    where
+        Self: Copy,
         ensures { Reads (λ x. x) (text self.old) (text self.new) result
             (sleb_at (text self.old).bytes) }
     {
         let first = self.read_u8()?;
-        if first < 64 {
-            return Ok(i64::from(first));
-        }
         if first < 128 {
-            return Ok(i64::from(first) - 128);
+            return Ok(last_byte(first));
         }
-        rest_of_sleb128(self, first)
+        let second = self.read_u8()?;
+        if second < 128 {
+            return Ok(i64::from(first % 128) + 128 * last_byte(second));
+        }
+        let low = u64::from(first % 128) + 128 * u64::from(second % 128);
+        rest_of_sleb128_on_copy(self, low)
     }
 }
 
-// The number of a first byte that goes on, and the bytes after it. In a function of its own, so that one byte is read
-// in line.
-#[inline(never)]
-fn rest_of_uleb128<R: Reader>(reader: &mut R, first: u8) -> Result<u64>
-    ensures { Reads (λ x. x) (R.text reader.old) (R.text reader.new) result
-        (leb_from unsigned_leb 1 (first % 128) (R.text reader.old).bytes) }
+// What the last byte of a signed number adds at its place: its seven bits, whose highest is the sign.
+#[inline(always)]
+fn last_byte(byte: u8) -> i64
+    requires { byte < 128 }
+    ensures value { result ≡ sign_extended byte 1 byte }
+    ensures least { neg_ℤ (pos 64) ≤ℤ result }
+    ensures most { result <ℤ pos 64 }
 {
-    let mut number = u64::from(first % 128);
-    for place in 1..9u32 {
+    i64::from((byte + 64) % 128) - 64
+}
+
+// The number of two bytes that go on, and the bytes after them. It is read on a copy, so that the reader itself needn't
+// stand in memory; the room for the copy is made here alone.
+#[inline(always)]
+fn rest_of_uleb128_on_copy<R: Reader + Copy>(reader: &mut R, low: u64) -> Result<u64>
+    requires { low < 128 ^ 2 }
+    ensures { Reads (λ x. x) (R.text reader.old) (R.text reader.new) result
+        (leb_from unsigned_leb 2 low (R.text reader.old).bytes) }
+{
+    let mut copy = *reader;
+    let number = rest_of_uleb128(&mut copy, low);
+    *reader = copy;
+    number
+}
+
+#[inline(never)]
+fn rest_of_uleb128<R: Reader>(reader: &mut R, low: u64) -> Result<u64>
+    requires { low < 128 ^ 2 }
+    ensures { Reads (λ x. x) (R.text reader.old) (R.text reader.new) result
+        (leb_from unsigned_leb 2 low (R.text reader.old).bytes) }
+{
+    let mut number = low;
+    for place in 2..9u32 {
         let byte = reader.read_u8()?;
         let bits = u64::from(byte % 128) << (7 * place);
         number += bits;
@@ -236,15 +273,27 @@ fn rest_of_uleb128<R: Reader>(reader: &mut R, first: u8) -> Result<u64>
     }
 }
 
-// The number of a first byte that goes on, and the bytes after it. In a function of its own, so that one byte is read
-// in line.
-#[inline(never)]
-fn rest_of_sleb128<R: Reader>(reader: &mut R, first: u8) -> Result<i64>
+// The same of a signed number.
+#[inline(always)]
+fn rest_of_sleb128_on_copy<R: Reader + Copy>(reader: &mut R, low: u64) -> Result<i64>
+    requires { low < 128 ^ 2 }
     ensures { Reads (λ x. x) (R.text reader.old) (R.text reader.new) result
-        (leb_from signed_leb 1 (first % 128) (R.text reader.old).bytes) }
+        (leb_from signed_leb 2 low (R.text reader.old).bytes) }
 {
-    let mut number = u64::from(first % 128);
-    for place in 1..9u32 {
+    let mut copy = *reader;
+    let number = rest_of_sleb128(&mut copy, low);
+    *reader = copy;
+    number
+}
+
+#[inline(never)]
+fn rest_of_sleb128<R: Reader>(reader: &mut R, low: u64) -> Result<i64>
+    requires { low < 128 ^ 2 }
+    ensures { Reads (λ x. x) (R.text reader.old) (R.text reader.new) result
+        (leb_from signed_leb 2 low (R.text reader.old).bytes) }
+{
+    let mut number = low;
+    for place in 2..9u32 {
         let byte = reader.read_u8()?;
         let bits = u64::from(byte % 128) << (7 * place);
         number += bits;

@@ -1,5 +1,5 @@
-//! Each byte of an operation that is decoded is read once, and no other byte is, but for two exceptions: the first two
-//! bytes of a long number, and in memory a look at the piece after a location.
+//! Each byte of an operation that is decoded is read once, and no other byte is, but for a look, in memory, at the piece
+//! after a location.
 
 use crate::operations::SMALL;
 use crate::readers::{Watched, answer_cfa, answer_location, evaluate, value_of};
@@ -111,7 +111,7 @@ fn expect_items<const IN_MEMORY: bool>(rt: &impl Abort, alloc: Global) -> Result
     Ok(())
 }
 
-// A number of three bytes or more has its first two read once more: short numbers are read on a copy of the reader.
+// Each byte of a LEB128 number is read once, however long it is.
 fn expect_numbers<const IN_MEMORY: bool>(rt: &impl Abort, alloc: Global) -> Result<(), AllocError> {
     for opcode in [0x10, 0x11] {
         for len in 1..=10u64 {
@@ -124,8 +124,7 @@ fn expect_numbers<const IN_MEMORY: bool>(rt: &impl Abort, alloc: Global) -> Resu
             let read = Cell::new(0);
             let number = Watched::<IN_MEMORY>::new(&text, &read);
             assert!(rt; Expression(number).operations(SMALL).next().is_ok());
-            let again = if len < 3 { 0 } else { 2 };
-            assert!(rt; read.get() == len.saturating_add(1 + again), "{len}");
+            assert!(rt; read.get() == len.saturating_add(1), "{len}");
         }
     }
     Ok(())

@@ -1,5 +1,4 @@
 pub mod EqualOperations
 pub mod OneByte
 pub mod Rows
-pub mod ShortLeb
 pub mod Blocks

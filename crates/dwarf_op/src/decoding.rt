@@ -10,8 +10,8 @@ ghost use Rattle.dwarf_op.specs.Views.{operation_of};
 
 use crate::opcodes::{Entry, FromOffset, Offset, Plain, Rare, entry_at};
 use crate::operands::{
-    generic_type, read_block, read_i16, read_offset, read_register, read_signed, read_sleb128,
-    read_u8, read_uleb128, read_unsigned,
+    generic_type, read_block, read_i16, read_offset, read_register, read_signed, read_u8,
+    read_unsigned,
 };
 use crate::operations::{DieReference, Operation};
 use dwarf_base::{
@@ -98,7 +98,7 @@ fn read_named_base_register<R: Reader + Copy>(bytes: &mut R) -> Result<Operation
         (operands_in R.Offset.BITS (R.text bytes.old) (rare_row encoding Rare.NamedBaseRegister)) }
 {
     let base = read_register(bytes)?;
-    let offset = read_sleb128(bytes)?;
+    let offset = bytes.read_sleb128()?;
     Ok(Operation::RegisterOffset {
         register: base,
         offset,
@@ -131,7 +131,7 @@ fn read_piece<R: Reader + Copy>(bytes: &mut R) -> Result<Operation<R>>
         (R.text bytes.old) (R.text bytes.new) result
         (operands_in R.Offset.BITS (R.text bytes.old) (entry_row encoding 0 Entry.Piece)) }
 {
-    let size = read_uleb128(bytes)?;
+    let size = bytes.read_uleb128()?;
     let Some(size_in_bits) = size.checked_mul(8) else {
         return Err(Error::InvalidPieceSize(size));
     };
@@ -149,8 +149,8 @@ fn read_bit_piece<R: Reader + Copy>(bytes: &mut R) -> Result<Operation<R>>
         (R.text bytes.old) (R.text bytes.new) result
         (operands_in R.Offset.BITS (R.text bytes.old) (rare_row encoding Rare.BitPiece)) }
 {
-    let size_in_bits = read_uleb128(bytes)?;
-    let bit_offset = read_uleb128(bytes)?;
+    let size_in_bits = bytes.read_uleb128()?;
+    let bit_offset = bytes.read_uleb128()?;
     Ok(Operation::Piece {
         size_in_bits,
         bit_offset: Some(bit_offset),
@@ -206,7 +206,7 @@ fn read_implicit_pointer<R: Reader + Copy>(
         (operands_in R.Offset.BITS (R.text bytes.old) (rare_row encoding Rare.ImplicitPointer)) }
 {
     let value = read_offset(Offset::Reference, bytes, encoding)?;
-    let byte_offset = read_sleb128(bytes)?;
+    let byte_offset = bytes.read_sleb128()?;
     Ok(Operation::ImplicitPointer {
         value: DebugInfoOffset(value),
         byte_offset,
@@ -375,13 +375,13 @@ fn read_operands<R: Reader + Copy>(
             value: read_unsigned(shape, bytes)?,
         }),
         Entry::PlusConstant => Ok(Operation::PlusConstant {
-            value: read_uleb128(bytes)?,
+            value: bytes.read_uleb128()?,
         }),
         Entry::SignedConstant(shape) => Ok(Operation::SignedConstant {
             value: read_signed(shape, bytes)?,
         }),
         Entry::FrameOffset => Ok(Operation::FrameOffset {
-            offset: read_sleb128(bytes)?,
+            offset: bytes.read_sleb128()?,
         }),
         Entry::Bra => Ok(Operation::Bra {
             target: read_i16(bytes)?,
@@ -391,7 +391,7 @@ fn read_operands<R: Reader + Copy>(
         }),
         Entry::BaseRegister(register) => Ok(Operation::RegisterOffset {
             register: Register(u16::from(register)),
-            offset: read_sleb128(bytes)?,
+            offset: bytes.read_sleb128()?,
             base_type: generic_type(),
         }),
         Entry::Piece => read_piece(bytes),

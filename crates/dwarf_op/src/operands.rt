@@ -1,7 +1,6 @@
 //! Reading the operands after an opcode, a function for each shape (DWARF 5, section 7.7.1).
 
-ghost use Rattle.std.specs.Prelude.{◌≡◌, ◌<◌, pos, neg_ℤ, ◌≤ℤ◌, ◌<ℤ◌};
-ghost use Rattle.dwarf_base.specs.Leb.{uleb_at, sleb_at, sign_extended};
+ghost use Rattle.std.specs.Prelude.{◌≡◌};
 ghost use Rattle.dwarf_base.specs.Reads.{Reads, fixed_at, signed_at};
 ghost use Rattle.dwarf_meaning.specs.Decoding.{unsigned_at, integer_at};
 ghost use Rattle.dwarf_op.specs.Entries.{
@@ -34,98 +33,6 @@ pub(crate) fn read_i16<R: Reader>(bytes: &mut R) -> Result<i16>
     bytes.read_i16()
 }
 
-// An unsigned LEB128 number: of one byte or two in line, on a copy of the reader; a longer one by a call.
-#[inline(always)]
-pub(crate) fn read_uleb128<R: Reader + Copy>(bytes: &mut R) -> Result<u64>
-    ensures { Reads (λ n. n) (R.text bytes.old) (R.text bytes.new) result
-        (uleb_at (R.text bytes.old).bytes) }
-{
-    let mut rest = *bytes;
-    let first = rest.read_u8()?;
-    if first < 128 {
-        *bytes = rest;
-        return Ok(u64::from(first));
-    }
-    let second = rest.read_u8()?;
-    if second < 128 {
-        *bytes = rest;
-        return Ok(u64::from(first % 128) + 128 * u64::from(second));
-    }
-    read_uleb128_on_copy(bytes)
-}
-
-// A signed LEB128 number, read in the same way.
-#[inline(always)]
-pub(crate) fn read_sleb128<R: Reader + Copy>(bytes: &mut R) -> Result<i64>
-    ensures { Reads (λ n. n) (R.text bytes.old) (R.text bytes.new) result
-        (sleb_at (R.text bytes.old).bytes) }
-{
-    let mut rest = *bytes;
-    let first = rest.read_u8()?;
-    if first < 128 {
-        *bytes = rest;
-        return Ok(last_byte(first));
-    }
-    let second = rest.read_u8()?;
-    if second < 128 {
-        *bytes = rest;
-        return Ok(i64::from(first % 128) + 128 * last_byte(second));
-    }
-    read_sleb128_on_copy(bytes)
-}
-
-// What the last byte of a signed number adds at its place: its seven bits, whose highest is the sign.
-#[inline(always)]
-fn last_byte(byte: u8) -> i64
-    requires { byte < 128 }
-    ensures value { result ≡ sign_extended byte 1 byte }
-    ensures least { neg_ℤ (pos 64) ≤ℤ result }
-    ensures most { result <ℤ pos 64 }
-{
-    i64::from((byte + 64) % 128) - 64
-}
-
-// A number of three bytes or more. The copy is made in a function of its own: a function begins by setting the room of
-// all its locals to zero, and most numbers are short.
-#[inline(always)]
-fn read_uleb128_on_copy<R: Reader + Copy>(bytes: &mut R) -> Result<u64>
-    ensures { Reads (λ n. n) (R.text bytes.old) (R.text bytes.new) result
-        (uleb_at (R.text bytes.old).bytes) }
-{
-    let mut copy = *bytes;
-    let number = read_long_uleb128(&mut copy)?;
-    *bytes = copy;
-    Ok(number)
-}
-
-#[inline(never)]
-fn read_long_uleb128<R: Reader>(bytes: &mut R) -> Result<u64>
-    ensures { Reads (λ n. n) (R.text bytes.old) (R.text bytes.new) result
-        (uleb_at (R.text bytes.old).bytes) }
-{
-    bytes.read_uleb128()
-}
-
-// The same of a signed number.
-#[inline(always)]
-fn read_sleb128_on_copy<R: Reader + Copy>(bytes: &mut R) -> Result<i64>
-    ensures { Reads (λ n. n) (R.text bytes.old) (R.text bytes.new) result
-        (sleb_at (R.text bytes.old).bytes) }
-{
-    let mut copy = *bytes;
-    let number = read_long_sleb128(&mut copy)?;
-    *bytes = copy;
-    Ok(number)
-}
-
-#[inline(never)]
-fn read_long_sleb128<R: Reader>(bytes: &mut R) -> Result<i64>
-    ensures { Reads (λ n. n) (R.text bytes.old) (R.text bytes.new) result
-        (sleb_at (R.text bytes.old).bytes) }
-{
-    bytes.read_sleb128()
-}
-
 // An unsigned number.
 #[inline(always)]
 pub(crate) fn read_unsigned<R: Reader + Copy>(shape: Unsigned, bytes: &mut R) -> Result<u64>
@@ -138,7 +45,7 @@ pub(crate) fn read_unsigned<R: Reader + Copy>(shape: Unsigned, bytes: &mut R) ->
         Unsigned::U16 => Ok(u64::from(bytes.read_u16()?)),
         Unsigned::U32 => Ok(u64::from(bytes.read_u32()?)),
         Unsigned::U64 => bytes.read_u64(),
-        Unsigned::Uleb128 => read_uleb128(bytes),
+        Unsigned::Uleb128 => bytes.read_uleb128(),
     }
 }
 
@@ -153,7 +60,7 @@ pub(crate) fn read_signed<R: Reader + Copy>(shape: Signed, bytes: &mut R) -> Res
         Signed::I16 => Ok(i64::from(read_i16(bytes)?)),
         Signed::I32 => Ok(i64::from(bytes.read_i32()?)),
         Signed::I64 => bytes.read_i64(),
-        Signed::Sleb128 => read_sleb128(bytes),
+        Signed::Sleb128 => bytes.read_sleb128(),
     }
 }
 
@@ -172,7 +79,7 @@ pub(crate) fn read_offset<R: Reader + Copy>(
         Offset::U8 => Ok(R::Offset::from_u8(read_u8(bytes)?)),
         Offset::U16 => Ok(R::Offset::from_u16(bytes.read_u16()?)),
         Offset::U32 => Ok(R::Offset::from_u32(bytes.read_u32()?)),
-        Offset::Uleb128 => R::Offset::from_u64(read_uleb128(bytes)?),
+        Offset::Uleb128 => R::Offset::from_u64(bytes.read_uleb128()?),
         Offset::Section => bytes.read_offset(encoding.format),
         Offset::Reference => {
             if encoding.version == 2 {
@@ -190,7 +97,7 @@ pub(crate) fn read_register<R: Reader + Copy>(bytes: &mut R) -> Result<Register>
     ensures { Reads (λ r. r.0) (R.text bytes.old) (R.text bytes.new) result
         (register_at (R.text bytes.old).bytes) }
 {
-    Register::from_u64(read_uleb128(bytes)?)
+    Register::from_u64(bytes.read_uleb128()?)
 }
 
 // The generic type: the base type at offset 0.

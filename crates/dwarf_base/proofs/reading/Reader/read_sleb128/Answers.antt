@@ -1,7 +1,8 @@
-use Rattle.std.proofs.Common.{rules, ◌%◌, refl, arith}
+use Rattle.std.proofs.Common.{rules, arith}
 use Rattle.std.proofs.lemmas.Int.{ints}
 use Rattle.std.proofs.lemmas.Result.{err_from_is_err_and}
-use Rattle.dwarf_base.proofs.LebSteps.{signed_none, signed_first_low, signed_first_high, signed_more}
+use Rattle.dwarf_base.proofs.LebSteps.{signed_none, signed_first, signed_second_none, signed_second, signed_second_more, gives_from}
+use Rattle.dwarf_base.proofs.Suffixes.{suffix_trans}
 use Rattle.dwarf_base.proofs.reading.Reader.read_sleb128.Goals as goal
 
 pub returns-in_err-first : goal.returns-in_err-first
@@ -13,17 +14,33 @@ returns-in_err-first g c = record {
   order = search rules;
 }
 
-pub returns-then-first-lt64 : goal.returns-then-first-lt64
-returns-then-first-lt64 g c = record { value = signed_first_low _ _ _ _ c.in_ok-first.ensures.value (omega (arith, ints)) (omega arith); rest = search rules; order = search rules }
-
 pub returns-then-first-lt128 : goal.returns-then-first-lt128
-returns-then-first-lt128 g c = record { value = signed_first_high _ _ _ _ c.in_ok-first.ensures.value (omega (arith, ints)) (omega arith) (omega arith); rest = search rules; order = search rules }
+returns-then-first-lt128 g c = record { value = signed_first _ _ _ _ c.in_ok-first.ensures.value (omega (arith, ints, c.last_byte.ensures.value)) (omega arith); rest = search rules; order = search rules }
+
+pub returns-in_err-second : goal.returns-in_err-second
+returns-in_err-second g c = record {
+  value =
+      let p = err_from_is_err_and c.from_residual-in_err-second.result c.from_residual-in_err-second.ensures.1 in
+      rw (p.1, p.2) (signed_second_none _ _ _ _ c.in_ok-first.ensures.value (omega arith) c.in_err-second.ensures.value);
+  rest = search rules;
+  order = search rules;
+}
+
+pub returns-then-second-lt128 : goal.returns-then-second-lt128
+returns-then-second-lt128 g c = record {
+  value =
+      signed_second _ _ _ _ _ _ c.in_ok-first.ensures.value (omega arith) c.in_ok-second.ensures.value (omega arith)
+      (omega (arith, ints, c.from.ensures, c.last_byte-then-second-lt128.ensures.value));
+  rest = search rules;
+  order = search rules;
+}
 
 pub returns : goal.returns
 returns g c = record {
   value =
-      let byte = c.in_ok-first.ensures.value in
-      rw (signed_more _ _ (c.in_ok-first.first % 128) _ byte refl (omega arith)) c.rest_of_sleb128.ensures.value;
-  rest = search rules;
+      let first = c.in_ok-first.ensures.value in
+      let second = c.in_ok-second.ensures.value in
+      gives_from c.rest_of_sleb128_on_copy.result (g.Self.Reader.text c.rest_of_sleb128_on_copy.new.reader).bytes _ _ c.rest_of_sleb128_on_copy.ensures.value (signed_second_more _ _ _ _ _ _ first (omega arith) second (omega arith) (omega arith));
+  rest = suffix_trans _ _ _ c.rest_of_sleb128_on_copy.ensures.rest (suffix_trans _ _ _ c.in_ok-second.ensures.rest c.in_ok-first.ensures.rest);
   order = search rules;
 }

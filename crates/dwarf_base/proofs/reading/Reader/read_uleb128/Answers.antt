@@ -1,6 +1,7 @@
-use Rattle.std.proofs.Common.{rules, ◌%◌, refl, arith}
+use Rattle.std.proofs.Common.{rules, arith}
 use Rattle.std.proofs.lemmas.Result.{err_from_is_err_and}
-use Rattle.dwarf_base.proofs.LebSteps.{unsigned_none, unsigned_first, unsigned_more}
+use Rattle.dwarf_base.proofs.LebSteps.{unsigned_none, unsigned_first, unsigned_second_none, unsigned_second, unsigned_second_more, gives_from}
+use Rattle.dwarf_base.proofs.Suffixes.{suffix_trans}
 use Rattle.dwarf_base.proofs.reading.Reader.read_uleb128.Goals as goal
 
 pub returns-in_err-first : goal.returns-in_err-first
@@ -15,11 +16,24 @@ returns-in_err-first g c = record {
 pub returns-then-first-lt128 : goal.returns-then-first-lt128
 returns-then-first-lt128 g c = record { value = unsigned_first _ _ _ _ c.in_ok-first.ensures.value (omega arith) (omega arith); rest = search rules; order = search rules }
 
+pub returns-in_err-second : goal.returns-in_err-second
+returns-in_err-second g c = record {
+  value =
+      let p = err_from_is_err_and c.from_residual-in_err-second.result c.from_residual-in_err-second.ensures.1 in
+      rw (p.1, p.2) (unsigned_second_none _ _ _ _ c.in_ok-first.ensures.value (omega arith) c.in_err-second.ensures.value);
+  rest = search rules;
+  order = search rules;
+}
+
+pub returns-then-second-lt128 : goal.returns-then-second-lt128
+returns-then-second-lt128 g c = record { value = unsigned_second _ _ _ _ _ _ c.in_ok-first.ensures.value (omega arith) c.in_ok-second.ensures.value (omega arith) (omega arith); rest = search rules; order = search rules }
+
 pub returns : goal.returns
 returns g c = record {
   value =
-      let byte = c.in_ok-first.ensures.value in
-      rw (unsigned_more _ _ (c.in_ok-first.first % 128) _ byte refl (omega arith)) c.rest_of_uleb128.ensures.value;
-  rest = search rules;
+      let first = c.in_ok-first.ensures.value in
+      let second = c.in_ok-second.ensures.value in
+      gives_from c.rest_of_uleb128_on_copy.result (g.Self.Reader.text c.rest_of_uleb128_on_copy.new.reader).bytes _ _ c.rest_of_uleb128_on_copy.ensures.value (unsigned_second_more _ _ _ _ _ _ first (omega arith) second (omega arith) (omega arith));
+  rest = suffix_trans _ _ _ c.rest_of_uleb128_on_copy.ensures.rest (suffix_trans _ _ _ c.in_ok-second.ensures.rest c.in_ok-first.ensures.rest);
   order = search rules;
 }

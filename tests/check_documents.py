@@ -66,11 +66,11 @@ PATH = re.compile(r"[\w.*/-]*(?:/[\w.*-]*|\.(?:rt|antt|edit|md|py|json|txt|rs|c|
 # A block whose fence names a file after its language.
 BLOCK = re.compile(r"^```\w+ (\S+)\n(.*?)^```$", re.MULTILINE | re.DOTALL)
 
-# The name and number of an opcode's constant; a name or a range of names in a list of operations; an arm of the
-# decoder's table, by a number or a range of them.
-CONSTANT = re.compile(r"^pub const (DW_OP_\w+): DwOp = DwOp\(0x(\w\w)\)", re.MULTILINE)
+# The name of an opcode's constant; a name or a range of names in a list of operations; a name within a range of the
+# decoder's table, which names its ends.
+CONSTANT = re.compile(r"^pub const (DW_OP_\w+): DwOp = ", re.MULTILINE)
 LISTED = re.compile(r"`(DW_OP_\w+?)(\d*)`(?: to `DW_OP_\w+?(\d+)`)?")
-ARM = re.compile(r"^        0x(\w\w)(?:\.\.=0x(\w\w))? => Entry::", re.MULTILINE)
+WITHIN = re.compile(r"DW_OP_b?(?:lit|reg)(?:[1-9]|[12]\d|30)")
 LIMITS = re.compile(r"(\d+)\s+values,\s+(\d+)\s+callers\s+and\s+(\d+)\s+pieces")
 FAULTS = re.compile(r"\b(\d+)\s+(?:faults|errors)\b")
 LIMIT = re.compile(r"#define DWEXPR_MAX_(?:VALUES|CALLERS|PIECES) (\d+)")
@@ -206,16 +206,15 @@ def partless():
 
 def operations():
     """The operations that are known: those of the guide's list, of the constants and of the decoder's table."""
-    constants = dict(CONSTANT.findall(read("crates/dwarf_base/src/constants.rt")))
+    constants = CONSTANT.findall(read("crates/dwarf_base/src/constants.rt"))
     of_guide = read(GUIDE).split("\n## The operations\n")[1].split("\n## ")[0].split("\n\n`DW_OP")[0]
     listed = []
     for name, first, last in LISTED.findall(of_guide):
         listed += [f"{name}{number}" for number in range(int(first), int(last) + 1)] if last else [name + first]
     yield None if sorted(listed) == sorted(constants) else f"{GUIDE} lists other operations than are known"
-    arms = ARM.findall(read("crates/dwarf_op/src/opcodes.rt"))
-    numbers = [number for first, last in arms for number in range(int(first, 16), int(last or first, 16) + 1)]
-    same = sorted(numbers) == sorted(int(number, 16) for number in constants.values())
-    yield None if same else "the decoder's table has other opcodes than there are constants"
+    rows = set(re.findall(r"\bDW_OP_\w+\b(?!`)", read("crates/dwarf_op/src/opcodes.rt")))
+    same = rows == {name for name in constants if not WITHIN.fullmatch(name)}
+    yield None if same else "the decoder's table names other operations than there are constants"
 
 
 def figures():

@@ -5,6 +5,21 @@ ghost use Rattle.dwarf_base.specs.declared.common.Encoding.{Encoding};
 ghost use Rattle.dwarf_meaning.specs.Opcodes.{row_of};
 ghost use Rattle.dwarf_op.specs.Entries.{entry_row};
 
+use dwarf_base::constants::*;
+
+// The first opcode and the last of each range.
+const LIT0: u8 = DW_OP_lit0.0;
+
+const LIT31: u8 = DW_OP_lit31.0;
+
+const REG0: u8 = DW_OP_reg0.0;
+
+const REG31: u8 = DW_OP_reg31.0;
+
+const BREG0: u8 = DW_OP_breg0.0;
+
+const BREG31: u8 = DW_OP_breg31.0;
+
 // An operation without fields.
 #[derive(Clone, Copy)]
 pub(crate) enum Plain {
@@ -175,92 +190,92 @@ pub(crate) enum Entry {
 pub(crate) fn entry_at(opcode: u8) -> Entry
     ensures { (encoding : Encoding) → entry_row encoding opcode result ≡ row_of encoding opcode }
 {
-    match opcode {
-        0x03 => Entry::Rare(Rare::Address), // addr
-        0x06 => Entry::Deref, // deref
-        0x08 => Entry::Constant(Unsigned::U8), // const1u
-        0x09 => Entry::SignedConstant(Signed::I8), // const1s
-        0x0a => Entry::Constant(Unsigned::U16), // const2u
-        0x0b => Entry::SignedConstant(Signed::I16), // const2s
-        0x0c => Entry::Constant(Unsigned::U32), // const4u
-        0x0d => Entry::SignedConstant(Signed::I32), // const4s
-        0x0e => Entry::Constant(Unsigned::U64), // const8u
-        0x0f => Entry::SignedConstant(Signed::I64), // const8s
-        0x10 => Entry::Constant(Unsigned::Uleb128), // constu
-        0x11 => Entry::SignedConstant(Signed::Sleb128), // consts
-        0x12 => Entry::Pick(0), // dup
-        0x13 => Entry::Plain(Plain::Drop), // drop
-        0x14 => Entry::Pick(1), // over
-        0x15 => Entry::Rare(Rare::PickByte), // pick
-        0x16 => Entry::Plain(Plain::Swap), // swap
-        0x17 => Entry::Plain(Plain::Rot), // rot
-        0x18 => Entry::Rare(Rare::SpaceDeref), // xderef
-        0x19 => Entry::Plain(Plain::Abs), // abs
-        0x1a => Entry::Plain(Plain::And), // and
-        0x1b => Entry::Plain(Plain::Div), // div
-        0x1c => Entry::Plain(Plain::Minus), // minus
-        0x1d => Entry::Plain(Plain::Mod), // mod
-        0x1e => Entry::Plain(Plain::Mul), // mul
-        0x1f => Entry::Plain(Plain::Neg), // neg
-        0x20 => Entry::Plain(Plain::Not), // not
-        0x21 => Entry::Plain(Plain::Or), // or
-        0x22 => Entry::Plain(Plain::Plus), // plus
-        0x23 => Entry::PlusConstant, // plus_uconst
-        0x24 => Entry::Plain(Plain::Shl), // shl
-        0x25 => Entry::Plain(Plain::Shr), // shr
-        0x26 => Entry::Plain(Plain::Shra), // shra
-        0x27 => Entry::Plain(Plain::Xor), // xor
-        0x28 => Entry::Bra, // bra
-        0x29 => Entry::Plain(Plain::Eq), // eq
-        0x2a => Entry::Plain(Plain::Ge), // ge
-        0x2b => Entry::Plain(Plain::Gt), // gt
-        0x2c => Entry::Plain(Plain::Le), // le
-        0x2d => Entry::Plain(Plain::Lt), // lt
-        0x2e => Entry::Plain(Plain::Ne), // ne
-        0x2f => Entry::Skip, // skip
-        0x30..=0x4f => Entry::Literal(opcode - 0x30), // lit0 to lit31
-        0x50..=0x6f => Entry::Register(opcode - 0x50), // reg0 to reg31
-        0x70..=0x8f => Entry::BaseRegister(opcode - 0x70), // breg0 to breg31
-        0x90 => Entry::Rare(Rare::NamedRegister), // regx
-        0x91 => Entry::FrameOffset, // fbreg
-        0x92 => Entry::Rare(Rare::NamedBaseRegister), // bregx
-        0x93 => Entry::Piece, // piece
-        0x94 => Entry::DerefSize, // deref_size
-        0x95 => Entry::Rare(Rare::SpaceDerefSize), // xderef_size
-        0x96 => Entry::Plain(Plain::Nop), // nop
-        0x97 => Entry::Plain(Plain::PushObjectAddress), // push_object_address
-        0x98 => Entry::Offset(Offset::U16, FromOffset::UnitCall), // call2
-        0x99 => Entry::Offset(Offset::U32, FromOffset::UnitCall), // call4
-        0x9a => Entry::Offset(Offset::Section, FromOffset::InfoCall), // call_ref
-        0x9b => Entry::Plain(Plain::TLS), // form_tls_address
-        0x9c => Entry::Plain(Plain::CallFrameCFA), // call_frame_cfa
-        0x9d => Entry::Rare(Rare::BitPiece), // bit_piece
-        0x9e => Entry::Rare(Rare::ImplicitValue), // implicit_value
-        0x9f => Entry::Plain(Plain::StackValue), // stack_value
-        0xa0 => Entry::Rare(Rare::ImplicitPointer), // implicit_pointer
-        0xa1 => Entry::Offset(Offset::Uleb128, FromOffset::AddressIndex), // addrx
-        0xa2 => Entry::Offset(Offset::Uleb128, FromOffset::ConstantIndex), // constx
-        0xa3 => Entry::Rare(Rare::EntryValue), // entry_value
-        0xa4 => Entry::Rare(Rare::TypedLiteral), // const_type
-        0xa5 => Entry::Rare(Rare::TypedRegister), // regval_type
-        0xa6 => Entry::Rare(Rare::TypedDeref(false)), // deref_type
-        0xa7 => Entry::Rare(Rare::TypedDeref(true)), // xderef_type
-        0xa8 => Entry::Offset(Offset::Uleb128, FromOffset::Convert), // convert
-        0xa9 => Entry::Offset(Offset::Uleb128, FromOffset::Reinterpret), // reinterpret
-        0xe0 => Entry::Plain(Plain::TLS), // GNU_push_tls_address
-        0xed => Entry::Rare(Rare::WasmLocation), // WASM_location
-        0xf0 => Entry::Plain(Plain::Uninitialized), // GNU_uninit
-        0xf2 => Entry::Rare(Rare::ImplicitPointer), // GNU_implicit_pointer
-        0xf3 => Entry::Rare(Rare::EntryValue), // GNU_entry_value
-        0xf4 => Entry::Rare(Rare::TypedLiteral), // GNU_const_type
-        0xf5 => Entry::Rare(Rare::TypedRegister), // GNU_regval_type
-        0xf6 => Entry::Rare(Rare::TypedDeref(false)), // GNU_deref_type
-        0xf7 => Entry::Offset(Offset::Uleb128, FromOffset::Convert), // GNU_convert
-        0xf9 => Entry::Offset(Offset::Uleb128, FromOffset::Reinterpret), // GNU_reinterpret
-        0xfa => Entry::Offset(Offset::U32, FromOffset::ParameterRef), // GNU_parameter_ref
-        0xfb => Entry::Offset(Offset::Uleb128, FromOffset::AddressIndex), // GNU_addr_index
-        0xfc => Entry::Offset(Offset::Uleb128, FromOffset::ConstantIndex), // GNU_const_index
-        0xfd => Entry::Offset(Offset::Section, FromOffset::VariableValue), // GNU_variable_value
+    match DwOp(opcode) {
+        DW_OP_addr => Entry::Rare(Rare::Address),
+        DW_OP_deref => Entry::Deref,
+        DW_OP_const1u => Entry::Constant(Unsigned::U8),
+        DW_OP_const1s => Entry::SignedConstant(Signed::I8),
+        DW_OP_const2u => Entry::Constant(Unsigned::U16),
+        DW_OP_const2s => Entry::SignedConstant(Signed::I16),
+        DW_OP_const4u => Entry::Constant(Unsigned::U32),
+        DW_OP_const4s => Entry::SignedConstant(Signed::I32),
+        DW_OP_const8u => Entry::Constant(Unsigned::U64),
+        DW_OP_const8s => Entry::SignedConstant(Signed::I64),
+        DW_OP_constu => Entry::Constant(Unsigned::Uleb128),
+        DW_OP_consts => Entry::SignedConstant(Signed::Sleb128),
+        DW_OP_dup => Entry::Pick(0),
+        DW_OP_drop => Entry::Plain(Plain::Drop),
+        DW_OP_over => Entry::Pick(1),
+        DW_OP_pick => Entry::Rare(Rare::PickByte),
+        DW_OP_swap => Entry::Plain(Plain::Swap),
+        DW_OP_rot => Entry::Plain(Plain::Rot),
+        DW_OP_xderef => Entry::Rare(Rare::SpaceDeref),
+        DW_OP_abs => Entry::Plain(Plain::Abs),
+        DW_OP_and => Entry::Plain(Plain::And),
+        DW_OP_div => Entry::Plain(Plain::Div),
+        DW_OP_minus => Entry::Plain(Plain::Minus),
+        DW_OP_mod => Entry::Plain(Plain::Mod),
+        DW_OP_mul => Entry::Plain(Plain::Mul),
+        DW_OP_neg => Entry::Plain(Plain::Neg),
+        DW_OP_not => Entry::Plain(Plain::Not),
+        DW_OP_or => Entry::Plain(Plain::Or),
+        DW_OP_plus => Entry::Plain(Plain::Plus),
+        DW_OP_plus_uconst => Entry::PlusConstant,
+        DW_OP_shl => Entry::Plain(Plain::Shl),
+        DW_OP_shr => Entry::Plain(Plain::Shr),
+        DW_OP_shra => Entry::Plain(Plain::Shra),
+        DW_OP_xor => Entry::Plain(Plain::Xor),
+        DW_OP_bra => Entry::Bra,
+        DW_OP_eq => Entry::Plain(Plain::Eq),
+        DW_OP_ge => Entry::Plain(Plain::Ge),
+        DW_OP_gt => Entry::Plain(Plain::Gt),
+        DW_OP_le => Entry::Plain(Plain::Le),
+        DW_OP_lt => Entry::Plain(Plain::Lt),
+        DW_OP_ne => Entry::Plain(Plain::Ne),
+        DW_OP_skip => Entry::Skip,
+        DwOp(LIT0..=LIT31) => Entry::Literal(opcode - LIT0),
+        DwOp(REG0..=REG31) => Entry::Register(opcode - REG0),
+        DwOp(BREG0..=BREG31) => Entry::BaseRegister(opcode - BREG0),
+        DW_OP_regx => Entry::Rare(Rare::NamedRegister),
+        DW_OP_fbreg => Entry::FrameOffset,
+        DW_OP_bregx => Entry::Rare(Rare::NamedBaseRegister),
+        DW_OP_piece => Entry::Piece,
+        DW_OP_deref_size => Entry::DerefSize,
+        DW_OP_xderef_size => Entry::Rare(Rare::SpaceDerefSize),
+        DW_OP_nop => Entry::Plain(Plain::Nop),
+        DW_OP_push_object_address => Entry::Plain(Plain::PushObjectAddress),
+        DW_OP_call2 => Entry::Offset(Offset::U16, FromOffset::UnitCall),
+        DW_OP_call4 => Entry::Offset(Offset::U32, FromOffset::UnitCall),
+        DW_OP_call_ref => Entry::Offset(Offset::Section, FromOffset::InfoCall),
+        DW_OP_form_tls_address => Entry::Plain(Plain::TLS),
+        DW_OP_call_frame_cfa => Entry::Plain(Plain::CallFrameCFA),
+        DW_OP_bit_piece => Entry::Rare(Rare::BitPiece),
+        DW_OP_implicit_value => Entry::Rare(Rare::ImplicitValue),
+        DW_OP_stack_value => Entry::Plain(Plain::StackValue),
+        DW_OP_implicit_pointer => Entry::Rare(Rare::ImplicitPointer),
+        DW_OP_addrx => Entry::Offset(Offset::Uleb128, FromOffset::AddressIndex),
+        DW_OP_constx => Entry::Offset(Offset::Uleb128, FromOffset::ConstantIndex),
+        DW_OP_entry_value => Entry::Rare(Rare::EntryValue),
+        DW_OP_const_type => Entry::Rare(Rare::TypedLiteral),
+        DW_OP_regval_type => Entry::Rare(Rare::TypedRegister),
+        DW_OP_deref_type => Entry::Rare(Rare::TypedDeref(false)),
+        DW_OP_xderef_type => Entry::Rare(Rare::TypedDeref(true)),
+        DW_OP_convert => Entry::Offset(Offset::Uleb128, FromOffset::Convert),
+        DW_OP_reinterpret => Entry::Offset(Offset::Uleb128, FromOffset::Reinterpret),
+        DW_OP_GNU_push_tls_address => Entry::Plain(Plain::TLS),
+        DW_OP_WASM_location => Entry::Rare(Rare::WasmLocation),
+        DW_OP_GNU_uninit => Entry::Plain(Plain::Uninitialized),
+        DW_OP_GNU_implicit_pointer => Entry::Rare(Rare::ImplicitPointer),
+        DW_OP_GNU_entry_value => Entry::Rare(Rare::EntryValue),
+        DW_OP_GNU_const_type => Entry::Rare(Rare::TypedLiteral),
+        DW_OP_GNU_regval_type => Entry::Rare(Rare::TypedRegister),
+        DW_OP_GNU_deref_type => Entry::Rare(Rare::TypedDeref(false)),
+        DW_OP_GNU_convert => Entry::Offset(Offset::Uleb128, FromOffset::Convert),
+        DW_OP_GNU_reinterpret => Entry::Offset(Offset::Uleb128, FromOffset::Reinterpret),
+        DW_OP_GNU_parameter_ref => Entry::Offset(Offset::U32, FromOffset::ParameterRef),
+        DW_OP_GNU_addr_index => Entry::Offset(Offset::Uleb128, FromOffset::AddressIndex),
+        DW_OP_GNU_const_index => Entry::Offset(Offset::Uleb128, FromOffset::ConstantIndex),
+        DW_OP_GNU_variable_value => Entry::Offset(Offset::Section, FromOffset::VariableValue),
         _ => Entry::Unknown,
     }
 }

@@ -1,5 +1,5 @@
 -- What an answer of the kind that is waited for gives.
-use Rattle.std.proofs.Common.{ℕ, ℤ, pos, ◌≡◌, ◌+ℤ◌, List, [], ◌∷◌, Result, Ok, Err, ap, ◌∙◌, sym, refl}
+use Rattle.std.proofs.Common.{ℕ, ℤ, pos, ◌≡◌, ◌+ℤ◌, List, [], ◌∷◌, Option, Some, None, Result, Ok, Err, ap, ◌∙◌, sym, refl, subst}
 use Rattle.dwarf_base.specs.declared.errors.Error.{Error}
 use Rattle.dwarf_base.specs.Faults.{fault_of}
 use Rattle.dwarf_base.specs.declared.errors.Error.TheVariants.{NotEnoughStackItems}
@@ -9,55 +9,69 @@ use Rattle.dwarf_value.specs.declared.types.Value.{Value}
 use Rattle.dwarf_value.specs.declared.types.Value.TheVariants.{Generic}
 use Rattle.dwarf_value.specs.declared.types.ValueType.{ValueType}
 use Rattle.dwarf_value.specs.Values.{from_u64_of, type_of, convert_of, reinterpret_of, parse_of, binary_of, Plus}
-use Rattle.dwarf_meaning.specs.declared.kinds.WaitingKind.TheVariants as kind
 use Rattle.dwarf_meaning.specs.Kinds.{kind_of_request}
 use Rattle.dwarf_meaning.specs.declared.kinds.WaitingKind.{WaitingKind}
-use Rattle.dwarf_meaning.specs.Requests.{Request, OnAnswer, Push, Add, Parse, Convert, Reinterpret, ValueAnswer, NumberAnswer, LocationAnswer, BaseTypeAnswer}
+use Rattle.dwarf_meaning.specs.Requests.{Request, OnAnswer, Add, Parse, Convert, Reinterpret, ValueAnswer, NumberAnswer, LocationAnswer, BaseTypeAnswer}
 use Rattle.dwarf_meaning.specs.Acts.{Use, PushesAnswer, Calls, FaultUse, on_top, on_result, use_of}
 use Rattle.dwarf_meaning.specs.Rest.{Status, Start, Running, RequestStatus, CompleteStatus, FaultStatus}
 use Rattle.dwarf_meaning.proofs.Choices.{answer_ok, answer_err, fault_of_twice, top_none, top_some}
-use Rattle.dwarf_eval.specs.inner.Answers.{IsFor, IsWaitingFor, IsWaitingTo}
+use Rattle.dwarf_eval.specs.Permits.{IsOpenFor}
+use Rattle.dwarf_eval.specs.inner.Answers.{IsWaiting}
+use Rattle.dwarf_eval.specs.inner.Machine.{on_answer_of, replied_status}
+use Rattle.dwarf_eval.specs.declared.run.states.OnAnswer as code
+use Rattle.dwarf_eval.specs.declared.run.states.OnAnswer.TheVariants as on
 
 -- ---- the open request
 
--- a request of this kind is open
-pub record IsOpen (kind : WaitingKind) (status : Status) : Type 0 where
+-- a request is open
+pub record IsOpen (status : Status) : Type 0 where
   pub request : Request
   pub on_answer : OnAnswer
   pub is : status ≡ RequestStatus request on_answer
-  pub fits : kind_of_request request ≡ kind
-  pub is_for : IsFor kind on_answer
+
+pub open_in : (status : Status) → IsWaiting status → IsOpen status
+open_in (RequestStatus request on_answer) h = record { request = request; on_answer = on_answer; is = refl }
+open_in (Start initial_value) h = absurd h
+open_in (CompleteStatus value) h = absurd h
+open_in (FaultStatus error) h = absurd h
+open_in Running h = absurd h
 
 -- a request of this kind is open, to do this with its answer
-pub record IsOpenTo (kind : WaitingKind) (wanted : OnAnswer) (status : Status) : Type 0 where
+pub record IsOpenTo (kind : WaitingKind) (on_answer : OnAnswer) (status : Status) : Type 0 where
   pub request : Request
-  pub is : status ≡ RequestStatus request wanted
+  pub is : status ≡ RequestStatus request on_answer
   pub fits : kind_of_request request ≡ kind
 
-pub open_to : (kind : WaitingKind) (wanted : OnAnswer) (status : Status) → IsWaitingTo kind wanted status → IsOpenTo kind wanted status
-open_to kind wanted (RequestStatus request on_answer) h = record { request = request; is = ap (RequestStatus request) h.1; fits = h.0 }
-open_to kind wanted (Start initial_value) h = absurd h
-open_to kind wanted (CompleteStatus value) h = absurd h
-open_to kind wanted (FaultStatus error) h = absurd h
-open_to kind wanted Running h = absurd h
+pub open_to : (kind : WaitingKind) (wanted : OnAnswer) (status : Status) → IsOpenFor kind status → (now : IsOpen status) → now.on_answer ≡ wanted → IsOpenTo kind wanted status
+open_to kind wanted status h now e = record { request = now.request; is = now.is ∙ ap (RequestStatus now.request) e; fits = subst (IsOpenFor kind) now.is h }
 
-pub open_for : (kind : WaitingKind) (status : Status) → IsWaitingFor kind status → IsOpen kind status
-open_for kind (RequestStatus request on_answer) h = record { request = request; on_answer = on_answer; is = refl; fits = h.0; is_for = h.1 }
-open_for kind (Start initial_value) h = absurd h
-open_for kind (CompleteStatus value) h = absurd h
-open_for kind (FaultStatus error) h = absurd h
-open_for kind Running h = absurd h
+asked_waits : (asked : Option Request) (on_answer : OnAnswer) (kind : WaitingKind) → IsOpenFor kind (replied_status asked on_answer) → IsWaiting (replied_status asked on_answer)
+asked_waits None on_answer kind h = h
+asked_waits (Some request) on_answer kind h = tt
+
+-- what was replied is a request, if one of this kind is open
+pub replied_waits : (asked : Option Request) (on_answer : OnAnswer) (kind : WaitingKind) (status : Status) → status ≡ replied_status asked on_answer → IsOpenFor kind status → IsWaiting status
+replied_waits asked on_answer kind status e h = subst IsWaiting (sym e) (asked_waits asked on_answer kind (subst (IsOpenFor kind) e h))
 
 -- ---- answers that are pushed as they are
 
 module _ (bits : ℕ) (values : List Value) where
-  pub value_gives : (on_answer : OnAnswer) (kind : WaitingKind) (v : Value) → on_answer ≡ Push → use_of bits on_answer (ValueAnswer kind v) values ≡ PushesAnswer values v
-  unfolding use_of
-  value_gives on_answer kind v e = ap (λ (o : OnAnswer). use_of bits o (ValueAnswer kind v) values) e
+  module _ {R : Type 0} (text : R → Text) (kind : WaitingKind) where
+    pub value_gives : (on_answer : code.OnAnswer R) (v : Value) → ((offset : ℤ) → on_answer ≡ on.Add offset → ⊥) → use_of bits (on_answer_of text on_answer) (ValueAnswer kind v) values ≡ PushesAnswer values v
+    unfolding use_of
+    value_gives (on.Add offset) v other = absurd (other offset refl)
+    value_gives on.Push v other = refl
+    value_gives (on.Parse literal) v other = refl
+    value_gives on.Convert v other = refl
+    value_gives on.Reinterpret v other = refl
 
-  pub number_gives : (on_answer : OnAnswer) (kind : WaitingKind) (n : ℕ) → on_answer ≡ Push → use_of bits on_answer (NumberAnswer kind n) values ≡ PushesAnswer values (Generic n)
-  unfolding use_of
-  number_gives on_answer kind n e = ap (λ (o : OnAnswer). use_of bits o (NumberAnswer kind n) values) e
+    pub number_gives : (on_answer : code.OnAnswer R) (n : ℕ) → ((offset : ℤ) → on_answer ≡ on.Add offset → ⊥) → use_of bits (on_answer_of text on_answer) (NumberAnswer kind n) values ≡ PushesAnswer values (Generic n)
+    unfolding use_of
+    number_gives (on.Add offset) n other = absurd (other offset refl)
+    number_gives on.Push n other = refl
+    number_gives (on.Parse literal) n other = refl
+    number_gives on.Convert n other = refl
+    number_gives on.Reinterpret n other = refl
 
   pub location_calls : (on_answer : OnAnswer) (text : Text) → use_of bits on_answer (LocationAnswer text) values ≡ Calls text
   unfolding use_of
@@ -65,19 +79,19 @@ module _ (bits : ℕ) (values : List Value) where
 
   -- ---- answers from which a value is made
 
-  register_is : (offset : ℤ) (x : Value) → use_of bits (Add offset) (ValueAnswer kind.Register x) values ≡ on_result (binary_of Plus bits x (from_u64_of (type_of x) (residue 64 offset))) FaultUse (PushesAnswer values)
+  sum_is : (kind : WaitingKind) (offset : ℤ) (x : Value) → use_of bits (Add offset) (ValueAnswer kind x) values ≡ on_result (binary_of Plus bits x (from_u64_of (type_of x) (residue 64 offset))) FaultUse (PushesAnswer values)
   unfolding use_of
-  register_is offset x = refl
+  sum_is kind offset x = refl
 
-  pub register_gives : (offset : ℤ) (x v : Value) → binary_of Plus bits x (from_u64_of (type_of x) (residue 64 offset)) ≡ Ok v → use_of bits (Add offset) (ValueAnswer kind.Register x) values ≡ PushesAnswer values v
-  register_gives offset x v e = register_is offset x ∙ answer_ok (binary_of Plus bits x (from_u64_of (type_of x) (residue 64 offset))) FaultUse (PushesAnswer values) v e
+  pub sum_gives : (kind : WaitingKind) (offset : ℤ) (x v : Value) → binary_of Plus bits x (from_u64_of (type_of x) (residue 64 offset)) ≡ Ok v → use_of bits (Add offset) (ValueAnswer kind x) values ≡ PushesAnswer values v
+  sum_gives kind offset x v e = sum_is kind offset x ∙ answer_ok (binary_of Plus bits x (from_u64_of (type_of x) (residue 64 offset))) FaultUse (PushesAnswer values) v e
 
-  pub register_denies : (offset : ℤ) (x : Value) (error : Error) → binary_of Plus bits x (from_u64_of (type_of x) (residue 64 offset)) ≡ Err error → use_of bits (Add offset) (ValueAnswer kind.Register x) values ≡ FaultUse (fault_of error)
-  register_denies offset x error e = register_is offset x ∙ answer_err (binary_of Plus bits x (from_u64_of (type_of x) (residue 64 offset))) FaultUse (PushesAnswer values) error e
+  pub sum_denies : (kind : WaitingKind) (offset : ℤ) (x : Value) (error : Error) → binary_of Plus bits x (from_u64_of (type_of x) (residue 64 offset)) ≡ Err error → use_of bits (Add offset) (ValueAnswer kind x) values ≡ FaultUse (fault_of error)
+  sum_denies kind offset x error e = sum_is kind offset x ∙ answer_err (binary_of Plus bits x (from_u64_of (type_of x) (residue 64 offset))) FaultUse (PushesAnswer values) error e
 
-  pub frame_base_gives : (offset : ℤ) (base number : ℕ) → number ≡ residue 64 (pos base +ℤ offset) → use_of bits (Add offset) (NumberAnswer kind.FrameBase base) values ≡ PushesAnswer values (Generic number)
+  pub offset_gives : (kind : WaitingKind) (offset : ℤ) (base number : ℕ) → number ≡ residue 64 (pos base +ℤ offset) → use_of bits (Add offset) (NumberAnswer kind base) values ≡ PushesAnswer values (Generic number)
   unfolding use_of
-  frame_base_gives offset base number e = ap (λ (n : ℕ). PushesAnswer values (Generic n)) (sym e)
+  offset_gives kind offset base number e = ap (λ (n : ℕ). PushesAnswer values (Generic n)) (sym e)
 
   literal_is : (literal : Text) (t : ValueType) → use_of bits (Parse literal) (BaseTypeAnswer t) values ≡ on_result (parse_of t literal.is_big literal.bytes) FaultUse (PushesAnswer values)
   unfolding use_of
@@ -131,3 +145,12 @@ module _ (bits : ℕ) (values : List Value) where
   pub reinterpret_denies : (t : ValueType) (x : Value) (rest : List Value) (error : Error) → values ≡ x ∷ rest → reinterpret_of bits t x ≡ Err error → use_of bits Reinterpret (BaseTypeAnswer t) values ≡ FaultUse (fault_of error)
   unfolding use_of
   reinterpret_denies t x rest error e f = turned_err reinterpret_of t x rest error e f
+
+  -- what isn't parsed or converted is reinterpreted
+  pub reinterpret_is : {R : Type 0} (text : R → Text) (t : ValueType) (on_answer : code.OnAnswer R) → ((literal : R) → on_answer ≡ on.Parse literal → ⊥) → (on_answer ≡ on.Convert → ⊥) → use_of bits (on_answer_of text on_answer) (BaseTypeAnswer t) values ≡ use_of bits Reinterpret (BaseTypeAnswer t) values
+  unfolding use_of
+  reinterpret_is text t (on.Parse literal) not_parsed not_converted = absurd (not_parsed literal refl)
+  reinterpret_is text t on.Convert not_parsed not_converted = absurd (not_converted refl)
+  reinterpret_is text t on.Push not_parsed not_converted = refl
+  reinterpret_is text t (on.Add offset) not_parsed not_converted = refl
+  reinterpret_is text t on.Reinterpret not_parsed not_converted = refl

@@ -1,20 +1,14 @@
 -- A call answers what the meaning gives, and what is left is what the meaning gives for the inputs to come.
-use Rattle.std.proofs.Common.{ℕ, zero, suc, ◌≡◌, List, [], ◌∷◌, Result, true, false, ap, ◌∙◌, sym, refl, subst, arith}
-use Rattle.std.proofs.lemmas.Bool.{false≢true, true≢false}
+use Rattle.std.proofs.Common.{ℕ, zero, suc, ◌≡◌, List, [], ◌∷◌, ap, ◌∙◌, sym, refl, subst, arith}
 use Rattle.dwarf_base.specs.declared.errors.Error.{Error}
 use Rattle.dwarf_base.specs.Faults.{fault_of}
-use Rattle.dwarf_base.specs.Reads.{Text}
 use Rattle.dwarf_meaning.specs.Requests.{Input}
 use Rattle.dwarf_meaning.specs.Bounds.{faults_in}
-use Rattle.dwarf_meaning.specs.Rest.{State, Status, Start, Running, RequestStatus, CompleteStatus, FaultStatus, with_refusal, Total, total_by, total, total_after}
+use Rattle.dwarf_meaning.specs.Rest.{State, Status, Start, Running, RequestStatus, CompleteStatus, FaultStatus, with_refusal, Total, total_by, total}
 use Rattle.dwarf_meaning.specs.Steps.{Reply, reply}
 use Rattle.dwarf_meaning.specs.Refusals.{Refusal, Never, After, before_pushes, IsLater}
-use Rattle.dwarf_eval.specs.Evaluation.{Follows, IsReplied, Resumes, reply_of}
-use Rattle.dwarf_eval.specs.Permits.{IsOpenFor}
-use Rattle.dwarf_eval.specs.inner.Answers.{IsAtRestBy, IsEndedBy, IsFor, IsWaitingFor}
-use Rattle.dwarf_eval.specs.declared.op.results.EvaluationResult.{EvaluationResult}
-use Rattle.dwarf_meaning.specs.declared.kinds.WaitingKind.{WaitingKind}
-use Rattle.dwarf_eval.specs.inner.Steps.{has_failed, Reaches, Falls, ComesBy, Comes}
+use Rattle.dwarf_eval.specs.Evaluation.{Follows, IsReplied}
+use Rattle.dwarf_eval.specs.inner.Steps.{Reaches, Falls, ComesBy, Comes}
 use Rattle.dwarf_eval.proofs.Refusals.{before_never, before_later}
 use Rattle.dwarf_eval.proofs.Totals.{course_open}
 pub use Rattle.dwarf_eval.proofs.Totals.{total_open, total_complete, total_meaning}
@@ -88,30 +82,3 @@ module _ (old : State) (totals : Refusal → List Input → Total) (new : State)
   -- a call that replies answers its outcome
   pub comes_follow : Comes old totals new → IsReplied told new.status → Follows old totals told new
   comes_follow h t = follows_by new.status refl h t
-
--- ---- a resume, by whether a fault was met
-
--- a request is open, if there was no fault, and waits for what it asks for
-pub waits : (x : State) (kind : WaitingKind) (status : Status) → has_failed status ≡ false → IsAtRestBy x status → IsOpenFor kind status → IsWaitingFor kind status
-waits x kind (RequestStatus request on_answer) e is_for h = (h, subst (λ (k : WaitingKind). IsFor k on_answer) h is_for)
-waits x kind (FaultStatus error) e agrees h = absurd (true≢false e)
-waits x kind Running e agrees h = absurd h
-waits x kind (Start initial_value) e agrees h = absurd h
-waits x kind (CompleteStatus value) e agrees h = absurd h
-
-module _ {R O P : Type 0} (text : R → Text) (number : O → ℕ) (input : Input) (x new : State) (replied : Result (EvaluationResult R O P) Error) where
-  -- a request took the input
-  pub resumed : (kind : WaitingKind) (status : Status) → IsWaitingFor kind status → Follows x (total_after x input) (reply_of text number replied) new → Resumes text number input x new replied status
-  resumed kind (RequestStatus request on_answer) w h = h
-  resumed kind (FaultStatus error) w h = absurd w
-  resumed kind Running w h = absurd w
-  resumed kind (Start initial_value) w h = absurd w
-  resumed kind (CompleteStatus value) w h = absurd w
-
-  -- a fault is given again
-  pub failed_again : (status : Status) → has_failed status ≡ true → IsEndedBy replied status → Resumes text number input x x replied status
-  failed_again (FaultStatus error) e h = (h, refl)
-  failed_again (RequestStatus request on_answer) e h = absurd (false≢true e)
-  failed_again Running e h = tt
-  failed_again (Start initial_value) e h = tt
-  failed_again (CompleteStatus value) e h = tt

@@ -4,27 +4,26 @@ use Rattle.dwarf_base.specs.declared.errors.Error.{Error}
 use Rattle.dwarf_base.specs.Faults.{Fault, fault_of}
 use Rattle.dwarf_base.specs.Reads.{Text}
 use Rattle.dwarf_value.specs.declared.types.Value.{Value}
-use Rattle.dwarf_value.specs.declared.types.Value.TheVariants.{Generic}
 use denote.Enum.Bare.{true_same}
 use Rattle.std.proofs.lemmas.Bool.{cond-true}
 use Rattle.dwarf_meaning.specs.contracts.kinds.WaitingKind.{the_type}
 use Rattle.dwarf_meaning.specs.declared.kinds.WaitingKind.{WaitingKind}
 use Rattle.dwarf_meaning.specs.Kinds.{kind_of_request, kind_of_answer, is_same_kind}
-use Rattle.dwarf_meaning.specs.Requests.{Request, OnAnswer, Push, Answer, ValueAnswer, NumberAnswer, Input}
+use Rattle.dwarf_meaning.specs.Requests.{Request, OnAnswer, Answer, Input}
 use Rattle.dwarf_meaning.specs.Acts.{Use, PushesAnswer, Calls, FaultUse, use_of}
 use Rattle.dwarf_meaning.specs.RunLaws.{waits_of}
 use Rattle.dwarf_meaning.specs.Stores.{address_bits, Store, Last, Pushed, Called, push_value, push_caller}
-use Rattle.dwarf_meaning.specs.Run.{Position, Course, run_callee, enter_callee, after_push, after_answer, run}
+use Rattle.dwarf_meaning.specs.Run.{Position, Course, run_callee, enter_callee, after_push, run}
 use Rattle.dwarf_meaning.specs.Meaning.{FaultOutcome}
-use Rattle.dwarf_meaning.specs.Rest.{State, Running, RequestStatus, FaultStatus, with_refusal, total_of_course}
+use Rattle.dwarf_meaning.specs.Rest.{State, Status, Start, Running, RequestStatus, CompleteStatus, FaultStatus, with_refusal, total_of_course}
 use Rattle.dwarf_meaning.specs.Refusals.{Refusal, Never, After, taken, MayPick, before_input, before_pushes}
 use Rattle.dwarf_meaning.proofs.Counts.{HasTally, OnStore, Tally, tally_of, tally-push_caller}
 use Rattle.dwarf_meaning.proofs.Effects.{IsUseOf, use_is}
 use Rattle.dwarf_meaning.specs.Bounds.{waiting, faults_in}
 use Rattle.dwarf_meaning.specs.Inputs.{input_of, with_status}
-use Rattle.dwarf_eval.specs.inner.Steps.{Total, total_after, Does, Refused, Stays, Tries, Tried, Enters, TriesToEnter, ComesBy, Takes, with_last, with_values}
-use Rattle.dwarf_eval.specs.inner.Answers.{IsFor, IsWaitingFor}
-use Rattle.dwarf_eval.proofs.AnswerUses.{open_for, value_gives, number_gives}
+use Rattle.dwarf_eval.specs.inner.Steps.{Total, total_after, total_used, Does, Refused, Stays, Tries, Tried, Enters, TriesToEnter, Comes, ComesBy, Takes, with_last, with_values}
+use Rattle.dwarf_eval.specs.inner.Answers.{IsWaiting}
+use Rattle.dwarf_eval.proofs.AnswerUses.{IsOpen, IsOpenTo, open_in}
 use Rattle.dwarf_eval.proofs.Endings.{AllGiven}
 use Rattle.dwarf_eval.proofs.Loads.{HasLast, HasPieces, Keeping, kept_in, value_adds, value_last, value_pieces, frame_adds, frame_last, frame_pieces}
 use Rattle.dwarf_eval.proofs.Nearing.{nears_by}
@@ -41,26 +40,44 @@ taken_before : (r : Refusal) → taken (before_input r) ≡ r
 taken_before Never = refl
 taken_before (After inputs pushes) = refl
 
-module _ (x : State) (request : Request) (on_answer : OnAnswer) (open_now : x.status ≡ RequestStatus request on_answer) (answer : Answer) (fits : kind_of_request request ≡ kind_of_answer answer) where
+-- an answer to the open request, if it is of its kind
+module _ (x : State) (on_answer : OnAnswer) (answer : Answer) where
+  module _ (new : State) (request : Request) (open_now : x.status ≡ RequestStatus request on_answer) (fits : kind_of_request request ≡ kind_of_answer answer) where
+    totals_used : (r : Refusal) (inputs : List Input) → total_after x (input_of x answer) r inputs ≡ total_used x (use_of (address_bits x.setup) on_answer answer x.store.values) r inputs
+    totals_used r inputs =
+        let used : Use = use_of (address_bits x.setup) on_answer answer x.store.values in
+        total_waits (before_input r) x (input_of x answer ∷ inputs) request on_answer open_now
+        ∙ (ap (total_of_course x.store.count x.setup x.callers) (cond-true (is_same_kind (kind_of_request request) (kind_of_answer answer)) _ _ (same_kinds fits))
+        ∙ ap (λ (q : Refusal). total_used x used q inputs) (taken_before r))
+
+    answered_by : (status : Status) → ComesBy x (total_used x (use_of (address_bits x.setup) on_answer answer x.store.values)) new status → ComesBy x (total_after x (input_of x answer)) new status
+    answered_by (FaultStatus error) h = record { refusal = h.refusal; may = h.may; same = λ inputs. totals_used h.refusal inputs ∙ h.same inputs; kept = h.kept; spends = h.spends }
+    answered_by (Start initial_value) h = h
+    answered_by Running h = record { pushes = h.pushes; same = λ r inputs. totals_used (before_pushes h.pushes r) inputs ∙ h.same r inputs; kept = h.kept; spends = h.spends; nears = h.nears }
+    answered_by (RequestStatus other wanted) h = record { pushes = h.pushes; same = λ r inputs. totals_used (before_pushes h.pushes r) inputs ∙ h.same r inputs; kept = h.kept; spends = h.spends; nears = h.nears }
+    answered_by (CompleteStatus value) h = record { pushes = h.pushes; same = λ r inputs. totals_used (before_pushes h.pushes r) inputs ∙ h.same r inputs; kept = h.kept; spends = h.spends; nears = h.nears }
+
+  pub answer_comes : (new : State) → IsOpenTo (kind_of_answer answer) on_answer x.status → Takes on_answer answer x new → Comes x (total_after x (input_of x answer)) new
+  answer_comes new now h = answered_by new now.request now.is now.fits new.status h
+
+module _ (x : State) (waits : IsWaiting x.status) (on_answer : OnAnswer) (answer : Answer) where
   abbrev position : Position
   position = record { text = x.text; place = x.place }
 
+  abbrev used : Use
+  used = use_of (address_bits x.setup) on_answer answer x.store.values
+
   abbrev totals : Refusal → List Input → Total
-  totals = total_after x (input_of x answer)
+  totals = total_used x used
 
-  -- what is kept once the answer is taken; the settings are those of the state
-  abbrev use_total : (r : Refusal) → List Input → Refusal → Use → Total
-  use_total r inputs q u = total_of_course x.store.count x.setup x.callers (after_answer (run x.setup) x.setup position (length x.callers) u (with_refusal q x.store) inputs)
+  now : IsOpen x.status
+  now = open_in x.status waits
 
-  answer_rest : (r : Refusal) (inputs : List Input) (u : Use) → use_of (address_bits x.setup) on_answer answer x.store.values ≡ u → totals r inputs ≡ use_total r inputs r u
-  answer_rest r inputs u e =
-      total_waits (before_input r) x (input_of x answer ∷ inputs) request on_answer open_now
-      ∙ (ap (total_of_course x.store.count x.setup x.callers) (cond-true (is_same_kind (kind_of_request request) (kind_of_answer answer)) _ _ (same_kinds fits))
-      ∙ (ap (λ (q : Refusal). use_total r inputs q (use_of (address_bits x.setup) on_answer answer x.store.values)) (taken_before r)
-      ∙ ap (use_total r inputs r) e))
+  answer_rest : (r : Refusal) (inputs : List Input) (u : Use) → used ≡ u → totals r inputs ≡ total_used x u r inputs
+  answer_rest r inputs u e = ap (λ (z : Use). total_used x z r inputs) e
 
   -- an answer that ends in a fault
-  takes_fault : (new : State) (error : Error) (refusal : Refusal) → new.status ≡ FaultStatus error → Stays 0 x new → MayPick x.setup.limits refusal → ((inputs : List Input) → totals refusal inputs ≡ closed (FaultOutcome (fault_of error)) x.store.count) → Takes answer x new
+  takes_fault : (new : State) (error : Error) (refusal : Refusal) → new.status ≡ FaultStatus error → Stays 0 x new → MayPick x.setup.limits refusal → ((inputs : List Input) → totals refusal inputs ≡ closed (FaultOutcome (fault_of error)) x.store.count) → Takes on_answer answer x new
   takes_fault new error refusal failed stays may same =
       let count = stays.count in
       let callers = stays.callers in
@@ -71,23 +88,23 @@ module _ (x : State) (request : Request) (on_answer : OnAnswer) (open_now : x.st
         may = may;
         same = λ inputs. same inputs ∙ ap (closed (FaultOutcome (fault_of error))) (sym stays.count);
         kept = stays.kept;
-        spends = fallen_spends x new error (ap faults_in open_now) failed (omega (arith, callers)) (omega (arith, count)) (omega (arith, items)) (omega (arith, decodings, count)) stays.pieces (omega (arith, decodings, count)) (omega (arith, decodings, count));
+        spends = fallen_spends x new error (ap faults_in now.is) failed (omega (arith, callers)) (omega (arith, count)) (omega (arith, items)) (omega (arith, decodings, count)) stays.pieces (omega (arith, decodings, count)) (omega (arith, decodings, count));
       })
 
-  pub denies : (error : Error) (mid new : State) → use_of (address_bits x.setup) on_answer answer x.store.values ≡ FaultUse (fault_of error) → Stays 0 x mid → new ≡ with_status (FaultStatus error) mid → Takes answer x new
+  pub denies : (error : Error) (mid new : State) → used ≡ FaultUse (fault_of error) → Stays 0 x mid → new ≡ with_status (FaultStatus error) mid → Takes on_answer answer x new
   denies error mid new e stays is =
       takes_fault new error Never (ap (λ (z : State). z.status) is) (stays_then (FaultStatus error) x mid new stays is) tt
       (λ inputs. answer_rest Never inputs (FaultUse (fault_of error)) e ∙ course_failed x.store.count x.setup x.callers (fault_of error))
 
   -- a value is pushed on what the answer leaves of the stack
-  module _ (values : List Value) (value : Value) (gives : use_of (address_bits x.setup) on_answer answer x.store.values ≡ PushesAnswer values value) where
+  module _ (values : List Value) (value : Value) (gives : used ≡ PushesAnswer values value) where
     abbrev answered : State
     answered = with_status Running (with_last Pushed (with_values values x))
 
     fewer : length values ≤ length x.store.values
     fewer = subst (IsUseOf answer (length x.store.values)) gives (use_is (address_bits x.setup) on_answer answer x.store.values)
 
-    value_taken : (new : State) → Does (push_value x.setup value) answered new → Takes answer x new
+    value_taken : (new : State) → Does (push_value x.setup value) answered new → Takes on_answer answer x new
     value_taken new d =
         let tally = value_tally x.setup value (with_refusal (before_pushes d.steps.pushes Never) answered.store) (with_refusal Never new.store) (d.steps.same Never) in
         let runs : new.status ≡ Running = ap (λ (z : State). z.status) d.alone in
@@ -106,12 +123,12 @@ module _ (x : State) (request : Request) (on_answer : OnAnswer) (open_now : x.st
               ∙ (ap (λ (n : ℕ). total_of_course n x.setup x.callers (run x.setup x.text x.place (length x.callers) (with_refusal r new.store) inputs)) (sym count)
               ∙ sym (total_running r new inputs runs ∙ ap (λ (z : State). going z (with_refusal r new.store) inputs) d.alone)));
           kept = record { setup = ap (λ (z : State). z.setup) d.alone; settings = ap (λ (m : Tally). m.settings) tally };
-          spends = answered_spends x new request on_answer open_now runs (omega (arith, callers)) (omega (arith, callers, kept, low)) count (ap (λ (z : State). z.decodings) d.alone) (omega (arith, last))
+          spends = answered_spends x new now.request now.on_answer now.is runs (omega (arith, callers)) (omega (arith, callers, kept, low)) count (ap (λ (z : State). z.decodings) d.alone) (omega (arith, last))
               (subst (OnStore (HasPieces s.pieces)) (d.steps.same Never) (value_pieces x.setup value s)) (λ given. subst (λ (l : Last). AllGiven (waiting l Running)) (sym pushed) refl);
-          nears = nears_by x new (RequestStatus request on_answer) Running open_now runs (omega (arith, count));
+          nears = nears_by x new (RequestStatus now.request now.on_answer) Running now.is runs (omega (arith, count));
         })
 
-    value_refused : (new : State) → Refused 0 (push_value x.setup value) answered new → Takes answer x new
+    value_refused : (new : State) → Refused 0 (push_value x.setup value) answered new → Takes on_answer answer x new
     value_refused new h =
         let low = fewer in
         takes_fault new h.error h.gets.refusal h.failed (stays_from 0 0 values Pushed Running x new (omega (arith, low)) h.stays) h.gets.may
@@ -120,18 +137,18 @@ module _ (x : State) (request : Request) (on_answer : OnAnswer) (open_now : x.st
         ∙ (ap (λ (z : Result Store Fault). total_of_course x.store.count x.setup x.callers (after_push (run x.setup) position (length x.callers) inputs z)) h.gets.same
         ∙ course_failed x.store.count x.setup x.callers (fault_of h.error)))
 
-    takes_by : (new : State) (done : Bool) → Tries 0 (push_value x.setup value) answered new done → Takes answer x new
+    takes_by : (new : State) (done : Bool) → Tries 0 (push_value x.setup value) answered new done → Takes on_answer answer x new
     takes_by new true d = value_taken new d
     takes_by new false h = value_refused new h
 
     -- if the machine popped what the answer takes
-    pub value_takes : (mid new : State) → mid ≡ with_values values x → Tried 0 (push_value mid.setup value) (with_status Running (with_last Pushed mid)) new → Takes answer x new
+    pub value_takes : (mid new : State) → mid ≡ with_values values x → Tried 0 (push_value mid.setup value) (with_status Running (with_last Pushed mid)) new → Takes on_answer answer x new
     value_takes mid new e h =
         takes_by new h.0 (subst (λ (z : State). Tries 0 (push_value z.setup value) (with_status Running (with_last Pushed z)) new h.0) e h.1)
 
   -- ---- a called text
 
-  pub empty_takes : (callee : Text) (new : State) → use_of (address_bits x.setup) on_answer answer x.store.values ≡ Calls callee → callee.bytes ≡ [] → new ≡ with_last Called (with_status Running x) → Takes answer x new
+  pub empty_takes : (callee : Text) (new : State) → used ≡ Calls callee → callee.bytes ≡ [] → new ≡ with_last Called (with_status Running x) → Takes on_answer answer x new
   empty_takes callee new calls none e =
       let callers = ap (λ (z : State). length z.callers) e in
       let kept = ap (λ (z : State). kept_in z.store) e in
@@ -145,18 +162,18 @@ module _ (x : State) (request : Request) (on_answer : OnAnswer) (open_now : x.st
             ∙ (ap (λ (bytes : List ℕ). total_of_course x.store.count x.setup x.callers (run_callee (run x.setup) x.setup position (length x.callers) callee bytes (with_refusal r x.store) inputs)) none
             ∙ sym (total_running r new inputs runs ∙ ap (λ (z : State). going z (with_refusal r z.store) inputs) e));
         kept = record { setup = ap (λ (z : State). z.setup) e; settings = ap (λ (z : State). z.store.settings) e };
-        spends = answered_spends x new request on_answer open_now runs (omega (arith, callers)) (omega (arith, callers, kept)) count (ap (λ (z : State). z.decodings) e) (omega (arith, last)) (ap (λ (z : State). z.store.pieces) e) (λ given. subst (λ (l : Last). AllGiven (waiting l Running)) (ap (λ (z : State). z.store.last) (sym e)) refl);
-        nears = nears_by x new (RequestStatus request on_answer) Running open_now runs (omega (arith, count));
+        spends = answered_spends x new now.request now.on_answer now.is runs (omega (arith, callers)) (omega (arith, callers, kept)) count (ap (λ (z : State). z.decodings) e) (omega (arith, last)) (ap (λ (z : State). z.store.pieces) e) (λ given. subst (λ (l : Last). AllGiven (waiting l Running)) (ap (λ (z : State). z.store.last) (sym e)) refl);
+        nears = nears_by x new (RequestStatus now.request now.on_answer) Running now.is runs (omega (arith, count));
       })
 
-  module _ (callee : Text) (byte : ℕ) (bytes : List ℕ) (calls : use_of (address_bits x.setup) on_answer answer x.store.values ≡ Calls callee) (some : callee.bytes ≡ byte ∷ bytes) where
+  module _ (callee : Text) (byte : ℕ) (bytes : List ℕ) (calls : used ≡ Calls callee) (some : callee.bytes ≡ byte ∷ bytes) where
     call_rest : (r : Refusal) (inputs : List Input) (z : Result Store Fault) → push_caller x.setup (length x.callers) (with_refusal r x.store) ≡ z → totals r inputs ≡ total_of_course x.store.count x.setup x.callers (enter_callee (run x.setup) position (length x.callers) callee inputs z)
     call_rest r inputs z e =
         answer_rest r inputs (Calls callee) calls
         ∙ (ap (λ (bs : List ℕ). total_of_course x.store.count x.setup x.callers (run_callee (run x.setup) x.setup position (length x.callers) callee bs (with_refusal r x.store) inputs)) some
         ∙ ap (λ (y : Result Store Fault). total_of_course x.store.count x.setup x.callers (enter_callee (run x.setup) position (length x.callers) callee inputs y)) e)
 
-    text_taken : (new : State) → Enters callee (with_status Running x) new → Takes answer x new
+    text_taken : (new : State) → Enters callee (with_status Running x) new → Takes on_answer answer x new
     text_taken new d =
         let s : Store = with_refusal (before_pushes d.steps.pushes Never) x.store in
         let tally : tally_of new.store ≡ tally_of x.store = subst (OnStore (HasTally (tally_of s))) (d.steps.same Never) (tally-push_caller x.setup (length x.callers) s) in
@@ -175,34 +192,19 @@ module _ (x : State) (request : Request) (on_answer : OnAnswer) (open_now : x.st
               ∙ (ap (λ (n : ℕ). total_of_course n x.setup (position ∷ x.callers) course) (sym count)
               ∙ sym (total_running r new inputs runs ∙ ap (λ (z : State). going z t inputs) d.alone));
           kept = record { setup = ap (λ (z : State). z.setup) d.alone; settings = ap (λ (m : Tally). m.settings) tally };
-          spends = answered_spends x new request on_answer open_now runs (omega (arith, callers)) (omega (arith, callers, kept)) count (ap (λ (z : State). z.decodings) d.alone) (omega (arith, last))
+          spends = answered_spends x new now.request now.on_answer now.is runs (omega (arith, callers)) (omega (arith, callers, kept)) count (ap (λ (z : State). z.decodings) d.alone) (omega (arith, last))
               (subst (OnStore (HasPieces s.pieces)) (d.steps.same Never) (frame_pieces x.setup (length x.callers) s)) (λ given. subst (λ (l : Last). AllGiven (waiting l Running)) (sym stays) given);
-          nears = nears_by x new (RequestStatus request on_answer) Running open_now runs (omega (arith, count));
+          nears = nears_by x new (RequestStatus now.request now.on_answer) Running now.is runs (omega (arith, count));
         })
 
-    text_refused : (new : State) → Refused 0 (push_caller x.setup (length x.callers)) (with_status Running x) new → Takes answer x new
+    text_refused : (new : State) → Refused 0 (push_caller x.setup (length x.callers)) (with_status Running x) new → Takes on_answer answer x new
     text_refused new h =
         takes_fault new h.error h.gets.refusal h.failed (stays_from 0 0 x.store.values x.store.last Running x new (omega arith) h.stays) h.gets.may
         (λ inputs. call_rest h.gets.refusal inputs (Err (fault_of h.error)) h.gets.same ∙ course_failed x.store.count x.setup x.callers (fault_of h.error))
 
-    text_takes_by : (new : State) (done : Bool) → TriesToEnter callee (with_status Running x) new done → Takes answer x new
+    text_takes_by : (new : State) (done : Bool) → TriesToEnter callee (with_status Running x) new done → Takes on_answer answer x new
     text_takes_by new true d = text_taken new d
     text_takes_by new false h = text_refused new h
 
-    pub text_takes : (mid new : State) (done : Bool) → mid ≡ with_status Running x → TriesToEnter callee mid new done → Takes answer x new
+    pub text_takes : (mid new : State) (done : Bool) → mid ≡ with_status Running x → TriesToEnter callee mid new done → Takes on_answer answer x new
     text_takes mid new done e h = text_takes_by new done (subst (λ (z : State). TriesToEnter callee z new done) e h)
-
--- ---- answers that are pushed as they are
-
-module _ (x : State) (kind : WaitingKind) where
-  pub value_pushed : (value : Value) (new : State) → IsWaitingFor kind x.status → ((on_answer : OnAnswer) → IsFor kind on_answer → on_answer ≡ Push) → Tried 0 (push_value x.setup value) (with_status Running (with_last Pushed x)) new → Takes (ValueAnswer kind value) x new
-  value_pushed value new waits plain h =
-      let now = open_for kind x.status waits in
-      value_takes x now.request now.on_answer now.is (ValueAnswer kind value) now.fits x.store.values value
-      (value_gives (address_bits x.setup) x.store.values now.on_answer kind value (plain now.on_answer now.is_for)) x new refl h
-
-  pub number_pushed : (number : ℕ) (new : State) → IsWaitingFor kind x.status → ((on_answer : OnAnswer) → IsFor kind on_answer → on_answer ≡ Push) → Tried 0 (push_value x.setup (Generic number)) (with_status Running (with_last Pushed x)) new → Takes (NumberAnswer kind number) x new
-  number_pushed number new waits plain h =
-      let now = open_for kind x.status waits in
-      value_takes x now.request now.on_answer now.is (NumberAnswer kind number) now.fits x.store.values (Generic number)
-      (number_gives (address_bits x.setup) x.store.values now.on_answer kind number (plain now.on_answer now.is_for)) x new refl h

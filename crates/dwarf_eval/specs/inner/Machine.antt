@@ -1,5 +1,5 @@
 -- What an evaluation stands for: a state of the nested meaning, its readers seen as texts and places.
-use Rattle.std.specs.Prelude.{ℕ, ℤ, pos, List, Option, Some, None, ◌*◌, ◌-◌, ◌≡◌, length, reverse, map}
+use Rattle.std.specs.Prelude.{ℕ, List, Option, Some, None, ◌*◌, ◌-◌, ◌≡◌, length, reverse, map}
 use Rattle.std.specs.List.{AllByRecursion}
 use Rattle.dwarf_base.specs.declared.common.Encoding.{Encoding}
 use Rattle.dwarf_base.specs.Reads.{IsLeftOf, Text}
@@ -17,8 +17,6 @@ use Rattle.dwarf_op.specs.declared.locations.Location.{Location}
 use Rattle.dwarf_op.specs.declared.locations.Piece.{Piece}
 use Rattle.dwarf_eval.specs.declared.run.states.LastOperation.{LastOperation}
 use Rattle.dwarf_eval.specs.declared.run.states.LastOperation.TheVariants as last
-use Rattle.dwarf_eval.specs.declared.op.results.EvaluationResult.{EvaluationResult}
-use Rattle.dwarf_eval.specs.declared.op.results.EvaluationResult.TheVariants as result
 use Rattle.dwarf_eval.specs.declared.run.states.OnAnswer.{OnAnswer}
 use Rattle.dwarf_eval.specs.declared.run.states.OnAnswer.TheVariants as on
 use Rattle.dwarf_eval.specs.declared.run.states.EvaluationState.{EvaluationState}
@@ -33,23 +31,13 @@ last_of last.Pushed location = Pushed
 last_of last.Called location = Called
 last_of last.Located location = Located location
 
--- the offset that is added to an answer
-abbrev pub offset_of : {R : Type 0} → OnAnswer R → ℤ
-offset_of (on.Add offset) = offset
-offset_of _ = pos 0
-
--- what is done with a base type
-abbrev pub typed_by : {R : Type 0} → (R → Text) → OnAnswer R → requests.OnAnswer
-typed_by text (on.Parse literal) = requests.Parse (text literal)
-typed_by text on.Convert = requests.Convert
-typed_by text _ = requests.Reinterpret
-
--- what is done with the answer to what a result asks
-abbrev pub done_with : {R O P : Type 0} → (R → Text) → EvaluationResult R O P → OnAnswer R → requests.OnAnswer
-done_with text (result.RequiresRegister register base_type) on_answer = requests.Add (offset_of on_answer)
-done_with text result.RequiresFrameBase on_answer = requests.Add (offset_of on_answer)
-done_with text (result.RequiresBaseType base_type) on_answer = typed_by text on_answer
-done_with text _ on_answer = requests.Push
+-- what is done with an answer, as the definitions have it
+abbrev pub on_answer_of : {R : Type 0} → (R → Text) → OnAnswer R → requests.OnAnswer
+on_answer_of text on.Push = requests.Push
+on_answer_of text (on.Add offset) = requests.Add offset
+on_answer_of text (on.Parse literal) = requests.Parse (text literal)
+on_answer_of text on.Convert = requests.Convert
+on_answer_of text on.Reinterpret = requests.Reinterpret
 
 -- complete without a value, or in this request
 abbrev pub replied_status : Option requests.Request → requests.OnAnswer → Status
@@ -57,24 +45,12 @@ replied_status None on_answer = CompleteStatus None
 replied_status (Some request) on_answer = RequestStatus request on_answer
 
 -- where the code stands, as the definitions have it
-abbrev pub status_of : {R O P : Type 0} → (R → Text) → (O → ℕ) → EvaluationState R O P → OnAnswer R → Status
+abbrev pub status_of : {R O P : Type 0} → (R → Text) → (O → ℕ) → EvaluationState R O P → requests.OnAnswer → Status
 status_of text number (state.Start initial_value) on_answer = Start initial_value
 status_of text number state.Running on_answer = Running
-status_of text number (state.Replied replied) on_answer =
-    replied_status (request_in text number replied) (done_with text replied on_answer)
+status_of text number (state.Replied replied) on_answer = replied_status (request_in text number replied) on_answer
 status_of text number (state.Complete value) on_answer = CompleteStatus (Some value)
 status_of text number (state.Failed error) on_answer = FaultStatus error
-
--- it is the same whatever is done with an answer
-abbrev pub IsAlike : {R O P : Type 0} → (R → Text) → (O → ℕ) → EvaluationState R O P → Type 0
-IsAlike {R = R} text number x =
-    (on_answer : OnAnswer R) → status_of text number x on_answer ≡ status_of text number x on.Push
-
--- the status is that of the state
-abbrev pub IsIn : {R O P : Type 0} → (R → Text) → (O → ℕ) → EvaluationState R O P → Status → Type 0
-IsIn {R = R} text number (state.Replied replied) status =
-    (on_answer : OnAnswer R) × (status_of text number (state.Replied replied) on_answer ≡ status)
-IsIn text number x status = status_of text number x on.Push ≡ status
 
 -- how many bytes of the text come before what is left of it
 abbrev pub place_of : (whole left : Text) → ℕ

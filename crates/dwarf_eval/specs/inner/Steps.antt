@@ -12,16 +12,16 @@ use Rattle.dwarf_meaning.specs.Operations.{Operation}
 use Rattle.dwarf_meaning.specs.Operations as operation
 use Rattle.dwarf_meaning.specs.Locations.{Location, Piece, sized}
 use Rattle.dwarf_meaning.specs.Requests.{Request, OnAnswer, Answer, Input}
-use Rattle.dwarf_meaning.specs.Acts.{Act, RequestAct, act}
+use Rattle.dwarf_meaning.specs.Acts.{Act, RequestAct, act, Use, use_of}
 use Rattle.dwarf_meaning.specs.RunLaws.{waits_of}
 use Rattle.dwarf_meaning.specs.Stores.{address_bits, Store, Last, Plain, Pieced, Located, push_value, push_values, push_piece, push_caller, Next, Goes, RequestNext, FaultNext, done}
-use Rattle.dwarf_meaning.specs.Run.{Position, can_count, counted, read, most}
+use Rattle.dwarf_meaning.specs.Run.{Position, after_answer, can_count, counted, read, most, run}
 use Rattle.dwarf_meaning.specs.Meaning.{Outcome, FaultOutcome, CompleteOutcome, completion_of}
-use Rattle.dwarf_meaning.specs.Rest.{State, Status, Start, Running, RequestStatus, CompleteStatus, FaultStatus, with_refusal}
+use Rattle.dwarf_meaning.specs.Rest.{State, Status, Start, Running, RequestStatus, CompleteStatus, FaultStatus, total_of_course, with_refusal}
 pub use Rattle.dwarf_meaning.specs.Rest.{Total, total, total_after}
 use Rattle.dwarf_meaning.specs.Refusals.{Limits, Refusal, MayPick, before_pushes}
 use Rattle.dwarf_meaning.specs.Bounds.{Spends, calls_left}
-use Rattle.dwarf_meaning.specs.Inputs.{input_of, Keeps, with_status}
+use Rattle.dwarf_meaning.specs.Inputs.{Keeps, with_status}
 
 -- ---- steps
 
@@ -304,10 +304,6 @@ abbrev pub is_running : Status → Bool
 is_running Running = true
 is_running _ = false
 
-abbrev pub has_failed : Status → Bool
-has_failed (FaultStatus error) = true
-has_failed _ = false
-
 -- whether one more operation is counted next
 abbrev pub goes_on : State → Bool
 goes_on x = is_running x.status && is_free x.store.last && nat_lt x.place (length x.text.bytes)
@@ -328,6 +324,14 @@ abbrev pub TriesToEnter : Text → State → State → Bool → Type 0
 TriesToEnter callee old new true = Enters callee old new
 TriesToEnter callee old new false = Refused 0 (push_caller old.setup (length old.callers)) old new
 
--- the answer is taken
-abbrev pub Takes : Answer → State → State → Type 0
-Takes answer old new = Comes old (total_after old (input_of old answer)) new
+-- the total of a state in a request, if its answer is used so
+abbrev pub total_used : State → Use → Refusal → List Input → Total
+total_used x used refusal inputs =
+    total_of_course x.store.count x.setup x.callers
+    (after_answer (run x.setup) x.setup (record { text = x.text; place = x.place }) (length x.callers) used
+    (with_refusal refusal x.store) inputs)
+
+-- this is done with the answer
+abbrev pub Takes : OnAnswer → Answer → State → State → Type 0
+Takes on_answer answer old new =
+    Comes old (total_used old (use_of (address_bits old.setup) on_answer answer old.store.values)) new

@@ -133,7 +133,7 @@ impl<R: Reader + Copy, S: EvaluationStorage<R>> Evaluation<R, S> {
         requires { self.old.status ≡ Start None }
         ensures { self.new ≡ with_status (Start (Some value)) self.old }
     {
-        self.machine.enter(EvaluationState::Start(Some(value)));
+        self.machine.set_initial_value(value);
     }
 
     /// Sets the address of the object that is described, for `DW_OP_push_object_address`. It holds from now on. Without
@@ -185,19 +185,20 @@ impl<R: Reader + Copy, S: EvaluationStorage<R>> Evaluation<R, S> {
         reply(&self.machine)
     }
 
-    /// Goes on with an answer.
+    /// Goes on with an answer of this kind, which contracts alone need.
     #[inline(always)]
-    fn resume(&mut self, given: Given<R>) -> Result<EvaluationResult<R>>
-        requires { IsOpenFor (kind_of_answer (answer_of R.text given)) self.old.status }
+    fn resume(&mut self, _kind: WaitingKind, given: Given<R>) -> Result<EvaluationResult<R>>
+        requires { IsOpenFor (kind_of_answer (answer_of R.text _kind given)) self.old.status }
         ensures follows { Resumes R.text R.Offset.number
-            (input_of self.old (answer_of R.text given))
+            (input_of self.old (answer_of R.text _kind given))
             self.old self.new result self.old.status }
         ensures admits { IfOk result (λ replied. Admits replied self.new.status) }
         ensures fewer { IfOk result (λ reply. calls_left self.new < calls_left self.old) }
     {
-        if !self.machine.has_failed() {
-            self.machine.resume(given);
-        }
+        let EvaluationState::Replied(_) = *self.machine.state() else {
+            return reply(&self.machine);
+        };
+        self.machine.resume(given);
         reply(&self.machine)
     }
 
@@ -213,7 +214,7 @@ impl<R: Reader + Copy, S: EvaluationStorage<R>> Evaluation<R, S> {
         ensures { AnswersWith R.text R.Offset.number
             (requests.ValueAnswer kind.Memory value) self.old self.new result }
     {
-        self.resume(Given::Memory(value))
+        self.resume(WaitingKind::Memory, Given::Value(value))
     }
 
     /// Goes on with what a register holds, after `RequiresRegister`.
@@ -228,7 +229,7 @@ impl<R: Reader + Copy, S: EvaluationStorage<R>> Evaluation<R, S> {
         ensures { AnswersWith R.text R.Offset.number
             (requests.ValueAnswer kind.Register value) self.old self.new result }
     {
-        self.resume(Given::Register(value))
+        self.resume(WaitingKind::Register, Given::Value(value))
     }
 
     /// Goes on with a value of WebAssembly, after `RequiresWasmLocal`, `RequiresWasmGlobal` or
@@ -244,7 +245,7 @@ impl<R: Reader + Copy, S: EvaluationStorage<R>> Evaluation<R, S> {
         ensures { AnswersWith R.text R.Offset.number
             (requests.ValueAnswer kind.WasmValue value) self.old self.new result }
     {
-        self.resume(Given::WasmValue(value))
+        self.resume(WaitingKind::WasmValue, Given::Value(value))
     }
 
     /// Goes on with what the expression gave at the function's entry, after `RequiresEntryValue`.
@@ -259,7 +260,7 @@ impl<R: Reader + Copy, S: EvaluationStorage<R>> Evaluation<R, S> {
         ensures { AnswersWith R.text R.Offset.number
             (requests.ValueAnswer kind.EntryValue value) self.old self.new result }
     {
-        self.resume(Given::EntryValue(value))
+        self.resume(WaitingKind::EntryValue, Given::Value(value))
     }
 
     /// Goes on with the frame base, after `RequiresFrameBase`.
@@ -274,7 +275,7 @@ impl<R: Reader + Copy, S: EvaluationStorage<R>> Evaluation<R, S> {
         ensures { AnswersWith R.text R.Offset.number
             (requests.NumberAnswer kind.FrameBase frame_base) self.old self.new result }
     {
-        self.resume(Given::FrameBase(frame_base))
+        self.resume(WaitingKind::FrameBase, Given::Number(frame_base))
     }
 
     /// Goes on with an address in thread-local storage, after `RequiresTls`.
@@ -289,7 +290,7 @@ impl<R: Reader + Copy, S: EvaluationStorage<R>> Evaluation<R, S> {
         ensures { AnswersWith R.text R.Offset.number
             (requests.NumberAnswer kind.Tls value) self.old self.new result }
     {
-        self.resume(Given::Tls(value))
+        self.resume(WaitingKind::Tls, Given::Number(value))
     }
 
     /// Goes on with the canonical frame address, after `RequiresCallFrameCfa`.
@@ -304,7 +305,7 @@ impl<R: Reader + Copy, S: EvaluationStorage<R>> Evaluation<R, S> {
         ensures { AnswersWith R.text R.Offset.number
             (requests.NumberAnswer kind.CallFrameCfa cfa) self.old self.new result }
     {
-        self.resume(Given::CallFrameCfa(cfa))
+        self.resume(WaitingKind::CallFrameCfa, Given::Number(cfa))
     }
 
     /// Goes on with the expression that stands there, after `RequiresAtLocation`. It is evaluated in the
@@ -320,7 +321,7 @@ impl<R: Reader + Copy, S: EvaluationStorage<R>> Evaluation<R, S> {
         ensures { AnswersWith R.text R.Offset.number
             (requests.LocationAnswer (R.text bytes)) self.old self.new result }
     {
-        self.resume(Given::AtLocation(bytes))
+        self.resume(WaitingKind::AtLocation, Given::Location(bytes))
     }
 
     /// Goes on with the value of the parameter, after `RequiresParameterRef`.
@@ -335,7 +336,7 @@ impl<R: Reader + Copy, S: EvaluationStorage<R>> Evaluation<R, S> {
         ensures { AnswersWith R.text R.Offset.number
             (requests.NumberAnswer kind.ParameterRef parameter_value) self.old self.new result }
     {
-        self.resume(Given::ParameterRef(parameter_value))
+        self.resume(WaitingKind::ParameterRef, Given::Number(parameter_value))
     }
 
     /// Goes on with the relocated address, after `RequiresRelocatedAddress`.
@@ -350,7 +351,7 @@ impl<R: Reader + Copy, S: EvaluationStorage<R>> Evaluation<R, S> {
         ensures { AnswersWith R.text R.Offset.number
             (requests.NumberAnswer kind.RelocatedAddress address) self.old self.new result }
     {
-        self.resume(Given::RelocatedAddress(address))
+        self.resume(WaitingKind::RelocatedAddress, Given::Number(address))
     }
 
     /// Goes on with what stands at the index, after `RequiresIndexedAddress`.
@@ -365,7 +366,7 @@ impl<R: Reader + Copy, S: EvaluationStorage<R>> Evaluation<R, S> {
         ensures { AnswersWith R.text R.Offset.number
             (requests.NumberAnswer kind.IndexedAddress address) self.old self.new result }
     {
-        self.resume(Given::IndexedAddress(address))
+        self.resume(WaitingKind::IndexedAddress, Given::Number(address))
     }
 
     /// Goes on with the base type, after `RequiresBaseType`.
@@ -382,7 +383,7 @@ impl<R: Reader + Copy, S: EvaluationStorage<R>> Evaluation<R, S> {
         ensures { AnswersWith R.text R.Offset.number
             (requests.BaseTypeAnswer base_type) self.old self.new result }
     {
-        self.resume(Given::BaseType(base_type))
+        self.resume(WaitingKind::BaseType, Given::BaseType(base_type))
     }
 
     /// The value of a complete evaluation, as it stands; `None` if it has pieces or a location instead.

@@ -5,17 +5,16 @@ ghost use Rattle.dwarf_base.specs.declared.errors.Error.TheVariants.{StackFull, 
 ghost use Rattle.dwarf_value.specs.Values.{IsAddressMask, width_of};
 ghost use Rattle.dwarf_meaning.specs.Decoding.{operation_at};
 ghost use Rattle.dwarf_meaning.specs.Meaning.{has_pieces};
-ghost use Rattle.dwarf_meaning.specs.Rest.{Start, FaultStatus};
+ghost use Rattle.dwarf_meaning.specs.Requests as requests;
+ghost use Rattle.dwarf_meaning.specs.Rest.{Start, Running, RequestStatus, CompleteStatus, FaultStatus};
 ghost use Rattle.dwarf_meaning.specs.Run.{most, read};
 ghost use Rattle.dwarf_meaning.specs.Stores.{Called, Located, Pieced, Plain, Pushed, address_bits, push_value, push_piece, setup_of};
 ghost use Rattle.dwarf_op.specs.Views.{operation_of, location_of, piece_of};
 ghost use Rattle.dwarf_meaning.specs.Bounds.{IsUnspent};
 ghost use Rattle.dwarf_meaning.specs.Inputs.{IsFresh, with_maximum, with_object, with_status};
-ghost use Rattle.dwarf_eval.specs.inner.Answers.{IsDoneWith};
-ghost use Rattle.dwarf_eval.specs.inner.Machine.{IsAlike, IsIn, last_of, status_of};
-ghost use Rattle.dwarf_eval.specs.declared.run.states.EvaluationState.TheVariants as states;
-ghost use Rattle.dwarf_eval.specs.declared.run.states.OnAnswer.TheVariants as on;
-ghost use Rattle.dwarf_eval.specs.inner.Steps.{CountsOne, GoesBack, Jumps, Pops, PopsGeneric, PopsGenerics, ReadsOperation, Tries, TriesToEnter, at, has_failed, is_free, is_running, read_to, with_last};
+ghost use Rattle.dwarf_eval.specs.Evaluation.{request_in};
+ghost use Rattle.dwarf_eval.specs.inner.Machine.{last_of, on_answer_of, replied_status, status_of};
+ghost use Rattle.dwarf_eval.specs.inner.Steps.{CountsOne, GoesBack, Jumps, Pops, PopsGeneric, PopsGenerics, ReadsOperation, Tries, TriesToEnter, at, is_free, is_running, read_to, with_last};
 
 use crate::op::EvaluationResult;
 use crate::run::states::{EvaluationState, LastOperation, OnAnswer};
@@ -55,10 +54,10 @@ impl<R: Reader + Copy, S: EvaluationStorage<R>> Model for Machine<R, S> {
     ghost Value = { State };
 
     ghost use Rattle.dwarf_meaning.specs.Stores.{setup_of};
-    ghost use Rattle.dwarf_eval.specs.inner.Machine.{status_of, store_of, place_of, callers_of, IsSound};
+    ghost use Rattle.dwarf_eval.specs.inner.Machine.{on_answer_of, status_of, store_of, place_of, callers_of, IsSound};
 
     ghost view = { λ e. record {
-      status = status_of R.text R.Offset.number e.state e.on_answer;
+      status = status_of R.text R.Offset.number e.state (on_answer_of R.text e.on_answer);
       setup = setup_of e.encoding R.Offset.BITS (S.Stack.limit e.stack)
           (S.ExpressionStack.limit e.expression_stack) (S.Result.limit e.pieces);
       text = R.text e.running.1;
@@ -248,21 +247,40 @@ impl<R: Reader + Copy, S: EvaluationStorage<R>> Machine<R, S> {
         self.location
     }
 
-    /// Goes over to another state, if what is done with an answer is the same for it.
+    /// Is to start with this value on the stack.
     #[inline(always)]
-    pub(crate) fn enter(&mut self, state: EvaluationState<R>)
-        requires { IsAlike R.text R.Offset.number state }
-        ensures { self.new
-            ≡ with_status (status_of R.text R.Offset.number state on.Push) self.old }
+    pub(crate) fn set_initial_value(&mut self, value: u64)
+        ensures { self.new ≡ with_status (Start (Some value)) self.old }
     {
-        self.state = state;
+        self.state = EvaluationState::Start(Some(value));
+    }
+
+    /// Runs from now on.
+    #[inline(always)]
+    pub(crate) fn set_running(&mut self)
+        ensures { self.new ≡ with_status Running self.old }
+    {
+        self.state = EvaluationState::Running;
+    }
+
+    /// Ends the run, with this value.
+    #[inline(always)]
+    pub(crate) fn end(&mut self, value: Option<Value>)
+        ensures { self.new ≡ with_status (CompleteStatus value) self.old }
+    {
+        match value {
+            Some(value) => self.state = EvaluationState::Complete(value),
+            None => self.state = EvaluationState::Replied(EvaluationResult::Complete),
+        }
     }
 
     /// Replies a request, to do this with its answer.
     #[inline(always)]
     pub(crate) fn request(&mut self, request: EvaluationResult<R>, on_answer: OnAnswer<R>)
         ensures { self.new
-            ≡ with_status (status_of R.text R.Offset.number (states.Replied request) on_answer)
+            ≡ with_status
+            (replied_status (request_in R.text R.Offset.number request)
+            (on_answer_of R.text on_answer))
             self.old }
     {
         self.state = EvaluationState::Replied(request);
@@ -272,7 +290,8 @@ impl<R: Reader + Copy, S: EvaluationStorage<R>> Machine<R, S> {
     /// Where the evaluation stands.
     #[inline(always)]
     pub(crate) fn state(&self) -> &EvaluationState<R>
-        ensures { IsIn R.text R.Offset.number result.now self.now.status }
+        ensures { (on_answer : requests.OnAnswer)
+            × (status_of R.text R.Offset.number result.now on_answer ≡ self.now.status) }
     {
         &self.state
     }
@@ -280,7 +299,9 @@ impl<R: Reader + Copy, S: EvaluationStorage<R>> Machine<R, S> {
     /// What is done with the answer to the open request.
     #[inline(always)]
     pub(crate) fn on_answer(&self) -> OnAnswer<R>
-        ensures { IsDoneWith R.text result self.now.status }
+        ensures { (request : requests.Request) → (wanted : requests.OnAnswer)
+            → self.now.status ≡ RequestStatus request wanted
+            → wanted ≡ on_answer_of R.text result }
     {
         self.on_answer
     }
@@ -291,14 +312,6 @@ impl<R: Reader + Copy, S: EvaluationStorage<R>> Machine<R, S> {
         ensures { result ≡ is_running self.now.status }
     {
         matches!(self.state, EvaluationState::Running)
-    }
-
-    /// Whether it met a fault.
-    #[inline(always)]
-    pub(crate) fn has_failed(&self) -> bool
-        ensures { result ≡ has_failed self.now.status }
-    {
-        matches!(self.state, EvaluationState::Failed(_))
     }
 
     /// Whether no location waits for its piece.

@@ -2,15 +2,14 @@ ghost use Rattle.std.specs.Prelude.{◌≡◌, [], ◌∷◌};
 ghost use Rattle.dwarf_base.specs.Reads.{IsLeftOf};
 ghost use Rattle.dwarf_meaning.specs.Acts.{Branches, Locates, Pushes, FaultAct, binary, push, unary};
 ghost use Rattle.dwarf_meaning.specs.Operations as meaning;
+ghost use Rattle.dwarf_meaning.specs.Requests as requests;
 ghost use Rattle.dwarf_meaning.specs.Rest.{Running, FaultStatus};
 ghost use Rattle.dwarf_meaning.specs.Stores.{address_bits, push_values};
 ghost use Rattle.dwarf_base.specs.declared.errors.Error.TheVariants.{NotEnoughStackItems, UnsupportedEvaluation};
 ghost use Rattle.dwarf_value.specs.Values.{from_u64_of, to_u64_of, type_of, unary_of, binary_of, Plus};
 ghost use Rattle.dwarf_meaning.specs.Inputs.{with_status};
 ghost use Rattle.dwarf_eval.specs.Evaluation.{request_in};
-ghost use Rattle.dwarf_eval.specs.inner.Machine.{IsAlike, done_with};
-ghost use Rattle.dwarf_eval.specs.declared.run.states.EvaluationState.TheVariants as states;
-ghost use Rattle.dwarf_eval.specs.declared.run.states.OnAnswer.TheVariants as on;
+ghost use Rattle.dwarf_eval.specs.inner.Machine.{on_answer_of};
 ghost use Rattle.dwarf_op.specs.Views.{location_of};
 ghost use Rattle.dwarf_eval.specs.inner.Operators.{operator_of};
 ghost use Rattle.dwarf_eval.specs.inner.Steps.{Asks, Performs, PopsNumber, PushesAllPlain, PushesPlain, Tries, act_of, at};
@@ -19,7 +18,7 @@ use crate::op::EvaluationResult;
 use crate::run::binary::BinaryOperator;
 use crate::run::machine::Machine;
 use crate::run::operators::UnaryOperator;
-use crate::run::states::{EvaluationState, OnAnswer};
+use crate::run::states::OnAnswer;
 use crate::store::EvaluationStorage;
 use dwarf_base::{Error, Reader, ReaderOffset, Result, UnitOffset};
 use dwarf_op::{Location, Piece};
@@ -408,18 +407,16 @@ impl<R: Reader + Copy, S: EvaluationStorage<R>> Machine<R, S> {
     /// Asks for what is pushed as it is, or run.
     #[inline(always)]
     pub(crate) fn ask(&mut self, request: EvaluationResult<R>)
-        requires { IsAlike R.text R.Offset.number (states.Replied request) }
-        ensures { Asks (request_in R.text R.Offset.number request)
-            (done_with R.text request on.Push) self.old self.new }
+        ensures { Asks (request_in R.text R.Offset.number request) requests.Push self.old self.new }
     {
-        self.enter(EvaluationState::Replied(request));
+        self.ask_to(OnAnswer::Push, request);
     }
 
     /// Asks, to do this with the answer.
     #[inline(always)]
     pub(crate) fn ask_to(&mut self, on_answer: OnAnswer<R>, request: EvaluationResult<R>)
-        ensures { Asks (request_in R.text R.Offset.number request)
-            (done_with R.text request on_answer) self.old self.new }
+        ensures { Asks (request_in R.text R.Offset.number request) (on_answer_of R.text on_answer)
+            self.old self.new }
     {
         self.request(request, on_answer);
     }

@@ -1,5 +1,4 @@
 ghost use Rattle.std.specs.Prelude.{◌≡◌, ⊤};
-ghost use Rattle.dwarf_eval.specs.inner.Machine.{offset_of};
 
 use crate::op::EvaluationResult;
 use dwarf_base::{Error, Reader};
@@ -24,15 +23,15 @@ pub(crate) enum LastOperation {
 /// What is done with the answer to an open request.
 #[derive(Copy)]
 pub(crate) enum OnAnswer<R> {
-    // It is pushed as it is, or run.
+    /// It is pushed as it is, or run.
     Push,
-    // It is pushed plus this offset, in bytes.
+    /// It is pushed plus this offset, in bytes.
     Add(i64),
-    // These bytes are pushed as a value of that type.
+    /// These bytes are pushed as a value of that type.
     Parse(R),
-    // The top is converted to that type.
+    /// The top is converted to that type.
     Convert,
-    // The bits on top are taken as a value of that type.
+    /// The bits on top are taken as a value of that type.
     Reinterpret,
 }
 
@@ -44,19 +43,6 @@ impl<R: Copy> Clone for OnAnswer<R> {
 
     fn clone(&self) -> Result<Self, AllocError> {
         Ok(*self)
-    }
-}
-
-impl<R: Copy> OnAnswer<R> {
-    /// The offset that is added to the answer.
-    #[inline(always)]
-    pub(crate) fn offset(self) -> i64
-        ensures { result ≡ offset_of self }
-    {
-        match self {
-            OnAnswer::Add(offset) => offset,
-            _ => 0,
-        }
     }
 }
 
@@ -86,31 +72,15 @@ impl<R: Reader + Copy, O: Copy> Clone for EvaluationState<R, O> {
     }
 }
 
-/// What a resume is given, by the request that it answers.
+/// What a resume is given.
 #[derive(Copy)]
 pub(crate) enum Given<R> {
-    /// What memory holds.
-    Memory(Value),
-    /// What a register holds.
-    Register(Value),
-    /// A local, a global or an item of the operand stack of WebAssembly.
-    WasmValue(Value),
-    /// What an expression gave when the function was entered.
-    EntryValue(Value),
-    /// The frame base.
-    FrameBase(u64),
-    /// An address in thread-local storage.
-    Tls(u64),
-    /// The canonical frame address.
-    CallFrameCfa(u64),
-    /// The value of a parameter.
-    ParameterRef(u64),
-    /// A relocated address.
-    RelocatedAddress(u64),
-    /// An address or a constant of `.debug_addr`.
-    IndexedAddress(u64),
+    /// A value.
+    Value(Value),
+    /// A number.
+    Number(u64),
     /// An expression to be run.
-    AtLocation(R),
+    Location(R),
     /// A type.
     BaseType(ValueType),
 }

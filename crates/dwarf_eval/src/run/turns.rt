@@ -2,8 +2,8 @@ ghost use Rattle.std.specs.Prelude.{◌≡◌, ◌<◌, length, false};
 ghost use Rattle.dwarf_base.specs.Reads.{IsLeftOf};
 ghost use Rattle.dwarf_meaning.specs.Operations as meant;
 ghost use Rattle.dwarf_meaning.specs.Meaning.{whole as meant_whole, finish, finish_value};
-ghost use Rattle.dwarf_meaning.specs.Inputs.{IsFresh, with_status};
-ghost use Rattle.dwarf_meaning.specs.Rest.{Running, Start, CompleteStatus};
+ghost use Rattle.dwarf_meaning.specs.Inputs.{IsFresh};
+ghost use Rattle.dwarf_meaning.specs.Rest.{Running, Start};
 ghost use Rattle.dwarf_meaning.specs.RunLaws.{waits_of};
 ghost use Rattle.dwarf_meaning.specs.Stores.{Located, address_bits};
 ghost use Rattle.dwarf_meaning.specs.Locations.{AtAddress};
@@ -11,9 +11,8 @@ ghost use Rattle.dwarf_value.specs.Values.{to_u64_of};
 ghost use Rattle.dwarf_op.specs.Views.{operation_of, location_of, piece_of};
 ghost use Rattle.dwarf_eval.specs.inner.Steps.{Closes, Comes, CompletesWith, EndsLocated, HasReply, IsReady, Turns, at, goes_on, is_free, total};
 
-use crate::op::EvaluationResult;
 use crate::run::machine::Machine;
-use crate::run::states::{EvaluationState, LastOperation};
+use crate::run::states::LastOperation;
 use crate::store::EvaluationStorage;
 use dwarf_base::{Error, Reader, ReaderOffset};
 use dwarf_op::{Location, Operation, Piece};
@@ -150,17 +149,6 @@ impl<R: Reader + Copy, S: EvaluationStorage<R>> Machine<R, S> {
         }
     }
 
-    /// Ends the run.
-    #[inline(always)]
-    fn end(&mut self, value: Option<Value>)
-        ensures { self.new ≡ with_status (CompleteStatus value) self.old }
-    {
-        match value {
-            Some(value) => self.enter(EvaluationState::Complete(value)),
-            None => self.enter(EvaluationState::Replied(EvaluationResult::Complete)),
-        }
-    }
-
     /// Ends the run with one more piece.
     fn complete(&mut self, piece: Piece<R>, value: Option<Value>)
         requires { self.old.status ≡ Running }
@@ -275,7 +263,7 @@ impl<R: Reader + Copy, S: EvaluationStorage<R>> Machine<R, S> {
         requires fresh { IsFresh self.old initial_value }
         ensures { Comes self.old (total self.old) self.new }
     {
-        self.enter(EvaluationState::Running);
+        self.set_running();
         if let Some(value) = initial_value {
             self.push(Value::Generic(value));
         }

@@ -1,8 +1,8 @@
-use Rattle.std.proofs.Common.{◌≡◌, sym, subst}
+use Rattle.std.proofs.Common.{◌≡◌, ◌∙◌, ap, sym, subst}
 use Rattle.dwarf_meaning.specs.Rest.{Start, State, total}
 use Rattle.dwarf_eval.specs.Evaluation.{Evaluates, reply_of}
 use Rattle.dwarf_eval.specs.inner.Answers.{IsAtRestBy}
-use Rattle.dwarf_eval.specs.inner.Machine.{IsIn}
+use Rattle.dwarf_eval.specs.inner.Machine.{status_of}
 use Rattle.dwarf_eval.proofs.Following.{comes_follow}
 use Rattle.dwarf_eval.proofs.eval.evaluation.Evaluation.evaluate.Goals as goal
 
@@ -12,14 +12,12 @@ returns-clause-follows g c =
     let number = g.R.Offset.ReaderOffset.number in
     let x : State = c.self.inside.machine in
     let new : State = c.start.new.self in
-    let starts : x.status ≡ Start c.in-Start.initial_value =
-    sym (subst (λ z. IsIn text number z x.status) c.in-Start.is c.state.ensures) in
+    let starts : x.status ≡ Start c.in-Start.initial_value = sym c.state.ensures.1 ∙ ap (λ s. status_of text number s c.state.ensures.0) c.in-Start.is in
     let follows = comes_follow x (total x) new (reply_of text number c.reply-2.result) c.start.ensures.comes c.reply-2.ensures.reply in
     subst (λ (z : State). Evaluates text number z new c.reply-2.result z.status) c.self.view_is (subst (Evaluates text number x new c.reply-2.result) (sym starts) follows)
 
 pub start-requires : goal.start-requires
 start-requires g c =
     let x : State = c.self.inside.machine in
-    let starts : x.status ≡ Start c.in-Start.initial_value =
-    sym (subst (λ z. IsIn g.R.Reader.text g.R.Offset.ReaderOffset.number z x.status) c.in-Start.is c.state.ensures) in
+    let starts : x.status ≡ Start c.in-Start.initial_value = sym c.state.ensures.1 ∙ ap (λ s. status_of g.R.Reader.text g.R.Offset.ReaderOffset.number s c.state.ensures.0) c.in-Start.is in
     record { starts = starts; fresh = subst (IsAtRestBy x) starts c.self.invariant }

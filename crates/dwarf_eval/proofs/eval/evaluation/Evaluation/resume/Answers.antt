@@ -1,41 +1,50 @@
-use Rattle.std.proofs.Common.{◌≡◌, ap, subst, sym, ◌∙◌}
+use Rattle.std.proofs.Common.{◌<◌, IfOk, ap, subst, sym, ◌∙◌}
+use Rattle.dwarf_meaning.specs.Bounds.{calls_left}
 use Rattle.dwarf_meaning.specs.Kinds.{kind_of_answer}
 use Rattle.dwarf_meaning.specs.Rest.{State, total_after}
 use Rattle.dwarf_eval.specs.Permits.{IsOpenFor}
-use Rattle.dwarf_eval.specs.inner.Answers.{IsEndedBy, answer_of}
-use Rattle.dwarf_eval.specs.Evaluation.{Resumes, reply_of, input_of}
-use Rattle.dwarf_eval.specs.inner.Steps.{Comes}
-use Rattle.dwarf_eval.proofs.Following.{comes_follow, failed_again, resumed, waits}
+use Rattle.dwarf_eval.specs.Evaluation.{Resumes, reply_of, request_in, input_of}
+use Rattle.dwarf_eval.specs.inner.Answers.{answer_of}
+use Rattle.dwarf_eval.specs.inner.Machine.{status_of}
+use Rattle.dwarf_eval.proofs.AnswerUses.{open_in, replied_waits}
+use Rattle.dwarf_eval.proofs.Following.{comes_follow}
+use Rattle.dwarf_eval.proofs.Nearing.{comes_fewer, if_ok}
 use Rattle.dwarf_eval.proofs.eval.evaluation.Evaluation.resume.Goals as goal
-use Rattle.dwarf_eval.proofs.eval.evaluation.Evaluation.resume.Goals.{then-not-has_failed, else-not-has_failed}
 
 pub resume-requires : goal.resume-requires
 resume-requires g c =
+    let text = g.R.Reader.text in
+    let number = g.R.Offset.ReaderOffset.number in
     let x : State = c.self.inside.machine in
-    let kind = kind_of_answer (answer_of g.R.Reader.text c.args.given) in
+    let kind = kind_of_answer (answer_of text c.args._kind c.args.given) in
     let is_open = subst (λ (z : State). IsOpenFor kind z.status) (sym c.self.view_is) c.requires in
-    waits x kind x.status (sym c.has_failed.ensures ∙ c.if-not-has_failed.true) c.self.invariant is_open
+    replied_waits (request_in text number c.in-Replied.field-0) c.state.ensures.0 kind x.status (sym c.state.ensures.1 ∙ ap (λ s. status_of text number s c.state.ensures.0) c.in-Replied.is) is_open
 
 pub returns-clause-follows : goal.returns-clause-follows
 returns-clause-follows g c =
     let text = g.R.Reader.text in
     let number = g.R.Offset.ReaderOffset.number in
     let x : State = c.self.inside.machine in
-    let new : State = c.if-not-has_failed.self-inside.machine in
-    let answer = answer_of text c.args.given in
-    let input = input_of x answer in
+    let new : State = c.resume.new.self in
+    let answer = answer_of text c.args._kind c.args.given in
     let kind = kind_of_answer answer in
     let is_open = subst (λ (z : State). IsOpenFor kind z.status) (sym c.self.view_is) c.requires in
-    let there : Resumes text number input x new c.reply.result x.status =
-    elim c.if-not-has_failed.branch [
-      | then-not-has_failed w ↦
-          let came = subst (λ (z : State). Comes x (total_after x input) z) (sym (ap (λ z. z.machine) w.self-inside-is)) w.resume.ensures.comes in
-          let now = waits x kind x.status (sym c.has_failed.ensures ∙ w.if-not-has_failed.true) c.self.invariant is_open in
-          resumed text number input x new c.reply.result kind x.status now (comes_follow x (total_after x input) new (reply_of text number c.reply.result) came c.reply.ensures.reply)
-      | else-not-has_failed w ↦
-          let stays : new ≡ x = ap (λ z. z.machine) w.self-inside-is in
-          let ended = subst (λ (z : State). IsEndedBy c.reply.result z.status) stays c.reply.ensures.ends in
-          subst (λ (z : State). Resumes text number input x z c.reply.result x.status) (sym stays)
-          (failed_again text number input x new c.reply.result x.status (sym c.has_failed.ensures ∙ w.if-not-has_failed.false) ended)
-    ] in
-    subst (λ (z : State). Resumes text number (input_of z answer) z new c.reply.result z.status) c.self.view_is there
+    let waits = replied_waits (request_in text number c.in-Replied.field-0) c.state.ensures.0 kind x.status (sym c.state.ensures.1 ∙ ap (λ s. status_of text number s c.state.ensures.0) c.in-Replied.is) is_open in
+    let now = open_in x.status waits in
+    let follows = comes_follow x (total_after x (input_of x answer)) new (reply_of text number c.reply-2.result) (c.resume.ensures.comes c.args._kind is_open) c.reply-2.ensures.reply in
+    subst (λ (z : State). Resumes text number (input_of z answer) z new c.reply-2.result z.status) c.self.view_is
+    (subst (Resumes text number (input_of x answer) x new c.reply-2.result) (sym now.is) follows)
+
+pub returns-clause-fewer : goal.returns-clause-fewer
+returns-clause-fewer g c =
+    let text = g.R.Reader.text in
+    let number = g.R.Offset.ReaderOffset.number in
+    let x : State = c.self.inside.machine in
+    let new : State = c.resume.new.self in
+    let answer = answer_of text c.args._kind c.args.given in
+    let kind = kind_of_answer answer in
+    let is_open = subst (λ (z : State). IsOpenFor kind z.status) (sym c.self.view_is) c.requires in
+    let waits = replied_waits (request_in text number c.in-Replied.field-0) c.state.ensures.0 kind x.status (sym c.state.ensures.1 ∙ ap (λ s. status_of text number s c.state.ensures.0) c.in-Replied.is) is_open in
+    let now = open_in x.status waits in
+    let fewer = comes_fewer x (total_after x (input_of x answer)) new now.request now.on_answer now.is c.resume.ensures.replies (c.resume.ensures.comes c.args._kind is_open) in
+    subst (λ (z : State). IfOk c.reply-2.result (λ reply. calls_left new < calls_left z)) c.self.view_is (if_ok (calls_left new < calls_left x) c.reply-2.result fewer)

@@ -1,24 +1,23 @@
 use Rattle.std.proofs.Common.{sym, ap, ◌∙◌}
-use Rattle.dwarf_meaning.specs.declared.kinds.WaitingKind.TheVariants as kind
 use Rattle.dwarf_meaning.specs.Requests.{LocationAnswer}
 use Rattle.dwarf_meaning.specs.Stores.{Called}
 use Rattle.dwarf_eval.specs.inner.Steps.{with_last}
-use Rattle.dwarf_eval.proofs.AnswerUses.{open_for, location_calls}
+use Rattle.dwarf_eval.proofs.AnswerUses.{location_calls}
 use Rattle.dwarf_eval.proofs.Resuming.{empty_takes, text_takes}
 use Rattle.dwarf_eval.proofs.Texts.{no_bytes, some_bytes}
 use Rattle.dwarf_eval.proofs.run.machine.Machine.take_location.Goals as goal
 
 pub returns-then-is_empty : goal.returns-then-is_empty
-returns-then-is_empty g c =
-    let now = open_for kind.AtLocation c.args.self.now.status c.requires in
+returns-then-is_empty g c = λ on_answer.
+    let x = c.args.self.now in
     let text = g.R.Reader.text c.args.callee in
-    empty_takes c.args.self.now now.request now.on_answer now.is (LocationAnswer text) now.fits text c.mark_called.new.self (location_calls _ c.args.self.now.store.values now.on_answer text)
-    (no_bytes text.bytes (sym c.is_empty.ensures ∙ c.if-is_empty.true)) (c.mark_called.ensures ∙ ap (with_last Called) c.enter.ensures)
+    empty_takes x c.requires on_answer (LocationAnswer text) text c.mark_called.new.self (location_calls _ x.store.values on_answer text)
+    (no_bytes text.bytes (sym c.is_empty.ensures ∙ c.if-is_empty.true)) (c.mark_called.ensures ∙ ap (with_last Called) c.set_running.ensures)
 
 pub returns : goal.returns
-returns g c =
-    let now = open_for kind.AtLocation c.args.self.now.status c.requires in
+returns g c = λ on_answer.
+    let x = c.args.self.now in
     let text = g.R.Reader.text c.args.callee in
     let some = some_bytes text.bytes (sym c.is_empty.ensures ∙ c.if-is_empty.false) in
-    text_takes c.args.self.now now.request now.on_answer now.is (LocationAnswer text) now.fits text some.0 some.1 (location_calls _ c.args.self.now.store.values now.on_answer text) some.2
-    c.enter.new.self c.push_caller.new.self c.push_caller.result c.enter.ensures c.push_caller.ensures
+    text_takes x c.requires on_answer (LocationAnswer text) text some.0 some.1 (location_calls _ x.store.values on_answer text) some.2
+    c.set_running.new.self c.push_caller.new.self c.push_caller.result c.set_running.ensures c.push_caller.ensures

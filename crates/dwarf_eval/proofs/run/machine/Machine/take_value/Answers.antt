@@ -1,0 +1,22 @@
+use Rattle.std.proofs.Common.{◌∙◌, ap, refl, rules, subst, sym, w64}
+use Rattle.std.proofs.lemmas.Int.{to_z-of_z}
+use mir.Val.{SFits}
+use Rattle.dwarf_meaning.specs.Requests.{OnAnswer, Add, ValueAnswer}
+use Rattle.dwarf_eval.specs.inner.Machine.{on_answer_of}
+use Rattle.dwarf_eval.specs.inner.Steps.{Takes}
+use Rattle.dwarf_eval.proofs.AnswerUses.{value_gives}
+use Rattle.dwarf_eval.proofs.Resuming.{value_takes}
+use Rattle.dwarf_eval.proofs.run.machine.Machine.take_value.Goals as goal
+
+pub returns-in-Add : goal.returns-in-Add
+returns-in-Add g c = λ kind.
+    let fits : SFits w64 c.in-Add.offset = search rules in
+    subst (λ (o : OnAnswer). Takes o (ValueAnswer kind c.args.value) c.args.self.now c.take_value_sum.new.self) (ap Add (to_z-of_z w64 c.in-Add.offset fits) ∙ sym (ap (on_answer_of g.R.Reader.text) c.in-Add.is))
+    (c.take_value_sum.ensures kind)
+
+pub returns-in_default : goal.returns-in_default
+returns-in_default g c = λ kind.
+    let text = g.R.Reader.text in
+    let x = c.args.self.now in
+    value_takes x c.requires (on_answer_of text c.args.on_answer) (ValueAnswer kind c.args.value) x.store.values c.args.value
+    (value_gives _ x.store.values text kind c.args.on_answer c.args.value c.in_default.not-Add) x c.push_answer.new.self refl c.push_answer.ensures

@@ -240,11 +240,11 @@ impl<R: Reader + Copy, S: EvaluationStorage<R>> Machine<R, S> {
 
     /// The location that waits for its piece.
     #[inline(always)]
-    pub(crate) fn location(&self) -> Location<R>
+    pub(crate) fn location(&self) -> &Location<R>
         requires { is_free self.now.store.last ≡ false }
-        ensures { self.now.store.last ≡ Located (location_of R.text R.Offset.number result) }
+        ensures { self.now.store.last ≡ Located (location_of R.text R.Offset.number result.now) }
     {
-        self.location
+        &self.location
     }
 
     /// Is to start with this value on the stack.

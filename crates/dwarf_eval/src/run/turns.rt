@@ -80,7 +80,7 @@ impl<R: Reader + Copy, S: EvaluationStorage<R>> Machine<R, S> {
         ensures { (location : _) → self.old.store.last ≡ Located location →
             EndsLocated location (meant.Piece size_in_bits bit_offset) self.old self.new }
     {
-        let location = self.location();
+        let location = *self.location();
         self.mark_pieced();
         self.push_piece(Piece {
             size_in_bits: Some(size_in_bits),
@@ -209,11 +209,11 @@ impl<R: Reader + Copy, S: EvaluationStorage<R>> Machine<R, S> {
             return;
         }
         // Most are registers. One that is built anew is stored as it was, and not copied as a whole.
-        if let Location::Register { register } = self.location() {
+        if let Location::Register { register } = *self.location() {
             self.complete(whole(Location::Register { register }), None);
             return;
         }
-        self.complete(whole(self.location()), None);
+        self.complete(whole(*self.location()), None);
     }
 
     /// Leaves the running text at its end.

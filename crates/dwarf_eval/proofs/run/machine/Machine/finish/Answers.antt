@@ -44,7 +44,7 @@ returns-in-Register g c =
 
 pub returns : goal.returns
 returns g c =
-    let location = location_of g.R.Reader.text g.R.Offset.ReaderOffset.number c.location-2.result in
+    let location = location_of g.R.Reader.text g.R.Offset.ReaderOffset.number c.location-2.result.now in
     let piece = whole location in
     finish_as (Located location) c.args.self.now c.complete-2.new.self c.location-2.ensures
     (closes_else 1 (λ s. FaultOutcome InvalidPiece) (λ s. completion_of None (push_piece c.args.self.now.setup piece s)) c.args.self.now c.complete-2.new.self (sym c.has_pieces.ensures ∙ c.if-has_pieces.false)

@@ -56,22 +56,15 @@ replied_waits asked on_answer kind status e h = subst IsWaiting (sym e) (asked_w
 -- ---- answers that are pushed as they are
 
 module _ (bits : ℕ) (values : List Value) where
-  module _ {R : Type 0} (text : R → Text) (kind : WaitingKind) where
-    pub value_gives : (on_answer : code.OnAnswer R) (v : Value) → ((offset : ℤ) → on_answer ≡ on.Add offset → ⊥) → use_of bits (on_answer_of text on_answer) (ValueAnswer kind v) values ≡ PushesAnswer values v
-    unfolding use_of
-    value_gives (on.Add offset) v other = absurd (other offset refl)
-    value_gives on.Push v other = refl
-    value_gives (on.Parse literal) v other = refl
-    value_gives on.Convert v other = refl
-    value_gives on.Reinterpret v other = refl
-
-    pub number_gives : (on_answer : code.OnAnswer R) (n : ℕ) → ((offset : ℤ) → on_answer ≡ on.Add offset → ⊥) → use_of bits (on_answer_of text on_answer) (NumberAnswer kind n) values ≡ PushesAnswer values (Generic n)
-    unfolding use_of
-    number_gives (on.Add offset) n other = absurd (other offset refl)
-    number_gives on.Push n other = refl
-    number_gives (on.Parse literal) n other = refl
-    number_gives on.Convert n other = refl
-    number_gives on.Reinterpret n other = refl
+  -- a value or a number, if nothing is added to it
+  pub plain : {R : Type 0} (text : R → Text) (kind : WaitingKind) (v : Value) (n : ℕ) (on_answer : code.OnAnswer R) → ((offset : ℤ) → on_answer ≡ on.Add offset → ⊥)
+      → (use_of bits (on_answer_of text on_answer) (ValueAnswer kind v) values ≡ PushesAnswer values v) × (use_of bits (on_answer_of text on_answer) (NumberAnswer kind n) values ≡ PushesAnswer values (Generic n))
+  unfolding use_of
+  plain text kind v n (on.Add offset) other = absurd (other offset refl)
+  plain text kind v n on.Push other = (refl, refl)
+  plain text kind v n (on.Parse literal) other = (refl, refl)
+  plain text kind v n on.Convert other = (refl, refl)
+  plain text kind v n on.Reinterpret other = (refl, refl)
 
   pub location_calls : (on_answer : OnAnswer) (text : Text) → use_of bits on_answer (LocationAnswer text) values ≡ Calls text
   unfolding use_of

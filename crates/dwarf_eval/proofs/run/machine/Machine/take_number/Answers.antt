@@ -5,7 +5,7 @@ use Rattle.dwarf_value.specs.declared.types.Value.TheVariants.{Generic}
 use Rattle.dwarf_meaning.specs.Requests.{OnAnswer, Add, NumberAnswer}
 use Rattle.dwarf_eval.specs.inner.Machine.{on_answer_of}
 use Rattle.dwarf_eval.specs.inner.Steps.{Takes}
-use Rattle.dwarf_eval.proofs.AnswerUses.{number_gives}
+use Rattle.dwarf_eval.proofs.AnswerUses.{plain}
 use Rattle.dwarf_eval.proofs.Resuming.{value_takes}
 use Rattle.dwarf_eval.proofs.run.machine.Machine.take_number.Goals as goal
 
@@ -20,4 +20,4 @@ returns-in_default g c = λ kind.
     let text = g.R.Reader.text in
     let x = c.args.self.now in
     value_takes x c.requires (on_answer_of text c.args.on_answer) (NumberAnswer kind c.args.number) x.store.values (Generic c.args.number)
-    (number_gives _ x.store.values text kind c.args.on_answer c.args.number c.in_default.not-Add) x c.push_answer.new.self refl c.push_answer.ensures
+    (plain _ x.store.values text kind (Generic 0) c.args.number c.args.on_answer c.in_default.not-Add).1 x c.push_answer.new.self refl c.push_answer.ensures

@@ -4,7 +4,7 @@ use mir.Val.{SFits}
 use Rattle.dwarf_meaning.specs.Requests.{OnAnswer, Add, ValueAnswer}
 use Rattle.dwarf_eval.specs.inner.Machine.{on_answer_of}
 use Rattle.dwarf_eval.specs.inner.Steps.{Takes}
-use Rattle.dwarf_eval.proofs.AnswerUses.{value_gives}
+use Rattle.dwarf_eval.proofs.AnswerUses.{plain}
 use Rattle.dwarf_eval.proofs.Resuming.{value_takes}
 use Rattle.dwarf_eval.proofs.run.machine.Machine.take_value.Goals as goal
 
@@ -19,4 +19,4 @@ returns-in_default g c = λ kind.
     let text = g.R.Reader.text in
     let x = c.args.self.now in
     value_takes x c.requires (on_answer_of text c.args.on_answer) (ValueAnswer kind c.args.value) x.store.values c.args.value
-    (value_gives _ x.store.values text kind c.args.on_answer c.args.value c.in_default.not-Add) x c.push_answer.new.self refl c.push_answer.ensures
+    (plain _ x.store.values text kind c.args.value 0 c.args.on_answer c.in_default.not-Add).0 x c.push_answer.new.self refl c.push_answer.ensures

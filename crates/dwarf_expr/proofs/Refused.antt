@@ -1,5 +1,5 @@
 -- A fresh evaluation that meets a refusal after its first request is answered.
-use Rattle.std.proofs.Common.{◌≡◌, ap, refl, sym, subst, ◌∙◌, List, [], ◌∷◌, Some, arith}
+use Rattle.std.proofs.Common.{◌≡◌, ap, refl, sym, subst, ◌∙◌, List, [], ◌∷◌, Some}
 use Rattle.dwarf_base.specs.declared.errors.Error.TheVariants.{StackFull}
 use Rattle.dwarf_base.specs.Reads.{Text}
 use Rattle.dwarf_meaning.specs.Requests.{Request, Answer}
@@ -41,13 +41,6 @@ module _ (refusal : Refusal) (may : MayPick no_limits refusal) (text : Text) (an
           told_is = ap (λ (o : Outcome). record told_once { inputs = heard unset [] answer (Some o) }) e;
         };
         stands = subst (λ (o : Outcome). StandsAt told_once full (Some o)) (sym f) refl;
-        spent = record {
-          items = omega arith;
-          callers = omega arith;
-          decodings = omega arith;
-          once = λ h. record { each = h.each; no_other = omega arith; given = h.given };
-        };
-        leaves = tt;
       },
       refl,
     ),

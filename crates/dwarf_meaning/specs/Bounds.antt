@@ -1,6 +1,6 @@
 -- How much an evaluation keeps, and how often it decodes, against the operations that it counted (DWARF 5, section
 -- 2.5).
-use Rattle.std.specs.Prelude.{ℕ, ◌+◌, ◌-◌, ◌*◌, ◌≤◌, ◌≡◌, Bool, true, false, ◌&&◌, IsTrue, List, [], ◌∷◌, Option, Some, None, is_some, length, count_by}
+use Rattle.std.specs.Prelude.{ℕ, ◌+◌, ◌-◌, ◌*◌, ◌≤◌, ◌≡◌, Bool, true, false, ◌&&◌, IsTrue, List, [], ◌∷◌, Some, is_some, length, count_by}
 use Rattle.std.specs.List.{list_all}
 use Rattle.dwarf_meaning.specs.Locations.{Location, Empty, AtAddress, Piece}
 use Rattle.dwarf_meaning.specs.Run.{most}
@@ -74,11 +74,6 @@ pub record IsUnspent (x : State) : Type 0 where
   pub decodings : decoding_count x ≡ 0
   pub count : x.store.count ≡ 0
   pub once : DecodesOnce x
-
--- 1 if an initial value was set
-abbrev pub initial_items : Option ℕ → ℕ
-initial_items (Some number) = 1
-initial_items None = 0
 
 -- Each request is asked by an operation that is counted, so this falls from one request to the next, and at the end.
 abbrev pub calls_left_by : State → Status → ℕ

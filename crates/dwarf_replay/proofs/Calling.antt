@@ -21,11 +21,11 @@ use Rattle.dwarf_eval.specs.Permits.{IsOpenFor}
 use Rattle.dwarf_replay.specs.Stepping.{HasReplied}
 use Rattle.dwarf_replay.specs.Replays.{Tells}
 use Rattle.dwarf_eval.specs.declared.op.results.EvaluationResult.{EvaluationResult}
-use Rattle.dwarf_meaning.specs.Bounds.{Spends, faults_in, initial_items}
+use Rattle.dwarf_meaning.specs.Bounds.{Spends, faults_in}
 use Rattle.dwarf_eval.proofs.Following.{told_total, total_open, total_complete, total_meaning}
 use Rattle.dwarf_eval.proofs.CallSpending.{spent_more}
 use Rattle.dwarf_replay.proofs.Telling.{walked_more}
-use Rattle.dwarf_replay.proofs.Standings.{Holds, Unstarted, Going, Over, WentBy, Went, later_before, may_inputs}
+use Rattle.dwarf_replay.proofs.Standings.{Holds, Unstarted, Going, Over, WentBy, Went, later_before, may_inputs, initial_count}
 
 -- ---- calls that answer
 
@@ -60,7 +60,7 @@ module _ (first : State) where
         ap (λ (t : Reply). given ++ t ∷ []) e
         ∙ ap (λ (l : List Reply). given ++ l) (sym (answers_one (totals r []).outcome) ∙ ap (step_replies step) (sym (called_outcome r)))
 
-    called_going : faults_in new.status ≡ 0 → Holds first now new → Spends (initial_items now.now.initial_value) first new → ((r : Refusal) → IsLater r → told ≡ reply (totals r []).outcome → Tells first (steps ++ step ∷ []) (given ++ told ∷ []) now (before_inputs n r)) → Going first (steps ++ step ∷ []) (given ++ told ∷ []) new
+    called_going : faults_in new.status ≡ 0 → Holds first now new → Spends (initial_count now.now.initial_value) first new → ((r : Refusal) → IsLater r → told ≡ reply (totals r []).outcome → Tells first (steps ++ step ∷ []) (given ++ told ∷ []) now (before_inputs n r)) → Going first (steps ++ step ∷ []) (given ++ told ∷ []) new
     called_going o holds spent walked = record {
       told = now;
       taken = n;
@@ -73,7 +73,7 @@ module _ (first : State) where
       spent = spent;
     }
 
-    called_over : (error : Error) → new.status ≡ FaultStatus error → MayPick first.setup.limits (before_inputs n h.refusal) → Spends (initial_items now.now.initial_value) first new → Tells first (steps ++ step ∷ []) (given ++ told ∷ []) now (before_inputs n h.refusal) → Over first (steps ++ step ∷ []) (given ++ told ∷ []) new error
+    called_over : (error : Error) → new.status ≡ FaultStatus error → MayPick first.setup.limits (before_inputs n h.refusal) → Spends (initial_count now.now.initial_value) first new → Tells first (steps ++ step ∷ []) (given ++ told ∷ []) now (before_inputs n h.refusal) → Over first (steps ++ step ∷ []) (given ++ told ∷ []) new error
     called_over error e may spent walked = record {
       told = now;
       refusal = before_inputs n h.refusal;
@@ -88,7 +88,7 @@ module _ (first : State) where
       spent = spent;
     }
 
-    called_by : (status : Status) → new.status ≡ status → MayPick first.setup.limits (before_inputs n h.refusal) → Holds first now new → Spends (initial_items now.now.initial_value) first new → ((r : Refusal) → (IsLater r ⊎ (r ≡ h.refusal)) → told ≡ reply (totals r []).outcome → Tells first (steps ++ step ∷ []) (given ++ told ∷ []) now (before_inputs n r)) → WentBy first (steps ++ step ∷ []) (given ++ told ∷ []) new status
+    called_by : (status : Status) → new.status ≡ status → MayPick first.setup.limits (before_inputs n h.refusal) → Holds first now new → Spends (initial_count now.now.initial_value) first new → ((r : Refusal) → (IsLater r ⊎ (r ≡ h.refusal)) → told ≡ reply (totals r []).outcome → Tells first (steps ++ step ∷ []) (given ++ told ∷ []) now (before_inputs n r)) → WentBy first (steps ++ step ∷ []) (given ++ told ∷ []) new status
     called_by (RequestStatus request on_answer) e may holds spent walked =
         called_going (ap faults_in e) holds spent (λ r l. walked r (inl l))
     called_by (CompleteStatus value) e may holds spent walked =
@@ -118,7 +118,7 @@ module _ (first : State) (steps : List Step) (given : List Reply) (x new : State
       called_by first steps given Evaluate x new told (total x) h now 0 settings refl (ap length w.inputs) means_is (λ o. refl) new.status refl
       (subst (λ (s : Setup). MayPick s.limits h.refusal) w.holds.setup h.may)
       (record { setup = h.kept.setup ∙ w.holds.setup; settings = h.kept.settings ∙ w.holds.settings })
-      (spent_more (initial_items settings.initial_value) first x new w.spent h.spends)
+      (spent_more (initial_count settings.initial_value) first x new w.spent h.spends)
       (λ r l e. walked_more first steps given (given ++ told ∷ []) Evaluate r w.told now (w.walked r)
       (subst (λ (o : Option Outcome). IfSome o IsOver) (sym (unstarted r)) tt)
       (ap (λ (f : Option First). record { now = settings; first = Some (unwrap_or f settings); inputs = w.told.inputs }) w.started)
@@ -189,7 +189,7 @@ module _ (first : State) (steps : List Step) (given : List Reply) (x new : State
       called_by first steps given (Resume answer) x new told (total_after x input) h now (suc w.taken) w.settings w.started counted means_is (λ o. refl) new.status refl
       (may_inputs first.setup.limits (suc w.taken) h.refusal (subst (λ (s : Setup). MayPick s.limits h.refusal) w.holds.setup h.may))
       (record { setup = h.kept.setup ∙ w.holds.setup; settings = h.kept.settings ∙ w.holds.settings })
-      (spent_more (initial_items settings.initial_value) first x new w.spent h.spends)
+      (spent_more (initial_count settings.initial_value) first x new w.spent h.spends)
       (λ r l s. walked_more first steps given (given ++ told ∷ []) (Resume answer) (before_inputs (suc w.taken) r) w.told now (w.walked (before_input r) (later_before r))
       (subst (Awaits answer) (sym (is r)) kind)
       (ap (λ (o : Option Outcome). after w.told o (Resume answer)) (is r)

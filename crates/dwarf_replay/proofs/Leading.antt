@@ -1,17 +1,16 @@
 -- Where the steps lead: what the contract of a replay says of them.
-use Rattle.std.proofs.Common.{ℕ, ◌≡◌, List, [], ◌∷◌, ◌++◌, length, Option, Some, None, take, slice_get, ap, ◌∙◌, sym, refl, subst}
+use Rattle.std.proofs.Common.{ℕ, ◌≡◌, List, [], ◌∷◌, Option, Some, None, take, slice_get, ap, ◌∙◌, sym, refl, subst}
 use Rattle.dwarf_base.specs.Faults.{fault_of}
 use Rattle.dwarf_meaning.specs.Refusals.{Refusal, Never, before_inputs, MayPick}
 use Rattle.dwarf_meaning.specs.Run.{Position}
-use Rattle.dwarf_meaning.specs.Meaning.{Outcome, RequestOutcome, FaultOutcome, CompleteOutcome, First, meaning}
+use Rattle.dwarf_meaning.specs.Meaning.{Outcome, RequestOutcome, FaultOutcome, CompleteOutcome, First}
 use Rattle.dwarf_meaning.specs.Rest.{State, Status, Start, Running, RequestStatus, CompleteStatus, FaultStatus, Total}
 use Rattle.dwarf_meaning.proofs.Outcomes.{outcome_from}
 use Rattle.dwarf_meaning.specs.Steps.{Step, InitialValue, ObjectAddress, MaxIterations, Evaluate, Resume, Told, Reply, Allows, outcome_of}
 use Rattle.dwarf_replay.specs.Stepping.{MayTake}
-use Rattle.dwarf_replay.specs.Replays.{IsInRequest, IsInFault, StandsAt, Tells, IsUnbegun, IsLeft, Leaves, Walks, WalksTo}
-use Rattle.dwarf_meaning.specs.Bounds.{Spends, initial_items}
+use Rattle.dwarf_replay.specs.Replays.{IsInRequest, IsInFault, StandsAt, Tells, Walks, WalksTo}
 use Rattle.dwarf_eval.proofs.Following.{total_open, total_complete}
-use Rattle.dwarf_replay.proofs.Standings.{Unstarted, Going, WentBy, Went, may_inputs}
+use Rattle.dwarf_replay.proofs.Standings.{WentBy, Went, may_inputs}
 use Rattle.dwarf_replay.proofs.Calling.{some_not_none, going_outcome}
 
 -- ---- where the steps lead
@@ -21,32 +20,15 @@ pub record Led (first : State) (steps : List Step) (given : List Reply) (x : Sta
   pub walks : Walks first steps given x
   pub holds : P walks.told (outcome_of first.setup walks.refusal first.text walks.told)
 
-module _ (first : State) (steps : List Step) (given : List Reply) (x : State) where
-  unbegun_leaves : (initial_value : Option ℕ) (w : Unstarted first steps given x initial_value) → IsUnbegun first steps given w.told x
-  unbegun_leaves initial_value w = record { setup = w.holds.setup; text = w.text; alike = w.walked }
-
-  going_leaves : (w : Going first steps given x) → IsLeft first steps given w.told x
-  going_leaves w = record {
-    setup = w.holds.setup;
-    alike = λ r l. subst (λ (n : ℕ). Tells first steps given w.told (before_inputs n r)) (sym w.counted) (w.walked r l);
-    more = λ r inputs l.
-        let all = w.told.inputs ++ inputs in
-        ap (outcome_from first.setup (before_inputs (length w.told.inputs) r) first.text all) w.started
-        ∙ ap Some
-        (ap (λ (n : ℕ). meaning first.setup (before_inputs n r) first.text w.settings all) w.counted ∙ w.rest_is r inputs l);
-  }
-
 module _ (first : State) (steps : List Step) (given : List Reply) (x : State) (P : Told → Option Outcome → Type 0) where
-  led : (told : Told) (refusal : Refusal) (outcome : Option Outcome) → Tells first steps given told refusal → MayPick first.setup.limits refusal → outcome_of first.setup refusal first.text told ≡ outcome → StandsAt told x outcome → Spends (initial_items told.now.initial_value) first x → Leaves first steps given told x x.status → P told outcome → Led first steps given x P
-  led told refusal outcome w may is stands spent leaves holds = record {
+  led : (told : Told) (refusal : Refusal) (outcome : Option Outcome) → Tells first steps given told refusal → MayPick first.setup.limits refusal → outcome_of first.setup refusal first.text told ≡ outcome → StandsAt told x outcome → P told outcome → Led first steps given x P
+  led told refusal outcome w may is stands holds = record {
     walks = record {
       refusal = refusal;
       may = may;
       told = told;
       tells = w;
       stands = subst (StandsAt told x) (sym is) stands;
-      spent = spent;
-      leaves = leaves;
     };
     holds = subst (P told) (sym is) holds;
   }
@@ -61,30 +43,23 @@ module _ (first : State) (steps : List Step) (given : List Reply) (x : State) (P
 
   led_by : (status : Status) → x.status ≡ status → WentBy first steps given x status → Wanted status → Led first steps given x P
   led_by (Start initial_value) e w wanted =
-      led w.told Never None (w.walked Never) tt (ap (outcome_from first.setup Never first.text w.told.inputs) w.started) (e ∙ ap Start (sym w.initial), w.holds.settings) w.spent
-      (subst (Leaves first steps given w.told x) (sym e) (unbegun_leaves first steps given x initial_value w)) (wanted w.told w.started w.initial)
+      led w.told Never None (w.walked Never) tt (ap (outcome_from first.setup Never first.text w.told.inputs) w.started) (e ∙ ap Start (sym w.initial), w.holds.settings) (wanted w.told w.started w.initial)
   led_by (RequestStatus request on_answer) e w wanted =
       let position : Position = record { text = x.text; place = x.place } in
       led w.told (before_inputs w.taken Never) (Some (RequestOutcome request (position ∷ x.callers))) (w.walked Never tt) (may_inputs first.setup.limits w.taken Never tt)
       (going_outcome first steps given x w Never tt
       ∙ ap (λ (t : Total). Some t.outcome) (total_open Never x request on_answer e))
       (subst (IsInRequest request (position ∷ x.callers) x) (sym e) (refl, refl), w.holds.settings)
-      w.spent
-      (subst (Leaves first steps given w.told x) (sym e) (going_leaves first steps given x w))
       (wanted w.told w.settings (position ∷ x.callers) w.started)
   led_by (CompleteStatus value) e w wanted =
       led w.told (before_inputs w.taken Never) (Some (CompleteOutcome x.store.pieces value)) (w.walked Never tt) (may_inputs first.setup.limits w.taken Never tt)
       (going_outcome first steps given x w Never tt ∙ ap (λ (t : Total). Some t.outcome) (total_complete Never x [] value e))
       (e, refl)
-      w.spent
-      (subst (Leaves first steps given w.told x) (sym e) (going_leaves first steps given x w))
       (wanted w.told w.settings w.started)
   led_by (FaultStatus error) e w wanted =
       led w.told w.refusal (Some (FaultOutcome (fault_of error))) w.walked w.may
       (ap (outcome_from first.setup w.refusal first.text w.told.inputs) w.started ∙ ap Some w.fails)
       (subst (IsInFault (fault_of error)) (sym e) refl)
-      w.spent
-      (subst (Leaves first steps given w.told x) (sym e) tt)
       (wanted w.told w.settings w.started)
   led_by Running e w wanted = absurd w
 

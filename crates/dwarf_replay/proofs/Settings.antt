@@ -10,10 +10,10 @@ use Rattle.dwarf_meaning.specs.Inputs.{with_settings}
 use Rattle.dwarf_eval.specs.Evaluation.{with_status}
 use Rattle.dwarf_replay.specs.Stepping.{IsSet}
 use Rattle.dwarf_replay.specs.Replays.{Tells}
-use Rattle.dwarf_meaning.specs.Bounds.{Spends, initial_items}
+use Rattle.dwarf_meaning.specs.Bounds.{Spends}
 use Rattle.dwarf_eval.proofs.CallSpending.{setting_spends, spent_initial, spent_more}
 use Rattle.dwarf_replay.proofs.Telling.{outcome, walked_more}
-use Rattle.dwarf_replay.proofs.Standings.{Holds, Unstarted, Going, WentBy, Went}
+use Rattle.dwarf_replay.proofs.Standings.{Holds, Unstarted, Going, WentBy, Went, initial_count}
 
 -- a request is open, or the evaluation is complete
 abbrev IsOpenOrComplete : Status → Type 0
@@ -55,10 +55,10 @@ module _ (first : State) where
     spends : Spends 0 x new
 
   module _ (steps : List Step) (given : List Reply) (step : Step) (x new : State) (s : IsSetting step x new) where
-    set_spent : (told : Told) → Spends (initial_items told.now.initial_value) first x → Spends (initial_items (s.tells told).now.initial_value) first new
+    set_spent : (told : Told) → Spends (initial_count told.now.initial_value) first x → Spends (initial_count (s.tells told).now.initial_value) first new
     set_spent told h =
-        let same : initial_items (s.tells told).now.initial_value ≡ initial_items told.now.initial_value = ap initial_items (s.initial_is told) in
-        subst (λ (n : ℕ). Spends n first new) (sym same) (spent_more (initial_items told.now.initial_value) first x new h s.spends)
+        let same : initial_count (s.tells told).now.initial_value ≡ initial_count told.now.initial_value = ap initial_count (s.initial_is told) in
+        subst (λ (n : ℕ). Spends n first new) (sym same) (spent_more (initial_count told.now.initial_value) first x new h s.spends)
 
     set_walked : (r : Refusal) (told : Told) → Tells first steps given told r → Tells first (steps ++ step ∷ []) given (s.tells told) r
     set_walked r told w =
@@ -141,7 +141,7 @@ module _ (first : State) where
         initial = refl;
         text = ap (λ (z : State). z.text) n ∙ w.text;
         holds = record { setup = ap (λ (z : State). z.setup) n ∙ w.holds.setup; settings = ap (λ (z : State). z.store.settings) n ∙ w.holds.settings };
-        spent = spent_initial number first x new e n (subst (λ (v : Option ℕ). Spends (initial_items v) first x) w.initial w.spent);
+        spent = spent_initial number first x new e n (subst (λ (v : Option ℕ). Spends (initial_count v) first x) w.initial w.spent);
       })
 
   pub set_went_on : (steps : List Step) (given : List Reply) (step : Step) (x new : State) → IsSet step x new → Went first steps given x → Went first (steps ++ step ∷ []) given new

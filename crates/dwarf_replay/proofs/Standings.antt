@@ -8,10 +8,15 @@ use Rattle.dwarf_meaning.specs.Meaning.{FaultOutcome, First, meaning}
 use Rattle.dwarf_meaning.specs.Rest.{State, Status, Start, Running, RequestStatus, CompleteStatus, FaultStatus, total}
 use Rattle.dwarf_meaning.specs.Steps.{Step, Told, Reply}
 use Rattle.dwarf_replay.specs.Replays.{told_at, Tells}
-use Rattle.dwarf_meaning.specs.Bounds.{Spends, initial_items}
+use Rattle.dwarf_meaning.specs.Bounds.{Spends}
 use Rattle.dwarf_eval.proofs.CallSpending.{spent_here}
 
 -- ---- what some steps came to
+
+-- how many items an initial value is
+abbrev pub initial_count : Option ℕ → ℕ
+initial_count (Some number) = 1
+initial_count None = 0
 
 -- the settings are those that were told
 pub record Holds (first : State) (told : Told) (x : State) : Type 0 where
@@ -27,7 +32,7 @@ pub record Unstarted (first : State) (steps : List Step) (given : List Reply) (x
   pub initial : told.now.initial_value ≡ initial_value
   pub text : x.text ≡ first.text
   pub holds : Holds first told x
-  pub spent : Spends (initial_items told.now.initial_value) first x
+  pub spent : Spends (initial_count told.now.initial_value) first x
 
 -- it waits or is complete: what is left of it is what the meaning gives, for all inputs to come
 pub record Going (first : State) (steps : List Step) (given : List Reply) (x : State) : Type 0 where
@@ -39,7 +44,7 @@ pub record Going (first : State) (steps : List Step) (given : List Reply) (x : S
   pub started : told.first ≡ Some settings
   pub rest_is : (r : Refusal) (inputs : List Input) → IsLater r → meaning first.setup (before_inputs taken r) first.text settings (told.inputs ++ inputs) ≡ (total x r inputs).outcome
   pub holds : Holds first told x
-  pub spent : Spends (initial_items told.now.initial_value) first x
+  pub spent : Spends (initial_count told.now.initial_value) first x
 
 -- it met a fault, for some refusal
 pub record Over (first : State) (steps : List Step) (given : List Reply) (x : State) (error : Error) : Type 0 where
@@ -50,7 +55,7 @@ pub record Over (first : State) (steps : List Step) (given : List Reply) (x : St
   pub settings : First
   pub started : told.first ≡ Some settings
   pub fails : meaning first.setup refusal first.text settings told.inputs ≡ FaultOutcome (fault_of error)
-  pub spent : Spends (initial_items told.now.initial_value) first x
+  pub spent : Spends (initial_count told.now.initial_value) first x
 
 abbrev pub WentBy : State → List Step → List Reply → State → Status → Type 0
 WentBy first steps given x (Start initial_value) = Unstarted first steps given x initial_value

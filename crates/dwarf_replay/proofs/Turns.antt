@@ -95,6 +95,20 @@ module _ {R O P : Type 0} (view : R → Text) (number : O → ℕ) (first : Stat
         (sym (ap (replies_in view number) h.2 ∙ map-append (reply_in view number) given (h.0 ∷ [])))
         (called_went_on view number first (take index (steps_of view all)) (replies_in view number given) x new (step_of view step) h.0.0 h.1 w))
 
+    -- the step isn't allowed, and nothing changed
+    pub went_to : (new ≡ x) × (MayTake (step_of view step) x.status → ⊥) × (answers_now ≡ given) → Went first (take index (steps_of view all)) (replies_in view number answers_now) new
+    went_to h =
+        subst (λ (z : State). Went first (take index (steps_of view all)) (replies_in view number answers_now) z) (sym h.0)
+        (subst (λ (l : List (kept_answer.Answer R O P)). Went first (take index (steps_of view all)) (replies_in view number l) x) (sym h.2) w)
+
+    -- the step was done, and its answer found no room
+    pub went_over : (limit : Option ℕ) (answer : kept_answer.Answer R O P) → HasReplied view number (step_of view step) x new answer.0 × (answers_now ≡ given) × MayRefuse limit (length given) → Went first (take (suc index) (steps_of view all)) (replies_in view number answers_now ++ reply_in view number answer ∷ []) new
+    went_over limit answer h =
+        let one = reply_in view number answer in
+        subst (λ (steps : List Step). Went first steps (replies_in view number answers_now ++ one ∷ []) new) (sym (take_next view all index step is_next))
+        (subst (λ (l : List (kept_answer.Answer R O P)). Went first (take index (steps_of view all) ++ step_of view step ∷ []) (replies_in view number l ++ one ∷ []) new) (sym h.1)
+        (called_went_on view number first (take index (steps_of view all)) (replies_in view number given) x new (step_of view step) answer.0 h.0 w))
+
     -- the step isn't allowed
     pub stopped : (new ≡ x) × (MayTake (step_of view step) x.status → ⊥) × (answers_now ≡ given) → WalksTo index first (steps_of view all) (replies_in view number answers_now) new
     stopped h =
@@ -123,9 +137,8 @@ module _ {R O P : Type 0} (view : R → Text) (number : O → ℕ) (first : Stat
         (step_of view step, next_is view all index step is_next) full)
 
 -- at the end all steps were taken
-pub taken_all : {R O P : Type 0} (view : R → Text) (number : O → ℕ) (first : State) (all : List (code.Step R)) (index : ℕ) (given : List (kept_answer.Answer R O P)) (x : State) → length all ≤ index → Went first (take index (steps_of view all)) (replies_in view number given) x → Walks first (steps_of view all) (replies_in view number given) x
-taken_all view number first all index given x h w =
+pub went_all : {R O P : Type 0} (view : R → Text) (number : O → ℕ) (first : State) (all : List (code.Step R)) (index : ℕ) (given : List (kept_answer.Answer R O P)) (x : State) → length all ≤ index → Went first (take index (steps_of view all)) (replies_in view number given) x → Went first (steps_of view all) (replies_in view number given) x
+went_all view number first all index given x h w =
     let lengths = length-map all (step_of view) in
     let past : length (steps_of view all) ≤ index = omega (arith, lengths, h) in
-    walks_all first (steps_of view all) (replies_in view number given) x
-    (subst (λ (steps : List Step). Went first steps (replies_in view number given) x) (take_all index (steps_of view all) past) w)
+    subst (λ (steps : List Step). Went first steps (replies_in view number given) x) (take_all index (steps_of view all) past) w

@@ -1,3 +1,4 @@
+pub mod Continuing
 pub mod Equality
 pub mod Replays
 pub mod Stepping

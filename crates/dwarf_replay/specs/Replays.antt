@@ -2,14 +2,13 @@
 use Rattle.std.specs.Prelude.{ℕ, suc, ◌≡◌, List, [], ◌∷◌, ◌++◌, Option, Some, None, map, take, length, slice_get}
 use Rattle.dwarf_base.specs.Faults.{Fault, fault_of}
 use Rattle.dwarf_base.specs.Reads.{Text}
-use Rattle.dwarf_meaning.specs.Requests.{Request, Input}
-use Rattle.dwarf_meaning.specs.Refusals.{Refusal, IsLater, before_inputs, MayPick}
+use Rattle.dwarf_meaning.specs.Requests.{Request}
+use Rattle.dwarf_meaning.specs.Refusals.{Refusal, MayPick}
 use Rattle.dwarf_meaning.specs.Run.{Position}
 use Rattle.dwarf_meaning.specs.Meaning.{Outcome, RequestOutcome, FaultOutcome, CompleteOutcome}
-use Rattle.dwarf_meaning.specs.Rest.{State, Status, Start, Running, RequestStatus, CompleteStatus, FaultStatus, first_of, total}
+use Rattle.dwarf_meaning.specs.Rest.{State, Status, Start, RequestStatus, CompleteStatus, FaultStatus, first_of}
 use Rattle.dwarf_meaning.specs.Steps as meaning
 use Rattle.dwarf_meaning.specs.Steps.{Told, Reply, Allows, AreDone, replies_of, outcome_of}
-use Rattle.dwarf_meaning.specs.Bounds.{initial_items, Spends}
 use Rattle.dwarf_eval.specs.Evaluation.{reply_of}
 use Rattle.dwarf_eval.specs.Lists.{MayRefuse}
 use Rattle.dwarf_replay.specs.Stepping.{step_of}
@@ -48,14 +47,12 @@ abbrev pub IsInFault : Fault → Status → Type 0
 IsInFault fault (FaultStatus error) = fault_of error ≡ fault
 IsInFault fault _ = ⊥
 
--- the settings that were told last hold
-abbrev pub AreSet : Told → State → Type 0
-AreSet told x = x.store.settings ≡ told.now.settings
-
--- it is where the steps lead: not started yet, in a request, at a fault, or complete with pieces and a value
+-- It is where the steps lead: not started yet, in a request, at a fault, or complete with pieces and a value. Until it is
+-- over, the settings are the last that were set.
 abbrev pub StandsAt : Told → State → Option Outcome → Type 0
-StandsAt told x None = (x.status ≡ Start told.now.initial_value) × AreSet told x
-StandsAt told x (Some (RequestOutcome request positions)) = IsInRequest request positions x x.status × AreSet told x
+StandsAt told x None = (x.status ≡ Start told.now.initial_value) × (x.store.settings ≡ told.now.settings)
+StandsAt told x (Some (RequestOutcome request positions)) =
+    IsInRequest request positions x x.status × (x.store.settings ≡ told.now.settings)
 StandsAt told x (Some (FaultOutcome fault)) = IsInFault fault x.status
 StandsAt told x (Some (CompleteOutcome pieces value)) = (x.status ≡ CompleteStatus value) × (x.store.pieces ≡ pieces)
 
@@ -63,46 +60,16 @@ StandsAt told x (Some (CompleteOutcome pieces value)) = (x.status ≡ CompleteSt
 abbrev pub Tells : State → List meaning.Step → List Reply → Told → Refusal → Type 0
 Tells old steps replies told refusal = AreDone old.setup refusal old.text (told_at old) steps replies told
 
--- ---- what is left, for a caller who goes on
-
--- It wasn't started: the setup and the text stay, and no refusal changed anything.
-pub record IsUnbegun (old : State) (steps : List meaning.Step) (replies : List Reply) (told : Told)
-    (new : State) : Type 0 where
-  pub setup : new.setup ≡ old.setup
-  pub text : new.text ≡ old.text
-  pub alike : (r : Refusal) → Tells old steps replies told r
-
--- It isn't over: the setup stays, no refusal after the inputs so far changed anything, and what is left gives what the
--- meaning gives for the inputs so far and all that are to come.
-pub record IsLeft (old : State) (steps : List meaning.Step) (replies : List Reply) (told : Told)
-    (new : State) : Type 0 where
-  pub setup : new.setup ≡ old.setup
-  pub alike : (r : Refusal) → IsLater r → Tells old steps replies told (before_inputs (length told.inputs) r)
-  pub more : (r : Refusal) (inputs : List Input) → IsLater r →
-      outcome_of old.setup (before_inputs (length told.inputs) r) old.text
-      (record told { inputs = told.inputs ++ inputs }) ≡ Some (total new r inputs).outcome
-
--- what is left, by the status
-abbrev pub Leaves : State → List meaning.Step → List Reply → Told → State → Status → Type 0
-Leaves old steps replies told new (Start initial_value) = IsUnbegun old steps replies told new
-Leaves old steps replies told new (RequestStatus request on_answer) = IsLeft old steps replies told new
-Leaves old steps replies told new (CompleteStatus value) = IsLeft old steps replies told new
-Leaves old steps replies told new (FaultStatus error) = Unit {0}
-Leaves old steps replies told new Running = ⊥
-
 -- ---- replay
 
--- Steps that are all allowed were done, for some refusal or for none: the replies are theirs, the evaluation stands
--- where they lead, and what is left of it is said.
+-- Steps that are all allowed were done, for some refusal or for none: the replies are theirs, and the evaluation stands
+-- where they lead.
 pub record Walks (old : State) (steps : List meaning.Step) (replies : List Reply) (new : State) : Type 0 where
   pub refusal : Refusal
   pub may : MayPick old.setup.limits refusal
   pub told : Told
   pub tells : Tells old steps replies told refusal
   pub stands : StandsAt told new (outcome_of old.setup refusal old.text told)
-  -- it kept and decoded no more than the operations that it counted allow, and an initial value
-  pub spent : Spends (initial_items told.now.initial_value) old new
-  pub leaves : Leaves old steps replies told new new.status
 
 -- the steps before this one were done, and it isn't allowed
 pub record WalksTo (index : ℕ) (old : State) (steps : List meaning.Step) (replies : List Reply)
@@ -123,7 +90,8 @@ pub record WalksOver (index : ℕ) (answer : Reply) (limit : Option ℕ) (old : 
 module _ {R O P : Type 0} (text : R → Text) (number : O → ℕ) where
   -- by how it ended: all steps were done, one isn't allowed, or a reply found no room
   abbrev pub Replays : Option ℕ → State → List (Step R) → List (Answer R O P) → State → Replayed R O P → Type 0
-  Replays limit old steps given new replayed.Done = Walks old (steps_of text steps) (replies_in text number given) new
+  Replays limit old steps given new replayed.Done =
+      Walks old (steps_of text steps) (replies_in text number given) new
   Replays limit old steps given new (replayed.Misplaced index) =
       WalksTo index old (steps_of text steps) (replies_in text number given) new
   Replays limit old steps given new (replayed.NoRoom index answer) =

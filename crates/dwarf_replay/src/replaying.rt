@@ -1,5 +1,7 @@
 ghost use Rattle.std.specs.Prelude.{◌≡◌, [], length, slice_get};
+ghost use Rattle.dwarf_meaning.specs.Bounds.{Spends};
 ghost use Rattle.dwarf_meaning.specs.Rest.{Start};
+ghost use Rattle.dwarf_replay.specs.Continuing.{Leaves, done_replies, done_steps, initial_items};
 ghost use Rattle.dwarf_replay.specs.Replays.{Replays};
 ghost use Rattle.dwarf_replay.specs.Stepping.{step_of};
 ghost use Rattle.dwarf_replay.specs.inner.Keeping.{TakesStep};
@@ -55,6 +57,11 @@ pub fn replay<R: Reader + Copy, S: EvaluationStorage<R>, L: ArrayLike<Item = Ans
     requires empty { L.items answers.old ≡ [] }
     ensures replays { Replays R.text R.Offset.number
         (L.limit answers.old) eval.old steps.now (L.items answers.new) eval.new result }
+    ensures spends { Spends (initial_items (done_steps R.text steps.now result))
+        eval.old eval.new }
+    ensures leaves { Leaves eval.old (done_steps R.text steps.now result)
+        (done_replies R.text R.Offset.number (L.items answers.new) result)
+        eval.new eval.new.status }
     ensures limit { L.limit answers.new ≡ L.limit answers.old }
 {
     let mut index = 0;

@@ -1,0 +1,62 @@
+-- Of a replay, what a caller needs to go on with the evaluation by hand (DWARF 5, section 2.5).
+use Rattle.std.specs.Prelude.{ℕ, suc, ◌≡◌, List, [], ◌∷◌, ◌++◌, Some, take, length}
+use Rattle.dwarf_base.specs.Reads.{Text}
+use Rattle.dwarf_meaning.specs.Requests.{Input}
+use Rattle.dwarf_meaning.specs.Refusals.{Refusal, IsLater, before_inputs}
+use Rattle.dwarf_meaning.specs.Rest.{State, Status, Start, Running, RequestStatus, CompleteStatus, FaultStatus, total}
+use Rattle.dwarf_meaning.specs.Steps as meaning
+use Rattle.dwarf_meaning.specs.Steps.{InitialValue, Told, Reply, outcome_of}
+use Rattle.dwarf_replay.specs.Replays.{reply_in, replies_in, steps_of, Tells}
+use Rattle.dwarf_replay.specs.declared.steps.Answer.{Answer}
+use Rattle.dwarf_replay.specs.declared.steps.Replayed.{Replayed}
+use Rattle.dwarf_replay.specs.declared.steps.Replayed.TheVariants as replayed
+use Rattle.dwarf_replay.specs.declared.steps.Step.{Step}
+
+-- ---- what was done
+
+-- the steps that were done: all; those before the one that isn't allowed; or those up to the one whose reply found no
+-- room
+abbrev pub done_steps : {R O P : Type 0} → (R → Text) → List (Step R) → Replayed R O P → List meaning.Step
+done_steps text steps replayed.Done = steps_of text steps
+done_steps text steps (replayed.Misplaced index) = take index (steps_of text steps)
+done_steps text steps (replayed.NoRoom index answer) = take (suc index) (steps_of text steps)
+
+-- their replies: those of the list, and the one that found no room
+abbrev pub done_replies : {R O P : Type 0} → (R → Text) → (O → ℕ) → List (Answer R O P) → Replayed R O P → List Reply
+done_replies text number given replayed.Done = replies_in text number given
+done_replies text number given (replayed.Misplaced index) = replies_in text number given
+done_replies text number given (replayed.NoRoom index answer) =
+    replies_in text number given ++ reply_in text number answer ∷ []
+
+-- 1 if one of the steps sets an initial value
+abbrev pub initial_items : List meaning.Step → ℕ
+initial_items [] = 0
+initial_items (InitialValue number ∷ steps) = 1
+initial_items (step ∷ steps) = initial_items steps
+
+-- ---- what is left
+
+-- It wasn't started: the setup and the text stay, and no refusal changed anything.
+pub record IsUnbegun (old : State) (steps : List meaning.Step) (replies : List Reply) (new : State) : Type 0 where
+  pub told : Told
+  pub setup : new.setup ≡ old.setup
+  pub text : new.text ≡ old.text
+  pub alike : (r : Refusal) → Tells old steps replies told r
+
+-- It isn't over: the setup stays, no refusal after the inputs so far changed anything, and what is left gives what the
+-- meaning gives for the inputs so far and all that are to come.
+pub record IsLeft (old : State) (steps : List meaning.Step) (replies : List Reply) (new : State) : Type 0 where
+  pub told : Told
+  pub setup : new.setup ≡ old.setup
+  pub alike : (r : Refusal) → IsLater r → Tells old steps replies told (before_inputs (length told.inputs) r)
+  pub more : (r : Refusal) (inputs : List Input) → IsLater r →
+      outcome_of old.setup (before_inputs (length told.inputs) r) old.text
+      (record told { inputs = told.inputs ++ inputs }) ≡ Some (total new r inputs).outcome
+
+-- what is left, by the status
+abbrev pub Leaves : State → List meaning.Step → List Reply → State → Status → Type 0
+Leaves old steps replies new (Start initial_value) = IsUnbegun old steps replies new
+Leaves old steps replies new (RequestStatus request on_answer) = IsLeft old steps replies new
+Leaves old steps replies new (CompleteStatus value) = IsLeft old steps replies new
+Leaves old steps replies new (FaultStatus error) = Unit {0}
+Leaves old steps replies new Running = ⊥

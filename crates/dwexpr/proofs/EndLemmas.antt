@@ -3,10 +3,10 @@ use Rattle.std.proofs.Common.{◌≡◌, inl, inr, ℕ, ◌<◌, ◌≤◌, List
 use Rattle.std.specs.Prelude.{IfSome, IsSome}
 use Rattle.std.specs.Result.{result_unwrap_or}
 use Rattle.dwexpr.specs.Program.{EndsInvocation, EndsCommand, EndsFor, Exits}
-use Rattle.dwexpr_text.specs.Endings.{Ending, WritesEnding, bad_words, no_memory}
-use Rattle.dwexpr_text.specs.Words.{Invocation, invocation_by, invocation_in, bytes_in, command_in, reading_in}
-use Rattle.dwexpr_text.specs.declared.words.Command.{Command}
-use Rattle.dwexpr_text.specs.declared.words.Reading.{Reading}
+use Rattle.dwexpr.specs.Endings.{Ending, WritesEnding, bad_words, no_memory}
+use Rattle.dwexpr.specs.Words.{Invocation, invocation_by, invocation_in, bytes_in, command_in, reading_in}
+use Rattle.dwexpr.specs.declared.words.Command.{Command}
+use Rattle.dwexpr.specs.declared.words.Reading.{Reading}
 
 -- an empty list to which the bytes of a reader were appended
 pub input_read : (left : Option (List ℕ)) (old items input : List ℕ) → old ≡ [] → input ≡ items

@@ -1,3 +1,9 @@
+pub mod DigitLemmas
 pub mod EndLemmas
+pub mod Fronts
+pub mod ListingLemmas
+pub mod NumberLemmas
 pub mod RunLemmas
 pub mod StepLemmas
+pub mod WordLemmas
+pub mod WordTexts

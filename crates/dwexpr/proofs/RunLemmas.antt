@@ -25,7 +25,7 @@ use Rattle.dwexpr.specs.Evaluates.{EndsAt, HasReply, all_done, not_allowed, with
 use Rattle.dwexpr.specs.Steps.{ReadsSteps}
 use Rattle.dwexpr.specs.declared.steps.StepsFault.{StepsFault}
 use Rattle.dwexpr.specs.declared.steps.StepsFault.TheVariants as fault
-use Rattle.dwexpr_text.specs.Endings.{Ending, misplaced, no_memory}
+use Rattle.dwexpr.specs.Endings.{Ending, misplaced, no_memory}
 use Rattle.dwexpr.specs.inner.Replayed.{HasLine, ending_of, standing}
 
 asking_ending : (request : Request) (positions : List Position) (x : State) (status : Status) → IsInRequest request positions x status

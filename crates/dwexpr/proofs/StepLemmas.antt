@@ -5,7 +5,7 @@ use Rattle.std.specs.Str.{IsUtf8, is_utf8}
 use Rattle.std.proofs.lemmas.Str.{IsUtf8-from_is_utf8, is_utf8-from_IsUtf8}
 use Rattle.std.specs.Prelude.{bytes_eq}
 use Rattle.dwarf_meaning.specs.Steps.{Step}
-use Rattle.dwexpr_text.specs.Input.{first_line, lines_within}
+use Rattle.dwexpr.specs.Input.{first_line, lines_within}
 use Rattle.dwexpr.specs.Steps.{named_step_in, said_then, step_in, text_step_in}
 
 -- ---- a line

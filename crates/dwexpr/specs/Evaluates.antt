@@ -6,12 +6,12 @@ use Rattle.dwarf_meaning.specs.Stores.{Setup}
 use Rattle.dwarf_meaning.specs.Meaning.{Outcome, RequestOutcome, FaultOutcome, CompleteOutcome}
 use Rattle.dwarf_meaning.specs.Steps.{Step, Evaluate, Resume, Told, Reply, Allows, AreDone, outcome_of, untold}
 use Rattle.dwarf_meaning.specs.Refusals.{Refusal}
-use Rattle.dwexpr_text.specs.Lines.{reply_lines}
+use Rattle.dwexpr.specs.Lines.{reply_lines}
 use Rattle.dwexpr.specs.declared.steps.StepsFault.{StepsFault}
 use Rattle.dwexpr.specs.declared.steps.StepsFault.TheVariants as fault
-use Rattle.dwexpr_text.specs.Input.{lines_in}
+use Rattle.dwexpr.specs.Input.{lines_in}
 use Rattle.dwexpr.specs.Steps.{steps_in}
-use Rattle.dwexpr_text.specs.Endings.{Ending, bad_step, complete_ending, misplaced, no_memory}
+use Rattle.dwexpr.specs.Endings.{Ending, bad_step, complete_ending, misplaced, no_memory}
 
 -- no list has a limit
 abbrev pub unlimited_setup : Encoding → Setup

@@ -1,4 +1,10 @@
+pub mod Endings
 pub mod Evaluates
+pub mod Input
+pub mod Lines
 pub mod Program
 pub mod Steps
+pub mod Values
+pub mod Words
+pub mod Writing
 pub mod inner

@@ -7,12 +7,12 @@ use Rattle.dwarf_base.specs.ByteOrder.{is_big_of}
 use Rattle.dwarf_base.specs.declared.common.Encoding.{Encoding}
 use Rattle.dwarf_base.specs.Reads.{Text}
 use Rattle.dwexpr.specs.Evaluates.{EvaluatesLines}
-use Rattle.dwexpr_text.specs.Lines.{listing_of}
-use Rattle.dwexpr_text.specs.Endings.{Ending, bad_words, listed, no_memory, unread}
-use Rattle.dwexpr_text.specs.Words.{Invocation, invocation_in}
-use Rattle.dwexpr_text.specs.Writing.{AppendsFront}
-use Rattle.dwexpr_text.specs.declared.words.Command.{Command}
-use Rattle.dwexpr_text.specs.declared.words.Command.TheVariants.{Ops, Eval}
+use Rattle.dwexpr.specs.Lines.{listing_of}
+use Rattle.dwexpr.specs.Endings.{Ending, bad_words, listed, no_memory, unread}
+use Rattle.dwexpr.specs.Words.{Invocation, invocation_in}
+use Rattle.dwexpr.specs.Writing.{AppendsFront}
+use Rattle.dwexpr.specs.declared.words.Command.{Command}
+use Rattle.dwexpr.specs.declared.words.Command.TheVariants.{Ops, Eval}
 
 -- an input was read whole, which is what the reader had left if that is known; or it wasn't
 abbrev pub EvaluatesInput : Encoding → Text → (left : Option (List ℕ)) → Ending → Type 0

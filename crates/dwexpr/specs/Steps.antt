@@ -7,8 +7,8 @@ use Rattle.dwarf_meaning.specs.declared.kinds.WaitingKind.TheVariants as kind
 use Rattle.dwarf_meaning.specs.Requests as requests
 use Rattle.dwarf_meaning.specs.Steps.{Step, InitialValue, ObjectAddress, MaxIterations, Evaluate, Resume}
 use Rattle.dwarf_replay.specs.Stepping.{step_of}
-use Rattle.dwexpr_text.specs.Values.{below, cut_at, number_in, type_in, value_in}
-use Rattle.dwexpr_text.specs.Words.{bytes_in}
+use Rattle.dwexpr.specs.Values.{below, cut_at, number_in, type_in, value_in}
+use Rattle.dwexpr.specs.Words.{bytes_in}
 use Rattle.dwexpr.specs.declared.steps.LineFault.{LineFault}
 use Rattle.dwexpr.specs.declared.steps.LineFault.TheVariants as line
 use Rattle.dwexpr.specs.declared.steps.StepsFault.{StepsFault}

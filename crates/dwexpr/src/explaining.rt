@@ -1,8 +1,11 @@
 // What the program says on standard error. No contract speaks of it, and what can't be written there is lost.
+use crate::hexadecimal::{HexFault, bytes_of};
+use crate::input::first_line;
 use crate::steps::StepsFault;
+use crate::words::{command_of, reading_of};
+use crate::writing::Text;
 use dwarf_eval::eval::{Status, WaitingKind};
 use dwarf_replay::Replayed;
-use dwexpr_text::{HexFault, Text, bytes_of, command_of, first_line, reading_of};
 use std::alloc::Allocator;
 use std::io;
 use std::io::Write;

@@ -1,12 +1,23 @@
 //! `dwexpr` evaluates DWARF expressions, one answer a line.
 #![tactic(auto)]
 
+mod endings;
 mod explaining;
+mod hexadecimal;
+mod input;
+mod lines;
+mod numbers;
+mod operations;
 mod program;
 mod results;
 mod steps;
+#[cfg(test)]
+mod tests;
+mod values;
+mod words;
+mod writing;
 
-pub use dwexpr_text::{HexFault, bytes_of};
+pub use hexadecimal::{HexFault, bytes_of};
 pub use program::run;
 use program::{run_explained, run_without_words};
 use std::alloc::AllocError;

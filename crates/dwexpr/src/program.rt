@@ -7,28 +7,30 @@ ghost use Rattle.dwarf_op.specs.Views.{piece_of};
 ghost use Rattle.dwarf_replay.specs.Replays.{replies_in, steps_of};
 ghost use Rattle.dwarf_meaning.specs.Steps.{untold};
 ghost use Rattle.dwexpr.specs.Evaluates.{EvaluatesSteps, EvaluatesLines, after_replies, bad_steps, unlimited_setup};
-ghost use Rattle.dwexpr_text.specs.Lines.{listing_of, piece_lines, reply_lines};
+ghost use Rattle.dwexpr.specs.Lines.{listing_of, piece_lines, reply_lines};
 ghost use Rattle.dwexpr.specs.Program.{EndsFor, EvaluatesInput, Exits, without_words};
-ghost use Rattle.dwexpr_text.specs.Endings as runs;
-ghost use Rattle.dwexpr_text.specs.Endings.{Ending, WritesEnding, complete_ending, listed};
+ghost use Rattle.dwexpr.specs.Endings as runs;
+ghost use Rattle.dwexpr.specs.Endings.{Ending, WritesEnding, complete_ending, listed};
 ghost use Rattle.dwexpr.specs.inner.Replayed.{HasLine, ending_of, standing};
-ghost use Rattle.dwexpr_text.specs.Writing.{Prints};
+ghost use Rattle.dwexpr.specs.Writing.{Prints};
 
+use crate::endings::{DONE, FAILED, bad_step, bad_words, misplaced, no_memory};
 use crate::explaining::{
     explain_no_words, explain_read, explain_replayed, explain_steps, explain_words, explain_write,
 };
+use crate::hexadecimal::{HexFault, bytes_of};
+use crate::lines::print_value_line;
+use crate::operations::print_operations;
 use crate::results::{print_piece, print_reply};
 use crate::steps::{StepsFault, borrow_steps, steps_in};
+use crate::words::{Command, Reading, command_of, reading_of};
+use crate::writing::Text;
 use dwarf_base::EndianSlice;
 use dwarf_eval::eval::{Evaluation, Status};
 use dwarf_eval::op::Piece;
 use dwarf_eval::store::{EvaluationStorage, StoreOnHeap};
 use dwarf_replay::{Answer, Replayed, Step, replay};
 use dwarf_value::Value;
-use dwexpr_text::{
-    Command, DONE, FAILED, HexFault, Reading, Text, bad_step, bad_words, bytes_of, command_of,
-    misplaced, no_memory, print_operations, print_value_line, reading_of,
-};
 use std::alloc::Allocator;
 use std::io;
 use std::io::{ErrorKind, Read, Write};

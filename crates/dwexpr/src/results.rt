@@ -1,16 +1,17 @@
 ghost use Rattle.dwarf_base.specs.EndianSlice.{slice_text};
 ghost use Rattle.dwarf_eval.specs.Evaluation.{reply_of, ok_reply};
 ghost use Rattle.dwarf_op.specs.Views.{piece_of};
-ghost use Rattle.dwexpr_text.specs.Lines.{piece_line, reply_line};
-ghost use Rattle.dwexpr_text.specs.Writing.{Prints};
+ghost use Rattle.dwexpr.specs.Lines.{piece_line, reply_line};
+ghost use Rattle.dwexpr.specs.Writing.{Prints};
 
+use crate::lines::{
+    number_word, print_address, print_fault, print_indexed, print_memory, print_name,
+    print_numbered, print_reference, print_register,
+};
+use crate::writing::{Text, Word, put_line};
 use dwarf_base::ReaderOffset;
 use dwarf_eval::op::{EvaluationResult, Location, Piece};
 use dwarf_replay::Answer;
-use dwexpr_text::{
-    Text, Word, number_word, print_address, print_fault, print_indexed, print_memory, print_name,
-    print_numbered, print_reference, print_register, put_line,
-};
 use std::io;
 use std::io::Write;
 

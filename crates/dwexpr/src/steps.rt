@@ -5,11 +5,15 @@ ghost use Rattle.dwarf_replay.specs.Replays.{steps_of};
 ghost use Rattle.dwarf_replay.specs.Stepping.{step_of};
 ghost use Rattle.dwexpr.specs.Steps as spec;
 ghost use Rattle.dwexpr.specs.Steps.{ReadsStep, ReadsSteps, step_owned};
-ghost use Rattle.dwexpr_text.specs.Input.{lines_in};
+ghost use Rattle.dwexpr.specs.Input.{lines_in};
 
+use crate::hexadecimal::{HexFault, bytes_of};
+use crate::input::first_line;
+use crate::numbers::number_of;
+use crate::values::{type_of, value_of};
+use crate::writing::Text;
 use dwarf_base::{EndianSlice, RunTimeEndian};
 use dwarf_replay::Step;
-use dwexpr_text::{HexFault, Text, bytes_of, first_line, number_of, type_of, value_of};
 use std::alloc::{AllocError, Allocator};
 
 /// A step that owns its text.

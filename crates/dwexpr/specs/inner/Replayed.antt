@@ -3,7 +3,7 @@ use Rattle.std.specs.Prelude.{[], ◌<◌, ◌-◌, ◌^◌}
 use Rattle.dwarf_meaning.specs.Rest.{State, Status, CompleteStatus, FaultStatus}
 use Rattle.dwarf_replay.specs.declared.steps.Replayed.{Replayed}
 use Rattle.dwarf_replay.specs.declared.steps.Replayed.TheVariants as replayed
-use Rattle.dwexpr_text.specs.Endings.{Ending, complete_ending, misplaced, no_memory}
+use Rattle.dwexpr.specs.Endings.{Ending, complete_ending, misplaced, no_memory}
 
 -- where an evaluation stands
 abbrev pub standing : State → Status → Ending

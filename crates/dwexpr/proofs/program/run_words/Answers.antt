@@ -1,9 +1,9 @@
 use Rattle.std.proofs.Common.{Some, None, Err, sym, ◌∙◌, ap, refl, arith, map, string_bytes}
 use Rattle.dwarf_base.specs.ByteOrder.{is_big_of}
-use Rattle.dwexpr_text.specs.Lines.{listing_of}
-use Rattle.dwexpr_text.specs.Endings.{bad_words, listed, no_memory}
-use Rattle.dwexpr_text.specs.Words.{bytes_in, command_in}
-use Rattle.dwexpr_text.specs.declared.words.Command.TheVariants.{Ops, Eval}
+use Rattle.dwexpr.specs.Lines.{listing_of}
+use Rattle.dwexpr.specs.Endings.{bad_words, listed, no_memory}
+use Rattle.dwexpr.specs.Words.{bytes_in, command_in}
+use Rattle.dwexpr.specs.declared.words.Command.TheVariants.{Ops, Eval}
 use Rattle.dwexpr.proofs.EndLemmas.{invocation_of, ends_invocation, ends_bad_words, ends_without_memory, lacks_bytes, lacks_reading, not_six, reading_as, six_words}
 use Rattle.dwexpr.proofs.program.run_words.Goals as goal
 use Rattle.dwexpr.proofs.program.run_words.Goals.{in_default-via-then-words-lt6, in_default-via-else-words-lt6+else-words-lt7}

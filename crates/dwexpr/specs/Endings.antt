@@ -1,0 +1,43 @@
+-- What is printed after the replies of an evaluation, and the status that the program ends with.
+use Rattle.std.specs.Prelude.{ℕ, ◌≡◌, ◌+◌, ◌++◌, codes, decimal, List, [], ◌∷◌, Option, Result, IfOk, if◌then◌else◌}
+use Rattle.dwarf_value.specs.declared.types.Value.{Value}
+use Rattle.dwarf_meaning.specs.Locations.{Piece}
+use Rattle.dwexpr.specs.Lines.{Listing, piece_lines, value_line}
+use Rattle.dwexpr.specs.Writing.{Prints, line}
+
+-- lines, and the status: 0 if all was done, 1 if it failed, 2 if the words or the lines are wrong
+pub record Ending : Type 0 where
+  pub text : List ℕ
+  pub status : ℕ
+
+-- all of it was written, and this is the status; or a front of it, if a write was refused
+abbrev pub WritesEnding : {E : Type 0} → (old new : Option (List ℕ)) → Ending → Result ℕ E → Type 0
+WritesEnding old new ending result = Prints old new ending.text result × IfOk result (λ status. status ≡ ending.status)
+
+-- the words aren't of their form
+abbrev pub bad_words : Ending
+bad_words = record { text = line (codes "bad words") []; status = 2 }
+
+-- memory was refused
+abbrev pub no_memory : Ending
+no_memory = record { text = line (codes "no memory") []; status = 1 }
+
+-- the input could not be read
+abbrev pub unread : Ending
+unread = record { text = []; status = 1 }
+
+-- the line of this number is no step
+abbrev pub bad_step : (number : ℕ) → Ending
+bad_step number = record { text = line (codes "bad step") (decimal number ∷ []); status = 2 }
+
+-- the step at this index, from 0, isn't allowed: its line, from 1
+abbrev pub misplaced : (index : ℕ) → Ending
+misplaced index = record { text = line (codes "misplaced") (decimal (index + 1) ∷ []); status = 2 }
+
+-- the operations of `ops`
+abbrev pub listed : Listing → Ending
+listed listing = record { text = listing.text; status = if listing.is_whole then 0 else 1 }
+
+-- the pieces and the value of a complete evaluation
+abbrev pub complete_ending : List Piece → Option Value → Ending
+complete_ending pieces value = record { text = piece_lines pieces ++ value_line value; status = 0 }

@@ -1,0 +1,75 @@
+-- The words of the program: `ops|eval ADDR OFFSET VERSION ORDER HEX`.
+use Rattle.std.specs.Result.{result_ok}
+use Rattle.std.specs.Map.{lookup}
+use Rattle.std.specs.Prelude.{ℕ, ◌==◌, codes, bytes_eq, List, [], ◌∷◌, Option, Some, None, if◌then◌else◌}
+use Rattle.hex.specs.Hex.{decode_of}
+use Rattle.dwarf_base.specs.declared.common.Format.{Format}
+use Rattle.dwarf_base.specs.declared.common.Format.TheVariants.{Dwarf32, Dwarf64}
+use Rattle.dwarf_base.specs.declared.byte_order.RunTimeEndian.{RunTimeEndian}
+use Rattle.dwarf_base.specs.declared.byte_order.RunTimeEndian.TheVariants.{Little, Big}
+use Rattle.dwexpr.specs.declared.words.Command.{Command}
+use Rattle.dwexpr.specs.declared.words.Command.TheVariants.{Ops, Eval}
+use Rattle.dwexpr.specs.declared.words.Reading.{Reading}
+
+-- ---- HEX
+
+-- the bytes of a word: none of the word `-`, and else those of a positive even number of digits
+abbrev pub bytes_in : List ℕ → Option (List ℕ)
+bytes_in [] = None
+bytes_in (byte ∷ []) = if byte == 45 then Some [] else None
+bytes_in (byte ∷ next ∷ rest) = result_ok (decode_of (byte ∷ next ∷ rest))
+
+-- ---- the words before it
+
+-- the first word: `ops` or `eval`
+abbrev pub command_in : List ℕ → Option Command
+command_in word = lookup (bytes_eq word) ((codes "ops", Ops) ∷ (codes "eval", Eval) ∷ [])
+
+-- ADDR: the size of an address in bytes
+abbrev pub address_size_in : List ℕ → Option ℕ
+address_size_in word =
+    lookup (bytes_eq word) ((codes "1", 1) ∷ (codes "2", 2) ∷ (codes "3", 3) ∷ (codes "4", 4) ∷ (codes "5", 5)
+    ∷ (codes "6", 6) ∷ (codes "7", 7) ∷ (codes "8", 8) ∷ [])
+
+-- OFFSET: the size of an offset in bytes, which the format sets
+abbrev pub format_in : List ℕ → Option Format
+format_in word = lookup (bytes_eq word) ((codes "4", Dwarf32) ∷ (codes "8", Dwarf64) ∷ [])
+
+-- VERSION: that of DWARF
+abbrev pub version_in : List ℕ → Option ℕ
+version_in word = lookup (bytes_eq word) ((codes "2", 2) ∷ (codes "3", 3) ∷ (codes "4", 4) ∷ (codes "5", 5) ∷ [])
+
+-- ORDER: that of bytes
+abbrev pub order_in : List ℕ → Option RunTimeEndian
+order_in word = lookup (bytes_eq word) ((codes "le", Little) ∷ (codes "be", Big) ∷ [])
+
+-- all four
+abbrev pub reading_of : Option ℕ → Option Format → Option ℕ → Option RunTimeEndian → Option Reading
+reading_of (Some size) (Some format) (Some version) (Some order) =
+    Some (record { encoding = record { address_size = size; format = format; version = version }; order = order })
+reading_of _ _ _ _ = None
+
+-- how the bytes are to be read
+abbrev pub reading_in : (size offsets version order : List ℕ) → Option Reading
+reading_in size offsets version order =
+    reading_of (address_size_in size) (format_in offsets) (version_in version) (order_in order)
+
+-- ---- all words
+
+-- what is asked for: what is to be done, with which bytes, and how they are to be read
+pub record Invocation : Type 0 where
+  pub command : Command
+  pub reading : Reading
+  pub bytes : List ℕ
+
+-- all three
+abbrev pub invocation_by : Option Command → Option Reading → Option (List ℕ) → Option Invocation
+invocation_by (Some command) (Some reading) (Some bytes) =
+    Some (record { command = command; reading = reading; bytes = bytes })
+invocation_by _ _ _ = None
+
+-- six words, each of its form
+abbrev pub invocation_in : List (List ℕ) → Option Invocation
+invocation_in (command ∷ size ∷ offsets ∷ version ∷ order ∷ hexadecimal ∷ []) =
+    invocation_by (command_in command) (reading_in size offsets version order) (bytes_in hexadecimal)
+invocation_in _ = None

@@ -1,0 +1,48 @@
+ghost use Rattle.std.specs.Prelude.{◌≡◌, ◌==◌, ◌<◌, length};
+ghost use Rattle.std.specs.List.{position};
+ghost use Rattle.std.specs.Str.Lines.{strip_carriage_return};
+ghost use Rattle.dwexpr.specs.Input as spec;
+
+/// A line of the input, and what follows it.
+#[derive(Clone, Copy)]
+pub(crate) struct Line<'a> {
+    /// The line, without its end.
+    pub(crate) text: &'a [u8],
+    /// What follows it.
+    pub(crate) rest: &'a [u8],
+}
+
+/// The text without a carriage return at its end.
+fn without_return(text: &[u8]) -> &[u8]
+    ensures { result.now ≡ strip_carriage_return text.now }
+{
+    match text {
+        [front @ .., b'\r'] => front,
+        _ => text,
+    }
+}
+
+/// Where the first line feed stands.
+fn line_feed_in(input: &[u8]) -> Option<usize>
+    ensures { result ≡ position (λ byte. byte == 10) input.now }
+{
+    input.iter().position(|byte| *byte == b'\n')
+}
+
+/// The first line: up to a line feed, or all of the input if there is none.
+pub(crate) fn first_line(input: &[u8]) -> Line<'_>
+    requires { 0 < length input.now }
+    ensures line { (result.text.now, result.rest.now) ≡ spec.first_line input.now }
+    ensures less { length result.rest.now < length input.now }
+{
+    match line_feed_in(input) {
+        Some(end) => Line {
+            text: without_return(&input[..end]),
+            rest: &input[end + 1..],
+        },
+        None => Line {
+            text: input,
+            rest: &[],
+        },
+    }
+}

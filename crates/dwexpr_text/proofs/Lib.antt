@@ -1,6 +1,0 @@
-pub mod DigitLemmas
-pub mod Fronts
-pub mod ListingLemmas
-pub mod NumberLemmas
-pub mod WordLemmas
-pub mod WordTexts

@@ -1,5 +1,0 @@
-use Rattle.dwexpr_text.proofs.Fronts.{Written}
-use Rattle.dwexpr_text.proofs.writing.put.Given as goal
-
-abbrev pub invariant-loop : goal.invariant-loop
-invariant-loop g l = Written (g.W.Write.contents l.fn.output) (g.W.Write.contents l.output) l.fn.bytes l.left

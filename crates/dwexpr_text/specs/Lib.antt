@@ -1,6 +1,0 @@
-pub mod Endings
-pub mod Input
-pub mod Lines
-pub mod Values
-pub mod Words
-pub mod Writing

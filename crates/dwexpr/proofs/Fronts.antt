@@ -1,6 +1,8 @@
 -- What was written, one part after another.
-use Rattle.std.proofs.Common.{◌≡◌, ℕ, List, [], ◌++◌, Option, Some, None, Result, Ok, Err, refl, sym, ◌∙◌, ap, subst, append_assoc, append-nil, arith, take, drop, take-append-drop, take_all, length-drop, length, ◌-◌, IsErr, true≢false}
+use Rattle.std.proofs.Common.{◌≡◌, ℕ, suc, ◌+◌, ◌<◌, List, [], ◌++◌, Option, Some, None, Result, Ok, Err, refl, sym, ◌∙◌, ap, subst, append_assoc, append-nil, arith, take, drop, drop-cons, get_or, map, take-append-drop, take_all, length-drop, length, ◌-◌, IsErr, true≢false}
+use Rattle.std.specs.List.{concat}
 use Rattle.std.specs.Io.KnownBytes.{Appends, Keeps}
+use Rattle.dwexpr.specs.Endings.{Ending, WritesEnding}
 use Rattle.dwexpr.specs.Writing.{AppendsFront, Prints}
 
 -- ---- two parts
@@ -87,3 +89,25 @@ taken_front a b c text left more n h e k =
     let same = e ∙ take_all (length left - n) (drop n left) (omega (arith, length-drop n left)) in
     as_rest a c text (drop n left) more (sym same)
     (more_of a b c text (take n left) (drop n left) (as_rest a b text left _ (sym (take-append-drop n left)) h) k)
+
+-- ---- lines and endings
+
+-- the lines of a list, from an index on
+pub lines_at : {X Y : Type 0} (f : Y → List ℕ) (of : X → Y) (xs : List X) (i : ℕ) (d : X) → i < length xs
+    → concat (map f (map of (drop i xs))) ≡ f (of (get_or xs i d)) ++ concat (map f (map of (drop (i + 1) xs)))
+lines_at f of xs i d inside =
+    ap (λ z. concat (map f (map of z))) (drop-cons xs i d inside)
+    ∙ ap (λ k. f (of (get_or xs i d)) ++ concat (map f (map of (drop k xs)))) {x = suc i} {y = i + 1} (omega arith)
+
+pub ends_refused : {E F : Type 0} (a b c : Option (List ℕ)) (ending : Ending) (x rest : List ℕ) (r : Result ℕ E)
+    → Written a b ending.text (x ++ rest) → AppendsFront b c x → IsErr r × F
+    → WritesEnding a c ending r
+ends_refused a b c ending x rest (Ok u) h k refused = absurd (true≢false (sym refused.0))
+ends_refused a b c ending x rest (Err u) h k refused = (refused_in {T = ℕ} a b c ending.text x rest (Err u) h k refused, tt)
+
+pub ends_beyond : {E : Type 0} (a b c : Option (List ℕ)) (first : List ℕ) (ending : Ending) (r : Result ℕ E)
+    → Appends a b first → WritesEnding b c ending r
+    → WritesEnding a c (record ending { text = first ++ ending.text }) r
+ends_beyond a b c first ending (Ok u) h k = (appends_both a b c first ending.text (first ++ ending.text) refl h k.0, k.1)
+ends_beyond a b c first ending (Err u) h k =
+    (last_of {T = ℕ} a b c (first ++ ending.text) ending.text (Err u) (more_of a a b (first ++ ending.text) first ending.text (begun a (first ++ ending.text)) h) k.0, tt)

@@ -1,7 +1,7 @@
 pub mod DigitLemmas
 pub mod EndLemmas
 pub mod Fronts
-pub mod ListingLemmas
+pub mod Listings
 pub mod NumberLemmas
 pub mod RunLemmas
 pub mod StepLemmas

@@ -1,8 +1,8 @@
 -- What is printed after the replies of an evaluation, and the status that the program ends with.
-use Rattle.std.specs.Prelude.{ℕ, ◌≡◌, ◌+◌, ◌++◌, codes, decimal, List, [], ◌∷◌, Option, Result, IfOk, if◌then◌else◌}
+use Rattle.std.specs.Prelude.{ℕ, ◌≡◌, ◌+◌, ◌++◌, codes, decimal, List, [], ◌∷◌, Option, Result, IfOk}
 use Rattle.dwarf_value.specs.declared.types.Value.{Value}
 use Rattle.dwarf_meaning.specs.Locations.{Piece}
-use Rattle.dwexpr.specs.Lines.{Listing, piece_lines, value_line}
+use Rattle.dwexpr.specs.Lines.{piece_lines, value_line}
 use Rattle.dwexpr.specs.Writing.{Prints, line}
 
 -- lines, and the status: 0 if all was done, 1 if it failed, 2 if the words or the lines are wrong
@@ -33,10 +33,6 @@ bad_step number = record { text = line (codes "bad step") (decimal number ∷ []
 -- the step at this index, from 0, isn't allowed: its line, from 1
 abbrev pub misplaced : (index : ℕ) → Ending
 misplaced index = record { text = line (codes "misplaced") (decimal (index + 1) ∷ []); status = 2 }
-
--- the operations of `ops`
-abbrev pub listed : Listing → Ending
-listed listing = record { text = listing.text; status = if listing.is_whole then 0 else 1 }
 
 -- the pieces and the value of a complete evaluation
 abbrev pub complete_ending : List Piece → Option Value → Ending

@@ -2,6 +2,7 @@ pub mod Endings
 pub mod Evaluates
 pub mod Input
 pub mod Lines
+pub mod Listing
 pub mod Program
 pub mod Steps
 pub mod Values

@@ -6,9 +6,10 @@ use Rattle.std.specs.declared.io.ErrorKind.TheVariants.{InvalidData}
 use Rattle.dwarf_base.specs.ByteOrder.{is_big_of}
 use Rattle.dwarf_base.specs.declared.common.Encoding.{Encoding}
 use Rattle.dwarf_base.specs.Reads.{Text}
+use Rattle.dwarf_meaning.specs.Operands.{context_of}
 use Rattle.dwexpr.specs.Evaluates.{EvaluatesLines}
-use Rattle.dwexpr.specs.Lines.{listing_of}
-use Rattle.dwexpr.specs.Endings.{Ending, bad_words, listed, no_memory, unread}
+use Rattle.dwexpr.specs.Endings.{Ending, bad_words, no_memory, unread}
+use Rattle.dwexpr.specs.Listing.{ListsOperations}
 use Rattle.dwexpr.specs.Words.{Invocation, invocation_in}
 use Rattle.dwexpr.specs.Writing.{AppendsFront}
 use Rattle.dwexpr.specs.declared.words.Command.{Command}
@@ -23,7 +24,7 @@ EvaluatesInput encoding text left ending =
 -- what a command ends with
 abbrev pub EndsCommand : Command → Invocation → (left : Option (List ℕ)) → Ending → Type 0
 EndsCommand Ops asked left ending =
-    ending ≡ listed (listing_of asked.reading.encoding (is_big_of asked.reading.order) asked.bytes)
+    ListsOperations (context_of asked.reading.encoding 64 (is_big_of asked.reading.order)) 0 asked.bytes ending
 EndsCommand Eval asked left ending =
     EvaluatesInput asked.reading.encoding
     (record { bytes = asked.bytes; is_big = is_big_of asked.reading.order }) left ending

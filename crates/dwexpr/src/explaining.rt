@@ -2,7 +2,7 @@
 use crate::hexadecimal::{HexFault, bytes_of};
 use crate::input::first_line;
 use crate::steps::StepsFault;
-use crate::words::{command_of, reading_of};
+use crate::words::{Words, command_of, reading_of, six_words};
 use crate::writing::Text;
 use dwarf_eval::eval::{Status, WaitingKind};
 use dwarf_replay::Replayed;
@@ -47,29 +47,30 @@ fn bad_word<'a>(number: usize, text: &'a str, expected: &'static str) -> Option<
     })
 }
 
-/// The first of the six words that is bad, if one is.
-fn complaint_of<'a, A: Allocator>(alloc: A, words: [&'a str; 6]) -> Option<Complaint<'a>> {
-    let [command, size, offsets, version, order, hexadecimal] = words;
-    if command_of(command).is_none() {
-        return bad_word(1, command, "ops or eval");
+/// The first of the words that is bad, if one is.
+fn complaint_of<A: Allocator>(alloc: A, words: Words<'_>) -> Option<Complaint<'_>> {
+    if command_of(words.command).is_none() {
+        return bad_word(1, words.command, "ops or eval");
     }
     // Each of these words is judged beside three that are good.
-    if reading_of(size, "4", "5", "le").is_none() {
-        return bad_word(2, size, "the size of an address in bytes, 1 to 8");
+    if reading_of(words.address_size, "4", "5", "le").is_none() {
+        let expected = "the size of an address in bytes, 1 to 8";
+        return bad_word(2, words.address_size, expected);
     }
-    if reading_of("4", offsets, "5", "le").is_none() {
-        return bad_word(3, offsets, "the size of an offset in bytes, 4 or 8");
+    if reading_of("4", words.offset_size, "5", "le").is_none() {
+        let expected = "the size of an offset in bytes, 4 or 8";
+        return bad_word(3, words.offset_size, expected);
     }
-    if reading_of("4", "4", version, "le").is_none() {
-        return bad_word(4, version, "the version of DWARF, 2 to 5");
+    if reading_of("4", "4", words.version, "le").is_none() {
+        return bad_word(4, words.version, "the version of DWARF, 2 to 5");
     }
-    if reading_of("4", "4", "5", order).is_none() {
-        return bad_word(5, order, "the byte order, le or be");
+    if reading_of("4", "4", "5", words.order).is_none() {
+        return bad_word(5, words.order, "the byte order, le or be");
     }
-    match bytes_of(alloc, hexadecimal) {
+    match bytes_of(alloc, words.bytes) {
         Err(HexFault::Bad) => bad_word(
             6,
-            hexadecimal,
+            words.bytes,
             "pairs of hexadecimal digits, or - for no bytes",
         ),
         _ => None,
@@ -82,7 +83,7 @@ pub(crate) fn explain_words<A: Allocator + Copy, E: Write>(
     words: &[String<A>],
     errors: &mut E,
 ) {
-    let [command, size, offsets, version, order, hexadecimal] = words else {
+    let Some(six) = six_words(words) else {
         let _ = writeln!(
             errors,
             "dwexpr: {} words: expected 6, ops or eval and ADDR OFFSET VERSION ORDER HEX",
@@ -90,15 +91,7 @@ pub(crate) fn explain_words<A: Allocator + Copy, E: Write>(
         );
         return;
     };
-    let words = [
-        command.as_str(),
-        size.as_str(),
-        offsets.as_str(),
-        version.as_str(),
-        order.as_str(),
-        hexadecimal.as_str(),
-    ];
-    if let Some(complaint) = complaint_of(alloc, words) {
+    if let Some(complaint) = complaint_of(alloc, six) {
         let _ = put_complaint(errors, complaint);
     }
 }

@@ -1,86 +1,84 @@
 ghost use Rattle.std.specs.Option.{option_map_or};
 ghost use Rattle.std.specs.Prelude.{◌≡◌, [], ◌∷◌, decimal, codes, if◌then◌else◌};
+ghost use Rattle.dwarf_base.specs.EndianSlice.{slice_text};
 ghost use Rattle.dwarf_base.specs.Faults.{fault_of};
-ghost use Rattle.dwarf_meaning.specs.Requests.{RequiresMemory, RequiresRegister, RequiresAtLocation, RequiresIndexedAddress};
-ghost use Rattle.dwarf_op.specs.Views.{reference_of};
-ghost use Rattle.dwexpr.specs.Lines.{fault_line, request_line, value_line};
+ghost use Rattle.dwarf_eval.specs.Evaluation.{reply_of, ok_reply};
+ghost use Rattle.dwarf_meaning.specs.Requests.{RequiresAtLocation};
+ghost use Rattle.dwarf_op.specs.Views.{piece_of, reference_of};
+ghost use Rattle.dwexpr.specs.Lines.{fault_line, fault_words, piece_line, reply_line, request_line, value_line};
 ghost use Rattle.dwexpr.specs.Writing.{Prints, hexadecimal, line, word_text};
 
-use crate::writing::{Word, put_line};
-use dwarf_base::{DebugAddrIndex, Error, ReaderOffset, Register, UnitOffset};
-use dwarf_op::DieReference;
+use crate::writing::{Text, Word, put_line, put_numbered_line};
+use dwarf_base::{Error, ReaderOffset};
+use dwarf_eval::op::{DieReference, EvaluationResult, Location, Piece};
+use dwarf_replay::Answer;
 use dwarf_value::Value;
 use std::io;
 use std::io::Write;
 
-/// A fault that carries nothing.
-fn print_plain_fault<W: Write>(output: &mut W, name: &'static str) -> io::Result<()>
-    ensures { Prints (W.contents output.old) (W.contents output.new)
-        (line (codes "fault") (name.now ∷ [])) result }
+/// The name of a fault, and the number that it carries.
+fn words_of(error: Error) -> (&'static str, Option<u64>)
+    ensures { fault_words (fault_of error)
+        ≡ result.0.now ∷ option_map_or (λ number. decimal number ∷ []) result.1 [] }
 {
-    put_line(output, "fault", &[Word::Name(name)])
+    match error {
+        Error::UnexpectedEof(_) => ("UnexpectedEof", None),
+        Error::BadUnsignedLeb128 => ("BadUnsignedLeb128", None),
+        Error::BadSignedLeb128 => ("BadSignedLeb128", None),
+        Error::UnsupportedAddressSize(size) => ("UnsupportedAddressSize", Some(u64::from(size))),
+        Error::UnsupportedOffset => ("UnsupportedOffset", None),
+        Error::UnsupportedRegister(register) => ("UnsupportedRegister", Some(register)),
+        Error::InvalidExpression(opcode) => ("InvalidExpression", Some(u64::from(opcode.0))),
+        Error::InvalidPieceSize(size) => ("InvalidPieceSize", Some(size)),
+        Error::UnsupportedTypeOperation => ("UnsupportedTypeOperation", None),
+        Error::TypeMismatch => ("TypeMismatch", None),
+        Error::DivisionByZero => ("DivisionByZero", None),
+        Error::InvalidShiftExpression => ("InvalidShiftExpression", None),
+        Error::NotEnoughStackItems => ("NotEnoughStackItems", None),
+        Error::InvalidDerefSize(size) => ("InvalidDerefSize", Some(u64::from(size))),
+        Error::InvalidPushObjectAddress => ("InvalidPushObjectAddress", None),
+        Error::UnsupportedEvaluation => ("UnsupportedEvaluation", None),
+        Error::BadBranchTarget(target) => ("BadBranchTarget", Some(target)),
+        Error::TooManyIterations => ("TooManyIterations", None),
+        Error::InvalidPiece => ("InvalidPiece", None),
+        Error::InvalidExpressionTerminator(place) => ("InvalidExpressionTerminator", Some(place)),
+        Error::StackFull => ("StackFull", None),
+    }
 }
 
-/// A fault that carries a number.
-fn print_numbered_fault<W: Write>(output: &mut W, name: &'static str, number: u64) -> io::Result<()>
-    ensures { Prints (W.contents output.old) (W.contents output.new)
-        (line (codes "fault") (name.now ∷ decimal number ∷ [])) result }
-{
-    put_line(output, "fault", &[Word::Name(name), Word::Number(number)])
-}
-
-/// A fault: its name, and the number that it carries.
+/// The line of a fault.
 pub(crate) fn print_fault<W: Write>(output: &mut W, error: Error) -> io::Result<()>
     ensures { Prints (W.contents output.old) (W.contents output.new) (fault_line (fault_of error))
         result }
 {
-    match error {
-        Error::UnexpectedEof(_) => print_plain_fault(output, "UnexpectedEof"),
-        Error::BadUnsignedLeb128 => print_plain_fault(output, "BadUnsignedLeb128"),
-        Error::BadSignedLeb128 => print_plain_fault(output, "BadSignedLeb128"),
-        Error::UnsupportedAddressSize(size) => {
-            print_numbered_fault(output, "UnsupportedAddressSize", u64::from(size))
-        }
-        Error::UnsupportedOffset => print_plain_fault(output, "UnsupportedOffset"),
-        Error::UnsupportedRegister(register) => {
-            print_numbered_fault(output, "UnsupportedRegister", register)
-        }
-        Error::InvalidExpression(opcode) => {
-            print_numbered_fault(output, "InvalidExpression", u64::from(opcode.0))
-        }
-        Error::InvalidPieceSize(size) => print_numbered_fault(output, "InvalidPieceSize", size),
-        Error::UnsupportedTypeOperation => print_plain_fault(output, "UnsupportedTypeOperation"),
-        Error::TypeMismatch => print_plain_fault(output, "TypeMismatch"),
-        Error::DivisionByZero => print_plain_fault(output, "DivisionByZero"),
-        Error::InvalidShiftExpression => print_plain_fault(output, "InvalidShiftExpression"),
-        Error::NotEnoughStackItems => print_plain_fault(output, "NotEnoughStackItems"),
-        Error::InvalidDerefSize(size) => {
-            print_numbered_fault(output, "InvalidDerefSize", u64::from(size))
-        }
-        Error::InvalidPushObjectAddress => print_plain_fault(output, "InvalidPushObjectAddress"),
-        Error::UnsupportedEvaluation => print_plain_fault(output, "UnsupportedEvaluation"),
-        Error::BadBranchTarget(target) => print_numbered_fault(output, "BadBranchTarget", target),
-        Error::TooManyIterations => print_plain_fault(output, "TooManyIterations"),
-        Error::InvalidPiece => print_plain_fault(output, "InvalidPiece"),
-        Error::InvalidExpressionTerminator(place) => {
-            print_numbered_fault(output, "InvalidExpressionTerminator", place)
-        }
-        Error::StackFull => print_plain_fault(output, "StackFull"),
+    match words_of(error) {
+        (name, Some(number)) => put_line(
+            output,
+            "fault",
+            &[Word::Name(name), Word::Number(number)],
+        ),
+        (name, None) => put_line(output, "fault", &[Word::Name(name)]),
     }
 }
 
-/// The line of the value of a complete evaluation.
-pub(crate) fn print_value_line<W: Write>(output: &mut W, value: Option<Value>) -> io::Result<()>
-    ensures { Prints (W.contents output.old) (W.contents output.new) (value_line value) result }
+/// The line of a fault at a place.
+pub(crate) fn print_fault_at<W: Write>(output: &mut W, place: u64, error: Error) -> io::Result<()>
+    ensures { Prints (W.contents output.old) (W.contents output.new)
+        (line (decimal place) (codes "fault" ∷ fault_words (fault_of error))) result }
 {
-    match value {
-        Some(value) => put_line(output, "value", &[Word::Value(value)]),
-        None => put_line(output, "value", &[Word::Name("none")]),
+    let first = Word::Name("fault");
+    match words_of(error) {
+        (name, Some(number)) => put_numbered_line(
+            output,
+            place,
+            &[first, Word::Name(name), Word::Number(number)],
+        ),
+        (name, None) => put_numbered_line(output, place, &[first, Word::Name(name)]),
     }
 }
 
 /// A number, or `none`.
-pub(crate) fn number_word(number: Option<u64>) -> Word<'static>
+fn number_word(number: Option<u64>) -> Word<'static>
     ensures { word_text result ≡ option_map_or decimal number (codes "none") }
 {
     match number {
@@ -90,7 +88,7 @@ pub(crate) fn number_word(number: Option<u64>) -> Word<'static>
 }
 
 /// A space of addresses, or `none`.
-fn space_name(space: Option<u64>) -> Word<'static>
+fn space_word(space: Option<u64>) -> Word<'static>
     ensures { word_text result ≡ option_map_or hexadecimal space (codes "none") }
 {
     match space {
@@ -100,7 +98,7 @@ fn space_name(space: Option<u64>) -> Word<'static>
 }
 
 /// Whether an address is wanted relocated.
-fn relocate_name(relocate: bool) -> Word<'static>
+fn relocate_word(relocate: bool) -> Word<'static>
     ensures { word_text result ≡ (if relocate then codes "relocate" else codes "keep") }
 {
     if relocate {
@@ -110,75 +108,8 @@ fn relocate_name(relocate: bool) -> Word<'static>
     }
 }
 
-/// A line of one word.
-pub(crate) fn print_name<W: Write>(output: &mut W, name: &str) -> io::Result<()>
-    ensures { Prints (W.contents output.old) (W.contents output.new) (line name.now []) result }
-{
-    put_line(output, name, &[])
-}
-
-/// A request with one number.
-pub(crate) fn print_numbered<W: Write>(output: &mut W, name: &str, number: u64) -> io::Result<()>
-    ensures { Prints (W.contents output.old) (W.contents output.new)
-        (line name.now (decimal number ∷ [])) result }
-{
-    put_line(output, name, &[Word::Number(number)])
-}
-
-/// A request with one address.
-pub(crate) fn print_address<W: Write>(output: &mut W, name: &str, address: u64) -> io::Result<()>
-    ensures { Prints (W.contents output.old) (W.contents output.new)
-        (line name.now (hexadecimal address ∷ [])) result }
-{
-    put_line(output, name, &[Word::Hexadecimal(address)])
-}
-
-/// The request of what memory holds.
-pub(crate) fn print_memory<W: Write>(
-    output: &mut W,
-    address: u64,
-    size: u8,
-    space: Option<u64>,
-    base_type: UnitOffset<usize>,
-) -> io::Result<()>
-    ensures { Prints (W.contents output.old) (W.contents output.new)
-        (request_line (RequiresMemory address size space base_type.0)) result }
-{
-    let place = Word::Hexadecimal(address);
-    let count = Word::Number(u64::from(size));
-    let base = Word::Number(base_type.0.into_u64());
-    put_line(output, "memory", &[place, count, space_name(space), base])
-}
-
-/// The request of what a register holds.
-pub(crate) fn print_register<W: Write>(
-    output: &mut W,
-    register: Register,
-    base_type: UnitOffset<usize>,
-) -> io::Result<()>
-    ensures { Prints (W.contents output.old) (W.contents output.new)
-        (request_line (RequiresRegister register.0 base_type.0)) result }
-{
-    let number = Word::Number(u64::from(register.0));
-    let base = Word::Number(base_type.0.into_u64());
-    put_line(output, "register", &[number, base])
-}
-
-/// The request of an address or a constant of `.debug_addr`.
-pub(crate) fn print_indexed<W: Write>(
-    output: &mut W,
-    index: DebugAddrIndex<usize>,
-    relocate: bool,
-) -> io::Result<()>
-    ensures { Prints (W.contents output.old) (W.contents output.new)
-        (request_line (RequiresIndexedAddress index.0 relocate)) result }
-{
-    let number = Word::Number(index.0.into_u64());
-    put_line(output, "indexed", &[number, relocate_name(relocate)])
-}
-
-/// The request of an expression at an entry.
-pub(crate) fn print_reference<W: Write>(output: &mut W, reference: DieReference<usize>) -> io::Result<()>
+/// The line of the request of an expression at an entry.
+fn print_reference<W: Write>(output: &mut W, reference: DieReference<usize>) -> io::Result<()>
     ensures { Prints (W.contents output.old) (W.contents output.new)
         (request_line (RequiresAtLocation (reference_of (λ x. x) reference))) result }
 {
@@ -191,5 +122,135 @@ pub(crate) fn print_reference<W: Write>(output: &mut W, reference: DieReference<
             let number = Word::Number(offset.0.into_u64());
             put_line(output, "location", &[Word::Name("info"), number])
         }
+    }
+}
+
+/// The line of what a call of the evaluation gave, if that isn't a fault.
+fn print_result<W: Write>(output: &mut W, reply: EvaluationResult<Text<'_>>) -> io::Result<()>
+    ensures { Prints (W.contents output.old) (W.contents output.new)
+        (reply_line (ok_reply slice_text (λ x. x) reply.entry)) result }
+{
+    match reply {
+        EvaluationResult::Complete => put_line(output, "complete", &[]),
+        EvaluationResult::RequiresMemory {
+            address,
+            size,
+            space,
+            base_type,
+        } => {
+            let place = Word::Hexadecimal(address);
+            let count = Word::Number(u64::from(size));
+            let base = Word::Number(base_type.0.into_u64());
+            put_line(output, "memory", &[place, count, space_word(space), base])
+        }
+        EvaluationResult::RequiresRegister {
+            register,
+            base_type,
+        } => {
+            let number = Word::Number(u64::from(register.0));
+            let base = Word::Number(base_type.0.into_u64());
+            put_line(output, "register", &[number, base])
+        }
+        EvaluationResult::RequiresWasmLocal { index } => {
+            put_line(output, "wasm-local", &[Word::Number(u64::from(index))])
+        }
+        EvaluationResult::RequiresWasmGlobal { index } => {
+            put_line(output, "wasm-global", &[Word::Number(u64::from(index))])
+        }
+        EvaluationResult::RequiresWasmStack { index } => {
+            put_line(output, "wasm-stack", &[Word::Number(u64::from(index))])
+        }
+        EvaluationResult::RequiresFrameBase => put_line(output, "frame-base", &[]),
+        EvaluationResult::RequiresTls(index) => {
+            put_line(output, "tls", &[Word::Hexadecimal(index)])
+        }
+        EvaluationResult::RequiresCallFrameCfa => put_line(output, "cfa", &[]),
+        EvaluationResult::RequiresAtLocation(reference) => print_reference(output, reference),
+        EvaluationResult::RequiresEntryValue(expression) => {
+            put_line(output, "entry", &[Word::Bytes(expression.0)])
+        }
+        EvaluationResult::RequiresParameterRef(offset) => {
+            put_line(output, "parameter", &[Word::Number(offset.0.into_u64())])
+        }
+        EvaluationResult::RequiresRelocatedAddress(address) => {
+            put_line(output, "relocated", &[Word::Hexadecimal(address)])
+        }
+        EvaluationResult::RequiresIndexedAddress { index, relocate } => {
+            let number = Word::Number(index.0.into_u64());
+            put_line(output, "indexed", &[number, relocate_word(relocate)])
+        }
+        EvaluationResult::RequiresBaseType(offset) => {
+            put_line(output, "type", &[Word::Number(offset.0.into_u64())])
+        }
+    }
+}
+
+/// The line of what one call of the evaluation gave.
+pub(crate) fn print_reply<W: Write>(output: &mut W, answer: Answer<Text<'_>>) -> io::Result<()>
+    ensures { Prints (W.contents output.old) (W.contents output.new)
+        (reply_line (reply_of slice_text (λ x. x) answer.entry.0)) result }
+{
+    match answer.0 {
+        Ok(result) => print_result(output, result),
+        Err(error) => print_fault(output, error),
+    }
+}
+
+/// The line of a piece.
+pub(crate) fn print_piece<W: Write>(output: &mut W, piece: Piece<Text<'_>>) -> io::Result<()>
+    ensures { Prints (W.contents output.old) (W.contents output.new)
+        (piece_line (piece_of slice_text (λ x. x) piece.entry)) result }
+{
+    let size = number_word(piece.size_in_bits);
+    let offset = number_word(piece.bit_offset);
+    match piece.location {
+        Location::Empty => put_line(output, "piece", &[size, offset, Word::Name("empty")]),
+        Location::Register { register } => {
+            let number = Word::Number(u64::from(register.0));
+            put_line(
+                output,
+                "piece",
+                &[size, offset, Word::Name("register"), number],
+            )
+        }
+        Location::Address { address } => {
+            let number = Word::Hexadecimal(address);
+            put_line(
+                output,
+                "piece",
+                &[size, offset, Word::Name("address"), number],
+            )
+        }
+        Location::Value { value } => {
+            let content = Word::Value(value);
+            put_line(
+                output,
+                "piece",
+                &[size, offset, Word::Name("value"), content],
+            )
+        }
+        Location::Bytes { value } => {
+            let block = Word::Bytes(value);
+            put_line(output, "piece", &[size, offset, Word::Name("bytes"), block])
+        }
+        Location::ImplicitPointer { value, byte_offset } => {
+            let object = Word::Number(value.0.into_u64());
+            let into = Word::Integer(byte_offset);
+            put_line(
+                output,
+                "piece",
+                &[size, offset, Word::Name("pointer"), object, into],
+            )
+        }
+    }
+}
+
+/// The line of the value of a complete evaluation.
+pub(crate) fn print_value_line<W: Write>(output: &mut W, value: Option<Value>) -> io::Result<()>
+    ensures { Prints (W.contents output.old) (W.contents output.new) (value_line value) result }
+{
+    match value {
+        Some(value) => put_line(output, "value", &[Word::Value(value)]),
+        None => put_line(output, "value", &[Word::Name("none")]),
     }
 }

@@ -6,10 +6,9 @@ mod explaining;
 mod hexadecimal;
 mod input;
 mod lines;
+mod listing;
 mod numbers;
-mod operations;
 mod program;
-mod results;
 mod steps;
 #[cfg(test)]
 mod tests;

@@ -7,10 +7,10 @@ ghost use Rattle.dwarf_op.specs.Views.{piece_of};
 ghost use Rattle.dwarf_replay.specs.Replays.{replies_in, steps_of};
 ghost use Rattle.dwarf_meaning.specs.Steps.{untold};
 ghost use Rattle.dwexpr.specs.Evaluates.{EvaluatesSteps, EvaluatesLines, after_replies, bad_steps, unlimited_setup};
-ghost use Rattle.dwexpr.specs.Lines.{listing_of, piece_lines, reply_lines};
+ghost use Rattle.dwexpr.specs.Lines.{piece_lines, reply_lines};
 ghost use Rattle.dwexpr.specs.Program.{EndsFor, EvaluatesInput, Exits, without_words};
 ghost use Rattle.dwexpr.specs.Endings as runs;
-ghost use Rattle.dwexpr.specs.Endings.{Ending, WritesEnding, complete_ending, listed};
+ghost use Rattle.dwexpr.specs.Endings.{Ending, WritesEnding, complete_ending};
 ghost use Rattle.dwexpr.specs.inner.Replayed.{HasLine, ending_of, standing};
 ghost use Rattle.dwexpr.specs.Writing.{Prints};
 
@@ -18,12 +18,11 @@ use crate::endings::{DONE, FAILED, bad_step, bad_words, misplaced, no_memory};
 use crate::explaining::{
     explain_no_words, explain_read, explain_replayed, explain_steps, explain_words, explain_write,
 };
-use crate::hexadecimal::{HexFault, bytes_of};
-use crate::lines::print_value_line;
-use crate::operations::print_operations;
-use crate::results::{print_piece, print_reply};
+use crate::hexadecimal::HexFault;
+use crate::lines::{print_piece, print_reply, print_value_line};
+use crate::listing::print_operations;
 use crate::steps::{StepsFault, borrow_steps, steps_in};
-use crate::words::{Command, Reading, command_of, reading_of};
+use crate::words::{Command, Reading, invocation_of, six_words};
 use crate::writing::Text;
 use dwarf_base::EndianSlice;
 use dwarf_eval::eval::{Evaluation, Status};
@@ -236,18 +235,6 @@ fn run_eval<A: Allocator + Copy, I: Read + Drop, W: Write, E: Write>(
     }
 }
 
-/// Lists the operations of the bytes.
-fn run_ops<W: Write>(bytes: &[u8], reading: Reading, output: &mut W) -> io::Result<u8>
-    ensures { WritesEnding (W.contents output.old) (W.contents output.new)
-        (listed (listing_of reading.encoding (is_big_of reading.order) bytes.now)) result }
-{
-    if print_operations(output, bytes, reading)? {
-        Ok(DONE)
-    } else {
-        Ok(FAILED)
-    }
-}
-
 /// Judges the words, and does what they say.
 fn run_words<A: Allocator + Copy, I: Read + Drop, W: Write, E: Write>(
     alloc: A,
@@ -260,28 +247,23 @@ fn run_words<A: Allocator + Copy, I: Read + Drop, W: Write, E: Write>(
         × EndsFor (map string_bytes words.now) (I.remaining input) ending
         × WritesEnding (W.contents output.old) (W.contents output.new) ending result }
 {
-    let [command, size, offsets, version, order, hexadecimal] = words else {
+    let Some(six) = six_words(words) else {
         return bad_words(output);
     };
-    let Some(command) = command_of(command.as_str()) else {
-        return bad_words(output);
-    };
-    let Some(reading) = reading_of(
-        size.as_str(),
-        offsets.as_str(),
-        version.as_str(),
-        order.as_str(),
-    ) else {
-        return bad_words(output);
-    };
-    let bytes = match bytes_of(alloc, hexadecimal.as_str()) {
-        Ok(bytes) => bytes,
-        Err(HexFault::Bad) => return bad_words(output),
-        Err(HexFault::NoMemory) => return no_memory(output),
-    };
-    match command {
-        Command::Ops => run_ops(bytes.as_slice(), reading, output),
-        Command::Eval => run_eval(alloc, bytes.as_slice(), reading, input, output, errors),
+    match invocation_of(alloc, six) {
+        Ok(asked) => match asked.command {
+            Command::Ops => print_operations(output, asked.bytes.as_slice(), asked.reading),
+            Command::Eval => run_eval(
+                alloc,
+                asked.bytes.as_slice(),
+                asked.reading,
+                input,
+                output,
+                errors,
+            ),
+        },
+        Err(HexFault::Bad) => bad_words(output),
+        Err(HexFault::NoMemory) => no_memory(output),
     }
 }
 

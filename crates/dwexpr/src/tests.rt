@@ -1,16 +1,14 @@
 //! Lines that are handed to writers which don't take all at once.
 use crate::endings::{bad_step, bad_words, misplaced, no_memory};
-use crate::lines::{
-    number_word, print_address, print_fault, print_indexed, print_memory, print_name,
-    print_numbered, print_reference, print_register, print_value_line,
-};
-use crate::operations::print_operations;
+use crate::lines::{print_fault, print_piece, print_reply, print_value_line};
+use crate::listing::print_operations;
 use crate::words::reading_of;
-use crate::writing::{Text, Word, put_line};
+use crate::writing::Text;
 use dwarf_base::{
     DebugAddrIndex, DebugInfoOffset, EndianSlice, Error, Register, RunTimeEndian, UnitOffset,
 };
-use dwarf_op::DieReference;
+use dwarf_eval::op::{DieReference, EvaluationResult, Expression, Location, Piece};
+use dwarf_replay::Answer;
 use dwarf_value::Value;
 use std::alloc::Global;
 use std::io;
@@ -23,7 +21,7 @@ bad words
 no memory
 bad step 3
 misplaced 5
-frame
+frame-base
 parameter 0
 tls 0x10
 memory 0xffff 4 none 0
@@ -57,19 +55,41 @@ fn little(bytes: &[u8]) -> Text<'_> {
     EndianSlice::new(bytes, RunTimeEndian::Little)
 }
 
-fn print_requests<W: Write>(output: &mut W) -> io::Result<()> {
-    print_name(output, "frame")?;
-    print_numbered(output, "parameter", 0)?;
-    print_address(output, "tls", 0x10)?;
-    print_memory(output, 0xffff, 4, None, UnitOffset(0))?;
-    print_memory(output, 1, 1, Some(2), UnitOffset(7))?;
-    print_register(output, Register(65535), UnitOffset(0))?;
-    print_indexed(output, DebugAddrIndex(5), true)?;
-    print_indexed(output, DebugAddrIndex(6), false)?;
-    print_reference(output, DieReference::UnitRef(UnitOffset(1)))?;
-    print_reference(output, DieReference::DebugInfoRef(DebugInfoOffset(2)))?;
-    put_line(output, "entry", &[Word::Bytes(little(&[0x50, 0x93, 0x04]))])?;
-    put_line(output, "entry", &[Word::Bytes(little(&[]))])
+// A request of each form.
+fn requests<'a>(short: Text<'a>, none: Text<'a>) -> [EvaluationResult<Text<'a>>; 12] {
+    [
+        EvaluationResult::RequiresFrameBase,
+        EvaluationResult::RequiresParameterRef(UnitOffset(0)),
+        EvaluationResult::RequiresTls(0x10),
+        EvaluationResult::RequiresMemory {
+            address: 0xffff,
+            size: 4,
+            space: None,
+            base_type: UnitOffset(0),
+        },
+        EvaluationResult::RequiresMemory {
+            address: 1,
+            size: 1,
+            space: Some(2),
+            base_type: UnitOffset(7),
+        },
+        EvaluationResult::RequiresRegister {
+            register: Register(65535),
+            base_type: UnitOffset(0),
+        },
+        EvaluationResult::RequiresIndexedAddress {
+            index: DebugAddrIndex(5),
+            relocate: true,
+        },
+        EvaluationResult::RequiresIndexedAddress {
+            index: DebugAddrIndex(6),
+            relocate: false,
+        },
+        EvaluationResult::RequiresAtLocation(DieReference::UnitRef(UnitOffset(1))),
+        EvaluationResult::RequiresAtLocation(DieReference::DebugInfoRef(DebugInfoOffset(2))),
+        EvaluationResult::RequiresEntryValue(Expression(short)),
+        EvaluationResult::RequiresEntryValue(Expression(none)),
+    ]
 }
 
 // Prints a line of each kind.
@@ -78,17 +98,19 @@ fn print_all<W: Write>(output: &mut W) -> io::Result<()> {
     no_memory(output)?;
     bad_step(output, 3)?;
     misplaced(output, 4)?;
-    print_requests(output)?;
-    put_line(
+    for request in requests(little(&[0x50, 0x93, 0x04]), little(&[])) {
+        print_reply(output, Answer(Ok(request)))?;
+    }
+    print_piece(
         output,
-        "piece",
-        &[
-            number_word(Some(32)),
-            number_word(None),
-            Word::Name("pointer"),
-            Word::Number(7),
-            Word::Integer(-1),
-        ],
+        Piece {
+            size_in_bits: Some(32),
+            bit_offset: None,
+            location: Location::ImplicitPointer {
+                value: DebugInfoOffset(7),
+                byte_offset: -1,
+            },
+        },
     )?;
     print_fault(output, Error::StackFull)?;
     print_fault(output, Error::InvalidExpressionTerminator(u64::MAX))?;

@@ -1,7 +1,39 @@
-ghost use Rattle.std.specs.Prelude.{◌≡◌, ◌<◌, ◌≤◌, IfSome};
-ghost use Rattle.dwexpr.specs.Words.{address_size_in, command_in, format_in, order_in, reading_in, version_in};
+ghost use Rattle.std.specs.Prelude.{◌≡◌, ◌<◌, ◌≤◌, IfOk, IfSome, None, map, string_bytes};
+ghost use Rattle.dwexpr.specs.Words.{address_size_in, command_in, format_in, invocation_in, order_in, reading_in, version_in};
+ghost use Rattle.dwexpr.specs.inner.Invocations.{ReadsInvocation, texts_of};
 
+use crate::hexadecimal::{HexFault, bytes_of};
 use dwarf_base::{Encoding, Format, RunTimeEndian};
+use std::alloc::Allocator;
+
+/// The six words.
+#[derive(Clone, Copy)]
+pub(crate) struct Words<'a> {
+    pub(crate) command: &'a str,
+    pub(crate) address_size: &'a str,
+    pub(crate) offset_size: &'a str,
+    pub(crate) version: &'a str,
+    pub(crate) order: &'a str,
+    pub(crate) bytes: &'a str,
+}
+
+/// The words, if there are six.
+pub(crate) fn six_words<A: Allocator>(words: &[String<A>]) -> Option<Words<'_>>
+    ensures six { IfSome result (λ six. map string_bytes words.now ≡ texts_of six) }
+    ensures other { result ≡ None → invocation_in (map string_bytes words.now) ≡ None }
+{
+    let [command, address_size, offset_size, version, order, bytes] = words else {
+        return None;
+    };
+    Some(Words {
+        command: command.as_str(),
+        address_size: address_size.as_str(),
+        offset_size: offset_size.as_str(),
+        version: version.as_str(),
+        order: order.as_str(),
+        bytes: bytes.as_str(),
+    })
+}
 
 /// What is to be done with the bytes.
 #[derive(Clone, Copy, Debug, PartialEq, Eq)]
@@ -100,5 +132,41 @@ pub(crate) fn reading_of(size: &str, offsets: &str, number: &str, bytes: &str) -
             version,
         },
         order,
+    })
+}
+
+/// What the words ask for.
+#[derive(Drop)]
+pub(crate) struct Invocation<A: Allocator> {
+    pub(crate) command: Command,
+    pub(crate) reading: Reading,
+    pub(crate) bytes: Vec<u8, A>,
+}
+
+/// What the words ask for. Memory is taken for their bytes alone, if all words are good.
+pub(crate) fn invocation_of<A: Allocator>(
+    alloc: A,
+    words: Words<'_>,
+) -> Result<Invocation<A>, HexFault>
+    ensures exact { ReadsInvocation (invocation_in (texts_of words.entry)) result }
+    ensures sizes { IfOk result (λ asked.
+        (0 < asked.reading.encoding.address_size) × (asked.reading.encoding.address_size ≤ 8)) }
+{
+    let Some(command) = command_of(words.command) else {
+        return Err(HexFault::Bad);
+    };
+    let Some(reading) = reading_of(
+        words.address_size,
+        words.offset_size,
+        words.version,
+        words.order,
+    ) else {
+        return Err(HexFault::Bad);
+    };
+    let bytes = bytes_of(alloc, words.bytes)?;
+    Ok(Invocation {
+        command,
+        reading,
+        bytes,
     })
 }

@@ -174,15 +174,6 @@ fn put_word<W: Write>(output: &mut W, word: Word<'_>) -> io::Result<()>
     }
 }
 
-/// A number and the blank after it.
-pub(crate) fn put_number_word<W: Write>(output: &mut W, number: u64) -> io::Result<()>
-    ensures { Prints (W.contents output.old) (W.contents output.new) (decimal number ++ codes " ")
-        result }
-{
-    put_digits(output, 10, number)?;
-    put_text(output, " ")
-}
-
 /// The end of a line: each word after a blank, and a line feed.
 fn put_ending<W: Write>(output: &mut W, words: &[Word<'_>]) -> io::Result<()>
     ensures { Prints (W.contents output.old) (W.contents output.new)

@@ -1,15 +1,16 @@
-ghost use Rattle.std.specs.Prelude.{◌≡◌, ◌≤◌, IfOk, length, take};
+ghost use Rattle.std.specs.Prelude.{◌≡◌};
 ghost use Rattle.dwarf_base.specs.ByteOrder.{is_big_of};
-ghost use Rattle.dwarf_base.specs.EndianSlice.{slice_bytes};
+ghost use Rattle.dwarf_meaning.specs.Operands.{context_of};
 ghost use Rattle.dwarf_op.specs.Views.{operation_of};
-ghost use Rattle.dwexpr.specs.Lines.{listing_of, operation_name};
-ghost use Rattle.dwexpr.specs.Writing.{Prints};
+ghost use Rattle.dwexpr.specs.Endings.{Ending, WritesEnding};
+ghost use Rattle.dwexpr.specs.Listing.{ListsOperations, operation_name};
 
-use crate::lines::print_fault;
+use crate::endings::{DONE, FAILED};
+use crate::lines::print_fault_at;
 use crate::words::Reading;
-use crate::writing::{Text, Word, put_number_word, put_numbered_line};
+use crate::writing::{Word, put_numbered_line};
 use dwarf_base::{EndianSlice, Reader};
-use dwarf_op::Operation;
+use dwarf_eval::op::{Expression, Operation};
 use std::io;
 use std::io::Write;
 
@@ -93,46 +94,33 @@ fn name_of<R: Reader + Copy>(operation: Operation<R>) -> &'static str
     }
 }
 
-/// The first bytes.
-fn front_of(bytes: Text<'_>, size: usize) -> Text<'_>
-    requires { size ≤ length (slice_bytes bytes) }
-    ensures { slice_bytes result ≡ take size (slice_bytes bytes.entry) }
-{
-    let mut left = bytes;
-    match left.split(size) {
-        Ok(front) => front,
-        Err(_) => left,
-    }
-}
-
-/// Prints the operations, one a line, up to the first fault. Answers whether there was none.
+/// Prints the operations of the bytes, one a line, up to the first fault.
 pub(crate) fn print_operations<W: Write>(
     output: &mut W,
     bytes: &[u8],
     reading: Reading,
-) -> io::Result<bool>
-    ensures { let listing = listing_of reading.encoding (is_big_of reading.order) bytes.now in
-        Prints (W.contents output.old) (W.contents output.new) listing.text result
-        × IfOk result (λ is_whole. is_whole ≡ listing.is_whole) }
+) -> io::Result<u8>
+    ensures { (ending : Ending)
+        × ListsOperations (context_of reading.encoding 64 (is_big_of reading.order)) 0 bytes.now ending
+        × WritesEnding (W.contents output.old) (W.contents output.new) ending result }
 {
-    let mut left = EndianSlice::new(bytes, reading.order);
-    let mut place: usize = 0;
-    while !left.is_empty() {
-        let front = left;
-        match Operation::parse(&mut left, reading.encoding) {
-            Ok(operation) => {
-                let size = left.offset_from(&front);
-                let spelling = Word::Bytes(front_of(front, size));
-                let name = Word::Name(name_of(operation));
-                put_numbered_line(output, place as u64, &[spelling, name])?;
-                place += size;
+    let expression = Expression(EndianSlice::new(bytes, reading.order));
+    let mut operations = expression.operations(reading.encoding);
+    let mut place = 0;
+    loop {
+        match operations.next() {
+            Ok(Some(operation)) => {
+                let end = operations.offset_from(&expression);
+                let spelling = EndianSlice::new(&bytes[place..end], reading.order);
+                let words = [Word::Bytes(spelling), Word::Name(name_of(operation))];
+                put_numbered_line(output, place as u64, &words)?;
+                place = end;
             }
+            Ok(None) => return Ok(DONE),
             Err(error) => {
-                put_number_word(output, place as u64)?;
-                print_fault(output, error)?;
-                return Ok(false);
+                print_fault_at(output, place as u64, error)?;
+                return Ok(FAILED);
             }
         }
     }
-    Ok(true)
 }

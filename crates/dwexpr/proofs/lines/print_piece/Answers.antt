@@ -1,4 +1,4 @@
-use Rattle.dwexpr.proofs.results.print_piece.Goals as goal
+use Rattle.dwexpr.proofs.lines.print_piece.Goals as goal
 
 pub returns-in-Address : goal.returns-in-Address
 returns-in-Address g c =

@@ -1,10 +1,11 @@
 -- What a call on values gives a caller in C (DWARF 5, sections 2.5.1.4, 2.5.1.6 and 5.1).
-use Rattle.std.specs.Prelude.{ℕ, ◌==◌, ◌||◌, ◌≡◌, List, Option, Some, None, Result, Ok, Err, if◌then◌else◌}
+use Rattle.std.specs.Prelude.{ℕ, ◌==◌, ◌||◌, ◌≡◌, List, [], ◌∷◌, find, option_map, Option, Some, None, Result, Ok, Err, if◌then◌else◌}
 use Rattle.dwarf_base.specs.Faults.{Fault}
 use Rattle.dwarf_value.specs.Values.{bit_size_of, parse_of, convert_of, reinterpret_of, unary_of, binary_of, Abs, Neg, Not, Plus, Minus, Mul, Div, Mod, Xor, Shl, Shr, Shra, Eq, Ge, Gt, Le, Lt, Ne, And, Or}
 use Rattle.dwarf_value.specs.declared.types.Value.{Value}
 use Rattle.dwarf_value.specs.declared.types.ValueType.{ValueType}
 use Rattle.dwexpr_c.specs.Codes.{bad_value_code, code_of_fault}
+use Rattle.dwexpr_c.specs.Operations.{binary_kind, unary_kind}
 use Rattle.dwexpr_c.specs.Values.{shown_value, value_coded}
 use Rattle.dwexpr_c.specs.declared.values.DwexprValue.{DwexprValue}
 
@@ -28,40 +29,24 @@ value_in numbers = value_coded numbers.value_type numbers.content
 
 -- ---- operations, by the codes of their kinds
 
--- an operation on one value
+-- an operation on one value: that of the operator with this kind
 abbrev pub unary_coded : (operation w : ℕ) → Value → Computed
 unary_coded operation w x =
-    if operation == 6 then Some (unary_of Abs w x)
-    else if operation == 12 then Some (unary_of Neg w x)
-    else if operation == 13 then Some (unary_of Not w x)
-    else None
+    option_map (λ operator. unary_of operator w x)
+    (find (λ operator. operation == unary_kind operator) (Abs ∷ Neg ∷ Not ∷ []))
 
 -- the same, if there is a value
 abbrev pub unary_in : (operation w : ℕ) → Option Value → Computed
 unary_in operation w None = None
 unary_in operation w (Some x) = unary_coded operation w x
 
--- an operation on two values
+-- an operation on two values: that of the operator with this kind
 abbrev pub binary_coded : (operation w : ℕ) → Value → Value → Computed
 binary_coded operation w x y =
-    if operation == 7 then Some (binary_of And w x y)
-    else if operation == 8 then Some (binary_of Div w x y)
-    else if operation == 9 then Some (binary_of Minus w x y)
-    else if operation == 10 then Some (binary_of Mod w x y)
-    else if operation == 11 then Some (binary_of Mul w x y)
-    else if operation == 14 then Some (binary_of Or w x y)
-    else if operation == 15 then Some (binary_of Plus w x y)
-    else if operation == 17 then Some (binary_of Shl w x y)
-    else if operation == 18 then Some (binary_of Shr w x y)
-    else if operation == 19 then Some (binary_of Shra w x y)
-    else if operation == 20 then Some (binary_of Xor w x y)
-    else if operation == 22 then Some (binary_of Eq w x y)
-    else if operation == 23 then Some (binary_of Ge w x y)
-    else if operation == 24 then Some (binary_of Gt w x y)
-    else if operation == 25 then Some (binary_of Le w x y)
-    else if operation == 26 then Some (binary_of Lt w x y)
-    else if operation == 27 then Some (binary_of Ne w x y)
-    else None
+    option_map (λ operator. binary_of operator w x y)
+    (find (λ operator. operation == binary_kind operator)
+    (And ∷ Div ∷ Minus ∷ Mod ∷ Mul ∷ Or ∷ Plus ∷ Shl ∷ Shr
+    ∷ Shra ∷ Xor ∷ Eq ∷ Ge ∷ Gt ∷ Le ∷ Lt ∷ Ne ∷ []))
 
 -- the same, if there are values
 abbrev pub binary_in : (operation w : ℕ) → Option Value → Option Value → Computed

@@ -2,7 +2,7 @@
 use Rattle.std.specs.Prelude.{ℕ, ℤ, pos, Bool, true, false, List, Option, Some, None}
 use Rattle.dwarf_meaning.specs.Operations as meaning
 use Rattle.dwexpr_c.specs.declared.operations.DwexprOperation.{DwexprOperation}
-use Rattle.dwarf_value.specs.Values.{Abs, Neg, Not, Plus, Minus, Mul, Div, Mod, And, Or, Xor, Shl, Shr, Shra, Eq, Ne, Lt, Le, Gt, Ge}
+use Rattle.dwarf_value.specs.Values.{UnaryOperator, BinaryOperator, Abs, Neg, Not, Plus, Minus, Mul, Div, Mod, And, Or, Xor, Shl, Shr, Shra, Eq, Ne, Lt, Le, Gt, Ge}
 
 -- all numbers are 0
 abbrev pub blank_operation : DwexprOperation
@@ -44,6 +44,32 @@ abbrev pub flag_of : Bool → ℕ
 flag_of true = 1
 flag_of false = 0
 
+-- the kind of an operator on one value
+abbrev pub unary_kind : UnaryOperator → ℕ
+unary_kind Abs = 6
+unary_kind Neg = 12
+unary_kind Not = 13
+
+-- the kind of an operator on two values
+abbrev pub binary_kind : BinaryOperator → ℕ
+binary_kind And = 7
+binary_kind Div = 8
+binary_kind Minus = 9
+binary_kind Mod = 10
+binary_kind Mul = 11
+binary_kind Or = 14
+binary_kind Plus = 15
+binary_kind Shl = 17
+binary_kind Shr = 18
+binary_kind Shra = 19
+binary_kind Xor = 20
+binary_kind Eq = 22
+binary_kind Ge = 23
+binary_kind Gt = 24
+binary_kind Le = 25
+binary_kind Lt = 26
+binary_kind Ne = 27
+
 -- the kind and the operands, but for a block
 abbrev pub operands_of : meaning.Operation → DwexprOperation
 operands_of (meaning.Deref base_type size space) =
@@ -52,28 +78,10 @@ operands_of meaning.Drop = of_kind 2
 operands_of (meaning.Pick index) = numbered 3 index
 operands_of meaning.Swap = of_kind 4
 operands_of meaning.Rot = of_kind 5
-operands_of (meaning.Unary Abs) = of_kind 6
-operands_of (meaning.Binary And) = of_kind 7
-operands_of (meaning.Binary Div) = of_kind 8
-operands_of (meaning.Binary Minus) = of_kind 9
-operands_of (meaning.Binary Mod) = of_kind 10
-operands_of (meaning.Binary Mul) = of_kind 11
-operands_of (meaning.Unary Neg) = of_kind 12
-operands_of (meaning.Unary Not) = of_kind 13
-operands_of (meaning.Binary Or) = of_kind 14
-operands_of (meaning.Binary Plus) = of_kind 15
+operands_of (meaning.Unary operator) = of_kind (unary_kind operator)
+operands_of (meaning.Binary operator) = of_kind (binary_kind operator)
 operands_of (meaning.PlusConstant value) = numbered 16 value
-operands_of (meaning.Binary Shl) = of_kind 17
-operands_of (meaning.Binary Shr) = of_kind 18
-operands_of (meaning.Binary Shra) = of_kind 19
-operands_of (meaning.Binary Xor) = of_kind 20
 operands_of (meaning.Bra target) = signed_operand 21 target
-operands_of (meaning.Binary Eq) = of_kind 22
-operands_of (meaning.Binary Ge) = of_kind 23
-operands_of (meaning.Binary Gt) = of_kind 24
-operands_of (meaning.Binary Le) = of_kind 25
-operands_of (meaning.Binary Lt) = of_kind 26
-operands_of (meaning.Binary Ne) = of_kind 27
 operands_of (meaning.Skip target) = signed_operand 28 target
 operands_of (meaning.UnsignedConstant value) = numbered 29 value
 operands_of (meaning.SignedConstant value) = signed_operand 30 value

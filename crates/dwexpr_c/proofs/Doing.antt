@@ -1,23 +1,22 @@
--- The outcome of a step that is refused, by its cases.
-use Rattle.std.proofs.Common.{ℕ, ◌≡◌, inl, inr, List, Result, Ok, Err, sym, subst}
-use Rattle.dwarf_base.specs.declared.errors.Error.{Error}
-use Rattle.dwarf_base.specs.Faults.{fault_of}
+-- A step that isn't allowed, as the outcome of a step.
+use Rattle.std.proofs.Common.{ℕ, ◌≡◌, inl, List, Result, Ok, sym, subst}
 use Rattle.dwarf_meaning.specs.Rest.{State}
 use Rattle.dwarf_meaning.specs.Steps.{Step}
-use Rattle.dwarf_replay.specs.Stepping.{HasReplied, MayTake}
-use Rattle.dwexpr_c.specs.Codes.{code_of_fault, number_of_fault, misplaced_code}
-use Rattle.dwexpr_c.specs.Texts.{text_of_placed}
-use Rattle.dwexpr_c.specs.Stepping.{DoesStep, plain_end}
+use Rattle.dwarf_replay.specs.Stepping.{MayTake}
+use Rattle.dwexpr_c.specs.Codes.{misplaced_code}
+use Rattle.dwexpr_c.specs.Outcomes.{ended_outcome}
+use Rattle.dwexpr_c.specs.Stepping.{DoesStep, Stops, plain_end}
+use Rattle.dwexpr_c.specs.declared.evaluating.Progress.{Progress}
+use Rattle.dwexpr_c.specs.declared.evaluating.Progress.TheVariants.{Ended}
 use Rattle.dwexpr_c.specs.declared.faults.FaultNumbers.{FaultNumbers}
 use Rattle.dwexpr_c.specs.declared.outcomes.DwexprOutcome.{DwexprOutcome}
-use Rattle.dwexpr_c.specs.declared.places.Placed.{Placed}
 use Rattle.dwexpr_c.specs.declared.steps.DwexprText.{DwexprText}
 
-module _ (texts : List DwexprText) (said : Result Step ℕ) (step : Step) (old new : State) (before : DwexprOutcome) (is : said ≡ Ok step) where
-  pub does_misplaced : (end : FaultNumbers) → (new ≡ old) × (MayTake step old.status → ⊥) → end ≡ plain_end misplaced_code → DoesStep texts said old new before before (Err end)
-  does_misplaced end h e =
-      subst (λ (r : Result Step ℕ). DoesStep texts r old new before before (Err end)) (sym is) (inl (record { same = h.0; not_taken = h.1; shown = e }))
-
-  pub does_fail : (end : FaultNumbers) (error : Error) → HasReplied {R = Placed} {O = ℕ} {P = ℕ} text_of_placed (λ x. x) step old new (Err error) → end ≡ record { code = code_of_fault (fault_of error); number = number_of_fault (fault_of error) } → DoesStep texts said old new before before (Err end)
-  does_fail end error called e =
-      subst (λ (r : Result Step ℕ). DoesStep texts r old new before before (Err end)) (sym is) (inr (inl (record { error = error; called = called; shown = e })))
+module _ (texts : List DwexprText) (said : Result Step ℕ) (index : ℕ) (old new : State) (before after : DwexprOutcome) where
+  pub does_misplaced : (progress : Progress) → progress ≡ Ended → (step : Step) → said ≡ Ok step → (end : FaultNumbers) → after ≡ ended_outcome end.code end.number index → (new ≡ old) × (MayTake step old.status → ⊥) → end ≡ plain_end misplaced_code → DoesStep texts said index old new before after progress
+  does_misplaced progress ended step is end shown h e =
+      let stops : Stops texts (Ok step) old new end = inl (record { same = h.0; not_taken = h.1; shown = e }) in
+      let does : DoesStep texts said index old new before after Ended =
+      record { end = end; stops = subst (λ (r : Result Step ℕ). Stops texts r old new end) (sym is) stops; shown = shown }
+      in
+      subst (λ (p : Progress). DoesStep texts said index old new before after p) (sym ended) does

@@ -8,9 +8,12 @@ use Rattle.dwarf_meaning.specs.Steps.{Step, InitialValue, ObjectAddress, MaxIter
 use Rattle.dwarf_eval.specs.Evaluation.{Evaluates, Resumes, input_of}
 use Rattle.dwarf_eval.specs.Permits.{IsOpenFor}
 use Rattle.dwarf_eval.specs.declared.op.results.EvaluationResult.{EvaluationResult}
+use Rattle.dwarf_eval.specs.declared.op.results.EvaluationResult.TheVariants as replied
 use Rattle.dwarf_replay.specs.Stepping.{HasReplied, IsSet}
 use Rattle.dwexpr_c.specs.Stepping.{DoesStep, Stops}
 use Rattle.dwexpr_c.specs.Texts.{text_of_placed}
+use Rattle.dwexpr_c.specs.declared.evaluating.Progress.{Progress}
+use Rattle.dwexpr_c.specs.declared.evaluating.Progress.TheVariants.{Set, Asked, Complete, Ended}
 use Rattle.dwexpr_c.specs.declared.faults.FaultNumbers.{FaultNumbers}
 use Rattle.dwexpr_c.specs.declared.outcomes.DwexprOutcome.{DwexprOutcome}
 use Rattle.dwexpr_c.specs.declared.places.Placed.{Placed}
@@ -56,8 +59,11 @@ module _ (x new : State) where
     stop_keeps (Ok step) end (inr (inr h)) = reply_keeps (Ok h.told) step h.called
     stop_keeps (Err code) end h = same_keeps h.1
 
-    pub step_keeps : (said : Result Step ℕ) (before after : DwexprOutcome) (ended : Result (Unit {0}) FaultNumbers) → DoesStep texts said x new before after ended → new.setup ≡ x.setup
-    step_keeps said before after (Err end) h = stop_keeps said end h
-    step_keeps (Ok step) before after (Ok _) (inl h) = set_keeps step h.0
-    step_keeps (Ok step) before after (Ok _) (inr h) = reply_keeps (Ok h.told) step h.called
-    step_keeps (Err code) before after (Ok _) h = absurd h
+    pub step_keeps : (said : Result Step ℕ) (index : ℕ) (before after : DwexprOutcome) (progress : Progress) → DoesStep texts said index x new before after progress → new.setup ≡ x.setup
+    step_keeps said index before after Ended h = stop_keeps said h.end h.stops
+    step_keeps (Ok step) index before after Set h = set_keeps step h.0
+    step_keeps (Ok step) index before after Asked h = reply_keeps (Ok h.told) step h.called
+    step_keeps (Ok step) index before after Complete h = reply_keeps (Ok replied.Complete) step h
+    step_keeps (Err code) index before after Set h = absurd h.0
+    step_keeps (Err code) index before after Asked h = absurd h
+    step_keeps (Err code) index before after Complete h = absurd h

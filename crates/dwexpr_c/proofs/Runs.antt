@@ -15,6 +15,7 @@ use Rattle.dwarf_meaning.specs.Kinds.{kind_of_answer}
 use Rattle.dwarf_eval.specs.Evaluation.{Evaluates, IsClosed, IsReplied, Resumes, input_of, reply_of, ok_reply}
 use Rattle.dwarf_eval.specs.Permits.{IsOpenFor}
 use Rattle.dwarf_eval.specs.declared.op.results.EvaluationResult.{EvaluationResult}
+use Rattle.dwarf_eval.specs.declared.op.results.EvaluationResult.TheVariants as replied
 use Rattle.dwarf_replay.specs.Replays.{StandsAt, IsInRequest, IsInFault, Tells, told_at}
 use Rattle.dwarf_replay.specs.Stepping.{HasReplied, IsSet, MayTake}
 use Rattle.dwarf_replay.proofs.Standings.{Went, went_at_first}
@@ -22,13 +23,15 @@ use Rattle.dwarf_replay.proofs.Settings.{set_went_on}
 use Rattle.dwarf_replay.proofs.Calling.{called_went_on}
 use Rattle.dwarf_replay.proofs.Leading.{walks_all, walks_to}
 use Rattle.dwexpr_c.specs.Evaluated.{AreTaken, EndsByStep, Beginning, IsCutShort, IsNoFault, capacities, comes_of, told_by}
-use Rattle.dwexpr_c.specs.Outcomes.{ShowsReply, ended_outcome, blank_outcome}
+use Rattle.dwexpr_c.specs.Outcomes.{ShowsReply, ended_outcome}
 use Rattle.dwexpr_c.specs.Steps.{step_coded}
 use Rattle.dwexpr_c.specs.Texts.{text_of_placed}
 use Rattle.dwexpr_c.specs.Held.{HasStopped, HasTaken}
-use Rattle.dwexpr_c.specs.inner.Runs.{IsGiven, ShowsStatus, given_at}
+use Rattle.dwexpr_c.specs.inner.Runs.{IsGiven, Runs, ShowsStatus, given_at, latest}
 use Rattle.dwexpr_c.specs.Places.{AsksNowhere}
-use Rattle.dwexpr_c.specs.Stepping.{DoesStep, Stops}
+use Rattle.dwexpr_c.specs.Stepping.{DoesStep, Ends, Stops}
+use Rattle.dwexpr_c.specs.declared.evaluating.Progress.{Progress}
+use Rattle.dwexpr_c.specs.declared.evaluating.Progress.TheVariants.{Set, Asked, Complete, Ended}
 use Rattle.dwexpr_c.specs.declared.faults.FaultNumbers.{FaultNumbers}
 use Rattle.dwexpr_c.specs.declared.outcomes.DwexprOutcome.{DwexprOutcome}
 use Rattle.dwexpr_c.specs.declared.places.Placed.{Placed}
@@ -39,58 +42,70 @@ use Rattle.dwexpr_c.proofs.Keeping.{reply_keeps, set_keeps, stop_keeps}
 
 -- ---- what a call answered, and where the evaluation stands after it
 
--- the status is what was answered, if no fault was met before
-module _ (x new : State) (told : Result (EvaluationResult Placed ℕ ℕ) Error) (texts : List DwexprText) (out : DwexprOutcome) where
-  told_evaluated : (status : Status) → x.status ≡ status → ShowsStatus texts status out → IsClosed status → Evaluates text_of_placed (λ x. x) x new told status → IsReplied (reply_of text_of_placed (λ x. x) told) new.status
-  told_evaluated (Start initial_value) e s closed h = h.status
-  told_evaluated (CompleteStatus value) e s closed h =
-      let stays : new.status ≡ CompleteStatus value = ap (λ (z : State). z.status) h.1 ∙ e in
-      subst (λ (t : Status). IsReplied (reply_of text_of_placed (λ x. x) told) t) (sym stays) (ap (λ (t : Result (EvaluationResult Placed ℕ ℕ) Error). reply_of text_of_placed (λ x. x) t) h.0)
-  told_evaluated (RequestStatus request on_answer) e s closed h = absurd closed
-  told_evaluated (FaultStatus error) e s closed h = absurd s
-  told_evaluated Running e s closed h = absurd s
+-- the status is that of the reply
+module _ (x new : State) (told : Result (EvaluationResult Placed ℕ ℕ) Error) where
+  -- it was replied before
+  told_again : (status : Status) (before : Result (EvaluationResult Placed ℕ ℕ) Error) → x.status ≡ status → told ≡ before → new ≡ x → IsReplied (reply_of text_of_placed (λ x. x) before) status → IsReplied (reply_of text_of_placed (λ x. x) told) new.status
+  told_again status before e t n h =
+      let stays : new.status ≡ status = ap (λ (z : State). z.status) n ∙ e in
+      subst (λ (s : Status). IsReplied (reply_of text_of_placed (λ x. x) told) s) (sym stays)
+      (subst (λ (r : Result (EvaluationResult Placed ℕ ℕ) Error). IsReplied (reply_of text_of_placed (λ x. x) r) status) (sym t) h)
 
-  told_resumed : (answer : requests.Answer) (status : Status) → ShowsStatus texts status out → IsOpenFor (kind_of_answer answer) status → Resumes text_of_placed (λ x. x) (input_of x answer) x new told status → IsReplied (reply_of text_of_placed (λ x. x) told) new.status
-  told_resumed answer (RequestStatus request on_answer) s asking h = h.status
-  told_resumed answer (Start initial_value) s asking h = absurd asking
-  told_resumed answer (CompleteStatus value) s asking h = absurd asking
-  told_resumed answer (FaultStatus error) s asking h = absurd s
-  told_resumed answer Running s asking h = absurd s
+  told_evaluated : (status : Status) → x.status ≡ status → IsClosed status → Evaluates text_of_placed (λ x. x) x new told status → IsReplied (reply_of text_of_placed (λ x. x) told) new.status
+  told_evaluated (Start initial_value) e closed h = h.status
+  told_evaluated (CompleteStatus value) e closed h = told_again (CompleteStatus value) (Ok replied.Complete) e h.0 h.1 refl
+  told_evaluated (FaultStatus error) e closed h = told_again (FaultStatus error) (Err error) e h.0 h.1 refl
+  told_evaluated (RequestStatus request on_answer) e closed h = absurd closed
+  told_evaluated Running e closed h = absurd h
 
-  told_by_call : (step : Step) → ShowsStatus texts x.status out → HasReplied text_of_placed (λ x. x) step x new told → IsReplied (reply_of text_of_placed (λ x. x) told) new.status
-  told_by_call Evaluate s h = told_evaluated x.status refl s h.0 h.1
-  told_by_call (Resume answer) s h = told_resumed answer x.status s h.0 h.1
-  told_by_call (InitialValue number) s h = absurd h
-  told_by_call (ObjectAddress address) s h = absurd h
-  told_by_call (MaxIterations maximum) s h = absurd h
+  told_resumed : (answer : requests.Answer) (status : Status) → x.status ≡ status → IsOpenFor (kind_of_answer answer) status → Resumes text_of_placed (λ x. x) (input_of x answer) x new told status → IsReplied (reply_of text_of_placed (λ x. x) told) new.status
+  told_resumed answer (RequestStatus request on_answer) e asking h = h.status
+  told_resumed answer (FaultStatus error) e asking h = told_again (FaultStatus error) (Err error) e h.0 h.1 refl
+  told_resumed answer (Start initial_value) e asking h = absurd asking
+  told_resumed answer (CompleteStatus value) e asking h = absurd asking
+  told_resumed answer Running e asking h = absurd asking
 
-shows_told : (texts : List DwexprText) (out : DwexprOutcome) (reply : Reply) (status : Status) → IsReplied reply status → ShowsReply texts reply out → ShowsStatus texts status out
-shows_told texts out reply (RequestStatus request on_answer) e h = subst (λ (r : Reply). ShowsReply texts r out) e h
-shows_told texts out reply (CompleteStatus value) e h = subst (λ (r : Reply). ShowsReply texts r out) e h
-shows_told texts out reply (FaultStatus error) e h = absurd (subst (λ (r : Reply). ShowsReply texts r out) e h)
-shows_told texts out reply (Start initial_value) e h = absurd e
-shows_told texts out reply Running e h = absurd e
+  told_by_call : (step : Step) → HasReplied text_of_placed (λ x. x) step x new told → IsReplied (reply_of text_of_placed (λ x. x) told) new.status
+  told_by_call Evaluate h = told_evaluated x.status refl h.0 h.1
+  told_by_call (Resume answer) h = told_resumed answer x.status refl h.0 h.1
+  told_by_call (InitialValue number) h = absurd h
+  told_by_call (ObjectAddress address) h = absurd h
+  told_by_call (MaxIterations maximum) h = absurd h
+
+shows_asked : (texts : List DwexprText) (out : DwexprOutcome) (reply : Reply) (status : Status) → IsReplied reply status → ShowsReply texts reply out → ShowsStatus texts status Asked out
+shows_asked texts out reply (RequestStatus request on_answer) e h = (refl, subst (λ (r : Reply). ShowsReply texts r out) e h)
+shows_asked texts out reply (CompleteStatus value) e h = absurd (subst (λ (r : Reply). ShowsReply texts r out) e h)
+shows_asked texts out reply (FaultStatus error) e h = absurd (subst (λ (r : Reply). ShowsReply texts r out) e h)
+shows_asked texts out reply (Start initial_value) e h = absurd e
+shows_asked texts out reply Running e h = absurd e
+
+shows_complete : (texts : List DwexprText) (out : DwexprOutcome) (status : Status) → IsReplied CompleteReply status → ShowsStatus texts status Complete out
+shows_complete texts out (CompleteStatus value) e = refl
+shows_complete texts out (RequestStatus request on_answer) e = absurd (let s : CompleteReply ≡ RequestReply request = e in cc)
+shows_complete texts out (FaultStatus error) e = absurd (let s : CompleteReply ≡ FaultReply (fault_of error) = e in cc)
+shows_complete texts out (Start initial_value) e = absurd e
+shows_complete texts out Running e = absurd e
 
 -- a setting changes nothing of what is shown
-shows_set : (texts : List DwexprText) (out : DwexprOutcome) (step : Step) (x new : State) → IsSet step x new → ShowsStatus texts x.status out → ShowsStatus texts new.status out
-shows_set texts out (InitialValue number) x new h s =
-    let shown : out ≡ blank_outcome = subst (λ (t : Status). ShowsStatus texts t out) h.0 s in
-    subst (λ (z : State). ShowsStatus texts z.status out) (sym h.1) shown
-shows_set texts out (ObjectAddress address) x new h s = subst (λ (z : State). ShowsStatus texts z.status out) (sym h) s
-shows_set texts out (MaxIterations maximum) x new h s = subst (λ (z : State). ShowsStatus texts z.status out) (sym h) s
-shows_set texts out Evaluate x new h s = absurd h
-shows_set texts out (Resume answer) x new h s = absurd h
+shows_set : (texts : List DwexprText) (progress : Progress) (out : DwexprOutcome) (step : Step) (x new : State) → IsSet step x new → ShowsStatus texts x.status progress out → ShowsStatus texts new.status progress out
+shows_set texts progress out (InitialValue number) x new h s =
+    let start : progress ≡ Set = subst (λ (t : Status). ShowsStatus texts t progress out) h.0 s in
+    subst (λ (z : State). ShowsStatus texts z.status progress out) (sym h.1) start
+shows_set texts progress out (ObjectAddress address) x new h s = subst (λ (z : State). ShowsStatus texts z.status progress out) (sym h) s
+shows_set texts progress out (MaxIterations maximum) x new h s = subst (λ (z : State). ShowsStatus texts z.status progress out) (sym h) s
+shows_set texts progress out Evaluate x new h s = absurd h
+shows_set texts progress out (Resume answer) x new h s = absurd h
 
 -- where the evaluation stands is no fault
-pub no_fault : (texts : List DwexprText) (told : Told) (x : State) (o : Option Outcome) (status : Status) (out : DwexprOutcome) → x.status ≡ status → ShowsStatus texts status out → StandsAt told x o → IsNoFault o
-no_fault texts told x None status out e s h = tt
-no_fault texts told x (Some (RequestOutcome request positions)) status out e s h = tt
-no_fault texts told x (Some (CompleteOutcome pieces value)) status out e s h = tt
-no_fault texts told x (Some (FaultOutcome fault)) (FaultStatus error) out e s h = absurd s
-no_fault texts told x (Some (FaultOutcome fault)) (Start initial_value) out e s h = absurd (subst (IsInFault fault) e h)
-no_fault texts told x (Some (FaultOutcome fault)) (RequestStatus request on_answer) out e s h = absurd (subst (IsInFault fault) e h)
-no_fault texts told x (Some (FaultOutcome fault)) (CompleteStatus value) out e s h = absurd (subst (IsInFault fault) e h)
-no_fault texts told x (Some (FaultOutcome fault)) Running out e s h = absurd (subst (IsInFault fault) e h)
+pub no_fault : (texts : List DwexprText) (told : Told) (x : State) (o : Option Outcome) (status : Status) (progress : Progress) (out : DwexprOutcome) → x.status ≡ status → ShowsStatus texts status progress out → StandsAt told x o → IsNoFault o
+no_fault texts told x None status progress out e s h = tt
+no_fault texts told x (Some (RequestOutcome request positions)) status progress out e s h = tt
+no_fault texts told x (Some (CompleteOutcome pieces value)) status progress out e s h = tt
+no_fault texts told x (Some (FaultOutcome fault)) (FaultStatus error) progress out e s h = absurd s
+no_fault texts told x (Some (FaultOutcome fault)) (Start initial_value) progress out e s h = absurd (subst (IsInFault fault) e h)
+no_fault texts told x (Some (FaultOutcome fault)) (RequestStatus request on_answer) progress out e s h = absurd (subst (IsInFault fault) e h)
+no_fault texts told x (Some (FaultOutcome fault)) (CompleteStatus value) progress out e s h = absurd (subst (IsInFault fault) e h)
+no_fault texts told x (Some (FaultOutcome fault)) Running progress out e s h = absurd (subst (IsInFault fault) e h)
 
 stopped_by : (told : Told) (x : State) (o : Option Outcome) (error : Error) → x.status ≡ FaultStatus error → StandsAt told x o → o ≡ Some (FaultOutcome (fault_of error))
 stopped_by told x None error e h = absurd (let s : FaultStatus error ≡ Start told.now.initial_value = sym e ∙ h.0 in cc)
@@ -180,22 +195,22 @@ refused_as first refusal a b steps others r s l h =
 
 -- ---- the loop
 
--- these steps were done, and the outcome shows where the evaluation stands
-pub record Reached (texts : List DwexprText) (numbers : List DwexprStep) (first x : State) (out : DwexprOutcome) : Type 0 where
+-- these steps were done, and what they came to says where the evaluation stands
+pub record Reached (texts : List DwexprText) (numbers : List DwexprStep) (first x : State) (progress : Progress) (out : DwexprOutcome) : Type 0 where
   pub steps : List Step
   pub said : map (step_coded first.text.is_big texts) numbers ≡ map Ok steps
   pub replies : List Reply
   pub went : Went first steps replies x
-  pub shown : ShowsStatus texts x.status out
+  pub shown : ShowsStatus texts x.status progress out
   pub setup : x.setup ≡ first.setup
 
-pub at_first : (texts : List DwexprText) (x : State) → x.status ≡ Start None → Reached texts [] x x blank_outcome
-at_first texts x fresh = record {
+pub at_first : (texts : List DwexprText) (x : State) (out : DwexprOutcome) → x.status ≡ Start None → Reached texts [] x x Set out
+at_first texts x out fresh = record {
   steps = [];
   said = refl;
   replies = [];
   went = went_at_first x fresh;
-  shown = subst (λ (s : Status). ShowsStatus texts s blank_outcome) (sym fresh) refl;
+  shown = subst (λ (s : Status). ShowsStatus texts s Set out) (sym fresh) refl;
   setup = refl;
 }
 
@@ -213,31 +228,44 @@ module _ (texts : List DwexprText) (all : List DwexprStep) (index : ℕ) (at : D
       ∙ (ap (λ (o : Result Step ℕ). map Ok steps ++ o ∷ []) one
       ∙ sym (map-append Ok steps (step ∷ [])))))
 
-  module _ (x new : State) (out : DwexprOutcome) (r : Reached texts (take index all) first x out) where
-    next_by : (now : DwexprOutcome) (o : Result Step ℕ) → step_coded first.text.is_big texts at ≡ o → DoesStep texts o x new out now (Ok tt) → Reached texts (take (suc index) all) first new now
-    next_by now (Ok step) one (inl h) =
-        subst (Reached texts (take (suc index) all) first new) (sym h.1)
+  module _ (x new : State) (progress : Progress) (out : DwexprOutcome) (r : Reached texts (take index all) first x progress out) where
+    next_set : (now : DwexprOutcome) (step : Step) → step_coded first.text.is_big texts at ≡ Ok step → IsSet step x new → now ≡ out → Reached texts (take (suc index) all) first new progress now
+    next_set now step one h same =
+        subst (Reached texts (take (suc index) all) first new progress) (sym same)
         (record {
           steps = r.steps ++ step ∷ [];
           said = said_next r.steps step r.said one;
           replies = r.replies;
-          went = set_went_on first r.steps r.replies step x new h.0 r.went;
-          shown = shows_set texts out step x new h.0 r.shown;
-          setup = set_keeps x new step h.0 ∙ r.setup;
+          went = set_went_on first r.steps r.replies step x new h r.went;
+          shown = shows_set texts progress out step x new h r.shown;
+          setup = set_keeps x new step h ∙ r.setup;
         })
-    next_by now (Ok step) one (inr h) = record {
+
+    next_called : (now : DwexprOutcome) (after : Progress) (step : Step) → step_coded first.text.is_big texts at ≡ Ok step → (told : EvaluationResult Placed ℕ ℕ) → HasReplied text_of_placed (λ x. x) step x new (Ok told) → ShowsStatus texts new.status after now → Reached texts (take (suc index) all) first new after now
+    next_called now after step one told called shown = record {
       steps = r.steps ++ step ∷ [];
       said = said_next r.steps step r.said one;
-      replies = r.replies ++ reply_of text_of_placed (λ x. x) (Ok h.told) ∷ [];
-      went = called_went_on text_of_placed (λ x. x) first r.steps r.replies x new step (Ok h.told) h.called r.went;
-      shown = shows_told texts now (ok_reply text_of_placed (λ x. x) h.told) new.status (told_by_call x new (Ok h.told) texts out step r.shown h.called) h.shown;
-      setup = reply_keeps x new (Ok h.told) step h.called ∙ r.setup;
+      replies = r.replies ++ reply_of text_of_placed (λ x. x) (Ok told) ∷ [];
+      went = called_went_on text_of_placed (λ x. x) first r.steps r.replies x new step (Ok told) called r.went;
+      shown = shown;
+      setup = reply_keeps x new (Ok told) step called ∙ r.setup;
     }
-    next_by now (Err code) one h = absurd h
+
+    next_by : (now : DwexprOutcome) (o : Result Step ℕ) (one : Progress) → step_coded first.text.is_big texts at ≡ o → DoesStep texts o index x new out now one → (one ≡ Ended → ⊥) → Reached texts (take (suc index) all) first new (latest progress one) now
+    next_by now (Ok step) Set is h goes_on = next_set now step is h.0 h.1
+    next_by now (Ok step) Asked is h goes_on =
+        next_called now Asked step is h.told h.called (shows_asked texts now (ok_reply text_of_placed (λ x. x) h.told) new.status (told_by_call x new (Ok h.told) step h.called) h.shown)
+    next_by now (Ok step) Complete is h goes_on =
+        next_called now Complete step is replied.Complete h (shows_complete texts now new.status (told_by_call x new (Ok replied.Complete) step h))
+    next_by now (Ok step) Ended is h goes_on = absurd (goes_on refl)
+    next_by now (Err code) Set is h goes_on = absurd h.0
+    next_by now (Err code) Asked is h goes_on = absurd h
+    next_by now (Err code) Complete is h goes_on = absurd h
+    next_by now (Err code) Ended is h goes_on = absurd (goes_on refl)
 
     -- the step was done
-    pub next : (now : DwexprOutcome) → DoesStep texts (step_coded first.text.is_big texts at) x new out now (Ok tt) → Reached texts (take (suc index) all) first new now
-    next now h = next_by now (step_coded first.text.is_big texts at) refl h
+    pub next : (now : DwexprOutcome) (one : Progress) → DoesStep texts (step_coded first.text.is_big texts at) index x new out now one → (one ≡ Ended → ⊥) → Reached texts (take (suc index) all) first new (latest progress one) now
+    next now one h goes_on = next_by now (step_coded first.text.is_big texts at) one refl h goes_on
 
     abbrev given : Beginning
     given = given_at first texts
@@ -252,7 +280,7 @@ module _ (texts : List DwexprText) (all : List DwexprStep) (index : ℕ) (at : D
     ends_by end h = record {
       before = r.steps;
       taken = taken;
-      no_fault = no_fault texts (told_by given r.steps) x (comes_of given r.steps) x.status out refl r.shown walks.stands;
+      no_fault = no_fault texts (told_by given r.steps) x (comes_of given r.steps) x.status progress out refl r.shown walks.stands;
       at = at;
       is_there = is_there;
       ends = h;
@@ -286,7 +314,7 @@ module _ (texts : List DwexprText) (all : List DwexprStep) (index : ℕ) (at : D
         inl (record { not_allowed = misplaced_at step h.not_taken; shown = ap (λ (e : FaultNumbers). ended_outcome e.code e.number index) h.shown })
     ends_at end step one (inr (inl h)) =
         let w = called_walks step (Err h.error) h.called in
-        let told = told_by_call x new (Err h.error) texts out step r.shown h.called in
+        let told = told_by_call x new (Err h.error) step h.called in
         inr (record {
           allowed = w.allowed;
           fault = fault_of h.error;
@@ -295,17 +323,16 @@ module _ (texts : List DwexprText) (all : List DwexprStep) (index : ℕ) (at : D
         })
     ends_at end step one (inr (inr h)) =
         let w = called_walks step (Ok h.told) h.called in
-        let told = told_by_call x new (Ok h.told) texts out step r.shown h.called in
+        let told = told_by_call x new (Ok h.told) step h.called in
         absurd (nowhere_never step one _ refl (stands_at_block texts (told_by given (r.steps ++ step ∷ [])) new _ (ok_reply text_of_placed (λ x. x) h.told) new.status refl told h.asks w.stands))
 
     cut_short_by : (end : FaultNumbers) (o : Result Step ℕ) → step_coded first.text.is_big texts at ≡ o → Stops texts o x new end → EndsByStep given r.steps o (ended_outcome end.code end.number index)
     cut_short_by end (Ok step) one h = ends_at end step one h
     cut_short_by end (Err code) one h = ap (λ (e : FaultNumbers). ended_outcome e.code e.number index) h.0
 
-    -- it was not
-    pub stopped : (end : FaultNumbers) → Stops texts (step_coded first.text.is_big texts at) x new end → HasStopped given all new (ended_outcome end.code end.number index)
+    stopped_with : (end : FaultNumbers) → Stops texts (step_coded first.text.is_big texts at) x new end → HasStopped given all new (ended_outcome end.code end.number index)
     unfolding ends_by
-    stopped end h = record {
+    stopped_with end h = record {
       cut = ends_by end (cut_short_by end (step_coded first.text.is_big texts at) refl h);
       before = x;
       stands = walks.stands;
@@ -314,9 +341,13 @@ module _ (texts : List DwexprText) (all : List DwexprStep) (index : ℕ) (at : D
       setup = stop_keeps x new texts (step_coded first.text.is_big texts at) end h ∙ r.setup;
     }
 
--- all were
-pub ran_all : (texts : List DwexprText) (all : List DwexprStep) (index : ℕ) (first x : State) (out : DwexprOutcome) → first.setup.limits ≡ capacities → length all ≤ index → Reached texts (take index all) first x out → HasTaken (given_at first texts) all x × ShowsStatus texts x.status out
-ran_all texts all index first x out limits past r =
+    -- it ended the evaluation
+    pub stopped : (now : DwexprOutcome) → Ends texts (step_coded first.text.is_big texts at) index x new now → HasStopped given all new now
+    stopped now h = subst (HasStopped given all new) (sym h.shown) (stopped_with h.end h.stops)
+
+-- all steps were done
+ran : (texts : List DwexprText) (all : List DwexprStep) (index : ℕ) (first x : State) (progress : Progress) (out : DwexprOutcome) → first.setup.limits ≡ capacities → length all ≤ index → Reached texts (take index all) first x progress out → HasTaken (given_at first texts) all x × ShowsStatus texts x.status progress out
+ran texts all index first x progress out limits past r =
     let w = done_never first r.steps r.replies x limits r.went in (
       record {
         steps = r.steps;
@@ -326,3 +357,16 @@ ran_all texts all index first x out limits past r =
       },
       r.shown,
     )
+
+not_ended : (texts : List DwexprText) (out : DwexprOutcome) (status : Status) → ShowsStatus texts status Ended out → ⊥
+not_ended texts out (Start initial_value) h = absurd (let s : Ended ≡ Set = h in cc)
+not_ended texts out (RequestStatus request on_answer) h = absurd (let s : Ended ≡ Asked = h.0 in cc)
+not_ended texts out (CompleteStatus value) h = absurd (let s : Ended ≡ Complete = h in cc)
+not_ended texts out (FaultStatus error) h = h
+not_ended texts out Running h = h
+
+pub ran_all : (texts : List DwexprText) (all : List DwexprStep) (index : ℕ) (first x : State) (progress : Progress) (out : DwexprOutcome) → first.setup.limits ≡ capacities → length all ≤ index → Reached texts (take index all) first x progress out → Runs texts all first x progress out
+ran_all texts all index first x Set out limits past r = ran texts all index first x Set out limits past r
+ran_all texts all index first x Asked out limits past r = ran texts all index first x Asked out limits past r
+ran_all texts all index first x Complete out limits past r = ran texts all index first x Complete out limits past r
+ran_all texts all index first x Ended out limits past r = absurd (not_ended texts out x.status r.shown)

@@ -1,6 +1,7 @@
 -- The pieces that were written, one by one.
-use Rattle.std.proofs.Common.{ℕ, zero, suc, ◌≡◌, ◌≢◌, ◌<◌, ◌≤◌, ◌+◌, List, [], ◌∷◌, length, map, set, slice_get, Option, Some, None, refl, sym, ap, subst, ◌∙◌, arith, below_more}
+use Rattle.std.proofs.Common.{ℕ, zero, suc, ◌≡◌, ◌≢◌, ◌<◌, ◌≤◌, ◌+◌, List, [], ◌∷◌, length, map, set, slice_get, Option, Some, None, refl, sym, ap, subst, ◌∙◌, arith, below_more, inl, inr}
 use Rattle.std.specs.Option.{IfSome, option_map}
+use Rattle.std.proofs.lemmas.Bool.{cases_lt}
 use Rattle.std.proofs.lemmas.Option.{slice_get-map}
 use Rattle.dwarf_meaning.specs.Locations.{Piece}
 use Rattle.dwexpr_c.specs.Pieces.{ShowsPiece}
@@ -51,3 +52,22 @@ pub kept_next : (places old : List DwexprPiece) (index : ℕ) (shown : DwexprPie
 kept_next places old index shown h k l =
     let other : k ≢ index = omega arith in
     other_place places index k shown other ∙ h k (omega arith)
+
+none_past : {X : Type 0} (xs : List X) (k : ℕ) → length xs ≤ k → slice_get xs k ≡ None
+none_past [] k h = refl
+none_past (x ∷ xs) zero h = absurd (omega arith)
+none_past (x ∷ xs) (suc k) h = none_past xs k (omega arith)
+
+no_room : (texts : List DwexprText) (piece : Option Piece) → ShownAt texts piece None
+no_room texts None = tt
+no_room texts (Some piece) = tt
+
+-- all pieces are shown for which there is room
+pub shown_all : (texts : List DwexprText) (pieces : List Piece) (places : List DwexprPiece) (index : ℕ) → length places ≤ index → ((k : ℕ) → k < index → ShownAt texts (slice_get pieces k) (slice_get places k)) → (k : ℕ) → ShownAt texts (slice_get pieces k) (slice_get places k)
+shown_all texts pieces places index past h k =
+    elim (cases_lt k index) [
+      | inl below ↦ h k below
+      | inr above ↦
+          let beyond : length places ≤ k = omega arith in
+          subst (λ (o : Option DwexprPiece). ShownAt texts (slice_get pieces k) o) (sym (none_past places k beyond)) (no_room texts (slice_get pieces k))
+    ]

@@ -1,5 +1,5 @@
 -- Where an evaluation stands that is held between the calls of a caller in C (DWARF 5, section 2.5).
-use Rattle.std.specs.Prelude.{◌≡◌, ◌⊎◌, false, List, [], Result, Ok, Err, Option, None, Some, IsSomeAnd}
+use Rattle.std.specs.Prelude.{◌≡◌, ◌⊎◌, false, List, [], Option, None, Some, IsSomeAnd}
 use Rattle.dwarf_base.specs.declared.common.Encoding.{Encoding}
 use Rattle.dwarf_base.specs.declared.common.Format.TheVariants.{Dwarf32}
 use Rattle.dwarf_base.specs.ByteOrder.{is_big_of}
@@ -9,10 +9,12 @@ use Rattle.dwarf_meaning.specs.Run.{most}
 use Rattle.dwarf_meaning.specs.Steps.{Step}
 use Rattle.dwarf_replay.specs.Replays.{StandsAt}
 use Rattle.dwexpr_c.specs.Evaluated.{AreTaken, Beginning, IsCutShort, beginning, capacities, comes_of, limited_setup, told_by}
-use Rattle.dwexpr_c.specs.Outcomes.{blank_outcome, ended_outcome}
+use Rattle.dwexpr_c.specs.Outcomes.{blank_outcome}
 use Rattle.dwexpr_c.specs.Stepping.{DoesStep, FinishesOutcome, Stops}
 use Rattle.dwexpr_c.specs.Steps.{step_coded}
 use Rattle.dwexpr_c.specs.declared.faults.FaultNumbers.{FaultNumbers}
+use Rattle.dwexpr_c.specs.declared.evaluating.Progress.{Progress}
+use Rattle.dwexpr_c.specs.declared.evaluating.Progress.TheVariants.{Set, Complete}
 use Rattle.dwexpr_c.specs.declared.held.Held.{Held}
 use Rattle.dwexpr_c.specs.declared.outcomes.DwexprOutcome.{DwexprOutcome}
 use Rattle.dwexpr_c.specs.declared.pieces.DwexprPiece.{DwexprPiece}
@@ -71,18 +73,19 @@ StandsAfterFirst encoding (Some text) texts numbers before after out =
 
 -- ---- after a resume
 
--- what is shown of the step, by how it ended
-abbrev pub Shows : List DwexprText → State → (told : DwexprOutcome) → Result (Unit {0}) FaultNumbers
-    → (out : DwexprOutcome) → (old new : List DwexprPiece) → Type 0
-Shows texts x told (Ok _) out old new = FinishesOutcome texts 0 x.store.pieces told out old new x.status
-Shows texts x told (Err end) out old new = (out ≡ ended_outcome end.code end.number 0) × (new ≡ old)
+-- what is shown in the end: after a setting too the pieces and the value of a complete evaluation
+abbrev pub Shows : List DwexprText → State → (told : DwexprOutcome) → Progress → (out : DwexprOutcome)
+    → (old new : List DwexprPiece) → Type 0
+Shows texts x told Set out old new = FinishesOutcome texts 0 x.store.pieces told out old new x.status
+Shows texts x told Complete out old new = FinishesOutcome texts 0 x.store.pieces told out old new x.status
+Shows texts x told _ out old new = (out ≡ told) × (new ≡ old)
 
 -- the step that the numbers say was taken, or ended the evaluation, and that is shown
 pub record HasResumed (texts : List DwexprText) (number : DwexprStep) (before after : Held) (out : DwexprOutcome)
     (old new : List DwexprPiece) : Type 0 where
   pub order : after.order ≡ before.order
-  pub ended : Result (Unit {0}) FaultNumbers
+  pub progress : Progress
   pub told : DwexprOutcome
-  pub does : DoesStep texts (step_coded (is_big_of before.order) texts number) before.evaluation after.evaluation
-      blank_outcome told ended
-  pub shown : Shows texts after.evaluation told ended out old new
+  pub does : DoesStep texts (step_coded (is_big_of before.order) texts number) 0 before.evaluation after.evaluation
+      blank_outcome told progress
+  pub shown : Shows texts after.evaluation told progress out old new

@@ -4,7 +4,7 @@ use Rattle.dwarf_value.specs.declared.types.Value.{Value}
 use Rattle.dwarf_meaning.specs.Operations as operations
 use Rattle.dwarf_meaning.specs.Requests as requests
 use Rattle.dwarf_meaning.specs.Requests.{Request}
-use Rattle.dwarf_meaning.specs.Steps.{Reply, CompleteReply, RequestReply, FaultReply}
+use Rattle.dwarf_meaning.specs.Steps.{Reply, RequestReply}
 use Rattle.dwexpr_c.specs.Operations.{flag_of}
 use Rattle.dwexpr_c.specs.Texts.{IsPlaced}
 use Rattle.dwexpr_c.specs.Values.{shown_value}
@@ -76,11 +76,10 @@ ShowsRequest texts (requests.RequiresEntryValue expression) out =
     ShowsBlock texts expression.bytes (request_outcome 8 0) out
 ShowsRequest texts request out = out ≡ request_shown request
 
--- a call replied
+-- a call replied a request
 abbrev pub ShowsReply : List DwexprText → Reply → DwexprOutcome → Type 0
-ShowsReply texts CompleteReply out = out ≡ request_outcome 1 0
 ShowsReply texts (RequestReply request) out = ShowsRequest texts request out
-ShowsReply texts (FaultReply fault) out = ⊥
+ShowsReply texts _ out = ⊥
 
 -- the value of a complete evaluation, and how many pieces it has
 abbrev pub complete_outcome : (pieces : ℕ) → Option Value → DwexprOutcome

@@ -1,5 +1,5 @@
 -- What one step of a caller does, and what is shown of it.
-use Rattle.std.specs.Prelude.{ℕ, ◌≡◌, ◌⊎◌, List, Result, Ok, Err, length}
+use Rattle.std.specs.Prelude.{ℕ, ◌≡◌, ◌⊎◌, List, Result, Ok, Err, IsOkAnd, length}
 use Rattle.dwarf_base.specs.declared.errors.Error.{Error}
 use Rattle.dwarf_base.specs.Faults.{fault_of}
 use Rattle.dwarf_meaning.specs.Locations.{Piece}
@@ -7,12 +7,15 @@ use Rattle.dwarf_meaning.specs.Rest.{State, Status, CompleteStatus}
 use Rattle.dwarf_meaning.specs.Steps.{Step}
 use Rattle.dwarf_eval.specs.Evaluation.{ok_reply}
 use Rattle.dwarf_eval.specs.declared.op.results.EvaluationResult.{EvaluationResult}
+use Rattle.dwarf_eval.specs.declared.op.results.EvaluationResult.TheVariants as replied
 use Rattle.dwarf_replay.specs.Stepping.{HasReplied, IsSet, MayTake}
 use Rattle.dwexpr_c.specs.Codes.{code_of_fault, number_of_fault, lost_text_code, misplaced_code}
 use Rattle.dwexpr_c.specs.Outcomes.{ShowsReply, complete_outcome, ended_outcome}
 use Rattle.dwexpr_c.specs.Pieces.{AreWritten}
 use Rattle.dwexpr_c.specs.Texts.{text_of_placed}
 use Rattle.dwexpr_c.specs.Places.{AsksNowhere, SomeNowhere}
+use Rattle.dwexpr_c.specs.declared.evaluating.Progress.{Progress}
+use Rattle.dwexpr_c.specs.declared.evaluating.Progress.TheVariants.{Set, Asked, Complete, Ended}
 use Rattle.dwexpr_c.specs.declared.faults.FaultNumbers.{FaultNumbers}
 use Rattle.dwexpr_c.specs.declared.outcomes.DwexprOutcome.{DwexprOutcome}
 use Rattle.dwexpr_c.specs.declared.pieces.DwexprPiece.{DwexprPiece}
@@ -23,8 +26,12 @@ use Rattle.dwexpr_c.specs.declared.steps.DwexprText.{DwexprText}
 abbrev pub plain_end : (code : ℕ) → FaultNumbers
 plain_end code = record { code = code; number = 0 }
 
--- a call replied, and the reply is shown
-pub record Replied (texts : List DwexprText) (step : Step) (old new : State) (after : DwexprOutcome) : Type 0 where
+-- a call replied that the evaluation is complete
+abbrev pub Completes : Step → (old new : State) → Type 0
+Completes step old new = HasReplied {R = Placed} {O = ℕ} {P = ℕ} text_of_placed (λ x. x) step old new (Ok replied.Complete)
+
+-- a call replied a request, and that is shown
+pub record Asks (texts : List DwexprText) (step : Step) (old new : State) (after : DwexprOutcome) : Type 0 where
   pub told : EvaluationResult Placed ℕ ℕ
   pub called : HasReplied text_of_placed (λ x. x) step old new (Ok told)
   pub shown : ShowsReply texts (ok_reply text_of_placed (λ x. x) told) after
@@ -54,13 +61,20 @@ Stops texts (Ok step) old new end =
     NotTaken step old new end ⊎ (Failed step old new end ⊎ Unplaced texts step old new end)
 Stops texts (Err code) old new end = (end ≡ plain_end code) × (new ≡ old)
 
--- the step that the numbers say ended the evaluation, or was taken
-abbrev pub DoesStep : List DwexprText → Result Step ℕ → (old new : State) → (before after : DwexprOutcome)
-    → Result (Unit {0}) FaultNumbers → Type 0
-DoesStep texts said old new before after (Err end) = Stops texts said old new end
-DoesStep texts (Ok step) old new before after (Ok _) =
-    (IsSet step old new × (after ≡ before)) ⊎ Replied texts step old new after
-DoesStep texts (Err code) old new before after (Ok _) = ⊥
+-- the step at this index ended the evaluation, or the numbers say none, and that is shown
+pub record Ends (texts : List DwexprText) (said : Result Step ℕ) (index : ℕ) (old new : State)
+    (after : DwexprOutcome) : Type 0 where
+  pub end : FaultNumbers
+  pub stops : Stops texts said old new end
+  pub shown : after ≡ ended_outcome end.code end.number index
+
+-- what the step at this index came to, if the numbers say one, and what is shown of it
+abbrev pub DoesStep : List DwexprText → Result Step ℕ → (index : ℕ) → (old new : State)
+    → (before after : DwexprOutcome) → Progress → Type 0
+DoesStep texts said index old new before after Set = IsOkAnd said (λ step. IsSet step old new) × (after ≡ before)
+DoesStep texts said index old new before after Asked = IsOkAnd said (λ step. Asks texts step old new after)
+DoesStep texts said index old new before after Complete = IsOkAnd said (λ step. Completes step old new)
+DoesStep texts said index old new before after Ended = Ends texts said index old new after
 
 -- the outcome gets the pieces and the value of a complete evaluation
 abbrev pub FinishesOutcome : List DwexprText → (count : ℕ) → List Piece → (before after : DwexprOutcome)

@@ -4,51 +4,118 @@ ghost use Rattle.dwarf_op.specs.Views.{piece_of};
 ghost use Rattle.dwarf_meaning.specs.Rest.{CompleteStatus, Start};
 ghost use Rattle.dwexpr_c.specs.Evaluated.{EvaluatesGiven};
 ghost use Rattle.dwexpr_c.specs.Held.{HasCapacities, StandsAfter};
+ghost use Rattle.dwexpr_c.specs.Outcomes.{ended_outcome};
 ghost use Rattle.dwexpr_c.specs.Steps.{step_coded};
 ghost use Rattle.dwexpr_c.specs.Stepping.{DoesStep, FinishesOutcome};
 ghost use Rattle.dwexpr_c.specs.Texts.{text_of_placed};
-ghost use Rattle.dwexpr_c.specs.inner.Runs.{IsGiven, Runs, given_at};
+ghost use Rattle.dwexpr_c.specs.inner.Runs.{IsGiven, Runs, given_at, latest};
 
 use crate::faults::{FaultNumbers, LOST_TEXT, MISPLACED, numbers_of, plain};
-use crate::outcomes::{DwexprOutcome, UNTOLD, show_complete, show_end, show_reply};
+use crate::outcomes::{DwexprOutcome, UNTOLD, show_complete, show_end, show_request};
 use crate::pieces::{DwexprPiece, write_pieces};
 use crate::places::Placed;
 use crate::steps::{DwexprStep, DwexprText, step_of};
 use dwarf_base::RunTimeEndian;
 use dwarf_eval::eval::{Evaluation, Status};
+use dwarf_eval::op::EvaluationResult;
 use dwarf_eval::store::EvaluationStorage;
 use dwarf_op::Piece;
 use dwarf_replay::{Stepped, take_step};
 use dwarf_value::Value;
 
-/// Does a step, and shows what it answered; or why it ends the evaluation.
+/// What a step, or steps, came to.
+#[derive(Clone, Copy)]
+pub(crate) enum Progress {
+    /// Nothing was answered: there were settings alone.
+    Set,
+    /// A request, which is shown.
+    Asked,
+    /// The evaluation is complete.
+    Complete,
+    /// A step ended the evaluation, and that is shown.
+    Ended,
+}
+
+/// Shows why the step at an index ended the evaluation.
+#[cold]
+#[inline(never)]
+fn end(fault: FaultNumbers, index: usize, outcome: &mut DwexprOutcome) -> Progress
+    ensures progress { result ≡ Progress.Ended }
+    ensures shown { outcome.new ≡ ended_outcome fault.code fault.number index }
+{
+    *outcome = show_end(fault, index);
+    Progress::Ended
+}
+
+/// The last of what steps came to, but for settings.
+fn latest(before: Progress, now: Progress) -> Progress
+    ensures { result ≡ latest before now }
+{
+    match now {
+        Progress::Set => before,
+        _ => now,
+    }
+}
+
+/// Does the step at an index, and shows what it asked, or why it ended the evaluation.
 pub(crate) fn do_step<'a, S: EvaluationStorage<Placed<'a>>>(
     evaluation: &mut Evaluation<Placed<'a>, S>,
     texts: &[DwexprText<'a>],
     order: RunTimeEndian,
     numbers: &DwexprStep,
+    index: usize,
     outcome: &mut DwexprOutcome,
-) -> Result<(), FaultNumbers>
-    ensures { DoesStep texts.now (step_coded (is_big_of order) texts.now numbers.now) evaluation.old
-        evaluation.new outcome.old outcome.new result }
+) -> Progress
+    ensures { DoesStep texts.now (step_coded (is_big_of order) texts.now numbers.now) index
+        evaluation.old evaluation.new outcome.old outcome.new result }
 {
     let step = match step_of(texts, order, *numbers) {
         Ok(step) => step,
-        Err(code) => return Err(plain(code)),
+        Err(code) => return end(plain(code), index, outcome),
     };
     match take_step(evaluation, step) {
-        Stepped::Misplaced => Err(plain(MISPLACED)),
-        Stepped::Set => Ok(()),
+        Stepped::Misplaced => end(plain(MISPLACED), index, outcome),
+        Stepped::Set => Progress::Set,
         Stepped::Answered(answer) => match answer.0 {
-            Ok(reply) => {
-                if show_reply(texts, reply, outcome) {
-                    Ok(())
+            Ok(EvaluationResult::Complete) => Progress::Complete,
+            Ok(request) => {
+                if show_request(texts, request, outcome) {
+                    Progress::Asked
                 } else {
-                    Err(plain(LOST_TEXT))
+                    end(plain(LOST_TEXT), index, outcome)
                 }
             }
-            Err(error) => Err(numbers_of(error)),
+            Err(error) => end(numbers_of(error), index, outcome),
         },
+    }
+}
+
+/// Does the same. Settings that are always allowed, which most starts have, are set in line.
+#[inline(always)]
+fn do_early_step<'a, S: EvaluationStorage<Placed<'a>>>(
+    evaluation: &mut Evaluation<Placed<'a>, S>,
+    texts: &[DwexprText<'a>],
+    order: RunTimeEndian,
+    numbers: &DwexprStep,
+    index: usize,
+    outcome: &mut DwexprOutcome,
+) -> Progress
+    ensures { DoesStep texts.now (step_coded (is_big_of order) texts.now numbers.now) index
+        evaluation.old evaluation.new outcome.old outcome.new result }
+{
+    match numbers.kind {
+        2 => {
+            evaluation.set_object_address(numbers.number);
+            Progress::Set
+        }
+        3 => match u32::try_from(numbers.number) {
+            Ok(maximum) => {
+                evaluation.set_max_iterations(maximum);
+                Progress::Set
+            }
+            Err(_) => do_step(evaluation, texts, order, numbers, index, outcome),
+        },
+        _ => do_step(evaluation, texts, order, numbers, index, outcome),
     }
 }
 
@@ -59,36 +126,34 @@ fn step_at(steps: &[DwexprStep], index: usize) -> Option<&DwexprStep>
     steps.get(index)
 }
 
-/// Does the steps, and shows what the last of them answered; `false` if one ended the evaluation, which is shown then.
+/// Does the steps, and shows what the last call of them asked, or why one ended the evaluation.
 fn do_steps<'a, S: EvaluationStorage<Placed<'a>>>(
     evaluation: &mut Evaluation<Placed<'a>, S>,
     texts: &[DwexprText<'a>],
     order: RunTimeEndian,
     steps: &[DwexprStep],
     outcome: &mut DwexprOutcome,
-) -> bool
+) -> Progress
     requires fresh { evaluation.old.status ≡ Start None }
     requires capacities { HasCapacities evaluation.old }
     requires order { evaluation.old.text.is_big ≡ is_big_of order }
     requires given { IsGiven texts.now evaluation.old.text.bytes }
     ensures { Runs texts.now steps.now evaluation.old evaluation.new result outcome.new }
 {
-    *outcome = UNTOLD;
+    let mut progress = Progress::Set;
     let mut index = 0;
     while index < steps.len() {
         let Some(step) = step_at(steps, index) else {
-            return true;
+            return progress;
         };
-        match do_step(evaluation, texts, order, step, outcome) {
-            Ok(()) => {}
-            Err(end) => {
-                *outcome = show_end(end, index);
-                return false;
-            }
+        let now = do_early_step(evaluation, texts, order, step, index, outcome);
+        if let Progress::Ended = now {
+            return Progress::Ended;
         }
+        progress = latest(progress, now);
         index += 1;
     }
-    true
+    progress
 }
 
 /// Shows a complete evaluation, or that some bytes are nowhere, which never comes.
@@ -103,9 +168,8 @@ fn show_result(
     ensures { FinishesOutcome texts.now count (map (piece_of text_of_placed (λ x. x)) pieces.now)
         outcome.old outcome.new places.old places.new (CompleteStatus value) }
 {
-    if write_pieces(texts, pieces, places) {
-        *outcome = show_complete(pieces.len(), value);
-    } else {
+    *outcome = show_complete(pieces.len(), value);
+    if !write_pieces(texts, pieces, places) {
         *outcome = show_end(plain(LOST_TEXT), count);
     }
 }
@@ -152,7 +216,9 @@ pub(crate) fn evaluate_steps<'a, S: EvaluationStorage<Placed<'a>>>(
     ensures stands { StandsAfter (given_at evaluation.old texts.now) steps.now evaluation.new
         outcome.new }
 {
-    if do_steps(evaluation, texts, order, steps, outcome) {
-        show_status(evaluation, texts, steps.len(), outcome, places);
+    match do_steps(evaluation, texts, order, steps, outcome) {
+        Progress::Set => *outcome = UNTOLD,
+        Progress::Complete => show_status(evaluation, texts, steps.len(), outcome, places),
+        Progress::Asked | Progress::Ended => {}
     }
 }

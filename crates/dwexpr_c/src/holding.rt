@@ -9,9 +9,9 @@ ghost use Rattle.dwexpr_c.specs.Owned.{held_row};
 ghost use Rattle.dwexpr_c.specs.Texts.{text_at};
 
 use crate::encodings::DwexprEncoding;
-use crate::evaluating::{do_step, show_status};
+use crate::evaluating::{Progress, do_step, show_status};
 use crate::held::{DwexprEvaluation, Held, unstarted};
-use crate::outcomes::{DwexprOutcome, UNTOLD, show_end};
+use crate::outcomes::{DwexprOutcome, UNTOLD};
 use crate::pieces::DwexprPiece;
 use crate::starting::start;
 use crate::steps::{DwexprStep, DwexprText};
@@ -28,10 +28,13 @@ fn resume(
     ensures resumes { HasResumed texts.now step held.old held.new outcome.new places.old places.new }
     ensures capacities { HasCapacities held.new.evaluation }
 {
-    *outcome = UNTOLD;
-    match do_step(&mut held.evaluation, texts, held.order, &step, outcome) {
-        Ok(()) => show_status(&held.evaluation, texts, 0, outcome, places),
-        Err(end) => *outcome = show_end(end, 0),
+    match do_step(&mut held.evaluation, texts, held.order, &step, 0, outcome) {
+        Progress::Set => {
+            *outcome = UNTOLD;
+            show_status(&held.evaluation, texts, 0, outcome, places);
+        }
+        Progress::Complete => show_status(&held.evaluation, texts, 0, outcome, places),
+        Progress::Asked | Progress::Ended => {}
     }
 }
 

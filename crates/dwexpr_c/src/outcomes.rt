@@ -120,19 +120,20 @@ fn with_block(shown: DwexprOutcome, place: Place, size: usize) -> DwexprOutcome
     }
 }
 
-/// Shows what a call answered; `false` if it asks of a block that is nowhere.
-pub(crate) fn show_reply(
+/// Shows a request; `false` if it asks of a block that is nowhere.
+pub(crate) fn show_request(
     texts: &[DwexprText<'_>],
-    reply: EvaluationResult<Placed<'_>>,
+    request: EvaluationResult<Placed<'_>>,
     outcome: &mut DwexprOutcome,
 ) -> bool
+    requires { request ≡ EvaluationResult.Complete → ⊥ }
     ensures shown { result ≡ true
-        → ShowsReply texts.now (ok_reply text_of_placed (λ x. x) reply.entry) outcome.new }
+        → ShowsReply texts.now (ok_reply text_of_placed (λ x. x) request.entry) outcome.new }
     ensures unplaced { result ≡ false
-        → AsksNowhere texts.now (ok_reply text_of_placed (λ x. x) reply.entry) }
+        → AsksNowhere texts.now (ok_reply text_of_placed (λ x. x) request.entry) }
 {
-    match reply {
-        EvaluationResult::Complete => *outcome = asking(1, 0),
+    match request {
+        EvaluationResult::Complete => unreachable!(),
         EvaluationResult::RequiresMemory {
             address,
             size,

@@ -1,7 +1,7 @@
-ghost use Rattle.std.specs.Prelude.{◌≡◌, IfSome, IfNone, is_some, true, false, map, slice_get, unwrap_or};
+ghost use Rattle.std.specs.Prelude.{◌≡◌, is_some, true, false, map, option_map, slice_get, unwrap_or};
 ghost use Rattle.dwarf_op.specs.Views.{location_of, piece_of};
 ghost use Rattle.dwexpr_c.specs.Operations.{flag_of};
-ghost use Rattle.dwexpr_c.specs.Pieces.{AreWritten, ShowsLocation, ShowsPiece, sized};
+ghost use Rattle.dwexpr_c.specs.Pieces.{AreWritten, ShowsLocation, sized};
 ghost use Rattle.dwexpr_c.specs.Texts.{text_of_placed};
 ghost use Rattle.dwexpr_c.specs.Places.{HoldsNowhere, SomeNowhere};
 
@@ -92,64 +92,58 @@ fn with_bytes(shown: DwexprPiece, place: Place, size: usize) -> DwexprPiece
     }
 }
 
-/// A piece; `None` if its bytes are nowhere.
+/// Writes a piece where the caller wants it; `false` if its bytes are nowhere.
 fn show_location(
     texts: &[DwexprText<'_>],
     size: Option<u64>,
     offset: Option<u64>,
     location: Location<Placed<'_>>,
-) -> Option<DwexprPiece>
-    ensures some { IfSome result
-        (λ out. ShowsLocation texts.now size offset
-        (location_of text_of_placed (λ x. x) location.entry) out) }
-    ensures none { IfNone result
-        (HoldsNowhere texts.now (location_of text_of_placed (λ x. x) location.entry)) }
+    shown: &mut DwexprPiece,
+) -> bool
+    ensures some { result ≡ true
+        → ShowsLocation texts.now size offset
+        (location_of text_of_placed (λ x. x) location.entry) shown.new }
+    ensures none { result ≡ false
+        → HoldsNowhere texts.now (location_of text_of_placed (λ x. x) location.entry) }
 {
-    Some(match location {
-        Location::Empty => sized(1, size, offset),
-        Location::Register { register } => DwexprPiece {
+    match location {
+        Location::Empty => *shown = sized(1, size, offset),
+        Location::Register { register } => *shown = DwexprPiece {
             number: u64::from(register.0),
             ..sized(2, size, offset)
         },
-        Location::Address { address } => DwexprPiece {
+        Location::Address { address } => *shown = DwexprPiece {
             number: address,
             ..sized(3, size, offset)
         },
         Location::Value { value } => {
             let numbers = numbers_of_value(value);
-            DwexprPiece {
+            *shown = DwexprPiece {
                 value_type: numbers.value_type,
                 number: numbers.content,
                 ..sized(4, size, offset)
-            }
+            };
         }
         Location::Bytes { value } => {
-            let place = place_of(texts, value)?;
-            with_bytes(sized(5, size, offset), place, value.len())
+            let Some(place) = place_of(texts, value) else {
+                return false;
+            };
+            *shown = with_bytes(sized(5, size, offset), place, value.len());
         }
-        Location::ImplicitPointer { value, byte_offset } => DwexprPiece {
+        Location::ImplicitPointer { value, byte_offset } => *shown = DwexprPiece {
             number: value.0 as u64,
             byte_offset,
             ..sized(6, size, offset)
         },
-    })
-}
-
-/// A piece; `None` if its bytes are nowhere.
-fn show_piece(texts: &[DwexprText<'_>], piece: Piece<Placed<'_>>) -> Option<DwexprPiece>
-    ensures some { IfSome result
-        (λ out. ShowsPiece texts.now (piece_of text_of_placed (λ x. x) piece.entry) out) }
-    ensures none { IfNone result
-        (HoldsNowhere texts.now (piece_of text_of_placed (λ x. x) piece.entry).location) }
-{
-    show_location(texts, piece.size_in_bits, piece.bit_offset, piece.location)
+    }
+    true
 }
 
 /// The piece at an index, if there is one.
-fn piece_at<'a>(pieces: &[Piece<Placed<'a>>], index: usize) -> Option<Piece<Placed<'a>>>
-    ensures { result ≡ slice_get pieces.now index }
+fn piece_at<'a, 'b>(pieces: &'b [Piece<Placed<'a>>], index: usize) -> Option<&'b Piece<Placed<'a>>>
+    ensures { option_map (λ piece. piece.now) result ≡ slice_get pieces.now index }
 {
-    pieces.get(index).copied()
+    pieces.get(index)
 }
 
 /// Writes as many pieces as there is room for; `false` if the bytes of one are nowhere.
@@ -168,9 +162,14 @@ pub(crate) fn write_pieces(
         let Some(piece) = piece_at(pieces, index) else {
             return true;
         };
-        match show_piece(texts, piece) {
-            Some(shown) => places[index] = shown,
-            None => return false,
+        if !show_location(
+            texts,
+            piece.size_in_bits,
+            piece.bit_offset,
+            piece.location,
+            &mut places[index],
+        ) {
+            return false;
         }
     }
     true

@@ -73,7 +73,7 @@ TAKEN = [
     ("eval/op", "{expression_equality_laws,", "{more_laws, expression_equality_laws,", "", ""),
     ("base/reading", "self.read_fixed(8)", "self.read_fixed(4)", "self.read_fixed(8)", "self.read_fixed(4)"),
     ("base/reading", "// The bytes that are left to read", "// The bytes", "", ""),
-    ("op/decoding", "// A size, and the", "// The size and the", "// A size, and the", "// The size and the"),
+    ("op/decoding", "// The size of a piece", "// A piece's size", "// The size of a piece", "// A piece's size"),
 ]
 
 passed = failed = 0

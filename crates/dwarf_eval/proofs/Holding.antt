@@ -111,8 +111,8 @@ module _ (x : State) (location : Location) (runs : x.status ≡ Running) (inside
       piece_falls new h =
           falls_from x mid new h.error h.gets.refusal runs h.failed h.gets.may
           (λ inputs.
-              held_after_operation h.gets.refusal inputs _ (FaultNext (fault_of h.error)) some (ap (goes place_then) h.gets.same)
-              ∙ course_failed x.store.count x.setup x.callers (fault_of h.error))
+          held_after_operation h.gets.refusal inputs _ (FaultNext (fault_of h.error)) some (ap (goes place_then) h.gets.same)
+          ∙ course_failed x.store.count x.setup x.callers (fault_of h.error))
           (reads_piece place_then Pieced) h.stays
 
       piece_turns : (new : State) (done : Bool) → Tries 0 (push_piece x.setup piece) mid new done → Turns x new

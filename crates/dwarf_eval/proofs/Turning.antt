@@ -126,9 +126,9 @@ module _ (x : State) (ready : IsReady x) where
   ready_none new h =
       falls_from x x new error.TooManyIterations Never ready.runs (ap (λ (z : State). z.status) h.1) tt
       (λ inputs.
-          ready_total Never inputs
-          ∙ (ap (total_of_course x.store.count x.setup x.callers) (cond-false (can_count x.store) _ (only_end (FaultEnd TooManyIterations)) h.0)
-          ∙ course_failed x.store.count x.setup x.callers TooManyIterations))
+      ready_total Never inputs
+      ∙ (ap (total_of_course x.store.count x.setup x.callers) (cond-false (can_count x.store) _ (only_end (FaultEnd TooManyIterations)) h.0)
+      ∙ course_failed x.store.count x.setup x.callers TooManyIterations))
       (record { setup = refl; settings = refl; callers = refl; items = refl; pieces = refl; count = omega arith; decodings = omega arith; each = omega arith; one = omega arith })
       (stays_status (FaultStatus error.TooManyIterations) x new h.1)
 
@@ -164,8 +164,8 @@ module _ (x : State) (ready : IsReady x) where
       ready_fails new error failed h =
           falls_from x there new error h.gets.refusal ready.runs failed h.gets.may
           (λ inputs.
-              ready_after_operation h.gets.refusal inputs (FaultNext (fault_of error)) h.gets.same
-              ∙ course_failed (x.store.count + 1) x.setup x.callers (fault_of error))
+          ready_after_operation h.gets.refusal inputs (FaultNext (fault_of error)) h.gets.same
+          ∙ course_failed (x.store.count + 1) x.setup x.callers (fault_of error))
           (counts_and_reads x place_then) h.stays
 
       -- an operation leaves the count and the settings

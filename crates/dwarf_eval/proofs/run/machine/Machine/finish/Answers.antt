@@ -1,4 +1,4 @@
-use Rattle.std.proofs.Common.{refl, sym, ◌∙◌, None}
+use Rattle.std.proofs.Common.{ap, refl, sym, ◌∙◌, None}
 use Rattle.dwarf_base.specs.declared.errors.Error.TheVariants.{InvalidPiece}
 use Rattle.dwarf_meaning.specs.Locations.{InRegister}
 use Rattle.dwarf_meaning.specs.Meaning.{FaultOutcome, completion_of, finish_value, whole}
@@ -38,7 +38,7 @@ returns-then-is_free g c =
 pub returns-in-Register : goal.returns-in-Register
 returns-in-Register g c =
     let location = InRegister c.in-Register.register.0 in
-    finish_as (Located location) c.args.self.now c.complete.new.self c.in-Register.ensures
+    finish_as (Located location) c.args.self.now c.complete.new.self (c.location.ensures ∙ ap (λ l. Located (location_of g.R.Reader.text g.R.Offset.ReaderOffset.number l)) c.in-Register.is)
     (closes_else 1 (λ s. FaultOutcome InvalidPiece) (λ s. completion_of None (push_piece c.args.self.now.setup (whole location) s)) c.args.self.now c.complete.new.self (sym c.has_pieces.ensures ∙ c.if-has_pieces.false)
     (closes_with None _ (whole location) c.args.self.now c.complete.new.self c.whole.ensures c.complete.ensures))
 

@@ -7,6 +7,7 @@ use Rattle.dwarf_value.specs.declared.types.ValueType.{ValueType}
 use Rattle.dwexpr_c.specs.Codes.{bad_value_code, code_of_fault}
 use Rattle.dwexpr_c.specs.Operations.{binary_kind, unary_kind}
 use Rattle.dwexpr_c.specs.Values.{shown_value, value_coded}
+use Rattle.dwexpr_c.specs.declared.kinds.TheConstants as kinds
 use Rattle.dwexpr_c.specs.declared.values.DwexprValue.{DwexprValue}
 
 -- what a call comes to; `None` if its numbers say no call
@@ -57,8 +58,8 @@ binary_in operation w (Some x) (Some y) = binary_coded operation w x y
 -- a value in another type, by its number or by its bits
 abbrev pub conversion_of : (operation w : ℕ) → ValueType → Value → Computed
 conversion_of operation w t x =
-    if operation == 49 then Some (convert_of w t x)
-    else if operation == 50 then Some (reinterpret_of w t x)
+    if operation == kinds.CONVERT then Some (convert_of w t x)
+    else if operation == kinds.REINTERPRET then Some (reinterpret_of w t x)
     else None
 
 -- the same, if there are a type and a value

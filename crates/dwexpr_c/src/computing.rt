@@ -6,6 +6,7 @@ ghost use Rattle.dwexpr_c.specs.Values.{type_code, type_coded};
 
 use crate::encodings::order_of;
 use crate::faults::{BAD_VALUE, OK, numbers_of};
+use crate::kinds;
 use crate::values::{DwexprValue, code_of_type, numbers_of_value, type_of_code, value_of};
 use dwarf_base::{DwAte, EndianSlice, Result, RunTimeEndian};
 use dwarf_value::{Value, ValueType, is_addr_mask};
@@ -40,9 +41,9 @@ fn unary(operation: u32, value: Value, addr_mask: u64) -> Option<Result<Value>>
     ensures { result ≡ calls.unary_coded operation (width_of addr_mask) value }
 {
     Some(match operation {
-        6 => value.abs(addr_mask),
-        12 => value.neg(addr_mask),
-        13 => value.not(addr_mask),
+        kinds::ABS => value.abs(addr_mask),
+        kinds::NEG => value.neg(addr_mask),
+        kinds::NOT => value.not(addr_mask),
         _ => return None,
     })
 }
@@ -52,23 +53,23 @@ fn binary(operation: u32, left: Value, right: Value, addr_mask: u64) -> Option<R
     ensures { result ≡ calls.binary_coded operation (width_of addr_mask) left right }
 {
     Some(match operation {
-        7 => left.and(right, addr_mask),
-        8 => left.div(right, addr_mask),
-        9 => left.sub(right, addr_mask),
-        10 => left.rem(right, addr_mask),
-        11 => left.mul(right, addr_mask),
-        14 => left.or(right, addr_mask),
-        15 => left.add(right, addr_mask),
-        17 => left.shl(right, addr_mask),
-        18 => left.shr(right, addr_mask),
-        19 => left.shra(right, addr_mask),
-        20 => left.xor(right, addr_mask),
-        22 => left.eq(right, addr_mask),
-        23 => left.ge(right, addr_mask),
-        24 => left.gt(right, addr_mask),
-        25 => left.le(right, addr_mask),
-        26 => left.lt(right, addr_mask),
-        27 => left.ne(right, addr_mask),
+        kinds::AND => left.and(right, addr_mask),
+        kinds::DIV => left.div(right, addr_mask),
+        kinds::MINUS => left.sub(right, addr_mask),
+        kinds::MOD => left.rem(right, addr_mask),
+        kinds::MUL => left.mul(right, addr_mask),
+        kinds::OR => left.or(right, addr_mask),
+        kinds::PLUS => left.add(right, addr_mask),
+        kinds::SHL => left.shl(right, addr_mask),
+        kinds::SHR => left.shr(right, addr_mask),
+        kinds::SHRA => left.shra(right, addr_mask),
+        kinds::XOR => left.xor(right, addr_mask),
+        kinds::EQ => left.eq(right, addr_mask),
+        kinds::GE => left.ge(right, addr_mask),
+        kinds::GT => left.gt(right, addr_mask),
+        kinds::LE => left.le(right, addr_mask),
+        kinds::LT => left.lt(right, addr_mask),
+        kinds::NE => left.ne(right, addr_mask),
         _ => return None,
     })
 }
@@ -83,8 +84,8 @@ fn conversion(
     ensures { result ≡ calls.conversion_of operation (width_of addr_mask) value_type value }
 {
     Some(match operation {
-        49 => value.convert(value_type, addr_mask),
-        50 => value.reinterpret(value_type, addr_mask),
+        kinds::CONVERT => value.convert(value_type, addr_mask),
+        kinds::REINTERPRET => value.reinterpret(value_type, addr_mask),
         _ => return None,
     })
 }

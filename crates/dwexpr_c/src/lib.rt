@@ -12,6 +12,7 @@ mod evaluating;
 mod faults;
 mod held;
 mod holding;
+mod kinds;
 mod operations;
 mod outcomes;
 mod pieces;

@@ -5,6 +5,7 @@ ghost use Rattle.dwexpr_c.specs.Decoded.{decoded, undecoded, with_block};
 ghost use Rattle.dwexpr_c.specs.Operations.{block_in, numbered, operands_of, of_kind, signed_operand, typed};
 
 use crate::faults::{FaultNumbers, OK};
+use crate::kinds;
 use dwarf_base::{EndianSlice, Reader, RunTimeEndian};
 use dwarf_op::{DieReference, Operation};
 
@@ -146,40 +147,40 @@ fn show_operands(operation: Operation<Bytes<'_>>, end: usize, shown: &mut Dwexpr
         } => *shown = DwexprOperation {
             deref_size: u32::from(size),
             flag: u32::from(space),
-            ..typed(1, base_type.0)
+            ..typed(kinds::DEREF, base_type.0)
         },
-        Operation::Drop => *shown = plain(2),
-        Operation::Pick { index } => *shown = numbered(3, u64::from(index)),
-        Operation::Swap => *shown = plain(4),
-        Operation::Rot => *shown = plain(5),
-        Operation::Abs => *shown = plain(6),
-        Operation::And => *shown = plain(7),
-        Operation::Div => *shown = plain(8),
-        Operation::Minus => *shown = plain(9),
-        Operation::Mod => *shown = plain(10),
-        Operation::Mul => *shown = plain(11),
-        Operation::Neg => *shown = plain(12),
-        Operation::Not => *shown = plain(13),
-        Operation::Or => *shown = plain(14),
-        Operation::Plus => *shown = plain(15),
-        Operation::PlusConstant { value } => *shown = numbered(16, value),
-        Operation::Shl => *shown = plain(17),
-        Operation::Shr => *shown = plain(18),
-        Operation::Shra => *shown = plain(19),
-        Operation::Xor => *shown = plain(20),
-        Operation::Bra { target } => *shown = signed(21, i64::from(target)),
-        Operation::Eq => *shown = plain(22),
-        Operation::Ge => *shown = plain(23),
-        Operation::Gt => *shown = plain(24),
-        Operation::Le => *shown = plain(25),
-        Operation::Lt => *shown = plain(26),
-        Operation::Ne => *shown = plain(27),
-        Operation::Skip { target } => *shown = signed(28, i64::from(target)),
-        Operation::UnsignedConstant { value } => *shown = numbered(29, value),
-        Operation::SignedConstant { value } => *shown = signed(30, value),
+        Operation::Drop => *shown = plain(kinds::DROP),
+        Operation::Pick { index } => *shown = numbered(kinds::PICK, u64::from(index)),
+        Operation::Swap => *shown = plain(kinds::SWAP),
+        Operation::Rot => *shown = plain(kinds::ROT),
+        Operation::Abs => *shown = plain(kinds::ABS),
+        Operation::And => *shown = plain(kinds::AND),
+        Operation::Div => *shown = plain(kinds::DIV),
+        Operation::Minus => *shown = plain(kinds::MINUS),
+        Operation::Mod => *shown = plain(kinds::MOD),
+        Operation::Mul => *shown = plain(kinds::MUL),
+        Operation::Neg => *shown = plain(kinds::NEG),
+        Operation::Not => *shown = plain(kinds::NOT),
+        Operation::Or => *shown = plain(kinds::OR),
+        Operation::Plus => *shown = plain(kinds::PLUS),
+        Operation::PlusConstant { value } => *shown = numbered(kinds::PLUS_CONSTANT, value),
+        Operation::Shl => *shown = plain(kinds::SHL),
+        Operation::Shr => *shown = plain(kinds::SHR),
+        Operation::Shra => *shown = plain(kinds::SHRA),
+        Operation::Xor => *shown = plain(kinds::XOR),
+        Operation::Bra { target } => *shown = signed(kinds::BRA, i64::from(target)),
+        Operation::Eq => *shown = plain(kinds::EQ),
+        Operation::Ge => *shown = plain(kinds::GE),
+        Operation::Gt => *shown = plain(kinds::GT),
+        Operation::Le => *shown = plain(kinds::LE),
+        Operation::Lt => *shown = plain(kinds::LT),
+        Operation::Ne => *shown = plain(kinds::NE),
+        Operation::Skip { target } => *shown = signed(kinds::SKIP, i64::from(target)),
+        Operation::UnsignedConstant { value } => *shown = numbered(kinds::UNSIGNED_CONSTANT, value),
+        Operation::SignedConstant { value } => *shown = signed(kinds::SIGNED_CONSTANT, value),
         Operation::Register { register } => *shown = DwexprOperation {
             register_number: u32::from(register.0),
-            ..plain(31)
+            ..plain(kinds::REGISTER)
         },
         Operation::RegisterOffset {
             register,
@@ -188,57 +189,77 @@ fn show_operands(operation: Operation<Bytes<'_>>, end: usize, shown: &mut Dwexpr
         } => *shown = DwexprOperation {
             register_number: u32::from(register.0),
             signed_number: offset,
-            ..typed(32, base_type.0)
+            ..typed(kinds::REGISTER_OFFSET, base_type.0)
         },
-        Operation::FrameOffset { offset } => *shown = signed(33, offset),
-        Operation::Nop => *shown = plain(34),
-        Operation::PushObjectAddress => *shown = plain(35),
+        Operation::FrameOffset { offset } => *shown = signed(kinds::FRAME_OFFSET, offset),
+        Operation::Nop => *shown = plain(kinds::NOP),
+        Operation::PushObjectAddress => *shown = plain(kinds::PUSH_OBJECT_ADDRESS),
         Operation::Call {
             offset: DieReference::UnitRef(offset),
-        } => *shown = numbered(36, offset.0 as u64),
+        } => *shown = numbered(kinds::CALL, offset.0 as u64),
         Operation::Call {
             offset: DieReference::DebugInfoRef(offset),
         } => *shown = DwexprOperation {
             flag: 1,
-            ..numbered(36, offset.0 as u64)
+            ..numbered(kinds::CALL, offset.0 as u64)
         },
-        Operation::TLS => *shown = plain(37),
-        Operation::CallFrameCFA => *shown = plain(38),
+        Operation::TLS => *shown = plain(kinds::TLS),
+        Operation::CallFrameCFA => *shown = plain(kinds::CALL_FRAME_CFA),
         Operation::Piece {
             size_in_bits,
             bit_offset: None,
-        } => *shown = numbered(39, size_in_bits),
+        } => *shown = numbered(kinds::PIECE, size_in_bits),
         Operation::Piece {
             size_in_bits,
             bit_offset: Some(bit_offset),
         } => *shown = DwexprOperation {
             flag: 1,
             detail: bit_offset,
-            ..numbered(39, size_in_bits)
+            ..numbered(kinds::PIECE, size_in_bits)
         },
-        Operation::ImplicitValue { bytes } => *shown = blocked(plain(40), bytes.len(), end),
-        Operation::StackValue => *shown = plain(41),
+        Operation::ImplicitValue { bytes } => *shown = blocked(
+            plain(kinds::IMPLICIT_VALUE),
+            bytes.len(),
+            end,
+        ),
+        Operation::StackValue => *shown = plain(kinds::STACK_VALUE),
         Operation::ImplicitPointer { value, byte_offset } => *shown = DwexprOperation {
             signed_number: byte_offset,
-            ..numbered(42, value.0 as u64)
+            ..numbered(kinds::IMPLICIT_POINTER, value.0 as u64)
         },
-        Operation::EntryValue { expression } => *shown = blocked(plain(43), expression.len(), end),
-        Operation::ParameterRef { offset } => *shown = numbered(44, offset.0 as u64),
-        Operation::Address { address } => *shown = numbered(45, address),
-        Operation::AddressIndex { index } => *shown = numbered(46, index.0 as u64),
-        Operation::ConstantIndex { index } => *shown = numbered(47, index.0 as u64),
+        Operation::EntryValue { expression } => *shown = blocked(
+            plain(kinds::ENTRY_VALUE),
+            expression.len(),
+            end,
+        ),
+        Operation::ParameterRef { offset } => *shown = numbered(
+            kinds::PARAMETER_REF,
+            offset.0 as u64,
+        ),
+        Operation::Address { address } => *shown = numbered(kinds::ADDRESS, address),
+        Operation::AddressIndex { index } => *shown = numbered(
+            kinds::ADDRESS_INDEX,
+            index.0 as u64,
+        ),
+        Operation::ConstantIndex { index } => *shown = numbered(
+            kinds::CONSTANT_INDEX,
+            index.0 as u64,
+        ),
         Operation::TypedLiteral { base_type, value } => *shown = blocked(
-            typed(48, base_type.0),
+            typed(kinds::TYPED_LITERAL, base_type.0),
             value.len(),
             end,
         ),
-        Operation::Convert { base_type } => *shown = typed(49, base_type.0),
-        Operation::Reinterpret { base_type } => *shown = typed(50, base_type.0),
-        Operation::Uninitialized => *shown = plain(51),
-        Operation::WasmLocal { index } => *shown = numbered(52, u64::from(index)),
-        Operation::WasmGlobal { index } => *shown = numbered(53, u64::from(index)),
-        Operation::WasmStack { index } => *shown = numbered(54, u64::from(index)),
-        Operation::VariableValue { offset } => *shown = numbered(55, offset.0 as u64),
+        Operation::Convert { base_type } => *shown = typed(kinds::CONVERT, base_type.0),
+        Operation::Reinterpret { base_type } => *shown = typed(kinds::REINTERPRET, base_type.0),
+        Operation::Uninitialized => *shown = plain(kinds::UNINITIALIZED),
+        Operation::WasmLocal { index } => *shown = numbered(kinds::WASM_LOCAL, u64::from(index)),
+        Operation::WasmGlobal { index } => *shown = numbered(kinds::WASM_GLOBAL, u64::from(index)),
+        Operation::WasmStack { index } => *shown = numbered(kinds::WASM_STACK, u64::from(index)),
+        Operation::VariableValue { offset } => *shown = numbered(
+            kinds::VARIABLE_VALUE,
+            offset.0 as u64,
+        ),
     }
 }
 

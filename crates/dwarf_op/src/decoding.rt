@@ -4,11 +4,11 @@ ghost use Rattle.std.specs.Prelude.{◌≡◌, ◌<◌, length, OnOk};
 ghost use Rattle.dwarf_base.specs.declared.common.Encoding.{Encoding};
 ghost use Rattle.dwarf_base.specs.Reads.{Reads};
 ghost use Rattle.dwarf_meaning.specs.Decoding.{operation_at};
-ghost use Rattle.dwarf_op.specs.inner.Entries.{entry_row, operands_in, rare_row};
-ghost use Rattle.dwarf_op.specs.inner.Entries as entries;
+ghost use Rattle.dwarf_op.specs.Entries.{entry_row, operands_in, rare_row};
+ghost use Rattle.dwarf_op.specs.Entries as entries;
 ghost use Rattle.dwarf_op.specs.Views.{operation_of};
 
-use crate::opcodes::{Entry, FromOffset, Offset, Rare, entry_at};
+use crate::opcodes::{Entry, FromOffset, Offset, Plain, Rare, entry_at};
 use crate::operands::{
     generic_type, read_block, read_i16, read_offset, read_register, read_signed, read_u8,
     read_unsigned,
@@ -18,6 +18,43 @@ use dwarf_base::{
     DebugAddrIndex, DebugInfoOffset, DwOp, Encoding, Error, Reader, Register, Result, UnitOffset,
     constants,
 };
+
+#[inline(always)]
+fn plain_operation<R: Reader>(operation: Plain) -> Operation<R>
+    ensures { operation_of R.text R.Offset.number result ≡ entries.plain_operation operation }
+{
+    match operation {
+        Plain::Drop => Operation::Drop,
+        Plain::Swap => Operation::Swap,
+        Plain::Rot => Operation::Rot,
+        Plain::Abs => Operation::Abs,
+        Plain::And => Operation::And,
+        Plain::Div => Operation::Div,
+        Plain::Minus => Operation::Minus,
+        Plain::Mod => Operation::Mod,
+        Plain::Mul => Operation::Mul,
+        Plain::Neg => Operation::Neg,
+        Plain::Not => Operation::Not,
+        Plain::Or => Operation::Or,
+        Plain::Plus => Operation::Plus,
+        Plain::Shl => Operation::Shl,
+        Plain::Shr => Operation::Shr,
+        Plain::Shra => Operation::Shra,
+        Plain::Xor => Operation::Xor,
+        Plain::Eq => Operation::Eq,
+        Plain::Ge => Operation::Ge,
+        Plain::Gt => Operation::Gt,
+        Plain::Le => Operation::Le,
+        Plain::Lt => Operation::Lt,
+        Plain::Ne => Operation::Ne,
+        Plain::Nop => Operation::Nop,
+        Plain::PushObjectAddress => Operation::PushObjectAddress,
+        Plain::TLS => Operation::TLS,
+        Plain::CallFrameCFA => Operation::CallFrameCFA,
+        Plain::StackValue => Operation::StackValue,
+        Plain::Uninitialized => Operation::Uninitialized,
+    }
+}
 
 #[inline(always)]
 fn offset_operation<R: Reader>(make: FromOffset, offset: R::Offset) -> Operation<R>
@@ -52,13 +89,47 @@ fn offset_operation<R: Reader>(make: FromOffset, offset: R::Offset) -> Operation
     }
 }
 
+// A register, and an offset from what it holds.
+#[tactic(auto, using(dwarf_base::proofs::Suffixes::suffix_trans))]
+#[inline(always)]
+fn read_named_base_register<R: Reader + Copy>(bytes: &mut R) -> Result<Operation<R>>
+    ensures { (encoding : Encoding) → Reads (operation_of R.text R.Offset.number)
+        (R.text bytes.old) (R.text bytes.new) result
+        (operands_in R.Offset.BITS (R.text bytes.old) (rare_row encoding Rare.NamedBaseRegister)) }
+{
+    let base = read_register(bytes)?;
+    let offset = bytes.read_sleb128()?;
+    Ok(Operation::RegisterOffset {
+        register: base,
+        offset,
+        base_type: generic_type(),
+    })
+}
+
+// A register, and the type of what it holds.
+#[tactic(auto, using(dwarf_base::proofs::Suffixes::suffix_trans))]
+#[inline(always)]
+fn read_typed_register<R: Reader + Copy>(bytes: &mut R, encoding: Encoding) -> Result<Operation<R>>
+    ensures { Reads (operation_of R.text R.Offset.number)
+        (R.text bytes.old) (R.text bytes.new) result
+        (operands_in R.Offset.BITS (R.text bytes.old) (rare_row encoding Rare.TypedRegister)) }
+{
+    let register = read_register(bytes)?;
+    let base_type = read_offset(Offset::Uleb128, bytes, encoding)?;
+    Ok(Operation::RegisterOffset {
+        register,
+        offset: 0,
+        base_type: UnitOffset(base_type),
+    })
+}
+
 // The size of a piece, which stands in bytes.
 #[tactic(auto, using(dwarf_base::proofs::Suffixes::suffix_trans))]
 #[inline(always)]
 fn read_piece<R: Reader + Copy>(bytes: &mut R) -> Result<Operation<R>>
     ensures { (encoding : Encoding) → Reads (operation_of R.text R.Offset.number)
         (R.text bytes.old) (R.text bytes.new) result
-        (operands_in R.Offset.BITS (R.text bytes.old) (entry_row R.text R.Offset.number encoding Entry.Piece)) }
+        (operands_in R.Offset.BITS (R.text bytes.old) (entry_row encoding 0 Entry.Piece)) }
 {
     let size = bytes.read_uleb128()?;
     let Some(size_in_bits) = size.checked_mul(8) else {
@@ -67,6 +138,78 @@ fn read_piece<R: Reader + Copy>(bytes: &mut R) -> Result<Operation<R>>
     Ok(Operation::Piece {
         size_in_bits,
         bit_offset: None,
+    })
+}
+
+// The size of a piece and its offset, in bits.
+#[tactic(auto, using(dwarf_base::proofs::Suffixes::suffix_trans))]
+#[inline(always)]
+fn read_bit_piece<R: Reader + Copy>(bytes: &mut R) -> Result<Operation<R>>
+    ensures { (encoding : Encoding) → Reads (operation_of R.text R.Offset.number)
+        (R.text bytes.old) (R.text bytes.new) result
+        (operands_in R.Offset.BITS (R.text bytes.old) (rare_row encoding Rare.BitPiece)) }
+{
+    let size_in_bits = bytes.read_uleb128()?;
+    let bit_offset = bytes.read_uleb128()?;
+    Ok(Operation::Piece {
+        size_in_bits,
+        bit_offset: Some(bit_offset),
+    })
+}
+
+// A type, and the bytes of a value.
+#[tactic(auto, using(dwarf_base::proofs::Suffixes::suffix_trans))]
+#[inline(always)]
+fn read_typed_literal<R: Reader + Copy>(bytes: &mut R, encoding: Encoding) -> Result<Operation<R>>
+    ensures { Reads (operation_of R.text R.Offset.number)
+        (R.text bytes.old) (R.text bytes.new) result
+        (operands_in R.Offset.BITS (R.text bytes.old) (rare_row encoding Rare.TypedLiteral)) }
+{
+    let base_type = read_offset(Offset::Uleb128, bytes, encoding)?;
+    let value = read_block(Offset::U8, bytes, encoding)?;
+    Ok(Operation::TypedLiteral {
+        base_type: UnitOffset(base_type),
+        value,
+    })
+}
+
+// A size, and the type of what is read.
+#[tactic(auto, using(dwarf_base::proofs::Suffixes::suffix_trans))]
+#[inline(always)]
+fn read_typed_deref<R: Reader + Copy>(
+    space: bool,
+    bytes: &mut R,
+    encoding: Encoding,
+) -> Result<Operation<R>>
+    ensures { Reads (operation_of R.text R.Offset.number)
+        (R.text bytes.old) (R.text bytes.new) result
+        (operands_in R.Offset.BITS (R.text bytes.old) (rare_row encoding (Rare.TypedDeref space))) }
+{
+    let size = read_u8(bytes)?;
+    let base_type = read_offset(Offset::Uleb128, bytes, encoding)?;
+    Ok(Operation::Deref {
+        size,
+        base_type: UnitOffset(base_type),
+        space,
+    })
+}
+
+// A reference into `.debug_info`, and an offset in the object there.
+#[tactic(auto, using(dwarf_base::proofs::Suffixes::suffix_trans))]
+#[inline(always)]
+fn read_implicit_pointer<R: Reader + Copy>(
+    bytes: &mut R,
+    encoding: Encoding,
+) -> Result<Operation<R>>
+    ensures { Reads (operation_of R.text R.Offset.number)
+        (R.text bytes.old) (R.text bytes.new) result
+        (operands_in R.Offset.BITS (R.text bytes.old) (rare_row encoding Rare.ImplicitPointer)) }
+{
+    let value = read_offset(Offset::Reference, bytes, encoding)?;
+    let byte_offset = bytes.read_sleb128()?;
+    Ok(Operation::ImplicitPointer {
+        value: DebugInfoOffset(value),
+        byte_offset,
     })
 }
 
@@ -107,7 +250,7 @@ fn read_offset_operation<R: Reader + Copy>(
     ensures { Reads (operation_of R.text R.Offset.number)
         (R.text bytes.old) (R.text bytes.new) result
         (operands_in R.Offset.BITS (R.text bytes.old)
-        (entry_row R.text R.Offset.number encoding (Entry.Offset shape make))) }
+        (entry_row encoding 0 (Entry.Offset shape make))) }
 {
     Ok(offset_operation(make, read_offset(shape, bytes, encoding)?))
 }
@@ -123,7 +266,7 @@ fn read_offset_on_copy<R: Reader + Copy>(
     ensures { Reads (operation_of R.text R.Offset.number)
         (R.text bytes.old) (R.text bytes.new) result
         (operands_in R.Offset.BITS (R.text bytes.old)
-        (entry_row R.text R.Offset.number encoding (Entry.Offset shape make))) }
+        (entry_row encoding 0 (Entry.Offset shape make))) }
 {
     let mut copy = *bytes;
     let operation = read_offset_operation(shape, make, &mut copy, encoding);
@@ -163,39 +306,18 @@ fn read_rare_operands<R: Reader + Copy>(
         Rare::NamedRegister => Ok(Operation::Register {
             register: read_register(bytes)?,
         }),
-        Rare::NamedBaseRegister => Ok(Operation::RegisterOffset {
-            register: read_register(bytes)?,
-            offset: bytes.read_sleb128()?,
-            base_type: generic_type(),
-        }),
-        Rare::TypedRegister => Ok(Operation::RegisterOffset {
-            register: read_register(bytes)?,
-            offset: 0,
-            base_type: UnitOffset(read_offset(Offset::Uleb128, bytes, encoding)?),
-        }),
-        Rare::BitPiece => Ok(Operation::Piece {
-            size_in_bits: bytes.read_uleb128()?,
-            bit_offset: Some(bytes.read_uleb128()?),
-        }),
+        Rare::NamedBaseRegister => read_named_base_register(bytes),
+        Rare::TypedRegister => read_typed_register(bytes, encoding),
+        Rare::BitPiece => read_bit_piece(bytes),
         Rare::ImplicitValue => Ok(Operation::ImplicitValue {
             bytes: read_block(Offset::Uleb128, bytes, encoding)?,
         }),
         Rare::EntryValue => Ok(Operation::EntryValue {
             expression: read_block(Offset::Uleb128, bytes, encoding)?,
         }),
-        Rare::TypedLiteral => Ok(Operation::TypedLiteral {
-            base_type: UnitOffset(read_offset(Offset::Uleb128, bytes, encoding)?),
-            value: read_block(Offset::U8, bytes, encoding)?,
-        }),
-        Rare::TypedDeref(space) => Ok(Operation::Deref {
-            size: read_u8(bytes)?,
-            base_type: UnitOffset(read_offset(Offset::Uleb128, bytes, encoding)?),
-            space,
-        }),
-        Rare::ImplicitPointer => Ok(Operation::ImplicitPointer {
-            value: DebugInfoOffset(read_offset(Offset::Reference, bytes, encoding)?),
-            byte_offset: bytes.read_sleb128()?,
-        }),
+        Rare::TypedLiteral => read_typed_literal(bytes, encoding),
+        Rare::TypedDeref(space) => read_typed_deref(space, bytes, encoding),
+        Rare::ImplicitPointer => read_implicit_pointer(bytes, encoding),
         Rare::WasmLocation => read_wasm_location(bytes),
     }
 }
@@ -220,17 +342,30 @@ fn read_rare_on_copy<R: Reader + Copy>(
 #[tactic(auto, using(dwarf_base::proofs::Suffixes::suffix_trans))]
 #[inline(always)]
 fn read_operands<R: Reader + Copy>(
-    entry: Entry<R>,
+    entry: Entry,
+    opcode: u8,
     bytes: &mut R,
     encoding: Encoding,
 ) -> Result<Operation<R>>
     ensures { Reads (operation_of R.text R.Offset.number)
         (R.text bytes.old) (R.text bytes.new) result
-        (operands_in R.Offset.BITS (R.text bytes.old) (entry_row R.text R.Offset.number encoding entry)) }
+        (operands_in R.Offset.BITS (R.text bytes.old) (entry_row encoding opcode entry)) }
 {
     match entry {
-        Entry::Invalid(opcode) => Err(Error::InvalidExpression(opcode)),
-        Entry::Makes(operation) => Ok(operation),
+        Entry::Unknown => Err(Error::InvalidExpression(DwOp(opcode))),
+        Entry::Plain(operation) => Ok(plain_operation(operation)),
+        Entry::Literal(number) => Ok(Operation::UnsignedConstant {
+            value: u64::from(number),
+        }),
+        Entry::Register(register) => Ok(Operation::Register {
+            register: Register(u16::from(register)),
+        }),
+        Entry::Pick(index) => Ok(Operation::Pick { index }),
+        Entry::Deref => Ok(Operation::Deref {
+            size: encoding.address_size,
+            base_type: generic_type(),
+            space: false,
+        }),
         Entry::DerefSize => Ok(Operation::Deref {
             size: read_u8(bytes)?,
             base_type: generic_type(),
@@ -280,7 +415,7 @@ impl<R: Reader + Copy> Operation<R> {
         ensures less { OnOk result
             (length (R.text bytes.new).bytes < length (R.text bytes.old).bytes) }
     {
-        let opcode = DwOp(bytes.read_u8()?);
-        read_operands(entry_at(opcode, encoding), bytes, encoding)
+        let opcode = bytes.read_u8()?;
+        read_operands(entry_at(opcode), opcode, bytes, encoding)
     }
 }

@@ -1,13 +1,11 @@
 //! The table of opcodes (DWARF 5, section 7.7.1): the operands of each, and the operation that they make.
 
 ghost use Rattle.std.specs.Prelude.{◌≡◌};
+ghost use Rattle.dwarf_base.specs.declared.common.Encoding.{Encoding};
 ghost use Rattle.dwarf_meaning.specs.Opcodes.{row_of};
-ghost use Rattle.dwarf_op.specs.inner.Entries.{entry_row};
+ghost use Rattle.dwarf_op.specs.Entries.{entry_row};
 
-use crate::operands::generic_type;
-use crate::operations::Operation;
 use dwarf_base::constants::*;
-use dwarf_base::{Encoding, Reader, Register};
 
 // The first opcode and the last of each range.
 const LIT0: u8 = DW_OP_lit0.0;
@@ -21,6 +19,40 @@ const REG31: u8 = DW_OP_reg31.0;
 const BREG0: u8 = DW_OP_breg0.0;
 
 const BREG31: u8 = DW_OP_breg31.0;
+
+// An operation without fields.
+#[derive(Clone, Copy)]
+pub(crate) enum Plain {
+    Drop,
+    Swap,
+    Rot,
+    Abs,
+    And,
+    Div,
+    Minus,
+    Mod,
+    Mul,
+    Neg,
+    Not,
+    Or,
+    Plus,
+    Shl,
+    Shr,
+    Shra,
+    Xor,
+    Eq,
+    Ge,
+    Gt,
+    Le,
+    Lt,
+    Ne,
+    Nop,
+    PushObjectAddress,
+    TLS,
+    CallFrameCFA,
+    StackValue,
+    Uninitialized,
+}
 
 // How an operand stands that is an unsigned number of up to 64 bits.
 #[derive(Clone, Copy)]
@@ -114,11 +146,20 @@ pub(crate) enum Rare {
 }
 
 // What stands after an opcode, and what is made of it: by the kinds of its operands, in order.
-pub(crate) enum Entry<R: Reader> {
+#[derive(Clone, Copy)]
+pub(crate) enum Entry {
     // No operation has the opcode.
-    Invalid(DwOp),
-    // No operands: the operation.
-    Makes(Operation<R>),
+    Unknown,
+    // No operands.
+    Plain(Plain),
+    // No operands; the opcode says the constant.
+    Literal(u8),
+    // No operands; the opcode says the register.
+    Register(u8),
+    // No operands; the opcode says the index.
+    Pick(u8),
+    // No operands; the size is an address's: `DW_OP_deref`.
+    Deref,
     // One byte, the size: `DW_OP_deref_size`.
     DerefSize,
     // An unsigned number: the constant of `DW_OP_const1u` to `DW_OP_const8u` or `DW_OP_constu`.
@@ -146,16 +187,12 @@ pub(crate) enum Entry<R: Reader> {
 // The entry of an opcode: the table of all opcodes.
 #[tactic(auto, unfolding(dwarf_meaning::specs::Opcodes::row_of))]
 #[inline(always)]
-pub(crate) fn entry_at<R: Reader>(opcode: DwOp, encoding: Encoding) -> Entry<R>
-    ensures { entry_row R.text R.Offset.number encoding result ≡ row_of encoding opcode.0 }
+pub(crate) fn entry_at(opcode: u8) -> Entry
+    ensures { (encoding : Encoding) → entry_row encoding opcode result ≡ row_of encoding opcode }
 {
-    match opcode {
+    match DwOp(opcode) {
         DW_OP_addr => Entry::Rare(Rare::Address),
-        DW_OP_deref => Entry::Makes(Operation::Deref {
-            size: encoding.address_size,
-            base_type: generic_type(),
-            space: false,
-        }),
+        DW_OP_deref => Entry::Deref,
         DW_OP_const1u => Entry::Constant(Unsigned::U8),
         DW_OP_const1s => Entry::SignedConstant(Signed::I8),
         DW_OP_const2u => Entry::Constant(Unsigned::U16),
@@ -166,59 +203,55 @@ pub(crate) fn entry_at<R: Reader>(opcode: DwOp, encoding: Encoding) -> Entry<R>
         DW_OP_const8s => Entry::SignedConstant(Signed::I64),
         DW_OP_constu => Entry::Constant(Unsigned::Uleb128),
         DW_OP_consts => Entry::SignedConstant(Signed::Sleb128),
-        DW_OP_dup => Entry::Makes(Operation::Pick { index: 0 }),
-        DW_OP_drop => Entry::Makes(Operation::Drop),
-        DW_OP_over => Entry::Makes(Operation::Pick { index: 1 }),
+        DW_OP_dup => Entry::Pick(0),
+        DW_OP_drop => Entry::Plain(Plain::Drop),
+        DW_OP_over => Entry::Pick(1),
         DW_OP_pick => Entry::Rare(Rare::PickByte),
-        DW_OP_swap => Entry::Makes(Operation::Swap),
-        DW_OP_rot => Entry::Makes(Operation::Rot),
+        DW_OP_swap => Entry::Plain(Plain::Swap),
+        DW_OP_rot => Entry::Plain(Plain::Rot),
         DW_OP_xderef => Entry::Rare(Rare::SpaceDeref),
-        DW_OP_abs => Entry::Makes(Operation::Abs),
-        DW_OP_and => Entry::Makes(Operation::And),
-        DW_OP_div => Entry::Makes(Operation::Div),
-        DW_OP_minus => Entry::Makes(Operation::Minus),
-        DW_OP_mod => Entry::Makes(Operation::Mod),
-        DW_OP_mul => Entry::Makes(Operation::Mul),
-        DW_OP_neg => Entry::Makes(Operation::Neg),
-        DW_OP_not => Entry::Makes(Operation::Not),
-        DW_OP_or => Entry::Makes(Operation::Or),
-        DW_OP_plus => Entry::Makes(Operation::Plus),
+        DW_OP_abs => Entry::Plain(Plain::Abs),
+        DW_OP_and => Entry::Plain(Plain::And),
+        DW_OP_div => Entry::Plain(Plain::Div),
+        DW_OP_minus => Entry::Plain(Plain::Minus),
+        DW_OP_mod => Entry::Plain(Plain::Mod),
+        DW_OP_mul => Entry::Plain(Plain::Mul),
+        DW_OP_neg => Entry::Plain(Plain::Neg),
+        DW_OP_not => Entry::Plain(Plain::Not),
+        DW_OP_or => Entry::Plain(Plain::Or),
+        DW_OP_plus => Entry::Plain(Plain::Plus),
         DW_OP_plus_uconst => Entry::PlusConstant,
-        DW_OP_shl => Entry::Makes(Operation::Shl),
-        DW_OP_shr => Entry::Makes(Operation::Shr),
-        DW_OP_shra => Entry::Makes(Operation::Shra),
-        DW_OP_xor => Entry::Makes(Operation::Xor),
+        DW_OP_shl => Entry::Plain(Plain::Shl),
+        DW_OP_shr => Entry::Plain(Plain::Shr),
+        DW_OP_shra => Entry::Plain(Plain::Shra),
+        DW_OP_xor => Entry::Plain(Plain::Xor),
         DW_OP_bra => Entry::Bra,
-        DW_OP_eq => Entry::Makes(Operation::Eq),
-        DW_OP_ge => Entry::Makes(Operation::Ge),
-        DW_OP_gt => Entry::Makes(Operation::Gt),
-        DW_OP_le => Entry::Makes(Operation::Le),
-        DW_OP_lt => Entry::Makes(Operation::Lt),
-        DW_OP_ne => Entry::Makes(Operation::Ne),
+        DW_OP_eq => Entry::Plain(Plain::Eq),
+        DW_OP_ge => Entry::Plain(Plain::Ge),
+        DW_OP_gt => Entry::Plain(Plain::Gt),
+        DW_OP_le => Entry::Plain(Plain::Le),
+        DW_OP_lt => Entry::Plain(Plain::Lt),
+        DW_OP_ne => Entry::Plain(Plain::Ne),
         DW_OP_skip => Entry::Skip,
-        DwOp(LIT0..=LIT31) => Entry::Makes(Operation::UnsignedConstant {
-            value: u64::from(opcode.0 - LIT0),
-        }),
-        DwOp(REG0..=REG31) => Entry::Makes(Operation::Register {
-            register: Register(u16::from(opcode.0 - REG0)),
-        }),
-        DwOp(BREG0..=BREG31) => Entry::BaseRegister(opcode.0 - BREG0),
+        DwOp(LIT0..=LIT31) => Entry::Literal(opcode - LIT0),
+        DwOp(REG0..=REG31) => Entry::Register(opcode - REG0),
+        DwOp(BREG0..=BREG31) => Entry::BaseRegister(opcode - BREG0),
         DW_OP_regx => Entry::Rare(Rare::NamedRegister),
         DW_OP_fbreg => Entry::FrameOffset,
         DW_OP_bregx => Entry::Rare(Rare::NamedBaseRegister),
         DW_OP_piece => Entry::Piece,
         DW_OP_deref_size => Entry::DerefSize,
         DW_OP_xderef_size => Entry::Rare(Rare::SpaceDerefSize),
-        DW_OP_nop => Entry::Makes(Operation::Nop),
-        DW_OP_push_object_address => Entry::Makes(Operation::PushObjectAddress),
+        DW_OP_nop => Entry::Plain(Plain::Nop),
+        DW_OP_push_object_address => Entry::Plain(Plain::PushObjectAddress),
         DW_OP_call2 => Entry::Offset(Offset::U16, FromOffset::UnitCall),
         DW_OP_call4 => Entry::Offset(Offset::U32, FromOffset::UnitCall),
         DW_OP_call_ref => Entry::Offset(Offset::Section, FromOffset::InfoCall),
-        DW_OP_form_tls_address => Entry::Makes(Operation::TLS),
-        DW_OP_call_frame_cfa => Entry::Makes(Operation::CallFrameCFA),
+        DW_OP_form_tls_address => Entry::Plain(Plain::TLS),
+        DW_OP_call_frame_cfa => Entry::Plain(Plain::CallFrameCFA),
         DW_OP_bit_piece => Entry::Rare(Rare::BitPiece),
         DW_OP_implicit_value => Entry::Rare(Rare::ImplicitValue),
-        DW_OP_stack_value => Entry::Makes(Operation::StackValue),
+        DW_OP_stack_value => Entry::Plain(Plain::StackValue),
         DW_OP_implicit_pointer => Entry::Rare(Rare::ImplicitPointer),
         DW_OP_addrx => Entry::Offset(Offset::Uleb128, FromOffset::AddressIndex),
         DW_OP_constx => Entry::Offset(Offset::Uleb128, FromOffset::ConstantIndex),
@@ -229,9 +262,9 @@ pub(crate) fn entry_at<R: Reader>(opcode: DwOp, encoding: Encoding) -> Entry<R>
         DW_OP_xderef_type => Entry::Rare(Rare::TypedDeref(true)),
         DW_OP_convert => Entry::Offset(Offset::Uleb128, FromOffset::Convert),
         DW_OP_reinterpret => Entry::Offset(Offset::Uleb128, FromOffset::Reinterpret),
-        DW_OP_GNU_push_tls_address => Entry::Makes(Operation::TLS),
+        DW_OP_GNU_push_tls_address => Entry::Plain(Plain::TLS),
         DW_OP_WASM_location => Entry::Rare(Rare::WasmLocation),
-        DW_OP_GNU_uninit => Entry::Makes(Operation::Uninitialized),
+        DW_OP_GNU_uninit => Entry::Plain(Plain::Uninitialized),
         DW_OP_GNU_implicit_pointer => Entry::Rare(Rare::ImplicitPointer),
         DW_OP_GNU_entry_value => Entry::Rare(Rare::EntryValue),
         DW_OP_GNU_const_type => Entry::Rare(Rare::TypedLiteral),
@@ -243,6 +276,6 @@ pub(crate) fn entry_at<R: Reader>(opcode: DwOp, encoding: Encoding) -> Entry<R>
         DW_OP_GNU_addr_index => Entry::Offset(Offset::Uleb128, FromOffset::AddressIndex),
         DW_OP_GNU_const_index => Entry::Offset(Offset::Uleb128, FromOffset::ConstantIndex),
         DW_OP_GNU_variable_value => Entry::Offset(Offset::Section, FromOffset::VariableValue),
-        _ => Entry::Invalid(opcode),
+        _ => Entry::Unknown,
     }
 }

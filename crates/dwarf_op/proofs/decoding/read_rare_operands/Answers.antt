@@ -4,6 +4,12 @@ use Rattle.dwarf_meaning.specs.Operands.{Leb128, Offset}
 use Rattle.dwarf_op.proofs.Blocks.{reads_block}
 use Rattle.dwarf_op.proofs.decoding.read_rare_operands.Goals as goal
 
+pub returns-in-NamedBaseRegister : goal.returns-in-NamedBaseRegister
+returns-in-NamedBaseRegister g c = rw c.in-NamedBaseRegister.is (c.read_named_base_register.ensures c.args.encoding)
+
+pub returns-in-BitPiece : goal.returns-in-BitPiece
+returns-in-BitPiece g c = rw c.in-BitPiece.is (c.read_bit_piece.ensures c.args.encoding)
+
 pub returns-in-WasmLocation : goal.returns-in-WasmLocation
 returns-in-WasmLocation g c = rw c.in-WasmLocation.is (c.read_wasm_location.ensures c.args.encoding)
 

@@ -9,6 +9,8 @@ use Rattle.dwarf_meaning.specs.Operations as meaning
 use Rattle.dwarf_meaning.specs.Decoding.{operands_at, unsigned_at}
 use Rattle.dwarf_meaning.specs.Operands.{Layout, Range, Bytes, Leb128, Any, Offset, Register, PieceSize, ref_size}
 use Rattle.dwarf_meaning.specs.Opcodes.{Row, Makes, Unsigned, Invalid, unsigned, signed, sized_block, wasm_row}
+use Rattle.dwarf_op.specs.declared.opcodes.Plain.{Plain}
+use Rattle.dwarf_op.specs.declared.opcodes.Plain.TheVariants as plain
 use Rattle.dwarf_op.specs.declared.opcodes.Unsigned as shapes
 use Rattle.dwarf_op.specs.declared.opcodes.Unsigned.TheVariants as unsigned_shape
 use Rattle.dwarf_op.specs.declared.opcodes.Signed as signed_shapes
@@ -21,7 +23,39 @@ use Rattle.dwarf_op.specs.declared.opcodes.Entry.{Entry}
 use Rattle.dwarf_op.specs.declared.opcodes.Entry.TheVariants as entry
 use Rattle.dwarf_op.specs.declared.opcodes.Rare.{Rare}
 use Rattle.dwarf_op.specs.declared.opcodes.Rare.TheVariants as rare_entry
-use Rattle.dwarf_op.specs.Views.{operation_of}
+use Rattle.dwarf_value.specs.Values.{Abs, Neg, Not, Plus, Minus, Mul, Div, Mod, And, Or, Xor, Shl, Shr, Shra, Eq, Ne, Lt, Le, Gt, Ge}
+
+-- the operation without operands
+abbrev pub plain_operation : Plain → meaning.Operation
+plain_operation plain.Drop = meaning.Drop
+plain_operation plain.Swap = meaning.Swap
+plain_operation plain.Rot = meaning.Rot
+plain_operation plain.Abs = meaning.Unary Abs
+plain_operation plain.And = meaning.Binary And
+plain_operation plain.Div = meaning.Binary Div
+plain_operation plain.Minus = meaning.Binary Minus
+plain_operation plain.Mod = meaning.Binary Mod
+plain_operation plain.Mul = meaning.Binary Mul
+plain_operation plain.Neg = meaning.Unary Neg
+plain_operation plain.Not = meaning.Unary Not
+plain_operation plain.Or = meaning.Binary Or
+plain_operation plain.Plus = meaning.Binary Plus
+plain_operation plain.Shl = meaning.Binary Shl
+plain_operation plain.Shr = meaning.Binary Shr
+plain_operation plain.Shra = meaning.Binary Shra
+plain_operation plain.Xor = meaning.Binary Xor
+plain_operation plain.Eq = meaning.Binary Eq
+plain_operation plain.Ge = meaning.Binary Ge
+plain_operation plain.Gt = meaning.Binary Gt
+plain_operation plain.Le = meaning.Binary Le
+plain_operation plain.Lt = meaning.Binary Lt
+plain_operation plain.Ne = meaning.Binary Ne
+plain_operation plain.Nop = meaning.Nop
+plain_operation plain.PushObjectAddress = meaning.PushObjectAddress
+plain_operation plain.TLS = meaning.TLS
+plain_operation plain.CallFrameCFA = meaning.CallFrameCFA
+plain_operation plain.StackValue = meaning.StackValue
+plain_operation plain.Uninitialized = meaning.Uninitialized
 
 -- the layout and the range of an unsigned operand
 abbrev pub unsigned_form : shapes.Unsigned → Layout × Range
@@ -82,23 +116,26 @@ rare_row encoding rare_entry.ImplicitPointer =
     Unsigned (Bytes (ref_size encoding), Offset) (λ to. signed Leb128 (meaning.ImplicitPointer to))
 rare_row encoding rare_entry.WasmLocation = Unsigned (Bytes 1, Any) wasm_row
 
-module _ {R P : Type 0} (text : R → Text) (number : P → ℕ) where
-  -- the row that an entry is
-  abbrev pub entry_row : Encoding → Entry R P → Row
-  entry_row encoding (entry.Invalid opcode) = Invalid opcode.0
-  entry_row encoding (entry.Makes op) = Makes (operation_of text number op)
-  entry_row encoding entry.DerefSize = unsigned (Bytes 1, Any) (λ size. meaning.Deref 0 size false)
-  entry_row encoding (entry.Constant shape) = unsigned (unsigned_form shape) meaning.UnsignedConstant
-  entry_row encoding entry.PlusConstant = unsigned (Leb128, Any) meaning.PlusConstant
-  entry_row encoding (entry.SignedConstant shape) = signed (signed_form shape) meaning.SignedConstant
-  entry_row encoding entry.FrameOffset = signed Leb128 meaning.FrameOffset
-  entry_row encoding entry.Bra = signed (Bytes 2) meaning.Bra
-  entry_row encoding entry.Skip = signed (Bytes 2) meaning.Skip
-  entry_row encoding (entry.Offset shape make) = unsigned (offset_form encoding shape) (offset_operation make)
-  entry_row encoding (entry.BaseRegister register) =
-      signed Leb128 (λ offset. meaning.RegisterOffset register offset 0)
-  entry_row encoding entry.Piece = unsigned (Leb128, PieceSize) (λ size. meaning.Piece (8 * size) None)
-  entry_row encoding (entry.Rare rare) = rare_row encoding rare
+-- the row that an entry is at an opcode
+abbrev pub entry_row : Encoding → (opcode : ℕ) → Entry → Row
+entry_row encoding opcode entry.Unknown = Invalid opcode
+entry_row encoding opcode (entry.Plain operation) = Makes (plain_operation operation)
+entry_row encoding opcode (entry.Literal number) = Makes (meaning.UnsignedConstant number)
+entry_row encoding opcode (entry.Register register) = Makes (meaning.Register register)
+entry_row encoding opcode (entry.Pick index) = Makes (meaning.Pick index)
+entry_row encoding opcode entry.Deref = Makes (meaning.Deref 0 encoding.address_size false)
+entry_row encoding opcode entry.DerefSize = unsigned (Bytes 1, Any) (λ size. meaning.Deref 0 size false)
+entry_row encoding opcode (entry.Constant shape) = unsigned (unsigned_form shape) meaning.UnsignedConstant
+entry_row encoding opcode entry.PlusConstant = unsigned (Leb128, Any) meaning.PlusConstant
+entry_row encoding opcode (entry.SignedConstant shape) = signed (signed_form shape) meaning.SignedConstant
+entry_row encoding opcode entry.FrameOffset = signed Leb128 meaning.FrameOffset
+entry_row encoding opcode entry.Bra = signed (Bytes 2) meaning.Bra
+entry_row encoding opcode entry.Skip = signed (Bytes 2) meaning.Skip
+entry_row encoding opcode (entry.Offset shape make) = unsigned (offset_form encoding shape) (offset_operation make)
+entry_row encoding opcode (entry.BaseRegister register) =
+    signed Leb128 (λ offset. meaning.RegisterOffset register offset 0)
+entry_row encoding opcode entry.Piece = unsigned (Leb128, PieceSize) (λ size. meaning.Piece (8 * size) None)
+entry_row encoding opcode (entry.Rare rare) = rare_row encoding rare
 
 -- a row's operands at the front of a text
 abbrev pub operands_in : (offset_bits : ℕ) → Text → Row → Result (meaning.Operation × List ℕ) Fault

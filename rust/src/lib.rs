@@ -27,6 +27,8 @@ extern crate alloc;
 
 #[allow(clippy::derivable_impls, clippy::module_inception, clippy::redundant_pattern_matching)]
 #[allow(clippy::should_implement_trait, clippy::upper_case_acronyms)]
+// The names of opcodes are the standard's.
+#[allow(non_upper_case_globals)]
 mod proved;
 
 mod errors;

@@ -12,7 +12,5 @@ pub mod Later
 pub mod Phase
 pub mod Calling
 pub mod Inlined
-pub mod Computed
-pub mod Placed
-pub mod Disagreement
+pub mod Premises
 pub mod Unrefused

@@ -10,7 +10,6 @@ pub mod DecodingFaults
 pub mod Choices
 pub mod Counts
 pub mod Turns
-pub mod FewTurns
 pub mod Inputs
 pub mod Counting
 pub mod Effects

@@ -255,3 +255,14 @@ run_turn setup text place depth s inputs =
 pub run_for-run : (n : ℕ) (setup : Setup) (text : Text) (place depth : ℕ) (s : Store) (inputs : List Input) → enough ≤ n → run_for n setup text place depth s inputs ≡ run setup text place depth s inputs
 run_for-run n setup text place depth s inputs h =
     run_for-enough n enough setup text place depth s inputs (omega (arith, all_left s, h)) (all_left s)
+
+-- enough turns are twenty, which compute a worked row, and more
+abbrev pub twenty_and : ℕ → ℕ
+twenty_and more = suc (suc (suc (suc (suc (suc (suc (suc (suc (suc (suc (suc (suc (suc (suc (suc (suc (suc (suc (suc more)))))))))))))))))))
+
+enough_is : enough ≡ twenty_and (enough - 20)
+unfolding enough most
+enough_is = refl
+
+pub few_turns : (setup : Setup) (text : Text) (place depth : ℕ) (s : Store) (inputs : List Input) → run setup text place depth s inputs ≡ run_for (twenty_and (enough - 20)) setup text place depth s inputs
+few_turns setup text place depth s inputs = ap (λ (turns : ℕ). run_for turns setup text place depth s inputs) enough_is

@@ -1,3 +1,5 @@
+#![tactic(auto, using(crate::proofs::Turns::few_turns), unfolding(dwarf_base::specs::Leb::uleb_at, dwarf_base::specs::Leb::sleb_at, dwarf_base::specs::Reads::fixed_at, dwarf_value::specs::Values::type_of, dwarf_value::specs::Values::bit_size_of, dwarf_value::specs::Values::is_signed, dwarf_value::specs::Values::is_same, dwarf_value::specs::Values::word_integer, dwarf_value::specs::Values::integer_of, dwarf_value::specs::Values::value_of, crate::specs::Acts::on_top, crate::specs::Acts::on_result, crate::specs::Acts::act, crate::specs::Acts::use_of, crate::specs::Kinds::is_same_kind, crate::specs::Decoding::operation_at, crate::specs::Opcodes::row_of, crate::specs::Stores::push_value, crate::specs::Stores::push_piece, crate::specs::Stores::push_caller, crate::specs::Run::most, crate::specs::Run::run_for, crate::specs::Meaning::meaning))]
+
 ghost use Rattle.std.specs.Prelude.{◌≡◌, [], ◌∷◌, Some, pos, negsuc};
 ghost use Rattle.dwarf_base.specs.declared.errors.Error.TheVariants.{NotEnoughStackItems, BadBranchTarget, TooManyIterations, InvalidPiece, InvalidExpressionTerminator, StackFull};
 ghost use Rattle.dwarf_value.specs.declared.types.Value.TheVariants.{Generic};

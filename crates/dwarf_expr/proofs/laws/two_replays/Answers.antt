@@ -9,11 +9,12 @@ use Rattle.dwarf_meaning.specs.Decoding.{operation_at}
 use Rattle.dwarf_meaning.specs.Opcodes.{row_of}
 use Rattle.dwarf_meaning.specs.Stores.{push_value, push_piece, push_caller}
 use Rattle.dwarf_meaning.specs.Run.{most, run_for}
+use Rattle.dwarf_meaning.specs.Meaning.{meaning}
 use Rattle.dwarf_meaning.specs.Rest.{State}
 use Rattle.dwarf_meaning.specs.Steps.{RequestReply, FaultReply}
 use Rattle.dwarf_meaning.specs.Refusals.{After}
 use Rattle.dwarf_meaning.specs.Rows.{text, plain, unset, given, open_at}
-use Rattle.dwarf_meaning.proofs.FewTurns.{in_twenty}
+use Rattle.dwarf_meaning.proofs.Turns.{few_turns}
 use Rattle.dwarf_laws.specs.Agreement.{number, evaluate, resume}
 use Rattle.dwarf_laws.specs.Rows.{started_steps}
 use Rattle.dwarf_expr.specs.Twins.{fresh_at, DoesAll}
@@ -28,12 +29,12 @@ frame_address = text (0x9c ∷ [])
 refused_by : (address : ℕ)
     → (new : State) × DoesAll (After 1 0) (fresh_at frame_address) (started_steps (NumberAnswer kind.CallFrameCfa address ∷ []))
     (RequestReply RequiresCallFrameCfa ∷ FaultReply StackFull ∷ []) new
-unfolding on_top on_result act use_of is_same_kind operation_at row_of push_value push_piece push_caller most run_for
+unfolding on_top on_result act use_of is_same_kind operation_at row_of push_value push_piece push_caller most run_for meaning
 refused_by address =
     let answer : Answer = NumberAnswer kind.CallFrameCfa address in
     refused_once (After 1 0) (inl refl) frame_address answer RequiresCallFrameCfa (open_at (0x9c ∷ []) 1 ∷ []) refl
-    (in_twenty plain (After 1 0) frame_address unset [] _ (λ more. refl))
-    (in_twenty plain (After 1 0) frame_address unset (given unset (answer ∷ [])) _ (λ more. refl))
+    (simp few_turns refl)
+    (simp few_turns refl)
 
 pub returns : goal.returns
 returns c = record {

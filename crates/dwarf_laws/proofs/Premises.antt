@@ -1,5 +1,5 @@
--- The premises on a call's place in its text, from what is read of the bytes.
-use Rattle.std.proofs.Common.{◌≡◌, List, [], ◌∷◌, Result, Ok, Err, Option, Some, None, refl, sym, subst, ◌∙◌}
+-- What the worked rows need beside computing: where a call stands in its text, and which outcomes disagree.
+use Rattle.std.proofs.Common.{◌≡◌, List, [], ◌∷◌, Result, Ok, Err, Option, Some, None, refl, sym, subst, ◌∙◌, ℕ, ℤ, pos, negsuc}
 use Rattle.std.proofs.lemmas.List.{append-nil}
 use Rattle.std.specs.List.{AllByRecursion}
 use Rattle.dwarf_base.specs.Faults.{Fault}
@@ -11,8 +11,17 @@ use Rattle.dwarf_meaning.specs.Splitting.{items_of, items_at}
 use Rattle.dwarf_meaning.specs.Stores.{Setup}
 use Rattle.dwarf_meaning.proofs.Decoded.{operation_begins}
 use Rattle.dwarf_meaning.proofs.Splittings.{splits_once, is_splitting}
-use Rattle.dwarf_laws.specs.Inlining.{CallSite, outer, IsStraight, StandsIn}
+use Rattle.dwarf_laws.specs.Inlining.{CallSite, outer, IsStraight, StandsIn, EndAlike}
 use Rattle.dwarf_laws.proofs.Texts.{AllStraight}
+use Rattle.dwarf_value.specs.declared.types.Value.{Value}
+use Rattle.dwarf_value.specs.declared.types.Value.TheVariants.{Generic}
+use Rattle.dwarf_value.specs.Values.{Agree}
+use Rattle.dwarf_meaning.specs.Meaning.{Outcome, RequestOutcome, FaultOutcome, CompleteOutcome}
+use Rattle.dwarf_laws.specs.Agreement.{Both, nothing, something, AgreeingOutcomes}
+use Rattle.dwarf_laws.specs.Agreement as agreeing
+use Rattle.dwarf_laws.specs.Inlining as alike
+
+-- ---- the premises on a call's place, from what is read of the bytes
 
 -- none of them is a fault
 abbrev pub AllRead : List (Result Operation Fault) → Type 0
@@ -52,3 +61,37 @@ stands_in setup site offset h e k =
       splits = all.1.1;
       straight = all_straight all.0 all.1.0 (subst AllStraight all_is.items k);
     }
+
+-- ---- what two outcomes would have in common, if they agreed or ended alike
+
+abbrev pub ValuesAgree : (w : ℕ) → Option Value → Option Value → Type 0
+ValuesAgree w (Some x) (Some y) = Agree w x y
+ValuesAgree w (Some x) None = ⊥
+ValuesAgree w None (Some y) = ⊥
+ValuesAgree w None None = Unit {0}
+
+values_agree : (w : ℕ) (o o' : Option Value) → Both (Agree w) o o' → ValuesAgree w o o'
+values_agree w o o' nothing = tt
+values_agree w o o' (something a) = a
+
+-- the same sort of outcome; of completions, values that agree
+abbrev pub Alike : (w : ℕ) → Outcome → Outcome → Type 0
+Alike w (RequestOutcome request positions) (RequestOutcome other others) = Unit {0}
+Alike w (FaultOutcome fault) (FaultOutcome other) = fault ≡ other
+Alike w (CompleteOutcome pieces value) (CompleteOutcome others other) = ValuesAgree w value other
+Alike w _ _ = ⊥
+
+pub agree_alike : (w : ℕ) (x y : Outcome) → AgreeingOutcomes w x y → Alike w x y
+agree_alike w x y agreeing.requests = tt
+agree_alike w x y agreeing.faults = refl
+agree_alike w x y (agreeing.completions p v) = values_agree w _ _ v
+
+-- no faults; of completions, the same value
+abbrev pub Ended : Outcome → Outcome → Type 0
+Ended (RequestOutcome request positions) (RequestOutcome other others) = Unit {0}
+Ended (CompleteOutcome pieces value) (CompleteOutcome others other) = value ≡ other
+Ended _ _ = ⊥
+
+pub end_ended : (x y : Outcome) → EndAlike x y → Ended x y
+end_ended x y alike.completions = refl
+end_ended x y alike.requests = tt

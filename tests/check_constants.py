@@ -16,7 +16,7 @@ import sys
 
 CRATE = pathlib.Path(__file__).resolve().parent.parent / "crates" / "dwarf_base"
 CONSTANTS = CRATE / "src" / "constants.rt"
-LAW = CRATE / "src" / "standard.rt"
+LAW = CRATE / "src" / "laws.rt"
 LISTS = CRATE / "specs" / "StandardNumbers.antt"
 
 COMMENT = re.compile(r"(?://|--).*")

@@ -5,7 +5,7 @@ use Rattle.std.specs.Int.{Width, w16, w32, w64, from_le_bytes, from_be_bytes}
 use Rattle.dwarf_base.specs.Faults.{Fault}
 use Rattle.dwarf_base.specs.Numbers.{number_of, little_of}
 use Rattle.dwarf_base.specs.Reads.{u8_at, split_at, fixed_at}
-use Rattle.dwarf_base.proofs.Splits.{length_taken}
+use Rattle.dwarf_base.proofs.Suffixes.{length_taken}
 
 -- a number from the bytes that were taken
 fixed_taken : (big : Bool) (n : ℕ) (bytes front rest : List ℕ) (number : ℕ) → split_at n bytes ≡ Ok (front, rest) → number ≡ number_of big front

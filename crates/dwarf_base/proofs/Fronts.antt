@@ -9,7 +9,7 @@ use Rattle.dwarf_base.specs.declared.errors.Error.TheVariants.{UnsupportedAddres
 use Rattle.dwarf_base.specs.Fronts.{Begins, ReadsExactly, TakesFront, ReadsFronts, SpellsBlock, SpellsFixed, MalformedBlock}
 use Rattle.dwarf_base.specs.Numbers.{number_of, signed_of, offset_of}
 use Rattle.dwarf_base.specs.Reads.{u8_at, split_at, fixed_at, signed_at, address_at, format_at, offset_size, is_fixed_size}
-use Rattle.dwarf_base.proofs.Splits.{ok_pair, split_short, split_long}
+use Rattle.dwarf_base.proofs.Suffixes.{ok_pair, split_short, split_long}
 
 -- an answer that goes through two steps went through the first
 through : {A B : Type 0} (r : Result A Fault) (next : A → Result B Fault) (b : B) → r >>= next ≡ Ok b → (a : A) × (r ≡ Ok a) × (next a ≡ Ok b)

@@ -7,7 +7,7 @@ use Rattle.dwarf_base.specs.Fronts.{Begins, ReadsExactly, ReadsFronts}
 use Rattle.dwarf_base.specs.Leb.{LebForm, unsigned_leb, signed_leb, low_sum, IsEnded, last_byte_of, SpellsLeb, GoesOn, MalformedLeb, leb_from, uleb_at, uleb_u32_at, sleb_at, within_u32}
 use Rattle.dwarf_base.proofs.Fronts.{fronts_exactly, fronts_then, fronts_checked}
 use Rattle.dwarf_base.proofs.LebSteps.{goes_on, ends}
-use Rattle.dwarf_base.proofs.Splits.{ok_pair}
+use Rattle.dwarf_base.proofs.Suffixes.{ok_pair}
 
 chosen : {X : Type 0} (b : Bool) (x y z : X) → cond b x y ≡ z → ((b ≡ true) × (x ≡ z)) ⊎ ((b ≡ false) × (y ≡ z))
 chosen true x y z h = inl (refl, h)

@@ -9,7 +9,7 @@ use Rattle.dwarf_base.specs.Faults.{Fault, past_the_end}
 use Rattle.dwarf_base.specs.Leb.{LebForm, unsigned_leb, signed_leb, sign_extended, leb_from, uleb_at, sleb_at}
 use Rattle.dwarf_base.specs.Reads.{Gives, u8_at}
 use Rattle.dwarf_base.specs.declared.errors.Error.{Error}
-use Rattle.dwarf_base.proofs.Splits.{ok_pair}
+use Rattle.dwarf_base.proofs.Suffixes.{ok_pair}
 
 -- ---- the places
 
@@ -93,14 +93,6 @@ last_from form place sum bytes byte low rest read low_is most end =
 
 -- ---- the first byte
 
-pub unsigned_none : (bytes : List ℕ) (fault : Fault) → u8_at bytes ≡ Err fault → uleb_at bytes ≡ Err fault
-unfolding uleb_at
-unsigned_none bytes fault read = none_from unsigned_leb 0 0 bytes fault read
-
-pub signed_none : (bytes : List ℕ) (fault : Fault) → u8_at bytes ≡ Err fault → sleb_at bytes ≡ Err fault
-unfolding sleb_at
-signed_none bytes fault read = none_from signed_leb 0 0 bytes fault read
-
 -- at place 0 the weight is 1
 first_more : {A : Type 0} (form : LebForm A) (bytes : List ℕ) (byte low : ℕ) (rest : List ℕ) → u8_at bytes ≡ Ok (byte, rest) → low ≡ byte % 128
     → 128 ≤ byte → leb_from form 0 0 bytes ≡ leb_from form 1 low rest
@@ -154,28 +146,17 @@ gives_from result left one other h same = rw same h
 at_place_one : (first second low : ℕ) → low ≡ first % 128 + 128 * (second % 128) → first % 128 + second % 128 * 2 ^ (7 * 1) % 2 ^ 64 ≡ low
 at_place_one first second low low_is = omega arith
 
-second_none : {A : Type 0} (form : LebForm A) (bytes after : List ℕ) (first : ℕ) (fault : Fault) → u8_at bytes ≡ Ok (first, after) → 128 ≤ first
+pub second_none : {A : Type 0} (form : LebForm A) (bytes after : List ℕ) (first : ℕ) (fault : Fault) → u8_at bytes ≡ Ok (first, after) → 128 ≤ first
     → u8_at after ≡ Err fault → leb_from form 0 0 bytes ≡ Err fault
 second_none form bytes after first fault read high none =
     first_more form bytes first (first % 128) after read refl high ∙ none_from form 1 (first % 128) after fault none
 
-second_more : {A : Type 0} (form : LebForm A) (bytes after rest : List ℕ) (first second low : ℕ) → u8_at bytes ≡ Ok (first, after) → 128 ≤ first
+pub second_more : {A : Type 0} (form : LebForm A) (bytes after rest : List ℕ) (first second low : ℕ) → u8_at bytes ≡ Ok (first, after) → 128 ≤ first
     → u8_at after ≡ Ok (second, rest) → 128 ≤ second → low ≡ first % 128 + 128 * (second % 128) → leb_from form 0 0 bytes ≡ leb_from form 2 low rest
 second_more form bytes after rest first second low read high next more low_is =
     first_more form bytes first (first % 128) after read refl high
     ∙ (more_from form 1 (first % 128) after second (second % 128) rest next refl (omega arith) more
     ∙ ap (λ (sum : ℕ). leb_from form 2 sum rest) (at_place_one first second low low_is))
-
-pub unsigned_second_none : (bytes after : List ℕ) (first : ℕ) (fault : Fault) → u8_at bytes ≡ Ok (first, after) → 128 ≤ first
-    → u8_at after ≡ Err fault → uleb_at bytes ≡ Err fault
-unfolding uleb_at
-unsigned_second_none bytes after first fault read high none = second_none unsigned_leb bytes after first fault read high none
-
-pub unsigned_second_more : (bytes after rest : List ℕ) (first second low : ℕ) → u8_at bytes ≡ Ok (first, after) → 128 ≤ first
-    → u8_at after ≡ Ok (second, rest) → 128 ≤ second → low ≡ first % 128 + 128 * (second % 128) → uleb_at bytes ≡ leb_from unsigned_leb 2 low rest
-unfolding uleb_at
-unsigned_second_more bytes after rest first second low read high next more low_is =
-    second_more unsigned_leb bytes after rest first second low read high next more low_is
 
 pub unsigned_second : (bytes after rest : List ℕ) (first second low : ℕ) → u8_at bytes ≡ Ok (first, after) → 128 ≤ first
     → u8_at after ≡ Ok (second, rest) → second < 128 → low ≡ first % 128 + 128 * (second % 128) → uleb_at bytes ≡ Ok (low, rest)
@@ -184,17 +165,6 @@ unsigned_second bytes after rest first second low read high next end low_is =
     first_more unsigned_leb bytes first (first % 128) after read refl high
     ∙ (last_from unsigned_leb 1 (first % 128) after second (second % 128) rest next refl (omega arith) end
     ∙ ap (λ (sum : ℕ). Ok (sum, rest)) (at_place_one first second low low_is))
-
-pub signed_second_none : (bytes after : List ℕ) (first : ℕ) (fault : Fault) → u8_at bytes ≡ Ok (first, after) → 128 ≤ first
-    → u8_at after ≡ Err fault → sleb_at bytes ≡ Err fault
-unfolding sleb_at
-signed_second_none bytes after first fault read high none = second_none signed_leb bytes after first fault read high none
-
-pub signed_second_more : (bytes after rest : List ℕ) (first second low : ℕ) → u8_at bytes ≡ Ok (first, after) → 128 ≤ first
-    → u8_at after ≡ Ok (second, rest) → 128 ≤ second → low ≡ first % 128 + 128 * (second % 128) → sleb_at bytes ≡ leb_from signed_leb 2 low rest
-unfolding sleb_at
-signed_second_more bytes after rest first second low read high next more low_is =
-    second_more signed_leb bytes after rest first second low read high next more low_is
 
 pub signed_second : (bytes after rest : List ℕ) (first second : ℕ) (value : ℤ) → u8_at bytes ≡ Ok (first, after) → 128 ≤ first
     → u8_at after ≡ Ok (second, rest) → second < 128 → value ≡ pos (first % 128) +ℤ pos 128 *ℤ sign_extended second 1 second

@@ -2,5 +2,4 @@ pub mod FixedNumbers
 pub mod Fronts
 pub mod LebLaws
 pub mod LebSteps
-pub mod Splits
 pub mod Suffixes

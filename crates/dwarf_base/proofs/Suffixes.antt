@@ -1,8 +1,11 @@
--- What is left of what is left of some bytes.
-use Rattle.std.proofs.Common.{ℕ, ◌≡◌, ◌+◌, ◌-◌, List, [], length, drop, arith, ap, ◌∙◌, sym}
-use Rattle.std.proofs.lemmas.List.{drop_all}
+-- What is left of some bytes, and what is taken from their front.
+use Rattle.std.proofs.Common.{ℕ, ◌≡◌, ◌+◌, ◌-◌, List, [], length, drop, arith, ap, ◌∙◌, sym, ◌≤◌, ◌<◌, take, Result, Ok, Err, inl, inr}
+use Rattle.std.proofs.lemmas.List.{drop_all, length-take-le}
 use Rattle.std.proofs.Math.Seq.{drop-drop}
-use Rattle.dwarf_base.specs.Reads.{IsSuffix}
+use Rattle.dwarf_base.specs.Reads.{IsSuffix, split_at}
+use Rattle.std.proofs.lemmas.Bool.{cases_lt}
+use Rattle.std.proofs.lemmas.Bool.Decides.{nat_tests}
+use Rattle.dwarf_base.specs.Faults.{Fault, past_the_end}
 
 pub suffix_trans : (low mid high : List ℕ) → IsSuffix low mid → IsSuffix mid high → IsSuffix low high
 suffix_trans low mid high lower higher =
@@ -22,3 +25,24 @@ suffix_whole bytes =
 
 pub suffix_none : (bytes : List ℕ) → IsSuffix [] bytes
 suffix_none bytes = record { no_longer = omega arith; same = drop_all _ bytes (omega arith) }
+
+-- ---- what is taken from the front
+
+-- an answer is one value and one rest
+pub ok_pair : {A B : Type 0} (a n : A) (xs rest : B) → ◌≡◌ {A = Result (A × B) Fault} (Ok (a, xs)) (Ok (n, rest)) → (a ≡ n) × (xs ≡ rest)
+ok_pair {A} {B} a n xs rest h = let p : ◌≡◌ {A = A × B} (a, xs) (n, rest) = cc in (ap (λ y. y.0) p, ap (λ y. y.1) p)
+
+pub split_short : (n : ℕ) (bytes : List ℕ) → length bytes < n → split_at n bytes ≡ Err past_the_end
+split_short n bytes h = grind (arith, nat_tests)
+
+pub split_long : (n : ℕ) (bytes : List ℕ) → n ≤ length bytes → split_at n bytes ≡ Ok (take n bytes, drop n bytes)
+split_long n bytes h = grind (arith, nat_tests)
+
+pub length_taken : (n : ℕ) (bytes front rest : List ℕ) → split_at n bytes ≡ Ok (front, rest) → length front ≡ n
+length_taken n bytes front rest h =
+    elim (cases_lt (length bytes) n) [
+      | inl short ↦ absurd (cc (split_short n bytes short))
+      | inr long ↦
+          let pair = ok_pair _ _ _ _ (sym (split_long n bytes long) ∙ h) in
+          ap length (sym pair.0) ∙ length-take-le n bytes long
+    ]

@@ -4,23 +4,21 @@
 mod byte_order;
 mod common;
 pub mod constants;
-mod equality;
 mod errors;
 mod laws;
 mod offsets;
 mod reading;
 mod slices;
-mod standard;
 
 pub use byte_order::{BigEndian, Endianity, LittleEndian, RunTimeEndian};
 pub use common::{
     DebugAddrIndex, DebugInfoOffset, Encoding, Format, ReaderOffsetId, Register, UnitOffset,
 };
 pub use constants::{DwAte, DwOp};
-pub use equality::{equality_laws, offset_equality_laws, slice_equality_laws};
 pub use errors::{Error, Result};
-pub use laws::reader_laws;
+pub use laws::{
+    constant_laws, equality_laws, offset_equality_laws, reader_laws, slice_equality_laws,
+};
 pub use offsets::ReaderOffset;
 pub use reading::Reader;
 pub use slices::EndianSlice;
-pub use standard::constant_laws;

@@ -1,14 +1,12 @@
 pub mod Pairs
 pub mod Actions
 pub mod Holdings
-pub mod Runs
 pub mod Meanings
 pub mod Evaluations
 pub mod Jumps
 pub mod Calm
 pub mod Mirror
 pub mod Texts
-pub mod Later
 pub mod Phase
 pub mod Calling
 pub mod Inlined

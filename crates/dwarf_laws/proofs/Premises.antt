@@ -1,5 +1,5 @@
 -- What the worked rows need beside computing: where a call stands in its text, and which outcomes disagree.
-use Rattle.std.proofs.Common.{◌≡◌, List, [], ◌∷◌, Result, Ok, Err, Option, Some, None, refl, sym, subst, ◌∙◌, ℕ, ℤ, pos, negsuc}
+use Rattle.std.proofs.Common.{◌≡◌, List, [], ◌∷◌, Result, Ok, Err, Option, Some, None, refl, sym, subst, ◌∙◌, ℕ}
 use Rattle.std.proofs.lemmas.List.{append-nil}
 use Rattle.std.specs.List.{AllByRecursion}
 use Rattle.dwarf_base.specs.Faults.{Fault}
@@ -14,7 +14,6 @@ use Rattle.dwarf_meaning.proofs.Splittings.{splits_once, is_splitting}
 use Rattle.dwarf_laws.specs.Inlining.{CallSite, outer, IsStraight, StandsIn, EndAlike}
 use Rattle.dwarf_laws.proofs.Texts.{AllStraight}
 use Rattle.dwarf_value.specs.declared.types.Value.{Value}
-use Rattle.dwarf_value.specs.declared.types.Value.TheVariants.{Generic}
 use Rattle.dwarf_value.specs.Values.{Agree}
 use Rattle.dwarf_meaning.specs.Meaning.{Outcome, RequestOutcome, FaultOutcome, CompleteOutcome}
 use Rattle.dwarf_laws.specs.Agreement.{Both, nothing, something, AgreeingOutcomes}

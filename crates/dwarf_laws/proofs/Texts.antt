@@ -11,7 +11,7 @@ use Rattle.dwarf_base.specs.Faults.{Fault}
 use Rattle.dwarf_base.specs.Numbers.{residue}
 use Rattle.dwarf_base.specs.Reads.{Text}
 use Rattle.dwarf_meaning.specs.Operations.{Operation}
-use Rattle.dwarf_meaning.specs.Branches.{AreBytes}
+use Rattle.dwarf_meaning.specs.DecodeLaws.{AreBytes}
 use Rattle.dwarf_meaning.specs.Splitting.{items_of, items_at}
 use Rattle.dwarf_meaning.specs.Stores.{Setup, branch_target}
 use Rattle.dwarf_meaning.specs.Run.{read}

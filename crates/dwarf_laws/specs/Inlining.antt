@@ -8,7 +8,7 @@ use Rattle.dwarf_meaning.specs.Operands.{context_of}
 use Rattle.dwarf_meaning.specs.Operations.{Operation, Bra, Skip, Call, DieReference}
 use Rattle.dwarf_meaning.specs.Spelling.{Spells}
 use Rattle.dwarf_meaning.specs.Splitting.{Splitting, Joined}
-use Rattle.dwarf_meaning.specs.Branches.{AreBytes}
+use Rattle.dwarf_meaning.specs.DecodeLaws.{AreBytes}
 use Rattle.dwarf_meaning.specs.Locations.{Piece}
 use Rattle.dwarf_meaning.specs.Requests.{Request, RequiresAtLocation, LocationAnswer, Settings, Input}
 use Rattle.dwarf_meaning.specs.Stores.{Setup}

@@ -2,4 +2,3 @@ pub mod Agreement
 pub mod TwoRuns
 pub mod Inlining
 pub mod Rows
-pub mod TightBounds

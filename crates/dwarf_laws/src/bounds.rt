@@ -5,10 +5,10 @@ ghost use Rattle.dwarf_meaning.specs.Bounds.{DecodesOnce, IsUnspent, Spends, cal
 ghost use Rattle.dwarf_meaning.specs.Refusals.{After, MayPick};
 ghost use Rattle.dwarf_meaning.specs.Rest.{Start};
 ghost use Rattle.dwarf_meaning.specs.RunLaws.{CountsWithin, ListsWithin, turns_left};
-ghost use Rattle.dwarf_meaning.specs.Branches.{AreBytes};
+ghost use Rattle.dwarf_meaning.specs.DecodeLaws.{AreBytes};
 ghost use Rattle.dwarf_meaning.specs.Rows.{no_limits, open_at, plain};
 ghost use Rattle.dwarf_laws.specs.Inlining.{CallSite, inlined, IsInlinable};
-ghost use Rattle.dwarf_laws.specs.TightBounds.{IsTight, byte_at, counted_at, failed, located, spent};
+ghost use Rattle.dwarf_laws.specs.Rows.{IsTight, byte_at, counted_at, failed, located, spent};
 
 /// Worked rows of the bounds on lists and decodings.
 ///

@@ -7,12 +7,12 @@ use Rattle.dwarf_base.specs.Numbers.{number_of, signed_of}
 use Rattle.dwarf_base.specs.Reads.{split_at, Text}
 use Rattle.dwarf_meaning.specs.Operations.{Operation}
 use Rattle.dwarf_meaning.specs.Operands.{Context, as_text, context_of, Bytes, Leb128}
-use Rattle.dwarf_meaning.specs.Opcodes.{Row, Makes, Unsigned, Signed, Block, Invalid, lines, row_of}
+use Rattle.dwarf_meaning.specs.Opcodes.{Row, Makes, Unsigned, Signed, Block, Invalid, lines, wasm_row, row_of}
 use Rattle.dwarf_meaning.specs.Decoding.{unsigned_at, integer_at, operands_at, operation_at}
 use Rattle.dwarf_meaning.specs.Spelling.{SpellsInteger}
 use Rattle.dwarf_meaning.specs.Spelling as spelling
-use Rattle.dwarf_meaning.specs.Branches.{AreBytes, IsNear, BranchesNear}
-use Rattle.dwarf_meaning.proofs.Lines.{OnLines, ◌⊳◌, wasm_holds, row_holds}
+use Rattle.dwarf_meaning.specs.DecodeLaws.{AreBytes, IsNear, BranchesNear}
+use Rattle.dwarf_meaning.proofs.OperationReads.{OnLines, wasm_holds, row_holds}
 use Rattle.dwarf_meaning.proofs.ReadsExactly.{went, pair_same, reads_block}
 use Rattle.dwarf_meaning.proofs.NumberReads.{reads_unsigned, reads_integer}
 
@@ -46,84 +46,11 @@ NearRow (Signed Leb128 next) = (value : ℤ) → NearRow (next value)
 NearRow (Block size next) = (block : Text) → NearRow (next block)
 NearRow (Invalid opcode) = Unit {0}
 
+near_wasm : (kind : ℕ) → NearRow (wasm_row kind)
+near_wasm kind = wasm_holds NearRow kind (λ index. tt) (λ index. tt) (λ index. tt) (λ index. tt) tt
+
 near_lines : (encoding : Encoding) → OnLines NearRow (lines encoding)
-near_lines encoding =
-    (λ opcode number. tt)
-    ⊳ (λ opcode. tt)
-    ⊳ (λ opcode number. tt)
-    ⊳ (λ opcode number near. tt)
-    ⊳ (λ opcode number. tt)
-    ⊳ (λ opcode number near. tt)
-    ⊳ (λ opcode number. tt)
-    ⊳ (λ opcode number near. tt)
-    ⊳ (λ opcode number. tt)
-    ⊳ (λ opcode number near. tt)
-    ⊳ (λ opcode number. tt)
-    ⊳ (λ opcode number. tt)
-    ⊳ (λ opcode. tt)
-    ⊳ (λ opcode. tt)
-    ⊳ (λ opcode. tt)
-    ⊳ (λ opcode number. tt)
-    ⊳ (λ opcode. tt)
-    ⊳ (λ opcode. tt)
-    ⊳ (λ opcode. tt)
-    ⊳ (λ opcode. tt)
-    ⊳ (λ opcode. tt)
-    ⊳ (λ opcode. tt)
-    ⊳ (λ opcode. tt)
-    ⊳ (λ opcode. tt)
-    ⊳ (λ opcode. tt)
-    ⊳ (λ opcode. tt)
-    ⊳ (λ opcode. tt)
-    ⊳ (λ opcode. tt)
-    ⊳ (λ opcode. tt)
-    ⊳ (λ opcode number. tt)
-    ⊳ (λ opcode. tt)
-    ⊳ (λ opcode. tt)
-    ⊳ (λ opcode. tt)
-    ⊳ (λ opcode. tt)
-    ⊳ (λ opcode target near. near refl)
-    ⊳ (λ opcode. tt)
-    ⊳ (λ opcode. tt)
-    ⊳ (λ opcode. tt)
-    ⊳ (λ opcode. tt)
-    ⊳ (λ opcode. tt)
-    ⊳ (λ opcode. tt)
-    ⊳ (λ opcode target near. near refl)
-    ⊳ (λ opcode. tt)
-    ⊳ (λ opcode. tt)
-    ⊳ (λ opcode number. tt)
-    ⊳ (λ opcode number. tt)
-    ⊳ (λ opcode number. tt)
-    ⊳ (λ opcode first second. tt)
-    ⊳ (λ opcode number. tt)
-    ⊳ (λ opcode number. tt)
-    ⊳ (λ opcode number. tt)
-    ⊳ (λ opcode. tt)
-    ⊳ (λ opcode. tt)
-    ⊳ (λ opcode number. tt)
-    ⊳ (λ opcode number. tt)
-    ⊳ (λ opcode number. tt)
-    ⊳ (λ opcode. tt)
-    ⊳ (λ opcode. tt)
-    ⊳ (λ opcode first second. tt)
-    ⊳ (λ opcode size block. tt)
-    ⊳ (λ opcode. tt)
-    ⊳ (λ opcode first second. tt)
-    ⊳ (λ opcode number. tt)
-    ⊳ (λ opcode number. tt)
-    ⊳ (λ opcode size block. tt)
-    ⊳ (λ opcode base_type size block. tt)
-    ⊳ (λ opcode first second. tt)
-    ⊳ (λ opcode first second. tt)
-    ⊳ (λ opcode first second. tt)
-    ⊳ (λ opcode number. tt)
-    ⊳ (λ opcode number. tt)
-    ⊳ (λ opcode kind. wasm_holds NearRow kind (λ index. tt) (λ index. tt) (λ index. tt) (λ index. tt) tt)
-    ⊳ (λ opcode. tt)
-    ⊳ (λ opcode number. tt)
-    ⊳ (λ opcode number. tt)
-    ⊳ tt
+near_lines encoding = search near_wasm
 
 near_row : (encoding : Encoding) (opcode : ℕ) → NearRow (row_of encoding opcode)
 near_row encoding opcode = row_holds NearRow (λ n. tt) encoding opcode (near_lines encoding)

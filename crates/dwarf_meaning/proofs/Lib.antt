@@ -1,12 +1,9 @@
 pub mod ReadsExactly
-pub mod LebReads
 pub mod NumberReads
 pub mod OperationReads
 pub mod Decoded
 pub mod Splittings
-pub mod Lines
 pub mod Branches
-pub mod DecodingFaults
 pub mod Choices
 pub mod Counts
 pub mod Turns
@@ -15,5 +12,4 @@ pub mod Counting
 pub mod Effects
 pub mod Limited
 pub mod Callees
-pub mod Taken
 pub mod Outcomes

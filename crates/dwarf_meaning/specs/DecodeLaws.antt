@@ -1,9 +1,9 @@
--- Laws of spelling, of malformed bytes and of splitting (DWARF 5, sections 2.5 and 7.7.1).
-use Rattle.std.specs.Prelude.{ℕ, ◌≤◌, ◌≡◌, ◌⊎◌, List, ◌++◌, Option, None, length}
+-- Laws of spelling, of malformed bytes, of splitting and of branches (DWARF 5, sections 2.5 and 7.7.1).
+use Rattle.std.specs.Prelude.{ℕ, ◌≤◌, ◌≡◌, ◌⊎◌, List, ◌++◌, Option, None, length, ◌<◌, ◌≤ℤ◌, ◌<ℤ◌, ℤ, pos, negsuc, [], ◌∷◌}
 use Rattle.dwarf_base.specs.Faults.{Fault, past_the_end}
 use Rattle.dwarf_base.specs.declared.errors.Error.TheVariants.{UnexpectedEof, BadUnsignedLeb128, BadSignedLeb128, UnsupportedAddressSize, UnsupportedOffset, UnsupportedRegister, InvalidExpression, InvalidPieceSize}
 use Rattle.dwarf_base.specs.Fronts.{Begins}
-use Rattle.dwarf_meaning.specs.Operations.{Operation}
+use Rattle.dwarf_meaning.specs.Operations.{Operation, Bra, Skip}
 use Rattle.dwarf_meaning.specs.Operands.{Context, as_text}
 use Rattle.dwarf_meaning.specs.Spelling.{Spells, Malformed}
 use Rattle.dwarf_meaning.specs.Splitting.{Splitting, Joined, items_of, items_at}
@@ -48,3 +48,21 @@ IsDecodingFault (UnsupportedRegister register) = Unit {0}
 IsDecodingFault (InvalidExpression opcode) = Unit {0}
 IsDecodingFault (InvalidPieceSize bytes) = Unit {0}
 IsDecodingFault _ = ⊥
+
+-- ---- the operands of branches, which are signed numbers of 16 bits (section 2.5.1.5)
+
+-- every number of the list is a byte
+abbrev pub AreBytes : List ℕ → Type 0
+AreBytes [] = Unit {0}
+AreBytes (byte ∷ bytes) = (byte < 256) × AreBytes bytes
+
+-- from -32768 to 32767
+pub record IsNear (target : ℤ) : Type 0 where
+  pub low : negsuc 32767 ≤ℤ target
+  pub high : target <ℤ pos 32768
+
+-- an operation that is no branch, or a near one
+abbrev pub BranchesNear : Operation → Type 0
+BranchesNear (Bra target) = IsNear target
+BranchesNear (Skip target) = IsNear target
+BranchesNear _ = Unit {0}

@@ -5,7 +5,6 @@ pub mod Decoding
 pub mod Spelling
 pub mod Splitting
 pub mod DecodeLaws
-pub mod Branches
 pub mod Locations
 pub mod Requests
 pub mod Kinds

@@ -8,12 +8,11 @@ ghost use Rattle.dwarf_meaning.specs.Operands.{Context};
 ghost use Rattle.dwarf_meaning.specs.Decoding.{operation_at, operation_in};
 ghost use Rattle.dwarf_meaning.specs.Spelling.{Spells, Malformed};
 ghost use Rattle.dwarf_meaning.specs.Splitting.{Splitting};
-ghost use Rattle.dwarf_meaning.specs.Branches.{AreBytes, BranchesNear};
+ghost use Rattle.dwarf_meaning.specs.DecodeLaws.{AreBytes, BranchesNear, IsDecided, SplitsOnce, IsSplitting, IsDecodingFault};
 ghost use Rattle.dwarf_meaning.specs.Requests.{Input};
 ghost use Rattle.dwarf_meaning.specs.Stores.{Setup, IsWithin, Store};
 ghost use Rattle.dwarf_meaning.specs.Run.{Position, Course, most, turn, run_for, enough, run, return_to_callers};
 ghost use Rattle.dwarf_meaning.specs.Meaning.{IsOver, First, outcome_of_end, meaning};
-ghost use Rattle.dwarf_meaning.specs.DecodeLaws.{IsDecided, SplitsOnce, IsSplitting, IsDecodingFault};
 ghost use Rattle.dwarf_meaning.specs.RunLaws.{turns_left, IsSettled, course_before, EndTook, MaximaWithin, AtEnd, CountsWithin, ListsWithin, EndWithin, OutcomeWithin, outermost, OutcomeOpen};
 ghost use Rattle.dwarf_meaning.specs.Refusals.{Refusal};
 

@@ -1,4 +1,2 @@
 pub mod EqualOperations
-pub mod OneByte
-pub mod Rows
 pub mod Blocks

@@ -15,7 +15,7 @@ use crate::opcodes::{Offset, Signed, Unsigned};
 use dwarf_base::{Encoding, Reader, ReaderOffset, Register, Result, UnitOffset};
 
 // A number of one byte.
-#[tactic(auto, using(crate::proofs::OneByte::one_byte))]
+#[tactic(auto, using(dwarf_base::proofs::FixedNumbers::fixed_one))]
 #[inline(always)]
 pub(crate) fn read_u8<R: Reader>(bytes: &mut R) -> Result<u8>
     ensures { Reads (λ n. n) (R.text bytes.old) (R.text bytes.new) result

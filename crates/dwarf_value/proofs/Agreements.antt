@@ -85,60 +85,31 @@ convert_of-Agree t w x x' a = ap (λ n. Ok (from_u64_of t n)) (to_u64_of-Agree w
 pub add_of_constant-Agree : (w n : ℕ) (x x' : Value) → Agree w x x' → binary_of Plus w x (from_u64_of (type_of x) n) ≡ binary_of Plus w x' (from_u64_of (type_of x') n)
 add_of_constant-Agree w n x x' a = let p = a.types in let q = a.integers in cc
 
+-- what holds of values with the same types and integers
+alike : {A : Type 0} (w : ℕ) (x x' : Value) → Agree w x x'
+    → (type_of x ≡ type_of x' → unsigned_integer w x ≡ unsigned_integer w x' → signed_integer w x ≡ signed_integer w x' → A) → A
+alike w x x' a go = go a.types a.integers (signed_integer-Agree w x x' a)
+
 pub unary_of-Agree : (op : UnaryOperator) → SameForOne (unary_of op)
-unary_of-Agree Abs w x x' a = let p = a.types in let q = a.integers in let s = signed_integer-Agree w x x' a in cc
-unary_of-Agree Neg w x x' a = let p = a.types in let q = a.integers in let s = signed_integer-Agree w x x' a in cc
-unary_of-Agree Not w x x' a = let p = a.types in let q = a.integers in cc
+unary_of-Agree Abs w x x' a = alike w x x' a (λ p q s. cc)
+unary_of-Agree Neg w x x' a = alike w x x' a (λ p q s. cc)
+unary_of-Agree Not w x x' a = alike w x x' a (λ p q s. cc)
 
 pub binary_of-Agree : (op : BinaryOperator) → SameForTwo (binary_of op)
-binary_of-Agree Plus w x x' y y' a b =
-    let p = a.types in let q = b.types in let i = a.integers in let j = b.integers in
-    cc
-binary_of-Agree Minus w x x' y y' a b =
-    let p = a.types in let q = b.types in let i = a.integers in let j = b.integers in
-    cc
-binary_of-Agree Mul w x x' y y' a b =
-    let p = a.types in let q = b.types in let i = a.integers in let j = b.integers in
-    cc
-binary_of-Agree Div w x x' y y' a b =
-    let p = a.types in let q = b.types in let i = a.integers in let j = b.integers in
-    let s = signed_integer-Agree w x x' a in let t = signed_integer-Agree w y y' b in cc
-binary_of-Agree Mod w x x' y y' a b =
-    let p = a.types in let q = b.types in let i = a.integers in let j = b.integers in
-    cc
-binary_of-Agree And w x x' y y' a b =
-    let p = a.types in let q = b.types in let i = a.integers in let j = b.integers in
-    cc
-binary_of-Agree Or w x x' y y' a b =
-    let p = a.types in let q = b.types in let i = a.integers in let j = b.integers in
-    cc
-binary_of-Agree Xor w x x' y y' a b =
-    let p = a.types in let q = b.types in let i = a.integers in let j = b.integers in
-    cc
-binary_of-Agree Shl w x x' y y' a b =
-    let p = a.types in let q = b.types in let i = a.integers in let j = b.integers in
-    cc
-binary_of-Agree Shr w x x' y y' a b =
-    let p = a.types in let q = b.types in let i = a.integers in let j = b.integers in
-    cc
-binary_of-Agree Shra w x x' y y' a b =
-    let p = a.types in let q = b.types in let i = a.integers in let j = b.integers in
-    let s = signed_integer-Agree w x x' a in let t = signed_integer-Agree w y y' b in cc
-binary_of-Agree Eq w x x' y y' a b =
-    let p = a.types in let q = b.types in let i = a.integers in let j = b.integers in
-    let s = signed_integer-Agree w x x' a in let t = signed_integer-Agree w y y' b in cc
-binary_of-Agree Ne w x x' y y' a b =
-    let p = a.types in let q = b.types in let i = a.integers in let j = b.integers in
-    let s = signed_integer-Agree w x x' a in let t = signed_integer-Agree w y y' b in cc
-binary_of-Agree Lt w x x' y y' a b =
-    let p = a.types in let q = b.types in let i = a.integers in let j = b.integers in
-    let s = signed_integer-Agree w x x' a in let t = signed_integer-Agree w y y' b in cc
-binary_of-Agree Le w x x' y y' a b =
-    let p = a.types in let q = b.types in let i = a.integers in let j = b.integers in
-    let s = signed_integer-Agree w x x' a in let t = signed_integer-Agree w y y' b in cc
-binary_of-Agree Gt w x x' y y' a b =
-    let p = a.types in let q = b.types in let i = a.integers in let j = b.integers in
-    let s = signed_integer-Agree w x x' a in let t = signed_integer-Agree w y y' b in cc
-binary_of-Agree Ge w x x' y y' a b =
-    let p = a.types in let q = b.types in let i = a.integers in let j = b.integers in
-    let s = signed_integer-Agree w x x' a in let t = signed_integer-Agree w y y' b in cc
+binary_of-Agree Plus w x x' y y' a b = alike w x x' a (λ p i s. alike w y y' b (λ q j t. cc))
+binary_of-Agree Minus w x x' y y' a b = alike w x x' a (λ p i s. alike w y y' b (λ q j t. cc))
+binary_of-Agree Mul w x x' y y' a b = alike w x x' a (λ p i s. alike w y y' b (λ q j t. cc))
+binary_of-Agree Div w x x' y y' a b = alike w x x' a (λ p i s. alike w y y' b (λ q j t. cc))
+binary_of-Agree Mod w x x' y y' a b = alike w x x' a (λ p i s. alike w y y' b (λ q j t. cc))
+binary_of-Agree And w x x' y y' a b = alike w x x' a (λ p i s. alike w y y' b (λ q j t. cc))
+binary_of-Agree Or w x x' y y' a b = alike w x x' a (λ p i s. alike w y y' b (λ q j t. cc))
+binary_of-Agree Xor w x x' y y' a b = alike w x x' a (λ p i s. alike w y y' b (λ q j t. cc))
+binary_of-Agree Shl w x x' y y' a b = alike w x x' a (λ p i s. alike w y y' b (λ q j t. cc))
+binary_of-Agree Shr w x x' y y' a b = alike w x x' a (λ p i s. alike w y y' b (λ q j t. cc))
+binary_of-Agree Shra w x x' y y' a b = alike w x x' a (λ p i s. alike w y y' b (λ q j t. cc))
+binary_of-Agree Eq w x x' y y' a b = alike w x x' a (λ p i s. alike w y y' b (λ q j t. cc))
+binary_of-Agree Ne w x x' y y' a b = alike w x x' a (λ p i s. alike w y y' b (λ q j t. cc))
+binary_of-Agree Lt w x x' y y' a b = alike w x x' a (λ p i s. alike w y y' b (λ q j t. cc))
+binary_of-Agree Le w x x' y y' a b = alike w x x' a (λ p i s. alike w y y' b (λ q j t. cc))
+binary_of-Agree Gt w x x' y y' a b = alike w x x' a (λ p i s. alike w y y' b (λ q j t. cc))
+binary_of-Agree Ge w x x' y y' a b = alike w x x' a (λ p i s. alike w y y' b (λ q j t. cc))

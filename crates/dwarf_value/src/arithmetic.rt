@@ -35,7 +35,7 @@ impl Value {
     /// The product, wrapped (`DW_OP_mul`). `TypeMismatch` if the types differ.
     ///
     /// `addr_mask` has a one for each bit of an address: [`is_addr_mask`](crate::is_addr_mask) tells.
-    #[tactic(auto, using(crate::proofs::Wraps::low_bits_only))]
+    #[tactic(auto, using(crate::proofs::Congruences::low_bits_only))]
     #[inline(always)]
     pub fn mul(self, rhs: Value, addr_mask: u64) -> Result<Value>
         requires { IsAddressMask addr_mask }

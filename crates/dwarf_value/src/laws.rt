@@ -1,10 +1,13 @@
 ghost use Rattle.std.specs.Prelude.{◌≡◌, ℕ, pos, negsuc, Result, Ok, Err};
+ghost use Rattle.dwarf_base.specs.Equality.{IsEquality};
 ghost use Rattle.dwarf_base.specs.declared.errors.Error.{Error};
 ghost use Rattle.dwarf_base.specs.declared.errors.Error.TheVariants.{UnsupportedTypeOperation};
 ghost use Rattle.dwarf_value.specs.declared.types.Value.{Value};
 ghost use Rattle.dwarf_value.specs.declared.types.Value.TheVariants.{I8, U8, I16, I32, I64};
 ghost use Rattle.dwarf_value.specs.Values.{unary_of, Neg};
 ghost use Rattle.dwarf_value.specs.Laws.{InRange, Trichotomy, Opposites, QuotientAndRemainder, GivesBack, GivesBackSigned, NegateTwice, NegateTwiceGeneric, ReinterpretTwice, AgreementIsKept};
+
+use crate::types::{Value, ValueType};
 
 /// Laws of what the calls on values answer, at every address mask, and worked rows of negation.
 ///
@@ -26,4 +29,11 @@ pub fn value_laws()
     ensures next_byte { unary_of Neg 32 (I8 (negsuc 126)) ≡ Ok (I8 (pos 127)) }
     ensures byte_below { InRange (I8 (negsuc 128)) → ⊥ }
     ensures unsigned_byte { unary_of Neg 32 (U8 128) ≡ Err UnsupportedTypeOperation }
+{}
+
+/// Types and values are equal exactly if contracts see the same: all 64 bits of a generic value count. It does
+/// nothing; its contract is the laws.
+pub fn equality_laws()
+    ensures types { IsEquality ⟦<ValueType as PartialEq>⟧.eq }
+    ensures values { IsEquality ⟦<Value as PartialEq>⟧.eq }
 {}

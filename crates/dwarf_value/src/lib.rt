@@ -5,14 +5,12 @@ mod arithmetic;
 mod bits;
 mod comparisons;
 mod conversions;
-mod equality;
 mod laws;
 mod masks;
 mod shifts;
 mod types;
 mod word;
 
-pub use equality::equality_laws;
-pub use laws::value_laws;
+pub use laws::{equality_laws, value_laws};
 pub use masks::is_addr_mask;
 pub use types::{Value, ValueType};

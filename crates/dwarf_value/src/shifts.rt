@@ -11,7 +11,7 @@ impl Value {
     /// length is the type's size. `InvalidShiftExpression` if the length is negative.
     ///
     /// `addr_mask` has a one for each bit of an address: [`is_addr_mask`](crate::is_addr_mask) tells.
-    #[tactic(auto, using(crate::proofs::Wraps::left_shifts))]
+    #[tactic(auto, using(crate::proofs::Congruences::left_shifts))]
     #[inline(always)]
     pub fn shl(self, rhs: Value, addr_mask: u64) -> Result<Value>
         requires { IsAddressMask addr_mask }

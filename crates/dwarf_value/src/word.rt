@@ -161,7 +161,7 @@ impl Value {
     }
 
     /// The value of the type that an integer wraps to. A generic one keeps the bits of an address.
-    #[tactic(auto, using(crate::proofs::Wraps::low_bits_only, crate::proofs::MaskBits::width_within_64))]
+    #[tactic(auto, using(crate::proofs::Congruences::low_bits_only, crate::proofs::MaskBits::width_within_64))]
     #[inline(always)]
     pub(crate) fn wrapped(value_type: ValueType, integer: i128, addr_mask: u64) -> Value
         requires { IsAddressMask addr_mask }

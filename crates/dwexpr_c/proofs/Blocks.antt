@@ -17,7 +17,7 @@ use Rattle.dwarf_meaning.proofs.Decoded.{operation_begins}
 use Rattle.dwexpr_c.specs.Decoded.{Decodes, IsBlockAt, with_block}
 use Rattle.dwexpr_c.specs.Operations.{block_in, operands_of}
 use Rattle.dwexpr_c.specs.declared.operations.DwexprOperation.{DwexprOperation}
-use Rattle.dwarf_meaning.proofs.Lines.{OnLines, ◌⊳◌, wasm_holds, row_holds}
+use Rattle.dwarf_meaning.proofs.OperationReads.{OnLines, ◌⊳◌, wasm_holds, row_holds}
 
 -- ---- what the rows of the table make
 

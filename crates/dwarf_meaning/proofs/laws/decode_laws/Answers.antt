@@ -1,7 +1,6 @@
-use Rattle.dwarf_meaning.proofs.Decoded.{reads_the_spelled, decided, some_bytes, takes_operation}
+use Rattle.dwarf_meaning.proofs.Decoded.{reads_the_spelled, decided, some_bytes, takes_operation, decoding_fault}
 use Rattle.dwarf_meaning.proofs.Splittings.{splits_once, is_splitting}
 use Rattle.dwarf_meaning.proofs.Branches.{branches_near}
-use Rattle.dwarf_meaning.proofs.DecodingFaults.{decoding_fault}
 use Rattle.dwarf_meaning.proofs.laws.decode_laws.Goals as goal
 
 pub returns : goal.returns

@@ -2,7 +2,7 @@ use Rattle.std.proofs.Common.{◌*◌, ◌%◌, ◌^◌, pos, ap, ◌∙◌, ari
 use Rattle.std.specs.Int.{w128}
 use Rattle.std.proofs.lemmas.Int.{to_z-of_z, to_z_pos}
 use Rattle.dwarf_base.specs.Numbers.{residue}
-use Rattle.dwarf_value.proofs.Wraps.{residue-mul}
+use Rattle.dwarf_value.proofs.Congruences.{residue-mul}
 use Rattle.dwarf_value.proofs.arithmetic.low_product.Goals as goal
 
 pub returns : goal.returns

@@ -1,15 +1,17 @@
 use Rattle.std.proofs.Common.{rules, arith}
 use Rattle.std.proofs.lemmas.Int.{ints}
 use Rattle.std.proofs.lemmas.Result.{err_from_is_err_and}
-use Rattle.dwarf_base.proofs.LebSteps.{signed_none, signed_first, signed_second_none, signed_second, signed_second_more, gives_from}
+use Rattle.dwarf_base.specs.Leb.{sleb_at, signed_leb}
+use Rattle.dwarf_base.proofs.LebSteps.{none_from, signed_first, second_none, signed_second, second_more, gives_from}
 use Rattle.dwarf_base.proofs.Suffixes.{suffix_trans}
 use Rattle.dwarf_base.proofs.reading.Reader.read_sleb128.Goals as goal
 
 pub returns-in_err-first : goal.returns-in_err-first
+unfolding sleb_at
 returns-in_err-first g c = record {
   value =
       let p = err_from_is_err_and c.from_residual.result c.from_residual.ensures.1 in
-      rw (p.1, p.2) (signed_none _ _ c.in_err-first.ensures.value);
+      rw (p.1, p.2) (none_from signed_leb 0 0 _ _ c.in_err-first.ensures.value);
   rest = search rules;
   order = search rules;
 }
@@ -18,10 +20,11 @@ pub returns-then-first-lt128 : goal.returns-then-first-lt128
 returns-then-first-lt128 g c = record { value = signed_first _ _ _ _ c.in_ok-first.ensures.value (omega (arith, ints, c.last_byte.ensures.value)) (omega arith); rest = search rules; order = search rules }
 
 pub returns-in_err-second : goal.returns-in_err-second
+unfolding sleb_at
 returns-in_err-second g c = record {
   value =
       let p = err_from_is_err_and c.from_residual-in_err-second.result c.from_residual-in_err-second.ensures.1 in
-      rw (p.1, p.2) (signed_second_none _ _ _ _ c.in_ok-first.ensures.value (omega arith) c.in_err-second.ensures.value);
+      rw (p.1, p.2) (second_none signed_leb _ _ _ _ c.in_ok-first.ensures.value (omega arith) c.in_err-second.ensures.value);
   rest = search rules;
   order = search rules;
 }
@@ -36,11 +39,12 @@ returns-then-second-lt128 g c = record {
 }
 
 pub returns : goal.returns
+unfolding sleb_at
 returns g c = record {
   value =
       let first = c.in_ok-first.ensures.value in
       let second = c.in_ok-second.ensures.value in
-      gives_from c.rest_of_sleb128_on_copy.result (g.Self.Reader.text c.rest_of_sleb128_on_copy.new.reader).bytes _ _ c.rest_of_sleb128_on_copy.ensures.value (signed_second_more _ _ _ _ _ _ first (omega arith) second (omega arith) (omega arith));
+      gives_from c.rest_of_sleb128_on_copy.result (g.Self.Reader.text c.rest_of_sleb128_on_copy.new.reader).bytes _ _ c.rest_of_sleb128_on_copy.ensures.value (second_more signed_leb _ _ _ _ _ _ first (omega arith) second (omega arith) (omega arith));
   rest = suffix_trans _ _ _ c.rest_of_sleb128_on_copy.ensures.rest (suffix_trans _ _ _ c.in_ok-second.ensures.rest c.in_ok-first.ensures.rest);
   order = search rules;
 }

@@ -1,14 +1,16 @@
 use Rattle.std.proofs.Common.{rules, arith}
 use Rattle.std.proofs.lemmas.Result.{err_from_is_err_and}
-use Rattle.dwarf_base.proofs.LebSteps.{unsigned_none, unsigned_first, unsigned_second_none, unsigned_second, unsigned_second_more, gives_from}
+use Rattle.dwarf_base.specs.Leb.{uleb_at, unsigned_leb}
+use Rattle.dwarf_base.proofs.LebSteps.{none_from, unsigned_first, second_none, unsigned_second, second_more, gives_from}
 use Rattle.dwarf_base.proofs.Suffixes.{suffix_trans}
 use Rattle.dwarf_base.proofs.reading.Reader.read_uleb128.Goals as goal
 
 pub returns-in_err-first : goal.returns-in_err-first
+unfolding uleb_at
 returns-in_err-first g c = record {
   value =
       let p = err_from_is_err_and c.from_residual.result c.from_residual.ensures.1 in
-      rw (p.1, p.2) (unsigned_none _ _ c.in_err-first.ensures.value);
+      rw (p.1, p.2) (none_from unsigned_leb 0 0 _ _ c.in_err-first.ensures.value);
   rest = search rules;
   order = search rules;
 }
@@ -17,10 +19,11 @@ pub returns-then-first-lt128 : goal.returns-then-first-lt128
 returns-then-first-lt128 g c = record { value = unsigned_first _ _ _ _ c.in_ok-first.ensures.value (omega arith) (omega arith); rest = search rules; order = search rules }
 
 pub returns-in_err-second : goal.returns-in_err-second
+unfolding uleb_at
 returns-in_err-second g c = record {
   value =
       let p = err_from_is_err_and c.from_residual-in_err-second.result c.from_residual-in_err-second.ensures.1 in
-      rw (p.1, p.2) (unsigned_second_none _ _ _ _ c.in_ok-first.ensures.value (omega arith) c.in_err-second.ensures.value);
+      rw (p.1, p.2) (second_none unsigned_leb _ _ _ _ c.in_ok-first.ensures.value (omega arith) c.in_err-second.ensures.value);
   rest = search rules;
   order = search rules;
 }
@@ -29,11 +32,12 @@ pub returns-then-second-lt128 : goal.returns-then-second-lt128
 returns-then-second-lt128 g c = record { value = unsigned_second _ _ _ _ _ _ c.in_ok-first.ensures.value (omega arith) c.in_ok-second.ensures.value (omega arith) (omega arith); rest = search rules; order = search rules }
 
 pub returns : goal.returns
+unfolding uleb_at
 returns g c = record {
   value =
       let first = c.in_ok-first.ensures.value in
       let second = c.in_ok-second.ensures.value in
-      gives_from c.rest_of_uleb128_on_copy.result (g.Self.Reader.text c.rest_of_uleb128_on_copy.new.reader).bytes _ _ c.rest_of_uleb128_on_copy.ensures.value (unsigned_second_more _ _ _ _ _ _ first (omega arith) second (omega arith) (omega arith));
+      gives_from c.rest_of_uleb128_on_copy.result (g.Self.Reader.text c.rest_of_uleb128_on_copy.new.reader).bytes _ _ c.rest_of_uleb128_on_copy.ensures.value (second_more unsigned_leb _ _ _ _ _ _ first (omega arith) second (omega arith) (omega arith));
   rest = suffix_trans _ _ _ c.rest_of_uleb128_on_copy.ensures.rest (suffix_trans _ _ _ c.in_ok-second.ensures.rest c.in_ok-first.ensures.rest);
   order = search rules;
 }

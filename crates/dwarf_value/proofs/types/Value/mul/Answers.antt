@@ -3,7 +3,7 @@ use Rattle.dwarf_value.specs.Values.{value_of, width_of}
 use Rattle.std.specs.Int.{w128}
 use Rattle.std.proofs.lemmas.Int.{to_z-of_z}
 use Rattle.dwarf_base.specs.Numbers.{residue}
-use Rattle.dwarf_value.proofs.Wraps.{value_of-low}
+use Rattle.dwarf_value.proofs.Congruences.{value_of-low}
 use Rattle.dwarf_value.proofs.MaskBits.{width_of-le}
 use Rattle.dwarf_value.proofs.types.Value.mul.Goals as goal
 

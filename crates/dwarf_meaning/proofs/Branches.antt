@@ -1,5 +1,5 @@
 -- The operand of each branch has 16 bits.
-use Rattle.std.proofs.Common.{ℕ, ◌*◌, ◌≡◌, ◌<◌, ◌≤◌, nat_lt, ℤ, pos, ◌-ℤ◌, Bool, true, false, cond, List, [], ◌∷◌, ◌++◌, length, Ok, arith, refl, sym, subst}
+use Rattle.std.proofs.Common.{rules, ℕ, ◌*◌, ◌≡◌, ◌<◌, ◌≤◌, nat_lt, ℤ, pos, ◌-ℤ◌, Bool, true, false, cond, List, [], ◌∷◌, ◌++◌, length, Ok, arith, refl, sym, subst}
 use Rattle.std.proofs.lemmas.Bool.Decides.{nat_tests}
 use Rattle.std.proofs.lemmas.Int.{ints}
 use Rattle.dwarf_base.specs.declared.common.Encoding.{Encoding}
@@ -7,12 +7,12 @@ use Rattle.dwarf_base.specs.Numbers.{number_of, signed_of}
 use Rattle.dwarf_base.specs.Reads.{split_at, Text}
 use Rattle.dwarf_meaning.specs.Operations.{Operation}
 use Rattle.dwarf_meaning.specs.Operands.{Context, as_text, context_of, Bytes, Leb128}
-use Rattle.dwarf_meaning.specs.Opcodes.{Row, Makes, Unsigned, Signed, Block, Invalid, lines, wasm_row, row_of}
+use Rattle.dwarf_meaning.specs.Opcodes.{Row, Makes, Unsigned, Signed, Block, Invalid, lines, row_of}
 use Rattle.dwarf_meaning.specs.Decoding.{unsigned_at, integer_at, operands_at, operation_at}
 use Rattle.dwarf_meaning.specs.Spelling.{SpellsInteger}
 use Rattle.dwarf_meaning.specs.Spelling as spelling
 use Rattle.dwarf_meaning.specs.DecodeLaws.{AreBytes, IsNear, BranchesNear}
-use Rattle.dwarf_meaning.proofs.OperationReads.{OnLines, wasm_holds, row_holds}
+use Rattle.dwarf_meaning.proofs.OperationReads.{OnLines, row_holds}
 use Rattle.dwarf_meaning.proofs.ReadsExactly.{went, pair_same, reads_block}
 use Rattle.dwarf_meaning.proofs.NumberReads.{reads_unsigned, reads_integer}
 
@@ -46,11 +46,8 @@ NearRow (Signed Leb128 next) = (value : ℤ) → NearRow (next value)
 NearRow (Block size next) = (block : Text) → NearRow (next block)
 NearRow (Invalid opcode) = Unit {0}
 
-near_wasm : (kind : ℕ) → NearRow (wasm_row kind)
-near_wasm kind = wasm_holds NearRow kind (λ index. tt) (λ index. tt) (λ index. tt) (λ index. tt) tt
-
 near_lines : (encoding : Encoding) → OnLines NearRow (lines encoding)
-near_lines encoding = search near_wasm
+near_lines encoding = search rules
 
 near_row : (encoding : Encoding) (opcode : ℕ) → NearRow (row_of encoding opcode)
 near_row encoding opcode = row_holds NearRow (λ n. tt) encoding opcode (near_lines encoding)

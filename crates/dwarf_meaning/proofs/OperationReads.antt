@@ -1,19 +1,18 @@
 -- Operations are read exactly if they are spelled, and what holds of each line of the table holds of each row.
-use Rattle.std.proofs.Common.{ℕ, ◌≡◌, inl, inr, ℤ, Bool, List, [], ◌∷◌, ◌++◌, length, Ok, Err, append_assoc, refl, sym, ap, subst, ◌∙◌, ◌==◌}
+use Rattle.std.proofs.Common.{ℕ, ◌≡◌, inl, inr, ℤ, Bool, List, [], ◌∷◌, ◌++◌, length, Ok, Err, append_assoc, refl, sym, ap, subst, ◌∙◌}
 use Rattle.dwarf_base.specs.declared.common.Encoding.{Encoding}
 use Rattle.dwarf_base.specs.Faults.{Fault, past_the_end, invalid_expression, ◌>>=◌}
 use Rattle.dwarf_base.specs.Fronts.{Begins}
 use Rattle.dwarf_base.specs.Reads.{split_at, Text}
 use Rattle.dwarf_meaning.specs.Operations.{Operation}
-use Rattle.dwarf_meaning.specs.Operands.{Context, as_text, context_of, Bytes, Leb128, Any, U32}
-use Rattle.dwarf_meaning.specs.Opcodes.{Row, Makes, Unsigned, Signed, Block, Invalid, row_of, Line, unsigned, lines, row_among, wasm_row}
+use Rattle.dwarf_meaning.specs.Operands.{Context, as_text, context_of}
+use Rattle.dwarf_meaning.specs.Opcodes.{Row, Makes, Unsigned, Signed, Block, Invalid, row_of, Line, lines, row_among}
 use Rattle.dwarf_meaning.specs.Decoding.{unsigned_at, integer_at, operands_at, operation_at}
 use Rattle.dwarf_meaning.specs.Spelling.{SpellsOperands, MalformedOperands, Spells, Malformed}
 use Rattle.dwarf_meaning.specs.Spelling as spelling
 use Rattle.dwarf_meaning.proofs.ReadsExactly.{Reading, ReadsExactly, went, failed, pair_same, SpellsBlock, block, RefusesBlock, few, reads_block}
 use Rattle.dwarf_meaning.proofs.NumberReads.{reads_unsigned, reads_integer}
 use Rattle.std.proofs.lemmas.Bool.{cond_both}
-use Rattle.dwarf_meaning.specs.Operations as operation
 
 -- ---- where a byte of two joined lists stands
 
@@ -229,19 +228,7 @@ abbrev pub OnLines : (Row → Type 0) → List Line → Type 0
 OnLines P [] = Unit {0}
 OnLines P (line ∷ more) = ((opcode : ℕ) → P (line.row opcode)) × OnLines P more
 
--- a pair, so that a long one needs no parentheses
-infixr 20 ◌⊳◌
-pub ◌⊳◌ : {P Q : Type 0} → P → Q → P × Q
-p ⊳ q = (p, q)
-
 module _ (P : Row → Type 0) where
-  pub wasm_holds : (kind : ℕ) → P (unsigned (Leb128, U32) operation.WasmLocal) → P (unsigned (Leb128, U32) operation.WasmGlobal)
-      → P (unsigned (Leb128, U32) operation.WasmStack) → P (unsigned (Bytes 4, Any) operation.WasmGlobal) → P (Invalid 0xed)
-      → P (wasm_row kind)
-  wasm_holds kind local global stack fixed none =
-      cond_both (kind == 0) _ _ P (λ e. local) (λ e. cond_both (kind == 1) _ _ P (λ e. global)
-      (λ e. cond_both (kind == 2) _ _ P (λ e. stack) (λ e. cond_both (kind == 3) _ _ P (λ e. fixed) (λ e. none))))
-
   among_holds : ((opcode : ℕ) → P (Invalid opcode)) → (opcode : ℕ) (table : List Line) → OnLines P table
       → P (row_among (Invalid opcode) opcode table)
   among_holds none opcode [] h = none opcode

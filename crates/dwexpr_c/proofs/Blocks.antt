@@ -1,5 +1,5 @@
 -- The block of an operation is the last part of its bytes.
-use Rattle.std.proofs.Common.{ℕ, ◌≡◌, ◌∙◌, ◌-◌, ◌+◌, ℤ, Bool, List, [], ◌∷◌, ◌++◌, length, take, drop, Option, Some, None, Result, Ok, Err, ◌<◌, arith, refl, sym, ap, subst, append_assoc, length-append}
+use Rattle.std.proofs.Common.{ℕ, ◌≡◌, ◌∙◌, ◌-◌, ◌+◌, ℤ, Bool, List, [], ◌∷◌, ◌++◌, length, take, drop, Option, Some, None, Result, Ok, Err, ◌<◌, arith, refl, sym, ap, subst, append_assoc, length-append, rules}
 use Rattle.std.specs.List.{slice_range}
 use Rattle.std.specs.Option.{IfSome}
 use Rattle.std.proofs.Math.Seq.{drop-append_seam, drop-append-add, take-append_seam}
@@ -17,7 +17,7 @@ use Rattle.dwarf_meaning.proofs.Decoded.{operation_begins}
 use Rattle.dwexpr_c.specs.Decoded.{Decodes, IsBlockAt, with_block}
 use Rattle.dwexpr_c.specs.Operations.{block_in, operands_of}
 use Rattle.dwexpr_c.specs.declared.operations.DwexprOperation.{DwexprOperation}
-use Rattle.dwarf_meaning.proofs.OperationReads.{OnLines, ◌⊳◌, wasm_holds, row_holds}
+use Rattle.dwarf_meaning.proofs.OperationReads.{OnLines, row_holds}
 
 -- ---- what the rows of the table make
 
@@ -38,83 +38,7 @@ LastInRow (Block size next) = (block : Text) → IsLast block (next block)
 LastInRow (Invalid opcode) = Unit {0}
 
 last_in_lines : (encoding : Encoding) → OnLines LastInRow (lines encoding)
-last_in_lines encoding =
-    (λ opcode number. refl)
-    ⊳ (λ opcode. refl)
-    ⊳ (λ opcode number. refl)
-    ⊳ (λ opcode number. refl)
-    ⊳ (λ opcode number. refl)
-    ⊳ (λ opcode number. refl)
-    ⊳ (λ opcode number. refl)
-    ⊳ (λ opcode number. refl)
-    ⊳ (λ opcode number. refl)
-    ⊳ (λ opcode number. refl)
-    ⊳ (λ opcode number. refl)
-    ⊳ (λ opcode number. refl)
-    ⊳ (λ opcode. refl)
-    ⊳ (λ opcode. refl)
-    ⊳ (λ opcode. refl)
-    ⊳ (λ opcode number. refl)
-    ⊳ (λ opcode. refl)
-    ⊳ (λ opcode. refl)
-    ⊳ (λ opcode. refl)
-    ⊳ (λ opcode. refl)
-    ⊳ (λ opcode. refl)
-    ⊳ (λ opcode. refl)
-    ⊳ (λ opcode. refl)
-    ⊳ (λ opcode. refl)
-    ⊳ (λ opcode. refl)
-    ⊳ (λ opcode. refl)
-    ⊳ (λ opcode. refl)
-    ⊳ (λ opcode. refl)
-    ⊳ (λ opcode. refl)
-    ⊳ (λ opcode number. refl)
-    ⊳ (λ opcode. refl)
-    ⊳ (λ opcode. refl)
-    ⊳ (λ opcode. refl)
-    ⊳ (λ opcode. refl)
-    ⊳ (λ opcode target. refl)
-    ⊳ (λ opcode. refl)
-    ⊳ (λ opcode. refl)
-    ⊳ (λ opcode. refl)
-    ⊳ (λ opcode. refl)
-    ⊳ (λ opcode. refl)
-    ⊳ (λ opcode. refl)
-    ⊳ (λ opcode target. refl)
-    ⊳ (λ opcode. refl)
-    ⊳ (λ opcode. refl)
-    ⊳ (λ opcode number. refl)
-    ⊳ (λ opcode number. refl)
-    ⊳ (λ opcode number. refl)
-    ⊳ (λ opcode first second. refl)
-    ⊳ (λ opcode number. refl)
-    ⊳ (λ opcode number. refl)
-    ⊳ (λ opcode number. refl)
-    ⊳ (λ opcode. refl)
-    ⊳ (λ opcode. refl)
-    ⊳ (λ opcode number. refl)
-    ⊳ (λ opcode number. refl)
-    ⊳ (λ opcode number. refl)
-    ⊳ (λ opcode. refl)
-    ⊳ (λ opcode. refl)
-    ⊳ (λ opcode first second. refl)
-    ⊳ (λ opcode size block. refl)
-    ⊳ (λ opcode. refl)
-    ⊳ (λ opcode first second. refl)
-    ⊳ (λ opcode number. refl)
-    ⊳ (λ opcode number. refl)
-    ⊳ (λ opcode size block. refl)
-    ⊳ (λ opcode base_type size block. refl)
-    ⊳ (λ opcode first second. refl)
-    ⊳ (λ opcode first second. refl)
-    ⊳ (λ opcode first second. refl)
-    ⊳ (λ opcode number. refl)
-    ⊳ (λ opcode number. refl)
-    ⊳ (λ opcode kind. wasm_holds LastInRow kind (λ index. refl) (λ index. refl) (λ index. refl) (λ index. refl) tt)
-    ⊳ (λ opcode. refl)
-    ⊳ (λ opcode number. refl)
-    ⊳ (λ opcode number. refl)
-    ⊳ tt
+last_in_lines encoding = search rules
 
 last_in_row : (encoding : Encoding) (opcode : ℕ) → LastInRow (row_of encoding opcode)
 last_in_row encoding opcode = row_holds LastInRow (λ n. tt) encoding opcode (last_in_lines encoding)

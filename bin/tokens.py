@@ -105,13 +105,13 @@ class Source:
 
     def replace_each(self, old, new):
         """Replaces each run of these tokens; without new ones, deletes it and its comments. Gives how many it met."""
-        wanted = split(old)
+        docs, wanted = ([it for it in split(old) if it.startswith("//") is is_doc] for is_doc in (True, False))
         places = [at for at, index in enumerate(self.code) if self.tokens[index] == wanted[0]]
         places = [at for at in places if self.words(at, at + len(wanted) - 1) == wanted]
         for at in places:
             last = at + len(wanted) - 1
-            within = "".join(self.tokens[self.code[at] : self.code[last]])
-            self.want("//" not in within, at, "a comment within what a row replaces")
+            within = [token for token in self.tokens[self.code[at] : self.code[last]] if token.startswith("//")]
+            self.want(within == docs, at, "a comment within what a row replaces")
             self.replace(at, last, new) if new else self.delete(at, last, above="///")
         if places:
             self.settle()

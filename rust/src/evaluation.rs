@@ -72,16 +72,16 @@ impl<R: Reader + Copy> Evaluation<R> {
         Evaluation::new_in(bytecode, encoding)
     }
 
-    /// The pieces of a complete evaluation.
+    /// The pieces of a complete evaluation. One alone takes memory now: [`as_result`](Self::as_result) takes none.
     ///
     /// # Panics
     ///
-    /// If the evaluation isn't complete.
+    /// If the evaluation isn't complete, or that memory is refused.
     #[inline]
     #[track_caller]
     pub fn result(self) -> Vec<Piece<R>> {
         self.assert_complete("result");
-        self.proved.into_pieces()
+        self.proved.into_pieces().into_vec().expect("memory for the piece")
     }
 }
 
@@ -133,7 +133,8 @@ impl<R: Reader + Copy, S: EvaluationStorage<R>> Evaluation<R, S> {
         let is_empty = stack.len() == 0 && expression_stack.len() == 0 && result.len() == 0;
         assert!(is_empty, "`Evaluation::with_lists` was handed a list that isn't empty");
         let (encoding, start) = checked(encoding);
-        Evaluation { proved: eval::Evaluation::new_in(bytecode, encoding, stack, expression_stack, result), start }
+        let proved = eval::Evaluation::new_in(bytecode, encoding, stack, expression_stack, result.into());
+        Evaluation { proved, start }
     }
 
     /// Makes it a fresh evaluation of another `bytecode`, over the same lists, which keep their memory. It may be

@@ -16,6 +16,10 @@ pub trait ArrayLike {
     #[doc(hidden)]
     type List: store::ArrayLike<Item = Self::Item>;
 
+    // What the pieces are kept in.
+    #[doc(hidden)]
+    type Pieces: store::ArrayLike<Item = Self::Item> + From<Self::List>;
+
     #[doc(hidden)]
     fn new_list() -> Self::List;
 }
@@ -73,12 +77,13 @@ pub(crate) struct Lists<S>(PhantomData<S>);
 impl<R: Reader + Copy, S: EvaluationStorage<R>> store::EvaluationStorage<R> for Lists<S> {
     type Stack = <S::Stack as ArrayLike>::List;
     type ExpressionStack = <S::ExpressionStack as ArrayLike>::List;
-    type Result = <S::Result as ArrayLike>::List;
+    type Result = <S::Result as ArrayLike>::Pieces;
 }
 
 impl<T: Copy> ArrayLike for Vec<T> {
     type Item = T;
     type List = Vec<T>;
+    type Pieces = OneOrMore<T>;
 
     #[inline]
     fn new_list() -> Vec<T> {
@@ -89,6 +94,7 @@ impl<T: Copy> ArrayLike for Vec<T> {
 impl<'a, T: Copy> ArrayLike for SliceVec<'a, T> {
     type Item = T;
     type List = SliceVec<'a, T>;
+    type Pieces = SliceVec<'a, T>;
 
     #[inline]
     fn new_list() -> SliceVec<'a, T> {
@@ -100,6 +106,7 @@ impl<'a, T: Copy> ArrayLike for SliceVec<'a, T> {
 impl<T: Copy, const N: usize> ArrayLike for [T; N] {
     type Item = T;
     type List = ArrayVec<T, N>;
+    type Pieces = ArrayVec<T, N>;
 
     #[inline]
     fn new_list() -> ArrayVec<T, N> {
@@ -111,6 +118,7 @@ impl<T: Copy, const N: usize> ArrayLike for [T; N] {
 impl<T: Copy, const N: usize> ArrayLike for ArrayVec<T, N> {
     type Item = T;
     type List = ArrayVec<T, N>;
+    type Pieces = ArrayVec<T, N>;
 
     #[inline]
     fn new_list() -> ArrayVec<T, N> {
@@ -152,4 +160,71 @@ impl<T: Copy> store::ArrayLike for Vec<T> {
 #[inline(never)]
 fn grow<T>(list: &mut Vec<T>) -> bool {
     list.try_reserve(1).is_ok()
+}
+
+/// A list on the heap that takes no memory for one item alone: most expressions have one piece.
+pub struct OneOrMore<T> {
+    // The only item. If there are more, all of them are in the other list.
+    one: Option<T>,
+    more: Vec<T>,
+}
+
+impl<T> From<Vec<T>> for OneOrMore<T> {
+    #[inline(always)]
+    fn from(more: Vec<T>) -> Self {
+        OneOrMore { one: None, more }
+    }
+}
+
+impl<T> OneOrMore<T> {
+    /// The items on the heap, or `None` if the only one needs memory and it is refused.
+    #[inline]
+    pub(crate) fn into_vec(mut self) -> Option<Vec<T>> {
+        (self.one.is_none() || self.spill(1)).then_some(self.more)
+    }
+
+    /// Moves the only item to the heap, where there is room for so many then; `false` if memory is refused.
+    #[cold]
+    #[inline(never)]
+    fn spill(&mut self, room: usize) -> bool {
+        if self.more.try_reserve_exact(room).is_err() {
+            return false;
+        }
+        self.more.extend(self.one.take());
+        true
+    }
+}
+
+impl<T: Copy> store::ArrayLike for OneOrMore<T> {
+    type Item = T;
+
+    #[inline(always)]
+    fn len(&self) -> usize {
+        self.as_slice().len()
+    }
+
+    #[inline(always)]
+    fn as_slice(&self) -> &[T] {
+        if self.more.is_empty() { self.one.as_slice() } else { &self.more }
+    }
+
+    #[inline(always)]
+    fn pop(&mut self) -> Option<T> {
+        if self.more.is_empty() { self.one.take() } else { self.more.pop() }
+    }
+
+    #[inline(always)]
+    fn push(&mut self, item: T) -> Result<(), T> {
+        if self.more.is_empty() {
+            if self.one.is_none() {
+                self.one = Some(item);
+                return Ok(());
+            }
+            // A `Vec` begins with as many.
+            if !self.spill(4) {
+                return Err(item);
+            }
+        }
+        store::ArrayLike::push(&mut self.more, item)
+    }
 }

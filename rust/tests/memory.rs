@@ -66,8 +66,13 @@ fn refused_memory_is_an_error() {
     let many = [0x31; 10_000];
     evaluation.restart(little(&many), ENCODING);
     assert_eq!(with_memory(5_000, || evaluation.evaluate()), Err(Error::StackFull));
-    // A piece: DW_OP_reg0.
-    let mut evaluation = Evaluation::new(little(&[0x50]), ENCODING);
+    // One piece takes none before `result`, and two do: DW_OP_reg0, and DW_OP_piece 4 after it, twice.
+    let pieces = [0x50, 0x93, 4, 0x50, 0x93, 4];
+    let mut evaluation = Evaluation::new(little(&pieces[..1]), ENCODING);
+    assert_eq!(with_memory(0, || evaluation.evaluate()), Ok(EvaluationResult::Complete));
+    let piece = evaluation.as_result()[0];
+    assert_eq!(evaluation.result(), [piece]);
+    let mut evaluation = Evaluation::new(little(&pieces), ENCODING);
     assert_eq!(with_memory(0, || evaluation.evaluate()), Err(Error::StackFull));
     // A caller: DW_OP_call2, and DW_OP_nop after it.
     let mut evaluation = Evaluation::new(little(&[0x98, 1, 0, 0x96]), ENCODING);

@@ -16,6 +16,7 @@ use Rattle.dwarf_laws.proofs.Texts.{AllStraight}
 use Rattle.dwarf_value.specs.declared.types.Value.{Value}
 use Rattle.dwarf_value.specs.Values.{Agree}
 use Rattle.dwarf_meaning.specs.Meaning.{Outcome, RequestOutcome, FaultOutcome, CompleteOutcome}
+use Rattle.dwarf_value.proofs.Agreements.{Agree-Generic}
 use Rattle.dwarf_laws.specs.Agreement.{Both, nothing, something, AgreeingOutcomes}
 use Rattle.dwarf_laws.specs.Agreement as agreeing
 use Rattle.dwarf_laws.specs.Inlining as alike
@@ -94,3 +95,7 @@ Ended _ _ = ⊥
 pub end_ended : (x y : Outcome) → EndAlike x y → Ended x y
 end_ended x y alike.completions = refl
 end_ended x y alike.requests = tt
+
+-- ---- steps that agree
+
+pub ruleset agreeing_steps = (agreeing.value, agreeing.number, agreeing.location, agreeing.base_type, agreeing.initial_value, agreeing.object_address, agreeing.evaluate, agreeing.resume, Agree-Generic)

@@ -1,5 +1,5 @@
 -- Of some steps, what a caller needs to go on.
-use Rattle.std.proofs.Common.{ℕ, ◌≡◌, List, [], ◌∷◌, ◌++◌, length, Option, Some, None, ap, ◌∙◌, sym, refl, subst}
+use Rattle.std.proofs.Common.{ℕ, ◌≡◌, List, [], ◌∷◌, ◌++◌, length, Some, None, ap, ◌∙◌, sym, refl, subst}
 use Rattle.dwarf_base.specs.Reads.{Text}
 use Rattle.dwarf_meaning.proofs.Outcomes.{outcome_from}
 use Rattle.dwarf_meaning.specs.Bounds.{Spends}

@@ -1,6 +1,5 @@
 -- Ends of replays are equal exactly if they are seen as the same.
-use Rattle.std.proofs.Common.{ℕ, ◌≡◌, Bool, true, false, refl, ◌&&◌, nat_eq, rules}
-use Rattle.std.specs.Bool.{Decides}
+use Rattle.std.proofs.Common.{ℕ, ◌≡◌, Bool, refl, nat_eq, rules}
 use Rattle.std.specs.Cmp.{unsigned_Decides}
 use Rattle.std.specs.declared.clone.Clone as clone
 use Rattle.std.specs.declared.cmp.Eq as eq

@@ -1,7 +1,6 @@
 pub mod EqualEnds
 pub mod Calling
 pub mod Continuing
-pub mod Keeping
 pub mod Leading
 pub mod Settings
 pub mod Standings

@@ -1,5 +1,5 @@
 -- One turn of a replay.
-use Rattle.std.proofs.Common.{ℕ, suc, ◌≡◌, ◌⊎◌, inl, inr, List, [], ◌∷◌, ◌++◌, length, Result, Option, Some, None, take, slice_get, arith, ◌≤◌, ap, ◌∙◌, sym, refl, subst}
+use Rattle.std.proofs.Common.{ℕ, suc, ◌≡◌, List, [], ◌∷◌, ◌++◌, length, Result, Option, Some, None, take, slice_get, arith, ◌≤◌, ap, ◌∙◌, sym, refl, subst}
 use Rattle.std.proofs.lemmas.List.{length-append, length-map, map-append, take_all}
 use Rattle.std.proofs.lemmas.Option.{slice_get-map, slice_get_within, get_or_from_slice_get}
 use Rattle.std.proofs.Math.Seq.{take-suc, take-append_seam}
@@ -15,8 +15,8 @@ use Rattle.dwarf_meaning.proofs.Outcomes.{outcome_from}
 use Rattle.dwarf_meaning.specs.Steps.{Step, InitialValue, ObjectAddress, MaxIterations, Evaluate, Resume, Told, Reply, reply, replies, Awaits, Allows, AllAllowed, after_step, after_steps, replies_of, outcome_of, step_replies}
 use Rattle.dwarf_meaning.specs.Refusals.{Refusal}
 use Rattle.dwarf_eval.specs.Lists.{MayRefuse}
-use Rattle.dwarf_replay.specs.Stepping.{step_of, MayTake, IsSet, HasReplied}
-use Rattle.dwarf_replay.specs.Replays.{told_at, steps_of, reply_in, replies_in, Walks, WalksTo, WalksOver}
+use Rattle.dwarf_replay.specs.Stepping.{step_of, IsSet, HasReplied}
+use Rattle.dwarf_replay.specs.Replays.{told_at, steps_of, reply_in, replies_in, WalksOver}
 use Rattle.dwarf_replay.specs.declared.steps.Step as code
 use Rattle.dwarf_replay.specs.declared.steps.Answer as kept_answer
 use Rattle.dwarf_eval.specs.declared.op.results.EvaluationResult.{EvaluationResult}
@@ -24,7 +24,7 @@ use Rattle.dwarf_replay.proofs.Telling.{answers_more}
 use Rattle.dwarf_replay.proofs.Standings.{Went}
 use Rattle.dwarf_replay.proofs.Settings.{set_went_on}
 use Rattle.dwarf_replay.proofs.Calling.{called_went_on}
-use Rattle.dwarf_replay.proofs.Leading.{walks_all, walks_to}
+use Rattle.dwarf_replay.proofs.Leading.{walks_all}
 
 -- ---- one turn of a replay
 
@@ -66,14 +66,8 @@ module _ (setup : Setup) (refusal : Refusal) (text : Text) where
   call_replies view number (ObjectAddress address) told x new given c h = absurd c
   call_replies view number (MaxIterations maximum) told x new given c h = absurd c
 
--- the steps up to one whose answer found no room, in either writing
-walks_over : (first : State) (all : List Step) (index : ℕ) (one : Reply) (limit : Option ℕ) (before : List Reply) (new : State) (done : List Step) → take (suc index) all ≡ done → (whole : Walks first done (before ++ one ∷ []) new) → before ≡ replies_of first.setup whole.refusal first.text (told_at first) (take index all) → (step : Step) × (slice_get all index ≡ Some step) → MayRefuse limit (length before) → WalksOver index one limit first all before new
-walks_over first all index one limit before new done e whole fits inside full =
-    let Over : List Step → Type 0 = λ l. (w : Walks first l (before ++ one ∷ []) new) → before ≡ replies_of first.setup w.refusal first.text (told_at first) (take index all) → WalksOver index one limit first all before new in
-    subst Over e (λ w f. record { walks = w; before = f; inside = inside; full = full }) whole fits
-
 module _ {R : Type 0} (view : R → Text) (all : List (code.Step R)) (index : ℕ) (step : code.Step R) (is_next : slice_get all index ≡ Some step) where
-  next_is : slice_get (steps_of view all) index ≡ Some (step_of view step)
+  pub next_is : slice_get (steps_of view all) index ≡ Some (step_of view step)
   next_is = slice_get-map (step_of view) all index ∙ ap (option_map (step_of view)) is_next
 
   take_next : take (suc index) (steps_of view all) ≡ take index (steps_of view all) ++ step_of view step ∷ []
@@ -81,60 +75,48 @@ module _ {R : Type 0} (view : R → Text) (all : List (code.Step R)) (index : �
       take-suc (steps_of view all) index (step_of view step) (slice_get_within (steps_of view all) index (step_of view step) next_is)
       ∙ ap (λ (s : Step). take index (steps_of view all) ++ s ∷ []) (get_or_from_slice_get (steps_of view all) index (step_of view step) (step_of view step) next_is)
 
-module _ {R O P : Type 0} (view : R → Text) (number : O → ℕ) (first : State) (all : List (code.Step R)) (index : ℕ) (step : code.Step R) (is_next : slice_get all index ≡ Some step) where
-  module _ (given answers_now : List (kept_answer.Answer R O P)) (x new : State) (w : Went first (take index (steps_of view all)) (replies_in view number given) x) where
-    -- the step was done, and its answer kept
-    pub kept_on : (IsSet (step_of view step) x new × (answers_now ≡ given)) ⊎ ((answer : kept_answer.Answer R O P) × HasReplied view number (step_of view step) x new answer.0 × (answers_now ≡ given ++ answer ∷ [])) → Went first (take (suc index) (steps_of view all)) (replies_in view number answers_now) new
-    kept_on (inl h) =
-        subst (λ (steps : List Step). Went first steps (replies_in view number answers_now) new) (sym (take_next view all index step is_next))
-        (subst (λ (l : List (kept_answer.Answer R O P)). Went first (take index (steps_of view all) ++ step_of view step ∷ []) (replies_in view number l) new) (sym h.1)
-        (set_went_on first (take index (steps_of view all)) (replies_in view number given) (step_of view step) x new h.0 w))
-    kept_on (inr h) =
-        subst (λ (steps : List Step). Went first steps (replies_in view number answers_now) new) (sym (take_next view all index step is_next))
-        (subst (λ (l : List Reply). Went first (take index (steps_of view all) ++ step_of view step ∷ []) l new)
-        (sym (ap (replies_in view number) h.2 ∙ map-append (reply_in view number) given (h.0 ∷ [])))
-        (called_went_on view number first (take index (steps_of view all)) (replies_in view number given) x new (step_of view step) h.0.0 h.1 w))
+module _ {R O P : Type 0} (view : R → Text) (number : O → ℕ) (first : State) (all : List (code.Step R)) (index : ℕ) (step : code.Step R) (is_next : slice_get all index ≡ Some step) (given : List (kept_answer.Answer R O P)) (x new : State) (w : Went first (take index (steps_of view all)) (replies_in view number given) x) where
+  -- the step set something
+  pub set_on : (kept : List (kept_answer.Answer R O P)) → kept ≡ given → IsSet (step_of view step) x new → Went first (take (suc index) (steps_of view all)) (replies_in view number kept) new
+  set_on kept e h =
+      subst (λ (steps : List Step). Went first steps (replies_in view number kept) new) (sym (take_next view all index step is_next))
+      (subst (λ (l : List (kept_answer.Answer R O P)). Went first (take index (steps_of view all) ++ step_of view step ∷ []) (replies_in view number l) new) (sym e)
+      (set_went_on first (take index (steps_of view all)) (replies_in view number given) (step_of view step) x new h w))
 
-    -- the step isn't allowed, and nothing changed
-    pub went_to : (new ≡ x) × (MayTake (step_of view step) x.status → ⊥) × (answers_now ≡ given) → Went first (take index (steps_of view all)) (replies_in view number answers_now) new
-    went_to h =
-        subst (λ (z : State). Went first (take index (steps_of view all)) (replies_in view number answers_now) z) (sym h.0)
-        (subst (λ (l : List (kept_answer.Answer R O P)). Went first (take index (steps_of view all)) (replies_in view number l) x) (sym h.2) w)
+  -- the step was done, and gave an answer
+  module _ (answer : kept_answer.Answer R O P) (h : HasReplied view number (step_of view step) x new answer.0) where
+    pub called_on : Went first (take (suc index) (steps_of view all)) (replies_in view number given ++ reply_in view number answer ∷ []) new
+    called_on =
+        subst (λ (steps : List Step). Went first steps (replies_in view number given ++ reply_in view number answer ∷ []) new) (sym (take_next view all index step is_next))
+        (called_went_on view number first (take index (steps_of view all)) (replies_in view number given) x new (step_of view step) answer.0 h w)
 
-    -- the step was done, and its answer found no room
-    pub went_over : (limit : Option ℕ) (answer : kept_answer.Answer R O P) → HasReplied view number (step_of view step) x new answer.0 × (answers_now ≡ given) × MayRefuse limit (length given) → Went first (take (suc index) (steps_of view all)) (replies_in view number answers_now ++ reply_in view number answer ∷ []) new
-    went_over limit answer h =
-        let one = reply_in view number answer in
-        subst (λ (steps : List Step). Went first steps (replies_in view number answers_now ++ one ∷ []) new) (sym (take_next view all index step is_next))
-        (subst (λ (l : List (kept_answer.Answer R O P)). Went first (take index (steps_of view all) ++ step_of view step ∷ []) (replies_in view number l ++ one ∷ []) new) (sym h.1)
-        (called_went_on view number first (take index (steps_of view all)) (replies_in view number given) x new (step_of view step) answer.0 h.0 w))
+    -- which was kept
+    pub kept_on : (kept : List (kept_answer.Answer R O P)) → kept ≡ given ++ answer ∷ [] → Went first (take (suc index) (steps_of view all)) (replies_in view number kept) new
+    kept_on kept e =
+        subst (λ (l : List Reply). Went first (take (suc index) (steps_of view all)) l new)
+        (sym (ap (replies_in view number) e ∙ map-append (reply_in view number) given (answer ∷ []))) called_on
 
-    -- the step isn't allowed
-    pub stopped : (new ≡ x) × (MayTake (step_of view step) x.status → ⊥) × (answers_now ≡ given) → WalksTo index first (steps_of view all) (replies_in view number answers_now) new
-    stopped h =
-        subst (λ (z : State). WalksTo index first (steps_of view all) (replies_in view number answers_now) z) (sym h.0)
-        (subst (λ (l : List (kept_answer.Answer R O P)). WalksTo index first (steps_of view all) (replies_in view number l) x) (sym h.2)
-        (walks_to first (steps_of view all) index (replies_in view number given) x (step_of view step) (next_is view all index step is_next) w h.1))
-
-    -- the step's answer found no room
-    pub overflowed : (limit : Option ℕ) (answer : kept_answer.Answer R O P) → HasReplied view number (step_of view step) x new answer.0 × (answers_now ≡ given) × MayRefuse limit (length given) → WalksOver index (reply_in view number answer) limit first (steps_of view all) (replies_in view number answers_now) new
-    overflowed limit answer h =
+    -- which found no room
+    pub overflowed : (limit : Option ℕ) → MayRefuse limit (length given) → WalksOver index (reply_in view number answer) limit first (steps_of view all) (replies_in view number given) new
+    overflowed limit full =
         let done = take index (steps_of view all) in
         let one = reply_in view number answer in
         let before = replies_in view number given in
-        let went = called_went_on view number first done before x new (step_of view step) answer.0 h.0 w in
-        let whole = walks_all first (done ++ step_of view step ∷ []) (before ++ one ∷ []) new went in
+        let next = take_next view all index step is_next in
+        let whole = walks_all first (take (suc index) (steps_of view all)) (before ++ one ∷ []) new called_on in
         let r = whole.refusal in
         let told = after_steps first.setup r first.text (told_at first) done in
-        let calls = call_replies first.setup r first.text view number (step_of view step) told x new answer.0 h.0 (last_allowed first.setup r first.text (told_at first) done (step_of view step) whole.tells.allowed) in
-        let fits : before ≡ replies_of first.setup r first.text (told_at first) done =
-        same_front before (replies_of first.setup r first.text (told_at first) done) one calls.reply_is
-        (whole.tells.replies_are ∙ (answers_more first.setup r first.text (told_at first) done (step_of view step)
-        ∙ ap (λ (l : List Reply). replies_of first.setup r first.text (told_at first) done ++ l) calls.one)) in
-        let full = subst (MayRefuse limit) (sym (length-map given (reply_in view number))) h.2 in
-        subst (λ (l : List (kept_answer.Answer R O P)). WalksOver index one limit first (steps_of view all) (replies_in view number l) new) (sym h.1)
-        (walks_over first (steps_of view all) index one limit before new (done ++ step_of view step ∷ []) (take_next view all index step is_next) whole fits
-        (step_of view step, next_is view all index step is_next) full)
+        let allowed = subst (AllAllowed first.setup r first.text (told_at first)) next whole.tells.allowed in
+        let calls = call_replies first.setup r first.text view number (step_of view step) told x new answer.0 h (last_allowed first.setup r first.text (told_at first) done (step_of view step) allowed) in
+        record {
+          walks = whole;
+          before = same_front before (replies_of first.setup r first.text (told_at first) done) one calls.reply_is
+              (whole.tells.replies_are ∙ (ap (replies_of first.setup r first.text (told_at first)) next
+              ∙ (answers_more first.setup r first.text (told_at first) done (step_of view step)
+              ∙ ap (λ (l : List Reply). replies_of first.setup r first.text (told_at first) done ++ l) calls.one)));
+          inside = (step_of view step, next_is view all index step is_next);
+          full = subst (MayRefuse limit) (sym (length-map given (reply_in view number))) full;
+        }
 
 -- at the end all steps were taken
 pub went_all : {R O P : Type 0} (view : R → Text) (number : O → ℕ) (first : State) (all : List (code.Step R)) (index : ℕ) (given : List (kept_answer.Answer R O P)) (x : State) → length all ≤ index → Went first (take index (steps_of view all)) (replies_in view number given) x → Went first (steps_of view all) (replies_in view number given) x

@@ -2,4 +2,3 @@ pub mod Continuing
 pub mod Equality
 pub mod Replays
 pub mod Stepping
-pub mod inner

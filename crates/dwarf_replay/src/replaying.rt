@@ -3,44 +3,12 @@ ghost use Rattle.dwarf_meaning.specs.Bounds.{Spends};
 ghost use Rattle.dwarf_meaning.specs.Rest.{Start};
 ghost use Rattle.dwarf_replay.specs.Continuing.{Leaves, done_replies, done_steps, initial_items};
 ghost use Rattle.dwarf_replay.specs.Replays.{Replays};
-ghost use Rattle.dwarf_replay.specs.Stepping.{step_of};
-ghost use Rattle.dwarf_replay.specs.inner.Keeping.{TakesStep};
 
 use crate::stepping::take_step;
 use crate::steps::{Answer, Replayed, Step, Stepped};
 use dwarf_base::Reader;
 use dwarf_eval::eval::Evaluation;
 use dwarf_eval::store::{ArrayLike, EvaluationStorage};
-
-/// Why a replay ends before its last step.
-#[derive(Clone, Copy)]
-enum NotKept<R: Reader, O = <R as Reader>::Offset> {
-    // The step isn't allowed.
-    Misplaced,
-    // The step's answer found no room.
-    NoRoom(Answer<R, O>),
-}
-
-/// Does a step, if it is allowed, and keeps its answer.
-fn keep_step<R: Reader + Copy, S: EvaluationStorage<R>, L: ArrayLike<Item = Answer<R>>>(
-    eval: &mut Evaluation<R, S>,
-    step: Step<R>,
-    answers: &mut L,
-) -> Result<(), NotKept<R>>
-    ensures keeps { TakesStep R.text R.Offset.number
-        (step_of R.text step) (L.limit answers.old) eval.old
-        (L.items answers.old) eval.new (L.items answers.new) result }
-    ensures limit { L.limit answers.new ≡ L.limit answers.old }
-{
-    match take_step(eval, step) {
-        Stepped::Misplaced => Err(NotKept::Misplaced),
-        Stepped::Set => Ok(()),
-        Stepped::Answered(answer) => match answers.push(answer) {
-            Ok(()) => Ok(()),
-            Err(answer) => Err(NotKept::NoRoom(answer)),
-        },
-    }
-}
 
 /// Does the steps in order, and keeps what each `Evaluate` and each answer gives (DWARF 5, section 2.5).
 ///
@@ -66,10 +34,14 @@ pub fn replay<R: Reader + Copy, S: EvaluationStorage<R>, L: ArrayLike<Item = Ans
 {
     let mut index = 0;
     while index < steps.len() {
-        match keep_step(eval, steps[index], answers) {
-            Ok(()) => {}
-            Err(NotKept::Misplaced) => return Replayed::Misplaced(index),
-            Err(NotKept::NoRoom(answer)) => return Replayed::NoRoom { index, answer },
+        match take_step(eval, steps[index]) {
+            Stepped::Misplaced => return Replayed::Misplaced(index),
+            Stepped::Set => {}
+            Stepped::Answered(answer) => {
+                if let Err(answer) = answers.push(answer) {
+                    return Replayed::NoRoom { index, answer };
+                }
+            }
         }
         index += 1;
     }

@@ -1,14 +1,15 @@
-use Rattle.std.proofs.Common.{ℕ, suc, ◌≡◌, ◌+◌, List, [], ◌∷◌, ◌++◌, Err, length, take, arith, ◌∙◌, sym, refl, subst}
+use Rattle.std.proofs.Common.{ℕ, suc, ◌≡◌, ◌+◌, List, [], ◌∷◌, ◌++◌, length, take, arith, ap, ◌∙◌, sym, refl, subst}
 use Rattle.std.proofs.lemmas.Option.{slice_get_read}
 use Rattle.dwarf_replay.specs.Replays.{replies_in, reply_in, steps_of}
-use Rattle.dwarf_replay.specs.Stepping.{step_of}
-use Rattle.dwarf_replay.specs.inner.Keeping.{TakesStep}
-use Rattle.dwarf_replay.specs.declared.replaying.NotKept.{NotKept}
+use Rattle.dwarf_replay.specs.Stepping.{HasReplied, step_of}
+use Rattle.dwarf_replay.specs.declared.steps.Answer.{Answer}
+use Rattle.dwarf_eval.specs.Lists.{MayRefuse}
 use Rattle.dwarf_replay.proofs.Continuing.{leaves, spends}
-use Rattle.dwarf_replay.proofs.Leading.{walks_all}
+use Rattle.dwarf_replay.proofs.Leading.{walks_all, walks_to}
 use Rattle.dwarf_replay.proofs.Standings.{Went, went_at_first}
-use Rattle.dwarf_replay.proofs.Turns.{kept_on, stopped, overflowed, went_all, went_over, went_to}
+use Rattle.dwarf_replay.proofs.Turns.{called_on, kept_on, next_is, overflowed, set_on, went_all}
 use Rattle.dwarf_replay.proofs.replaying.replay.Goals as goal
+use Rattle.dwarf_replay.proofs.replaying.replay.Goals.{in-Set, in-Answered+in_default}
 
 pub loop-index-init : goal.loop-index-init
 loop-index-init g c =
@@ -21,37 +22,48 @@ pub loop-index-preserved : goal.loop-index-preserved
 loop-index-preserved g c =
     let view = g.R.Reader.text in
     let number = g.R.Offset.ReaderOffset.number in
-    let steps = c.args.steps.now in
-    let index = c.loop-index.index in
-    let inside = c.loop-index-test.true in
-    let next = slice_get_read steps (length steps) index c.index-steps-index.result refl inside c.index-steps-index.is in
-    let one : suc index ≡ index + 1 = omega arith in
-    let went = kept_on view number c.args.eval.now steps index c.index-steps-index.result next (g.L.ArrayLike.items c.loop-index.answers) (g.L.ArrayLike.items c.keep_step.new.answers) c.loop-index.eval c.keep_step.new.eval c.loop-index.invariant.0 c.in-Ok.ensures.keeps in
-    (subst (λ (n : ℕ). Went c.args.eval.now (take n (steps_of view steps)) (replies_in view number (g.L.ArrayLike.items c.keep_step.new.answers)) c.keep_step.new.eval) one went, omega (arith, inside), c.keep_step.ensures.limit ∙ c.loop-index.invariant.2)
-
-pub returns-in-Err-Misplaced : goal.returns-in-Err-Misplaced
-returns-in-Err-Misplaced g c =
-    let view = g.R.Reader.text in
-    let number = g.R.Offset.ReaderOffset.number in
     let first = c.args.eval.now in
     let steps = c.args.steps.now in
     let index = c.loop-index.index in
     let step = c.index-steps-index.result in
     let next = slice_get_read steps (length steps) index step refl c.loop-index-test.true c.index-steps-index.is in
-    let before = g.L.ArrayLike.items c.loop-index.answers in
-    let answers = g.L.ArrayLike.items c.keep_step.new.answers in
-    let new = c.keep_step.new.eval in
-    let keeps = subst (λ (s : NotKept _ _ _). TakesStep view number (step_of view step) (g.L.ArrayLike.limit c.loop-index.answers) c.loop-index.eval before new answers (Err s)) c.in-Err-Misplaced.field-0-is c.in-Err-Misplaced.ensures.keeps in
-    let went = went_to view number first steps index step next before answers c.loop-index.eval new c.loop-index.invariant.0 keeps in
+    let given = g.L.ArrayLike.items c.loop-index.answers in
+    let new = c.take_step.new.eval in
+    let one : suc index ≡ index + 1 = omega arith in
+    let goes_on : Went first (take (suc index) (steps_of view steps)) (replies_in view number (g.L.ArrayLike.items c.match-take_step.answers)) new =
+    elim c.match-take_step.branch [
+      | in-Set w ↦ set_on view number first steps index step next given c.loop-index.eval new c.loop-index.invariant.0 _ (ap g.L.ArrayLike.items w.answers-is) w.in-Set.ensures
+      | in-Answered+in_default w ↦ kept_on view number first steps index step next given c.loop-index.eval new c.loop-index.invariant.0 w.in-Answered.answer w.in-Answered.ensures _ (ap g.L.ArrayLike.items w.answers-is ∙ w.in_default.ensures.ok)
+    ] in
+    let limit : g.L.ArrayLike.limit c.match-take_step.answers ≡ g.L.ArrayLike.limit c.loop-index.answers =
+    elim c.match-take_step.branch [
+      | in-Set w ↦ ap g.L.ArrayLike.limit w.answers-is
+      | in-Answered+in_default w ↦ ap g.L.ArrayLike.limit w.answers-is ∙ w.push.ensures.limit
+    ] in
+    (subst (λ (n : ℕ). Went first (take n (steps_of view steps)) (replies_in view number (g.L.ArrayLike.items c.match-take_step.answers)) new) one goes_on, omega (arith, c.loop-index-test.true), limit ∙ c.loop-index.invariant.2)
+
+pub returns-in-Misplaced : goal.returns-in-Misplaced
+returns-in-Misplaced g c =
+    let view = g.R.Reader.text in
+    let first = c.args.eval.now in
+    let steps = c.args.steps.now in
+    let index = c.loop-index.index in
+    let step = c.index-steps-index.result in
+    let next = slice_get_read steps (length steps) index step refl c.loop-index-test.true c.index-steps-index.is in
+    let done = take index (steps_of view steps) in
+    let replies = replies_in view g.R.Offset.ReaderOffset.number (g.L.ArrayLike.items c.loop-index.answers) in
+    let new = c.take_step.new.eval in
+    let same : new ≡ c.loop-index.eval = c.in-Misplaced.ensures.0 in
+    let went = subst (Went first done replies) (sym same) c.loop-index.invariant.0 in
     record {
-      replays = stopped view number first steps index step next before answers c.loop-index.eval new c.loop-index.invariant.0 keeps;
-      spends = spends first (take index (steps_of view steps)) (replies_in view number answers) new went;
-      leaves = leaves first (take index (steps_of view steps)) (replies_in view number answers) new went;
-      limit = c.keep_step.ensures.limit ∙ c.loop-index.invariant.2;
+      replays = walks_to first (steps_of view steps) index replies new (step_of view step) (next_is view steps index step next) went (rw same c.in-Misplaced.ensures.1);
+      spends = spends first done replies new went;
+      leaves = leaves first done replies new went;
+      limit = c.loop-index.invariant.2;
     }
 
-pub returns-in-Err-NoRoom : goal.returns-in-Err-NoRoom
-returns-in-Err-NoRoom g c =
+pub returns-in-Err : goal.returns-in-Err
+returns-in-Err g c =
     let view = g.R.Reader.text in
     let number = g.R.Offset.ReaderOffset.number in
     let first = c.args.eval.now in
@@ -59,19 +71,22 @@ returns-in-Err-NoRoom g c =
     let index = c.loop-index.index in
     let step = c.index-steps-index.result in
     let next = slice_get_read steps (length steps) index step refl c.loop-index-test.true c.index-steps-index.is in
-    let before = g.L.ArrayLike.items c.loop-index.answers in
-    let answers = g.L.ArrayLike.items c.keep_step.new.answers in
-    let new = c.keep_step.new.eval in
+    let x = c.loop-index.eval in
+    let new = c.take_step.new.eval in
     let limit = g.L.ArrayLike.limit c.loop-index.answers in
-    let answer = c.in-Err-NoRoom.answer in
-    let keeps = subst (λ (s : NotKept _ _ _). TakesStep view number (step_of view step) limit c.loop-index.eval before new answers (Err s)) c.in-Err-NoRoom.field-0-is c.in-Err-NoRoom.ensures.keeps in
-    let went = went_over view number first steps index step next before answers c.loop-index.eval new c.loop-index.invariant.0 limit answer keeps in
-    let replies = replies_in view number answers ++ reply_in view number answer ∷ [] in
+    let kept = g.L.ArrayLike.items c.push.new.self in
+    let answer = c.in-Err.answer in
+    let was = subst (λ (l : List (Answer _ _ _)). Went first (take index (steps_of view steps)) (replies_in view number l) x) (sym c.in-Err.ensures.err) c.loop-index.invariant.0 in
+    let replied = subst (λ (a : Answer _ _ _). HasReplied view number (step_of view step) x new a.0) (sym c.in-Err.ensures.returned) c.in-Answered.ensures in
+    let full = subst (λ (l : List (Answer _ _ _)). MayRefuse limit (length l)) (sym c.in-Err.ensures.err) c.in-Err.ensures.full in
+    let went = called_on view number first steps index step next kept x new was answer replied in
+    let done = take (suc index) (steps_of view steps) in
+    let replies = replies_in view number kept ++ reply_in view number answer ∷ [] in
     record {
-      replays = rw (← c.loop-index.invariant.2) (overflowed view number first steps index step next before answers c.loop-index.eval new c.loop-index.invariant.0 limit answer keeps);
-      spends = spends first (take (suc index) (steps_of view steps)) replies new went;
-      leaves = leaves first (take (suc index) (steps_of view steps)) replies new went;
-      limit = c.keep_step.ensures.limit ∙ c.loop-index.invariant.2;
+      replays = rw (← c.loop-index.invariant.2) (overflowed view number first steps index step next kept x new was answer replied limit full);
+      spends = spends first done replies new went;
+      leaves = leaves first done replies new went;
+      limit = c.push.ensures.limit ∙ c.loop-index.invariant.2;
     }
 
 pub returns : goal.returns

@@ -10,7 +10,8 @@ use Rattle.dwarf_meaning.specs.Rest.{State, Status, Start, Running, RequestStatu
 use Rattle.dwarf_meaning.specs.Refusals.{Refusal, Never, MayPick, before_pushes}
 use Rattle.dwarf_meaning.proofs.Counts.{HasTally, OnStore, Tally, tally_of, tally-push_value}
 use Rattle.dwarf_meaning.specs.Bounds.{faults_in}
-use Rattle.dwarf_meaning.specs.Inputs.{IsFresh, Keeps, with_status}
+use Rattle.dwarf_meaning.specs.Inputs.{Keeps, with_status}
+use Rattle.dwarf_eval.specs.inner.Answers.{IsAtRestBy}
 use Rattle.dwarf_eval.specs.inner.Steps.{Total, total, Tries, Reaches, Falls, ComesBy, Comes, HasReply, is_running}
 use Rattle.dwarf_eval.proofs.Refusals.{before_more, may_before}
 use Rattle.dwarf_eval.proofs.Loads.{HasLast, HasPieces, Keeping, kept_in, value_adds, value_last, value_pieces}
@@ -88,13 +89,14 @@ runs_on (FaultStatus error) h = cc
 
 -- ---- the beginning
 
-pub begins_none : (x new : State) → x.status ≡ Start None → IsFresh x None → new ≡ with_status Running x → Comes x (total x) new
-begins_none x new starts is e =
+pub begins_none : (x new : State) → IsAtRestBy x (Start None) → new ≡ with_status Running x → Comes x (total x) new
+begins_none x new is e =
+    let starts : x.status ≡ Start None = ap (λ (z : State). z.status) is in
     let runs : new.status ≡ Running = ap (λ (z : State). z.status) e in
     subst (ComesBy x (total x) new) (sym runs) (record {
       pushes = 0;
       same = λ r inputs.
-          total_start r x inputs None starts is
+          total_start r x inputs None is
           ∙ sym (total_running r new inputs runs ∙ ap (λ (z : State). going z (with_refusal r z.store) inputs) e);
       kept = record { setup = ap (λ (z : State). z.setup) e; settings = ap (λ (z : State). z.store.settings) e };
       spends =
@@ -109,8 +111,9 @@ begins_none x new starts is e =
 pub value_tally : (setup : Setup) (value : Value) (old new : Store) → push_value setup value old ≡ Ok new → tally_of new ≡ tally_of old
 value_tally setup value old new e = subst (OnStore (HasTally (tally_of old))) e (tally-push_value setup value old)
 
-begins_pushed : (v : ℕ) (x new : State) (done : Bool) → x.status ≡ Start (Some v) → IsFresh x (Some v) → Tries 0 (push_value x.setup (Generic v)) (with_status Running x) new done → Comes x (total x) new
-begins_pushed v x new true starts is d =
+begins_pushed : (v : ℕ) (x new : State) (done : Bool) → IsAtRestBy x (Start (Some v)) → Tries 0 (push_value x.setup (Generic v)) (with_status Running x) new done → Comes x (total x) new
+begins_pushed v x new true is d =
+    let starts : x.status ≡ Start (Some v) = ap (λ (z : State). z.status) is in
     let still : new.status ≡ Running = ap (λ (z : State). z.status) d.alone in
     let s : Store = with_refusal (before_pushes d.steps.pushes Never) x.store in
     let tally = value_tally x.setup (Generic v) s (with_refusal Never new.store) (d.steps.same Never) in
@@ -120,7 +123,7 @@ begins_pushed v x new true starts is d =
     subst (ComesBy x (total x) new) (sym still) (record {
       pushes = d.steps.pushes;
       same = λ r inputs.
-          total_start (before_pushes d.steps.pushes r) x inputs (Some v) starts is
+          total_start (before_pushes d.steps.pushes r) x inputs (Some v) is
           ∙ (ap (started_total x inputs) (d.steps.same r)
           ∙ sym (total_running r new inputs still ∙ ap (λ (z : State). going z (with_refusal r new.store) inputs) d.alone
           ∙ ap (λ (n : ℕ). going (record x { store = record x.store { count = n } }) (with_refusal r new.store) inputs) count));
@@ -129,7 +132,8 @@ begins_pushed v x new true starts is d =
           (subst (OnStore (HasPieces s.pieces)) (d.steps.same Never) (value_pieces x.setup (Generic v) s));
       nears = nears_by x new (Start (Some v)) Running starts still (omega (arith, count));
     })
-begins_pushed v x new false starts is d =
+begins_pushed v x new false is d =
+    let starts : x.status ≡ Start (Some v) = ap (λ (z : State). z.status) is in
     let count = d.stays.count in
     let callers = d.stays.callers in
     let items = d.stays.items in
@@ -138,13 +142,13 @@ begins_pushed v x new false starts is d =
       refusal = d.gets.refusal;
       may = d.gets.may;
       same = λ inputs.
-          total_start d.gets.refusal x inputs (Some v) starts is
+          total_start d.gets.refusal x inputs (Some v) is
           ∙ (ap (started_total x inputs) d.gets.same
           ∙ (started_fails x inputs (fault_of d.error) ∙ ap (closed (FaultOutcome (fault_of d.error))) (sym d.stays.count)));
       kept = record { setup = d.stays.kept.setup; settings = d.stays.kept.settings };
       spends = fallen_spends x new d.error (ap faults_in starts) d.failed (omega (arith, callers)) (omega (arith, count)) (omega (arith, items)) (omega (arith, decodings, count)) d.stays.pieces (omega (arith, decodings, count)) (omega (arith, decodings, count));
     })
 
-pub begins_some : (v : ℕ) (x mid new : State) (done : Bool) → x.status ≡ Start (Some v) → IsFresh x (Some v) → mid ≡ with_status Running x → Tries 0 (push_value mid.setup (Generic v)) mid new done → Comes x (total x) new
-begins_some v x mid new done starts is e h =
-    begins_pushed v x new done starts is (subst (λ (z : State). Tries 0 (push_value z.setup (Generic v)) z new done) e h)
+pub begins_some : (v : ℕ) (x mid new : State) (done : Bool) → IsAtRestBy x (Start (Some v)) → mid ≡ with_status Running x → Tries 0 (push_value mid.setup (Generic v)) mid new done → Comes x (total x) new
+begins_some v x mid new done is e h =
+    begins_pushed v x new done is (subst (λ (z : State). Tries 0 (push_value z.setup (Generic v)) z new done) e h)

@@ -9,7 +9,7 @@ use Rattle.dwarf_meaning.specs.Run.{Position, Course, End, CompleteEnd, RequestE
 use Rattle.dwarf_meaning.specs.Meaning.{Outcome, RequestOutcome, FaultOutcome, CompleteOutcome, outcome_of_end, finish, with_initial, meaning}
 use Rattle.dwarf_meaning.specs.Rest.{State, Status, Start, Running, RequestStatus, CompleteStatus, with_refusal, Total, total_of_course, first_of, total_by, total}
 use Rattle.dwarf_meaning.specs.Refusals.{Refusal}
-use Rattle.dwarf_meaning.specs.Inputs.{IsFresh}
+use Rattle.dwarf_eval.specs.inner.Answers.{IsAtRestBy}
 
 abbrev pub closed : Outcome → ℕ → Total
 closed outcome n = record { outcome = outcome; count = n }
@@ -48,11 +48,11 @@ begun_started x inputs z place callers =
     ∙ ap (λ (fs : List Position). total_of_course x.store.count x.setup fs (after_push (run x.setup) (record { text = x.text; place = x.place }) (length fs) inputs z)) (sym callers)
 
 -- a fresh evaluation begins where it stands
-pub total_start : (r : Refusal) (x : State) (inputs : List Input) (initial_value : Option ℕ) → x.status ≡ Start initial_value → IsFresh x initial_value → total x r inputs ≡ started_total x inputs (with_initial x.setup initial_value (with_refusal r x.store))
-total_start r x inputs initial_value starts is =
-    total_by_status r x inputs (Start initial_value) starts
-    ∙ (ap (λ (s : Store). begun x inputs (with_initial x.setup initial_value (with_refusal r s))) (sym is.store)
-    ∙ begun_started x inputs (with_initial x.setup initial_value (with_refusal r x.store)) is.place is.callers)
+pub total_start : (r : Refusal) (x : State) (inputs : List Input) (initial_value : Option ℕ) → IsAtRestBy x (Start initial_value) → total x r inputs ≡ started_total x inputs (with_initial x.setup initial_value (with_refusal r x.store))
+total_start r x inputs initial_value is =
+    total_by_status r x inputs (Start initial_value) (ap (λ (z : State). z.status) is)
+    ∙ (ap (λ (s : Store). begun x inputs (with_initial x.setup initial_value (with_refusal r s))) (sym (ap (λ (z : State). z.store) is))
+    ∙ begun_started x inputs (with_initial x.setup initial_value (with_refusal r x.store)) (ap (λ (z : State). z.place) is) (ap (λ (z : State). z.callers) is))
 
 -- at the start the outcome is the meaning
 pub total_meaning : (r : Refusal) (x : State) (inputs : List Input) (initial_value : Option ℕ) → x.status ≡ Start initial_value → (total x r inputs).outcome ≡ meaning x.setup r x.text (first_of x initial_value) inputs

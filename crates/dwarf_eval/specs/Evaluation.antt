@@ -1,5 +1,5 @@
 -- What a call of an evaluation replies: the nested meaning, and what is left of it.
-pub use Rattle.dwarf_meaning.specs.Inputs.{input_of, Keeps, with_status, IsFresh, with_object, with_maximum}
+pub use Rattle.dwarf_meaning.specs.Inputs.{fresh_state, input_of, Keeps, with_status, with_object, with_maximum}
 use Rattle.std.specs.Prelude.{ℕ, ◌≡◌, List, [], Option, Some, None, Result, Ok, Err}
 use Rattle.std.specs.Option.{option_map_or}
 use Rattle.dwarf_base.specs.declared.errors.Error.{Error}

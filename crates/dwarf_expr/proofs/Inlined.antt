@@ -10,7 +10,9 @@ use Rattle.dwarf_meaning.specs.Meaning.{Outcome, FaultOutcome, First, meaning}
 use Rattle.dwarf_meaning.specs.Rest.{State, FaultStatus}
 use Rattle.dwarf_meaning.proofs.Outcomes.{outcome_from}
 use Rattle.dwarf_meaning.specs.Steps.{Step, Evaluate, Resume, Told, Reply, outcome_of, AllAllowed, after_steps}
-use Rattle.dwarf_meaning.specs.Rows.{no_limits, unset}
+use Rattle.dwarf_meaning.specs.Inputs.{fresh_state}
+use Rattle.dwarf_meaning.specs.Run.{most}
+use Rattle.dwarf_meaning.specs.Rows.{no_limits, plain, unset}
 use Rattle.dwarf_meaning.specs.Refusals.{Never}
 use Rattle.dwarf_laws.specs.Rows.{IsWorked}
 use Rattle.dwarf_laws.specs.TwoRuns.{NoneIsFull}
@@ -18,7 +20,6 @@ use Rattle.dwarf_laws.specs.Inlining as inlining
 use Rattle.dwarf_laws.specs.Inlining.{CallSite, outer, called, inlined, in_force, with_answer, LeadsToCall, completions, requests}
 use Rattle.dwarf_laws.proofs.Inlined.{answered, inlines}
 use Rattle.dwarf_replay.specs.Replays.{told_at, StandsAt, Walks}
-use Rattle.dwarf_expr.specs.Twins.{fresh_at}
 use Rattle.dwarf_expr.specs.Inlined.{MayInline, StatesEndAlike, in_request, in_completion, InlinedReplay}
 use Rattle.dwarf_expr.proofs.Telling.{tells, tells_more, added, tells_inputs, tells_first, told_is, told_before, told_comes, unrefused}
 use Rattle.dwarf_expr.proofs.Twins.{asking_of, stopped_of, did}
@@ -167,7 +168,8 @@ inlined_replays x y new other site offset start beyond replies given h k n sound
 -- ---- the premises, of fresh evaluations
 
 pub may_inline : (site : CallSite) (inputs : List Input) (beyond : List Request) (outcome : Outcome) → IsWorked site [] inputs [] beyond outcome
-    → MayInline (fresh_at (outer site)) (fresh_at (inlined site)) site (UnitRef 5) (Evaluate ∷ [])
+    → MayInline (fresh_state plain (outer site)) (fresh_state plain (inlined site)) site (UnitRef 5) (Evaluate ∷ [])
+unfolding most
 may_inline site inputs beyond outcome h =
     record {
       unlimited = h.unlimited;

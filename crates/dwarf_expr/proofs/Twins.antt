@@ -11,6 +11,8 @@ use Rattle.dwarf_meaning.specs.Requests.{Request, OnAnswer}
 use Rattle.dwarf_meaning.specs.Stores.{Setup, address_bits}
 use Rattle.dwarf_meaning.specs.Run.{Position}
 use Rattle.dwarf_meaning.specs.Meaning.{Outcome}
+use Rattle.dwarf_meaning.specs.Inputs.{fresh_state}
+use Rattle.dwarf_meaning.specs.Rows.{plain}
 use Rattle.dwarf_meaning.specs.Rest.{State, Status, Start, Running, RequestStatus, CompleteStatus, FaultStatus}
 use Rattle.dwarf_meaning.specs.Steps.{Step, Told, Reply, outcome_of, Allows, AllAllowed, step_replies, after_step, after_steps, replies_of}
 use Rattle.dwarf_meaning.specs.Refusals.{Limits, Refusal, Never, After, HasFreeList, MayPick}
@@ -20,7 +22,7 @@ use Rattle.dwarf_laws.specs.TwoRuns.{NoneIsFull, AreAlike}
 use Rattle.dwarf_laws.proofs.Pairs.{Pairwise, none, more, zipped, pairs, same_length, get_both}
 use Rattle.dwarf_laws.proofs.Evaluations.{two_runs}
 use Rattle.dwarf_replay.specs.Replays.{told_at, IsInRequest, IsInFault, StandsAt, Walks, WalksTo}
-use Rattle.dwarf_expr.specs.Twins.{fresh_at, MayReplay, AreComparableReplays, open_texts, StatesStandAlike, unstarted, in_request, in_fault, in_completion, IsFront, FindsNoRoom, TwoReplays}
+use Rattle.dwarf_expr.specs.Twins.{MayReplay, AreComparableReplays, open_texts, StatesStandAlike, unstarted, in_request, in_fault, in_completion, IsFront, FindsNoRoom, TwoReplays}
 
 -- ---- fronts of lists
 
@@ -450,7 +452,7 @@ two_replays x y new other steps others refusal another replies given h c =
 -- ---- the premises, of fresh evaluations
 
 pub may_replay : (text : Text) (steps others : List Step) → AllZip (AgreeingSteps 32) steps others
-    → MayReplay (fresh_at text) (fresh_at text) steps others
+    → MayReplay (fresh_state plain text) (fresh_state plain text) steps others
 may_replay text steps others h =
     record {
       width = record { some_bit = omega arith; within_64 = omega arith };

@@ -1,38 +1,25 @@
 -- Two evaluations of one text, each replayed by its own steps: bits above an address change nothing that matters
 -- (DWARF 5, section 2.5.1).
-use Rattle.std.specs.Prelude.{ℕ, ◌<◌, ◌≤◌, ◌≡◌, ◌⊎◌, List, [], ◌∷◌, ◌++◌, Option, None}
+use Rattle.std.specs.Prelude.{ℕ, ◌<◌, ◌≤◌, ◌≡◌, ◌⊎◌, List, [], ◌∷◌, ◌++◌, Option}
 use Rattle.std.specs.List.{AllZip}
 use Rattle.dwarf_base.specs.declared.errors.Error.{Error}
 use Rattle.dwarf_base.specs.Faults.{fault_of}
-use Rattle.dwarf_base.specs.Reads.{Text}
 use Rattle.dwarf_value.specs.declared.types.Value.{Value}
 use Rattle.dwarf_value.specs.Values.{Agree}
 use Rattle.dwarf_value.specs.Laws.{IsWidth}
 use Rattle.dwarf_meaning.specs.Requests.{Request, OnAnswer}
 use Rattle.dwarf_meaning.specs.Stores.{address_bits}
 use Rattle.dwarf_meaning.specs.Run.{Position}
-use Rattle.dwarf_meaning.specs.Meaning.{fresh}
-use Rattle.dwarf_meaning.specs.Rows.{text, plain, unset}
+use Rattle.dwarf_meaning.specs.Inputs.{fresh_state}
+use Rattle.dwarf_meaning.specs.Rows.{text, plain}
 use Rattle.dwarf_meaning.specs.Rest.{State, Start, RequestStatus, CompleteStatus, FaultStatus}
 use Rattle.dwarf_meaning.specs.Steps.{Step, Reply}
-use Rattle.dwarf_meaning.specs.Refusals.{Refusal, Never, HasFreeList}
+use Rattle.dwarf_meaning.specs.Refusals.{Refusal, HasFreeList}
 use Rattle.dwarf_laws.specs.Agreement.{Both, AgreeingNumbers, AgreeingSteps, AgreeingSettings, AgreeingPieces}
 use Rattle.dwarf_laws.specs.TwoRuns.{NoneIsFull}
 use Rattle.dwarf_replay.specs.Replays.{Walks, WalksTo, WalksOver}
 
 -- ---- the premises
-
--- an evaluation of a text, with nothing set and nothing done, for addresses of 4 bytes and without limits
-abbrev pub fresh_at : Text → State
-fresh_at text = record {
-  status = Start None;
-  setup = plain;
-  text = text;
-  place = 0;
-  callers = [];
-  store = fresh unset Never;
-  decodings = 0;
-}
 
 -- one text and one encoding, the same maximum, and object addresses that agree
 pub record AreTwins (x y : State) : Type 0 where
@@ -131,5 +118,5 @@ TwoReplays =
 pub record MeetRefusal (refusal : Refusal) (bytes : List ℕ) (steps others : List Step)
     (replied : List Reply) : Type 0 where
   pub agree : AllZip (AgreeingSteps 32) steps others
-  pub one : (new : State) × DoesAll refusal (fresh_at (text bytes)) steps replied new
-  pub another : (new : State) × DoesAll refusal (fresh_at (text bytes)) others replied new
+  pub one : (new : State) × DoesAll refusal (fresh_state plain (text bytes)) steps replied new
+  pub another : (new : State) × DoesAll refusal (fresh_state plain (text bytes)) others replied new

@@ -7,14 +7,16 @@ ghost use Rattle.dwarf_meaning.specs.Operations.{UnitRef};
 ghost use Rattle.dwarf_meaning.specs.declared.kinds.WaitingKind.TheVariants as kind;
 ghost use Rattle.dwarf_meaning.specs.Requests.{Request, RequiresCallFrameCfa, NumberAnswer, Input};
 ghost use Rattle.dwarf_meaning.specs.Refusals.{After};
+ghost use Rattle.dwarf_meaning.specs.Inputs.{fresh_state};
 ghost use Rattle.dwarf_meaning.specs.Meaning.{Outcome};
+ghost use Rattle.dwarf_meaning.specs.Rows.{plain};
 ghost use Rattle.dwarf_meaning.specs.Steps.{Step, Evaluate, RequestReply, FaultReply};
 ghost use Rattle.std.specs.List.{AllZip};
 ghost use Rattle.dwarf_laws.specs.Agreement.{AgreeingSteps};
 ghost use Rattle.dwarf_laws.specs.Inlining.{CallSite, outer, inlined};
 ghost use Rattle.dwarf_laws.specs.Rows.{IsWorked, started_steps};
 ghost use Rattle.dwarf_expr.specs.Inlined.{MayInline, InlinedReplay};
-ghost use Rattle.dwarf_expr.specs.Twins.{fresh_at, MayReplay, TwoReplays, MeetRefusal};
+ghost use Rattle.dwarf_expr.specs.Twins.{MayReplay, TwoReplays, MeetRefusal};
 
 pub use dwarf_laws::{
     bound_rows, called_rows, high_bits, inlining, premises_of_high_bits, premises_of_inlining,
@@ -32,7 +34,7 @@ pub fn two_replays()
     ensures alike { TwoReplays }
     ensures met { (text : Text) (steps others : List Step)
         → AllZip (AgreeingSteps 32) steps others
-        → MayReplay (fresh_at text) (fresh_at text) steps others }
+        → MayReplay (fresh_state plain text) (fresh_state plain text) steps others }
     ensures refused { MeetRefusal (After 1 0) (0x9c ∷ [])
         (started_steps (NumberAnswer kind.CallFrameCfa 0x10 ∷ []))
         (started_steps (NumberAnswer kind.CallFrameCfa 0x100000010 ∷ []))
@@ -47,6 +49,6 @@ pub fn inlined_replay()
     ensures ends { InlinedReplay }
     ensures met { (site : CallSite) (later : List Input) (after : List Request) (outcome : Outcome)
         → IsWorked site [] later [] after outcome
-        → MayInline (fresh_at (outer site)) (fresh_at (inlined site)) site (UnitRef 5)
-        (Evaluate ∷ []) }
+        → MayInline (fresh_state plain (outer site)) (fresh_state plain (inlined site)) site
+        (UnitRef 5) (Evaluate ∷ []) }
 {}

@@ -2,8 +2,11 @@ ghost use Rattle.std.specs.Prelude.{◌≡◌, ◌<◌, [], ◌∷◌, None, Som
 ghost use Rattle.dwarf_value.specs.declared.types.Value.TheVariants.{Generic};
 ghost use Rattle.dwarf_meaning.specs.Locations.{AtAddress, InRegister};
 ghost use Rattle.dwarf_meaning.specs.Bounds.{DecodesOnce, IsUnspent, Spends, calls_left};
+ghost use Rattle.dwarf_base.specs.Reads.{Text};
+ghost use Rattle.dwarf_meaning.specs.Inputs.{fresh_state};
 ghost use Rattle.dwarf_meaning.specs.Refusals.{After, MayPick};
 ghost use Rattle.dwarf_meaning.specs.Rest.{Start};
+ghost use Rattle.dwarf_meaning.specs.Stores.{Setup};
 ghost use Rattle.dwarf_meaning.specs.RunLaws.{CountsWithin, ListsWithin, turns_left};
 ghost use Rattle.dwarf_meaning.specs.DecodeLaws.{AreBytes};
 ghost use Rattle.dwarf_meaning.specs.Rows.{no_limits, open_at, plain};
@@ -49,7 +52,7 @@ pub fn bound_rows()
         (spent 1 1 [] (open_at [] 0 ∷ open_at [] 0 ∷ []) []) → ⊥ }
     ensures two_decodings { Spends 0 (spent 0 1 [] [] []) (spent 1 3 [] [] []) }
     ensures three_decodings { Spends 0 (spent 0 1 [] [] []) (spent 1 4 [] [] []) → ⊥ }
-    ensures unspent { IsUnspent (spent 0 0 [] [] []) }
+    ensures unspent { (setup : Setup) (text : Text) → IsUnspent (fresh_state setup text) }
     ensures initial_value_is_due { IsUnspent
         (record (spent 0 0 [] [] []) { status = Start (Some 1) }) → ⊥ }
     ensures all_calls { calls_left (spent 0 0 [] [] []) ≡ 4294967296 }

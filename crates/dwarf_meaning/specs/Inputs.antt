@@ -1,9 +1,24 @@
--- The inputs of a state, and its settings.
-use Rattle.std.specs.Prelude.{ℕ, ◌≡◌, [], Option}
+-- A fresh evaluation, the inputs of a state, and its settings.
+use Rattle.std.specs.Prelude.{ℕ, ◌≡◌, [], Option, None}
+use Rattle.dwarf_base.specs.Reads.{Text}
 use Rattle.dwarf_meaning.specs.Requests.{Answer, Settings, Input}
+use Rattle.dwarf_meaning.specs.Stores.{Setup}
 use Rattle.dwarf_meaning.specs.Refusals.{Never}
 use Rattle.dwarf_meaning.specs.Meaning.{fresh}
-use Rattle.dwarf_meaning.specs.Rest.{State, Status, first_of}
+use Rattle.dwarf_meaning.specs.Rest.{State, Status, Start}
+use Rattle.dwarf_meaning.specs.Steps.{untold}
+
+-- an evaluation of a text, with nothing set and nothing done
+abbrev pub fresh_state : Setup → Text → State
+fresh_state setup text = record {
+  status = Start None;
+  setup = setup;
+  text = text;
+  place = 0;
+  callers = [];
+  store = fresh untold.now Never;
+  decodings = 0;
+}
 
 -- an answer, with the settings as they stand
 abbrev pub input_of : State → Answer → Input
@@ -17,12 +32,6 @@ pub record Keeps (old new : State) : Type 0 where
 -- the same state, but for the status
 abbrev pub with_status : Status → State → State
 with_status status x = record x { status = status }
-
--- nothing is done yet
-pub record IsFresh (x : State) (initial_value : Option ℕ) : Type 0 where
-  pub place : x.place ≡ 0
-  pub callers : x.callers ≡ []
-  pub store : x.store ≡ fresh (first_of x initial_value) Never
 
 -- the same state, with these settings in force
 abbrev pub with_settings : Settings → State → State

@@ -9,7 +9,7 @@ use Rattle.dwarf_base.specs.declared.byte_order.RunTimeEndian.{RunTimeEndian}
 use Rattle.dwarf_base.specs.Faults.{Fault}
 use Rattle.dwarf_base.specs.Reads.{Text}
 use Rattle.dwarf_meaning.specs.Requests.{Request}
-use Rattle.dwarf_meaning.specs.Run.{Position, most}
+use Rattle.dwarf_meaning.specs.Run.{Position}
 use Rattle.dwarf_meaning.specs.Meaning.{Outcome, RequestOutcome, FaultOutcome, CompleteOutcome}
 use Rattle.dwarf_meaning.specs.Rest.{State, Status, Start, Running, RequestStatus, CompleteStatus, FaultStatus}
 use Rattle.dwarf_meaning.specs.Stores.{Setup}
@@ -158,16 +158,6 @@ text_by bytes order = record { bytes = bytes; is_big = is_big_of order }
 pub text_as : (bytes bytes' : List ℕ) (order order' : RunTimeEndian) → bytes ≡ bytes' → order ≡ order'
     → text_by bytes order ≡ text_by bytes' order'
 text_as bytes bytes' order order' e f = ap₂ text_by e f
-
-abbrev pub told_by : Option ℕ → ℕ → Told
-told_by object_address maximum = record {
-  now = record { initial_value = None; settings = record { object_address = object_address; maximum = maximum } };
-  first = None;
-  inputs = [];
-}
-
-pub told_as : (x : State) → x.store.settings.object_address ≡ None → x.store.settings.maximum ≡ most → told_at x ≡ untold
-told_as x e f = ap₂ told_by e f
 
 -- ---- what lines say
 

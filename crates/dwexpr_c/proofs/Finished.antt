@@ -1,15 +1,11 @@
 -- What is shown at the end, from where the evaluation stands.
-use Rattle.std.proofs.Common.{ℕ, ◌≡◌, ◌∙◌, inl, inr, List, [], Option, Some, None, length, refl, sym, ap, subst}
-use Rattle.dwarf_base.specs.declared.common.Encoding.{Encoding}
-use Rattle.dwarf_base.specs.Reads.{Text}
+use Rattle.std.proofs.Common.{ℕ, ◌≡◌, inl, inr, List, Option, Some, None, length, refl, sym, subst}
 use Rattle.dwarf_meaning.specs.Locations.{Piece}
 use Rattle.dwarf_meaning.specs.Meaning.{Outcome, RequestOutcome, FaultOutcome, CompleteOutcome}
 use Rattle.dwarf_meaning.specs.Requests.{Request}
 use Rattle.dwarf_meaning.specs.Rest.{State, Status, Start, Running, RequestStatus, CompleteStatus, FaultStatus}
-use Rattle.dwarf_meaning.specs.Stores.{Setup}
-use Rattle.dwarf_meaning.specs.Run.{most}
-use Rattle.dwarf_replay.specs.Replays.{StandsAt, IsInRequest, told_at}
-use Rattle.dwexpr_c.specs.Evaluated.{EvaluatesGiven, Beginning, ShowsOutcome, beginning, comes_of, limited_setup, told_by}
+use Rattle.dwarf_replay.specs.Replays.{StandsAt, IsInRequest}
+use Rattle.dwexpr_c.specs.Evaluated.{EvaluatesGiven, Beginning, ShowsOutcome, comes_of, told_by}
 use Rattle.dwexpr_c.specs.Outcomes.{ShowsRequest, blank_outcome}
 use Rattle.dwexpr_c.specs.Held.{HasTaken}
 use Rattle.dwexpr_c.specs.inner.Runs.{IsGiven, ShowsStatus, given_at}
@@ -73,11 +69,3 @@ module _ (texts : List DwexprText) (numbers : List DwexprStep) (first new : Stat
   -- the steps were all done
   pub all_done : FinishesAt new.store.pieces new.status progress → EvaluatesGiven given numbers after old places
   all_done f = finished (comes_of given ran.steps) refl ran.stands f
-
--- a fresh evaluation
-pub given_is : (first : State) (texts : List DwexprText) (encoding : Encoding) (text : Text) → first.setup ≡ limited_setup encoding → first.text ≡ text → first.store.settings.object_address ≡ None → first.store.settings.maximum ≡ most → given_at first texts ≡ beginning encoding text texts
-given_is first texts encoding text s t o m =
-    ap (λ (z : Setup). record { setup = z; text = first.text; told = told_at first; texts = texts }) s
-    ∙ (ap (λ (z : Text). record { setup = limited_setup encoding; text = z; told = told_at first; texts = texts }) t
-    ∙ (ap (λ (z : Option ℕ). record { setup = limited_setup encoding; text = text; told = record { now = record { initial_value = None; settings = record { object_address = z; maximum = first.store.settings.maximum } }; first = None; inputs = [] }; texts = texts }) o
-    ∙ ap (λ (z : ℕ). record { setup = limited_setup encoding; text = text; told = record { now = record { initial_value = None; settings = record { object_address = None; maximum = z } }; first = None; inputs = [] }; texts = texts }) m))

@@ -2,7 +2,7 @@
 use Rattle.std.specs.Prelude.{◌≡◌, Result, Ok, Err}
 use Rattle.dwarf_base.specs.declared.errors.Error.{Error}
 use Rattle.dwarf_base.specs.Reads.{Text}
-use Rattle.dwarf_meaning.specs.Inputs.{IsFresh}
+use Rattle.dwarf_meaning.specs.Inputs.{fresh_state, with_settings, with_status}
 use Rattle.dwarf_meaning.specs.declared.kinds.WaitingKind.{WaitingKind}
 use Rattle.dwarf_meaning.specs.Requests as requests
 use Rattle.dwarf_meaning.specs.Rest as rest
@@ -24,9 +24,10 @@ abbrev pub IsWaiting : rest.Status → Type 0
 IsWaiting (RequestStatus request on_answer) = Unit {0}
 IsWaiting _ = ⊥
 
--- by the status: an evaluation at the start is fresh, and none runs
+-- by the status: at the start it is fresh but for what was set, and it doesn't run
 abbrev pub IsAtRestBy : rest.State → rest.Status → Type 0
-IsAtRestBy x (Start initial_value) = IsFresh x initial_value
+IsAtRestBy x (Start initial_value) =
+    x ≡ with_status (Start initial_value) (with_settings x.store.settings (fresh_state x.setup x.text))
 IsAtRestBy x Running = ⊥
 IsAtRestBy x _ = Unit {0}
 

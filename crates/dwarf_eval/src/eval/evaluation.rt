@@ -3,11 +3,10 @@ ghost use Rattle.dwarf_meaning.specs.declared.kinds.WaitingKind.TheVariants as k
 ghost use Rattle.dwarf_meaning.specs.Kinds.{kind_of_answer};
 ghost use Rattle.dwarf_meaning.specs.Requests as requests;
 ghost use Rattle.dwarf_meaning.specs.Rest.{Start};
-ghost use Rattle.dwarf_meaning.specs.Run.{most};
 ghost use Rattle.dwarf_eval.specs.Permits.{Admits, AnswersWith, IsOpenFor, Permits, Shows};
 ghost use Rattle.dwarf_eval.specs.inner.Answers.{answer_of};
-ghost use Rattle.dwarf_meaning.specs.Bounds.{IsUnspent, calls_left};
-ghost use Rattle.dwarf_eval.specs.Evaluation.{Evaluates, HasResult, IsClosed, IsComplete, Resumes, with_maximum, with_object, input_of, with_status};
+ghost use Rattle.dwarf_meaning.specs.Bounds.{calls_left};
+ghost use Rattle.dwarf_eval.specs.Evaluation.{Evaluates, HasResult, IsClosed, IsComplete, Resumes, fresh_state, with_maximum, with_object, input_of, with_status};
 ghost use Rattle.dwarf_meaning.specs.Stores.{setup_of};
 ghost use Rattle.dwarf_op.specs.Views.{piece_of};
 
@@ -60,14 +59,8 @@ impl<R: Reader + Copy, S: EvaluationStorage<R>> Evaluation<R, S> {
         requires stack { S.Stack.items stack ≡ [] }
         requires expression_stack { S.ExpressionStack.items expression_stack ≡ [] }
         requires pieces { S.Result.items pieces ≡ [] }
-        ensures status { result.status ≡ Start None }
-        ensures setup { result.setup
-            ≡ setup_of encoding R.Offset.BITS (S.Stack.limit stack)
-            (S.ExpressionStack.limit expression_stack) (S.Result.limit pieces) }
-        ensures text { result.text ≡ R.text bytecode }
-        ensures object_address { result.store.settings.object_address ≡ None }
-        ensures maximum { result.store.settings.maximum ≡ most }
-        ensures unspent { IsUnspent result }
+        ensures { result ≡ fresh_state (setup_of encoding R.Offset.BITS (S.Stack.limit stack)
+            (S.ExpressionStack.limit expression_stack) (S.Result.limit pieces)) (R.text bytecode) }
     {
         Evaluation {
             machine: Machine::new_in(bytecode, encoding, stack, expression_stack, pieces),
@@ -82,14 +75,9 @@ impl<R: Reader + Copy, S: EvaluationStorage<R>> Evaluation<R, S> {
     pub fn restart(&mut self, bytecode: R, encoding: Encoding)
         requires some { 0 < encoding.address_size }
         requires fits { encoding.address_size ≤ 8 }
-        ensures status { self.new.status ≡ Start None }
-        ensures setup { self.new.setup
-            ≡ setup_of encoding R.Offset.BITS self.old.setup.limits.values
-            self.old.setup.limits.callers self.old.setup.limits.pieces }
-        ensures text { self.new.text ≡ R.text bytecode }
-        ensures object_address { self.new.store.settings.object_address ≡ None }
-        ensures maximum { self.new.store.settings.maximum ≡ most }
-        ensures unspent { IsUnspent self.new }
+        ensures { self.new ≡ fresh_state (setup_of encoding R.Offset.BITS
+            self.old.setup.limits.values self.old.setup.limits.callers
+            self.old.setup.limits.pieces) (R.text bytecode) }
     {
         self.machine.restart(bytecode, encoding);
     }

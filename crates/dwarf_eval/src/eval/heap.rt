@@ -1,8 +1,5 @@
 ghost use Rattle.std.specs.Prelude.{◌≡◌, ◌<◌, ◌≤◌, None, map};
-ghost use Rattle.dwarf_meaning.specs.Rest.{Start};
-ghost use Rattle.dwarf_meaning.specs.Run.{most};
-ghost use Rattle.dwarf_meaning.specs.Bounds.{IsUnspent};
-ghost use Rattle.dwarf_eval.specs.Evaluation.{IsComplete};
+ghost use Rattle.dwarf_eval.specs.Evaluation.{IsComplete, fresh_state};
 ghost use Rattle.dwarf_meaning.specs.Stores.{setup_of};
 ghost use Rattle.dwarf_op.specs.Views.{piece_of};
 
@@ -23,12 +20,8 @@ impl<R: Reader + Copy> Expression<R> {
     ) -> Evaluation<R, StoreOnHeap<A>>
         requires some { 0 < encoding.address_size }
         requires fits { encoding.address_size ≤ 8 }
-        ensures status { result.status ≡ Start None }
-        ensures setup { result.setup ≡ setup_of encoding R.Offset.BITS None None None }
-        ensures text { result.text ≡ R.text self.0 }
-        ensures object_address { result.store.settings.object_address ≡ None }
-        ensures maximum { result.store.settings.maximum ≡ most }
-        ensures unspent { IsUnspent result }
+        ensures { result ≡ fresh_state (setup_of encoding R.Offset.BITS None None None)
+            (R.text self.0) }
     {
         Evaluation::new(alloc, self.0, encoding)
     }
@@ -41,12 +34,8 @@ impl<R: Reader + Copy, A: Allocator + Copy> Evaluation<R, StoreOnHeap<A>> {
     pub fn new(alloc: A, bytecode: R, encoding: Encoding) -> Self
         requires some { 0 < encoding.address_size }
         requires fits { encoding.address_size ≤ 8 }
-        ensures status { result.status ≡ Start None }
-        ensures setup { result.setup ≡ setup_of encoding R.Offset.BITS None None None }
-        ensures text { result.text ≡ R.text bytecode }
-        ensures object_address { result.store.settings.object_address ≡ None }
-        ensures maximum { result.store.settings.maximum ≡ most }
-        ensures unspent { IsUnspent result }
+        ensures { result ≡ fresh_state (setup_of encoding R.Offset.BITS None None None)
+            (R.text bytecode) }
     {
         Evaluation::new_in(
             bytecode,

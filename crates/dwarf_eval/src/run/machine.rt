@@ -7,11 +7,10 @@ ghost use Rattle.dwarf_meaning.specs.Decoding.{operation_at};
 ghost use Rattle.dwarf_meaning.specs.Meaning.{has_pieces};
 ghost use Rattle.dwarf_meaning.specs.Requests as requests;
 ghost use Rattle.dwarf_meaning.specs.Rest.{Start, Running, RequestStatus, CompleteStatus, FaultStatus};
-ghost use Rattle.dwarf_meaning.specs.Run.{most, read};
+ghost use Rattle.dwarf_meaning.specs.Run.{read};
 ghost use Rattle.dwarf_meaning.specs.Stores.{Called, Located, Pieced, Plain, Pushed, address_bits, push_value, push_piece, setup_of};
 ghost use Rattle.dwarf_op.specs.Views.{operation_of, location_of, piece_of};
-ghost use Rattle.dwarf_meaning.specs.Bounds.{IsUnspent};
-ghost use Rattle.dwarf_meaning.specs.Inputs.{IsFresh, with_maximum, with_object, with_status};
+ghost use Rattle.dwarf_meaning.specs.Inputs.{fresh_state, with_maximum, with_object, with_status};
 ghost use Rattle.dwarf_eval.specs.Evaluation.{request_in};
 ghost use Rattle.dwarf_eval.specs.inner.Machine.{last_of, on_answer_of, replied_status, status_of};
 ghost use Rattle.dwarf_eval.specs.inner.Steps.{CountsOne, GoesBack, Jumps, Pops, PopsGeneric, PopsGenerics, ReadsOperation, Tries, TriesToEnter, at, is_free, is_running, read_to, with_last};
@@ -543,15 +542,9 @@ impl<R: Reader + Copy, S: EvaluationStorage<R>> Machine<R, S> {
     pub(crate) fn restart(&mut self, bytecode: R, encoding: Encoding)
         requires some { 0 < encoding.address_size }
         requires fits { encoding.address_size ≤ 8 }
-        ensures status { self.new.status ≡ Start None }
-        ensures setup { self.new.setup
-            ≡ setup_of encoding R.Offset.BITS self.old.setup.limits.values
-            self.old.setup.limits.callers self.old.setup.limits.pieces }
-        ensures text { self.new.text ≡ R.text bytecode }
-        ensures object_address { self.new.store.settings.object_address ≡ None }
-        ensures maximum { self.new.store.settings.maximum ≡ most }
-        ensures fresh { IsFresh self.new None }
-        ensures unspent { IsUnspent self.new }
+        ensures { self.new ≡ fresh_state (setup_of encoding R.Offset.BITS
+            self.old.setup.limits.values self.old.setup.limits.callers
+            self.old.setup.limits.pieces) (R.text bytecode) }
     {
         clear(&mut self.stack);
         clear(&mut self.expression_stack);
@@ -581,15 +574,8 @@ impl<R: Reader + Copy, S: EvaluationStorage<R>> Machine<R, S> {
         requires stack { S.Stack.items stack ≡ [] }
         requires expression_stack { S.ExpressionStack.items expression_stack ≡ [] }
         requires pieces { S.Result.items pieces ≡ [] }
-        ensures status { result.status ≡ Start None }
-        ensures setup { result.setup
-            ≡ setup_of encoding R.Offset.BITS (S.Stack.limit stack)
-            (S.ExpressionStack.limit expression_stack) (S.Result.limit pieces) }
-        ensures text { result.text ≡ R.text bytecode }
-        ensures object_address { result.store.settings.object_address ≡ None }
-        ensures maximum { result.store.settings.maximum ≡ most }
-        ensures fresh { IsFresh result None }
-        ensures unspent { IsUnspent result }
+        ensures { result ≡ fresh_state (setup_of encoding R.Offset.BITS (S.Stack.limit stack)
+            (S.ExpressionStack.limit expression_stack) (S.Result.limit pieces)) (R.text bytecode) }
     {
         Machine {
             state: EvaluationState::Start(None),

@@ -2,7 +2,7 @@ ghost use Rattle.std.specs.Prelude.{◌≡◌, ◌<◌, length, false};
 ghost use Rattle.dwarf_base.specs.Reads.{IsLeftOf};
 ghost use Rattle.dwarf_meaning.specs.Operations as meant;
 ghost use Rattle.dwarf_meaning.specs.Meaning.{whole as meant_whole, finish, finish_value};
-ghost use Rattle.dwarf_meaning.specs.Inputs.{IsFresh};
+ghost use Rattle.dwarf_eval.specs.inner.Answers.{IsAtRestBy};
 ghost use Rattle.dwarf_meaning.specs.Rest.{Running, Start};
 ghost use Rattle.dwarf_meaning.specs.RunLaws.{waits_of};
 ghost use Rattle.dwarf_meaning.specs.Stores.{Located, address_bits};
@@ -259,8 +259,7 @@ impl<R: Reader + Copy, S: EvaluationStorage<R>> Machine<R, S> {
 
     /// Begins the run.
     fn begin(&mut self, initial_value: Option<u64>)
-        requires starts { self.old.status ≡ Start initial_value }
-        requires fresh { IsFresh self.old initial_value }
+        requires { IsAtRestBy self.old (Start initial_value) }
         ensures { Comes self.old (total self.old) self.new }
     {
         self.set_running();
@@ -271,8 +270,7 @@ impl<R: Reader + Copy, S: EvaluationStorage<R>> Machine<R, S> {
 
     /// Begins the run, and runs on to a request, to the end, or to a fault, which it keeps.
     pub(crate) fn start(&mut self, initial_value: Option<u64>)
-        requires starts { self.old.status ≡ Start initial_value }
-        requires fresh { IsFresh self.old initial_value }
+        requires { IsAtRestBy self.old (Start initial_value) }
         ensures comes { Comes self.old (total self.old) self.new }
         ensures replies { HasReply self.new.status }
     {

@@ -1,10 +1,11 @@
-use Rattle.std.proofs.Common.{sym, ◌∙◌, subst}
+use Rattle.std.proofs.Common.{ap, sym, ◌∙◌, subst}
 use Rattle.dwarf_base.specs.EndianSlice.{slice_text}
-use Rattle.dwarf_replay.specs.Replays.{replies_in, steps_of}
+use Rattle.dwarf_replay.specs.Replays.{replies_in, steps_of, told_at}
+use Rattle.dwarf_meaning.specs.Rest.{State}
 use Rattle.dwarf_meaning.specs.Steps.{untold}
 use Rattle.dwexpr.specs.Evaluates.{EvaluatesSteps, after_replies, unlimited_setup}
 use Rattle.dwexpr.specs.inner.Replayed.{ending_of}
-use Rattle.dwexpr.proofs.RunLemmas.{evaluates_as, evaluates_to, has_line, text_as, text_by, told_as}
+use Rattle.dwexpr.proofs.RunLemmas.{evaluates_as, evaluates_to, has_line, text_as, text_by}
 use Rattle.dwexpr.proofs.program.evaluate.Goals as goal
 
 pub print_replay-printed-requires : goal.print_replay-printed-requires
@@ -18,8 +19,8 @@ returns g c =
       subst
           (λ z. EvaluatesSteps (unlimited_setup c.args.reading.encoding) (text_by c.args.bytes.now c.args.reading.order) untold (steps_of slice_text c.args.steps.now) (after_replies (replies_in slice_text (λ x. x) z) ended))
           (sym c.as_slice.ensures.value)
-          (evaluates_as _ _ _ _ _ _ _ _ fresh.setup (fresh.text ∙ text_as _ _ _ _ c.new-text.ensures.bytes c.new-text.ensures.order)
-          (told_as c.new-evaluation.result fresh.object_address fresh.maximum)
+          (evaluates_as _ _ _ _ _ _ _ _ (ap (λ (x : State). x.setup) fresh)
+          (ap (λ (x : State). x.text) fresh ∙ text_as _ _ _ _ c.new-text.ensures.bytes c.new-text.ensures.order) (ap told_at fresh)
           (evaluates_to slice_text (λ x. x) _ _ _ _ _ _ c.replay-replayed.ensures.replays)),
       c.print_replay-printed.ensures,
     )

@@ -20,4 +20,4 @@ pub start-requires : goal.start-requires
 start-requires g c =
     let x : State = c.self.inside.machine in
     let starts : x.status ≡ Start c.in-Start.initial_value = sym c.state.ensures.1 ∙ ap (λ s. status_of g.R.Reader.text g.R.Offset.ReaderOffset.number s c.state.ensures.0) c.in-Start.is in
-    record { starts = starts; fresh = subst (IsAtRestBy x) starts c.self.invariant }
+    subst (IsAtRestBy x) starts c.self.invariant

@@ -8,73 +8,45 @@ use Rattle.dwarf_value.specs.declared.types.Value.{Value}
 use Rattle.dwarf_value.specs.declared.types.Value.TheVariants.{Generic}
 use Rattle.dwarf_value.specs.Values.{to_u64_of}
 use Rattle.dwarf_meaning.specs.Operations as operation
-use Rattle.dwarf_meaning.specs.Locations.{Empty, AtAddress, HoldsValue, Piece, sized}
+use Rattle.dwarf_meaning.specs.Locations.{Empty, AtAddress, HoldsValue, sized}
 use Rattle.dwarf_meaning.specs.Requests.{RequiresMemory, RequiresTls, Push}
 use Rattle.dwarf_meaning.specs.Acts.{Act, Pushes, Branches, Locates, EndsPiece, RequestAct, FaultAct, on_top, short, push, act}
 use Rattle.dwarf_meaning.proofs.Choices.{top_none, top_some, some_none, some_some}
 
 module _ (bits : ℕ) (object : Option ℕ) (values : List Value) where
-  -- an operation that pops at least one value, and finds none
-  pub none_drop : values ≡ [] → act bits object operation.Drop values ≡ FaultAct NotEnoughStackItems
+  pub drops : (values ≡ [] → act bits object operation.Drop values ≡ short) × ((x : Value) (rest : List Value) → values ≡ x ∷ rest → act bits object operation.Drop values ≡ Pushes rest [])
   unfolding act
-  none_drop e = top_none values _ _ e
+  drops = (top_none values short _, top_some values short (λ x rest. Pushes rest []))
 
-  pub some_drop : (x : Value) (rest : List Value) → values ≡ x ∷ rest → act bits object operation.Drop values ≡ Pushes rest []
+  pub picks : (index : ℕ) → (slice_get values index ≡ None → act bits object (operation.Pick index) values ≡ short) × ((x : Value) → slice_get values index ≡ Some x → act bits object (operation.Pick index) values ≡ push values x)
   unfolding act
-  some_drop x rest e = top_some values short (λ x rest. Pushes rest []) x rest e
+  picks index = (some_none (slice_get values index) short (push values), some_some (slice_get values index) short (push values))
 
-  pub none_pick : (index : ℕ) → slice_get values index ≡ None → act bits object (operation.Pick index) values ≡ FaultAct NotEnoughStackItems
+  -- without values, with one, and with two
+  pub swaps : (values ≡ [] → act bits object operation.Swap values ≡ short) × ((y : Value) → values ≡ y ∷ [] → act bits object operation.Swap values ≡ short)
+      × ((y x : Value) (rest : List Value) → values ≡ y ∷ x ∷ rest → act bits object operation.Swap values ≡ Pushes rest (y ∷ x ∷ []))
   unfolding act
-  none_pick index e = some_none (slice_get values index) short (push values) e
+  swaps = (ap (act bits object operation.Swap), λ y. ap (act bits object operation.Swap), λ y x rest. ap (act bits object operation.Swap))
 
-  pub some_pick : (index : ℕ) (x : Value) → slice_get values index ≡ Some x → act bits object (operation.Pick index) values ≡ push values x
+  -- and with three
+  pub rotates : (values ≡ [] → act bits object operation.Rot values ≡ short) × ((z : Value) → values ≡ z ∷ [] → act bits object operation.Rot values ≡ short)
+      × ((z y : Value) → values ≡ z ∷ y ∷ [] → act bits object operation.Rot values ≡ short)
+      × ((z y x : Value) (rest : List Value) → values ≡ z ∷ y ∷ x ∷ rest → act bits object operation.Rot values ≡ Pushes rest (z ∷ x ∷ y ∷ []))
   unfolding act
-  some_pick index x e = some_some (slice_get values index) short (push values) x e
-
-  pub none_swap : values ≡ [] → act bits object operation.Swap values ≡ FaultAct NotEnoughStackItems
-  unfolding act
-  none_swap e = ap (act bits object operation.Swap) e
-
-  pub one_swap : (y : Value) → values ≡ y ∷ [] → act bits object operation.Swap values ≡ FaultAct NotEnoughStackItems
-  unfolding act
-  one_swap y e = ap (act bits object operation.Swap) e
-
-  pub two_swap : (y x : Value) (rest : List Value) → values ≡ y ∷ x ∷ rest → act bits object operation.Swap values ≡ Pushes rest (y ∷ x ∷ [])
-  unfolding act
-  two_swap y x rest e = ap (act bits object operation.Swap) e
+  rotates = (ap (act bits object operation.Rot), λ z. ap (act bits object operation.Rot), λ z y. ap (act bits object operation.Rot), λ z y x rest. ap (act bits object operation.Rot))
 
   pub signed_constant : (value : ℤ) (number : ℕ) → number ≡ residue 64 value → act bits object (operation.SignedConstant value) values ≡ push values (Generic number)
   unfolding act
   signed_constant value number e = ap (λ (n : ℕ). push values (Generic n)) (sym e)
 
-  pub none_rot : values ≡ [] → act bits object operation.Rot values ≡ FaultAct NotEnoughStackItems
+  pub pushes_object : (object ≡ None → act bits object operation.PushObjectAddress values ≡ FaultAct InvalidPushObjectAddress) × ((address : ℕ) → object ≡ Some address → act bits object operation.PushObjectAddress values ≡ push values (Generic address))
   unfolding act
-  none_rot e = ap (act bits object operation.Rot) e
-
-  pub one_rot : (z : Value) → values ≡ z ∷ [] → act bits object operation.Rot values ≡ FaultAct NotEnoughStackItems
-  unfolding act
-  one_rot z e = ap (act bits object operation.Rot) e
-
-  pub two_rot : (z y : Value) → values ≡ z ∷ y ∷ [] → act bits object operation.Rot values ≡ FaultAct NotEnoughStackItems
-  unfolding act
-  two_rot z y e = ap (act bits object operation.Rot) e
-
-  pub three_rot : (z y x : Value) (rest : List Value) → values ≡ z ∷ y ∷ x ∷ rest → act bits object operation.Rot values ≡ Pushes rest (z ∷ x ∷ y ∷ [])
-  unfolding act
-  three_rot z y x rest e = ap (act bits object operation.Rot) e
-
-  pub none_object : object ≡ None → act bits object operation.PushObjectAddress values ≡ FaultAct InvalidPushObjectAddress
-  unfolding act
-  none_object e = some_none object (FaultAct InvalidPushObjectAddress) (λ address. push values (Generic address)) e
-
-  pub some_object : (address : ℕ) → object ≡ Some address → act bits object operation.PushObjectAddress values ≡ push values (Generic address)
-  unfolding act
-  some_object address e = some_some object (FaultAct InvalidPushObjectAddress) (λ address. push values (Generic address)) address e
+  pushes_object = (some_none object (FaultAct InvalidPushObjectAddress) _, some_some object (FaultAct InvalidPushObjectAddress) (λ address. push values (Generic address)))
 
   abbrev branches : ℤ → Value → List Value → Act
   branches target x rest = cond (to_u64_of bits x == 0) (Pushes rest []) (Branches rest target)
 
-  pub none_bra : (target : ℤ) → values ≡ [] → act bits object (operation.Bra target) values ≡ FaultAct NotEnoughStackItems
+  pub none_bra : (target : ℤ) → values ≡ [] → act bits object (operation.Bra target) values ≡ short
   unfolding act
   none_bra target e = top_none values short (branches target) e
 
@@ -86,36 +58,18 @@ module _ (bits : ℕ) (object : Option ℕ) (values : List Value) where
   unfolding act
   some_bra target x rest e f = top_some values short (branches target) x rest e ∙ cond-false (to_u64_of bits x == 0) (Pushes rest []) (Branches rest target) f
 
-  pub none_stack_value : values ≡ [] → act bits object operation.StackValue values ≡ FaultAct NotEnoughStackItems
+  pub locates_value : (values ≡ [] → act bits object operation.StackValue values ≡ short) × ((x : Value) (rest : List Value) → values ≡ x ∷ rest → act bits object operation.StackValue values ≡ Locates rest (HoldsValue x))
   unfolding act
-  none_stack_value e = top_none values short (λ x rest. Locates rest (HoldsValue x)) e
+  locates_value = (top_none values short _, top_some values short (λ x rest. Locates rest (HoldsValue x)))
 
-  pub some_stack_value : (x : Value) (rest : List Value) → values ≡ x ∷ rest → act bits object operation.StackValue values ≡ Locates rest (HoldsValue x)
+  pub asks_tls : (values ≡ [] → act bits object operation.TLS values ≡ short) × ((x : Value) (rest : List Value) → values ≡ x ∷ rest → act bits object operation.TLS values ≡ RequestAct rest (RequiresTls (to_u64_of bits x)) Push)
   unfolding act
-  some_stack_value x rest e = top_some values short (λ x rest. Locates rest (HoldsValue x)) x rest e
+  asks_tls = (top_none values short _, top_some values short (λ x rest. RequestAct rest (RequiresTls (to_u64_of bits x)) Push))
 
-  pub none_tls : values ≡ [] → act bits object operation.TLS values ≡ FaultAct NotEnoughStackItems
+  pub ends_piece : (size : ℕ) (offset : Option ℕ) → (values ≡ [] → act bits object (operation.Piece size offset) values ≡ EndsPiece [] (sized size offset Empty))
+      × ((x : Value) (rest : List Value) → values ≡ x ∷ rest → act bits object (operation.Piece size offset) values ≡ EndsPiece rest (sized size offset (AtAddress (to_u64_of bits x))))
   unfolding act
-  none_tls e = top_none values short (λ x rest. RequestAct rest (RequiresTls (to_u64_of bits x)) Push) e
-
-  pub some_tls : (x : Value) (rest : List Value) → values ≡ x ∷ rest → act bits object operation.TLS values ≡ RequestAct rest (RequiresTls (to_u64_of bits x)) Push
-  unfolding act
-  some_tls x rest e = top_some values short (λ x rest. RequestAct rest (RequiresTls (to_u64_of bits x)) Push) x rest e
-
-  module _ (size : ℕ) (offset : Option ℕ) where
-    abbrev piece_nowhere : Piece
-    piece_nowhere = sized size offset Empty
-
-    abbrev piece_at : ℕ → Piece
-    piece_at address = sized size offset (AtAddress address)
-
-    pub none_piece : values ≡ [] → act bits object (operation.Piece size offset) values ≡ EndsPiece [] piece_nowhere
-    unfolding act
-    none_piece e = top_none values (EndsPiece [] piece_nowhere) (λ x rest. EndsPiece rest (piece_at (to_u64_of bits x))) e
-
-    pub some_piece : (x : Value) (rest : List Value) → values ≡ x ∷ rest → act bits object (operation.Piece size offset) values ≡ EndsPiece rest (piece_at (to_u64_of bits x))
-    unfolding act
-    some_piece x rest e = top_some values (EndsPiece [] piece_nowhere) (λ x rest. EndsPiece rest (piece_at (to_u64_of bits x))) x rest e
+  ends_piece size offset = (top_none values (EndsPiece [] (sized size offset Empty)) _, top_some values (EndsPiece [] (sized size offset Empty)) (λ x rest. EndsPiece rest (sized size offset (AtAddress (to_u64_of bits x)))))
 
   module _ (base_type size : ℕ) where
     abbrev reads : Value → List Value → Act

@@ -13,7 +13,7 @@ use Rattle.dwarf_meaning.specs.Kinds.{kind_of_request}
 use Rattle.dwarf_meaning.specs.declared.kinds.WaitingKind.{WaitingKind}
 use Rattle.dwarf_meaning.specs.Requests.{Request, OnAnswer, Add, Parse, Convert, Reinterpret, ValueAnswer, NumberAnswer, LocationAnswer, BaseTypeAnswer}
 use Rattle.dwarf_meaning.specs.Acts.{Use, PushesAnswer, Calls, FaultUse, on_top, on_result, use_of}
-use Rattle.dwarf_meaning.specs.Rest.{Status, Start, Running, RequestStatus, CompleteStatus, FaultStatus}
+use Rattle.dwarf_meaning.specs.Rest.{Status, RequestStatus}
 use Rattle.dwarf_meaning.proofs.Choices.{answer_ok, answer_err, fault_of_twice, top_none, top_some}
 use Rattle.dwarf_eval.specs.Permits.{IsOpenFor}
 use Rattle.dwarf_eval.specs.inner.Answers.{IsWaiting}
@@ -31,10 +31,7 @@ pub record IsOpen (status : Status) : Type 0 where
 
 pub open_in : (status : Status) → IsWaiting status → IsOpen status
 open_in (RequestStatus request on_answer) h = record { request = request; on_answer = on_answer; is = refl }
-open_in (Start initial_value) h = absurd h
-open_in (CompleteStatus value) h = absurd h
-open_in (FaultStatus error) h = absurd h
-open_in Running h = absurd h
+open_in _ h = absurd h
 
 -- a request of this kind is open, to do this with its answer
 pub record IsOpenTo (kind : WaitingKind) (on_answer : OnAnswer) (status : Status) : Type 0 where
@@ -61,10 +58,7 @@ module _ (bits : ℕ) (values : List Value) where
       → (use_of bits (on_answer_of text on_answer) (ValueAnswer kind v) values ≡ PushesAnswer values v) × (use_of bits (on_answer_of text on_answer) (NumberAnswer kind n) values ≡ PushesAnswer values (Generic n))
   unfolding use_of
   plain text kind v n (on.Add offset) other = absurd (other offset refl)
-  plain text kind v n on.Push other = (refl, refl)
-  plain text kind v n (on.Parse literal) other = (refl, refl)
-  plain text kind v n on.Convert other = (refl, refl)
-  plain text kind v n on.Reinterpret other = (refl, refl)
+  plain text kind v n _ other = (refl, refl)
 
   pub location_calls : (on_answer : OnAnswer) (text : Text) → use_of bits on_answer (LocationAnswer text) values ≡ Calls text
   unfolding use_of
@@ -98,52 +92,34 @@ module _ (bits : ℕ) (values : List Value) where
       literal_is literal t
       ∙ (answer_err (parse_of t literal.is_big literal.bytes) FaultUse (PushesAnswer values) (fault_of error) e ∙ ap FaultUse (fault_of_twice error))
 
-  -- the top becomes a value of the type
-  abbrev turned : (ℕ → ValueType → Value → Result Value Error) → ValueType → Use
-  turned call t = on_top values (FaultUse NotEnoughStackItems) (λ x rest. on_result (call bits t x) FaultUse (PushesAnswer rest))
+  -- the top becomes a value of the type, by this call
+  module _ (call : ℕ → ValueType → Value → Result Value Error) (t : ValueType) where
+    abbrev made : Value → List Value → Use
+    made x rest = on_result (call bits t x) FaultUse (PushesAnswer rest)
 
-  turned_none : (call : ℕ → ValueType → Value → Result Value Error) (t : ValueType) → values ≡ [] → turned call t ≡ FaultUse NotEnoughStackItems
-  turned_none call t e = top_none values (FaultUse NotEnoughStackItems) (λ x rest. on_result (call bits t x) FaultUse (PushesAnswer rest)) e
+    abbrev pub turned : Use
+    turned = on_top values (FaultUse NotEnoughStackItems) made
 
-  turned_ok : (call : ℕ → ValueType → Value → Result Value Error) (t : ValueType) (x : Value) (rest : List Value) (v : Value) → values ≡ x ∷ rest → call bits t x ≡ Ok v → turned call t ≡ PushesAnswer rest v
-  turned_ok call t x rest v e f =
-      top_some values (FaultUse NotEnoughStackItems) (λ x rest. on_result (call bits t x) FaultUse (PushesAnswer rest)) x rest e
-      ∙ answer_ok (call bits t x) FaultUse (PushesAnswer rest) v f
+    pub turned_none : values ≡ [] → turned ≡ FaultUse NotEnoughStackItems
+    turned_none e = top_none values (FaultUse NotEnoughStackItems) made e
 
-  turned_err : (call : ℕ → ValueType → Value → Result Value Error) (t : ValueType) (x : Value) (rest : List Value) (error : Error) → values ≡ x ∷ rest → call bits t x ≡ Err error → turned call t ≡ FaultUse (fault_of error)
-  turned_err call t x rest error e f =
-      top_some values (FaultUse NotEnoughStackItems) (λ x rest. on_result (call bits t x) FaultUse (PushesAnswer rest)) x rest e
-      ∙ answer_err (call bits t x) FaultUse (PushesAnswer rest) error f
+    pub turned_ok : (x : Value) (rest : List Value) (v : Value) → values ≡ x ∷ rest → call bits t x ≡ Ok v → turned ≡ PushesAnswer rest v
+    turned_ok x rest v e f = top_some values (FaultUse NotEnoughStackItems) made x rest e ∙ answer_ok (call bits t x) FaultUse (PushesAnswer rest) v f
 
-  pub convert_none : (t : ValueType) → values ≡ [] → use_of bits Convert (BaseTypeAnswer t) values ≡ FaultUse NotEnoughStackItems
+    pub turned_err : (x : Value) (rest : List Value) (error : Error) → values ≡ x ∷ rest → call bits t x ≡ Err error → turned ≡ FaultUse (fault_of error)
+    turned_err x rest error e f = top_some values (FaultUse NotEnoughStackItems) made x rest e ∙ answer_err (call bits t x) FaultUse (PushesAnswer rest) error f
+
+  pub converts : (t : ValueType) → use_of bits Convert (BaseTypeAnswer t) values ≡ turned convert_of t
   unfolding use_of
-  convert_none t e = turned_none convert_of t e
+  converts t = refl
 
-  pub convert_gives : (t : ValueType) (x : Value) (rest : List Value) (v : Value) → values ≡ x ∷ rest → convert_of bits t x ≡ Ok v → use_of bits Convert (BaseTypeAnswer t) values ≡ PushesAnswer rest v
+  pub reinterprets : (t : ValueType) → use_of bits Reinterpret (BaseTypeAnswer t) values ≡ turned reinterpret_of t
   unfolding use_of
-  convert_gives t x rest v e f = turned_ok convert_of t x rest v e f
-
-  pub convert_denies : (t : ValueType) (x : Value) (rest : List Value) (error : Error) → values ≡ x ∷ rest → convert_of bits t x ≡ Err error → use_of bits Convert (BaseTypeAnswer t) values ≡ FaultUse (fault_of error)
-  unfolding use_of
-  convert_denies t x rest error e f = turned_err convert_of t x rest error e f
-
-  pub reinterpret_none : (t : ValueType) → values ≡ [] → use_of bits Reinterpret (BaseTypeAnswer t) values ≡ FaultUse NotEnoughStackItems
-  unfolding use_of
-  reinterpret_none t e = turned_none reinterpret_of t e
-
-  pub reinterpret_gives : (t : ValueType) (x : Value) (rest : List Value) (v : Value) → values ≡ x ∷ rest → reinterpret_of bits t x ≡ Ok v → use_of bits Reinterpret (BaseTypeAnswer t) values ≡ PushesAnswer rest v
-  unfolding use_of
-  reinterpret_gives t x rest v e f = turned_ok reinterpret_of t x rest v e f
-
-  pub reinterpret_denies : (t : ValueType) (x : Value) (rest : List Value) (error : Error) → values ≡ x ∷ rest → reinterpret_of bits t x ≡ Err error → use_of bits Reinterpret (BaseTypeAnswer t) values ≡ FaultUse (fault_of error)
-  unfolding use_of
-  reinterpret_denies t x rest error e f = turned_err reinterpret_of t x rest error e f
+  reinterprets t = refl
 
   -- what isn't parsed or converted is reinterpreted
   pub reinterpret_is : {R : Type 0} (text : R → Text) (t : ValueType) (on_answer : code.OnAnswer R) → ((literal : R) → on_answer ≡ on.Parse literal → ⊥) → (on_answer ≡ on.Convert → ⊥) → use_of bits (on_answer_of text on_answer) (BaseTypeAnswer t) values ≡ use_of bits Reinterpret (BaseTypeAnswer t) values
   unfolding use_of
   reinterpret_is text t (on.Parse literal) not_parsed not_converted = absurd (not_parsed literal refl)
   reinterpret_is text t on.Convert not_parsed not_converted = absurd (not_converted refl)
-  reinterpret_is text t on.Push not_parsed not_converted = refl
-  reinterpret_is text t (on.Add offset) not_parsed not_converted = refl
-  reinterpret_is text t on.Reinterpret not_parsed not_converted = refl
+  reinterpret_is text t _ not_parsed not_converted = refl

@@ -1,17 +1,19 @@
--- Operations that compute: what they pop, and what they push.
-use Rattle.std.proofs.Common.{ℕ, ◌≡◌, List, [], ◌∷◌, Result, Ok, Err, Some, arith, ap, ◌∙◌, sym, refl, subst}
+-- Computations: what they pop and push.
+use Rattle.std.proofs.Common.{ℕ, ◌≡◌, List, [], ◌∷◌, Result, Ok, Err, Some, arith, ap, ◌∙◌, sym, refl, subst, None}
 use Rattle.dwarf_base.specs.declared.errors.Error.{Error}
 use Rattle.dwarf_base.specs.Faults.{fault_of}
 use Rattle.dwarf_base.specs.declared.errors.Error.TheVariants.{NotEnoughStackItems}
 use Rattle.dwarf_value.specs.declared.types.Value.{Value}
-use Rattle.dwarf_meaning.specs.Acts.{FaultAct, on_top, on_result, short, push, unary, binary}
+use Rattle.dwarf_meaning.specs.Acts.{FaultAct, on_top, on_result, short, push, unary, binary, act}
 use Rattle.dwarf_meaning.specs.Stores.{Plain, address_bits, push_value}
 use Rattle.dwarf_meaning.specs.Rest.{State, Running, FaultStatus}
 use Rattle.dwarf_meaning.proofs.Choices.{top_none, top_some, answer_ok, answer_err}
-use Rattle.dwarf_eval.specs.inner.Steps.{Pops, Tried, Performs, with_values}
+use Rattle.dwarf_eval.specs.inner.Steps.{Pops, Tried, Performs, with_values, act_of}
 use Rattle.dwarf_meaning.specs.Inputs.{with_status}
 use Rattle.dwarf_eval.proofs.Performances.{performs_as, performs_push, performs_refuses, PopsTwo, fewer_two, stays_two}
 use Rattle.dwarf_eval.proofs.Staying.{fewer_one, stays_popped}
+use Rattle.dwarf_value.specs.Values.{from_u64_of, type_of, binary_of, Plus}
+use Rattle.dwarf_meaning.specs.Operations as operation
 
 -- ---- the acts
 
@@ -82,3 +84,22 @@ module _ (F : ℕ → Value → Value → Result Value Error) (old mid : State) 
 -- the same from a state that is the old one
 pub same_binary : (F : ℕ → Value → Value → Result Value Error) (old mid new : State) → mid ≡ old → Performs (binary (F (address_bits mid.setup)) mid.store.values) mid new → Performs (binary (F (address_bits old.setup)) old.store.values) old new
 same_binary F old mid new e h = subst (λ (z : State). Performs (binary (F (address_bits z.setup)) z.store.values) z new) e h
+
+module _ (constant : ℕ) (old : State) where
+  -- the call that is made
+  abbrev call : ℕ → Value → Result Value Error
+  call bits x = binary_of Plus bits x (from_u64_of (type_of x) constant)
+
+  act_is : act_of old (operation.PlusConstant constant) ≡ unary (call (address_bits old.setup)) old.store.values
+  unfolding act
+  act_is = refl
+
+  pub constant_none : (mid new : State) → Pops None old mid → new ≡ with_status (FaultStatus NotEnoughStackItems) mid → Performs (act_of old (operation.PlusConstant constant)) old new
+  constant_none mid new pops is = performs_refuses _ NotEnoughStackItems old mid new (act_is ∙ unary_none (call (address_bits old.setup)) old.store.values pops.0) (stays_popped None old mid pops) is
+
+  module _ (mid : State) (x : Value) (pops : Pops (Some x) old mid) where
+    pub constant_pushes : (new : State) (sum : Value) → old.status ≡ Running → Ok sum ≡ call (address_bits mid.setup) x → Tried 0 (λ s. push_value mid.setup sum (record s { last = Plain })) mid new → Performs (act_of old (operation.PlusConstant constant)) old new
+    constant_pushes new sum runs e h = performs_as _ _ old new act_is (unary_pushes call old mid x (address_bits mid.setup) pops refl new sum runs e h)
+
+    pub constant_refuses : (error : Error) (new : State) → Err error ≡ call (address_bits mid.setup) x → new ≡ with_status (FaultStatus error) mid → Performs (act_of old (operation.PlusConstant constant)) old new
+    constant_refuses error new e is = performs_as _ _ old new act_is (unary_refuses call old mid x (address_bits mid.setup) pops refl error new e is)

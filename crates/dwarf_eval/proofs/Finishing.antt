@@ -1,7 +1,8 @@
 -- The end of a run.
-use Rattle.std.proofs.Common.{ℕ, suc, ◌≡◌, ◌+◌, ◌≤◌, ◌==◌, true, false, List, [], length, Option, Some, None, arith, ap, ◌∙◌, sym, refl, subst, cond}
+use Rattle.std.proofs.Common.{ℕ, suc, ◌≡◌, ◌+◌, ◌≤◌, ◌==◌, true, false, List, [], ◌∷◌, length, Option, Some, None, arith, ap, ◌∙◌, sym, refl, subst, cond}
 use Rattle.std.proofs.lemmas.Bool.{cond-true, cond-false}
 use Rattle.std.proofs.lemmas.Bool.Decides.{nat_tests}
+use Rattle.std.proofs.lemmas.List.{length-append}
 use Rattle.dwarf_base.specs.declared.errors.Error.{Error}
 use Rattle.dwarf_base.specs.declared.errors.Error.TheVariants as error
 use Rattle.dwarf_base.specs.Faults.{fault_of}
@@ -14,22 +15,19 @@ use Rattle.dwarf_meaning.specs.RunLaws.{waits_of}
 use Rattle.dwarf_meaning.specs.Stores.{Setup, address_bits, Store, Last, Nothing, Plain, Pieced, Pushed, Called, Located, push_piece}
 use Rattle.dwarf_meaning.specs.Run.{Position, CompleteEnd, only_end, turn_by, run}
 use Rattle.dwarf_meaning.specs.Meaning.{Outcome, FaultOutcome, CompleteOutcome, completion_of, has_pieces, whole, finish_value, finish_by, finish}
-use Rattle.dwarf_meaning.specs.Rest.{State, Status, Start, Running, RequestStatus, CompleteStatus, FaultStatus, with_refusal, total_of_course}
+use Rattle.dwarf_meaning.specs.Rest.{State, Status, Running, CompleteStatus, FaultStatus, with_refusal, total_of_course}
 use Rattle.dwarf_meaning.specs.Refusals.{Refusal, Never, before_pushes}
 use Rattle.dwarf_meaning.proofs.Choices.{top_none, top_some}
-use Rattle.dwarf_meaning.proofs.Counts.{HasTally, OnStore, Tally, tally_of, tally-push_piece}
 use Rattle.dwarf_meaning.proofs.Turns.{run_turn}
-use Rattle.dwarf_meaning.specs.Bounds.{endings, faults_in}
-use Rattle.dwarf_meaning.specs.Inputs.{Keeps, with_status}
+use Rattle.dwarf_meaning.specs.Bounds.{endings}
+use Rattle.dwarf_meaning.specs.Inputs.{with_status}
 use Rattle.dwarf_eval.specs.inner.Steps.{Does, Refused, Stays, Pops, total, ComesBy, GoesBack, ClosesBy, Closes, is_free, Turns, with_store, with_values}
 use Rattle.dwarf_eval.proofs.Reaching.{may_along}
-use Rattle.dwarf_eval.proofs.Endings.{EndsAlike, finish_alike}
-use Rattle.dwarf_eval.proofs.Loads.{Extended, piece_extends}
-use Rattle.dwarf_eval.proofs.Nearing.{nears_by}
-use Rattle.dwarf_eval.proofs.Spending.{back_spends, fallen_spends, over_spends}
+use Rattle.dwarf_eval.proofs.Loads.{EndsAlike, finish_alike, piece_stored}
+use Rattle.dwarf_eval.proofs.Spending.{nears_by, back_spends, over_spends}
 use Rattle.dwarf_eval.proofs.Staying.{fewer_one, keeps_more, stays_here, stays_low, stays_more, stays_popped, stays_then}
 use Rattle.dwarf_eval.proofs.Totals.{closed, going, total_running, total_complete, course_ended}
-use Rattle.dwarf_eval.proofs.Turning.{effort_running, less_stopped, falls_turns}
+use Rattle.dwarf_eval.proofs.Turning.{effort_running, less_stopped, falls_from, reads_none}
 
 -- if both are alike, one closes as the other
 module _ (f g : Store → Outcome) (m n : ℕ) (old low new : State) (fits : length low.store.values + length low.store.pieces + m ≤ length old.store.values + length old.store.pieces + n) (fewer : Stays 0 old low) (is : (r : Refusal) → g (with_refusal r old.store) ≡ f (with_refusal r low.store)) (alone : (s : Store) (status : Status) → with_store s (with_status status low) ≡ with_store s (with_status status old)) where
@@ -39,56 +37,33 @@ module _ (f g : Store → Outcome) (m n : ℕ) (old low new : State) (fits : len
     alone = h.alone ∙ alone new.store (CompleteStatus value);
     kept = keeps_more old low new fewer.kept h.kept;
     count = h.count ∙ fewer.count;
-    items = let items = h.items in omega (arith, items, fits);
+    items = omega (arith, h.items, fits);
   }
   finished_as (FaultStatus error) h = record {
     gets = record { refusal = h.gets.refusal; may = may_along old low h.gets.refusal fewer.kept h.gets.may; same = is h.gets.refusal ∙ h.gets.same };
     stays = stays_more 0 0 old low new fewer h.stays;
   }
   finished_as Running h = absurd h
-  finished_as (Start initial_value) h = absurd h
-  finished_as (RequestStatus request on_answer) h = absurd h
+  finished_as _ h = absurd h
 
   pub closes_as : Closes m f low new → Closes n g old new
   closes_as h = finished_as new.status h
 
--- what was pushed leaves the settings
-pub piece_keeps : (setup : Setup) (piece : Piece) (old new : State) → Does (push_piece setup piece) old new → Keeps old new
-piece_keeps setup piece old new d =
-    let s : Store = with_refusal (before_pushes d.steps.pushes Never) old.store in
-    let tally : tally_of new.store ≡ tally_of old.store = subst (OnStore (HasTally (tally_of s))) (d.steps.same Never) (tally-push_piece setup piece s) in
-    record { setup = ap (λ (z : State). z.setup) d.alone; settings = ap (λ (m : Tally). m.settings) tally }
-
--- nothing is counted, and of values and pieces there are this many more at most
-record Adds (more : ℕ) (old new : State) : Type 0 where
-  items : length new.store.values + length new.store.pieces ≤ length old.store.values + length old.store.pieces + more
-  count : new.store.count ≡ old.store.count
-
--- a piece more
-piece_more : (setup : Setup) (piece : Piece) (old new : State) → Does (push_piece setup piece) old new → Adds 1 old new
-piece_more setup piece old new d =
-    let s : Store = with_refusal (before_pushes d.steps.pushes Never) old.store in
-    let added : Extended (length old.store.values) (length old.store.pieces + 1) old.store.count (with_refusal Never new.store) =
-    subst (OnStore (Extended (length old.store.values) (length old.store.pieces + 1) old.store.count)) (d.steps.same Never) (piece_extends setup piece s) in
-    let values = added.values in
-    let pieces = added.pieces in
-    record { items = omega (arith, values, pieces); count = added.count }
-
 -- a last piece, and then the end
 pub completes_ok : (value : Option Value) (piece : Piece) (old mid new : State) → Does (push_piece old.setup piece) old mid → new ≡ with_status (CompleteStatus value) mid → Closes 1 (λ s. completion_of value (push_piece old.setup piece s)) old new
 completes_ok value piece old mid new d e =
-    let more = piece_more old.setup piece old mid d in
-    let adds : Adds 1 old new = subst (λ (s : Store). Adds 1 old (with_store s new)) (ap (λ (z : State). z.store) (sym e)) (record { items = more.items; count = more.count }) in
+    let stored = piece_stored old.setup piece old.store mid.store d.steps in
+    let values = ap (λ (z : State). length z.store.values) e ∙ ap (λ (s : Store). length s.values) stored in
+    let pieces = ap (λ (z : State). length z.store.pieces) e ∙ (ap (λ (s : Store). length s.pieces) stored ∙ length-append old.store.pieces (piece ∷ [])) in
     subst (ClosesBy 1 (λ s. completion_of value (push_piece old.setup piece s)) old new) (sym (ap (λ (z : State). z.status) e)) (record {
       steps = record {
         pushes = d.steps.pushes;
         same = λ r. ap (completion_of value) (d.steps.same r) ∙ ap (λ (z : State). CompleteOutcome z.store.pieces value) (sym e);
       };
       alone = e ∙ (ap (with_status (CompleteStatus value)) d.alone ∙ ap (λ (z : State). with_store z.store (with_status (CompleteStatus value) old)) (sym e));
-      kept = keeps_more old mid new (piece_keeps old.setup piece old mid d)
-          (record { setup = ap (λ (z : State). z.setup) e; settings = ap (λ (z : State). z.store.settings) e });
-      count = adds.count;
-      items = adds.items;
+      kept = record { setup = ap (λ (z : State). z.setup) e ∙ ap (λ (z : State). z.setup) d.alone; settings = ap (λ (z : State). z.store.settings) e ∙ ap (λ (s : Store). s.settings) stored };
+      count = ap (λ (z : State). z.store.count) e ∙ ap (λ (s : Store). s.count) stored;
+      items = omega (arith, values, pieces);
     })
 
 -- a last piece that is refused
@@ -227,20 +202,8 @@ module _ (x : State) (runs : x.status ≡ Running) (end : x.place ≡ length x.t
     less = less_stopped x new (CompleteStatus value) runs e refl;
   }
   finish_turned new (FaultStatus error) none e h =
-      let count = h.stays.count in
-      let callers = h.stays.callers in
-      let items = h.stays.items in
-      let decodings = h.stays.decodings in
-      falls_turns x new error runs e (record {
-        refusal = h.gets.refusal;
-        may = h.gets.may;
-        same = λ inputs. outer_total h.gets.refusal inputs (FaultOutcome (fault_of error)) none h.gets.same ∙ ap (closed (FaultOutcome (fault_of error))) (sym h.stays.count);
-        kept = h.stays.kept;
-        spends = fallen_spends x new error (ap faults_in runs) e (omega (arith, callers)) (omega (arith, count)) (omega (arith, items)) (omega (arith, decodings, count)) h.stays.pieces (omega (arith, decodings, count)) (omega (arith, decodings, count));
-      })
-  finish_turned new Running none e h = absurd h
-  finish_turned new (Start initial_value) none e h = absurd h
-  finish_turned new (RequestStatus request on_answer) none e h = absurd h
+      falls_from x x new error h.gets.refusal runs e h.gets.may (λ inputs. outer_total h.gets.refusal inputs (FaultOutcome (fault_of error)) none h.gets.same) (reads_none x) h.stays
+  finish_turned new _ none e h = absurd h
 
   pub finish_turns : (new : State) → x.callers ≡ [] → Closes (waits_of x.store.last) (finish x.setup) x new → Turns x new
   finish_turns new none h = finish_turned new new.status none refl h

@@ -16,10 +16,9 @@ pub use Rattle.dwarf_eval.proofs.Totals.{total_open, total_complete, total_meani
 told_by : (r : Refusal) (x : State) (told : Reply) (status : Status) → IsReplied told status → told ≡ reply (total_by x (with_refusal r x.store) [] status).outcome
 told_by r x told (RequestStatus request on_answer) h =
     h ∙ sym (ap (λ (z : Total). reply z.outcome) (course_open x.store.count x.setup x.callers request (record { text = x.text; place = x.place } ∷ []) []))
-told_by r x told (CompleteStatus value) h = h
-told_by r x told (FaultStatus error) h = h
 told_by r x told (Start initial_value) h = absurd h
 told_by r x told Running h = absurd h
+told_by r x told _ h = h
 
 pub told_total : (r : Refusal) (x : State) (told : Reply) → IsReplied told x.status → told ≡ reply (total x r []).outcome
 unfolding total
@@ -43,8 +42,7 @@ module _ (old : State) (totals : Refusal → List Input → Total) (new : State)
   open_count (RequestStatus request on_answer) e o t = ap (λ (z : Total). z.count) (total_open Never new request on_answer e)
   open_count (CompleteStatus value) e o t = ap (λ (z : Total). z.count) (total_complete Never new [] value e)
   open_count (FaultStatus error) e o t = omega (arith, o)
-  open_count Running e o t = absurd t
-  open_count (Start initial_value) e o t = absurd t
+  open_count _ e o t = absurd t
 
   came_follows : faults_in new.status ≡ 0 → Reaches old totals new → IsReplied told new.status → Follows old totals told new
   came_follows o h t =
@@ -73,11 +71,10 @@ module _ (old : State) (totals : Refusal → List Input → Total) (new : State)
   }
 
   follows_by : (status : Status) → new.status ≡ status → ComesBy old totals new status → IsReplied told new.status → Follows old totals told new
-  follows_by (RequestStatus request on_answer) e h t = came_follows (ap faults_in e) h t
-  follows_by (CompleteStatus value) e h t = came_follows (ap faults_in e) h t
   follows_by (FaultStatus error) e h t = fell_follows error e h t
   follows_by Running e h t = absurd (subst (IsReplied told) e t)
   follows_by (Start initial_value) e h t = absurd h
+  follows_by _ e h t = came_follows (ap faults_in e) h t
 
   -- a call that replies answers its outcome
   pub comes_follow : Comes old totals new → IsReplied told new.status → Follows old totals told new

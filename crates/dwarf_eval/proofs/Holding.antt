@@ -1,5 +1,6 @@
 -- A location that waits for its piece.
-use Rattle.std.proofs.Common.{ℕ, ◌≡◌, ◌+◌, ◌-◌, ◌<◌, Bool, true, false, cond, List, length, Result, Ok, Err, Option, arith, ap, ◌∙◌, sym, refl, subst}
+use Rattle.std.proofs.Common.{ℕ, ◌≡◌, ◌+◌, ◌-◌, ◌<◌, Bool, true, false, cond, List, [], ◌∷◌, ◌++◌, length, Result, Ok, Err, Option, arith, ap, ◌∙◌, sym, refl, subst}
+use Rattle.std.proofs.lemmas.List.{length-append}
 use Rattle.dwarf_base.specs.declared.errors.Error.{Error}
 use Rattle.dwarf_base.specs.declared.errors.Error.TheVariants as error
 use Rattle.dwarf_base.specs.Faults.{Fault, fault_of}
@@ -15,14 +16,11 @@ use Rattle.dwarf_meaning.specs.Run.{after_operation, do_operation, located_act, 
 use Rattle.dwarf_meaning.specs.Meaning.{FaultOutcome}
 use Rattle.dwarf_meaning.specs.Rest.{State, Running, FaultStatus, with_refusal, total_of_course}
 use Rattle.dwarf_meaning.specs.Refusals.{Refusal, Never, before_pushes}
-use Rattle.dwarf_meaning.proofs.Counts.{OnStore, KeepsBoth, Tally, tally_of, both-push_piece}
-use Rattle.dwarf_meaning.specs.Bounds.{is_given, endings, faults_in}
+use Rattle.dwarf_meaning.specs.Bounds.{is_given, endings}
 use Rattle.dwarf_meaning.specs.Inputs.{with_status}
 use Rattle.dwarf_eval.specs.inner.Steps.{Does, Refused, Tries, ReadsOperation, EndsLocated, total, ComesBy, Turns, read_to, with_last}
-use Rattle.dwarf_eval.proofs.Endings.{Ending, piece_due, piece_ends}
-use Rattle.dwarf_eval.proofs.Loads.{Keeping, kept_in, piece_adds}
-use Rattle.dwarf_eval.proofs.Nearing.{nears_by}
-use Rattle.dwarf_eval.proofs.Spending.{held_spends}
+use Rattle.dwarf_eval.proofs.Loads.{endings_more, piece_due, kept_in, piece_stored}
+use Rattle.dwarf_eval.proofs.Spending.{nears_by, held_spends}
 use Rattle.dwarf_eval.proofs.Staying.{stays_status}
 use Rattle.dwarf_eval.proofs.Totals.{closed, going, total_running, course_failed}
 use Rattle.dwarf_eval.proofs.Turning.{ReadsOn, total_inside, effort_running, falls_from}
@@ -82,15 +80,16 @@ module _ (x : State) (location : Location) (runs : x.status ≡ Running) (inside
       piece_turned : (new : State) → Does (push_piece x.setup piece) mid new → Turns x new
       piece_turned new d =
           let still : new.status ≡ Running = ap (λ (z : State). z.status) d.alone ∙ runs in
-          let s : Store = with_refusal (before_pushes d.steps.pushes Never) mid.store in
-          let both : KeepsBoth (tally_of s) Pieced (with_refusal Never new.store) = subst (OnStore (KeepsBoth (tally_of s) Pieced)) (d.steps.same Never) (both-push_piece x.setup piece s) in
-          let tally : tally_of new.store ≡ tally_of x.store = both.tally in
-          let count : new.store.count ≡ x.store.count = ap (λ (m : Tally). m.count) tally in
-          let last : waits_of new.store.last ≡ 0 = ap waits_of both.last in
+          let stored = piece_stored x.setup piece mid.store new.store d.steps in
+          let count : new.store.count ≡ x.store.count = ap (λ (s : Store). s.count) stored in
+          let pieced : new.store.last ≡ Pieced = ap (λ (s : Store). s.last) stored in
+          let last : waits_of new.store.last ≡ 0 = ap waits_of pieced in
           let callers : length new.callers ≡ length x.callers = ap (λ (z : State). length z.callers) d.alone in
-          let added : kept_in new.store ≡ kept_in mid.store + 1 = subst (OnStore (Keeping (kept_in s + 1))) (d.steps.same Never) (piece_adds x.setup piece s) in
-          let kept : kept_in new.store ≡ kept_in x.store = omega (arith, added, waited) in
-          let more : endings new.store.pieces ≡ endings x.store.pieces + cond (is_given location) 1 0 = subst (OnStore (Ending (endings s.pieces + cond (is_given location) 1 0))) (d.steps.same Never) (piece_ends x.setup piece s) in
+          let values = ap (λ (s : Store). length s.values) stored in
+          let pieces : new.store.pieces ≡ x.store.pieces ++ piece ∷ [] = ap (λ (s : Store). s.pieces) stored in
+          let longer = ap length pieces ∙ length-append x.store.pieces (piece ∷ []) in
+          let kept : kept_in new.store ≡ kept_in x.store = omega (arith, values, longer, last, waited) in
+          let more : endings new.store.pieces ≡ endings x.store.pieces + cond (is_given location) 1 0 = ap endings pieces ∙ endings_more x.store.pieces piece in
           let was = effort_running x runs in
           let is = effort_running new still in
           record {
@@ -100,8 +99,8 @@ module _ (x : State) (location : Location) (runs : x.status ≡ Running) (inside
                   held_after_operation (before_pushes d.steps.pushes r) inputs _ (Goes place_then (with_refusal r new.store)) some (ap (goes place_then) (d.steps.same r))
                   ∙ (ap (λ (n : ℕ). going (record mid { store = record mid.store { count = n } }) (with_refusal r new.store) inputs) (sym count)
                   ∙ sym (total_running r new inputs still ∙ ap (λ (z : State). going z (with_refusal r new.store) inputs) d.alone));
-              kept = record { setup = ap (λ (z : State). z.setup) d.alone; settings = ap (λ (m : Tally). m.settings) tally };
-              spends = held_spends x new location runs still callers count (ap (λ (z : State). z.decodings) d.alone) waits both.last kept more;
+              kept = record { setup = ap (λ (z : State). z.setup) d.alone; settings = ap (λ (s : Store). s.settings) stored };
+              spends = held_spends x new location runs still callers count (ap (λ (z : State). z.decodings) d.alone) waits pieced kept more;
               nears = nears_by x new Running Running runs still (omega (arith, count));
             });
             less = omega (arith, was, is, callers, count, last, waited);

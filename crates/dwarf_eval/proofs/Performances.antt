@@ -15,9 +15,13 @@ use Rattle.dwarf_meaning.specs.Rest.{State, Status, Start, Running, RequestStatu
 use Rattle.dwarf_meaning.specs.Refusals.{Refusal, Never, before_pushes}
 use Rattle.dwarf_meaning.specs.Inputs.{with_status}
 use Rattle.dwarf_eval.specs.inner.Machine.{replied_status}
-use Rattle.dwarf_eval.specs.inner.Steps.{Asks, Stays, Tries, Tried, Pops, Jumps, done_at, LeadsToFault, LeadsBy, Performs, with_store, with_values, with_last, with_place}
+use Rattle.dwarf_eval.specs.inner.Steps.{Asks, Stays, Tries, Tried, Pops, Jumps, done_at, LeadsToFault, LeadsBy, Performs, with_store, with_values, with_last, with_place, PopsGenerics}
 use Rattle.dwarf_eval.proofs.Refusals.{tries_as, bind_ok}
 use Rattle.dwarf_eval.proofs.Staying.{stays_from, stays_low, stays_then}
+use Rattle.std.proofs.lemmas.Option.{none-some}
+use Rattle.std.specs.Prelude.{slice_get}
+use Rattle.std.specs.Option.{unwrap_or}
+use Rattle.dwarf_value.specs.declared.types.Value.TheVariants.{Generic}
 
 pub performs_as : (a b : Act) (old new : State) → a ≡ b → Performs b old new → Performs a old new
 performs_as a b old new e h = subst (λ (z : Act). Performs z old new) (sym e) h
@@ -211,22 +215,41 @@ module _ (rest : List Value) (old new : State) (fewer : length rest ≤ length o
   }
 
   low_by : (f g : Store → Next) → ((r : Refusal) → g (with_refusal r old.store) ≡ f (with_refusal r (with_values rest old).store)) → (status : Status) → LeadsBy f (with_values rest old) new status → LeadsBy g old new status
-  low_by f g is Running h = record { steps = record { pushes = h.steps.pushes; same = λ r. is (before_pushes h.steps.pushes r) ∙ h.steps.same r }; alone = h.alone }
-  low_by f g is (RequestStatus request on_answer) h = record { steps = record { pushes = h.steps.pushes; same = λ r. is (before_pushes h.steps.pushes r) ∙ h.steps.same r }; alone = h.alone }
   low_by f g is (FaultStatus error) h = low_fails error f g is h
   low_by f g is (Start initial_value) h = absurd h
   low_by f g is (CompleteStatus value) h = absurd h
+  low_by f g is _ h = record { steps = record { pushes = h.steps.pushes; same = λ r. is (before_pushes h.steps.pushes r) ∙ h.steps.same r }; alone = h.alone }
 
 -- an act leaves no trace of the values that were popped before it
 act_low : (a : Act) (rest : List Value) (old : State) (r : Refusal) → done_at a old (with_refusal r old.store) ≡ done_at a (with_values rest old) (with_refusal r (with_values rest old).store)
 act_low (Pushes left pushed) rest old r = refl
-act_low (Branches left target) rest old r = refl
-act_low (Locates left location) rest old r = refl
-act_low (EndsPiece left piece) rest old r = refl
-act_low (RequestAct left request on_answer) rest old r = refl
-act_low (FaultAct fault) rest old r = refl
+act_low _ rest old r = refl
 
 -- first a pop, and then the act on what is left
 pub performs_low : (f : List Value → Act) (rest : List Value) (old mid new : State) → length rest ≤ length old.store.values → mid ≡ with_values rest old → Performs (f mid.store.values) mid new → Performs (f rest) old new
 performs_low f rest old mid new fewer e h =
     low_by rest old new fewer (done_at (f rest) (with_values rest old)) (done_at (f rest) old) (act_low (f rest) rest old) new.status (subst (λ (z : State). Performs (f z.store.values) z new) e h)
+
+two_are : (values : List Value) (y x : Value) → slice_get values 0 ≡ Some y → slice_get values 1 ≡ Some x → (rest : List Value) × (values ≡ y ∷ x ∷ rest)
+two_are [] y x e f = absurd (none-some y e)
+two_are (a ∷ []) y x e f = absurd (none-some x f)
+two_are (a ∷ b ∷ rest) y x e f = (rest, ap (λ (v : Value). v ∷ b ∷ rest) (ap (λ (o : Option Value). unwrap_or o a) e) ∙ ap (λ (v : Value). y ∷ v ∷ rest) (ap (λ (o : Option Value). unwrap_or o b) f))
+
+tail_of : List Value → List Value
+tail_of [] = []
+tail_of (x ∷ rest) = rest
+
+pop_rest : (o : Option Value) (old new : State) (y : Value) (rest : List Value) → old.store.values ≡ y ∷ rest → Pops o old new → new ≡ with_values rest old
+unfolding tail_of
+pop_rest None old new y rest e h = let n = ap length (sym h.0 ∙ e) in absurd (omega (arith, n))
+pop_rest (Some v) old new y rest e h = h.2 ∙ ap (λ (vs : List Value). with_values (tail_of vs) old) (sym h.1 ∙ e)
+
+pub generics_popped : (o p : Option Value) (old mid new : State) (right left : ℕ) → Some (Generic right) ≡ slice_get old.store.values 0 → Some (Generic left) ≡ slice_get old.store.values 1 → Pops o old mid → Pops p mid new → PopsGenerics (Some (left, right)) old new
+generics_popped o p old mid new right left e f h i =
+    let two = two_are old.store.values (Generic right) (Generic left) (sym e) (sym f) in
+    let first = pop_rest o old mid (Generic right) (Generic left ∷ two.0) two.1 h in
+    let second = pop_rest p mid new (Generic left) two.0 (ap (λ (z : State). z.store.values) first) i in
+    (two.0, two.1, second ∙ ap (with_values two.0) first)
+
+pub same_two : (left right : ℕ) (old new : State) → PopsGenerics (Some (left, right)) old new → PopsTwo (Generic right) (Generic left) old new
+same_two left right old new h = record { rest = h.0; values = h.1; alone = h.2 }

@@ -3,8 +3,8 @@ use Rattle.std.proofs.Common.{ℕ, ◌≡◌, ◌-◌, ◌<◌, ◌≤◌, ◌==
 use Rattle.std.proofs.lemmas.Bool.Decides.{nat_tests}
 use Rattle.dwarf_base.specs.Reads.{IsSuffix}
 use Rattle.dwarf_meaning.specs.Locations.{Location}
-use Rattle.dwarf_meaning.specs.Stores.{Last, Nothing, Plain, Pieced, Pushed, Called, Located}
-use Rattle.dwarf_meaning.specs.Rest.{State, Status, Start, Running, RequestStatus, CompleteStatus, FaultStatus}
+use Rattle.dwarf_meaning.specs.Stores.{Last, Located}
+use Rattle.dwarf_meaning.specs.Rest.{State, Status, Running}
 use Rattle.dwarf_eval.specs.inner.Steps.{Comes, CountsOne, IsReady, Turns, at, effort, goes_on, is_free, is_running, total}
 use Rattle.dwarf_eval.proofs.Reaching.{comes_here, comes_more}
 use Rattle.dwarf_eval.proofs.Turning.{ready_none}
@@ -13,19 +13,12 @@ use Rattle.dwarf_eval.proofs.Turning.{ready_none}
 
 running_on : (status : Status) → is_running status ≡ true → status ≡ Running
 running_on Running h = refl
-running_on (RequestStatus request on_answer) h = cc
-running_on (CompleteStatus value) h = cc
-running_on (FaultStatus error) h = cc
-running_on (Start initial_value) h = cc
+running_on _ h = cc
 
 -- a location waits, if it isn't free of one
 pub located_on : (last : Last) → is_free last ≡ false → (location : Location) × (last ≡ Located location)
 located_on (Located location) h = (location, refl)
-located_on Nothing h = cc
-located_on Plain h = cc
-located_on Pieced h = cc
-located_on Pushed h = cc
-located_on Called h = cc
+located_on _ h = cc
 
 on_parts : (runs free inside : Bool) → runs && free && inside ≡ true → (runs ≡ true) × (free ≡ true) × (inside ≡ true)
 on_parts true true true h = (refl, refl, refl)

@@ -3,7 +3,7 @@ use Rattle.std.proofs.Common.{ℕ, ◌≡◌, ◌-◌, inl, inr, List, length, R
 use Rattle.dwarf_base.specs.Faults.{Fault}
 use Rattle.dwarf_base.specs.Reads.{IsLeftOf, Text}
 use Rattle.dwarf_meaning.specs.Operations.{Operation}
-use Rattle.dwarf_meaning.specs.Acts.{Act, Pushes, Branches, Locates, EndsPiece, RequestAct, FaultAct}
+use Rattle.dwarf_meaning.specs.Acts.{Act, Pushes, Branches, EndsPiece}
 use Rattle.dwarf_meaning.specs.Stores.{Setup, Store, Next, Goes, RequestNext, FaultNext, goes, done, address_bits}
 use Rattle.dwarf_meaning.specs.Rest.{State, Status, Start, Running, RequestStatus, CompleteStatus, FaultStatus, with_refusal}
 use Rattle.dwarf_meaning.specs.Refusals.{before_pushes}
@@ -13,11 +13,10 @@ use Rattle.dwarf_eval.specs.inner.Steps.{IsNoBranch, LeadsBy, Performs, Stays, a
 -- ---- the text
 
 text_by : (f : Store → Next) (old new : State) (status : Status) → LeadsBy f old new status → new.text ≡ old.text
-text_by f old new Running h = ap (λ (z : State). z.text) h.alone
-text_by f old new (RequestStatus request on_answer) h = ap (λ (z : State). z.text) h.alone
 text_by f old new (FaultStatus error) h = h.stays.text
 text_by f old new (Start initial_value) h = absurd h
 text_by f old new (CompleteStatus value) h = absurd h
+text_by f old new _ h = ap (λ (z : State). z.text) h.alone
 
 pub performs_text : (a : Act) (old new : State) → Performs a old new → new.text ≡ old.text
 performs_text a old new h = text_by (done_at a old) old new new.status h
@@ -41,10 +40,8 @@ goes_moved place was (Err fault) = refl
 done_moved : (setup : Setup) (place was len : ℕ) (a : Act) (s : Store) → IsStill a → done setup place len a s ≡ moved place (done setup was len a s)
 done_moved setup place was len (Pushes rest pushed) s h = goes_moved place was _
 done_moved setup place was len (Branches rest target) s h = absurd h
-done_moved setup place was len (Locates rest location) s h = refl
 done_moved setup place was len (EndsPiece rest piece) s h = goes_moved place was _
-done_moved setup place was len (RequestAct rest request on_answer) s h = refl
-done_moved setup place was len (FaultAct fault) s h = refl
+done_moved setup place was len _ s h = refl
 
 stays_beyond : (place : ℕ) (old new : State) → Stays 0 old new → Stays 0 (with_place place old) (with_place place new)
 stays_beyond place old new h = record {

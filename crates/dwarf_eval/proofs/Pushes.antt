@@ -16,7 +16,7 @@ use Rattle.dwarf_eval.specs.inner.Steps.{Steps, Gets, Refused}
 use Rattle.dwarf_eval.proofs.Staying.{stays_status}
 
 -- how many pushes on lists without a limit a push is
-abbrev pub cost : Option ℕ → ℕ
+abbrev cost : Option ℕ → ℕ
 cost None = 1
 cost (Some limit) = 0
 
@@ -38,104 +38,60 @@ room_refused : (limit : Option ℕ) (n : ℕ) → MayRefuse limit n → room lim
 room_refused None n h = refl
 room_refused (Some limit) n h = cond-false (nat_lt n limit) (Ok Never) (Err StackFull) (grind (arith, nat_tests))
 
-may_value : (limits : Limits) (limit : Option ℕ) → limits.values ≡ limit → MayPick limits (refuser limit)
-may_value limits None e = inl e
-may_value limits (Some limit) e = tt
+may_refuse : (limits : Limits) (limit : Option ℕ) → (limit ≡ None → MayPick limits (After 0 0)) → MayPick limits (refuser limit)
+may_refuse limits None h = h refl
+may_refuse limits (Some limit) h = tt
 
-may_frame : (limits : Limits) (limit : Option ℕ) → limits.callers ≡ limit → MayPick limits (refuser limit)
-may_frame limits None e = inr (inl e)
-may_frame limits (Some limit) e = tt
+-- a push on a list with this limit and this many items
+module _ (limit : Option ℕ) (n : ℕ) (push : Store → Result Store Fault) (old : Store) (made : Refusal → Store) (is : (r : Refusal) → push (with_refusal r old) ≡ room limit n r >>= λ left. Ok (made left)) where
+  pushed : (new : Store) → HasRoom limit n → ((r : Refusal) → made r ≡ with_refusal r new) → Steps push old Ok new
+  pushed new fits e = record {
+    pushes = cost limit;
+    same = λ r. is (before_pushes (cost limit) r) ∙ (ap (λ (x : Result Refusal Fault). x >>= λ left. Ok (made left)) (room_before limit n r fits) ∙ ap (λ (s : Store). Ok s) (e r));
+  }
 
-may_piece : (limits : Limits) (limit : Option ℕ) → limits.pieces ≡ limit → MayPick limits (refuser limit)
-may_piece limits None e = inr (inr e)
-may_piece limits (Some limit) e = tt
+  refused : (limits : Limits) → MayRefuse limit n → (limit ≡ None → MayPick limits (After 0 0)) → Gets limits push old (Err StackFull)
+  refused limits full may = record {
+    refusal = refuser limit;
+    may = may_refuse limits limit may;
+    same = is (refuser limit) ∙ ap (λ (x : Result Refusal Fault). x >>= λ left. Ok (made left)) (room_refused limit n full);
+  }
 
 pub value_pushed : (setup : Setup) (value : Value) (old new : Store) → HasRoom setup.limits.values (length old.values) → new ≡ record old { values = value ∷ old.values } → Steps (push_value setup value) old Ok new
 unfolding push_value
-value_pushed setup value old new fits e =
-    let limit = setup.limits.values in
-    record {
-      pushes = cost limit;
-      same = λ r.
-          ap (λ (x : Result Refusal Fault). x >>= λ left. Ok (record old { values = value ∷ old.values; refusal = left })) (room_before limit (length old.values) r fits)
-          ∙ ap (λ (s : Store). Ok (with_refusal r s)) (sym e);
-    }
-
-pub value_refused : (setup : Setup) (value : Value) (old : Store) → MayRefuse setup.limits.values (length old.values) → Gets setup.limits (push_value setup value) old (Err StackFull)
-unfolding push_value
-value_refused setup value old full =
-    let limit = setup.limits.values in
-    record {
-      refusal = refuser limit;
-      may = may_value setup.limits limit refl;
-      same = ap (λ (x : Result Refusal Fault). x >>= λ left. Ok (record old { values = value ∷ old.values; refusal = left })) (room_refused limit (length old.values) full);
-    }
+value_pushed setup value old new fits e = pushed setup.limits.values (length old.values) (push_value setup value) old (λ left. record old { values = value ∷ old.values; refusal = left }) (λ r. refl) new fits (λ r. ap (with_refusal r) (sym e))
 
 pub piece_pushed : (setup : Setup) (piece : Piece) (old new : Store) → HasRoom setup.limits.pieces (length old.pieces) → new ≡ record old { pieces = old.pieces ++ piece ∷ [] } → Steps (push_piece setup piece) old Ok new
 unfolding push_piece
-piece_pushed setup piece old new fits e =
-    let limit = setup.limits.pieces in
-    record {
-      pushes = cost limit;
-      same = λ r.
-          ap (λ (x : Result Refusal Fault). x >>= λ left. Ok (record old { pieces = old.pieces ++ piece ∷ []; refusal = left })) (room_before limit (length old.pieces) r fits)
-          ∙ ap (λ (s : Store). Ok (with_refusal r s)) (sym e);
-    }
-
-pub piece_refused : (setup : Setup) (piece : Piece) (old : Store) → MayRefuse setup.limits.pieces (length old.pieces) → Gets setup.limits (push_piece setup piece) old (Err StackFull)
-unfolding push_piece
-piece_refused setup piece old full =
-    let limit = setup.limits.pieces in
-    record {
-      refusal = refuser limit;
-      may = may_piece setup.limits limit refl;
-      same = ap (λ (x : Result Refusal Fault). x >>= λ left. Ok (record old { pieces = old.pieces ++ piece ∷ []; refusal = left })) (room_refused limit (length old.pieces) full);
-    }
+piece_pushed setup piece old new fits e = pushed setup.limits.pieces (length old.pieces) (push_piece setup piece) old (λ left. record old { pieces = old.pieces ++ piece ∷ []; refusal = left }) (λ r. refl) new fits (λ r. ap (with_refusal r) (sym e))
 
 pub caller_pushed : (setup : Setup) (depth : ℕ) (old new : Store) → HasRoom setup.limits.callers depth → new ≡ old → Steps (push_caller setup depth) old Ok new
 unfolding push_caller
-caller_pushed setup depth old new fits e =
-    let limit = setup.limits.callers in
-    record {
-      pushes = cost limit;
-      same = λ r.
-          ap (λ (x : Result Refusal Fault). x >>= λ left. Ok (record old { refusal = left })) (room_before limit depth r fits)
-          ∙ ap (λ (s : Store). Ok (with_refusal r s)) (sym e);
-    }
+caller_pushed setup depth old new fits e = pushed setup.limits.callers depth (push_caller setup depth) old (λ left. record old { refusal = left }) (λ r. refl) new fits (λ r. ap (with_refusal r) (sym e))
 
-pub frame_refused : (setup : Setup) (depth : ℕ) (old : Store) → MayRefuse setup.limits.callers depth → Gets setup.limits (push_caller setup depth) old (Err StackFull)
-unfolding push_caller
-frame_refused setup depth old full =
-    let limit = setup.limits.callers in
-    record {
-      refusal = refuser limit;
-      may = may_frame setup.limits limit refl;
-      same = ap (λ (x : Result Refusal Fault). x >>= λ left. Ok (record old { refusal = left })) (room_refused limit depth full);
-    }
+-- the state keeps the fault of a push that is refused
+faults : (push : Store → Result Store Fault) (old new : State) → new ≡ with_status (FaultStatus error.StackFull) old → Gets old.setup.limits push old.store (Err StackFull) → Refused 0 push old new
+faults push old new e gets = record {
+  error = error.StackFull;
+  failed = ap (λ (z : State). z.status) e;
+  gets = gets;
+  stays = stays_status (FaultStatus error.StackFull) old new e;
+}
 
--- the state keeps the fault of a value that is refused
 pub value_faults : (value : Value) (old new : State) → MayRefuse old.setup.limits.values (length old.store.values) → new ≡ with_status (FaultStatus error.StackFull) old → Refused 0 (push_value old.setup value) old new
-value_faults value old new full e = record {
-  error = error.StackFull;
-  failed = ap (λ (z : State). z.status) e;
-  gets = value_refused old.setup value old.store full;
-  stays = stays_status (FaultStatus error.StackFull) old new e;
-}
+unfolding push_value
+value_faults value old new full e =
+    faults (push_value old.setup value) old new e
+    (refused old.setup.limits.values (length old.store.values) (push_value old.setup value) old.store (λ left. record old.store { values = value ∷ old.store.values; refusal = left }) (λ r. refl) old.setup.limits full (λ none. inl none))
 
--- the state keeps the fault of a piece that is refused
 pub piece_faults : (piece : Piece) (old new : State) → MayRefuse old.setup.limits.pieces (length old.store.pieces) → new ≡ with_status (FaultStatus error.StackFull) old → Refused 0 (push_piece old.setup piece) old new
-piece_faults piece old new full e = record {
-  error = error.StackFull;
-  failed = ap (λ (z : State). z.status) e;
-  gets = piece_refused old.setup piece old.store full;
-  stays = stays_status (FaultStatus error.StackFull) old new e;
-}
+unfolding push_piece
+piece_faults piece old new full e =
+    faults (push_piece old.setup piece) old new e
+    (refused old.setup.limits.pieces (length old.store.pieces) (push_piece old.setup piece) old.store (λ left. record old.store { pieces = old.store.pieces ++ piece ∷ []; refusal = left }) (λ r. refl) old.setup.limits full (λ none. inr (inr none)))
 
--- the state keeps the fault of a frame that is refused
 pub caller_faults : (old new : State) → MayRefuse old.setup.limits.callers (length old.callers) → new ≡ with_status (FaultStatus error.StackFull) old → Refused 0 (push_caller old.setup (length old.callers)) old new
-caller_faults old new full e = record {
-  error = error.StackFull;
-  failed = ap (λ (z : State). z.status) e;
-  gets = frame_refused old.setup (length old.callers) old.store full;
-  stays = stays_status (FaultStatus error.StackFull) old new e;
-}
+unfolding push_caller
+caller_faults old new full e =
+    faults (push_caller old.setup (length old.callers)) old new e
+    (refused old.setup.limits.callers (length old.callers) (push_caller old.setup (length old.callers)) old.store (λ left. record old.store { refusal = left }) (λ r. refl) old.setup.limits full (λ none. inr (inl none)))

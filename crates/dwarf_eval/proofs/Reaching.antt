@@ -1,24 +1,21 @@
 -- One step after the other, and the beginning of a run.
-use Rattle.std.proofs.Common.{ℕ, ◌≡◌, ◌+◌, arith, length, List, Ok, Some, None, Bool, true, false, ap, ◌∙◌, sym, refl, subst}
+use Rattle.std.proofs.Common.{ℕ, ◌≡◌, ◌+◌, arith, length, List, Some, None, Bool, true, false, ap, ◌∙◌, sym, refl, subst}
+use Rattle.dwarf_base.specs.declared.errors.Error.{Error}
 use Rattle.dwarf_base.specs.Faults.{Fault, fault_of}
-use Rattle.dwarf_value.specs.declared.types.Value.{Value}
 use Rattle.dwarf_value.specs.declared.types.Value.TheVariants.{Generic}
 use Rattle.dwarf_meaning.specs.Requests.{Input}
 use Rattle.dwarf_meaning.specs.Stores.{Setup, Store, push_value}
 use Rattle.dwarf_meaning.specs.Meaning.{FaultOutcome}
-use Rattle.dwarf_meaning.specs.Rest.{State, Status, Start, Running, RequestStatus, CompleteStatus, FaultStatus, with_refusal}
-use Rattle.dwarf_meaning.specs.Refusals.{Refusal, Never, MayPick, before_pushes}
-use Rattle.dwarf_meaning.proofs.Counts.{HasTally, OnStore, Tally, tally_of, tally-push_value}
+use Rattle.dwarf_meaning.specs.Rest.{State, Status, Start, Running, FaultStatus, with_refusal}
+use Rattle.dwarf_meaning.specs.Refusals.{Refusal, MayPick, before_pushes}
 use Rattle.dwarf_meaning.specs.Bounds.{faults_in}
 use Rattle.dwarf_meaning.specs.Inputs.{Keeps, with_status}
 use Rattle.dwarf_eval.specs.inner.Answers.{IsAtRestBy}
-use Rattle.dwarf_eval.specs.inner.Steps.{Total, total, Tries, Reaches, Falls, ComesBy, Comes, HasReply, is_running}
+use Rattle.dwarf_eval.specs.inner.Steps.{Stays, Total, total, Tries, Reaches, Falls, ComesBy, Comes, HasReply, is_running}
 use Rattle.dwarf_eval.proofs.Refusals.{before_more, may_before}
-use Rattle.dwarf_eval.proofs.Loads.{HasLast, HasPieces, Keeping, kept_in, value_adds, value_last, value_pieces}
-use Rattle.dwarf_eval.proofs.Nearing.{nears_by, nears_more}
-use Rattle.dwarf_eval.proofs.CallSpending.{spent_here, spent_more}
-use Rattle.dwarf_eval.proofs.Spending.{begun_spends, fallen_spends}
-use Rattle.dwarf_eval.proofs.Staying.{keeps_here, keeps_more}
+use Rattle.dwarf_eval.proofs.Loads.{kept_in, value_stored}
+use Rattle.dwarf_eval.proofs.Spending.{nears_by, nears_more, spent_here, spent_more, begun_spends, fallen_spends}
+use Rattle.dwarf_eval.proofs.Staying.{keeps_here, keeps_more, stays_from}
 use Rattle.dwarf_eval.proofs.Totals.{closed, going, started_total, started_fails, total_running, total_start}
 
 pub reaches_here : (x : State) → x.status ≡ Running → Reaches x (total x) x
@@ -26,6 +23,17 @@ reaches_here x runs = record { pushes = 0; same = λ r inputs. refl; kept = keep
 
 pub may_along : (a b : State) (r : Refusal) → Keeps a b → MayPick b.setup.limits r → MayPick a.setup.limits r
 may_along a b r h m = subst (λ (z : Setup). MayPick z.limits r) h.setup m
+
+-- a fault, and nothing else was done
+pub falls_here : (x : State) (totals : Refusal → List Input → Total) (new : State) (error : Error) (refusal : Refusal) → faults_in x.status ≡ 0 → new.status ≡ FaultStatus error → MayPick x.setup.limits refusal → ((inputs : List Input) → totals refusal inputs ≡ closed (FaultOutcome (fault_of error)) x.store.count) → Stays 0 x new → Comes x totals new
+falls_here x totals new error refusal sound failed may same stays =
+    subst (ComesBy x totals new) (sym failed) (record {
+      refusal = refusal;
+      may = may;
+      same = λ inputs. same inputs ∙ ap (closed (FaultOutcome (fault_of error))) (sym stays.count);
+      kept = stays.kept;
+      spends = fallen_spends x new error sound failed (omega (arith, stays.callers)) (omega (arith, stays.count)) (omega (arith, stays.items)) (omega (arith, stays.decodings, stays.count)) stays.pieces (omega (arith, stays.decodings, stays.count)) (omega (arith, stays.decodings, stays.count));
+    })
 
 module _ (old : State) (totals : Refusal → List Input → Total) where
   pub reaches_more : (a b : State) → Reaches old totals a → Reaches a (total a) b → Reaches old totals b
@@ -48,30 +56,24 @@ module _ (old : State) (totals : Refusal → List Input → Total) where
   }
 
   comes_by : (a b : State) (status : Status) → Reaches old totals a → ComesBy a (total a) b status → ComesBy old totals b status
-  comes_by a b Running h i = reaches_more a b h i
-  comes_by a b (RequestStatus request on_answer) h i = reaches_more a b h i
-  comes_by a b (CompleteStatus value) h i = reaches_more a b h i
   comes_by a b (FaultStatus error) h i = falls_more a b (fault_of error) h i
   comes_by a b (Start initial_value) h i = absurd i
+  comes_by a b _ h i = reaches_more a b h i
 
   -- a state that runs was reached
   came_running : (a : State) (status : Status) → is_running status ≡ true → ComesBy old totals a status → Reaches old totals a
-  came_running a Running is h = h
-  came_running a (RequestStatus request on_answer) is h = h
-  came_running a (CompleteStatus value) is h = h
   came_running a (Start initial_value) is h = absurd h
   came_running a (FaultStatus error) is h = cc
+  came_running a _ is h = h
 
   -- one turn more
   pub comes_more : (a b : State) → is_running a.status ≡ true → Comes old totals a → Comes a (total a) b → Comes old totals b
   comes_more a b is h i = comes_by a b b.status (came_running a a.status is h) i
 
   over_by : (a : State) (status : Status) → is_running status ≡ false → ComesBy old totals a status → HasReply status
-  over_by a (RequestStatus request on_answer) is h = tt
-  over_by a (CompleteStatus value) is h = tt
-  over_by a (FaultStatus error) is h = tt
   over_by a Running is h = cc
   over_by a (Start initial_value) is h = absurd h
+  over_by a _ is h = tt
 
   -- what came and doesn't run has a reply
   pub comes_over : (a : State) → is_running a.status ≡ false → Comes old totals a → HasReply a.status
@@ -82,10 +84,7 @@ comes_here x runs = subst (ComesBy x (total x) x) (sym runs) (reaches_here x run
 
 pub runs_on : (status : Status) → is_running status ≡ true → status ≡ Running
 runs_on Running h = refl
-runs_on (Start initial_value) h = cc
-runs_on (RequestStatus request on_answer) h = cc
-runs_on (CompleteStatus value) h = cc
-runs_on (FaultStatus error) h = cc
+runs_on _ h = cc
 
 -- ---- the beginning
 
@@ -107,19 +106,13 @@ begins_none x new is e =
           nears_by x new (Start None) Running starts runs (omega (arith, count));
     })
 
--- what was pushed leaves the settings
-pub value_tally : (setup : Setup) (value : Value) (old new : Store) → push_value setup value old ≡ Ok new → tally_of new ≡ tally_of old
-value_tally setup value old new e = subst (OnStore (HasTally (tally_of old))) e (tally-push_value setup value old)
-
 begins_pushed : (v : ℕ) (x new : State) (done : Bool) → IsAtRestBy x (Start (Some v)) → Tries 0 (push_value x.setup (Generic v)) (with_status Running x) new done → Comes x (total x) new
 begins_pushed v x new true is d =
     let starts : x.status ≡ Start (Some v) = ap (λ (z : State). z.status) is in
     let still : new.status ≡ Running = ap (λ (z : State). z.status) d.alone in
-    let s : Store = with_refusal (before_pushes d.steps.pushes Never) x.store in
-    let tally = value_tally x.setup (Generic v) s (with_refusal Never new.store) (d.steps.same Never) in
-    let count : new.store.count ≡ x.store.count = ap (λ (m : Tally). m.count) tally in
-    let kept : kept_in new.store ≡ kept_in x.store + 1 = subst (OnStore (Keeping (kept_in s + 1))) (d.steps.same Never) (value_adds x.setup (Generic v) s) in
-    let last : new.store.last ≡ x.store.last = subst (OnStore (HasLast s.last)) (d.steps.same Never) (value_last x.setup (Generic v) s) in
+    let stored = value_stored x.setup (Generic v) x.store new.store d.steps in
+    let count : new.store.count ≡ x.store.count = ap (λ (s : Store). s.count) stored in
+    let kept = ap kept_in stored in
     subst (ComesBy x (total x) new) (sym still) (record {
       pushes = d.steps.pushes;
       same = λ r inputs.
@@ -127,27 +120,14 @@ begins_pushed v x new true is d =
           ∙ (ap (started_total x inputs) (d.steps.same r)
           ∙ sym (total_running r new inputs still ∙ ap (λ (z : State). going z (with_refusal r new.store) inputs) d.alone
           ∙ ap (λ (n : ℕ). going (record x { store = record x.store { count = n } }) (with_refusal r new.store) inputs) count));
-      kept = record { setup = ap (λ (z : State). z.setup) d.alone; settings = ap (λ (m : Tally). m.settings) tally };
-      spends = begun_spends x new (Some v) starts still (ap (λ (z : State). length z.callers) d.alone) count (ap (λ (z : State). z.decodings) d.alone) last (omega (arith, kept))
-          (subst (OnStore (HasPieces s.pieces)) (d.steps.same Never) (value_pieces x.setup (Generic v) s));
+      kept = record { setup = ap (λ (z : State). z.setup) d.alone; settings = ap (λ (s : Store). s.settings) stored };
+      spends = begun_spends x new (Some v) starts still (ap (λ (z : State). length z.callers) d.alone) count (ap (λ (z : State). z.decodings) d.alone) (ap (λ (s : Store). s.last) stored) (omega (arith, kept)) (ap (λ (s : Store). s.pieces) stored);
       nears = nears_by x new (Start (Some v)) Running starts still (omega (arith, count));
     })
 begins_pushed v x new false is d =
-    let starts : x.status ≡ Start (Some v) = ap (λ (z : State). z.status) is in
-    let count = d.stays.count in
-    let callers = d.stays.callers in
-    let items = d.stays.items in
-    let decodings = d.stays.decodings in
-    subst (ComesBy x (total x) new) (sym d.failed) (record {
-      refusal = d.gets.refusal;
-      may = d.gets.may;
-      same = λ inputs.
-          total_start d.gets.refusal x inputs (Some v) is
-          ∙ (ap (started_total x inputs) d.gets.same
-          ∙ (started_fails x inputs (fault_of d.error) ∙ ap (closed (FaultOutcome (fault_of d.error))) (sym d.stays.count)));
-      kept = record { setup = d.stays.kept.setup; settings = d.stays.kept.settings };
-      spends = fallen_spends x new d.error (ap faults_in starts) d.failed (omega (arith, callers)) (omega (arith, count)) (omega (arith, items)) (omega (arith, decodings, count)) d.stays.pieces (omega (arith, decodings, count)) (omega (arith, decodings, count));
-    })
+    falls_here x (total x) new d.error d.gets.refusal (ap (λ (z : State). faults_in z.status) is) d.failed d.gets.may
+    (λ inputs. total_start d.gets.refusal x inputs (Some v) is ∙ (ap (started_total x inputs) d.gets.same ∙ started_fails x inputs (fault_of d.error)))
+    (stays_from 0 0 x.store.values x.store.last Running x new (omega arith) d.stays)
 
 pub begins_some : (v : ℕ) (x mid new : State) (done : Bool) → IsAtRestBy x (Start (Some v)) → mid ≡ with_status Running x → Tries 0 (push_value mid.setup (Generic v)) mid new done → Comes x (total x) new
 begins_some v x mid new done is e h =

@@ -1,35 +1,35 @@
 -- The outcome of an answer.
-use Rattle.std.proofs.Common.{ℕ, suc, ◌≡◌, ◌+◌, ◌≤◌, arith, Bool, true, false, List, [], ◌∷◌, length, Result, Ok, Err, ap, ◌∙◌, sym, refl, subst}
+use Rattle.std.proofs.Common.{ℕ, suc, ◌≡◌, ◌≤◌, arith, Bool, true, false, List, [], ◌∷◌, length, Some, None, Result, Ok, Err, ap, ◌∙◌, sym, refl, subst}
 use Rattle.dwarf_base.specs.declared.errors.Error.{Error}
 use Rattle.dwarf_base.specs.Faults.{Fault, fault_of}
 use Rattle.dwarf_base.specs.Reads.{Text}
 use Rattle.dwarf_value.specs.declared.types.Value.{Value}
+use Rattle.dwarf_value.specs.declared.types.ValueType.{ValueType}
+use Rattle.dwarf_base.specs.declared.errors.Error.TheVariants.{NotEnoughStackItems}
 use denote.Enum.Bare.{true_same}
 use Rattle.std.proofs.lemmas.Bool.{cond-true}
 use Rattle.dwarf_meaning.specs.contracts.kinds.WaitingKind.{the_type}
 use Rattle.dwarf_meaning.specs.declared.kinds.WaitingKind.{WaitingKind}
 use Rattle.dwarf_meaning.specs.Kinds.{kind_of_request, kind_of_answer, is_same_kind}
-use Rattle.dwarf_meaning.specs.Requests.{Request, OnAnswer, Answer, Input}
+use Rattle.dwarf_meaning.specs.Requests.{Request, OnAnswer, Answer, BaseTypeAnswer, Input}
 use Rattle.dwarf_meaning.specs.Acts.{Use, PushesAnswer, Calls, FaultUse, use_of}
 use Rattle.dwarf_meaning.specs.RunLaws.{waits_of}
 use Rattle.dwarf_meaning.specs.Stores.{address_bits, Store, Last, Pushed, Called, push_value, push_caller}
 use Rattle.dwarf_meaning.specs.Run.{Position, Course, run_callee, enter_callee, after_push, run}
 use Rattle.dwarf_meaning.specs.Meaning.{FaultOutcome}
-use Rattle.dwarf_meaning.specs.Rest.{State, Status, Start, Running, RequestStatus, CompleteStatus, FaultStatus, with_refusal, total_of_course}
+use Rattle.dwarf_meaning.specs.Rest.{State, Status, Start, Running, RequestStatus, FaultStatus, with_refusal, total_of_course}
 use Rattle.dwarf_meaning.specs.Refusals.{Refusal, Never, After, taken, MayPick, before_input, before_pushes}
-use Rattle.dwarf_meaning.proofs.Counts.{HasTally, OnStore, Tally, tally_of, tally-push_caller}
 use Rattle.dwarf_meaning.proofs.Effects.{IsUseOf, use_is}
 use Rattle.dwarf_meaning.specs.Bounds.{waiting, faults_in}
 use Rattle.dwarf_meaning.specs.Inputs.{input_of, with_status}
-use Rattle.dwarf_eval.specs.inner.Steps.{Total, total_after, total_used, Does, Refused, Stays, Tries, Tried, Enters, TriesToEnter, Comes, ComesBy, Takes, with_last, with_values}
+use Rattle.dwarf_eval.specs.inner.Steps.{Total, total_after, total_used, Does, Refused, Stays, Pops, Tries, Tried, Enters, TriesToEnter, Comes, ComesBy, Takes, with_last, with_values}
 use Rattle.dwarf_eval.specs.inner.Answers.{IsWaiting}
-use Rattle.dwarf_eval.proofs.AnswerUses.{IsOpen, IsOpenTo, open_in}
-use Rattle.dwarf_eval.proofs.Endings.{AllGiven}
-use Rattle.dwarf_eval.proofs.Loads.{HasLast, HasPieces, Keeping, kept_in, value_adds, value_last, value_pieces, frame_adds, frame_last, frame_pieces}
-use Rattle.dwarf_eval.proofs.Nearing.{nears_by}
-use Rattle.dwarf_eval.proofs.Spending.{answered_spends, fallen_spends}
-use Rattle.dwarf_eval.proofs.Reaching.{value_tally}
-use Rattle.dwarf_eval.proofs.Staying.{stays_from, stays_then}
+use Rattle.dwarf_eval.proofs.AnswerUses.{IsOpen, IsOpenTo, open_in, turned, turned_none, turned_ok, turned_err}
+use Rattle.dwarf_eval.proofs.Computes.{width_old}
+use Rattle.dwarf_eval.proofs.Loads.{AllGiven, kept_in, caller_stored, value_stored}
+use Rattle.dwarf_eval.proofs.Spending.{nears_by, answered_spends}
+use Rattle.dwarf_eval.proofs.Reaching.{falls_here}
+use Rattle.dwarf_eval.proofs.Staying.{stays_from, stays_popped, stays_then}
 use Rattle.dwarf_eval.proofs.Totals.{closed, going, total_running, total_waits, course_failed}
 
 same_kinds : {one other : WaitingKind} → one ≡ other → is_same_kind one other ≡ true
@@ -53,9 +53,7 @@ module _ (x : State) (on_answer : OnAnswer) (answer : Answer) where
     answered_by : (status : Status) → ComesBy x (total_used x (use_of (address_bits x.setup) on_answer answer x.store.values)) new status → ComesBy x (total_after x (input_of x answer)) new status
     answered_by (FaultStatus error) h = record { refusal = h.refusal; may = h.may; same = λ inputs. totals_used h.refusal inputs ∙ h.same inputs; kept = h.kept; spends = h.spends }
     answered_by (Start initial_value) h = h
-    answered_by Running h = record { pushes = h.pushes; same = λ r inputs. totals_used (before_pushes h.pushes r) inputs ∙ h.same r inputs; kept = h.kept; spends = h.spends; nears = h.nears }
-    answered_by (RequestStatus other wanted) h = record { pushes = h.pushes; same = λ r inputs. totals_used (before_pushes h.pushes r) inputs ∙ h.same r inputs; kept = h.kept; spends = h.spends; nears = h.nears }
-    answered_by (CompleteStatus value) h = record { pushes = h.pushes; same = λ r inputs. totals_used (before_pushes h.pushes r) inputs ∙ h.same r inputs; kept = h.kept; spends = h.spends; nears = h.nears }
+    answered_by _ h = record { pushes = h.pushes; same = λ r inputs. totals_used (before_pushes h.pushes r) inputs ∙ h.same r inputs; kept = h.kept; spends = h.spends; nears = h.nears }
 
   pub answer_comes : (new : State) → IsOpenTo (kind_of_answer answer) on_answer x.status → Takes on_answer answer x new → Comes x (total_after x (input_of x answer)) new
   answer_comes new now h = answered_by new now.request now.is now.fits new.status h
@@ -78,18 +76,7 @@ module _ (x : State) (waits : IsWaiting x.status) (on_answer : OnAnswer) (answer
 
   -- an answer that ends in a fault
   takes_fault : (new : State) (error : Error) (refusal : Refusal) → new.status ≡ FaultStatus error → Stays 0 x new → MayPick x.setup.limits refusal → ((inputs : List Input) → totals refusal inputs ≡ closed (FaultOutcome (fault_of error)) x.store.count) → Takes on_answer answer x new
-  takes_fault new error refusal failed stays may same =
-      let count = stays.count in
-      let callers = stays.callers in
-      let items = stays.items in
-      let decodings = stays.decodings in
-      subst (ComesBy x totals new) (sym failed) (record {
-        refusal = refusal;
-        may = may;
-        same = λ inputs. same inputs ∙ ap (closed (FaultOutcome (fault_of error))) (sym stays.count);
-        kept = stays.kept;
-        spends = fallen_spends x new error (ap faults_in now.is) failed (omega (arith, callers)) (omega (arith, count)) (omega (arith, items)) (omega (arith, decodings, count)) stays.pieces (omega (arith, decodings, count)) (omega (arith, decodings, count));
-      })
+  takes_fault new error refusal failed stays may same = falls_here x totals new error refusal (ap faults_in now.is) failed may same stays
 
   pub denies : (error : Error) (mid new : State) → used ≡ FaultUse (fault_of error) → Stays 0 x mid → new ≡ with_status (FaultStatus error) mid → Takes on_answer answer x new
   denies error mid new e stays is =
@@ -106,14 +93,13 @@ module _ (x : State) (waits : IsWaiting x.status) (on_answer : OnAnswer) (answer
 
     value_taken : (new : State) → Does (push_value x.setup value) answered new → Takes on_answer answer x new
     value_taken new d =
-        let tally = value_tally x.setup value (with_refusal (before_pushes d.steps.pushes Never) answered.store) (with_refusal Never new.store) (d.steps.same Never) in
+        let stored = value_stored x.setup value answered.store new.store d.steps in
         let runs : new.status ≡ Running = ap (λ (z : State). z.status) d.alone in
-        let s : Store = with_refusal (before_pushes d.steps.pushes Never) answered.store in
-        let kept : kept_in new.store ≡ kept_in answered.store + 1 = subst (OnStore (Keeping (kept_in s + 1))) (d.steps.same Never) (value_adds x.setup value s) in
-        let pushed : new.store.last ≡ Pushed = subst (OnStore (HasLast s.last)) (d.steps.same Never) (value_last x.setup value s) in
+        let kept = ap kept_in stored in
+        let pushed : new.store.last ≡ Pushed = ap (λ (s : Store). s.last) stored in
         let last : waits_of new.store.last ≡ 0 = ap waits_of pushed in
         let callers = ap (λ (z : State). length z.callers) d.alone in
-        let count : new.store.count ≡ x.store.count = ap (λ (m : Tally). m.count) tally in
+        let count : new.store.count ≡ x.store.count = ap (λ (s : Store). s.count) stored in
         let low = fewer in
         subst (ComesBy x totals new) (sym runs) (record {
           pushes = d.steps.pushes;
@@ -122,9 +108,9 @@ module _ (x : State) (waits : IsWaiting x.status) (on_answer : OnAnswer) (answer
               ∙ (ap (λ (z : Result Store Fault). total_of_course x.store.count x.setup x.callers (after_push (run x.setup) position (length x.callers) inputs z)) (d.steps.same r)
               ∙ (ap (λ (n : ℕ). total_of_course n x.setup x.callers (run x.setup x.text x.place (length x.callers) (with_refusal r new.store) inputs)) (sym count)
               ∙ sym (total_running r new inputs runs ∙ ap (λ (z : State). going z (with_refusal r new.store) inputs) d.alone)));
-          kept = record { setup = ap (λ (z : State). z.setup) d.alone; settings = ap (λ (m : Tally). m.settings) tally };
+          kept = record { setup = ap (λ (z : State). z.setup) d.alone; settings = ap (λ (s : Store). s.settings) stored };
           spends = answered_spends x new now.request now.on_answer now.is runs (omega (arith, callers)) (omega (arith, callers, kept, low)) count (ap (λ (z : State). z.decodings) d.alone) (omega (arith, last))
-              (subst (OnStore (HasPieces s.pieces)) (d.steps.same Never) (value_pieces x.setup value s)) (λ given. subst (λ (l : Last). AllGiven (waiting l Running)) (sym pushed) refl);
+              (ap (λ (s : Store). s.pieces) stored) (λ given. subst (λ (l : Last). AllGiven (waiting l Running)) (sym pushed) refl);
           nears = nears_by x new (RequestStatus now.request now.on_answer) Running now.is runs (omega (arith, count));
         })
 
@@ -175,14 +161,12 @@ module _ (x : State) (waits : IsWaiting x.status) (on_answer : OnAnswer) (answer
 
     text_taken : (new : State) → Enters callee (with_status Running x) new → Takes on_answer answer x new
     text_taken new d =
-        let s : Store = with_refusal (before_pushes d.steps.pushes Never) x.store in
-        let tally : tally_of new.store ≡ tally_of x.store = subst (OnStore (HasTally (tally_of s))) (d.steps.same Never) (tally-push_caller x.setup (length x.callers) s) in
+        let stored = caller_stored x.setup (length x.callers) x.store new.store d.steps in
         let runs : new.status ≡ Running = ap (λ (z : State). z.status) d.alone in
-        let kept : kept_in new.store ≡ kept_in x.store = subst (OnStore (Keeping (kept_in s))) (d.steps.same Never) (frame_adds x.setup (length x.callers) s) in
-        let stays : new.store.last ≡ x.store.last = subst (OnStore (HasLast s.last)) (d.steps.same Never) (frame_last x.setup (length x.callers) s) in
-        let last : waits_of new.store.last ≡ waits_of x.store.last = ap waits_of stays in
+        let kept : kept_in new.store ≡ kept_in x.store = ap kept_in stored in
+        let last : waits_of new.store.last ≡ waits_of x.store.last = ap (λ (s : Store). waits_of s.last) stored in
         let callers : length new.callers ≡ suc (length x.callers) = ap (λ (z : State). length z.callers) d.alone in
-        let count : new.store.count ≡ x.store.count = ap (λ (m : Tally). m.count) tally in
+        let count : new.store.count ≡ x.store.count = ap (λ (s : Store). s.count) stored in
         subst (ComesBy x totals new) (sym runs) (record {
           pushes = d.steps.pushes;
           same = λ r inputs.
@@ -191,9 +175,9 @@ module _ (x : State) (waits : IsWaiting x.status) (on_answer : OnAnswer) (answer
               call_rest (before_pushes d.steps.pushes r) inputs (Ok t) (d.steps.same r)
               ∙ (ap (λ (n : ℕ). total_of_course n x.setup (position ∷ x.callers) course) (sym count)
               ∙ sym (total_running r new inputs runs ∙ ap (λ (z : State). going z t inputs) d.alone));
-          kept = record { setup = ap (λ (z : State). z.setup) d.alone; settings = ap (λ (m : Tally). m.settings) tally };
+          kept = record { setup = ap (λ (z : State). z.setup) d.alone; settings = ap (λ (s : Store). s.settings) stored };
           spends = answered_spends x new now.request now.on_answer now.is runs (omega (arith, callers)) (omega (arith, callers, kept)) count (ap (λ (z : State). z.decodings) d.alone) (omega (arith, last))
-              (subst (OnStore (HasPieces s.pieces)) (d.steps.same Never) (frame_pieces x.setup (length x.callers) s)) (λ given. subst (λ (l : Last). AllGiven (waiting l Running)) (sym stays) given);
+              (ap (λ (s : Store). s.pieces) stored) (λ given. subst (λ (l : Last). AllGiven (waiting l Running)) (sym (ap (λ (s : Store). s.last) stored)) given);
           nears = nears_by x new (RequestStatus now.request now.on_answer) Running now.is runs (omega (arith, count));
         })
 
@@ -208,3 +192,19 @@ module _ (x : State) (waits : IsWaiting x.status) (on_answer : OnAnswer) (answer
 
     pub text_takes : (mid new : State) (done : Bool) → mid ≡ with_status Running x → TriesToEnter callee mid new done → Takes on_answer answer x new
     text_takes mid new done e h = text_takes_by new done (subst (λ (z : State). TriesToEnter callee z new done) e h)
+
+-- ---- the top becomes a value of a type
+
+module _ (x : State) (waits : IsWaiting x.status) (on_answer : OnAnswer) (t : ValueType) (call : ℕ → ValueType → Value → Result Value Error) (is : use_of (address_bits x.setup) on_answer (BaseTypeAnswer t) x.store.values ≡ turned (address_bits x.setup) x.store.values call t) (mid new : State) where
+  pub turns_none : Pops None x mid → new ≡ with_status (FaultStatus NotEnoughStackItems) mid → Takes on_answer (BaseTypeAnswer t) x new
+  turns_none pops e = denies x waits on_answer (BaseTypeAnswer t) NotEnoughStackItems mid new (is ∙ turned_none (address_bits x.setup) x.store.values call t pops.0) (stays_popped None x mid pops) e
+
+  module _ (top : Value) (width : ℕ) (pops : Pops (Some top) x mid) (same : width ≡ address_bits mid.setup) where
+    call_is : (r : Result Value Error) → r ≡ call width t top → call (address_bits x.setup) t top ≡ r
+    call_is r e = ap (λ (w : ℕ). call w t top) (sym (width_old width pops.0 x mid pops.2 same)) ∙ sym e
+
+    pub turns_ok : (v : Value) → Ok v ≡ call width t top → Tried 0 (push_value mid.setup v) (with_status Running (with_last Pushed mid)) new → Takes on_answer (BaseTypeAnswer t) x new
+    turns_ok v e h = value_takes x waits on_answer (BaseTypeAnswer t) pops.0 v (is ∙ turned_ok (address_bits x.setup) x.store.values call t top pops.0 v pops.1 (call_is (Ok v) e)) mid new pops.2 h
+
+    pub turns_err : (error : Error) → Err error ≡ call width t top → new ≡ with_status (FaultStatus error) mid → Takes on_answer (BaseTypeAnswer t) x new
+    turns_err error e f = denies x waits on_answer (BaseTypeAnswer t) error mid new (is ∙ turned_err (address_bits x.setup) x.store.values call t top pops.0 error pops.1 (call_is (Err error) e)) (stays_popped (Some top) x mid pops) f

@@ -1,17 +1,99 @@
--- What is spent from one state to the next.
-use Rattle.std.proofs.Common.{ℕ, suc, ◌≡◌, ◌+◌, ◌*◌, ◌≤◌, List, length, Option, arith, ap, ◌∙◌, sym, refl, subst, true, cond}
-use Rattle.std.proofs.lemmas.Bool.{and_parts, cond-true}
+-- What is spent from one state to the next, and how the calls that are left fall.
+use Rattle.std.proofs.Common.{◌≡◌, ◌+◌, ◌≤◌, ◌<◌, List, Result, Ok, Err, IfOk, arith, ap, refl, ℕ, length, Some, None, ◌∙◌, sym, subst, suc, ◌*◌, Option, true, cond}
 use Rattle.dwarf_base.specs.declared.errors.Error.{Error}
-use Rattle.dwarf_value.specs.declared.types.Value.{Value}
+use Rattle.dwarf_meaning.specs.Requests.{Input, Request, OnAnswer, Settings}
+use Rattle.dwarf_meaning.specs.Refusals.{Refusal}
+use Rattle.dwarf_meaning.specs.Rest.{State, Status, Start, Running, RequestStatus, CompleteStatus, FaultStatus}
+use Rattle.dwarf_meaning.specs.Bounds.{calls_left, calls_left_by, waiting, initial_due, answer_due, endings, faults_in, DecodesOnce, Spends, is_given}
+use Rattle.dwarf_eval.specs.inner.Steps.{Comes, ComesBy, HasReply, Nears, Total, replies_by}
 use Rattle.dwarf_meaning.specs.Locations.{Location}
-use Rattle.dwarf_meaning.specs.Requests.{Request, OnAnswer}
+use Rattle.dwarf_meaning.specs.Inputs.{with_settings}
+use Rattle.dwarf_eval.proofs.Loads.{AllGiven, start_waits, piece_due, due_waits, request_waits, kept_in}
+use Rattle.std.proofs.lemmas.Bool.{and_parts, cond-true}
+use Rattle.dwarf_value.specs.declared.types.Value.{Value}
 use Rattle.dwarf_meaning.specs.RunLaws.{waits_of}
 use Rattle.dwarf_meaning.specs.Stores.{Last, Pieced, Located}
-use Rattle.dwarf_meaning.specs.Rest.{State, Status, Start, Running, RequestStatus, CompleteStatus, FaultStatus}
-use Rattle.dwarf_meaning.specs.Bounds.{waiting, initial_due, answer_due, is_given, endings, faults_in, DecodesOnce, Spends}
 use Rattle.dwarf_meaning.proofs.Turns.{waits_little}
-use Rattle.dwarf_eval.proofs.Endings.{AllGiven, piece_due, due_waits, start_waits, request_waits}
-use Rattle.dwarf_eval.proofs.Loads.{kept_in}
+
+pub nears_by : (old new : State) (was is : Status) → old.status ≡ was → new.status ≡ is → calls_left_by new is + replies_by is ≤ calls_left_by old was → Nears old new
+nears_by old new was is e f h =
+    let before = ap (calls_left_by old) e in
+    let after = ap (calls_left_by new) f in
+    let stop = ap replies_by f in
+    omega (arith, before, after, stop, h)
+
+pub nears_more : (a b c : State) → Nears a b → Nears b c → Nears a c
+nears_more a b c h i = omega (arith, h, i)
+
+-- a call that ends
+pub fewer_ended : (old new : State) (status : Status) → new.status ≡ status → replies_by status ≡ 1 → Nears old new → calls_left new < calls_left old
+fewer_ended old new status is ends h =
+    let stop = ap replies_by is in
+    omega (arith, h, stop, ends)
+
+-- a call that met a fault
+pub fewer_fallen : (old new : State) (request : Request) (on_answer : OnAnswer) (error : Error) → old.status ≡ RequestStatus request on_answer → new.status ≡ FaultStatus error → calls_left new < calls_left old
+fewer_fallen old new request on_answer error was is =
+    let before = ap (calls_left_by old) was in
+    let after = ap (calls_left_by new) is in
+    omega (arith, before, after)
+
+pub if_ok : {Y : Type 0} (P : Type 0) (told : Result Y Error) → P → IfOk told (λ t. P)
+if_ok P (Ok t) h = h
+if_ok P (Err e) h = tt
+
+module _ (old : State) (totals : Refusal → List Input → Total) (new : State) (request : Request) (on_answer : OnAnswer) (was : old.status ≡ RequestStatus request on_answer) where
+  fewer_by : (status : Status) → new.status ≡ status → HasReply status → ComesBy old totals new status → calls_left new < calls_left old
+  fewer_by (RequestStatus request on_answer) e o h = fewer_ended old new (RequestStatus request on_answer) e (omega arith) h.nears
+  fewer_by (CompleteStatus value) e o h = fewer_ended old new (CompleteStatus value) e (omega arith) h.nears
+  fewer_by (FaultStatus error) e o h = fewer_fallen old new request on_answer error was e
+  fewer_by _ e o h = absurd o
+
+  -- an answer leaves fewer calls
+  pub comes_fewer : HasReply new.status → Comes old totals new → calls_left new < calls_left old
+  comes_fewer o h = fewer_by new.status refl o h
+
+pub spent_here : (x : State) → Spends 0 x x
+spent_here x = record { items = omega arith; callers = omega arith; decodings = omega arith; once = λ d. d }
+
+-- one call more
+pub spent_more : (more : ℕ) (a b c : State) → Spends more a b → Spends 0 b c → Spends more a c
+spent_more more a b c h i =
+    record { items = omega (arith, h.items, i.items); callers = omega (arith, h.callers, i.callers); decodings = omega (arith, h.decodings, i.decodings); once = λ d. i.once (h.once d) }
+
+-- a state with the same pieces, status and counts
+once_alike : (old new : State) → faults_in new.status ≡ faults_in old.status → new.store.pieces ≡ old.store.pieces → new.store.count ≡ old.store.count → new.decodings ≡ old.decodings → waiting new.store.last new.status ≡ waiting old.store.last old.status → DecodesOnce old → DecodesOnce new
+once_alike old new faults pieces count decodings due d =
+    let ended = ap endings pieces in
+    record { each = omega (arith, d.each, ended, count, decodings); no_other = omega (arith, d.no_other, ended, count, decodings, faults); given = subst AllGiven (sym due) d.given }
+
+-- an initial value
+pub spent_initial : (number : ℕ) (a b c : State) → b.status ≡ Start None → c ≡ record b { status = Start (Some number) } → Spends 0 a b → Spends 1 a c
+spent_initial number a b c was is h =
+    let i = ap initial_due was in
+    let d = ap answer_due was in
+    let positions = ap (λ (z : State). length z.callers) is in
+    let count = ap (λ (z : State). z.store.count) is in
+    let waits : waiting c.store.last c.status ≡ waiting b.store.last b.status = ap (λ (z : State). waiting z.store.last z.status) is ∙ (start_waits b.store.last (Some number) ∙ sym (ap (waiting b.store.last) was ∙ start_waits b.store.last None)) in
+    let due = ap (λ (w : List Location). length w) waits in
+    let j = ap (λ (z : State). initial_due z.status) is in
+    let e = ap (λ (z : State). answer_due z.status) is in
+    let read = ap (λ (z : State). z.decodings) is in
+    let lists = ap (λ (z : State). length z.store.values + length z.callers + length z.store.pieces) is in
+    record {
+      items = omega (arith, h.items, i, d, lists, count, due, j, e);
+      callers = omega (arith, h.callers, d, e, positions, count);
+      decodings = omega (arith, h.decodings, due, read, count);
+      once = λ was_once.
+          let met = ap faults_in was in
+          let meets = ap (λ (z : State). faults_in z.status) is in
+          let pieces = ap (λ (z : State). z.store.pieces) is in
+          once_alike b c (omega (arith, met, meets)) pieces count read waits (h.once was_once);
+    }
+
+-- the settings
+pub setting_spends : (settings : Settings) (x : State) → Spends 0 x (with_settings settings x)
+setting_spends settings x = record { items = omega arith; callers = omega arith; decodings = omega arith; once = once_alike x (with_settings settings x) refl refl refl refl refl }
 
 -- what is due in a state that isn't over
 record Due (x : State) (items callers : ℕ) : Type 0 where
@@ -31,9 +113,7 @@ running x e = due_by x Running e refl
 -- this many operations more were counted and pieces ended, and this many decoded, from where no fault was met
 once_by : (old new : State) → faults_in old.status ≡ 0 → new.decodings + old.store.count + endings old.store.pieces ≡ old.decodings + new.store.count + endings new.store.pieces → AllGiven (waiting new.store.last new.status) → DecodesOnce old → DecodesOnce new
 once_by old new sound same given d =
-    let each = d.each in
-    let no_other = d.no_other in
-    record { each = omega (arith, each, same); no_other = omega (arith, no_other, same, sound); given = given }
+    record { each = omega (arith, d.each, same); no_other = omega (arith, d.no_other, same, sound); given = given }
 
 module _ (old new : State) where
   -- an operation that was counted and read, and what it does with what is kept
@@ -135,7 +215,5 @@ fallen_spends old new error sound is callers count lists decodings pieces each o
       callers = omega (arith, b, callers, count);
       decodings = omega (arith, q, decodings);
       once = λ d.
-          let was_each = d.each in
-          let was_no_other = d.no_other in
-          record { each = omega (arith, was_each, each, ended); no_other = omega (arith, was_no_other, one, ended, sound, met); given = subst AllGiven (sym v) refl };
+          record { each = omega (arith, d.each, each, ended); no_other = omega (arith, d.no_other, one, ended, sound, met); given = subst AllGiven (sym v) refl };
     }

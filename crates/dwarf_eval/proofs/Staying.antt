@@ -3,12 +3,10 @@ use Rattle.std.proofs.Common.{ℕ, ◌≡◌, ◌+◌, ◌≤◌, List, ◌∷�
 use Rattle.dwarf_value.specs.declared.types.Value.{Value}
 use Rattle.dwarf_meaning.specs.RunLaws.{waits_of}
 use Rattle.dwarf_meaning.specs.Stores.{Setup, Store, Last, push_value}
-use Rattle.dwarf_meaning.specs.Rest.{State, Status, with_refusal}
-use Rattle.dwarf_meaning.specs.Refusals.{Never, before_pushes}
-use Rattle.dwarf_meaning.proofs.Counts.{HasTally, OnStore, Tally, tally_of, tally-push_value}
+use Rattle.dwarf_meaning.specs.Rest.{State, Status}
 use Rattle.dwarf_meaning.specs.Inputs.{Keeps, with_status}
 use Rattle.dwarf_eval.specs.inner.Steps.{Does, Pops, PopsNumber, Stays, with_last, with_values}
-use Rattle.dwarf_eval.proofs.Loads.{HasLast, HasPieces, Keeping, kept_in, value_adds, value_last, value_pieces}
+use Rattle.dwarf_eval.proofs.Loads.{kept_in, value_stored}
 
 pub keeps_here : (x : State) → Keeps x x
 keeps_here x = record { setup = refl; settings = refl }
@@ -21,8 +19,6 @@ stays_here x = record { kept = keeps_here x; text = refl; callers = refl; count 
 
 pub stays_more : (n m : ℕ) (a b c : State) → Stays n a b → Stays m b c → Stays (n + m) a c
 stays_more n m a b c h i =
-    let items = h.items in
-    let items_then = i.items in
     record {
       kept = keeps_more a b c h.kept i.kept;
       text = i.text ∙ h.text;
@@ -30,13 +26,12 @@ stays_more n m a b c h i =
       count = i.count ∙ h.count;
       decodings = i.decodings ∙ h.decodings;
       pieces = i.pieces ∙ h.pieces;
-      items = omega (arith, items, items_then);
+      items = omega (arith, h.items, i.items);
     }
 
 -- Before this step values were popped, the sort of the last operation was noted, and a status was entered.
 pub stays_from : (n m : ℕ) (rest : List Value) (last : Last) (status : Status) (old new : State) → length rest + n ≤ length old.store.values + m → Stays n (with_status status (with_last last (with_values rest old))) new → Stays m old new
 stays_from n m rest last status old new fits h =
-    let items = h.items in
     record {
       kept = record { setup = h.kept.setup; settings = h.kept.settings };
       text = h.text;
@@ -44,7 +39,7 @@ stays_from n m rest last status old new fits h =
       count = h.count;
       decodings = h.decodings;
       pieces = h.pieces;
-      items = omega (arith, fits, items);
+      items = omega (arith, fits, h.items);
     }
 
 -- a status was entered
@@ -77,16 +72,15 @@ stays_number (Some number) old new h = stays_low h.rest old.store.last old new (
 -- a value was pushed
 pub stays_pushed : (setup : Setup) (value : Value) (old new : State) → Does (push_value setup value) old new → Stays 1 old new
 stays_pushed setup value old new d =
-    let s : Store = with_refusal (before_pushes d.steps.pushes Never) old.store in
-    let tally : tally_of new.store ≡ tally_of old.store = subst (OnStore (HasTally (tally_of s))) (d.steps.same Never) (tally-push_value setup value s) in
-    let kept : kept_in new.store ≡ kept_in old.store + 1 = subst (OnStore (Keeping (kept_in s + 1))) (d.steps.same Never) (value_adds setup value s) in
-    let last : waits_of new.store.last ≡ waits_of old.store.last = ap waits_of (subst (OnStore (HasLast s.last)) (d.steps.same Never) (value_last setup value s)) in
+    let stored = value_stored setup value old.store new.store d.steps in
+    let kept = ap kept_in stored in
+    let last = ap (λ (s : Store). waits_of s.last) stored in
     record {
-      kept = record { setup = ap (λ (z : State). z.setup) d.alone; settings = ap (λ (m : Tally). m.settings) tally };
+      kept = record { setup = ap (λ (z : State). z.setup) d.alone; settings = ap (λ (s : Store). s.settings) stored };
       text = ap (λ (z : State). z.text) d.alone;
       callers = ap (λ (z : State). length z.callers) d.alone;
-      count = ap (λ (m : Tally). m.count) tally;
+      count = ap (λ (s : Store). s.count) stored;
       decodings = ap (λ (z : State). z.decodings) d.alone;
-      pieces = subst (OnStore (HasPieces s.pieces)) (d.steps.same Never) (value_pieces setup value s);
+      pieces = ap (λ (s : Store). s.pieces) stored;
       items = omega (arith, kept, last);
     }

@@ -111,8 +111,7 @@ returned_beyond setup f back (caller ∷ callers) course =
 -- an operation is counted
 counted_back : (setup : Setup) (caller position : Position) (depth : ℕ) (course : Course) (end : End) → return_to_caller (run setup) caller depth (prepend (position ∷ []) [] course) end ≡ prepend (position ∷ []) [] (return_to_caller (run setup) caller depth course end)
 counted_back setup caller position depth course (CompleteEnd s inputs) = refl
-counted_back setup caller position depth course (RequestEnd request positions inputs) = refl
-counted_back setup caller position depth course (FaultEnd fault) = refl
+counted_back setup caller position depth course _ = refl
 
 pub course_counted : (n : ℕ) (setup : Setup) (callers : List Position) (position : Position) (course : Course) → total_of_course n setup callers (prepend (position ∷ []) [] course) ≡ total_of_course (n + 1) setup callers course
 course_counted n setup callers position course =
@@ -124,8 +123,7 @@ course_counted n setup callers position course =
 -- a request is no part of a total
 asked_back : (setup : Setup) (caller : Position) (request : Request) (depth : ℕ) (course : Course) (end : End) → return_to_caller (run setup) caller depth (prepend [] (request ∷ []) course) end ≡ prepend [] (request ∷ []) (return_to_caller (run setup) caller depth course end)
 asked_back setup caller request depth course (CompleteEnd s inputs) = refl
-asked_back setup caller request depth course (RequestEnd other positions inputs) = refl
-asked_back setup caller request depth course (FaultEnd fault) = refl
+asked_back setup caller request depth course _ = refl
 
 pub course_asked : (n : ℕ) (setup : Setup) (callers : List Position) (request : Request) (course : Course) → total_of_course n setup callers (prepend [] (request ∷ []) course) ≡ total_of_course n setup callers course
 course_asked n setup callers request course =

@@ -10,22 +10,19 @@ use Rattle.dwarf_base.specs.Reads.{Text}
 use Rattle.dwarf_meaning.specs.Operations.{Operation}
 use Rattle.dwarf_meaning.specs.Requests.{Request, OnAnswer, Input}
 use Rattle.dwarf_meaning.specs.RunLaws.{waits_of}
-use Rattle.dwarf_meaning.specs.Stores.{Setup, address_bits, Store, Last, Nothing, Plain, Pieced, Pushed, Called, Located, Next, Goes, RequestNext, FaultNext}
+use Rattle.dwarf_meaning.specs.Stores.{Setup, address_bits, Store, Last, Located, Next, Goes, RequestNext, FaultNext}
 use Rattle.dwarf_meaning.specs.Run.{Position, CompleteEnd, FaultEnd, Course, only_end, prepend, read, most, can_count, counted, counted_act, do_operation, turn_counted, after_operation, await_answer, turn_by, run}
 use Rattle.dwarf_meaning.specs.Meaning.{FaultOutcome}
-use Rattle.dwarf_meaning.specs.Rest.{State, Status, Start, Running, RequestStatus, CompleteStatus, FaultStatus, with_refusal, total_of_course}
+use Rattle.dwarf_meaning.specs.Rest.{State, Status, Running, RequestStatus, FaultStatus, with_refusal, total_of_course}
 use Rattle.dwarf_meaning.specs.Refusals.{Refusal, Never, MayPick, before_pushes}
 use Rattle.dwarf_meaning.proofs.Counts.{HasTally, OnNext, Tally, tally_of, tally-done}
 use Rattle.dwarf_meaning.proofs.Effects.{act_is}
-use Rattle.dwarf_meaning.proofs.Turns.{run_turn, below_most}
+use Rattle.dwarf_meaning.proofs.Turns.{run_turn, below_most, waits_little}
 use Rattle.dwarf_meaning.specs.Bounds.{endings, faults_in}
 use Rattle.dwarf_meaning.specs.Inputs.{Keeps, with_status}
-use Rattle.dwarf_eval.specs.inner.Steps.{Stays, total, CountsOne, ReadsOperation, act_of, done_at, LeadsToPlace, LeadsToRequest, LeadsToFault, LeadsBy, Performs, read_to, with_store, Falls, ComesBy, is_free, IsReady, Turns, effort, effort_by}
-use Rattle.dwarf_meaning.proofs.Turns.{waits_little}
-use Rattle.dwarf_eval.proofs.Endings.{EndsNoMore, done_ends, free_given, piece_due}
-use Rattle.dwarf_eval.proofs.Loads.{IsLighter, kept_in, done_lighter}
-use Rattle.dwarf_eval.proofs.Nearing.{nears_by}
-use Rattle.dwarf_eval.proofs.Spending.{asked_spends, counted_spends, fallen_spends}
+use Rattle.dwarf_eval.specs.inner.Steps.{Stays, total, CountsOne, ReadsOperation, act_of, done_at, LeadsToPlace, LeadsToRequest, LeadsToFault, LeadsBy, Performs, read_to, with_store, ComesBy, is_free, IsReady, Turns, effort, effort_by}
+use Rattle.dwarf_eval.proofs.Loads.{EndsNoMore, done_ends, free_given, piece_due, IsLighter, kept_in, done_lighter}
+use Rattle.dwarf_eval.proofs.Spending.{nears_by, asked_spends, counted_spends, fallen_spends}
 use Rattle.dwarf_eval.proofs.Staying.{stays_status}
 use Rattle.dwarf_eval.proofs.Totals.{closed, going, waiting_total, total_running, total_waits, course_failed, course_counted, course_asked}
 
@@ -51,12 +48,8 @@ less_counted x new runs still can callers count =
 -- ---- the turn
 
 free_turn : (setup : Setup) (text : Text) (place depth : ℕ) (s : Store) (inputs : List Input) (last : Last) → is_free last ≡ true → turn_by (run setup) setup text place depth s inputs last ≡ turn_counted (run setup) setup text place depth s inputs
-free_turn setup text place depth s inputs Nothing h = refl
-free_turn setup text place depth s inputs Plain h = refl
-free_turn setup text place depth s inputs Pieced h = refl
-free_turn setup text place depth s inputs Pushed h = refl
-free_turn setup text place depth s inputs Called h = refl
 free_turn setup text place depth s inputs (Located location) h = cc
+free_turn setup text place depth s inputs _ h = refl
 
 -- what is left inside a text, by its next turn
 pub total_inside : (x : State) (r : Refusal) (inputs : List Input) → x.status ≡ Running → x.place < length x.text.bytes → total x r inputs ≡ total_of_course x.store.count x.setup x.callers (turn_by (run x.setup) x.setup x.text x.place (length x.callers) (with_refusal r x.store) inputs x.store.last)
@@ -67,13 +60,6 @@ total_inside x r inputs runs inside =
     ∙ ap (total_of_course x.store.count x.setup x.callers)
     (run_turn x.setup x.text x.place (length x.callers) s inputs
     ∙ cond-false (x.place == length x.text.bytes) (only_end (CompleteEnd s inputs)) (turn_by (run x.setup) x.setup x.text x.place (length x.callers) s inputs s.last) before_end)
-
--- a turn that ends in a fault
-pub falls_turns : (x new : State) (error : Error) → x.status ≡ Running → new.status ≡ FaultStatus error → Falls x (total x) (fault_of error) new → Turns x new
-falls_turns x new error runs failed falls = record {
-  comes = subst (ComesBy x (total x) new) (sym failed) falls;
-  less = less_stopped x new (FaultStatus error) runs failed refl;
-}
 
 -- From the beginning of a turn to where a fault is met: the lists stay, and each operation that was counted was decoded,
 -- and one more at most.
@@ -91,23 +77,20 @@ pub record ReadsOn (x y : State) : Type 0 where
 -- a turn that met a fault, and nothing else was done
 pub falls_from : (x y new : State) (error : Error) (refusal : Refusal) → x.status ≡ Running → new.status ≡ FaultStatus error → MayPick x.setup.limits refusal → ((inputs : List Input) → total x refusal inputs ≡ closed (FaultOutcome (fault_of error)) y.store.count) → ReadsOn x y → Stays 0 y new → Turns x new
 falls_from x y new error refusal runs failed may same reads stays =
-    let count = reads.count in
-    let callers = reads.callers in
-    let items = reads.items in
-    let decodings = reads.decodings in
-    let each = reads.each in
-    let one = reads.one in
-    let count_then = stays.count in
-    let callers_then = stays.callers in
-    let items_then = stays.items in
-    let decodings_then = stays.decodings in
-    falls_turns x new error runs failed (record {
-      refusal = refusal;
-      may = may;
-      same = λ inputs. same inputs ∙ ap (closed (FaultOutcome (fault_of error))) (sym count_then);
-      kept = record { setup = stays.kept.setup ∙ reads.setup; settings = stays.kept.settings ∙ reads.settings };
-      spends = fallen_spends x new error (ap faults_in runs) failed (omega (arith, callers, callers_then)) (omega (arith, count, count_then)) (omega (arith, items, items_then)) (omega (arith, decodings, decodings_then, count_then)) (stays.pieces ∙ reads.pieces) (omega (arith, each, decodings_then, count_then)) (omega (arith, one, decodings_then, count_then));
-    })
+    record {
+      comes = subst (ComesBy x (total x) new) (sym failed) (record {
+        refusal = refusal;
+        may = may;
+        same = λ inputs. same inputs ∙ ap (closed (FaultOutcome (fault_of error))) (sym stays.count);
+        kept = record { setup = stays.kept.setup ∙ reads.setup; settings = stays.kept.settings ∙ reads.settings };
+        spends = fallen_spends x new error (ap faults_in runs) failed (omega (arith, reads.callers, stays.callers)) (omega (arith, reads.count, stays.count)) (omega (arith, reads.items, stays.items)) (omega (arith, reads.decodings, stays.decodings, stays.count)) (stays.pieces ∙ reads.pieces) (omega (arith, reads.each, stays.decodings, stays.count)) (omega (arith, reads.one, stays.decodings, stays.count));
+      });
+      less = less_stopped x new (FaultStatus error) runs failed refl;
+    }
+
+-- nothing was done
+pub reads_none : (x : State) → ReadsOn x x
+reads_none x = record { setup = refl; settings = refl; callers = refl; items = refl; pieces = refl; count = omega arith; decodings = omega arith; each = omega arith; one = omega arith }
 
 -- if the operation was read
 abbrev pub beyond_op : State → ℕ → State
@@ -129,7 +112,7 @@ module _ (x : State) (ready : IsReady x) where
       ready_total Never inputs
       ∙ (ap (total_of_course x.store.count x.setup x.callers) (cond-false (can_count x.store) _ (only_end (FaultEnd TooManyIterations)) h.0)
       ∙ course_failed x.store.count x.setup x.callers TooManyIterations))
-      (record { setup = refl; settings = refl; callers = refl; items = refl; pieces = refl; count = omega arith; decodings = omega arith; each = omega arith; one = omega arith })
+      (reads_none x)
       (stays_status (FaultStatus error.TooManyIterations) x new h.1)
 
   module _ (can : can_count x.store ≡ true) where
@@ -242,8 +225,7 @@ module _ (x : State) (ready : IsReady x) where
       ready_by new Running e h = ready_goes new e h
       ready_by new (RequestStatus request on_answer) e h = ready_asks new request on_answer e h
       ready_by new (FaultStatus error) e h = ready_fails new error e h
-      ready_by new (Start initial_value) e h = absurd h
-      ready_by new (CompleteStatus value) e h = absurd h
+      ready_by new _ e h = absurd h
 
       pub ready_performs : (new : State) → Performs (act_of there op) there new → Turns x new
       ready_performs new h = ready_by new new.status refl h

@@ -1,5 +1,5 @@
 -- Calls that answer, one more step each.
-use Rattle.std.proofs.Common.{ℕ, suc, ◌≡◌, ◌⊎◌, inl, inr, List, [], ◌∷◌, ◌++◌, length, Result, Option, Some, None, arith, ap, ◌∙◌, sym, refl, subst, append_assoc}
+use Rattle.std.proofs.Common.{ℕ, suc, ◌≡◌, ◌⊎◌, inl, inr, List, [], ◌∷◌, ◌++◌, length, Result, Err, Option, Some, None, arith, ap, ◌∙◌, sym, refl, subst, append_assoc}
 use Rattle.std.proofs.lemmas.List.{append-nil, length-append}
 use Rattle.dwarf_base.specs.declared.errors.Error.{Error}
 use Rattle.dwarf_base.specs.Faults.{Fault, fault_of}
@@ -11,10 +11,9 @@ use Rattle.dwarf_meaning.specs.Stores.{Setup}
 use Rattle.dwarf_meaning.specs.Run.{Position}
 use Rattle.dwarf_meaning.specs.Meaning.{IsOver, Outcome, RequestOutcome, FaultOutcome, CompleteOutcome, First, meaning}
 use Rattle.dwarf_meaning.specs.Rest.{State, Status, Start, Running, RequestStatus, CompleteStatus, FaultStatus, Total, first_of, total, total_after}
-use Rattle.std.specs.Option.{unwrap_or}
-use Rattle.std.specs.Option.{IfSome}
+use Rattle.std.specs.Option.{unwrap_or, IfSome}
 use Rattle.dwarf_meaning.proofs.Outcomes.{outcome_from}
-use Rattle.dwarf_meaning.specs.Steps.{Step, InitialValue, ObjectAddress, MaxIterations, Evaluate, Resume, Told, Reply, CompleteReply, FaultReply, reply, replies, Awaits, Allows, after, outcome_of, step_replies}
+use Rattle.dwarf_meaning.specs.Steps.{Step, Evaluate, Resume, Told, Reply, CompleteReply, FaultReply, reply, replies, Awaits, Allows, after, outcome_of, step_replies}
 use Rattle.dwarf_meaning.specs.Refusals.{Refusal, IsLater, before_inputs, MayPick, before_input}
 use Rattle.dwarf_eval.specs.Evaluation.{IsReplied, Follows, IsClosed, Evaluates, Resumes, reply_of, input_of}
 use Rattle.dwarf_eval.specs.Permits.{IsOpenFor}
@@ -23,9 +22,8 @@ use Rattle.dwarf_replay.specs.Replays.{Tells}
 use Rattle.dwarf_eval.specs.declared.op.results.EvaluationResult.{EvaluationResult}
 use Rattle.dwarf_meaning.specs.Bounds.{Spends, faults_in}
 use Rattle.dwarf_eval.proofs.Following.{told_total, total_open, total_complete, total_meaning}
-use Rattle.dwarf_eval.proofs.CallSpending.{spent_more}
-use Rattle.dwarf_replay.proofs.Telling.{walked_more}
-use Rattle.dwarf_replay.proofs.Standings.{Holds, Unstarted, Going, Over, WentBy, Went, later_before, may_inputs, initial_count}
+use Rattle.dwarf_eval.proofs.Spending.{spent_more}
+use Rattle.dwarf_replay.proofs.Standings.{walked_more, Holds, Unstarted, Going, Over, WentBy, Went, later_before, may_inputs, initial_count}
 
 -- ---- calls that answer
 
@@ -34,8 +32,7 @@ some_not_none settings e = cc
 
 reply_fault : (o : Outcome) (fault : Fault) → reply o ≡ FaultReply fault → o ≡ FaultOutcome fault
 reply_fault (RequestOutcome request positions) fault e = cc
-reply_fault (CompleteOutcome pieces value) fault e = cc
-reply_fault (FaultOutcome other) fault e = cc
+reply_fault _ fault e = cc
 
 module _ (first : State) where
   -- what the steps come to, in a state that goes on
@@ -89,13 +86,11 @@ module _ (first : State) where
     }
 
     called_by : (status : Status) → new.status ≡ status → MayPick first.setup.limits (before_inputs n h.refusal) → Holds first now new → Spends (initial_count now.now.initial_value) first new → ((r : Refusal) → (IsLater r ⊎ (r ≡ h.refusal)) → told ≡ reply (totals r []).outcome → Tells first (steps ++ step ∷ []) (given ++ told ∷ []) now (before_inputs n r)) → WentBy first (steps ++ step ∷ []) (given ++ told ∷ []) new status
-    called_by (RequestStatus request on_answer) e may holds spent walked =
-        called_going (ap faults_in e) holds spent (λ r l. walked r (inl l))
-    called_by (CompleteStatus value) e may holds spent walked =
-        called_going (ap faults_in e) holds spent (λ r l. walked r (inl l))
     called_by (FaultStatus error) e may holds spent walked = called_over error e may spent (walked h.refusal (inr refl) h.reply)
     called_by (Start initial_value) e may holds spent walked = absurd (subst (IsReplied told) e h.status)
     called_by Running e may holds spent walked = absurd (subst (IsReplied told) e h.status)
+    called_by _ e may holds spent walked =
+        called_going (ap faults_in e) holds spent (λ r l. walked r (inl l))
 
 -- ---- each call
 
@@ -197,40 +192,28 @@ module _ (first : State) (steps : List Step) (given : List Reply) (x new : State
       (called_replies first steps given (Resume answer) x new told (total_after x input) h now (suc w.taken) w.settings w.started counted means_is (λ o. refl) r s))
 
 module _ {R O P : Type 0} (text : R → Text) (number : O → ℕ) (first : State) (steps : List Step) (given : List Reply) (x new : State) where
+  -- it replied what it had replied, and changed nothing
+  stays_so : (all : List Step) (status : Status) → x.status ≡ status → (was told : Result (EvaluationResult R O P) Error) → (told ≡ was) × (new ≡ x) → WentBy first all (given ++ reply_of text number was ∷ []) x status → Went first all (given ++ reply_of text number told ∷ []) new
+  stays_so all status e was told h w =
+      subst (Went first all (given ++ reply_of text number told ∷ [])) (sym h.1)
+      (subst (λ (t : Result (EvaluationResult R O P) Error). Went first all (given ++ reply_of text number t ∷ []) x) (sym h.0)
+      (subst (WentBy first all (given ++ reply_of text number was ∷ []) x) (sym e) w))
+
   evaluates : (status : Status) → x.status ≡ status → (told : Result (EvaluationResult R O P) Error) → WentBy first steps given x status → Evaluates text number x new told status → IsClosed status → Went first (steps ++ Evaluate ∷ []) (given ++ reply_of text number told ∷ []) new
   evaluates (Start initial_value) e told w h c = starts first steps given x new (reply_of text number told) initial_value e w h
-  evaluates (CompleteStatus value) e told w h c =
-      let again : Went first (steps ++ Evaluate ∷ []) (given ++ CompleteReply ∷ []) x =
-      subst (WentBy first (steps ++ Evaluate ∷ []) (given ++ CompleteReply ∷ []) x) (sym e) (completes_again first steps given x new value e w) in
-      let replied : Went first (steps ++ Evaluate ∷ []) (given ++ reply_of text number told ∷ []) x =
-      subst (λ (t : Result (EvaluationResult R O P) Error). Went first (steps ++ Evaluate ∷ []) (given ++ reply_of text number t ∷ []) x) (sym h.0) again in
-      subst (Went first (steps ++ Evaluate ∷ []) (given ++ reply_of text number told ∷ [])) (sym h.1) replied
+  evaluates (CompleteStatus value) e told w h c = stays_so (steps ++ Evaluate ∷ []) (CompleteStatus value) e _ told h (completes_again first steps given x new value e w)
   evaluates (FaultStatus error) e told w h c =
-      let again : Went first (steps ++ Evaluate ∷ []) (given ++ FaultReply (fault_of error) ∷ []) x =
-      subst (WentBy first (steps ++ Evaluate ∷ []) (given ++ FaultReply (fault_of error) ∷ []) x) (sym e)
-      (fails_again first steps given x new error Evaluate w tt (begun_already first steps given x new w.told w.settings (Some (FaultOutcome (fault_of error))) w.started) refl) in
-      let replied : Went first (steps ++ Evaluate ∷ []) (given ++ reply_of text number told ∷ []) x =
-      subst (λ (t : Result (EvaluationResult R O P) Error). Went first (steps ++ Evaluate ∷ []) (given ++ reply_of text number t ∷ []) x) (sym h.0) again in
-      subst (Went first (steps ++ Evaluate ∷ []) (given ++ reply_of text number told ∷ [])) (sym h.1) replied
+      stays_so (steps ++ Evaluate ∷ []) (FaultStatus error) e (Err error) told h
+      (fails_again first steps given x new error Evaluate w tt (begun_already first steps given x new w.told w.settings (Some (FaultOutcome (fault_of error))) w.started) refl)
   evaluates (RequestStatus request on_answer) e told w h c = absurd c
   evaluates Running e told w h c = absurd w
 
   resumes : (status : Status) → x.status ≡ status → (answer : Answer) (told : Result (EvaluationResult R O P) Error) → WentBy first steps given x status → Resumes text number (input_of x answer) x new told status → IsOpenFor (kind_of_answer answer) status → Went first (steps ++ Resume answer ∷ []) (given ++ reply_of text number told ∷ []) new
   resumes (RequestStatus request on_answer) e answer told w h k = goes_on first steps given x new (reply_of text number told) answer request on_answer e k w h
-  resumes (FaultStatus error) e answer told w h k =
-      let again : Went first (steps ++ Resume answer ∷ []) (given ++ FaultReply (fault_of error) ∷ []) x =
-      subst (WentBy first (steps ++ Resume answer ∷ []) (given ++ FaultReply (fault_of error) ∷ []) x) (sym e)
-      (fails_again first steps given x new error (Resume answer) w tt refl refl) in
-      let replied : Went first (steps ++ Resume answer ∷ []) (given ++ reply_of text number told ∷ []) x =
-      subst (λ (t : Result (EvaluationResult R O P) Error). Went first (steps ++ Resume answer ∷ []) (given ++ reply_of text number t ∷ []) x) (sym h.0) again in
-      subst (Went first (steps ++ Resume answer ∷ []) (given ++ reply_of text number told ∷ [])) (sym h.1) replied
-  resumes (Start initial_value) e answer told w h k = absurd k
-  resumes (CompleteStatus value) e answer told w h k = absurd k
-  resumes Running e answer told w h k = absurd k
+  resumes (FaultStatus error) e answer told w h k = stays_so (steps ++ Resume answer ∷ []) (FaultStatus error) e (Err error) told h (fails_again first steps given x new error (Resume answer) w tt refl refl)
+  resumes _ e answer told w h k = absurd k
 
   pub called_went_on : (step : Step) (told : Result (EvaluationResult R O P) Error) → HasReplied text number step x new told → Went first steps given x → Went first (steps ++ step ∷ []) (given ++ reply_of text number told ∷ []) new
   called_went_on Evaluate told h w = evaluates x.status refl told w h.1 h.0
   called_went_on (Resume answer) told h w = resumes x.status refl answer told w h.1 h.0
-  called_went_on (InitialValue value) told h w = absurd h
-  called_went_on (ObjectAddress address) told h w = absurd h
-  called_went_on (MaxIterations maximum) told h w = absurd h
+  called_went_on _ told h w = absurd h

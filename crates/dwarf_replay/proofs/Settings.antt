@@ -5,15 +5,14 @@ use Rattle.dwarf_meaning.specs.Requests.{Request, OnAnswer, Input, Settings}
 use Rattle.dwarf_meaning.specs.Refusals.{Refusal, before_inputs}
 use Rattle.dwarf_meaning.specs.Meaning.{Outcome, meaning}
 use Rattle.dwarf_meaning.specs.Rest.{State, Status, Start, Running, RequestStatus, CompleteStatus, FaultStatus, with_refusal, Total, total_by, total}
-use Rattle.dwarf_meaning.specs.Steps.{Step, InitialValue, ObjectAddress, MaxIterations, Evaluate, Resume, Told, Reply, Allows, after, step_replies}
+use Rattle.dwarf_meaning.specs.Steps.{Step, InitialValue, ObjectAddress, MaxIterations, Told, Reply, Allows, after, step_replies}
 use Rattle.dwarf_meaning.specs.Inputs.{with_settings}
 use Rattle.dwarf_eval.specs.Evaluation.{with_status}
 use Rattle.dwarf_replay.specs.Stepping.{IsSet}
 use Rattle.dwarf_replay.specs.Replays.{Tells}
 use Rattle.dwarf_meaning.specs.Bounds.{Spends}
-use Rattle.dwarf_eval.proofs.CallSpending.{setting_spends, spent_initial, spent_more}
-use Rattle.dwarf_replay.proofs.Telling.{outcome, walked_more}
-use Rattle.dwarf_replay.proofs.Standings.{Holds, Unstarted, Going, WentBy, Went, initial_count}
+use Rattle.dwarf_eval.proofs.Spending.{setting_spends, spent_initial, spent_more}
+use Rattle.dwarf_replay.proofs.Standings.{outcome, walked_more, Holds, Unstarted, Going, WentBy, Went, initial_count}
 
 -- a request is open, or the evaluation is complete
 abbrev IsOpenOrComplete : Status → Type 0
@@ -32,9 +31,7 @@ module _ (first : State) where
   total_set_by : (settings : Settings) (r : Refusal) (x : State) (inputs : List Input) (status : Status) → IsOpenOrComplete status → total_by (with_settings settings x) (with_refusal r (with_settings settings x).store) inputs status ≡ total_by x (with_refusal r x.store) inputs status
   total_set_by settings r x inputs (RequestStatus request on_answer) h = waits_set settings r x inputs request on_answer
   total_set_by settings r x inputs (CompleteStatus value) h = refl
-  total_set_by settings r x inputs (Start initial_value) h = absurd h
-  total_set_by settings r x inputs (FaultStatus error) h = absurd h
-  total_set_by settings r x inputs Running h = absurd h
+  total_set_by settings r x inputs _ h = absurd h
 
   total_set : (settings : Settings) (r : Refusal) (x : State) (inputs : List Input) → IsOpenOrComplete x.status → total (with_settings settings x) r inputs ≡ total x r inputs
   unfolding total
@@ -92,8 +89,6 @@ module _ (first : State) where
       holds = s.holds w.told w.holds;
       spent = set_spent w.told w.spent;
     }
-    set_by (RequestStatus request on_answer) e w = set_going (subst IsOpenOrComplete (sym e) tt) w
-    set_by (CompleteStatus value) e w = set_going (subst IsOpenOrComplete (sym e) tt) w
     set_by (FaultStatus error) e w = record {
       told = s.tells w.told;
       refusal = w.refusal;
@@ -105,6 +100,7 @@ module _ (first : State) where
       spent = set_spent w.told w.spent;
     }
     set_by Running e w = absurd w
+    set_by _ e w = set_going (subst IsOpenOrComplete (sym e) tt) w
 
     set_went : Went first steps given x → Went first (steps ++ step ∷ []) given new
     set_went w =
@@ -148,5 +144,4 @@ module _ (first : State) where
   set_went_on steps given (InitialValue number) x new h w = initial_went steps given number x new h.0 h.1 w
   set_went_on steps given (ObjectAddress address) x new h w = set_went steps given (ObjectAddress address) x new (one_setting (ObjectAddress address) (λ k. record k { object_address = Some address }) x new (λ told o. tt) (λ told o. refl) (λ o. refl) h) w
   set_went_on steps given (MaxIterations maximum) x new h w = set_went steps given (MaxIterations maximum) x new (one_setting (MaxIterations maximum) (λ k. record k { maximum = maximum }) x new (λ told o. tt) (λ told o. refl) (λ o. refl) h) w
-  set_went_on steps given Evaluate x new h w = absurd h
-  set_went_on steps given (Resume answer) x new h w = absurd h
+  set_went_on steps given _ x new h w = absurd h

@@ -1,15 +1,18 @@
--- What some steps came to, by where the evaluation stands.
-use Rattle.std.proofs.Common.{ℕ, zero, suc, ◌≡◌, List, [], ◌++◌, length, Option, Some, None, sym, refl, subst}
+-- What some steps came to, by where the evaluation stands, and one step more.
+use Rattle.std.proofs.Common.{ℕ, zero, suc, ◌≡◌, List, [], ◌++◌, length, Option, Some, None, sym, refl, subst, ◌∷◌, ap, ◌∙◌, append_assoc}
 use Rattle.dwarf_base.specs.declared.errors.Error.{Error}
 use Rattle.dwarf_base.specs.Faults.{fault_of}
 use Rattle.dwarf_meaning.specs.Requests.{Input}
 use Rattle.dwarf_meaning.specs.Refusals.{Refusal, Never, After, Limits, IsLater, before_inputs, MayPick, before_input}
-use Rattle.dwarf_meaning.specs.Meaning.{FaultOutcome, First, meaning}
-use Rattle.dwarf_meaning.specs.Rest.{State, Status, Start, Running, RequestStatus, CompleteStatus, FaultStatus, total}
-use Rattle.dwarf_meaning.specs.Steps.{Step, Told, Reply}
+use Rattle.dwarf_meaning.specs.Meaning.{FaultOutcome, First, meaning, Outcome}
+use Rattle.dwarf_meaning.specs.Rest.{State, Status, Start, Running, FaultStatus, total}
+use Rattle.dwarf_meaning.specs.Steps.{Step, Told, Reply, Allows, AllAllowed, after, after_step, after_steps, replies_of, outcome_of, step_replies}
 use Rattle.dwarf_replay.specs.Replays.{told_at, Tells}
 use Rattle.dwarf_meaning.specs.Bounds.{Spends}
-use Rattle.dwarf_eval.proofs.CallSpending.{spent_here}
+use Rattle.dwarf_eval.proofs.Spending.{spent_here}
+use Rattle.std.proofs.lemmas.List.{append-nil}
+use Rattle.dwarf_base.specs.Reads.{Text}
+use Rattle.dwarf_meaning.specs.Stores.{Setup}
 
 -- ---- what some steps came to
 
@@ -59,10 +62,9 @@ pub record Over (first : State) (steps : List Step) (given : List Reply) (x : St
 
 abbrev pub WentBy : State → List Step → List Reply → State → Status → Type 0
 WentBy first steps given x (Start initial_value) = Unstarted first steps given x initial_value
-WentBy first steps given x (RequestStatus request on_answer) = Going first steps given x
-WentBy first steps given x (CompleteStatus value) = Going first steps given x
 WentBy first steps given x (FaultStatus error) = Over first steps given x error
 WentBy first steps given x Running = ⊥
+WentBy first steps given x _ = Going first steps given x
 
 abbrev pub Went : State → List Step → List Reply → State → Type 0
 Went first steps given x = WentBy first steps given x x.status
@@ -94,3 +96,50 @@ may_input limits (After inputs pushes) h = h
 pub may_inputs : (limits : Limits) (n : ℕ) (r : Refusal) → MayPick limits r → MayPick limits (before_inputs n r)
 may_inputs limits zero r h = h
 may_inputs limits (suc n) r h = may_inputs limits n (before_input r) (may_input limits r h)
+
+-- ---- one more step of the definitions
+
+module _ (setup : Setup) (refusal : Refusal) (text : Text) where
+  after_more : (told : Told) (steps : List Step) (step : Step) → after_steps setup refusal text told (steps ++ step ∷ []) ≡ after_step setup refusal text (after_steps setup refusal text told steps) step
+  after_more told [] step = refl
+  after_more told (s ∷ steps) step = after_more (after_step setup refusal text told s) steps step
+
+  allowed_more : (told : Told) (steps : List Step) (step : Step) → AllAllowed setup refusal text told steps → Allows (after_steps setup refusal text told steps) (outcome_of setup refusal text (after_steps setup refusal text told steps)) step → AllAllowed setup refusal text told (steps ++ step ∷ [])
+  allowed_more told [] step h i = (i, tt)
+  allowed_more told (s ∷ steps) step h i = (h.0, allowed_more (after_step setup refusal text told s) steps step h.1 i)
+
+  pub answers_more : (told : Told) (steps : List Step) (step : Step) → replies_of setup refusal text told (steps ++ step ∷ []) ≡ replies_of setup refusal text told steps ++ step_replies step (outcome_of setup refusal text (after_step setup refusal text (after_steps setup refusal text told steps) step))
+  answers_more told [] step = append-nil (step_replies step (outcome_of setup refusal text (after_step setup refusal text told step)))
+  answers_more told (s ∷ steps) step =
+      let now = after_step setup refusal text told s in
+      let first = step_replies s (outcome_of setup refusal text now) in
+      ap (λ (l : List Reply). first ++ l) (answers_more now steps step)
+      ∙ sym (append_assoc first (replies_of setup refusal text now steps) (step_replies step (outcome_of setup refusal text (after_step setup refusal text (after_steps setup refusal text now steps) step))))
+
+-- ---- one more step
+
+module _ (first : State) where
+  abbrev pub outcome : Refusal → Told → Option Outcome
+  outcome r told = outcome_of first.setup r first.text told
+
+  walked_by : (steps : List Step) (given : List Reply) (step : Step) (r : Refusal) (told : Told) → AllAllowed first.setup r first.text (told_at first) steps → given ≡ replies_of first.setup r first.text (told_at first) steps → after_steps first.setup r first.text (told_at first) steps ≡ told → Allows told (outcome r told) step → Tells first (steps ++ step ∷ []) (given ++ step_replies step (outcome r (after told (outcome r told) step))) (after told (outcome r told) step) r
+  walked_by steps given step r told allowed replies_are told_is h =
+      let was = after_steps first.setup r first.text (told_at first) steps in
+      record {
+        allowed = allowed_more first.setup r first.text (told_at first) steps step allowed (subst (λ (t : Told). Allows t (outcome r t) step) (sym told_is) h);
+        replies_are =
+            ap (λ (l : List Reply). l ++ step_replies step (outcome r (after told (outcome r told) step))) replies_are
+            ∙ (ap (λ (t : Told). replies_of first.setup r first.text (told_at first) steps ++ step_replies step (outcome r (after t (outcome r t) step))) (sym told_is)
+            ∙ sym (answers_more first.setup r first.text (told_at first) steps step));
+        told_is = after_more first.setup r first.text (told_at first) steps step ∙ ap (λ (t : Told). after t (outcome r t) step) told_is;
+      }
+
+  -- one more step that is allowed, and what was told and replied by then
+  pub walked_more : (steps : List Step) (given all : List Reply) (step : Step) (r : Refusal) (told now : Told) → Tells first steps given told r → Allows told (outcome r told) step → after told (outcome r told) step ≡ now → all ≡ given ++ step_replies step (outcome r now) → Tells first (steps ++ step ∷ []) all now r
+  walked_more steps given all step r told now w h after_is all_is =
+      let made = walked_by steps given step r told w.allowed w.replies_are w.told_is h in
+      record {
+        allowed = made.allowed;
+        replies_are = all_is ∙ (ap (λ (t : Told). given ++ step_replies step (outcome r t)) (sym after_is) ∙ made.replies_are);
+        told_is = made.told_is ∙ after_is;
+      }

@@ -3,16 +3,15 @@ use Rattle.std.proofs.Common.{ℕ, suc, ◌≡◌, List, [], ◌∷◌, ◌++◌
 use Rattle.std.proofs.lemmas.List.{length-append, length-map, map-append, take_all}
 use Rattle.std.proofs.lemmas.Option.{slice_get-map, slice_get_within, get_or_from_slice_get}
 use Rattle.std.proofs.Math.Seq.{take-suc, take-append_seam}
-use Rattle.std.specs.Option.{option_map}
+use Rattle.std.specs.Option.{option_map, unwrap_or}
 use Rattle.dwarf_base.specs.declared.errors.Error.{Error}
 use Rattle.dwarf_base.specs.Reads.{Text}
 use Rattle.dwarf_meaning.specs.Requests.{Answer}
 use Rattle.dwarf_meaning.specs.Stores.{Setup}
 use Rattle.dwarf_meaning.specs.Meaning.{First, meaning}
 use Rattle.dwarf_meaning.specs.Rest.{State}
-use Rattle.std.specs.Option.{unwrap_or}
 use Rattle.dwarf_meaning.proofs.Outcomes.{outcome_from}
-use Rattle.dwarf_meaning.specs.Steps.{Step, InitialValue, ObjectAddress, MaxIterations, Evaluate, Resume, Told, Reply, reply, replies, Awaits, Allows, AllAllowed, after_step, after_steps, replies_of, outcome_of, step_replies}
+use Rattle.dwarf_meaning.specs.Steps.{Step, Evaluate, Resume, Told, Reply, reply, replies, Awaits, Allows, AllAllowed, after_step, after_steps, replies_of, outcome_of, step_replies}
 use Rattle.dwarf_meaning.specs.Refusals.{Refusal}
 use Rattle.dwarf_eval.specs.Lists.{MayRefuse}
 use Rattle.dwarf_replay.specs.Stepping.{step_of, IsSet, HasReplied}
@@ -20,8 +19,7 @@ use Rattle.dwarf_replay.specs.Replays.{told_at, steps_of, reply_in, replies_in, 
 use Rattle.dwarf_replay.specs.declared.steps.Step as code
 use Rattle.dwarf_replay.specs.declared.steps.Answer as kept_answer
 use Rattle.dwarf_eval.specs.declared.op.results.EvaluationResult.{EvaluationResult}
-use Rattle.dwarf_replay.proofs.Telling.{answers_more}
-use Rattle.dwarf_replay.proofs.Standings.{Went}
+use Rattle.dwarf_replay.proofs.Standings.{answers_more, Went}
 use Rattle.dwarf_replay.proofs.Settings.{set_went_on}
 use Rattle.dwarf_replay.proofs.Calling.{called_went_on}
 use Rattle.dwarf_replay.proofs.Leading.{walks_all}
@@ -62,9 +60,7 @@ module _ (setup : Setup) (refusal : Refusal) (text : Text) where
   call_replies : {R O P : Type 0} (view : R → Text) (number : O → ℕ) (step : Step) (told : Told) (x new : State) (given : Result (EvaluationResult R O P) Error) → HasReplied view number step x new given → Allows told (outcome_of setup refusal text told) step → Replies step told
   call_replies view number Evaluate told x new given c h = record { reply_is = reply (meaning setup refusal text (unwrap_or told.first told.now) told.inputs); one = refl }
   call_replies view number (Resume answer) told x new given c h = started_replies answer told told.first refl h
-  call_replies view number (InitialValue value) told x new given c h = absurd c
-  call_replies view number (ObjectAddress address) told x new given c h = absurd c
-  call_replies view number (MaxIterations maximum) told x new given c h = absurd c
+  call_replies view number _ told x new given c h = absurd c
 
 module _ {R : Type 0} (view : R → Text) (all : List (code.Step R)) (index : ℕ) (step : code.Step R) (is_next : slice_get all index ≡ Some step) where
   pub next_is : slice_get (steps_of view all) index ≡ Some (step_of view step)

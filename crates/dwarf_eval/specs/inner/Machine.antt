@@ -4,6 +4,7 @@ use Rattle.std.specs.List.{AllByRecursion}
 use Rattle.dwarf_base.specs.declared.common.Encoding.{Encoding}
 use Rattle.dwarf_base.specs.Reads.{IsLeftOf, Text}
 use Rattle.dwarf_value.specs.declared.types.Value.{Value}
+use Rattle.dwarf_value.specs.Values as meant_value
 use Rattle.dwarf_value.specs.Values.{IsAddressMask, width_of}
 use Rattle.dwarf_meaning.specs.Locations as meant
 use Rattle.dwarf_meaning.specs.Requests as requests
@@ -15,6 +16,8 @@ use Rattle.dwarf_op.specs.Views.{location_of, piece_of}
 use Rattle.dwarf_eval.specs.Evaluation.{request_in}
 use Rattle.dwarf_op.specs.declared.locations.Location.{Location}
 use Rattle.dwarf_op.specs.declared.locations.Piece.{Piece}
+use Rattle.dwarf_eval.specs.declared.run.operators.UnaryOperator.{UnaryOperator}
+use Rattle.dwarf_eval.specs.declared.run.operators.UnaryOperator.TheVariants as one
 use Rattle.dwarf_eval.specs.declared.run.states.LastOperation.{LastOperation}
 use Rattle.dwarf_eval.specs.declared.run.states.LastOperation.TheVariants as last
 use Rattle.dwarf_eval.specs.declared.run.states.OnAnswer.{OnAnswer}
@@ -83,3 +86,9 @@ pub record IsSound {R : Type 0} (text : R → Text) (encoding : Encoding) (addr_
   pub width : width_of addr_mask ≡ 8 * encoding.address_size
   pub here : IsLeftOf (text left) (text whole)
   pub callers : AllByRecursion (λ (f : R × R). IsLeftOf (text f.0) (text f.1)) readers
+
+-- an operator on one value, as the definitions have it
+abbrev pub operator_of : UnaryOperator → meant_value.UnaryOperator
+operator_of one.Abs = meant_value.Abs
+operator_of one.Neg = meant_value.Neg
+operator_of one.Not = meant_value.Not

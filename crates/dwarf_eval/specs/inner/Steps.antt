@@ -179,13 +179,9 @@ LeadsBy f old new (RequestStatus request on_answer) = LeadsToRequest f request o
 LeadsBy f old new (FaultStatus error) = LeadsToFault f error old new
 LeadsBy f old new _ = ⊥
 
--- f leads on, or to a request, or for some refusal to a fault, which the state keeps
-abbrev pub Leads : (Store → Next) → State → State → Type 0
-Leads f old new = LeadsBy f old new new.status
-
--- the operation was done
+-- the operation was done: it leads on, or to a request, or for some refusal to a fault, which the state keeps
 abbrev pub Performs : Act → State → State → Type 0
-Performs a old new = Leads (done_at a old) old new
+Performs a old new = LeadsBy (done_at a old) old new new.status
 
 -- a request was opened, if there is one
 abbrev pub Asks : Option Request → OnAnswer → State → State → Type 0

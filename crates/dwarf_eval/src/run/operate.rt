@@ -11,7 +11,7 @@ ghost use Rattle.dwarf_meaning.specs.Inputs.{with_status};
 ghost use Rattle.dwarf_eval.specs.Evaluation.{request_in};
 ghost use Rattle.dwarf_eval.specs.inner.Machine.{on_answer_of};
 ghost use Rattle.dwarf_op.specs.Views.{location_of};
-ghost use Rattle.dwarf_eval.specs.inner.Operators.{operator_of};
+ghost use Rattle.dwarf_eval.specs.inner.Machine.{operator_of};
 ghost use Rattle.dwarf_eval.specs.inner.Steps.{Asks, Performs, PopsNumber, PushesAllPlain, PushesPlain, Tries, act_of, at};
 
 use crate::op::EvaluationResult;

@@ -1,6 +1,6 @@
 ghost use Rattle.std.specs.Prelude.{◌≡◌};
 ghost use Rattle.dwarf_value.specs.Values.{IsAddressMask, width_of, unary_of};
-ghost use Rattle.dwarf_eval.specs.inner.Operators.{operator_of};
+ghost use Rattle.dwarf_eval.specs.inner.Machine.{operator_of};
 
 use dwarf_base::Result;
 use dwarf_value::Value;

@@ -4,8 +4,7 @@ use Rattle.dwarf_replay.specs.Replays.{replies_in, reply_in, steps_of}
 use Rattle.dwarf_replay.specs.Stepping.{HasReplied, step_of}
 use Rattle.dwarf_replay.specs.declared.steps.Answer.{Answer}
 use Rattle.dwarf_eval.specs.Lists.{MayRefuse}
-use Rattle.dwarf_replay.proofs.Continuing.{leaves, spends}
-use Rattle.dwarf_replay.proofs.Leading.{walks_all, walks_to}
+use Rattle.dwarf_replay.proofs.Leading.{leaves, spends, walks_all, walks_to}
 use Rattle.dwarf_replay.proofs.Standings.{Went, went_at_first}
 use Rattle.dwarf_replay.proofs.Turns.{called_on, kept_on, next_is, overflowed, set_on, went_all}
 use Rattle.dwarf_replay.proofs.replaying.replay.Goals as goal

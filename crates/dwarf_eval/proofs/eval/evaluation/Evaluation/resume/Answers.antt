@@ -8,7 +8,7 @@ use Rattle.dwarf_eval.specs.inner.Answers.{answer_of}
 use Rattle.dwarf_eval.specs.inner.Machine.{status_of}
 use Rattle.dwarf_eval.proofs.AnswerUses.{open_in, replied_waits}
 use Rattle.dwarf_eval.proofs.Following.{comes_follow}
-use Rattle.dwarf_eval.proofs.Nearing.{comes_fewer, if_ok}
+use Rattle.dwarf_eval.proofs.Spending.{comes_fewer, if_ok}
 use Rattle.dwarf_eval.proofs.eval.evaluation.Evaluation.resume.Goals as goal
 
 pub resume-requires : goal.resume-requires

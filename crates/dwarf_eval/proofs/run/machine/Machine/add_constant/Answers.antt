@@ -1,4 +1,4 @@
-use Rattle.dwarf_eval.proofs.Constants.{constant_pushes, constant_refuses, constant_none}
+use Rattle.dwarf_eval.proofs.Computes.{constant_pushes, constant_refuses, constant_none}
 use Rattle.dwarf_eval.proofs.run.machine.Machine.add_constant.Goals as goal
 
 pub returns-in_default : goal.returns-in_default

@@ -2,7 +2,7 @@ use Rattle.std.proofs.Common.{◌∙◌, sym}
 use Rattle.dwarf_value.specs.declared.types.Value.TheVariants.{Generic}
 use Rattle.dwarf_value.specs.Values.{binary_of}
 use Rattle.dwarf_eval.proofs.Computes.{binary_pushes, binary_refuses, same_binary}
-use Rattle.dwarf_eval.proofs.Generics.{same_two}
+use Rattle.dwarf_eval.proofs.Performances.{same_two}
 use Rattle.dwarf_eval.proofs.run.machine.Machine.compute_binary.Goals as goal
 
 pub returns-in_default : goal.returns-in_default

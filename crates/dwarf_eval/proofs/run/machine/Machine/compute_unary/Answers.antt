@@ -1,7 +1,7 @@
 use Rattle.std.proofs.Common.{None}
 use Rattle.dwarf_base.specs.declared.errors.Error.TheVariants.{NotEnoughStackItems}
 use Rattle.dwarf_value.specs.Values.{width_of, unary_of}
-use Rattle.dwarf_eval.specs.inner.Operators.{operator_of}
+use Rattle.dwarf_eval.specs.inner.Machine.{operator_of}
 use Rattle.dwarf_eval.proofs.Performances.{performs_refuses}
 use Rattle.dwarf_eval.proofs.Computes.{unary_none, unary_pushes, unary_refuses}
 use Rattle.dwarf_eval.proofs.Staying.{stays_popped}

@@ -1,7 +1,7 @@
 use Rattle.std.proofs.Common.{refl, subst}
 use Rattle.std.specs.List.{AllByRecursion}
 use Rattle.dwarf_base.specs.Reads.{IsLeftOf}
-use Rattle.dwarf_eval.proofs.Callers.{callers-push, all_but_last}
+use Rattle.dwarf_eval.proofs.Views.{callers-push, all_but_last}
 use Rattle.dwarf_eval.proofs.run.machine.Machine.pop_caller.Goals as goal
 
 pub invariant_of-self-2 : goal.invariant_of-self-2

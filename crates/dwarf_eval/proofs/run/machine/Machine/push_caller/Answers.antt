@@ -4,7 +4,7 @@ use Rattle.dwarf_meaning.specs.Rest.{State}
 use Rattle.dwarf_base.proofs.Suffixes.{suffix_whole}
 use Rattle.dwarf_eval.specs.Lists.{MayRefuse}
 use Rattle.dwarf_base.specs.Reads.{IsLeftOf}
-use Rattle.dwarf_eval.proofs.Callers.{callers-push, length-callers, all_and_last}
+use Rattle.dwarf_eval.proofs.Views.{callers-push, length-callers, all_and_last}
 use Rattle.dwarf_eval.proofs.Pushes.{caller_pushed, caller_faults}
 use Rattle.dwarf_eval.proofs.run.machine.Machine.push_caller.Goals as goal
 

@@ -2,7 +2,7 @@ use Rattle.std.proofs.Common.{◌%◌, ◌+◌, ◌^◌, ℤ, ap, ◌∙◌, w16
 use Rattle.std.proofs.lemmas.Int.{to_z-of_z}
 use Rattle.dwarf_base.specs.Numbers.{residue}
 use Rattle.dwarf_eval.specs.inner.Steps.{at}
-use Rattle.dwarf_eval.proofs.Branches.{residue-add}
+use Rattle.dwarf_eval.proofs.Numbers.{residue-add}
 use Rattle.dwarf_eval.proofs.Performances.{performs_branch}
 use Rattle.dwarf_eval.proofs.run.machine.Machine.take_branch.Goals as goal
 

@@ -1,11 +1,22 @@
-use Rattle.std.proofs.Common.{sym, ap, ◌∙◌}
+use Rattle.std.proofs.Common.{sym, ap, ◌∙◌, ℕ, suc, ◌≡◌, ◌==◌, true, false, List, [], ◌∷◌, length, refl, arith}
 use Rattle.dwarf_meaning.specs.Requests.{LocationAnswer}
 use Rattle.dwarf_meaning.specs.Stores.{Called}
 use Rattle.dwarf_eval.specs.inner.Steps.{with_last}
 use Rattle.dwarf_eval.proofs.AnswerUses.{location_calls}
 use Rattle.dwarf_eval.proofs.Resuming.{empty_takes, text_takes}
-use Rattle.dwarf_eval.proofs.Texts.{no_bytes, some_bytes}
+use Rattle.std.proofs.lemmas.Bool.Decides.{nat_tests}
 use Rattle.dwarf_eval.proofs.run.machine.Machine.take_location.Goals as goal
+
+not_none : (n : ℕ) → (suc n == 0) ≡ true → ⊥
+not_none n h = grind (arith, nat_tests)
+
+no_bytes : (bytes : List ℕ) → (length bytes == 0) ≡ true → bytes ≡ []
+no_bytes [] h = refl
+no_bytes (byte ∷ bytes) h = absurd (not_none (length bytes) h)
+
+some_bytes : (bytes : List ℕ) → (length bytes == 0) ≡ false → (byte : ℕ) × (rest : List ℕ) × (bytes ≡ byte ∷ rest)
+some_bytes [] h = cc
+some_bytes (byte ∷ bytes) h = (byte, bytes, refl)
 
 pub returns-then-is_empty : goal.returns-then-is_empty
 returns-then-is_empty g c = λ on_answer.

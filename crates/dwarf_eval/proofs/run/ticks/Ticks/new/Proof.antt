@@ -1,8 +1,7 @@
-use Rattle.dwarf_eval.proofs.TickSteps.{[], ◌∷◌, refl, proved, ftrue, tables, ‵, raw, ◌$◌, ◌∵◌, !, qed, move, keep, join, fjoin, suffices, frame, enter, no_more, and_then, returns, alloc_all, pass_all, free_all, look_at, get, sets, nothing, on_entry, Stays, walk_of, ends_at}
+use Rattle.dwarf_eval.proofs.Ticks.{[], ◌∷◌, refl, proved, ftrue, tables, ‵, raw, ◌$◌, ◌∵◌, !, qed, move, keep, join, fjoin, suffices, frame, enter, no_more, and_then, returns, alloc_all, pass_all, free_all, look_at, get, sets, nothing, on_entry, Stays, walk_of, ends_at, token, Mark, made, tells_last}
 use types.Kit.{use0}
 use types.Part.{agg}
 use denote.Builtin.{unit}
-use Rattle.dwarf_eval.proofs.TickWalks.{token, Mark, made, tells_last}
 use Rattle.dwarf_eval.specs.contracts.run.ticks.Ticks as ticks
 use Rattle.dwarf_eval.specs.contracts.run.ticks.Ticks.new as f
 use Rattle.dwarf_eval.proofs.run.ticks.Ticks.new.Statement.{statement}

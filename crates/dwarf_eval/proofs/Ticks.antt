@@ -1,9 +1,21 @@
--- The one machine value of a new count, and a fact at the end of a row.
-use mathlib.Core.Path.{refl}
-use mathlib.Core.List.{List, [], ◌∷◌}
+-- The words of the proofs of a count, the one machine value of a new one, and a fact at the end of a row.
+pub use Rattle.std.proofs.Common.{List, [], ◌∷◌, refl}
+pub use Rattle.std.proofs.raw_atomic.Walks.{proved}
+pub use base.Fml.{ftrue, flft}
+pub use mir.Syntax.{named}
+pub use mir.Val.{Val, vunit}
+pub use contract.Running.{tables}
+pub use types.Kit.{‵, raw, ◌⊛◌, ◌$◌, ◌∵◌, !, qed, move, keep, split, join, fsplit3, fjoin, feq_i, done, suffices, frame, group}
+pub use types.Run.{enter, of_opd, unit_lit, no_more, and_then, returns}
+pub use types.ByLocal.{alloc_all, pass_all, free_all, look_at, get, sets}
+pub use denote.Ref.{MutRef, mut_vals, mut_Tells}
+pub use denote.Signature.{plain}
+pub use denote.Steps.{nothing, opens, closes}
+pub use denote.Triple.Entry.{on_entry}
+pub use denote.Triple.Walked.{Stays, walk_of, says, stay_ref, Goes-ref, ends_at}
 use seplogic.Ra.Ura.{Ura}
 use mir.Syntax.{Sym}
-use mir.Val.{Val, vstruct, vcons, vnil}
+use mir.Val.{vstruct, vcons, vnil}
 use base.Logic.{ent, emp}
 use types.Logic.{Logic, sem}
 use contract.Monad.{fact, fact_i}

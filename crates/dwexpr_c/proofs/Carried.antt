@@ -142,9 +142,8 @@ module _ (Q : List ℕ → Type 0) where
 
 module _ (P : Text → Type 0) where
   use_holds : (answer : Answer) (n : ℕ) (u : Use) → IsUseOf answer n u → OnGiven P answer → OnUse P u
-  use_holds answer n (PushesAnswer rest value) e h = tt
   use_holds answer n (Calls text) e h = subst (OnGiven P) e h
-  use_holds answer n (FaultUse fault) e h = tt
+  use_holds answer n _ e h = tt
 
 -- ---- runs
 
@@ -221,11 +220,7 @@ module _ (P : Text → Type 0) (Q : List ℕ → Type 0) where
 
     by_carries : (text : Text) (place depth : ℕ) (s : Store) (inputs : List Input) (last : Last) → P text → OnLast Q last → Holds Q s → OnInputs P inputs → OnEnd (turn_by go setup text place depth s inputs last).end
     by_carries text place depth s inputs (Located location) p l h i = held_carries text depth location s inputs (read setup text place) p l h i
-    by_carries text place depth s inputs Nothing p l h i = counts_carries text place depth s inputs p h i
-    by_carries text place depth s inputs Plain p l h i = counts_carries text place depth s inputs p h i
-    by_carries text place depth s inputs Pieced p l h i = counts_carries text place depth s inputs p h i
-    by_carries text place depth s inputs Pushed p l h i = counts_carries text place depth s inputs p h i
-    by_carries text place depth s inputs Called p l h i = counts_carries text place depth s inputs p h i
+    by_carries text place depth s inputs _ p l h i = counts_carries text place depth s inputs p h i
 
     turn_carries : Carries (turn go setup)
     turn_carries text place depth s inputs p h i =
@@ -259,9 +254,7 @@ module _ (P : Text → Type 0) (Q : List ℕ → Type 0) where
       cond_both (has_pieces s.pieces) _ _ (OnOutcome Q) (λ e. tt) (λ e. completed_holds None _ (piece_holds Q setup (whole location) s h l))
   finish_holds setup s Plain h l = judged_ends setup s h
   finish_holds setup s Pushed h l = judged_ends setup s h
-  finish_holds setup s Nothing h l = free_ends setup s h
-  finish_holds setup s Pieced h l = free_ends setup s h
-  finish_holds setup s Called h l = free_ends setup s h
+  finish_holds setup s _ h l = free_ends setup s h
 
   ends_holds : (setup : Setup) (end : End) → OnEnd end → OnOutcome Q (outcome_of_end setup end)
   ends_holds setup (CompleteEnd s inputs) h = finish_holds setup s s.last h.0 h.0.last

@@ -42,10 +42,7 @@ module _ (texts : List DwexprText) (numbers : List DwexprStep) (first new : Stat
       let k : FinishesAt new.store.pieces (RequestStatus other on_answer) Asked = subst (FinishesAt new.store.pieces (RequestStatus other on_answer)) s.0 f in
       let shown : ShowsRequest texts request out = subst (λ (r : Request). ShowsRequest texts r out) a.0 s.1 in
       (subst (ShowsRequest texts request) (sym k.0) shown, k.1)
-  asked_as request positions (Start initial_value) a s f = absurd a
-  asked_as request positions (CompleteStatus value) a s f = absurd a
-  asked_as request positions (FaultStatus error) a s f = absurd a
-  asked_as request positions Running a s f = absurd a
+  asked_as request positions _ a s f = absurd a
 
   completes_as : (pieces : List Piece) (value : Option _) → comes_of given ran.steps ≡ Some (CompleteOutcome pieces value) → FinishesAt pieces (CompleteStatus value) Complete → EvaluatesGiven given numbers after old places
   completes_as pieces value e (inl f) = done (Some (CompleteOutcome pieces value)) e f

@@ -157,17 +157,12 @@ module _ (texts : List DwexprText) where
   snoc_inputs (first ∷ inputs) input h i = (h.0, snoc_inputs inputs input h.1 i)
 
   on_heard : (settings : First) (inputs : List Input) (answer : Answer) (o : Option Outcome) → OnInputs P inputs → OnGiven P answer → OnInputs P (heard settings inputs answer o)
-  on_heard settings inputs answer None h a = h
   on_heard settings inputs answer (Some (RequestOutcome request positions)) h a = snoc_inputs inputs _ h a
-  on_heard settings inputs answer (Some (FaultOutcome fault)) h a = h
-  on_heard settings inputs answer (Some (CompleteOutcome pieces value)) h a = h
+  on_heard settings inputs answer _ h a = h
 
   on_after : (told : Told) (o : Option Outcome) (step : Step) → OnInputs P told.inputs → OnStep step → OnInputs P (after told o step).inputs
-  on_after told o (InitialValue number) h a = h
-  on_after told o (ObjectAddress address) h a = h
-  on_after told o (MaxIterations maximum) h a = h
-  on_after told o Evaluate h a = h
   on_after told o (Resume answer) h a = on_heard told.now told.inputs answer o h a
+  on_after told o _ h a = h
 
   on_told : (setup : Setup) (refusal : Refusal) (text : Text) (told : Told) (steps : List Step) → OnInputs P told.inputs → OnSteps steps → OnInputs P (after_steps setup refusal text told steps).inputs
   on_told setup refusal text told [] h a = h
@@ -193,19 +188,7 @@ module _ (texts : List DwexprText) where
 
     request_somewhere : (request : Request) → OnRequest Q request → AsksNowhere texts (RequestReply request) → ⊥
     request_somewhere (requests.RequiresEntryValue text) h n = n h.text h.offset h.placed
-    request_somewhere (requests.RequiresMemory address size space base_type) h n = n
-    request_somewhere (requests.RequiresRegister register base_type) h n = n
-    request_somewhere requests.RequiresFrameBase h n = n
-    request_somewhere (requests.RequiresTls index) h n = n
-    request_somewhere requests.RequiresCallFrameCfa h n = n
-    request_somewhere (requests.RequiresAtLocation offset) h n = n
-    request_somewhere (requests.RequiresParameterRef offset) h n = n
-    request_somewhere (requests.RequiresRelocatedAddress address) h n = n
-    request_somewhere (requests.RequiresIndexedAddress index relocate) h n = n
-    request_somewhere (requests.RequiresBaseType offset) h n = n
-    request_somewhere (requests.RequiresWasmLocal index) h n = n
-    request_somewhere (requests.RequiresWasmGlobal index) h n = n
-    request_somewhere (requests.RequiresWasmStack index) h n = n
+    request_somewhere _ h n = n
 
     -- a block that is asked about is somewhere
     pub asks_somewhere : (request : Request) (positions : List _) → comes_of (given_at first texts) steps ≡ Some (RequestOutcome request positions) → AsksNowhere texts (RequestReply request) → ⊥
@@ -213,11 +196,7 @@ module _ (texts : List DwexprText) where
 
     location_somewhere : (location : Location) → OnLocation Q location → HoldsNowhere texts location → ⊥
     location_somewhere (HoldsBytes text) h n = n h.text h.offset h.placed
-    location_somewhere Empty h n = n
-    location_somewhere (InRegister register) h n = n
-    location_somewhere (AtAddress address) h n = n
-    location_somewhere (HoldsValue value) h n = n
-    location_somewhere (PointsInto value byte_offset) h n = n
+    location_somewhere _ h n = n
 
     at_piece : (pieces : List Piece) (index : ℕ) (piece : Piece) → slice_get pieces index ≡ Some piece → OnPieces Q pieces → OnLocation Q piece.location
     at_piece [] index piece e h = absurd cc

@@ -27,30 +27,24 @@ module _ (x new : State) where
   set_keeps (InitialValue number) h = ap (λ (z : State). z.setup) h.1
   set_keeps (ObjectAddress address) h = ap (λ (z : State). z.setup) h
   set_keeps (MaxIterations maximum) h = ap (λ (z : State). z.setup) h
-  set_keeps Evaluate h = absurd h
-  set_keeps (Resume answer) h = absurd h
+  set_keeps _ h = absurd h
 
   module _ (told : Result (EvaluationResult Placed ℕ ℕ) Error) where
     evaluate_keeps : (status : Status) → Evaluates text_of_placed (λ x. x) x new told status → new.setup ≡ x.setup
     evaluate_keeps (Start initial_value) h = h.kept.setup
     evaluate_keeps (CompleteStatus value) h = same_keeps h.1
     evaluate_keeps (FaultStatus error) h = same_keeps h.1
-    evaluate_keeps (RequestStatus request on_answer) h = absurd h
-    evaluate_keeps Running h = absurd h
+    evaluate_keeps _ h = absurd h
 
     resume_keeps : (answer : requests.Answer) (status : Status) → IsOpenFor (kind_of_answer answer) status → Resumes text_of_placed (λ x. x) (input_of x answer) x new told status → new.setup ≡ x.setup
     resume_keeps answer (RequestStatus request on_answer) asking h = h.kept.setup
     resume_keeps answer (FaultStatus error) asking h = same_keeps h.1
-    resume_keeps answer (Start initial_value) asking h = absurd asking
-    resume_keeps answer (CompleteStatus value) asking h = absurd asking
-    resume_keeps answer Running asking h = absurd asking
+    resume_keeps answer _ asking h = absurd asking
 
     pub reply_keeps : (step : Step) → HasReplied text_of_placed (λ x. x) step x new told → new.setup ≡ x.setup
     reply_keeps Evaluate h = evaluate_keeps x.status h.1
     reply_keeps (Resume answer) h = resume_keeps answer x.status h.0 h.1
-    reply_keeps (InitialValue number) h = absurd h
-    reply_keeps (ObjectAddress address) h = absurd h
-    reply_keeps (MaxIterations maximum) h = absurd h
+    reply_keeps _ h = absurd h
 
   module _ (texts : List DwexprText) where
     pub stop_keeps : (said : Result Step ℕ) (end : FaultNumbers) → Stops texts said x new end → new.setup ≡ x.setup
@@ -65,5 +59,4 @@ module _ (x new : State) where
     step_keeps (Ok step) index before after Asked h = reply_keeps (Ok h.told) step h.called
     step_keeps (Ok step) index before after Complete h = reply_keeps (Ok replied.Complete) step h
     step_keeps (Err code) index before after Set h = absurd h.0
-    step_keeps (Err code) index before after Asked h = absurd h
-    step_keeps (Err code) index before after Complete h = absurd h
+    step_keeps (Err code) index before after _ h = absurd h

@@ -61,30 +61,24 @@ module _ (x new : State) (told : Result (EvaluationResult Placed ℕ ℕ) Error)
   told_resumed : (answer : requests.Answer) (status : Status) → x.status ≡ status → IsOpenFor (kind_of_answer answer) status → Resumes text_of_placed (λ x. x) (input_of x answer) x new told status → IsReplied (reply_of text_of_placed (λ x. x) told) new.status
   told_resumed answer (RequestStatus request on_answer) e asking h = h.status
   told_resumed answer (FaultStatus error) e asking h = told_again (FaultStatus error) (Err error) e h.0 h.1 refl
-  told_resumed answer (Start initial_value) e asking h = absurd asking
-  told_resumed answer (CompleteStatus value) e asking h = absurd asking
-  told_resumed answer Running e asking h = absurd asking
+  told_resumed answer _ e asking h = absurd asking
 
   told_by_call : (step : Step) → HasReplied text_of_placed (λ x. x) step x new told → IsReplied (reply_of text_of_placed (λ x. x) told) new.status
   told_by_call Evaluate h = told_evaluated x.status refl h.0 h.1
   told_by_call (Resume answer) h = told_resumed answer x.status refl h.0 h.1
-  told_by_call (InitialValue number) h = absurd h
-  told_by_call (ObjectAddress address) h = absurd h
-  told_by_call (MaxIterations maximum) h = absurd h
+  told_by_call _ h = absurd h
 
 shows_asked : (texts : List DwexprText) (out : DwexprOutcome) (reply : Reply) (status : Status) → IsReplied reply status → ShowsReply texts reply out → ShowsStatus texts status Asked out
 shows_asked texts out reply (RequestStatus request on_answer) e h = (refl, subst (λ (r : Reply). ShowsReply texts r out) e h)
 shows_asked texts out reply (CompleteStatus value) e h = absurd (subst (λ (r : Reply). ShowsReply texts r out) e h)
 shows_asked texts out reply (FaultStatus error) e h = absurd (subst (λ (r : Reply). ShowsReply texts r out) e h)
-shows_asked texts out reply (Start initial_value) e h = absurd e
-shows_asked texts out reply Running e h = absurd e
+shows_asked texts out reply _ e h = absurd e
 
 shows_complete : (texts : List DwexprText) (out : DwexprOutcome) (status : Status) → IsReplied CompleteReply status → ShowsStatus texts status Complete out
 shows_complete texts out (CompleteStatus value) e = refl
 shows_complete texts out (RequestStatus request on_answer) e = absurd (let s : CompleteReply ≡ RequestReply request = e in cc)
 shows_complete texts out (FaultStatus error) e = absurd (let s : CompleteReply ≡ FaultReply (fault_of error) = e in cc)
-shows_complete texts out (Start initial_value) e = absurd e
-shows_complete texts out Running e = absurd e
+shows_complete texts out _ e = absurd e
 
 -- a setting changes nothing of what is shown
 shows_set : (texts : List DwexprText) (progress : Progress) (out : DwexprOutcome) (step : Step) (x new : State) → IsSet step x new → ShowsStatus texts x.status progress out → ShowsStatus texts new.status progress out
@@ -93,19 +87,13 @@ shows_set texts progress out (InitialValue number) x new h s =
     subst (λ (z : State). ShowsStatus texts z.status progress out) (sym h.1) start
 shows_set texts progress out (ObjectAddress address) x new h s = subst (λ (z : State). ShowsStatus texts z.status progress out) (sym h) s
 shows_set texts progress out (MaxIterations maximum) x new h s = subst (λ (z : State). ShowsStatus texts z.status progress out) (sym h) s
-shows_set texts progress out Evaluate x new h s = absurd h
-shows_set texts progress out (Resume answer) x new h s = absurd h
+shows_set texts progress out _ x new h s = absurd h
 
 -- where the evaluation stands is no fault
 pub no_fault : (texts : List DwexprText) (told : Told) (x : State) (o : Option Outcome) (status : Status) (progress : Progress) (out : DwexprOutcome) → x.status ≡ status → ShowsStatus texts status progress out → StandsAt told x o → IsNoFault o
-no_fault texts told x None status progress out e s h = tt
-no_fault texts told x (Some (RequestOutcome request positions)) status progress out e s h = tt
-no_fault texts told x (Some (CompleteOutcome pieces value)) status progress out e s h = tt
 no_fault texts told x (Some (FaultOutcome fault)) (FaultStatus error) progress out e s h = absurd s
-no_fault texts told x (Some (FaultOutcome fault)) (Start initial_value) progress out e s h = absurd (subst (IsInFault fault) e h)
-no_fault texts told x (Some (FaultOutcome fault)) (RequestStatus request on_answer) progress out e s h = absurd (subst (IsInFault fault) e h)
-no_fault texts told x (Some (FaultOutcome fault)) (CompleteStatus value) progress out e s h = absurd (subst (IsInFault fault) e h)
-no_fault texts told x (Some (FaultOutcome fault)) Running progress out e s h = absurd (subst (IsInFault fault) e h)
+no_fault texts told x (Some (FaultOutcome fault)) _ progress out e s h = absurd (subst (IsInFault fault) e h)
+no_fault texts told x _ status progress out e s h = tt
 
 stopped_by : (told : Told) (x : State) (o : Option Outcome) (error : Error) → x.status ≡ FaultStatus error → StandsAt told x o → o ≡ Some (FaultOutcome (fault_of error))
 stopped_by told x None error e h = absurd (let s : FaultStatus error ≡ Start told.now.initial_value = sym e ∙ h.0 in cc)
@@ -120,8 +108,7 @@ stands_at_fault told x o fault (FaultStatus error) e t h =
     stopped_by told x o error e h ∙ ap (λ (f : Fault). Some (FaultOutcome f)) same
 stands_at_fault told x o fault (RequestStatus request on_answer) e t h = absurd (let s : FaultReply fault ≡ RequestReply request = t in cc)
 stands_at_fault told x o fault (CompleteStatus value) e t h = absurd (let s : FaultReply fault ≡ CompleteReply = t in cc)
-stands_at_fault told x o fault (Start initial_value) e t h = absurd t
-stands_at_fault told x o fault Running e t h = absurd t
+stands_at_fault told x o fault _ e t h = absurd t
 
 -- a block is asked about that is nowhere
 abbrev BlockNowhere : List DwexprText → Option Outcome → Type 0
@@ -141,8 +128,7 @@ stands_at_block : (texts : List DwexprText) (told : Told) (x : State) (o : Optio
 stands_at_block texts told x o reply (RequestStatus request on_answer) e t a h = request_asks texts told x o request on_answer e (subst (AsksNowhere texts) t a) h
 stands_at_block texts told x o reply (CompleteStatus value) e t a h = absurd (subst (AsksNowhere texts) t a)
 stands_at_block texts told x o reply (FaultStatus error) e t a h = absurd (subst (AsksNowhere texts) t a)
-stands_at_block texts told x o reply (Start initial_value) e t a h = absurd t
-stands_at_block texts told x o reply Running e t a h = absurd t
+stands_at_block texts told x o reply _ e t a h = absurd t
 
 -- ---- all lists have limits
 
@@ -259,9 +245,8 @@ module _ (texts : List DwexprText) (all : List DwexprStep) (index : ℕ) (at : D
         next_called now Complete step is replied.Complete h (shows_complete texts now new.status (told_by_call x new (Ok replied.Complete) step h))
     next_by now (Ok step) Ended is h goes_on = absurd (goes_on refl)
     next_by now (Err code) Set is h goes_on = absurd h.0
-    next_by now (Err code) Asked is h goes_on = absurd h
-    next_by now (Err code) Complete is h goes_on = absurd h
     next_by now (Err code) Ended is h goes_on = absurd (goes_on refl)
+    next_by now (Err code) _ is h goes_on = absurd h
 
     -- the step was done
     pub next : (now : DwexprOutcome) (one : Progress) → DoesStep texts (step_coded first.text.is_big texts at) index x new out now one → (one ≡ Ended → ⊥) → Reached texts (take (suc index) all) first new (latest progress one) now
@@ -305,9 +290,7 @@ module _ (texts : List DwexprText) (all : List DwexprStep) (index : ℕ) (at : D
     nowhere_never : (step : Step) → step_coded first.text.is_big texts at ≡ Ok step → (o : Option Outcome) → comes_of given (r.steps ++ step ∷ []) ≡ o → BlockNowhere texts o → ⊥
     nowhere_never step one (Some (RequestOutcome request positions)) e a =
         asks_somewhere texts first is_given (take (suc index) all) (r.steps ++ step ∷ []) (said_next r.steps step r.said one) request positions e a
-    nowhere_never step one (Some (FaultOutcome fault)) e a = a
-    nowhere_never step one (Some (CompleteOutcome pieces value)) e a = a
-    nowhere_never step one None e a = a
+    nowhere_never step one _ e a = a
 
     ends_at : (end : FaultNumbers) (step : Step) → step_coded first.text.is_big texts at ≡ Ok step → Stops texts (Ok step) x new end → EndsByStep given r.steps (Ok step) (ended_outcome end.code end.number index)
     ends_at end step one (inl h) =
@@ -362,11 +345,8 @@ not_ended : (texts : List DwexprText) (out : DwexprOutcome) (status : Status) �
 not_ended texts out (Start initial_value) h = absurd (let s : Ended ≡ Set = h in cc)
 not_ended texts out (RequestStatus request on_answer) h = absurd (let s : Ended ≡ Asked = h.0 in cc)
 not_ended texts out (CompleteStatus value) h = absurd (let s : Ended ≡ Complete = h in cc)
-not_ended texts out (FaultStatus error) h = h
-not_ended texts out Running h = h
+not_ended texts out _ h = h
 
 pub ran_all : (texts : List DwexprText) (all : List DwexprStep) (index : ℕ) (first x : State) (progress : Progress) (out : DwexprOutcome) → first.setup.limits ≡ capacities → length all ≤ index → Reached texts (take index all) first x progress out → Runs texts all first x progress out
-ran_all texts all index first x Set out limits past r = ran texts all index first x Set out limits past r
-ran_all texts all index first x Asked out limits past r = ran texts all index first x Asked out limits past r
-ran_all texts all index first x Complete out limits past r = ran texts all index first x Complete out limits past r
 ran_all texts all index first x Ended out limits past r = absurd (not_ended texts out x.status r.shown)
+ran_all texts all index first x progress out limits past r = ran texts all index first x progress out limits past r

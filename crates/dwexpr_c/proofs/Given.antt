@@ -10,29 +10,28 @@ use Rattle.dwarf_base.specs.Reads.{Text}
 use Rattle.dwarf_value.specs.declared.types.Value.{Value}
 use Rattle.dwarf_value.specs.declared.types.ValueType.{ValueType}
 use Rattle.dwarf_meaning.specs.Operations.{Operation}
-use Rattle.dwarf_meaning.specs.Locations.{Location, Empty, InRegister, AtAddress, HoldsValue, HoldsBytes, PointsInto, Piece}
+use Rattle.dwarf_meaning.specs.Locations.{Location, HoldsBytes, Piece}
 use Rattle.dwarf_meaning.specs.declared.kinds.WaitingKind.{WaitingKind}
 use Rattle.dwarf_meaning.specs.Requests as requests
 use Rattle.dwarf_meaning.specs.Requests.{Request, Answer, Input}
-use Rattle.dwarf_meaning.specs.Meaning.{Outcome, RequestOutcome, FaultOutcome, CompleteOutcome, First}
+use Rattle.dwarf_meaning.specs.Meaning.{Outcome, RequestOutcome, CompleteOutcome, First}
 use Rattle.dwarf_meaning.specs.Rest.{State}
 use Rattle.dwarf_meaning.specs.Run.{read}
 use Rattle.dwarf_meaning.proofs.Outcomes.{outcome_from}
-use Rattle.dwarf_meaning.specs.Steps.{Step, InitialValue, ObjectAddress, MaxIterations, Evaluate, Resume, Told, RequestReply, heard, after, after_step, after_steps, outcome_of}
+use Rattle.dwarf_meaning.specs.Steps.{Step, Resume, Told, RequestReply, heard, after, after_step, after_steps, outcome_of}
 use Rattle.dwarf_meaning.specs.Stores.{Setup}
 use Rattle.dwarf_meaning.specs.Refusals.{Refusal, Never}
 use Rattle.dwarf_meaning.proofs.Decoded.{operation_begins}
 use Rattle.dwarf_replay.specs.Replays.{told_at}
-use Rattle.dwexpr_c.specs.Codes.{bad_step_code, bad_text_code}
 use Rattle.dwexpr_c.specs.Evaluated.{comes_of}
 use Rattle.dwexpr_c.specs.Operations.{block_in}
-use Rattle.dwexpr_c.specs.Steps.{resume_or, step_coded}
-use Rattle.dwexpr_c.specs.Texts.{IsAt, IsPlaced, text_in}
+use Rattle.dwexpr_c.specs.Outcomes.{resume_or, step_coded}
+use Rattle.dwexpr_c.specs.Texts.{IsAt, IsPlaced, text_in, AsksNowhere, HoldsNowhere, SomeNowhere}
 use Rattle.dwexpr_c.specs.Values.{type_coded, value_coded}
-use Rattle.dwexpr_c.specs.Places.{AsksNowhere, HoldsNowhere, SomeNowhere}
 use Rattle.dwexpr_c.specs.inner.Runs.{IsGiven, given_at}
 use Rattle.dwexpr_c.specs.declared.steps.DwexprStep.{DwexprStep}
 use Rattle.dwexpr_c.specs.declared.steps.DwexprText.{DwexprText}
+use Rattle.dwexpr_c.specs.declared.faults.TheConstants as codes
 use Rattle.dwexpr_c.proofs.Blocks.{EndIn, operation_ends, slice_between}
 use Rattle.dwexpr_c.proofs.Carried.{OnBlock, OnRead, OnLocation, OnPieces, OnRequest, OnGiven, OnInputs, OnOutcome, Reads, meaning_holds}
 
@@ -111,15 +110,15 @@ module _ (texts : List DwexprText) where
   none_named : (step : Result Step ℕ) → OnSaid step → IsSaid step
   none_named step h = record { on = h }
 
-  on_value : (kind : WaitingKind) (o : Option Value) → IsSaid (resume_or (requests.ValueAnswer kind) o bad_step_code)
+  on_value : (kind : WaitingKind) (o : Option Value) → IsSaid (resume_or (requests.ValueAnswer kind) o codes.BAD_STEP)
   on_value kind None = record { on = tt }
   on_value kind (Some value) = record { on = tt }
 
-  on_type : (o : Option ValueType) → IsSaid (resume_or requests.BaseTypeAnswer o bad_step_code)
+  on_type : (o : Option ValueType) → IsSaid (resume_or requests.BaseTypeAnswer o codes.BAD_STEP)
   on_type None = record { on = tt }
   on_type (Some t) = record { on = tt }
 
-  on_text : (big : Bool) (index : ℕ) (o : Option DwexprText) → slice_get texts index ≡ o → IsSaid (resume_or requests.LocationAnswer (option_map (text_in big) o) bad_text_code)
+  on_text : (big : Bool) (index : ℕ) (o : Option DwexprText) → slice_get texts index ≡ o → IsSaid (resume_or requests.LocationAnswer (option_map (text_in big) o) codes.BAD_TEXT)
   on_text big index None e = record { on = tt }
   on_text big index (Some text) e = record { on = record { index = index; at = text; is_there = e; same = refl } }
 

@@ -1,11 +1,11 @@
--- No step changes the encoding or the limits of an evaluation.
-use Rattle.std.proofs.Common.{ℕ, ◌≡◌, inl, inr, List, Result, Ok, Err, ap}
+-- What a step keeps, the encoding and the limits, and the status that a reply leads to.
+use Rattle.std.proofs.Common.{ℕ, ◌≡◌, inl, inr, List, Result, Ok, Err, ap, ◌∙◌, refl, sym, subst}
 use Rattle.dwarf_base.specs.declared.errors.Error.{Error}
 use Rattle.dwarf_meaning.specs.Kinds.{kind_of_answer}
 use Rattle.dwarf_meaning.specs.Requests as requests
-use Rattle.dwarf_meaning.specs.Rest.{State, Status, Start, Running, RequestStatus, CompleteStatus, FaultStatus}
+use Rattle.dwarf_meaning.specs.Rest.{State, Status, Start, RequestStatus, CompleteStatus, FaultStatus}
 use Rattle.dwarf_meaning.specs.Steps.{Step, InitialValue, ObjectAddress, MaxIterations, Evaluate, Resume}
-use Rattle.dwarf_eval.specs.Evaluation.{Evaluates, Resumes, input_of}
+use Rattle.dwarf_eval.specs.Evaluation.{Evaluates, Resumes, input_of, IsClosed, IsReplied, reply_of}
 use Rattle.dwarf_eval.specs.Permits.{IsOpenFor}
 use Rattle.dwarf_eval.specs.declared.op.results.EvaluationResult.{EvaluationResult}
 use Rattle.dwarf_eval.specs.declared.op.results.EvaluationResult.TheVariants as replied
@@ -30,33 +30,49 @@ module _ (x new : State) where
   set_keeps _ h = absurd h
 
   module _ (told : Result (EvaluationResult Placed ℕ ℕ) Error) where
-    evaluate_keeps : (status : Status) → Evaluates text_of_placed (λ x. x) x new told status → new.setup ≡ x.setup
-    evaluate_keeps (Start initial_value) h = h.kept.setup
-    evaluate_keeps (CompleteStatus value) h = same_keeps h.1
-    evaluate_keeps (FaultStatus error) h = same_keeps h.1
-    evaluate_keeps _ h = absurd h
+    -- the status is that of the reply
+    pub record Replied : Type 0 where
+      pub setup : new.setup ≡ x.setup
+      pub status : IsReplied (reply_of text_of_placed (λ x. x) told) new.status
 
-    resume_keeps : (answer : requests.Answer) (status : Status) → IsOpenFor (kind_of_answer answer) status → Resumes text_of_placed (λ x. x) (input_of x answer) x new told status → new.setup ≡ x.setup
-    resume_keeps answer (RequestStatus request on_answer) asking h = h.kept.setup
-    resume_keeps answer (FaultStatus error) asking h = same_keeps h.1
-    resume_keeps answer _ asking h = absurd asking
+    -- it was replied before
+    again : (status : Status) (before : Result (EvaluationResult Placed ℕ ℕ) Error) → x.status ≡ status → told ≡ before → new ≡ x → IsReplied (reply_of text_of_placed (λ x. x) before) status → Replied
+    again status before e t n h =
+        let stays : new.status ≡ status = ap (λ (z : State). z.status) n ∙ e in
+        record {
+          setup = same_keeps n;
+          status =
+              subst (λ (s : Status). IsReplied (reply_of text_of_placed (λ x. x) told) s) (sym stays)
+              (subst (λ (r : Result (EvaluationResult Placed ℕ ℕ) Error). IsReplied (reply_of text_of_placed (λ x. x) r) status) (sym t) h);
+        }
 
-    pub reply_keeps : (step : Step) → HasReplied text_of_placed (λ x. x) step x new told → new.setup ≡ x.setup
-    reply_keeps Evaluate h = evaluate_keeps x.status h.1
-    reply_keeps (Resume answer) h = resume_keeps answer x.status h.0 h.1
-    reply_keeps _ h = absurd h
+    evaluated : (status : Status) → x.status ≡ status → IsClosed status → Evaluates text_of_placed (λ x. x) x new told status → Replied
+    evaluated (Start initial_value) e closed h = record { setup = h.kept.setup; status = h.status }
+    evaluated (CompleteStatus value) e closed h = again (CompleteStatus value) (Ok replied.Complete) e h.0 h.1 refl
+    evaluated (FaultStatus error) e closed h = again (FaultStatus error) (Err error) e h.0 h.1 refl
+    evaluated _ e closed h = absurd h
+
+    resumed : (answer : requests.Answer) (status : Status) → x.status ≡ status → IsOpenFor (kind_of_answer answer) status → Resumes text_of_placed (λ x. x) (input_of x answer) x new told status → Replied
+    resumed answer (RequestStatus request on_answer) e asking h = record { setup = h.kept.setup; status = h.status }
+    resumed answer (FaultStatus error) e asking h = again (FaultStatus error) (Err error) e h.0 h.1 refl
+    resumed answer _ e asking h = absurd asking
+
+    pub replied_by : (step : Step) → HasReplied text_of_placed (λ x. x) step x new told → Replied
+    replied_by Evaluate h = evaluated x.status refl h.0 h.1
+    replied_by (Resume answer) h = resumed answer x.status refl h.0 h.1
+    replied_by _ h = absurd h
 
   module _ (texts : List DwexprText) where
     pub stop_keeps : (said : Result Step ℕ) (end : FaultNumbers) → Stops texts said x new end → new.setup ≡ x.setup
     stop_keeps (Ok step) end (inl h) = same_keeps h.same
-    stop_keeps (Ok step) end (inr (inl h)) = reply_keeps (Err h.error) step h.called
-    stop_keeps (Ok step) end (inr (inr h)) = reply_keeps (Ok h.told) step h.called
+    stop_keeps (Ok step) end (inr (inl h)) = (replied_by (Err h.error) step h.called).setup
+    stop_keeps (Ok step) end (inr (inr h)) = (replied_by (Ok h.told) step h.called).setup
     stop_keeps (Err code) end h = same_keeps h.1
 
     pub step_keeps : (said : Result Step ℕ) (index : ℕ) (before after : DwexprOutcome) (progress : Progress) → DoesStep texts said index x new before after progress → new.setup ≡ x.setup
     step_keeps said index before after Ended h = stop_keeps said h.end h.stops
     step_keeps (Ok step) index before after Set h = set_keeps step h.0
-    step_keeps (Ok step) index before after Asked h = reply_keeps (Ok h.told) step h.called
-    step_keeps (Ok step) index before after Complete h = reply_keeps (Ok replied.Complete) step h
+    step_keeps (Ok step) index before after Asked h = (replied_by (Ok h.told) step h.called).setup
+    step_keeps (Ok step) index before after Complete h = (replied_by (Ok replied.Complete) step h).setup
     step_keeps (Err code) index before after Set h = absurd h.0
     step_keeps (Err code) index before after _ h = absurd h

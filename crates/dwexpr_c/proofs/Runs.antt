@@ -8,12 +8,10 @@ use Rattle.dwarf_base.specs.Faults.{Fault, fault_of}
 use Rattle.dwarf_meaning.specs.Meaning.{Outcome, RequestOutcome, FaultOutcome, CompleteOutcome}
 use Rattle.dwarf_meaning.specs.Requests as requests
 use Rattle.dwarf_meaning.specs.Requests.{Request}
-use Rattle.dwarf_meaning.specs.Rest.{State, Status, Start, Running, RequestStatus, CompleteStatus, FaultStatus}
-use Rattle.dwarf_meaning.specs.Steps.{Step, InitialValue, ObjectAddress, MaxIterations, Evaluate, Resume, Told, Reply, CompleteReply, RequestReply, FaultReply, Allows, AllAllowed, after_steps, outcome_of}
+use Rattle.dwarf_meaning.specs.Rest.{State, Status, Start, RequestStatus, CompleteStatus, FaultStatus}
+use Rattle.dwarf_meaning.specs.Steps.{Step, InitialValue, ObjectAddress, MaxIterations, Told, Reply, CompleteReply, RequestReply, FaultReply, Allows, AllAllowed, after_steps, outcome_of}
 use Rattle.dwarf_meaning.specs.Refusals.{Limits, Refusal, Never, After, MayPick}
-use Rattle.dwarf_meaning.specs.Kinds.{kind_of_answer}
-use Rattle.dwarf_eval.specs.Evaluation.{Evaluates, IsClosed, IsReplied, Resumes, input_of, reply_of, ok_reply}
-use Rattle.dwarf_eval.specs.Permits.{IsOpenFor}
+use Rattle.dwarf_eval.specs.Evaluation.{IsReplied, reply_of, ok_reply}
 use Rattle.dwarf_eval.specs.declared.op.results.EvaluationResult.{EvaluationResult}
 use Rattle.dwarf_eval.specs.declared.op.results.EvaluationResult.TheVariants as replied
 use Rattle.dwarf_replay.specs.Replays.{StandsAt, IsInRequest, IsInFault, Tells, told_at}
@@ -22,14 +20,12 @@ use Rattle.dwarf_replay.proofs.Standings.{Went, went_at_first}
 use Rattle.dwarf_replay.proofs.Settings.{set_went_on}
 use Rattle.dwarf_replay.proofs.Calling.{called_went_on}
 use Rattle.dwarf_replay.proofs.Leading.{walks_all, walks_to}
-use Rattle.dwexpr_c.specs.Evaluated.{AreTaken, EndsByStep, Beginning, IsCutShort, IsNoFault, capacities, comes_of, told_by}
-use Rattle.dwexpr_c.specs.Outcomes.{ShowsReply, ended_outcome}
-use Rattle.dwexpr_c.specs.Steps.{step_coded}
-use Rattle.dwexpr_c.specs.Texts.{text_of_placed}
+use Rattle.dwexpr_c.specs.Evaluated.{AreTaken, EndsByStep, Beginning, IsCutShort, IsNoFault, capacities, comes_of, told_by, EvaluatesGiven, ShowsOutcome, beginning, limited_setup}
+use Rattle.dwexpr_c.specs.Outcomes.{ShowsReply, ended_outcome, ShowsRequest, blank_outcome, step_coded}
+use Rattle.dwexpr_c.specs.Stepping.{DoesStep, Ends, Stops, FinishesOutcome}
+use Rattle.dwexpr_c.specs.Texts.{text_of_placed, AsksNowhere}
 use Rattle.dwexpr_c.specs.Held.{HasStopped, HasTaken}
 use Rattle.dwexpr_c.specs.inner.Runs.{IsGiven, Runs, ShowsStatus, given_at, latest}
-use Rattle.dwexpr_c.specs.Places.{AsksNowhere}
-use Rattle.dwexpr_c.specs.Stepping.{DoesStep, Ends, Stops}
 use Rattle.dwexpr_c.specs.declared.evaluating.Progress.{Progress}
 use Rattle.dwexpr_c.specs.declared.evaluating.Progress.TheVariants.{Set, Asked, Complete, Ended}
 use Rattle.dwexpr_c.specs.declared.faults.FaultNumbers.{FaultNumbers}
@@ -37,36 +33,16 @@ use Rattle.dwexpr_c.specs.declared.outcomes.DwexprOutcome.{DwexprOutcome}
 use Rattle.dwexpr_c.specs.declared.places.Placed.{Placed}
 use Rattle.dwexpr_c.specs.declared.steps.DwexprStep.{DwexprStep}
 use Rattle.dwexpr_c.specs.declared.steps.DwexprText.{DwexprText}
-use Rattle.dwexpr_c.proofs.Given.{asks_somewhere}
-use Rattle.dwexpr_c.proofs.Keeping.{reply_keeps, set_keeps, stop_keeps}
+use Rattle.dwexpr_c.proofs.Given.{asks_somewhere, pieces_somewhere}
+use Rattle.dwexpr_c.proofs.Keeping.{replied_by, set_keeps, stop_keeps}
+use Rattle.dwarf_base.specs.declared.common.Encoding.{Encoding}
+use Rattle.dwarf_base.specs.Reads.{Text}
+use Rattle.dwarf_meaning.specs.Locations.{Piece}
+use Rattle.dwarf_meaning.specs.Stores.{Setup}
+use Rattle.dwarf_meaning.specs.Run.{most}
+use Rattle.dwexpr_c.specs.declared.pieces.DwexprPiece.{DwexprPiece}
 
 -- ---- what a call answered, and where the evaluation stands after it
-
--- the status is that of the reply
-module _ (x new : State) (told : Result (EvaluationResult Placed ℕ ℕ) Error) where
-  -- it was replied before
-  told_again : (status : Status) (before : Result (EvaluationResult Placed ℕ ℕ) Error) → x.status ≡ status → told ≡ before → new ≡ x → IsReplied (reply_of text_of_placed (λ x. x) before) status → IsReplied (reply_of text_of_placed (λ x. x) told) new.status
-  told_again status before e t n h =
-      let stays : new.status ≡ status = ap (λ (z : State). z.status) n ∙ e in
-      subst (λ (s : Status). IsReplied (reply_of text_of_placed (λ x. x) told) s) (sym stays)
-      (subst (λ (r : Result (EvaluationResult Placed ℕ ℕ) Error). IsReplied (reply_of text_of_placed (λ x. x) r) status) (sym t) h)
-
-  told_evaluated : (status : Status) → x.status ≡ status → IsClosed status → Evaluates text_of_placed (λ x. x) x new told status → IsReplied (reply_of text_of_placed (λ x. x) told) new.status
-  told_evaluated (Start initial_value) e closed h = h.status
-  told_evaluated (CompleteStatus value) e closed h = told_again (CompleteStatus value) (Ok replied.Complete) e h.0 h.1 refl
-  told_evaluated (FaultStatus error) e closed h = told_again (FaultStatus error) (Err error) e h.0 h.1 refl
-  told_evaluated (RequestStatus request on_answer) e closed h = absurd closed
-  told_evaluated Running e closed h = absurd h
-
-  told_resumed : (answer : requests.Answer) (status : Status) → x.status ≡ status → IsOpenFor (kind_of_answer answer) status → Resumes text_of_placed (λ x. x) (input_of x answer) x new told status → IsReplied (reply_of text_of_placed (λ x. x) told) new.status
-  told_resumed answer (RequestStatus request on_answer) e asking h = h.status
-  told_resumed answer (FaultStatus error) e asking h = told_again (FaultStatus error) (Err error) e h.0 h.1 refl
-  told_resumed answer _ e asking h = absurd asking
-
-  told_by_call : (step : Step) → HasReplied text_of_placed (λ x. x) step x new told → IsReplied (reply_of text_of_placed (λ x. x) told) new.status
-  told_by_call Evaluate h = told_evaluated x.status refl h.0 h.1
-  told_by_call (Resume answer) h = told_resumed answer x.status refl h.0 h.1
-  told_by_call _ h = absurd h
 
 shows_asked : (texts : List DwexprText) (out : DwexprOutcome) (reply : Reply) (status : Status) → IsReplied reply status → ShowsReply texts reply out → ShowsStatus texts status Asked out
 shows_asked texts out reply (RequestStatus request on_answer) e h = (refl, subst (λ (r : Reply). ShowsReply texts r out) e h)
@@ -90,7 +66,7 @@ shows_set texts progress out (MaxIterations maximum) x new h s = subst (λ (z : 
 shows_set texts progress out _ x new h s = absurd h
 
 -- where the evaluation stands is no fault
-pub no_fault : (texts : List DwexprText) (told : Told) (x : State) (o : Option Outcome) (status : Status) (progress : Progress) (out : DwexprOutcome) → x.status ≡ status → ShowsStatus texts status progress out → StandsAt told x o → IsNoFault o
+no_fault : (texts : List DwexprText) (told : Told) (x : State) (o : Option Outcome) (status : Status) (progress : Progress) (out : DwexprOutcome) → x.status ≡ status → ShowsStatus texts status progress out → StandsAt told x o → IsNoFault o
 no_fault texts told x (Some (FaultOutcome fault)) (FaultStatus error) progress out e s h = absurd s
 no_fault texts told x (Some (FaultOutcome fault)) _ progress out e s h = absurd (subst (IsInFault fault) e h)
 no_fault texts told x _ status progress out e s h = tt
@@ -234,15 +210,15 @@ module _ (texts : List DwexprText) (all : List DwexprStep) (index : ℕ) (at : D
       replies = r.replies ++ reply_of text_of_placed (λ x. x) (Ok told) ∷ [];
       went = called_went_on text_of_placed (λ x. x) first r.steps r.replies x new step (Ok told) called r.went;
       shown = shown;
-      setup = reply_keeps x new (Ok told) step called ∙ r.setup;
+      setup = (replied_by x new (Ok told) step called).setup ∙ r.setup;
     }
 
     next_by : (now : DwexprOutcome) (o : Result Step ℕ) (one : Progress) → step_coded first.text.is_big texts at ≡ o → DoesStep texts o index x new out now one → (one ≡ Ended → ⊥) → Reached texts (take (suc index) all) first new (latest progress one) now
     next_by now (Ok step) Set is h goes_on = next_set now step is h.0 h.1
     next_by now (Ok step) Asked is h goes_on =
-        next_called now Asked step is h.told h.called (shows_asked texts now (ok_reply text_of_placed (λ x. x) h.told) new.status (told_by_call x new (Ok h.told) step h.called) h.shown)
+        next_called now Asked step is h.told h.called (shows_asked texts now (ok_reply text_of_placed (λ x. x) h.told) new.status (replied_by x new (Ok h.told) step h.called).status h.shown)
     next_by now (Ok step) Complete is h goes_on =
-        next_called now Complete step is replied.Complete h (shows_complete texts now new.status (told_by_call x new (Ok replied.Complete) step h))
+        next_called now Complete step is replied.Complete h (shows_complete texts now new.status (replied_by x new (Ok replied.Complete) step h).status)
     next_by now (Ok step) Ended is h goes_on = absurd (goes_on refl)
     next_by now (Err code) Set is h goes_on = absurd h.0
     next_by now (Err code) Ended is h goes_on = absurd (goes_on refl)
@@ -297,7 +273,7 @@ module _ (texts : List DwexprText) (all : List DwexprStep) (index : ℕ) (at : D
         inl (record { not_allowed = misplaced_at step h.not_taken; shown = ap (λ (e : FaultNumbers). ended_outcome e.code e.number index) h.shown })
     ends_at end step one (inr (inl h)) =
         let w = called_walks step (Err h.error) h.called in
-        let told = told_by_call x new (Err h.error) step h.called in
+        let told = (replied_by x new (Err h.error) step h.called).status in
         inr (record {
           allowed = w.allowed;
           fault = fault_of h.error;
@@ -306,7 +282,7 @@ module _ (texts : List DwexprText) (all : List DwexprStep) (index : ℕ) (at : D
         })
     ends_at end step one (inr (inr h)) =
         let w = called_walks step (Ok h.told) h.called in
-        let told = told_by_call x new (Ok h.told) step h.called in
+        let told = (replied_by x new (Ok h.told) step h.called).status in
         absurd (nowhere_never step one _ refl (stands_at_block texts (told_by given (r.steps ++ step ∷ [])) new _ (ok_reply text_of_placed (λ x. x) h.told) new.status refl told h.asks w.stands))
 
     cut_short_by : (end : FaultNumbers) (o : Result Step ℕ) → step_coded first.text.is_big texts at ≡ o → Stops texts o x new end → EndsByStep given r.steps o (ended_outcome end.code end.number index)
@@ -350,3 +326,58 @@ not_ended texts out _ h = h
 pub ran_all : (texts : List DwexprText) (all : List DwexprStep) (index : ℕ) (first x : State) (progress : Progress) (out : DwexprOutcome) → first.setup.limits ≡ capacities → length all ≤ index → Reached texts (take index all) first x progress out → Runs texts all first x progress out
 ran_all texts all index first x Ended out limits past r = absurd (not_ended texts out x.status r.shown)
 ran_all texts all index first x progress out limits past r = ran texts all index first x progress out limits past r
+
+-- ---- what is shown at the end, from where the evaluation stands
+
+-- what is shown in the end, by what the steps came to
+abbrev pub Finishes : List DwexprText → (count : ℕ) → List Piece → Status → Progress → (out after : DwexprOutcome) → (old places : List DwexprPiece) → Type 0
+Finishes texts count pieces status Set out after old places = (after ≡ blank_outcome) × (places ≡ old)
+Finishes texts count pieces status Asked out after old places = (after ≡ out) × (places ≡ old)
+Finishes texts count pieces status Complete out after old places = FinishesOutcome texts count pieces out after old places status
+Finishes texts count pieces status Ended out after old places = ⊥
+
+module _ (texts : List DwexprText) (numbers : List DwexprStep) (first new : State) (progress : Progress) (out after : DwexprOutcome) (old places : List DwexprPiece) (ran : HasTaken (given_at first texts) numbers new) (showed : ShowsStatus texts new.status progress out) (is_given : IsGiven texts first.text.bytes) where
+  abbrev FinishesAt : List Piece → Status → Progress → Type 0
+  FinishesAt pieces status one = Finishes texts (length numbers) pieces status one out after old places
+
+  done : (o : Option Outcome) → comes_of (given_at first texts) ran.steps ≡ o → ShowsOutcome texts o after old places → EvaluatesGiven (given_at first texts) numbers after old places
+  done o e h =
+      inl (record { steps = ran.steps; taken = ran.taken; shown = subst (λ (z : Option Outcome). ShowsOutcome texts z after old places) (sym e) h })
+
+  asked_as : (request : Request) (positions : List _) (status : Status) → IsInRequest request positions new status → ShowsStatus texts status progress out → FinishesAt new.store.pieces status progress → ShowsRequest texts request after × (places ≡ old)
+  asked_as request positions (RequestStatus other on_answer) a s f =
+      let k : FinishesAt new.store.pieces (RequestStatus other on_answer) Asked = subst (FinishesAt new.store.pieces (RequestStatus other on_answer)) s.0 f in
+      let shown : ShowsRequest texts request out = subst (λ (r : Request). ShowsRequest texts r out) a.0 s.1 in
+      (subst (ShowsRequest texts request) (sym k.0) shown, k.1)
+  asked_as request positions _ a s f = absurd a
+
+  completes_as : (pieces : List Piece) (value : Option _) → comes_of (given_at first texts) ran.steps ≡ Some (CompleteOutcome pieces value) → FinishesAt pieces (CompleteStatus value) Complete → EvaluatesGiven (given_at first texts) numbers after old places
+  completes_as pieces value e (inl f) = done (Some (CompleteOutcome pieces value)) e f
+  completes_as pieces value e (inr f) =
+      absurd (pieces_somewhere texts first is_given numbers ran.steps ran.taken.said pieces value e f.1)
+
+  finished : (o : Option Outcome) → comes_of (given_at first texts) ran.steps ≡ o → StandsAt (told_by (given_at first texts) ran.steps) new o → FinishesAt new.store.pieces new.status progress → EvaluatesGiven (given_at first texts) numbers after old places
+  finished None e h f =
+      let s : progress ≡ Set = subst (λ (z : Status). ShowsStatus texts z progress out) h.0 showed in
+      let k : FinishesAt new.store.pieces new.status Set = subst (FinishesAt new.store.pieces new.status) s f in
+      done None e k
+  finished (Some (RequestOutcome request positions)) e h f =
+      done (Some (RequestOutcome request positions)) e (asked_as request positions new.status h.0 showed f)
+  finished (Some (FaultOutcome fault)) e h f = absurd (no_fault texts (told_by (given_at first texts) ran.steps) new (Some (FaultOutcome fault)) new.status progress out refl showed h)
+  finished (Some (CompleteOutcome pieces value)) e h f =
+      let s : progress ≡ Complete = subst (λ (z : Status). ShowsStatus texts z progress out) h.0 showed in
+      let k : FinishesAt new.store.pieces new.status Complete = subst (FinishesAt new.store.pieces new.status) s f in
+      let at : FinishesAt new.store.pieces (CompleteStatus value) Complete = subst (λ (z : Status). FinishesAt new.store.pieces z Complete) h.0 k in
+      completes_as pieces value e (subst (λ (p : List Piece). FinishesAt p (CompleteStatus value) Complete) h.1 at)
+
+  -- the steps were all done
+  pub all_done : FinishesAt new.store.pieces new.status progress → EvaluatesGiven (given_at first texts) numbers after old places
+  all_done f = finished (comes_of (given_at first texts) ran.steps) refl ran.stands f
+
+-- a fresh evaluation
+pub given_is : (first : State) (texts : List DwexprText) (encoding : Encoding) (text : Text) → first.setup ≡ limited_setup encoding → first.text ≡ text → first.store.settings.object_address ≡ None → first.store.settings.maximum ≡ most → given_at first texts ≡ beginning encoding text texts
+given_is first texts encoding text s t o m =
+    ap (λ (z : Setup). record { setup = z; text = first.text; told = told_at first; texts = texts }) s
+    ∙ (ap (λ (z : Text). record { setup = limited_setup encoding; text = z; told = told_at first; texts = texts }) t
+    ∙ (ap (λ (z : Option ℕ). record { setup = limited_setup encoding; text = text; told = record { now = record { initial_value = None; settings = record { object_address = z; maximum = first.store.settings.maximum } }; first = None; inputs = [] }; texts = texts }) o
+    ∙ ap (λ (z : ℕ). record { setup = limited_setup encoding; text = text; told = record { now = record { initial_value = None; settings = record { object_address = None; maximum = z } }; first = None; inputs = [] }; texts = texts }) m))

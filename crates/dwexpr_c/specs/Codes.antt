@@ -1,4 +1,4 @@
--- The codes of faults, and the numbers that they carry.
+-- The codes of faults, and the numbers that they carry. `src/faults.rt` has those of arguments.
 use Rattle.std.specs.Prelude.{ℕ}
 use Rattle.dwarf_base.specs.Faults.{Fault}
 use Rattle.dwarf_base.specs.declared.errors.Error.TheVariants.{UnexpectedEof, BadUnsignedLeb128, BadSignedLeb128, UnsupportedAddressSize, UnsupportedOffset, UnsupportedRegister, InvalidExpression, InvalidPieceSize, UnsupportedTypeOperation, TypeMismatch, DivisionByZero, InvalidShiftExpression, NotEnoughStackItems, InvalidDerefSize, InvalidPushObjectAddress, UnsupportedEvaluation, BadBranchTarget, TooManyIterations, InvalidPiece, InvalidExpressionTerminator, StackFull}
@@ -37,31 +37,3 @@ number_of_fault (InvalidDerefSize size) = size
 number_of_fault (BadBranchTarget target) = target
 number_of_fault (InvalidExpressionTerminator place) = place
 number_of_fault _ = 0
-
--- an argument that isn't allowed
-abbrev pub bad_encoding_code : ℕ
-bad_encoding_code = 64
-
--- no such place in the bytes
-abbrev pub bad_offset_code : ℕ
-bad_offset_code = 65
-
--- no such text
-abbrev pub bad_text_code : ℕ
-bad_text_code = 66
-
--- the numbers say no step
-abbrev pub bad_step_code : ℕ
-bad_step_code = 67
-
--- the step isn't allowed here
-abbrev pub misplaced_code : ℕ
-misplaced_code = 68
-
--- bytes that were asked about are in none of the texts
-abbrev pub lost_text_code : ℕ
-lost_text_code = 69
-
--- the numbers say no value, no operation or no mask (70 is a code of the driver in C)
-abbrev pub bad_value_code : ℕ
-bad_value_code = 71

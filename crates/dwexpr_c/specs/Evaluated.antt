@@ -7,14 +7,13 @@ use Rattle.dwarf_meaning.specs.Stores.{Setup}
 use Rattle.dwarf_meaning.specs.Meaning.{Outcome, RequestOutcome, FaultOutcome, CompleteOutcome}
 use Rattle.dwarf_meaning.specs.Steps.{Step, Told, Allows, AllAllowed, after_steps, outcome_of, untold}
 use Rattle.dwarf_meaning.specs.Refusals.{Limits, Never}
-use Rattle.dwexpr_c.specs.Codes.{bad_text_code, code_of_fault, misplaced_code, number_of_fault}
-use Rattle.dwexpr_c.specs.Outcomes.{ShowsRequest, complete_outcome, ended_outcome, blank_outcome}
-use Rattle.dwexpr_c.specs.Pieces.{AreWritten}
-use Rattle.dwexpr_c.specs.Steps.{step_coded}
+use Rattle.dwexpr_c.specs.Codes.{code_of_fault, number_of_fault}
+use Rattle.dwexpr_c.specs.Outcomes.{ShowsRequest, complete_outcome, ended_outcome, blank_outcome, AreWritten, step_coded}
 use Rattle.dwexpr_c.specs.declared.outcomes.DwexprOutcome.{DwexprOutcome}
 use Rattle.dwexpr_c.specs.declared.pieces.DwexprPiece.{DwexprPiece}
 use Rattle.dwexpr_c.specs.declared.steps.DwexprStep.{DwexprStep}
 use Rattle.dwexpr_c.specs.declared.steps.DwexprText.{DwexprText}
+use Rattle.dwexpr_c.specs.declared.faults.TheConstants as codes
 
 -- how many values, callers and pieces an evaluation holds at most
 abbrev pub capacities : Limits
@@ -77,7 +76,7 @@ pub record IsDone (given : Beginning) (numbers : List DwexprStep) (out : DwexprO
 -- it isn't allowed
 pub record IsMisplaced (given : Beginning) (before : List Step) (step : Step) (out : DwexprOutcome) : Type 0 where
   pub not_allowed : Allows (told_by given before) (comes_of given before) step → ⊥
-  pub shown : out ≡ ended_outcome misplaced_code 0 out.step
+  pub shown : out ≡ ended_outcome codes.MISPLACED 0 out.step
 
 -- it is allowed, and meets a fault
 pub record MeetsFault (given : Beginning) (before : List Step) (step : Step) (out : DwexprOutcome) : Type 0 where
@@ -108,6 +107,6 @@ EvaluatesGiven given numbers out old new =
 -- the first of the texts is evaluated, if there is one
 abbrev pub EvaluatesFirst : Encoding → (first : Option Text) → List DwexprText → List DwexprStep → DwexprOutcome
     → (old new : List DwexprPiece) → Type 0
-EvaluatesFirst encoding None texts numbers out old new = (out ≡ ended_outcome bad_text_code 0 0) × (new ≡ old)
+EvaluatesFirst encoding None texts numbers out old new = (out ≡ ended_outcome codes.BAD_TEXT 0 0) × (new ≡ old)
 EvaluatesFirst encoding (Some text) texts numbers out old new =
     EvaluatesGiven (beginning encoding text texts) numbers out old new

@@ -9,9 +9,8 @@ use Rattle.dwarf_meaning.specs.Run.{most}
 use Rattle.dwarf_meaning.specs.Steps.{Step}
 use Rattle.dwarf_replay.specs.Replays.{StandsAt}
 use Rattle.dwexpr_c.specs.Evaluated.{AreTaken, Beginning, IsCutShort, beginning, capacities, comes_of, limited_setup, told_by}
-use Rattle.dwexpr_c.specs.Outcomes.{blank_outcome}
+use Rattle.dwexpr_c.specs.Outcomes.{blank_outcome, step_coded}
 use Rattle.dwexpr_c.specs.Stepping.{DoesStep, FinishesOutcome, Stops}
-use Rattle.dwexpr_c.specs.Steps.{step_coded}
 use Rattle.dwexpr_c.specs.declared.faults.FaultNumbers.{FaultNumbers}
 use Rattle.dwexpr_c.specs.declared.evaluating.Progress.{Progress}
 use Rattle.dwexpr_c.specs.declared.evaluating.Progress.TheVariants.{Set, Complete}

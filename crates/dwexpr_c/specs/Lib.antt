@@ -1,16 +1,11 @@
-pub mod Calls
 pub mod Codes
-pub mod Decoded
 pub mod Encodings
 pub mod Evaluated
 pub mod Held
 pub mod Operations
 pub mod Outcomes
 pub mod Owned
-pub mod Pieces
-pub mod Places
 pub mod Stepping
-pub mod Steps
 pub mod Texts
 pub mod Values
 pub mod inner

@@ -1,15 +1,22 @@
--- What an evaluation replies, as a caller in C sees it (DWARF 5, sections 2.5 and 2.6).
-use Rattle.std.specs.Prelude.{ℕ, ◌≡◌, List, Option, Some, None, length}
+-- Requests, the steps that answer them, and what comes out, in the numbers of a caller in C (DWARF 5, sections 2.5 and
+-- 2.6).
+use Rattle.std.specs.Prelude.{ℕ, ◌≡◌, List, Option, Some, None, length, ◌≤◌, pos, IfSome, is_some, slice_get, unwrap_or, ◌==◌, ◌^◌, Bool, Result, Ok, Err, nat_lt, if◌then◌else◌}
 use Rattle.dwarf_value.specs.declared.types.Value.{Value}
 use Rattle.dwarf_meaning.specs.Operations as operations
 use Rattle.dwarf_meaning.specs.Requests as requests
 use Rattle.dwarf_meaning.specs.Requests.{Request}
 use Rattle.dwarf_meaning.specs.Steps.{Reply, RequestReply}
 use Rattle.dwexpr_c.specs.Operations.{flag_of}
-use Rattle.dwexpr_c.specs.Texts.{IsPlaced}
-use Rattle.dwexpr_c.specs.Values.{shown_value}
+use Rattle.dwexpr_c.specs.Texts.{IsPlaced, text_at}
+use Rattle.dwexpr_c.specs.Values.{shown_value, type_coded, value_coded}
 use Rattle.dwexpr_c.specs.declared.outcomes.DwexprOutcome.{DwexprOutcome}
 use Rattle.dwexpr_c.specs.declared.steps.DwexprText.{DwexprText}
+use Rattle.dwarf_meaning.specs.Locations.{Location, Empty, InRegister, AtAddress, HoldsValue, HoldsBytes, PointsInto, Piece}
+use Rattle.dwexpr_c.specs.declared.pieces.DwexprPiece.{DwexprPiece}
+use Rattle.dwarf_meaning.specs.declared.kinds.WaitingKind.TheVariants as kind
+use Rattle.dwarf_meaning.specs.Steps as meaning
+use Rattle.dwexpr_c.specs.declared.steps.DwexprStep.{DwexprStep}
+use Rattle.dwexpr_c.specs.declared.faults.TheConstants as codes
 
 -- all numbers are 0: nothing was evaluated
 abbrev pub blank_outcome : DwexprOutcome
@@ -90,3 +97,81 @@ complete_outcome pieces (Some value) =
       value = (shown_value value).content;
       pieces = pieces;
     }
+
+-- ---- steps
+
+-- an answer with what the numbers say, or the code if they say nothing
+abbrev pub resume_or : {X : Type 0} → (X → requests.Answer) → Option X → (code : ℕ) → Result meaning.Step ℕ
+resume_or answer None code = Err code
+resume_or answer (Some x) code = Ok (meaning.Resume (answer x))
+
+-- the step that the numbers say, or the code if they say none
+abbrev pub step_coded : (big : Bool) → List DwexprText → DwexprStep → Result meaning.Step ℕ
+step_coded big texts step =
+    let value = value_coded step.value_type step.number in
+    if step.kind == 1 then Ok (meaning.InitialValue step.number)
+    else if step.kind == 2 then Ok (meaning.ObjectAddress step.number)
+    else if step.kind == 3 then (if nat_lt step.number (2 ^ 32) then Ok (meaning.MaxIterations step.number)
+    else Err codes.BAD_STEP)
+    else if step.kind == 4 then Ok meaning.Evaluate
+    else if step.kind == 5 then resume_or (requests.ValueAnswer kind.Memory) value codes.BAD_STEP
+    else if step.kind == 6 then resume_or (requests.ValueAnswer kind.Register) value codes.BAD_STEP
+    else if step.kind == 7 then resume_or (requests.ValueAnswer kind.WasmValue) value codes.BAD_STEP
+    else if step.kind == 8 then resume_or (requests.ValueAnswer kind.EntryValue) value codes.BAD_STEP
+    else if step.kind == 9 then Ok (meaning.Resume (requests.NumberAnswer kind.FrameBase step.number))
+    else if step.kind == 10 then Ok (meaning.Resume (requests.NumberAnswer kind.Tls step.number))
+    else if step.kind == 11 then Ok (meaning.Resume (requests.NumberAnswer kind.CallFrameCfa step.number))
+    else if step.kind == 12 then Ok (meaning.Resume (requests.NumberAnswer kind.ParameterRef step.number))
+    else if step.kind == 13 then Ok (meaning.Resume (requests.NumberAnswer kind.RelocatedAddress step.number))
+    else if step.kind == 14 then Ok (meaning.Resume (requests.NumberAnswer kind.IndexedAddress step.number))
+    else if step.kind == 15 then resume_or requests.LocationAnswer (text_at big texts step.text) codes.BAD_TEXT
+    else if step.kind == 16 then resume_or requests.BaseTypeAnswer (type_coded step.value_type) codes.BAD_STEP
+    else Err codes.BAD_STEP
+
+-- ---- pieces
+
+-- the kind and the sizes; all else is 0
+abbrev pub sized : (kind : ℕ) → (size_in_bits bit_offset : Option ℕ) → DwexprPiece
+sized kind size_in_bits bit_offset = record {
+  kind = kind;
+  has_size = flag_of (is_some size_in_bits);
+  size_in_bits = unwrap_or size_in_bits 0;
+  bit_offset = unwrap_or bit_offset 0;
+  has_bit_offset = flag_of (is_some bit_offset);
+  value_type = 0;
+  number = 0;
+  byte_offset = pos 0;
+  block_text = 0;
+  block_offset = 0;
+  block_length = 0;
+}
+
+-- the piece names the place of these bytes, and nothing else differs
+abbrev pub ShowsBytes : List DwexprText → List ℕ → (shown out : DwexprPiece) → Type 0
+ShowsBytes texts block shown out =
+    (out ≡ record shown { block_text = out.block_text; block_offset = out.block_offset; block_length = length block })
+    × IsPlaced texts out.block_text out.block_offset block
+
+-- the place shows a location, with its size and offset
+abbrev pub ShowsLocation : List DwexprText → (size_in_bits bit_offset : Option ℕ) → Location → DwexprPiece → Type 0
+ShowsLocation texts size offset Empty out = out ≡ sized 1 size offset
+ShowsLocation texts size offset (InRegister register) out = out ≡ record (sized 2 size offset) { number = register }
+ShowsLocation texts size offset (AtAddress address) out = out ≡ record (sized 3 size offset) { number = address }
+ShowsLocation texts size offset (HoldsValue value) out =
+    out ≡ record (sized 4 size offset) {
+      value_type = (shown_value value).value_type;
+      number = (shown_value value).content;
+    }
+ShowsLocation texts size offset (HoldsBytes value) out = ShowsBytes texts value.bytes (sized 5 size offset) out
+ShowsLocation texts size offset (PointsInto value byte_offset) out =
+    out ≡ record (sized 6 size offset) { number = value; byte_offset = byte_offset }
+
+-- the place shows a piece
+abbrev pub ShowsPiece : List DwexprText → Piece → DwexprPiece → Type 0
+ShowsPiece texts piece out = ShowsLocation texts piece.size_in_bits piece.bit_offset piece.location out
+
+-- as many pieces were written as there is room for, and nothing after them
+pub record AreWritten (texts : List DwexprText) (pieces : List Piece) (old new : List DwexprPiece) : Type 0 where
+  pub room : length new ≡ length old
+  pub shown : (k : ℕ) → IfSome (slice_get pieces k) (λ piece. IfSome (slice_get new k) (ShowsPiece texts piece))
+  pub kept : (k : ℕ) → length pieces ≤ k → slice_get new k ≡ slice_get old k

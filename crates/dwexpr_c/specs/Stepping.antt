@@ -1,5 +1,8 @@
 -- What one step of a caller does, and what is shown of it.
-use Rattle.std.specs.Prelude.{ℕ, ◌≡◌, ◌⊎◌, List, Result, Ok, Err, IsOkAnd, length}
+use Rattle.std.specs.Prelude.{ℕ, List, Result, Ok, Err, ◌≡◌, ◌⊎◌, IsOkAnd, length}
+use Rattle.dwexpr_c.specs.Codes.{code_of_fault, number_of_fault}
+use Rattle.dwexpr_c.specs.Texts.{text_of_placed, AsksNowhere, SomeNowhere}
+use Rattle.dwexpr_c.specs.declared.steps.DwexprText.{DwexprText}
 use Rattle.dwarf_base.specs.declared.errors.Error.{Error}
 use Rattle.dwarf_base.specs.Faults.{fault_of}
 use Rattle.dwarf_meaning.specs.Locations.{Piece}
@@ -9,18 +12,14 @@ use Rattle.dwarf_eval.specs.Evaluation.{ok_reply}
 use Rattle.dwarf_eval.specs.declared.op.results.EvaluationResult.{EvaluationResult}
 use Rattle.dwarf_eval.specs.declared.op.results.EvaluationResult.TheVariants as replied
 use Rattle.dwarf_replay.specs.Stepping.{HasReplied, IsSet, MayTake}
-use Rattle.dwexpr_c.specs.Codes.{code_of_fault, number_of_fault, lost_text_code, misplaced_code}
-use Rattle.dwexpr_c.specs.Outcomes.{ShowsReply, complete_outcome, ended_outcome}
-use Rattle.dwexpr_c.specs.Pieces.{AreWritten}
-use Rattle.dwexpr_c.specs.Texts.{text_of_placed}
-use Rattle.dwexpr_c.specs.Places.{AsksNowhere, SomeNowhere}
+use Rattle.dwexpr_c.specs.Outcomes.{ShowsReply, complete_outcome, ended_outcome, AreWritten}
 use Rattle.dwexpr_c.specs.declared.evaluating.Progress.{Progress}
 use Rattle.dwexpr_c.specs.declared.evaluating.Progress.TheVariants.{Set, Asked, Complete, Ended}
 use Rattle.dwexpr_c.specs.declared.faults.FaultNumbers.{FaultNumbers}
 use Rattle.dwexpr_c.specs.declared.outcomes.DwexprOutcome.{DwexprOutcome}
 use Rattle.dwexpr_c.specs.declared.pieces.DwexprPiece.{DwexprPiece}
 use Rattle.dwexpr_c.specs.declared.places.Placed.{Placed}
-use Rattle.dwexpr_c.specs.declared.steps.DwexprText.{DwexprText}
+use Rattle.dwexpr_c.specs.declared.faults.TheConstants as codes
 
 -- the end with this code, which carries no number
 abbrev pub plain_end : (code : ℕ) → FaultNumbers
@@ -47,13 +46,13 @@ pub record Unplaced (texts : List DwexprText) (step : Step) (old new : State) (e
   pub told : EvaluationResult Placed ℕ ℕ
   pub called : HasReplied text_of_placed (λ x. x) step old new (Ok told)
   pub asks : AsksNowhere texts (ok_reply text_of_placed (λ x. x) told)
-  pub shown : end ≡ plain_end lost_text_code
+  pub shown : end ≡ plain_end codes.LOST_TEXT
 
 -- the step isn't allowed, and nothing changes
 pub record NotTaken (step : Step) (old new : State) (end : FaultNumbers) : Type 0 where
   pub same : new ≡ old
   pub not_taken : MayTake step old.status → ⊥
-  pub shown : end ≡ plain_end misplaced_code
+  pub shown : end ≡ plain_end codes.MISPLACED
 
 -- the step ended the evaluation, or the numbers say none
 abbrev pub Stops : List DwexprText → Result Step ℕ → (old new : State) → FaultNumbers → Type 0
@@ -81,5 +80,5 @@ abbrev pub FinishesOutcome : List DwexprText → (count : ℕ) → List Piece �
     → (old new : List DwexprPiece) → Status → Type 0
 FinishesOutcome texts count pieces before after old new (CompleteStatus value) =
     ((after ≡ complete_outcome (length pieces) value) × AreWritten texts pieces old new)
-    ⊎ ((after ≡ ended_outcome lost_text_code 0 count) × SomeNowhere texts pieces)
+    ⊎ ((after ≡ ended_outcome codes.LOST_TEXT 0 count) × SomeNowhere texts pieces)
 FinishesOutcome texts count pieces before after old new _ = (after ≡ before) × (new ≡ old)

@@ -1,8 +1,11 @@
 -- The texts that a caller gives, and where in them bytes are.
-use Rattle.std.specs.Prelude.{ℕ, ◌+◌, ◌≡◌, ◌==◌, ◌≤◌, Bool, List, Option, Some, length, option_map, slice_get, slice_range}
+use Rattle.std.specs.Prelude.{ℕ, ◌+◌, ◌≡◌, ◌==◌, ◌≤◌, Bool, List, Option, Some, length, option_map, slice_get, slice_range, Any}
 use Rattle.dwarf_base.specs.Reads.{Text}
 use Rattle.dwexpr_c.specs.declared.places.Placed.{Placed}
 use Rattle.dwexpr_c.specs.declared.steps.DwexprText.{DwexprText}
+use Rattle.dwarf_meaning.specs.Locations.{Location, HoldsBytes, Piece}
+use Rattle.dwarf_meaning.specs.Requests as requests
+use Rattle.dwarf_meaning.specs.Steps.{Reply, RequestReply}
 
 -- a reader as a text
 abbrev pub text_of_placed : Placed → Text
@@ -25,3 +28,21 @@ pub record IsPlaced (texts : List DwexprText) (text offset : ℕ) (block : List 
   pub at : DwexprText
   pub is_there : slice_get texts text ≡ Some at
   pub placed : IsAt at.bytes.now offset block
+
+-- the block is at no place of any text
+abbrev pub IsNowhere : List DwexprText → (block : List ℕ) → Type 0
+IsNowhere texts block = (text offset : ℕ) → IsPlaced texts text offset block → ⊥
+
+-- a block is asked about that is nowhere
+abbrev pub AsksNowhere : List DwexprText → Reply → Type 0
+AsksNowhere texts (RequestReply (requests.RequiresEntryValue expression)) = IsNowhere texts expression.bytes
+AsksNowhere texts _ = ⊥
+
+-- the location has bytes that are nowhere
+abbrev pub HoldsNowhere : List DwexprText → Location → Type 0
+HoldsNowhere texts (HoldsBytes value) = IsNowhere texts value.bytes
+HoldsNowhere texts _ = ⊥
+
+-- one of the pieces has
+abbrev pub SomeNowhere : List DwexprText → List Piece → Type 0
+SomeNowhere texts pieces = Any (λ piece. HoldsNowhere texts piece.location) pieces

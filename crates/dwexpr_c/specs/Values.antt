@@ -1,12 +1,17 @@
 -- Values of expressions as two numbers, a type and a content (DWARF 5, section 2.5.1).
-use Rattle.std.specs.Prelude.{ℕ, ◌==◌, Option, Some, None, option_map, if◌then◌else◌}
+use Rattle.std.specs.Prelude.{ℕ, ◌==◌, Option, Some, None, option_map, if◌then◌else◌, ◌||◌, ◌≡◌, List, [], ◌∷◌, find, Result, Ok, Err}
 use Rattle.dwarf_base.specs.Numbers.{residue}
-use Rattle.dwarf_value.specs.Values.{from_u64_of}
+use Rattle.dwarf_value.specs.Values.{from_u64_of, bit_size_of, parse_of, convert_of, reinterpret_of, unary_of, binary_of, Abs, Neg, Not, Plus, Minus, Mul, Div, Mod, Xor, Shl, Shr, Shra, Eq, Ge, Gt, Le, Lt, Ne, And, Or}
 use Rattle.dwarf_value.specs.declared.types.Value.{Value}
 use Rattle.dwarf_value.specs.declared.types.Value.TheVariants as value
 use Rattle.dwarf_value.specs.declared.types.ValueType.{ValueType}
 use Rattle.dwarf_value.specs.declared.types.ValueType.TheVariants as value_type
 use Rattle.dwexpr_c.specs.declared.values.DwexprValue.{DwexprValue}
+use Rattle.dwarf_base.specs.Faults.{Fault}
+use Rattle.dwexpr_c.specs.Codes.{code_of_fault}
+use Rattle.dwexpr_c.specs.Operations.{binary_kind, unary_kind}
+use Rattle.dwexpr_c.specs.declared.kinds.TheConstants as kinds
+use Rattle.dwexpr_c.specs.declared.faults.TheConstants as codes
 
 -- the type of a code
 abbrev pub type_coded : (code : ℕ) → Option ValueType
@@ -50,3 +55,75 @@ shown_value (value.I32 number) = record { value_type = 6; content = residue 64 n
 shown_value (value.U32 number) = record { value_type = 7; content = number }
 shown_value (value.I64 number) = record { value_type = 8; content = residue 64 number }
 shown_value (value.U64 number) = record { value_type = 9; content = number }
+
+-- ---- calls on values
+
+-- what a call comes to; `None` if its numbers say no call
+abbrev pub Computed : Type 0
+Computed = Option (Result Value Fault)
+
+-- no value
+abbrev pub no_value : DwexprValue
+no_value = record { value_type = 0; content = 0 }
+
+-- the code that is answered, and the value that is written
+abbrev pub Answers : Computed → (code : ℕ) → DwexprValue → Type 0
+Answers None code shown = (code ≡ codes.BAD_VALUE) × (shown ≡ no_value)
+Answers (Some (Err fault)) code shown = (code ≡ code_of_fault fault) × (shown ≡ no_value)
+Answers (Some (Ok value)) code shown = (code ≡ 0) × (shown ≡ shown_value value)
+
+-- the value that numbers say
+abbrev pub value_in : DwexprValue → Option Value
+value_in numbers = value_coded numbers.value_type numbers.content
+
+-- ---- operations, by the codes of their kinds
+
+-- an operation on one value: that of the operator with this kind
+abbrev pub unary_coded : (operation w : ℕ) → Value → Computed
+unary_coded operation w x =
+    option_map (λ operator. unary_of operator w x)
+    (find (λ operator. operation == unary_kind operator) (Abs ∷ Neg ∷ Not ∷ []))
+
+-- the same, if there is a value
+abbrev pub unary_in : (operation w : ℕ) → Option Value → Computed
+unary_in operation w None = None
+unary_in operation w (Some x) = unary_coded operation w x
+
+-- an operation on two values: that of the operator with this kind
+abbrev pub binary_coded : (operation w : ℕ) → Value → Value → Computed
+binary_coded operation w x y =
+    option_map (λ operator. binary_of operator w x y)
+    (find (λ operator. operation == binary_kind operator)
+    (And ∷ Div ∷ Minus ∷ Mod ∷ Mul ∷ Or ∷ Plus ∷ Shl ∷ Shr
+    ∷ Shra ∷ Xor ∷ Eq ∷ Ge ∷ Gt ∷ Le ∷ Lt ∷ Ne ∷ []))
+
+-- the same, if there are values
+abbrev pub binary_in : (operation w : ℕ) → Option Value → Option Value → Computed
+binary_in operation w None right = None
+binary_in operation w (Some x) None = None
+binary_in operation w (Some x) (Some y) = binary_coded operation w x y
+
+-- a value in another type, by its number or by its bits
+abbrev pub conversion_of : (operation w : ℕ) → ValueType → Value → Computed
+conversion_of operation w t x =
+    if operation == kinds.CONVERT then Some (convert_of w t x)
+    else if operation == kinds.REINTERPRET then Some (reinterpret_of w t x)
+    else None
+
+-- the same, if there are a type and a value
+abbrev pub conversion_in : (operation w : ℕ) → Option ValueType → Option Value → Computed
+conversion_in operation w None value = None
+conversion_in operation w (Some t) None = None
+conversion_in operation w (Some t) (Some x) = conversion_of operation w t x
+
+-- ---- types and bytes
+
+-- the value at the front of bytes, if there are a type and an order
+abbrev pub parsed_in : Option ValueType → (order : ℕ) → List ℕ → Computed
+parsed_in None order bytes = None
+parsed_in (Some t) order bytes = if order == 0 || order == 1 then Some (parse_of t (order == 1) bytes) else None
+
+-- how many bits a type's values have, or 0
+abbrev pub bit_size_in : (w : ℕ) → Option ValueType → ℕ
+bit_size_in w None = 0
+bit_size_in w (Some t) = bit_size_of w t

@@ -1,7 +1,7 @@
 ghost use Rattle.std.specs.Prelude.{◌≡◌, None, Some};
 ghost use Rattle.dwarf_base.specs.ByteOrder.{is_big_of};
 ghost use Rattle.dwarf_value.specs.Values.{IsAddressMask, from_encoding_of, parse_of, width_of};
-ghost use Rattle.dwexpr_c.specs.Calls as calls;
+ghost use Rattle.dwexpr_c.specs.Values as calls;
 ghost use Rattle.dwexpr_c.specs.Values.{type_code, type_coded};
 
 use crate::encodings::order_of;
@@ -90,52 +90,6 @@ fn conversion(
     })
 }
 
-fn unary_in(operation: u32, value: DwexprValue, addr_mask: u64) -> Option<Result<Value>>
-    ensures mask { (IsAddressMask addr_mask → ⊥) → result ≡ None }
-    ensures computes { IsAddressMask addr_mask
-        → result ≡ calls.unary_in operation (width_of addr_mask) (calls.value_in value) }
-{
-    if !is_addr_mask(addr_mask) {
-        return None;
-    }
-    unary(operation, value_in(value)?, addr_mask)
-}
-
-fn binary_in(
-    operation: u32,
-    left: DwexprValue,
-    right: DwexprValue,
-    addr_mask: u64,
-) -> Option<Result<Value>>
-    ensures mask { (IsAddressMask addr_mask → ⊥) → result ≡ None }
-    ensures computes { IsAddressMask addr_mask
-        → result ≡ calls.binary_in operation (width_of addr_mask) (calls.value_in left)
-        (calls.value_in right) }
-{
-    if !is_addr_mask(addr_mask) {
-        return None;
-    }
-    binary(operation, value_in(left)?, value_in(right)?, addr_mask)
-}
-
-fn conversion_in(
-    operation: u32,
-    value: DwexprValue,
-    value_type: u32,
-    addr_mask: u64,
-) -> Option<Result<Value>>
-    ensures mask { (IsAddressMask addr_mask → ⊥) → result ≡ None }
-    ensures computes { IsAddressMask addr_mask
-        → result ≡ calls.conversion_in operation (width_of addr_mask) (type_coded value_type)
-        (calls.value_in value) }
-{
-    if !is_addr_mask(addr_mask) {
-        return None;
-    }
-    let value_type = type_of_code(value_type)?;
-    conversion(operation, value_in(value)?, value_type, addr_mask)
-}
-
 fn parse(value_type: ValueType, bytes: &[u8], order: RunTimeEndian, shown: &mut DwexprValue) -> u32
     ensures { calls.Answers (Some (parse_of value_type (is_big_of order) bytes.now)) result shown.new }
 {
@@ -163,7 +117,10 @@ pub extern "C" fn dwexpr_value_unary(
         → calls.Answers
         (calls.unary_in operation (width_of addr_mask) (calls.value_in value)) result shown.new }
 {
-    show(unary_in(operation, value, addr_mask), shown)
+    match value_in(value) {
+        Some(value) if is_addr_mask(addr_mask) => show(unary(operation, value, addr_mask), shown),
+        _ => show(None, shown),
+    }
 }
 
 /// An operation on two values, by the code of its kind (DWARF 5, section 2.5.1.4). It answers as `dwexpr_value_unary`.
@@ -181,7 +138,12 @@ pub extern "C" fn dwexpr_value_binary(
         (calls.binary_in operation (width_of addr_mask) (calls.value_in left)
         (calls.value_in right)) result shown.new }
 {
-    show(binary_in(operation, left, right, addr_mask), shown)
+    match (value_in(left), value_in(right)) {
+        (Some(left), Some(right)) if is_addr_mask(addr_mask) => {
+            show(binary(operation, left, right, addr_mask), shown)
+        }
+        _ => show(None, shown),
+    }
 }
 
 /// A value in another type: `Convert` by its number, or `Reinterpret` by its bits (DWARF 5, section 2.5.1.6). It
@@ -200,10 +162,12 @@ pub extern "C" fn dwexpr_value_convert(
         (calls.conversion_in operation (width_of addr_mask) (type_coded value_type)
         (calls.value_in value)) result shown.new }
 {
-    show(
-        conversion_in(operation, value, value_type, addr_mask),
-        shown,
-    )
+    match (type_of_code(value_type), value_in(value)) {
+        (Some(value_type), Some(value)) if is_addr_mask(addr_mask) => {
+            show(conversion(operation, value, value_type, addr_mask), shown)
+        }
+        _ => show(None, shown),
+    }
 }
 
 /// The value at the front of bytes, in an order as `DwexprEncoding` names it. It answers as `dwexpr_value_unary`.

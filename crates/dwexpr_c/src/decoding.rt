@@ -1,9 +1,9 @@
 ghost use Rattle.std.specs.Prelude.{◌≡◌, ◌<◌, ◌≤◌, length, drop, slice_index};
 ghost use Rattle.dwarf_base.specs.ByteOrder.{is_big_of};
 ghost use Rattle.dwarf_meaning.specs.Decoding.{operation_at};
-ghost use Rattle.dwexpr_c.specs.Codes.{bad_encoding_code, bad_offset_code};
-ghost use Rattle.dwexpr_c.specs.Decoded.{Decodes, IsBlockAt, undecoded};
+ghost use Rattle.dwexpr_c.specs.Operations.{Decodes, IsBlockAt, undecoded};
 ghost use Rattle.dwexpr_c.specs.Encodings.{IsEncoding, encoding_in, is_big_in};
+ghost use Rattle.dwexpr_c.specs.declared.faults.TheConstants as codes;
 
 use crate::encodings::{DwexprEncoding, Reading, reading_of};
 use crate::faults::{BAD_ENCODING, BAD_OFFSET, numbers_of};
@@ -41,9 +41,9 @@ pub extern "C" fn dwexpr_decode(
 ) -> u32
     ensures code { result ≡ operation.new.fault }
     ensures encoding { (IsEncoding encoding → ⊥)
-        → operation.new ≡ undecoded offset bad_encoding_code }
+        → operation.new ≡ undecoded offset codes.BAD_ENCODING }
     ensures offset { IsEncoding encoding → length bytes.now ≤ offset
-        → operation.new ≡ undecoded offset bad_offset_code }
+        → operation.new ≡ undecoded offset codes.BAD_OFFSET }
     ensures decodes { IsEncoding encoding → offset < length bytes.now
         → Decodes offset (slice_index bytes.now offset) (length (drop offset bytes.now))
         (operation_at (encoding_in encoding) 64

@@ -4,8 +4,7 @@ ghost use Rattle.dwarf_op.specs.Views.{piece_of};
 ghost use Rattle.dwarf_meaning.specs.Rest.{CompleteStatus, Start};
 ghost use Rattle.dwexpr_c.specs.Evaluated.{EvaluatesGiven};
 ghost use Rattle.dwexpr_c.specs.Held.{HasCapacities, StandsAfter};
-ghost use Rattle.dwexpr_c.specs.Outcomes.{ended_outcome};
-ghost use Rattle.dwexpr_c.specs.Steps.{step_coded};
+ghost use Rattle.dwexpr_c.specs.Outcomes.{ended_outcome, step_coded};
 ghost use Rattle.dwexpr_c.specs.Stepping.{DoesStep, FinishesOutcome};
 ghost use Rattle.dwexpr_c.specs.Texts.{text_of_placed};
 ghost use Rattle.dwexpr_c.specs.inner.Runs.{IsGiven, Runs, given_at, latest};
@@ -156,25 +155,8 @@ fn do_steps<'a, S: EvaluationStorage<Placed<'a>>>(
     progress
 }
 
-/// Shows a complete evaluation, or that some bytes are nowhere, which never comes.
-fn show_result(
-    texts: &[DwexprText<'_>],
-    count: usize,
-    value: Option<Value>,
-    pieces: &[Piece<Placed<'_>>],
-    outcome: &mut DwexprOutcome,
-    places: &mut [DwexprPiece],
-)
-    ensures { FinishesOutcome texts.now count (map (piece_of text_of_placed (λ x. x)) pieces.now)
-        outcome.old outcome.new places.old places.new (CompleteStatus value) }
-{
-    *outcome = show_complete(pieces.len(), value);
-    if !write_pieces(texts, pieces, places) {
-        *outcome = show_end(plain(LOST_TEXT), count);
-    }
-}
-
-/// Shows the value and the pieces of an evaluation that is complete.
+/// Shows the value and the pieces of an evaluation that is complete, or that some bytes are nowhere, which never comes
+/// of a start.
 pub(crate) fn show_status<'a, S: EvaluationStorage<Placed<'a>>>(
     evaluation: &Evaluation<Placed<'a>, S>,
     texts: &[DwexprText<'a>],
@@ -186,14 +168,13 @@ pub(crate) fn show_status<'a, S: EvaluationStorage<Placed<'a>>>(
         places.old places.new evaluation.now.status }
 {
     match evaluation.status() {
-        Status::Complete => show_result(
-            texts,
-            count,
-            evaluation.value_result(),
-            evaluation.as_result(),
-            outcome,
-            places,
-        ),
+        Status::Complete => {
+            let pieces = evaluation.as_result();
+            *outcome = show_complete(pieces.len(), evaluation.value_result());
+            if !write_pieces(texts, pieces, places) {
+                *outcome = show_end(plain(LOST_TEXT), count);
+            }
+        }
         _ => {}
     }
 }

@@ -1,12 +1,12 @@
 ghost use Rattle.std.specs.Mem.{type_size};
 ghost use Rattle.std.specs.Prelude.{◌≡◌, IsSomeAnd, None};
-ghost use Rattle.dwexpr_c.specs.Codes.{bad_encoding_code};
 ghost use Rattle.dwexpr_c.specs.Encodings.{IsEncoding, encoding_in, is_big_in};
 ghost use Rattle.dwexpr_c.specs.Evaluated.{EvaluatesFirst};
 ghost use Rattle.dwexpr_c.specs.Held.{HasCapacities, HasResumed, IsBegun, IsUnstarted, StandsAfterFirst};
 ghost use Rattle.dwexpr_c.specs.Outcomes.{ended_outcome};
 ghost use Rattle.dwexpr_c.specs.Owned.{held_row};
 ghost use Rattle.dwexpr_c.specs.Texts.{text_at};
+ghost use Rattle.dwexpr_c.specs.declared.faults.TheConstants as codes;
 
 use crate::encodings::DwexprEncoding;
 use crate::evaluating::{Progress, do_step, show_status};
@@ -72,7 +72,7 @@ pub extern "C" fn dwexpr_evaluation_start(
     ensures begun { IsBegun evaluation.new.held }
     ensures code { result ≡ outcome.new.code }
     ensures encoding { (IsEncoding encoding → ⊥)
-        → (outcome.new ≡ ended_outcome bad_encoding_code 0 0) × (pieces.new ≡ pieces.old)
+        → (outcome.new ≡ ended_outcome codes.BAD_ENCODING 0 0) × (pieces.new ≡ pieces.old)
         × (evaluation.new.held ≡ evaluation.old.held) }
     ensures evaluates { IsEncoding encoding
         → EvaluatesFirst (encoding_in encoding) (text_at (is_big_in encoding) texts.now 0) texts.now

@@ -1,8 +1,7 @@
 ghost use Rattle.std.specs.Prelude.{◌≡◌, ◌+◌, ◌-◌, ◌^◌, ◌<◌};
 ghost use Rattle.dwarf_base.specs.EndianSlice.{slice_text};
 ghost use Rattle.dwarf_op.specs.Views.{operation_of};
-ghost use Rattle.dwexpr_c.specs.Decoded.{decoded, undecoded, with_block};
-ghost use Rattle.dwexpr_c.specs.Operations.{block_in, numbered, operands_of, of_kind, signed_operand, typed};
+ghost use Rattle.dwexpr_c.specs.Operations.{decoded, undecoded, with_block, block_in, numbered, operands_of, of_kind, signed_operand, typed};
 
 use crate::faults::{FaultNumbers, OK};
 use crate::kinds;

@@ -1,12 +1,11 @@
 ghost use Rattle.std.specs.Prelude.{◌≡◌, true, false};
 ghost use Rattle.dwarf_eval.specs.Evaluation.{ok_reply};
 ghost use Rattle.dwexpr_c.specs.Outcomes.{ShowsReply, request_outcome, complete_outcome, ended_outcome};
-ghost use Rattle.dwexpr_c.specs.Texts.{text_of_placed};
-ghost use Rattle.dwexpr_c.specs.Places.{AsksNowhere};
+ghost use Rattle.dwexpr_c.specs.Texts.{text_of_placed, AsksNowhere};
 
 use crate::faults::{FaultNumbers, OK};
 use crate::places::Placed;
-use crate::steps::{DwexprText, Place, place_of};
+use crate::steps::{DwexprText, place_of};
 use crate::values::numbers_of_value;
 use dwarf_base::Reader;
 use dwarf_eval::op::EvaluationResult;
@@ -103,23 +102,6 @@ fn asking_memory(address: u64, size: u8, base_type: usize) -> DwexprOutcome
     }
 }
 
-/// The outcome with the place of a block.
-fn with_block(shown: DwexprOutcome, place: Place, size: usize) -> DwexprOutcome
-    ensures { result
-        ≡ record shown {
-          block_text = place.text;
-          block_offset = place.offset;
-          block_length = size;
-        } }
-{
-    DwexprOutcome {
-        block_text: place.text,
-        block_offset: place.offset,
-        block_length: size,
-        ..shown
-    }
-}
-
 /// Shows a request; `false` if it asks of a block that is nowhere.
 pub(crate) fn show_request(
     texts: &[DwexprText<'_>],
@@ -174,7 +156,12 @@ pub(crate) fn show_request(
             let Some(place) = place_of(texts, expression.0) else {
                 return false;
             };
-            *outcome = with_block(asking(8, 0), place, expression.0.len());
+            *outcome = DwexprOutcome {
+                block_text: place.text,
+                block_offset: place.offset,
+                block_length: expression.0.len(),
+                ..asking(8, 0)
+            };
         }
         EvaluationResult::RequiresParameterRef(offset) => *outcome = asking(9, offset.0 as u64),
         EvaluationResult::RequiresRelocatedAddress(address) => *outcome = asking(10, address),

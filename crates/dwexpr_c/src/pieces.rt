@@ -1,12 +1,11 @@
 ghost use Rattle.std.specs.Prelude.{◌≡◌, is_some, true, false, map, option_map, slice_get, unwrap_or};
 ghost use Rattle.dwarf_op.specs.Views.{location_of, piece_of};
 ghost use Rattle.dwexpr_c.specs.Operations.{flag_of};
-ghost use Rattle.dwexpr_c.specs.Pieces.{AreWritten, ShowsLocation, sized};
-ghost use Rattle.dwexpr_c.specs.Texts.{text_of_placed};
-ghost use Rattle.dwexpr_c.specs.Places.{HoldsNowhere, SomeNowhere};
+ghost use Rattle.dwexpr_c.specs.Outcomes.{AreWritten, ShowsLocation, sized};
+ghost use Rattle.dwexpr_c.specs.Texts.{text_of_placed, HoldsNowhere, SomeNowhere};
 
 use crate::places::Placed;
-use crate::steps::{DwexprText, Place, place_of};
+use crate::steps::{DwexprText, place_of};
 use crate::values::numbers_of_value;
 use dwarf_base::Reader;
 use dwarf_op::{Location, Piece};
@@ -39,56 +38,21 @@ pub struct DwexprPiece {
     pub block_length: usize,
 }
 
-fn flag_of(number: Option<u64>) -> u32
-    ensures { result ≡ flag_of (is_some number) }
-{
-    match number {
-        None => 0,
-        Some(_) => 1,
-    }
-}
-
-fn or_zero(number: Option<u64>) -> u64
-    ensures { result ≡ unwrap_or number 0 }
-{
-    match number {
-        None => 0,
-        Some(number) => number,
-    }
-}
-
 fn sized(kind: u32, size_in_bits: Option<u64>, bit_offset: Option<u64>) -> DwexprPiece
     ensures { result ≡ sized kind size_in_bits bit_offset }
 {
     DwexprPiece {
         kind,
-        has_size: flag_of(size_in_bits),
-        size_in_bits: or_zero(size_in_bits),
-        bit_offset: or_zero(bit_offset),
-        has_bit_offset: flag_of(bit_offset),
+        has_size: u32::from(size_in_bits.is_some()),
+        size_in_bits: size_in_bits.unwrap_or(0),
+        bit_offset: bit_offset.unwrap_or(0),
+        has_bit_offset: u32::from(bit_offset.is_some()),
         value_type: 0,
         number: 0,
         byte_offset: 0,
         block_text: 0,
         block_offset: 0,
         block_length: 0,
-    }
-}
-
-/// The piece with the place of its bytes.
-fn with_bytes(shown: DwexprPiece, place: Place, size: usize) -> DwexprPiece
-    ensures { result
-        ≡ record shown {
-          block_text = place.text;
-          block_offset = place.offset;
-          block_length = size;
-        } }
-{
-    DwexprPiece {
-        block_text: place.text,
-        block_offset: place.offset,
-        block_length: size,
-        ..shown
     }
 }
 
@@ -128,7 +92,12 @@ fn show_location(
             let Some(place) = place_of(texts, value) else {
                 return false;
             };
-            *shown = with_bytes(sized(5, size, offset), place, value.len());
+            *shown = DwexprPiece {
+                block_text: place.text,
+                block_offset: place.offset,
+                block_length: value.len(),
+                ..sized(5, size, offset)
+            };
         }
         Location::ImplicitPointer { value, byte_offset } => *shown = DwexprPiece {
             number: value.0 as u64,

@@ -1,12 +1,12 @@
 ghost use Rattle.std.specs.Prelude.{◌≡◌, ◌<◌, ◌≤◌, IfSome, option_map};
 ghost use Rattle.dwarf_base.specs.ByteOrder.{is_big_of};
-ghost use Rattle.dwexpr_c.specs.Codes.{bad_encoding_code};
 ghost use Rattle.dwexpr_c.specs.Encodings.{IsEncoding, encoding_in, is_big_in};
 ghost use Rattle.dwexpr_c.specs.Evaluated.{EvaluatesGiven, EvaluatesFirst, beginning};
 ghost use Rattle.dwexpr_c.specs.Held.{HasCapacities, StandsAfter, StandsAfterFirst};
 ghost use Rattle.dwexpr_c.specs.Outcomes.{ended_outcome};
 ghost use Rattle.dwexpr_c.specs.Texts.{text_at, text_of_placed};
 ghost use Rattle.dwexpr_c.specs.inner.Runs.{IsGiven};
+ghost use Rattle.dwexpr_c.specs.declared.faults.TheConstants as codes;
 
 use crate::encodings::{DwexprEncoding, Reading, reading_of};
 use crate::evaluating::evaluate_steps;
@@ -53,33 +53,6 @@ fn start_text<'a>(
     );
 }
 
-/// Shows what the steps of a text come to, if there is one.
-fn start_found<'a>(
-    held: &mut Held<'a>,
-    texts: &[DwexprText<'a>],
-    found: Option<Placed<'a>>,
-    reading: Reading,
-    steps: &[DwexprStep],
-    outcome: &mut DwexprOutcome,
-    places: &mut [DwexprPiece],
-)
-    requires capacities { HasCapacities held.old.evaluation }
-    requires some { 0 < reading.encoding.address_size }
-    requires fits { reading.encoding.address_size ≤ 8 }
-    requires order { IfSome found (λ text. (text_of_placed text).is_big ≡ is_big_of reading.order) }
-    requires given { IfSome found (λ text. IsGiven texts.now (text_of_placed text).bytes) }
-    ensures capacities { HasCapacities held.new.evaluation }
-    ensures evaluates { EvaluatesFirst reading.encoding (option_map text_of_placed found.entry)
-        texts.now steps.now outcome.new places.old places.new }
-    ensures stands { StandsAfterFirst reading.encoding (option_map text_of_placed found.entry)
-        texts.now steps.now held.old held.new outcome.new }
-{
-    match found {
-        None => *outcome = show_end(plain(BAD_TEXT), 0),
-        Some(text) => start_text(held, texts, text, reading, steps, outcome, places),
-    }
-}
-
 /// Shows what the steps of the first of the texts come to.
 fn start_first<'a>(
     held: &mut Held<'a>,
@@ -100,8 +73,10 @@ fn start_first<'a>(
         (text_at (is_big_of reading.order) texts.now 0) texts.now steps.now held.old held.new
         outcome.new }
 {
-    let found = text_at(texts, reading.order, 0);
-    start_found(held, texts, found, reading, steps, outcome, places);
+    match text_at(texts, reading.order, 0) {
+        None => *outcome = show_end(plain(BAD_TEXT), 0),
+        Some(text) => start_text(held, texts, text, reading, steps, outcome, places),
+    }
 }
 
 /// Shows what the steps of the first of the texts come to; the evaluation then stands where they lead.
@@ -116,7 +91,7 @@ pub(crate) fn start<'a>(
     requires { HasCapacities held.old.evaluation }
     ensures capacities { HasCapacities held.new.evaluation }
     ensures encoding { (IsEncoding numbers → ⊥)
-        → (outcome.new ≡ ended_outcome bad_encoding_code 0 0) × (places.new ≡ places.old)
+        → (outcome.new ≡ ended_outcome codes.BAD_ENCODING 0 0) × (places.new ≡ places.old)
         × (held.new ≡ held.old) }
     ensures evaluates { IsEncoding numbers
         → EvaluatesFirst (encoding_in numbers) (text_at (is_big_in numbers) texts.now 0) texts.now
@@ -147,7 +122,7 @@ pub extern "C" fn dwexpr_evaluate(
 ) -> u32
     ensures code { result ≡ outcome.new.code }
     ensures encoding { (IsEncoding encoding → ⊥)
-        → (outcome.new ≡ ended_outcome bad_encoding_code 0 0) × (pieces.new ≡ pieces.old) }
+        → (outcome.new ≡ ended_outcome codes.BAD_ENCODING 0 0) × (pieces.new ≡ pieces.old) }
     ensures evaluates { IsEncoding encoding
         → EvaluatesFirst (encoding_in encoding) (text_at (is_big_in encoding) texts.now 0) texts.now
         steps.now outcome.new pieces.old pieces.new }

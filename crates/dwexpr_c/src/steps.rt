@@ -1,12 +1,11 @@
 ghost use Rattle.std.specs.Prelude.{ℕ, ◌≡◌, Some, None, IfSome, IfNone, IfOk, IfErr, Ok, Err, ok_or, option_map, true, false};
 ghost use Rattle.dwarf_base.specs.ByteOrder.{is_big_of};
 ghost use Rattle.dwarf_replay.specs.Stepping as stepping;
-ghost use Rattle.dwexpr_c.specs.Codes.{bad_step_code};
-ghost use Rattle.dwexpr_c.specs.Steps.{step_coded};
+ghost use Rattle.dwexpr_c.specs.Outcomes.{step_coded};
 ghost use Rattle.dwexpr_c.specs.Values.{value_coded};
-ghost use Rattle.dwexpr_c.specs.Texts.{IsAt, IsPlaced, text_at, text_of_placed};
-ghost use Rattle.dwexpr_c.specs.Places.{IsNowhere};
+ghost use Rattle.dwexpr_c.specs.Texts.{IsAt, IsPlaced, text_at, text_of_placed, IsNowhere};
 ghost use Rattle.dwexpr_c.specs.inner.Runs.{IsGiven};
+ghost use Rattle.dwexpr_c.specs.declared.faults.TheConstants as codes;
 
 use crate::faults::{BAD_STEP, BAD_TEXT};
 use crate::places::Placed;
@@ -148,7 +147,7 @@ pub(crate) fn place_of(texts: &[DwexprText<'_>], block: Placed<'_>) -> Option<Pl
 
 /// The value that a step gives, or the code if its numbers say none.
 fn value_in(step: DwexprStep) -> Result<Value, u32>
-    ensures { result ≡ ok_or (value_coded step.value_type step.number) bad_step_code }
+    ensures { result ≡ ok_or (value_coded step.value_type step.number) codes.BAD_STEP }
 {
     value_of(step.value_type, step.number).ok_or(BAD_STEP)
 }

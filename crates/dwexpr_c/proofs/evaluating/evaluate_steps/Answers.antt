@@ -1,5 +1,5 @@
 use Rattle.dwexpr_c.specs.declared.evaluating.Progress.TheVariants.{Complete}
-use Rattle.dwexpr_c.proofs.Finished.{all_done}
+use Rattle.dwexpr_c.proofs.Runs.{all_done}
 use Rattle.dwexpr_c.proofs.evaluating.evaluate_steps.Goals as goal
 
 pub returns-in-Complete-clause-evaluates : goal.returns-in-Complete-clause-evaluates

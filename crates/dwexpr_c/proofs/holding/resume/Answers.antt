@@ -1,7 +1,7 @@
 use Rattle.std.proofs.Common.{ap, refl, ◌∙◌}
 use Rattle.dwarf_base.specs.ByteOrder.{is_big_of}
 use Rattle.dwarf_meaning.specs.Stores.{Setup}
-use Rattle.dwexpr_c.specs.Steps.{step_coded}
+use Rattle.dwexpr_c.specs.Outcomes.{step_coded}
 use Rattle.dwexpr_c.specs.declared.evaluating.Progress.TheVariants.{Complete}
 use Rattle.dwexpr_c.proofs.Keeping.{step_keeps}
 use Rattle.dwexpr_c.proofs.holding.resume.Goals as goal

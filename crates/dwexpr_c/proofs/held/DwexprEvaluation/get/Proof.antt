@@ -1,5 +1,5 @@
 -- `get` lends the value after the pointer, and the handle follows it.
-use Rattle.std.proofs.Common.{◌≡◌, ℕ, List, [], ◌∷◌, refl, sym, ap, ◌∙◌}
+use Rattle.std.proofs.Common.{◌≡◌, ℕ, List, [], ◌∷◌, refl, sym, ap, ◌∙◌, Option, None, Some}
 use Rattle.std.proofs.raw_atomic.Walks.{proved}
 use seplogic.Ra.Ura.{Ura}
 use mir.Syntax.{named}
@@ -32,7 +32,6 @@ use denote.Triple.Walked.{Stays, walk_of, says, stay_dropped, Goes-spent_ref, en
 use Rattle.std.proofs.VecSteps.Shapes.{after}
 use Rattle.dwexpr_c.specs.declared.held.DwexprEvaluation.{DwexprEvaluation}
 use Rattle.dwexpr_c.specs.contracts.held.DwexprEvaluation as handle
-use Rattle.std.proofs.Common.{Option, None, Some}
 use contract.Monad.{fact}
 use denote.Steps.{heard}
 use Rattle.dwexpr_c.specs.Held.{IsBegun}

@@ -1,5 +1,5 @@
 -- Each block that an evaluation gives is at some place of the texts that the caller gave.
-use Rattle.std.proofs.Common.{ℕ, zero, suc, ◌≡◌, ◌∙◌, ◌+◌, ◌≤◌, ◌==◌, ◌^◌, nat_lt, Bool, List, [], ◌∷◌, ◌++◌, map, take, drop, length, slice_get, Option, Some, None, Result, Ok, Err, refl, sym, ap, subst, arith, length-append}
+use Rattle.std.proofs.Common.{rules, if◌then◌else◌, ℕ, zero, suc, ◌≡◌, ◌∙◌, ◌+◌, ◌≤◌, Bool, List, [], ◌∷◌, ◌++◌, map, take, drop, length, slice_get, Option, Some, None, Result, Ok, Err, refl, sym, ap, subst, arith, length-append}
 use Rattle.std.specs.List.{slice_range}
 use Rattle.std.specs.Option.{option_map}
 use Rattle.std.proofs.lemmas.Bool.{cond_both}
@@ -27,7 +27,6 @@ use Rattle.dwexpr_c.specs.Evaluated.{comes_of}
 use Rattle.dwexpr_c.specs.Operations.{block_in}
 use Rattle.dwexpr_c.specs.Outcomes.{resume_or, step_coded}
 use Rattle.dwexpr_c.specs.Texts.{IsAt, IsPlaced, text_in, AsksNowhere, HoldsNowhere, SomeNowhere}
-use Rattle.dwexpr_c.specs.Values.{type_coded, value_coded}
 use Rattle.dwexpr_c.specs.inner.Runs.{IsGiven, given_at}
 use Rattle.dwexpr_c.specs.declared.steps.DwexprStep.{DwexprStep}
 use Rattle.dwexpr_c.specs.declared.steps.DwexprText.{DwexprText}
@@ -106,9 +105,8 @@ module _ (texts : List DwexprText) where
   record IsSaid (r : Result Step ℕ) : Type 0 where
     on : OnSaid r
 
-  -- it names no text
-  none_named : (step : Result Step ℕ) → OnSaid step → IsSaid step
-  none_named step h = record { on = h }
+  said_if : (b : Bool) (x y : Result Step ℕ) → IsSaid x → IsSaid y → IsSaid (if b then x else y)
+  said_if b x y h i = cond_both b _ _ IsSaid (λ e. h) (λ e. i)
 
   on_value : (kind : WaitingKind) (o : Option Value) → IsSaid (resume_or (requests.ValueAnswer kind) o codes.BAD_STEP)
   on_value kind None = record { on = tt }
@@ -123,24 +121,7 @@ module _ (texts : List DwexprText) where
   on_text big index (Some text) e = record { on = record { index = index; at = text; is_there = e; same = refl } }
 
   on_said : (big : Bool) (step : DwexprStep) → IsSaid (step_coded big texts step)
-  on_said big step =
-      let value = value_coded step.value_type step.number in
-      cond_both (step.kind == 1) _ _ IsSaid (λ e. none_named _ tt) (λ e.
-      cond_both (step.kind == 2) _ _ IsSaid (λ e. none_named _ tt) (λ e.
-      cond_both (step.kind == 3) _ _ IsSaid (λ e. cond_both (nat_lt step.number (2 ^ 32)) _ _ IsSaid (λ e. none_named _ tt) (λ e. none_named _ tt)) (λ e.
-      cond_both (step.kind == 4) _ _ IsSaid (λ e. none_named _ tt) (λ e.
-      cond_both (step.kind == 5) _ _ IsSaid (λ e. on_value _ value) (λ e.
-      cond_both (step.kind == 6) _ _ IsSaid (λ e. on_value _ value) (λ e.
-      cond_both (step.kind == 7) _ _ IsSaid (λ e. on_value _ value) (λ e.
-      cond_both (step.kind == 8) _ _ IsSaid (λ e. on_value _ value) (λ e.
-      cond_both (step.kind == 9) _ _ IsSaid (λ e. none_named _ tt) (λ e.
-      cond_both (step.kind == 10) _ _ IsSaid (λ e. none_named _ tt) (λ e.
-      cond_both (step.kind == 11) _ _ IsSaid (λ e. none_named _ tt) (λ e.
-      cond_both (step.kind == 12) _ _ IsSaid (λ e. none_named _ tt) (λ e.
-      cond_both (step.kind == 13) _ _ IsSaid (λ e. none_named _ tt) (λ e.
-      cond_both (step.kind == 14) _ _ IsSaid (λ e. none_named _ tt) (λ e.
-      cond_both (step.kind == 15) _ _ IsSaid (λ e. on_text big step.text (slice_get texts step.text) refl) (λ e.
-      cond_both (step.kind == 16) _ _ IsSaid (λ e. on_type (type_coded step.value_type)) (λ e. none_named _ tt))))))))))))))))
+  on_said big step = search (rules, said_if, on_value, on_type, on_text) depth 40
 
   on_steps : (big : Bool) (numbers : List DwexprStep) (steps : List Step) → map (step_coded big texts) numbers ≡ map Ok steps → OnSteps steps
   on_steps big [] [] e = tt

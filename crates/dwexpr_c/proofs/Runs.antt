@@ -6,10 +6,10 @@ use Rattle.std.proofs.Math.Seq.{take-suc, take-append_seam}
 use Rattle.dwarf_base.specs.declared.errors.Error.{Error}
 use Rattle.dwarf_base.specs.Faults.{Fault, fault_of}
 use Rattle.dwarf_meaning.specs.Meaning.{Outcome, RequestOutcome, FaultOutcome, CompleteOutcome}
-use Rattle.dwarf_meaning.specs.Requests as requests
 use Rattle.dwarf_meaning.specs.Requests.{Request}
 use Rattle.dwarf_meaning.specs.Rest.{State, Status, Start, RequestStatus, CompleteStatus, FaultStatus}
-use Rattle.dwarf_meaning.specs.Steps.{Step, InitialValue, ObjectAddress, MaxIterations, Told, Reply, CompleteReply, RequestReply, FaultReply, Allows, AllAllowed, after_steps, outcome_of}
+use Rattle.dwarf_meaning.specs.Steps as meaning
+use Rattle.dwarf_meaning.specs.Steps.{Step, InitialValue, ObjectAddress, MaxIterations, Evaluate, Resume, Told, Reply, CompleteReply, RequestReply, FaultReply, Allows, AllAllowed, after_steps, outcome_of}
 use Rattle.dwarf_meaning.specs.Refusals.{Limits, Refusal, Never, After, MayPick}
 use Rattle.dwarf_eval.specs.Evaluation.{IsReplied, reply_of, ok_reply}
 use Rattle.dwarf_eval.specs.declared.op.results.EvaluationResult.{EvaluationResult}
@@ -71,40 +71,24 @@ no_fault texts told x (Some (FaultOutcome fault)) (FaultStatus error) progress o
 no_fault texts told x (Some (FaultOutcome fault)) _ progress out e s h = absurd (subst (IsInFault fault) e h)
 no_fault texts told x _ status progress out e s h = tt
 
-stopped_by : (told : Told) (x : State) (o : Option Outcome) (error : Error) → x.status ≡ FaultStatus error → StandsAt told x o → o ≡ Some (FaultOutcome (fault_of error))
-stopped_by told x None error e h = absurd (let s : FaultStatus error ≡ Start told.now.initial_value = sym e ∙ h.0 in cc)
-stopped_by told x (Some (RequestOutcome request positions)) error e h = absurd (subst (IsInRequest request positions x) e h.0)
-stopped_by told x (Some (FaultOutcome fault)) error e h = ap (λ (f : Fault). Some (FaultOutcome f)) (sym (subst (IsInFault fault) e h))
-stopped_by told x (Some (CompleteOutcome pieces value)) error e h = absurd (let s : FaultStatus error ≡ CompleteStatus value = sym e ∙ h.0 in cc)
+in_request : (request : Request) (positions : List _) (x : State) (answer : Reply) (status : Status) → IsInRequest request positions x status → IsReplied answer status → answer ≡ RequestReply request
+in_request request positions x answer (RequestStatus other on_answer) h r = r ∙ ap RequestReply h.0
+in_request request positions x answer _ h r = absurd h
 
--- it stands at the fault that was told
-stands_at_fault : (told : Told) (x : State) (o : Option Outcome) (fault : Fault) (status : Status) → x.status ≡ status → IsReplied (FaultReply fault) status → StandsAt told x o → o ≡ Some (FaultOutcome fault)
-stands_at_fault told x o fault (FaultStatus error) e t h =
-    let same : fault_of error ≡ fault = cc in
-    stopped_by told x o error e h ∙ ap (λ (f : Fault). Some (FaultOutcome f)) same
-stands_at_fault told x o fault (RequestStatus request on_answer) e t h = absurd (let s : FaultReply fault ≡ RequestReply request = t in cc)
-stands_at_fault told x o fault (CompleteStatus value) e t h = absurd (let s : FaultReply fault ≡ CompleteReply = t in cc)
-stands_at_fault told x o fault _ e t h = absurd t
+in_fault : (fault : Fault) (answer : Reply) (status : Status) → IsInFault fault status → IsReplied answer status → answer ≡ FaultReply fault
+in_fault fault answer (FaultStatus error) h r = r ∙ ap FaultReply h
+in_fault fault answer _ h r = absurd h
 
--- a block is asked about that is nowhere
-abbrev BlockNowhere : List DwexprText → Option Outcome → Type 0
-BlockNowhere texts (Some (RequestOutcome request positions)) = AsksNowhere texts (RequestReply request)
-BlockNowhere texts _ = ⊥
+-- what was replied is the reply of where it stands
+replied_there : (told : Told) (x : State) (o : Option Outcome) (answer : Reply) → IsReplied answer x.status → StandsAt told x o → (outcome : Outcome) × (o ≡ Some outcome) × (answer ≡ meaning.reply outcome)
+replied_there told x None answer r h = absurd (subst (IsReplied answer) h.0 r)
+replied_there told x (Some (RequestOutcome request positions)) answer r h = (RequestOutcome request positions, refl, in_request request positions x answer x.status h.0 r)
+replied_there told x (Some (FaultOutcome fault)) answer r h = (FaultOutcome fault, refl, in_fault fault answer x.status h r)
+replied_there told x (Some (CompleteOutcome pieces value)) answer r h = (CompleteOutcome pieces value, refl, subst (IsReplied answer) h.0 r)
 
-request_asks : (texts : List DwexprText) (told : Told) (x : State) (o : Option Outcome) (request : Request) (on_answer : requests.OnAnswer) → x.status ≡ RequestStatus request on_answer → AsksNowhere texts (RequestReply request) → StandsAt told x o → BlockNowhere texts o
-request_asks texts told x None request on_answer e a h = absurd (let s : RequestStatus request on_answer ≡ Start told.now.initial_value = sym e ∙ h.0 in cc)
-request_asks texts told x (Some (RequestOutcome other positions)) request on_answer e a h =
-    let is : IsInRequest other positions x (RequestStatus request on_answer) = subst (IsInRequest other positions x) e h.0 in
-    subst (λ (r : Request). AsksNowhere texts (RequestReply r)) is.0 a
-request_asks texts told x (Some (FaultOutcome fault)) request on_answer e a h = absurd (subst (IsInFault fault) e h)
-request_asks texts told x (Some (CompleteOutcome pieces value)) request on_answer e a h = absurd (let s : RequestStatus request on_answer ≡ CompleteStatus value = sym e ∙ h.0 in cc)
-
--- it stands at the block that is asked about
-stands_at_block : (texts : List DwexprText) (told : Told) (x : State) (o : Option Outcome) (reply : Reply) (status : Status) → x.status ≡ status → IsReplied reply status → AsksNowhere texts reply → StandsAt told x o → BlockNowhere texts o
-stands_at_block texts told x o reply (RequestStatus request on_answer) e t a h = request_asks texts told x o request on_answer e (subst (AsksNowhere texts) t a) h
-stands_at_block texts told x o reply (CompleteStatus value) e t a h = absurd (subst (AsksNowhere texts) t a)
-stands_at_block texts told x o reply (FaultStatus error) e t a h = absurd (subst (AsksNowhere texts) t a)
-stands_at_block texts told x o reply _ e t a h = absurd t
+fault_replied : (outcome : Outcome) (fault : Fault) → FaultReply fault ≡ meaning.reply outcome → outcome ≡ FaultOutcome fault
+fault_replied (FaultOutcome other) fault e = cc
+fault_replied _ fault e = cc
 
 -- ---- all lists have limits
 
@@ -263,8 +247,8 @@ module _ (texts : List DwexprText) (all : List DwexprStep) (index : ℕ) (at : D
         in
         refused_as first w.walks.refusal w.step step (take (length r.steps) beyond) r.steps (none_free first.setup.limits w.walks.refusal limits w.walks.may) same front refused
 
-    nowhere_never : (step : Step) → step_coded first.text.is_big texts at ≡ Ok step → (o : Option Outcome) → comes_of given (r.steps ++ step ∷ []) ≡ o → BlockNowhere texts o → ⊥
-    nowhere_never step one (Some (RequestOutcome request positions)) e a =
+    nowhere_never : (step : Step) → step_coded first.text.is_big texts at ≡ Ok step → (outcome : Outcome) → comes_of given (r.steps ++ step ∷ []) ≡ Some outcome → AsksNowhere texts (meaning.reply outcome) → ⊥
+    nowhere_never step one (RequestOutcome request positions) e a =
         asks_somewhere texts first is_given (take (suc index) all) (r.steps ++ step ∷ []) (said_next r.steps step r.said one) request positions e a
     nowhere_never step one _ e a = a
 
@@ -273,17 +257,17 @@ module _ (texts : List DwexprText) (all : List DwexprStep) (index : ℕ) (at : D
         inl (record { not_allowed = misplaced_at step h.not_taken; shown = ap (λ (e : FaultNumbers). ended_outcome e.code e.number index) h.shown })
     ends_at end step one (inr (inl h)) =
         let w = called_walks step (Err h.error) h.called in
-        let told = (replied_by x new (Err h.error) step h.called).status in
+        let there = replied_there (told_by given (r.steps ++ step ∷ [])) new _ (FaultReply (fault_of h.error)) (replied_by x new (Err h.error) step h.called).status w.stands in
         inr (record {
           allowed = w.allowed;
           fault = fault_of h.error;
-          comes = stands_at_fault (told_by given (r.steps ++ step ∷ [])) new _ (fault_of h.error) new.status refl told w.stands;
+          comes = there.1 ∙ ap Some (fault_replied there.0 (fault_of h.error) there.2);
           shown = ap (λ (e : FaultNumbers). ended_outcome e.code e.number index) h.shown;
         })
     ends_at end step one (inr (inr h)) =
         let w = called_walks step (Ok h.told) h.called in
-        let told = (replied_by x new (Ok h.told) step h.called).status in
-        absurd (nowhere_never step one _ refl (stands_at_block texts (told_by given (r.steps ++ step ∷ [])) new _ (ok_reply text_of_placed (λ x. x) h.told) new.status refl told h.asks w.stands))
+        let there = replied_there (told_by given (r.steps ++ step ∷ [])) new _ (ok_reply text_of_placed (λ x. x) h.told) (replied_by x new (Ok h.told) step h.called).status w.stands in
+        absurd (nowhere_never step one there.0 there.1 (subst (AsksNowhere texts) there.2 h.asks))
 
     cut_short_by : (end : FaultNumbers) (o : Result Step ℕ) → step_coded first.text.is_big texts at ≡ o → Stops texts o x new end → EndsByStep given r.steps o (ended_outcome end.code end.number index)
     cut_short_by end (Ok step) one h = ends_at end step one h

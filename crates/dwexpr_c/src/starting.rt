@@ -53,32 +53,6 @@ fn start_text<'a>(
     );
 }
 
-/// Shows what the steps of the first of the texts come to.
-fn start_first<'a>(
-    held: &mut Held<'a>,
-    texts: &[DwexprText<'a>],
-    reading: Reading,
-    steps: &[DwexprStep],
-    outcome: &mut DwexprOutcome,
-    places: &mut [DwexprPiece],
-)
-    requires capacities { HasCapacities held.old.evaluation }
-    requires some { 0 < reading.encoding.address_size }
-    requires fits { reading.encoding.address_size ≤ 8 }
-    ensures capacities { HasCapacities held.new.evaluation }
-    ensures evaluates { EvaluatesFirst reading.encoding
-        (text_at (is_big_of reading.order) texts.now 0) texts.now steps.now outcome.new places.old
-        places.new }
-    ensures stands { StandsAfterFirst reading.encoding
-        (text_at (is_big_of reading.order) texts.now 0) texts.now steps.now held.old held.new
-        outcome.new }
-{
-    match text_at(texts, reading.order, 0) {
-        None => *outcome = show_end(plain(BAD_TEXT), 0),
-        Some(text) => start_text(held, texts, text, reading, steps, outcome, places),
-    }
-}
-
 /// Shows what the steps of the first of the texts come to; the evaluation then stands where they lead.
 pub(crate) fn start<'a>(
     held: &mut Held<'a>,
@@ -102,7 +76,10 @@ pub(crate) fn start<'a>(
 {
     match reading_of(numbers) {
         None => *outcome = show_end(plain(BAD_ENCODING), 0),
-        Some(reading) => start_first(held, texts, reading, steps, outcome, places),
+        Some(reading) => match text_at(texts, reading.order, 0) {
+            None => *outcome = show_end(plain(BAD_TEXT), 0),
+            Some(text) => start_text(held, texts, text, reading, steps, outcome, places),
+        },
     }
 }
 

@@ -1,9 +1,7 @@
 -- Each block that an evaluation gives is at some place of the texts that the caller gave.
-use Rattle.std.proofs.Common.{rules, if◌then◌else◌, ℕ, zero, suc, ◌≡◌, ◌∙◌, ◌+◌, ◌≤◌, Bool, List, [], ◌∷◌, ◌++◌, map, take, drop, length, slice_get, Option, Some, None, Result, Ok, Err, refl, sym, ap, subst, arith, length-append}
-use Rattle.std.specs.List.{slice_range}
+use Rattle.std.proofs.Common.{rules, if◌then◌else◌, ℕ, zero, suc, ◌≡◌, ◌+◌, Bool, List, [], ◌∷◌, ◌++◌, map, take, length, slice_get, Option, Some, None, Result, Ok, Err, refl, sym, subst}
 use Rattle.std.specs.Option.{option_map}
 use Rattle.std.proofs.lemmas.Bool.{cond_both}
-use Rattle.std.proofs.lemmas.List.{take-append-drop}
 use Rattle.std.proofs.lemmas.Option.{slice_get_read}
 use Rattle.dwarf_base.specs.Faults.{Fault}
 use Rattle.dwarf_base.specs.Reads.{Text}
@@ -21,7 +19,6 @@ use Rattle.dwarf_meaning.proofs.Outcomes.{outcome_from}
 use Rattle.dwarf_meaning.specs.Steps.{Step, Resume, Told, RequestReply, heard, after, after_step, after_steps, outcome_of}
 use Rattle.dwarf_meaning.specs.Stores.{Setup}
 use Rattle.dwarf_meaning.specs.Refusals.{Refusal, Never}
-use Rattle.dwarf_meaning.proofs.Decoded.{operation_begins}
 use Rattle.dwarf_replay.specs.Replays.{told_at}
 use Rattle.dwexpr_c.specs.Evaluated.{comes_of}
 use Rattle.dwexpr_c.specs.Operations.{block_in}
@@ -31,7 +28,7 @@ use Rattle.dwexpr_c.specs.inner.Runs.{IsGiven, given_at}
 use Rattle.dwexpr_c.specs.declared.steps.DwexprStep.{DwexprStep}
 use Rattle.dwexpr_c.specs.declared.steps.DwexprText.{DwexprText}
 use Rattle.dwexpr_c.specs.declared.faults.TheConstants as codes
-use Rattle.dwexpr_c.proofs.Blocks.{EndIn, operation_ends, slice_between}
+use Rattle.dwexpr_c.proofs.Blocks.{block_at}
 use Rattle.dwexpr_c.proofs.Carried.{OnBlock, OnRead, OnLocation, OnPieces, OnRequest, OnGiven, OnInputs, OnOutcome, Reads, meaning_holds}
 
 record IsSomewhere (texts : List DwexprText) (block : List ℕ) : Type 0 where
@@ -49,31 +46,16 @@ module _ (texts : List DwexprText) where
   -- ---- the block of an operation is a part of the text
 
   module _ (setup : Setup) (text : Text) (place : ℕ) (op : Operation) (rest : List ℕ) (is : read setup text place ≡ Ok (op, rest)) where
-    abbrev left : Text
-    left = record { bytes = drop place text.bytes; is_big = text.is_big }
-
     somewhere : (block : List ℕ) → block_in op ≡ Some block → IsGiven texts text.bytes → IsSomewhere texts block
     somewhere block e given =
-        let begins = operation_begins setup.encoding setup.offset_bits left op rest is in
-        let ends : EndIn begins.front (Some block) = subst (EndIn begins.front) e (operation_ends setup.encoding setup.offset_bits text.is_big begins.front op begins.spells) in
-        let before = take place text.bytes in
-        let whole : before ++ ((ends.0 ++ block) ++ rest) ≡ text.bytes =
-        ap (λ (xs : List ℕ). before ++ (xs ++ rest)) ends.1
-        ∙ (ap (λ (xs : List ℕ). before ++ xs) begins.whole ∙ take-append-drop place text.bytes)
-        in
-        let offset : ℕ = length before + length ends.0 in
-        let same : slice_range text.bytes offset (offset + length block) ≡ block = slice_between before ends.0 block rest text.bytes offset whole refl in
-        let a : length before + length ((ends.0 ++ block) ++ rest) ≡ length text.bytes = sym (length-append before ((ends.0 ++ block) ++ rest)) ∙ ap length whole in
-        let b : length ((ends.0 ++ block) ++ rest) ≡ length (ends.0 ++ block) + length rest = length-append (ends.0 ++ block) rest in
-        let c : length (ends.0 ++ block) ≡ length ends.0 + length block = length-append ends.0 block in
-        let inside : offset + length block ≤ length text.bytes = omega arith in
+        let at = block_at setup.encoding setup.offset_bits text.is_big text.bytes place op rest block is e in
         record {
           text = given.index;
-          offset = offset;
+          offset = length (take place text.bytes) + length at.0;
           placed = record {
             at = given.at;
             is_there = given.is_there;
-            placed = subst (λ (xs : List ℕ). IsAt xs offset block) (sym given.same) (inside, same);
+            placed = subst (λ (xs : List ℕ). IsAt xs (length (take place text.bytes) + length at.0) block) (sym given.same) at.2;
           };
         }
 

@@ -2,9 +2,9 @@
 
 pub use dwexpr as layer;
 
-#[path = "sums.rs"]
-#[allow(clippy::duplicate_mod)]
-mod sums;
+mod sums {
+    include!(concat!(env!("OUT_DIR"), "/sums.rs"));
+}
 #[path = "work.rs"]
 #[allow(clippy::duplicate_mod)]
 mod work;

@@ -2,8 +2,9 @@
 
 pub use gimli as layer;
 
-#[path = "sums.rs"]
-mod sums;
+mod sums {
+    include!(concat!(env!("OUT_DIR"), "/sums.rs"));
+}
 #[path = "work.rs"]
 #[allow(clippy::duplicate_mod)]
 mod work;

@@ -4,9 +4,12 @@ use super::layer::{
     Encoding, EndianSlice, Evaluation, EvaluationResult, EvaluationStorage, Format, Operation, Piece, Reader, Result,
     RunTimeEndian, StoreOnHeap, Value, ValueType,
 };
-use super::sums::{Text, mix, mix_location, mix_operation, mix_option, mix_request, mix_value};
+use super::sums::{mix, mix_location, mix_operation, mix_option, mix_request, mix_value};
 use crate::cases::{Case, Job};
 use std::hint::black_box;
+
+/// The bytes of an expression, in an order that is known when the program runs.
+pub type Text<'a> = EndianSlice<'a, RunTimeEndian>;
 
 /// Lists of fixed capacities.
 pub struct Arrays;

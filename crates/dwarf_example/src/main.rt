@@ -5,11 +5,9 @@ ghost use Rattle.dwarf_eval.specs.Evaluation.{IsClosed};
 
 mod registers;
 mod requests;
-mod zeros;
 
 use crate::registers::complete_with_registers;
-use crate::requests::{Process, complete};
-use crate::zeros::count_requests;
+use crate::requests::{Process, complete, count_requests};
 use dwarf_base::{
     DebugAddrIndex, Encoding, EndianSlice, Error, Format, Reader, Register, Result, RunTimeEndian,
     UnitOffset,

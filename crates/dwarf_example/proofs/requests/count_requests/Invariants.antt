@@ -1,5 +1,5 @@
 use Rattle.dwarf_meaning.specs.Bounds.{calls_left}
-use Rattle.dwarf_example.proofs.zeros.count_requests.Given as goal
+use Rattle.dwarf_example.proofs.requests.count_requests.Given as goal
 
 abbrev pub decreases-requests : goal.decreases-requests
 decreases-requests g l = calls_left l.evaluation

@@ -1,9 +1,4 @@
-pub mod DigitLemmas
-pub mod EndLemmas
-pub mod Fronts
+pub mod Ending
 pub mod Listings
-pub mod NumberLemmas
-pub mod RunLemmas
-pub mod StepLemmas
-pub mod WordLemmas
-pub mod WordTexts
+pub mod Printing
+pub mod Reading

@@ -1,5 +1,6 @@
 -- The operations of a text, listed one after another.
 use Rattle.std.proofs.Common.{◌≡◌, ◌≢◌, ℕ, ◌+◌, ◌-◌, Bool, List, [], ◌∷◌, ◌++◌, length, take, drop, codes, decimal, Option, Some, None, Result, Ok, Err, IsErr, refl, sym, ◌∙◌, ap, ap₂, subst, arith, append_assoc, length-append}
+use Rattle.std.proofs.Math.Seq.{take-append_seam}
 use Rattle.std.specs.Io.KnownBytes.{Appends}
 use Rattle.dwarf_base.specs.declared.common.Encoding.{Encoding}
 use Rattle.dwarf_base.specs.Faults.{Fault}
@@ -17,7 +18,7 @@ use Rattle.dwexpr.specs.Endings.{Ending, WritesEnding}
 use Rattle.dwexpr.specs.Lines.{fault_words}
 use Rattle.dwexpr.specs.Listing.{ListsOperations, listing, operation_name}
 use Rattle.dwexpr.specs.Writing.{AppendsFront, bytes_word, line}
-use Rattle.dwexpr.proofs.Fronts.{appends_both, appends_nothing, ends_refused}
+use Rattle.dwexpr.proofs.Printing.{appends_both, appends_nothing, ends_refused}
 
 pub gives_some : {X : Type 0} (view : X → Operation) (given : Option X) (x : X) (left bytes : List ℕ) (read : Result (Operation × List ℕ) Fault)
     → given ≡ Some x → GivesNext view (Ok given) left bytes read → read ≡ Ok (view x, left)
@@ -28,10 +29,6 @@ pub gives_none : {X : Type 0} (view : X → Operation) (given : Option X) (left 
 gives_none view given left bytes read e h = (subst (λ o. GivesNext view (Ok o) left bytes read) e h).0
 
 -- ---- the bytes of an operation are those between its place and the next one
-
-take_front : (front rest : List ℕ) → take (length front) (front ++ rest) ≡ front
-take_front [] rest = refl
-take_front (byte ∷ front) rest = ap (λ (bytes : List ℕ). byte ∷ bytes) (take_front front rest)
 
 module _ (bytes left front rest : List ℕ) (place end : ℕ) (suffix : IsSuffix left bytes) (at : place ≡ length bytes - length left)
     (whole : front ++ rest ≡ left) (after : end ≡ length bytes - length rest) where
@@ -44,7 +41,7 @@ module _ (bytes left front rest : List ℕ) (place end : ℕ) (suffix : IsSuffix
       ap (λ (n : ℕ). take n (drop place bytes)) size
       ∙ ap (λ (n : ℕ). take (length front) (drop n bytes)) at
       ∙ ap (take (length front)) (suffix.same ∙ sym whole)
-      ∙ take_front front rest
+      ∙ take-append_seam front rest
 
 -- ---- what is listed of a text
 

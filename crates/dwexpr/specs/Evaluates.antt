@@ -2,21 +2,13 @@
 use Rattle.std.specs.Prelude.{ℕ, ◌≡◌, ◌⊎◌, ◌++◌, List, [], take, slice_get, Option, Some, None, Result, Ok, Err}
 use Rattle.dwarf_base.specs.declared.common.Encoding.{Encoding}
 use Rattle.dwarf_base.specs.Reads.{Text}
-use Rattle.dwarf_meaning.specs.Stores.{Setup}
+use Rattle.dwarf_meaning.specs.Stores.{Setup, setup_of}
 use Rattle.dwarf_meaning.specs.Meaning.{Outcome, RequestOutcome, FaultOutcome, CompleteOutcome}
 use Rattle.dwarf_meaning.specs.Steps.{Step, Evaluate, Resume, Told, Reply, Allows, AreDone, outcome_of, untold}
 use Rattle.dwarf_meaning.specs.Refusals.{Refusal}
 use Rattle.dwexpr.specs.Lines.{reply_lines}
-use Rattle.dwexpr.specs.declared.steps.StepsFault.{StepsFault}
-use Rattle.dwexpr.specs.declared.steps.StepsFault.TheVariants as fault
-use Rattle.dwexpr.specs.Input.{lines_in}
-use Rattle.dwexpr.specs.Steps.{steps_in}
+use Rattle.dwexpr.specs.Steps.{lines_in, steps_in}
 use Rattle.dwexpr.specs.Endings.{Ending, bad_step, complete_ending, misplaced, no_memory}
-
--- no list has a limit
-abbrev pub unlimited_setup : Encoding → Setup
-unlimited_setup encoding =
-    record { encoding = encoding; offset_bits = 64; limits = record { values = None; callers = None; pieces = None } }
 
 -- what comes out, after the replies: pieces and a value, the status of a fault, or nothing
 abbrev pub outcome_ending : Option Outcome → Ending
@@ -59,12 +51,8 @@ abbrev pub EvaluatesSaid : Setup → Text → Result (List Step) ℕ → Ending 
 EvaluatesSaid setup text (Ok steps) ending = EvaluatesSteps setup text untold steps ending
 EvaluatesSaid setup text (Err number) ending = ending ≡ bad_step number
 
--- the same of an input, or there was no memory for its steps
+-- the same of an input, with no limit of any list; or there was no memory for its steps
 abbrev pub EvaluatesLines : Encoding → Text → (input : List ℕ) → Ending → Type 0
 EvaluatesLines encoding text input ending =
-    EvaluatesSaid (unlimited_setup encoding) text (steps_in text.is_big (lines_in input)) ending ⊎ (ending ≡ no_memory)
-
--- why lines give no steps, as it is printed
-abbrev pub bad_steps : StepsFault → Ending
-bad_steps (fault.Bad number) = bad_step number
-bad_steps fault.NoMemory = no_memory
+    EvaluatesSaid (setup_of encoding 64 None None None) text (steps_in text.is_big (lines_in input)) ending
+    ⊎ (ending ≡ no_memory)

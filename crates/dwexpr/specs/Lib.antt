@@ -1,11 +1,9 @@
 pub mod Endings
 pub mod Evaluates
-pub mod Input
 pub mod Lines
 pub mod Listing
 pub mod Program
 pub mod Steps
-pub mod Values
 pub mod Words
 pub mod Writing
 pub mod inner

@@ -1,8 +1,6 @@
 -- What the program ends with, by its words and its input.
 use Rattle.std.specs.Prelude.{ℕ, ◌≡◌, ◌⊎◌, List, Option, Some, None, IfSome}
 use Rattle.std.specs.Io.KnownBytes.{Appends}
-use Rattle.std.specs.declared.io.ErrorKind.{ErrorKind}
-use Rattle.std.specs.declared.io.ErrorKind.TheVariants.{InvalidData}
 use Rattle.dwarf_base.specs.ByteOrder.{is_big_of}
 use Rattle.dwarf_base.specs.declared.common.Encoding.{Encoding}
 use Rattle.dwarf_base.specs.Reads.{Text}
@@ -37,11 +35,6 @@ EndsInvocation (Some asked) left ending = EndsCommand asked.command asked left e
 -- what the program ends with, for these words
 abbrev pub EndsFor : (words : List (List ℕ)) → (left : Option (List ℕ)) → Ending → Type 0
 EndsFor words left ending = EndsInvocation (invocation_in words) left ending
-
--- what the program ends with if its words couldn't be had: one isn't UTF-8, or there was no memory for them
-abbrev pub without_words : ErrorKind → Ending
-without_words InvalidData = bad_words
-without_words _ = no_memory
 
 -- all was written, and the status is the ending's; or a front was, if a write was refused, and it is 1
 abbrev pub Exits : (old new : Option (List ℕ)) → Ending → (status : ℕ) → Type 0

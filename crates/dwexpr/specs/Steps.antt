@@ -1,20 +1,102 @@
 -- The lines that `eval` reads: each is a step.
-use Rattle.std.specs.Prelude.{ℕ, ◌≡◌, IsSome, Vec, map, suc, codes, bytes_eq, Bool, List, [], ◌∷◌, Option, Some, None, option_and_then, option_map, Result, Ok, Err, if◌then◌else◌}
+use Rattle.std.specs.Prelude.{ℕ, ◌-◌, ◌^◌, ◌==◌, nat_eq, nat_lt, codes, bytes_eq, slice_index, List, [], ◌∷◌, length, drop, Option, Some, None, option_and_then, option_map, if◌then◌else◌, ℤ, pos, negsuc, neg_ℤ, zero, suc, Bool, Result, Ok, Err}
+use Rattle.std.specs.List.{position_or_len, before_first, after_first, list_all, starts_with}
+use Rattle.std.specs.Map.{lookup}
+use Rattle.std.specs.Char.{is_digit}
+use Rattle.std.specs.Str.Parse.{digits_value}
+use Rattle.dwarf_value.specs.declared.types.Value.{Value}
+use Rattle.dwarf_value.specs.declared.types.Value.TheVariants as value
+use Rattle.dwarf_value.specs.declared.types.ValueType.{ValueType}
+use Rattle.dwarf_value.specs.declared.types.ValueType.TheVariants as type
+use Rattle.std.specs.Option.{option_map_or}
+use Rattle.std.specs.Str.Lines.{strip_carriage_return}
 use Rattle.std.specs.Str.{is_utf8}
-use Rattle.dwarf_base.specs.EndianSlice.{slice_text}
 use Rattle.dwarf_meaning.specs.declared.kinds.WaitingKind.{WaitingKind}
 use Rattle.dwarf_meaning.specs.declared.kinds.WaitingKind.TheVariants as kind
 use Rattle.dwarf_meaning.specs.Requests as requests
 use Rattle.dwarf_meaning.specs.Steps.{Step, InitialValue, ObjectAddress, MaxIterations, Evaluate, Resume}
-use Rattle.dwarf_replay.specs.Stepping.{step_of}
-use Rattle.dwexpr.specs.Values.{below, cut_at, number_in, type_in, value_in}
 use Rattle.dwexpr.specs.Words.{bytes_in}
-use Rattle.dwexpr.specs.declared.steps.LineFault.{LineFault}
-use Rattle.dwexpr.specs.declared.steps.LineFault.TheVariants as line
-use Rattle.dwexpr.specs.declared.steps.StepsFault.{StepsFault}
-use Rattle.dwexpr.specs.declared.steps.StepsFault.TheVariants as fault
-use Rattle.dwexpr.specs.declared.steps.OwnedStep.{OwnedStep}
-use Rattle.dwexpr.specs.declared.steps.OwnedStep.TheVariants as owned
+
+-- ---- numbers
+
+-- one digit of the base or more, of either case
+abbrev pub numeral_in : (base : ℕ) → List ℕ → Option ℕ
+numeral_in base [] = None
+numeral_in base (digit ∷ digits) =
+    if list_all (λ byte. is_digit byte base) (digit ∷ digits) then Some (digits_value base (digit ∷ digits)) else None
+
+-- a number of this many bits
+abbrev pub below : (bits : ℕ) → ℕ → Option ℕ
+below bits number = if nat_lt number (2 ^ bits) then Some number else None
+
+-- N: decimal digits, or `0x` and hexadecimal ones, that say a number of at most 64 bits
+abbrev pub number_in : List ℕ → Option ℕ
+number_in word =
+    option_and_then (below 64) (if starts_with nat_eq word (codes "0x") then numeral_in 16 (drop 2 word)
+    else numeral_in 10 word)
+
+-- an integer of this many bits, one of them the sign's
+abbrev pub within : (bits : ℕ) → ℤ → Option ℤ
+within bits (pos n) = if nat_lt n (2 ^ (bits - 1)) then Some (pos n) else None
+within bits (negsuc n) = if nat_lt n (2 ^ (bits - 1)) then Some (negsuc n) else None
+
+-- N of a signed type: decimal digits, after a minus sign (45) or none, that say an integer of at most 64 bits
+abbrev pub integer_in : List ℕ → Option ℤ
+integer_in word =
+    option_and_then (within 64)
+    (if slice_index word 0 == 45 then option_map (λ n. neg_ℤ (pos n)) (numeral_in 10 (drop 1 word))
+    else option_map pos (numeral_in 10 word))
+
+-- ---- types and values
+
+-- T: the name of a type
+abbrev pub type_in : List ℕ → Option ValueType
+type_in word =
+    lookup (bytes_eq word) ((codes "generic", type.Generic) ∷ (codes "i8", type.I8) ∷ (codes "u8", type.U8)
+    ∷ (codes "i16", type.I16) ∷ (codes "u16", type.U16) ∷ (codes "i32", type.I32) ∷ (codes "u32", type.U32)
+    ∷ (codes "i64", type.I64) ∷ (codes "u64", type.U64) ∷ [])
+
+-- a number in the range of the type
+abbrev pub value_of_type : List ℕ → ValueType → Option Value
+value_of_type number type.Generic = option_map value.Generic (number_in number)
+value_of_type number type.I8 = option_map value.I8 (option_and_then (within 8) (integer_in number))
+value_of_type number type.U8 = option_map value.U8 (option_and_then (below 8) (number_in number))
+value_of_type number type.I16 = option_map value.I16 (option_and_then (within 16) (integer_in number))
+value_of_type number type.U16 = option_map value.U16 (option_and_then (below 16) (number_in number))
+value_of_type number type.I32 = option_map value.I32 (option_and_then (within 32) (integer_in number))
+value_of_type number type.U32 = option_map value.U32 (option_and_then (below 32) (number_in number))
+value_of_type number type.I64 = option_map value.I64 (integer_in number)
+value_of_type number type.U64 = option_map value.U64 (number_in number)
+
+-- what stands before the first such byte, and after it
+abbrev pub cut_at : (byte : ℕ) → List ℕ → Option (List ℕ × List ℕ)
+cut_at byte word =
+    if nat_lt (position_or_len (λ b. b == byte) word) (length word)
+    then Some (before_first (λ b. b == byte) word, after_first (λ b. b == byte) word) else None
+
+-- V: a type, a colon (58) and a number
+abbrev pub value_in : List ℕ → Option Value
+value_in word = option_and_then (λ parts. option_and_then (value_of_type parts.1) (type_in parts.0)) (cut_at 58 word)
+
+-- ---- lines
+
+-- the first line, and what follows it: a line ends at a line feed (10), which a carriage return may precede, or with
+-- the input
+abbrev pub first_line : List ℕ → List ℕ × List ℕ
+first_line input = option_map_or (λ parts. (strip_carriage_return parts.0, parts.1)) (cut_at 10 input) (input, [])
+
+-- up to this many lines
+abbrev pub lines_within : (most : ℕ) → List ℕ → List (List ℕ)
+lines_within zero input = []
+lines_within (suc most) [] = []
+lines_within (suc most) (byte ∷ input) =
+    let first = first_line (byte ∷ input) in first.0 ∷ lines_within most first.1
+
+-- all of them: no more than there are bytes
+abbrev pub lines_in : List ℕ → List (List ℕ)
+lines_in input = lines_within (length input) input
+
+-- ---- steps
 
 -- an answer of a kind that a value answers, with the value of the word
 abbrev pub value_step : WaitingKind → (word : List ℕ) → Option Step
@@ -72,21 +154,3 @@ said_then (Some step) (Err number) = Err (suc number)
 abbrev pub steps_in : (big : Bool) → List (List ℕ) → Result (List Step) ℕ
 steps_in big [] = Ok []
 steps_in big (line ∷ lines) = said_then (step_in big line) (steps_in big lines)
-
--- a step that owns its text
-abbrev pub step_owned : {A : Type 0} → (big : Bool) → OwnedStep A → Step
-step_owned big (owned.Plain step) = step_of slice_text step
-step_owned big (owned.Location bytes) = location_step big bytes.items
-
--- what is read of a line that says this step, or none: the step, unless there was no memory for its text
-abbrev pub ReadsStep : {A : Type 0} → (big : Bool) → Option Step → Result (OwnedStep A) LineFault → Type 0
-ReadsStep big said (Ok step) = said ≡ Some (step_owned big step)
-ReadsStep big said (Err line.Bad) = said ≡ None
-ReadsStep big said (Err line.NoMemory) = IsSome said
-
--- what is read of lines that say these steps, or of which one says none: the same, unless there was no memory
-abbrev pub ReadsSteps : {A B : Type 0} → (big : Bool) → Result (List Step) ℕ
-    → Result (Vec (OwnedStep A) B) StepsFault → Type 0
-ReadsSteps big said (Ok steps) = said ≡ Ok (map (step_owned big) steps.items)
-ReadsSteps big said (Err (fault.Bad number)) = said ≡ Err number
-ReadsSteps big said (Err fault.NoMemory) = Unit {0}

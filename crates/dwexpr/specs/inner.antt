@@ -1,2 +1,2 @@
-pub mod Invocations
-pub mod Replayed
+pub mod Outputs
+pub mod Readings

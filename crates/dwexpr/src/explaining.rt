@@ -1,10 +1,10 @@
 // What the program says on standard error. No contract speaks of it, and what can't be written there is lost.
-use crate::hexadecimal::{HexFault, bytes_of};
+use crate::hexadecimal::{ReadFault, bytes_of};
 use crate::input::first_line;
-use crate::steps::StepsFault;
+use crate::steps::{ANSWERS, StepsFault};
 use crate::words::{Words, command_of, reading_of, six_words};
 use crate::writing::Text;
-use dwarf_eval::eval::{Status, WaitingKind};
+use dwarf_eval::eval::Status;
 use dwarf_replay::Replayed;
 use std::alloc::Allocator;
 use std::io;
@@ -21,20 +21,20 @@ struct Complaint<'a> {
     /// Its number, from 1.
     number: usize,
     text: &'a [u8],
-    /// What it may be.
-    expected: &'static str,
+    /// What it may be, in three parts.
+    expected: [&'static str; 3],
 }
 
 fn put_complaint<E: Write>(errors: &mut E, complaint: Complaint<'_>) -> io::Result<()> {
     let text = complaint.text;
+    let [form, word, settings] = complaint.expected;
     let more = if text.len() > SHOWN { ".." } else { "" };
     writeln!(
         errors,
-        "dwexpr: {} {}, \"{}{more}\": expected {}",
+        "dwexpr: {} {}, \"{}{more}\": expected {form}{word}{settings}",
         complaint.kind,
         complaint.number,
-        text.get(..SHOWN).unwrap_or(text).escape_ascii(),
-        complaint.expected
+        text.get(..SHOWN).unwrap_or(text).escape_ascii()
     )
 }
 
@@ -43,7 +43,7 @@ fn bad_word<'a>(number: usize, text: &'a str, expected: &'static str) -> Option<
         kind: "word",
         number,
         text: text.as_bytes(),
-        expected,
+        expected: [expected, "", ""],
     })
 }
 
@@ -68,7 +68,7 @@ fn complaint_of<A: Allocator>(alloc: A, words: Words<'_>) -> Option<Complaint<'_
         return bad_word(5, words.order, "the byte order, le or be");
     }
     match bytes_of(alloc, words.bytes) {
-        Err(HexFault::Bad) => bad_word(
+        Err(ReadFault::Bad) => bad_word(
             6,
             words.bytes,
             "pairs of hexadecimal digits, or - for no bytes",
@@ -128,17 +128,20 @@ fn line_at(input: &[u8], index: usize) -> &[u8] {
 
 /// What a line may be that begins with this name.
 fn form_of(name: &str) -> &'static str {
-    match name {
-        "evaluate" => "evaluate alone",
-        "initial" | "object" | "frame" | "tls" | "cfa" | "parameter" | "relocated" | "indexed" => {
-            "a number after the name and one space, as 16 or 0x10"
-        }
-        "max" => "a number below 4294967296 after the name and one space",
-        "memory" | "register" | "wasm" | "entry" => {
-            "a value after the name and one space, as generic:0x10 or i8:-1"
-        }
-        "location" => "pairs of hexadecimal digits after the name and one space, or - for no bytes",
-        "type" => "generic, i8, u8, i16, u16, i32, u32, i64 or u64 after the name and one space",
+    let word = match name {
+        "evaluate" => return "evaluate alone",
+        "max" => return "a number below 4294967296 after the name and one space",
+        "initial" | "object" => " N",
+        _ => ANSWERS
+            .iter()
+            .find(|answer| answer.0 == name)
+            .map_or("", |answer| answer.1),
+    };
+    match word {
+        " N" => "a number after the name and one space, as 16 or 0x10",
+        " V" => "a value after the name and one space, as generic:0x10 or i8:-1",
+        " HEX" => "pairs of hexadecimal digits after the name and one space, or - for no bytes",
+        " T" => "generic, i8, u8, i16, u16, i32, u32, i64 or u64 after the name and one space",
         _ => "evaluate, initial N, object N, max N or an answer",
     }
 }
@@ -154,7 +157,7 @@ fn expected_of(line: &[u8]) -> &'static str {
     }
 }
 
-fn explain_line<E: Write>(lines: &[u8], index: usize, expected: &'static str, errors: &mut E) {
+fn explain_line<E: Write>(lines: &[u8], index: usize, expected: [&'static str; 3], errors: &mut E) {
     let complaint = Complaint {
         kind: "line",
         number: index.saturating_add(1),
@@ -169,38 +172,24 @@ pub(crate) fn explain_steps<E: Write>(lines: &[u8], fault: StepsFault, errors: &
     match fault {
         StepsFault::Bad(number) => {
             let index = number.saturating_sub(1);
-            explain_line(lines, index, expected_of(line_at(lines, index)), errors);
+            let expected = expected_of(line_at(lines, index));
+            explain_line(lines, index, [expected, "", ""], errors);
         }
         StepsFault::NoMemory => {}
     }
 }
 
-/// The answer of a kind, and the settings that may come in its place.
-fn answer_of(kind: WaitingKind) -> &'static str {
-    match kind {
-        WaitingKind::Memory => "memory V, object N or max N",
-        WaitingKind::Register => "register V, object N or max N",
-        WaitingKind::WasmValue => "wasm V, object N or max N",
-        WaitingKind::EntryValue => "entry V, object N or max N",
-        WaitingKind::FrameBase => "frame N, object N or max N",
-        WaitingKind::Tls => "tls N, object N or max N",
-        WaitingKind::CallFrameCfa => "cfa N, object N or max N",
-        WaitingKind::ParameterRef => "parameter N, object N or max N",
-        WaitingKind::RelocatedAddress => "relocated N, object N or max N",
-        WaitingKind::IndexedAddress => "indexed N, object N or max N",
-        WaitingKind::AtLocation => "location HEX, object N or max N",
-        WaitingKind::BaseType => "type T, object N or max N",
-    }
-}
-
-/// The steps that may come where an evaluation stands.
-fn allowed_at(status: Status) -> &'static str {
+/// The steps that may come where an evaluation stands, in three parts.
+fn allowed_at(status: Status) -> [&'static str; 3] {
     match status {
-        Status::Start { initial: false } => "evaluate, initial N, object N or max N",
-        Status::Start { initial: true } => "evaluate, object N or max N",
-        Status::Waiting(kind) => answer_of(kind),
-        Status::Complete => "evaluate, object N or max N",
-        Status::Failed(_) => "evaluate, object N, max N or an answer",
+        Status::Start { initial: false } => ["evaluate, initial N, object N or max N", "", ""],
+        Status::Start { initial: true } => ["evaluate, object N or max N", "", ""],
+        Status::Waiting(kind) => match ANSWERS.iter().find(|answer| answer.2 == kind) {
+            Some(answer) => [answer.0, answer.1, ", object N or max N"],
+            None => ["object N or max N", "", ""],
+        },
+        Status::Complete => ["evaluate, object N or max N", "", ""],
+        Status::Failed(_) => ["evaluate, object N, max N or an answer", "", ""],
     }
 }
 

@@ -16,7 +16,7 @@ mod values;
 mod words;
 mod writing;
 
-pub use hexadecimal::{HexFault, bytes_of};
+pub use hexadecimal::{ReadFault, bytes_of};
 pub use program::run;
 use program::{run_explained, run_without_words};
 use std::alloc::AllocError;

@@ -1,24 +1,26 @@
 ghost use Rattle.std.specs.IoError.{error_kind};
-ghost use Rattle.std.specs.Prelude.{◌≡◌, ◌<◌, ◌≤◌, ◌-◌, ◌^◌, length, map, string_bytes};
+ghost use Rattle.std.specs.Prelude.{◌≡◌, ◌<◌, ◌≤◌, ◌-◌, ◌^◌, length, map, None, string_bytes};
 ghost use Rattle.std.specs.Result.{result_unwrap_or};
 ghost use Rattle.dwarf_base.specs.EndianSlice.{slice_text};
 ghost use Rattle.dwarf_base.specs.ByteOrder.{is_big_of};
 ghost use Rattle.dwarf_op.specs.Views.{piece_of};
 ghost use Rattle.dwarf_replay.specs.Replays.{replies_in, steps_of};
 ghost use Rattle.dwarf_meaning.specs.Steps.{untold};
-ghost use Rattle.dwexpr.specs.Evaluates.{EvaluatesSteps, EvaluatesLines, after_replies, bad_steps, unlimited_setup};
+ghost use Rattle.dwarf_meaning.specs.Stores.{setup_of};
+ghost use Rattle.dwexpr.specs.Evaluates.{EvaluatesSteps, EvaluatesLines, after_replies};
+ghost use Rattle.dwexpr.specs.inner.Readings.{bad_steps};
 ghost use Rattle.dwexpr.specs.Lines.{piece_lines, reply_lines};
-ghost use Rattle.dwexpr.specs.Program.{EndsFor, EvaluatesInput, Exits, without_words};
+ghost use Rattle.dwexpr.specs.Program.{EndsFor, EvaluatesInput, Exits};
+ghost use Rattle.dwexpr.specs.inner.Outputs.{without_words, HasLine, ending_of, standing};
 ghost use Rattle.dwexpr.specs.Endings as runs;
 ghost use Rattle.dwexpr.specs.Endings.{Ending, WritesEnding, complete_ending};
-ghost use Rattle.dwexpr.specs.inner.Replayed.{HasLine, ending_of, standing};
 ghost use Rattle.dwexpr.specs.Writing.{Prints};
 
 use crate::endings::{DONE, FAILED, bad_step, bad_words, misplaced, no_memory};
 use crate::explaining::{
     explain_no_words, explain_read, explain_replayed, explain_steps, explain_words, explain_write,
 };
-use crate::hexadecimal::HexFault;
+use crate::hexadecimal::ReadFault;
 use crate::lines::{print_piece, print_reply, print_value_line};
 use crate::listing::print_operations;
 use crate::steps::{StepsFault, borrow_steps, steps_in};
@@ -84,8 +86,7 @@ fn print_outcome<'a, S: EvaluationStorage<Text<'a>>, W: Write>(
             evaluation.as_result(),
         ),
         Status::Failed(_) => Ok(FAILED),
-        Status::Start { initial: _ } => Ok(DONE),
-        Status::Waiting(_) => Ok(DONE),
+        Status::Start { .. } | Status::Waiting(_) => Ok(DONE),
     }
 }
 
@@ -102,10 +103,7 @@ fn print_end<A: Allocator + Copy, W: Write>(
     match replayed {
         Replayed::Done => print_outcome(output, evaluation),
         Replayed::Misplaced(index) => misplaced(output, index),
-        Replayed::NoRoom {
-            index: _,
-            answer: _,
-        } => no_memory(output),
+        Replayed::NoRoom { .. } => no_memory(output),
     }
 }
 
@@ -139,7 +137,7 @@ fn evaluate<'a, A: Allocator + Copy, W: Write, E: Write>(
     requires fits { reading.encoding.address_size ≤ 8 }
     requires few { length steps.now < 2 ^ 63 }
     ensures { (ending : Ending)
-        × EvaluatesSteps (unlimited_setup reading.encoding)
+        × EvaluatesSteps (setup_of reading.encoding 64 None None None)
         (record { bytes = bytes.now; is_big = is_big_of reading.order }) untold
         (steps_of slice_text steps.now) ending
         × WritesEnding (W.contents output.old) (W.contents output.new) ending result }
@@ -262,8 +260,8 @@ fn run_words<A: Allocator + Copy, I: Read + Drop, W: Write, E: Write>(
                 errors,
             ),
         },
-        Err(HexFault::Bad) => bad_words(output),
-        Err(HexFault::NoMemory) => no_memory(output),
+        Err(ReadFault::Bad) => bad_words(output),
+        Err(ReadFault::NoMemory) => no_memory(output),
     }
 }
 

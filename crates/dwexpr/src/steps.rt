@@ -4,15 +4,16 @@ ghost use Rattle.dwarf_base.specs.ByteOrder.{is_big_of};
 ghost use Rattle.dwarf_replay.specs.Replays.{steps_of};
 ghost use Rattle.dwarf_replay.specs.Stepping.{step_of};
 ghost use Rattle.dwexpr.specs.Steps as spec;
-ghost use Rattle.dwexpr.specs.Steps.{ReadsStep, ReadsSteps, step_owned};
-ghost use Rattle.dwexpr.specs.Input.{lines_in};
+ghost use Rattle.dwexpr.specs.inner.Readings.{Reads, ReadsSteps, step_owned};
+ghost use Rattle.dwexpr.specs.Steps.{lines_in};
 
-use crate::hexadecimal::{HexFault, bytes_of};
+use crate::hexadecimal::{ReadFault, bytes_of};
 use crate::input::first_line;
 use crate::numbers::number_of;
 use crate::values::{type_of, value_of};
 use crate::writing::Text;
 use dwarf_base::{EndianSlice, RunTimeEndian};
+use dwarf_eval::eval::WaitingKind;
 use dwarf_replay::Step;
 use std::alloc::{AllocError, Allocator};
 
@@ -39,14 +40,21 @@ impl<A: Allocator> OwnedStep<A> {
     }
 }
 
-/// Why a line is no step.
-#[derive(Clone, Copy)]
-enum LineFault {
-    /// It isn't of the form of one.
-    Bad,
-    /// There was no memory for its text.
-    NoMemory,
-}
+/// The answers: the name of each, a blank and the letter of its word, and the kind of request that it answers.
+pub(crate) const ANSWERS: [(&str, &str, WaitingKind); 12] = [
+    ("memory", " V", WaitingKind::Memory),
+    ("register", " V", WaitingKind::Register),
+    ("wasm", " V", WaitingKind::WasmValue),
+    ("entry", " V", WaitingKind::EntryValue),
+    ("frame", " N", WaitingKind::FrameBase),
+    ("tls", " N", WaitingKind::Tls),
+    ("cfa", " N", WaitingKind::CallFrameCfa),
+    ("parameter", " N", WaitingKind::ParameterRef),
+    ("relocated", " N", WaitingKind::RelocatedAddress),
+    ("indexed", " N", WaitingKind::IndexedAddress),
+    ("location", " HEX", WaitingKind::AtLocation),
+    ("type", " T", WaitingKind::BaseType),
+];
 
 /// The step of this name, with the word that follows it, unless its text has to be kept.
 fn plain_step(name: &str, word: &str) -> Option<Step<Text<'static>>>
@@ -72,42 +80,39 @@ fn plain_step(name: &str, word: &str) -> Option<Step<Text<'static>>>
 }
 
 /// The step of this name, with the word that follows it.
-fn named_step<A: Allocator>(alloc: A, name: &str, word: &str) -> Result<OwnedStep<A>, LineFault>
-    ensures { (big : Bool) → ReadsStep big (spec.named_step_in big name.now word.now) result }
+fn named_step<A: Allocator>(alloc: A, name: &str, word: &str) -> Result<OwnedStep<A>, ReadFault>
+    ensures { (big : Bool)
+        → Reads (step_owned big) (spec.named_step_in big name.now word.now) result }
 {
     if name == "location" {
-        return match bytes_of(alloc, word) {
-            Ok(bytes) => Ok(OwnedStep::Location(bytes)),
-            Err(HexFault::Bad) => Err(LineFault::Bad),
-            Err(HexFault::NoMemory) => Err(LineFault::NoMemory),
-        };
+        return Ok(OwnedStep::Location(bytes_of(alloc, word)?));
     }
     match plain_step(name, word) {
         Some(step) => Ok(OwnedStep::Plain(step)),
-        None => Err(LineFault::Bad),
+        None => Err(ReadFault::Bad),
     }
 }
 
 /// The step that a text says, in words parted by one space.
-fn text_step<A: Allocator>(alloc: A, text: &str) -> Result<OwnedStep<A>, LineFault>
-    ensures { (big : Bool) → ReadsStep big (spec.text_step_in big text.now) result }
+fn text_step<A: Allocator>(alloc: A, text: &str) -> Result<OwnedStep<A>, ReadFault>
+    ensures { (big : Bool) → Reads (step_owned big) (spec.text_step_in big text.now) result }
 {
     if text == "evaluate" {
         return Ok(OwnedStep::Plain(Step::Evaluate));
     }
     match text.split_once(' ') {
         Some((name, word)) => named_step(alloc, name, word),
-        None => Err(LineFault::Bad),
+        None => Err(ReadFault::Bad),
     }
 }
 
 /// The step that a line says.
-fn step_in<A: Allocator>(alloc: A, line: &[u8]) -> Result<OwnedStep<A>, LineFault>
-    ensures { (big : Bool) → ReadsStep big (spec.step_in big line.now) result }
+fn step_in<A: Allocator>(alloc: A, line: &[u8]) -> Result<OwnedStep<A>, ReadFault>
+    ensures { (big : Bool) → Reads (step_owned big) (spec.step_in big line.now) result }
 {
     match str::from_utf8(line) {
         Ok(text) => text_step(alloc, text),
-        Err(_) => Err(LineFault::Bad),
+        Err(_) => Err(ReadFault::Bad),
     }
 }
 
@@ -133,8 +138,8 @@ pub(crate) fn steps_in<A: Allocator + Copy>(
         let line = first_line(left);
         let step = match step_in(alloc, line.text) {
             Ok(step) => step,
-            Err(LineFault::Bad) => return Err(StepsFault::Bad(steps.len().saturating_add(1))),
-            Err(LineFault::NoMemory) => return Err(StepsFault::NoMemory),
+            Err(ReadFault::Bad) => return Err(StepsFault::Bad(steps.len().saturating_add(1))),
+            Err(ReadFault::NoMemory) => return Err(StepsFault::NoMemory),
         };
         match steps.push(step) {
             Ok(()) => left = line.rest,

@@ -23,7 +23,7 @@ bad step 3
 misplaced 5
 frame-base
 parameter 0
-tls 0x10
+relocated 0x10
 memory 0xffff 4 none 0
 memory 0x1 1 0x2 7
 register 65535 0
@@ -60,7 +60,7 @@ fn requests<'a>(short: Text<'a>, none: Text<'a>) -> [EvaluationResult<Text<'a>>;
     [
         EvaluationResult::RequiresFrameBase,
         EvaluationResult::RequiresParameterRef(UnitOffset(0)),
-        EvaluationResult::RequiresTls(0x10),
+        EvaluationResult::RequiresRelocatedAddress(0x10),
         EvaluationResult::RequiresMemory {
             address: 0xffff,
             size: 4,
@@ -196,13 +196,8 @@ fn expect_interrupted(rt: &impl Abort, alloc: Global, most: usize, odd_call: u64
 }
 
 // A call that takes no byte, or fails, is the last.
-fn expect_failed(
-    rt: &impl Abort,
-    alloc: Global,
-    odd_call: u64,
-    error: Option<ErrorKind>,
-    kind: ErrorKind,
-) {
+fn expect_failed(rt: &impl Abort, alloc: Global, odd_call: u64, error: Option<ErrorKind>) {
+    let kind = error.unwrap_or(ErrorKind::WriteZero);
     let mut output = Hesitant::new(alloc, usize::MAX, odd_call, error);
     let outcome = print_all(&mut output);
     assert!(rt; outcome.err().is_some_and(|error| error.kind() == kind));
@@ -222,13 +217,7 @@ fn writers(rt: HostRuntime) {
     assert!(rt; calls < single);
     for odd_call in 0..calls {
         expect_interrupted(&rt, alloc, usize::MAX, odd_call, calls);
-        expect_failed(&rt, alloc, odd_call, None, ErrorKind::WriteZero);
-        expect_failed(
-            &rt,
-            alloc,
-            odd_call,
-            Some(ErrorKind::BrokenPipe),
-            ErrorKind::BrokenPipe,
-        );
+        expect_failed(&rt, alloc, odd_call, None);
+        expect_failed(&rt, alloc, odd_call, Some(ErrorKind::BrokenPipe));
     }
 }

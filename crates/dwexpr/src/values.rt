@@ -1,5 +1,5 @@
 ghost use Rattle.std.specs.Prelude.{◌≡◌};
-ghost use Rattle.dwexpr.specs.Values.{type_in, value_in, value_of_type};
+ghost use Rattle.dwexpr.specs.Steps.{type_in, value_in, value_of_type};
 
 use crate::numbers::{integer_of, number_of};
 use dwarf_value::{Value, ValueType};
@@ -23,7 +23,7 @@ pub(crate) fn type_of(word: &str) -> Option<ValueType>
 }
 
 /// The value of this type that a number says.
-#[tactic(auto, using(crate::proofs::NumberLemmas::narrowed_to_i8, crate::proofs::NumberLemmas::narrowed_to_i16, crate::proofs::NumberLemmas::narrowed_to_i32, crate::proofs::NumberLemmas::narrowed_unsigned))]
+#[tactic(auto, using(crate::proofs::Reading::narrowed_to_i8, crate::proofs::Reading::narrowed_to_i16, crate::proofs::Reading::narrowed_to_i32, crate::proofs::Reading::narrowed_unsigned))]
 fn typed_value(value_type: ValueType, number: &str) -> Option<Value>
     ensures { result ≡ value_of_type number.now value_type }
 {

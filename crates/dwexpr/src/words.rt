@@ -1,8 +1,8 @@
 ghost use Rattle.std.specs.Prelude.{◌≡◌, ◌<◌, ◌≤◌, IfOk, IfSome, None, map, string_bytes};
 ghost use Rattle.dwexpr.specs.Words.{address_size_in, command_in, format_in, invocation_in, order_in, reading_in, version_in};
-ghost use Rattle.dwexpr.specs.inner.Invocations.{ReadsInvocation, texts_of};
+ghost use Rattle.dwexpr.specs.inner.Readings.{Reads, asked_by, texts_of};
 
-use crate::hexadecimal::{HexFault, bytes_of};
+use crate::hexadecimal::{ReadFault, bytes_of};
 use dwarf_base::{Encoding, Format, RunTimeEndian};
 use std::alloc::Allocator;
 
@@ -147,13 +147,13 @@ pub(crate) struct Invocation<A: Allocator> {
 pub(crate) fn invocation_of<A: Allocator>(
     alloc: A,
     words: Words<'_>,
-) -> Result<Invocation<A>, HexFault>
-    ensures exact { ReadsInvocation (invocation_in (texts_of words.entry)) result }
+) -> Result<Invocation<A>, ReadFault>
+    ensures exact { Reads asked_by (invocation_in (texts_of words.entry)) result }
     ensures sizes { IfOk result (λ asked.
         (0 < asked.reading.encoding.address_size) × (asked.reading.encoding.address_size ≤ 8)) }
 {
     let Some(command) = command_of(words.command) else {
-        return Err(HexFault::Bad);
+        return Err(ReadFault::Bad);
     };
     let Some(reading) = reading_of(
         words.address_size,
@@ -161,7 +161,7 @@ pub(crate) fn invocation_of<A: Allocator>(
         words.version,
         words.order,
     ) else {
-        return Err(HexFault::Bad);
+        return Err(ReadFault::Bad);
     };
     let bytes = bytes_of(alloc, words.bytes)?;
     Ok(Invocation {

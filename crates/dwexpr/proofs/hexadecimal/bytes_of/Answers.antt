@@ -1,6 +1,5 @@
-use Rattle.std.proofs.Common.{◌≢◌, [], ◌∷◌, sym, ◌∙◌}
-use Rattle.std.proofs.Common.{rules}
-use Rattle.dwexpr.proofs.WordLemmas.{bytes_in-other, IsSome-bytes_in}
+use Rattle.std.proofs.Common.{◌≢◌, [], ◌∷◌, sym, ◌∙◌, rules}
+use Rattle.dwexpr.proofs.Reading.{bytes_in-other, IsSome-bytes_in}
 use Rattle.dwexpr.proofs.hexadecimal.bytes_of.Goals as goal
 
 pub returns-then-not-is_hexadecimal-clause-bad : goal.returns-then-not-is_hexadecimal-clause-bad

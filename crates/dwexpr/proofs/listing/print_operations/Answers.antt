@@ -9,7 +9,7 @@ use Rattle.dwarf_meaning.proofs.Decoded.{operation_begins, operation_shortens}
 use Rattle.dwarf_meaning.specs.Operands.{context_of}
 use Rattle.dwexpr.specs.Lines.{fault_words}
 use Rattle.dwexpr.specs.Writing.{line}
-use Rattle.dwexpr.proofs.Fronts.{appends_nothing}
+use Rattle.dwexpr.proofs.Printing.{appends_nothing}
 use Rattle.dwexpr.proofs.Listings.{all_listed, bytes_between, gives_none, gives_some, line_refused, lists_fault, lists_nothing, none_listed, one_listed, place_after, rest_refused}
 use Rattle.dwexpr.proofs.listing.print_operations.Goals as goal
 

@@ -1,6 +1,6 @@
 use Rattle.std.proofs.Common.{sym, ◌∙◌, lit<}
 use Rattle.std.proofs.lemmas.Str.Pattern.{starts_char}
-use Rattle.dwexpr.proofs.NumberLemmas.{integer_parsed, integer_in-plus}
+use Rattle.dwexpr.proofs.Reading.{integer_parsed, integer_in-plus}
 use Rattle.dwexpr.proofs.numbers.integer_of.Goals as goal
 
 pub returns-then-starts_with : goal.returns-then-starts_with

@@ -1,5 +1,5 @@
 use Rattle.std.proofs.Common.{◌∙◌}
-use Rattle.dwexpr.proofs.NumberLemmas.{number_in-prefix, number_in-plain}
+use Rattle.dwexpr.proofs.Reading.{number_in-prefix, number_in-plain}
 use Rattle.dwexpr.proofs.numbers.number_of.Goals as goal
 
 pub returns-in-Some : goal.returns-in-Some

@@ -1,6 +1,6 @@
 use Rattle.std.proofs.Common.{refl, sym, ◌∙◌, lit<}
 use Rattle.std.proofs.lemmas.Str.Pattern.{starts_char}
-use Rattle.dwexpr.proofs.NumberLemmas.{unsigned_parsed, numeral_in-plus}
+use Rattle.dwexpr.proofs.Reading.{unsigned_parsed, numeral_in-plus}
 use Rattle.dwexpr.proofs.numbers.numeral_of.Goals as goal
 
 pub returns-then-starts_with : goal.returns-then-starts_with

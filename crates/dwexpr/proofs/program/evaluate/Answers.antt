@@ -1,11 +1,12 @@
-use Rattle.std.proofs.Common.{ap, sym, ◌∙◌, subst}
+use Rattle.std.proofs.Common.{None, ap, sym, ◌∙◌, subst}
 use Rattle.dwarf_base.specs.EndianSlice.{slice_text}
 use Rattle.dwarf_replay.specs.Replays.{replies_in, steps_of, told_at}
 use Rattle.dwarf_meaning.specs.Rest.{State}
 use Rattle.dwarf_meaning.specs.Steps.{untold}
-use Rattle.dwexpr.specs.Evaluates.{EvaluatesSteps, after_replies, unlimited_setup}
-use Rattle.dwexpr.specs.inner.Replayed.{ending_of}
-use Rattle.dwexpr.proofs.RunLemmas.{evaluates_as, evaluates_to, has_line, text_as, text_by}
+use Rattle.dwarf_meaning.specs.Stores.{setup_of}
+use Rattle.dwexpr.specs.Evaluates.{EvaluatesSteps, after_replies}
+use Rattle.dwexpr.specs.inner.Outputs.{ending_of}
+use Rattle.dwexpr.proofs.Ending.{evaluates_as, evaluates_to, has_line, text_as, text_by}
 use Rattle.dwexpr.proofs.program.evaluate.Goals as goal
 
 pub print_replay-printed-requires : goal.print_replay-printed-requires
@@ -17,7 +18,7 @@ returns g c =
     let ended = ending_of c.replay-replayed.new.eval c.replay-replayed.result in (
       after_replies (replies_in slice_text (λ x. x) c.as_slice.result.now) ended,
       subst
-          (λ z. EvaluatesSteps (unlimited_setup c.args.reading.encoding) (text_by c.args.bytes.now c.args.reading.order) untold (steps_of slice_text c.args.steps.now) (after_replies (replies_in slice_text (λ x. x) z) ended))
+          (λ z. EvaluatesSteps (setup_of c.args.reading.encoding 64 None None None) (text_by c.args.bytes.now c.args.reading.order) untold (steps_of slice_text c.args.steps.now) (after_replies (replies_in slice_text (λ x. x) z) ended))
           (sym c.as_slice.ensures.value)
           (evaluates_as _ _ _ _ _ _ _ _ (ap (λ (x : State). x.setup) fresh)
           (ap (λ (x : State). x.text) fresh ∙ text_as _ _ _ _ c.new-text.ensures.bytes c.new-text.ensures.order) (ap told_at fresh)

@@ -2,7 +2,7 @@ use Rattle.std.proofs.Common.{[], append-nil, map, sym}
 use Rattle.dwarf_base.specs.EndianSlice.{slice_text}
 use Rattle.dwarf_op.specs.Views.{piece_of}
 use Rattle.dwexpr.specs.Lines.{piece_lines, value_line}
-use Rattle.dwexpr.proofs.Fronts.{as_rest, begun, ends_refused, more_of}
+use Rattle.dwexpr.proofs.Printing.{as_rest, begun, ends_refused, more_of}
 use Rattle.dwexpr.proofs.program.print_complete.Goals as goal
 
 pub returns-in_err-print_pieces : goal.returns-in_err-print_pieces

@@ -2,7 +2,7 @@ use Rattle.std.proofs.Common.{◌+◌, map, drop}
 use Rattle.dwarf_base.specs.EndianSlice.{slice_text}
 use Rattle.dwarf_op.specs.Views.{piece_of}
 use Rattle.dwexpr.specs.Lines.{piece_line, piece_lines}
-use Rattle.dwexpr.proofs.Fronts.{as_rest, lines_at, more_of, refused_in}
+use Rattle.dwexpr.proofs.Printing.{as_rest, lines_at, more_of, refused_in}
 use Rattle.dwexpr.proofs.program.print_pieces.Goals as goal
 
 pub returns-in_err-print_piece : goal.returns-in_err-print_piece

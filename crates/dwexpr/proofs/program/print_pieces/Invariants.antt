@@ -2,7 +2,7 @@ use Rattle.std.proofs.Common.{drop, map}
 use Rattle.dwarf_base.specs.EndianSlice.{slice_text}
 use Rattle.dwarf_op.specs.Views.{piece_of}
 use Rattle.dwexpr.specs.Lines.{piece_lines}
-use Rattle.dwexpr.proofs.Fronts.{Written}
+use Rattle.dwexpr.proofs.Printing.{Written}
 use Rattle.dwexpr.proofs.program.print_pieces.Given as goal
 
 abbrev pub invariant-loop-piece : goal.invariant-loop-piece

@@ -1,8 +1,8 @@
 use Rattle.dwarf_base.specs.EndianSlice.{slice_text}
 use Rattle.dwarf_replay.specs.Replays.{replies_in}
 use Rattle.dwexpr.specs.Lines.{reply_lines}
-use Rattle.dwexpr.specs.inner.Replayed.{ending_of}
-use Rattle.dwexpr.proofs.Fronts.{begun, ends_beyond, ends_refused}
+use Rattle.dwexpr.specs.inner.Outputs.{ending_of}
+use Rattle.dwexpr.proofs.Printing.{begun, ends_beyond, ends_refused}
 use Rattle.dwexpr.proofs.program.print_replay.Goals as goal
 
 pub returns-in_err-print_replies : goal.returns-in_err-print_replies

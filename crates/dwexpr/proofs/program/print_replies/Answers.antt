@@ -2,7 +2,7 @@ use Rattle.std.proofs.Common.{◌+◌, drop}
 use Rattle.dwarf_base.specs.EndianSlice.{slice_text}
 use Rattle.dwarf_replay.specs.Replays.{replies_in, reply_in}
 use Rattle.dwexpr.specs.Lines.{reply_line, reply_lines}
-use Rattle.dwexpr.proofs.Fronts.{as_rest, lines_at, more_of, refused_in}
+use Rattle.dwexpr.proofs.Printing.{as_rest, lines_at, more_of, refused_in}
 use Rattle.dwexpr.proofs.program.print_replies.Goals as goal
 
 pub returns-in_err-print_reply : goal.returns-in_err-print_reply

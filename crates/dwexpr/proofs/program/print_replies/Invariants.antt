@@ -2,7 +2,7 @@ use Rattle.std.proofs.Common.{drop}
 use Rattle.dwarf_base.specs.EndianSlice.{slice_text}
 use Rattle.dwarf_replay.specs.Replays.{replies_in}
 use Rattle.dwexpr.specs.Lines.{reply_lines}
-use Rattle.dwexpr.proofs.Fronts.{Written}
+use Rattle.dwexpr.proofs.Printing.{Written}
 use Rattle.dwexpr.proofs.program.print_replies.Given as goal
 
 abbrev pub invariant-loop-answer : goal.invariant-loop-answer

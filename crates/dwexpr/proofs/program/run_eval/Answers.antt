@@ -1,6 +1,6 @@
 use Rattle.std.proofs.Common.{refl, inl, inr}
 use Rattle.dwexpr.specs.Endings.{no_memory, unread}
-use Rattle.dwexpr.proofs.Fronts.{appends_nothing}
+use Rattle.dwexpr.proofs.Printing.{appends_nothing}
 use Rattle.dwexpr.proofs.program.run_eval.Goals as goal
 
 pub returns-in-OutOfMemory : goal.returns-in-OutOfMemory

@@ -2,10 +2,9 @@ use Rattle.std.proofs.Common.{refl, inl, inr, ◌∙◌, ap, map}
 use Rattle.dwarf_base.specs.EndianSlice.{slice_text}
 use Rattle.dwarf_base.specs.ByteOrder.{is_big_of}
 use Rattle.dwarf_replay.specs.Replays.{steps_of}
-use Rattle.dwexpr.specs.Evaluates.{bad_steps}
+use Rattle.dwexpr.specs.inner.Readings.{bad_steps, step_owned}
 use Rattle.dwexpr.specs.Endings.{no_memory}
-use Rattle.dwexpr.specs.Steps.{step_owned}
-use Rattle.dwexpr.proofs.RunLemmas.{follows_refused, follows_steps}
+use Rattle.dwexpr.proofs.Ending.{follows_refused, follows_steps}
 use Rattle.dwexpr.proofs.program.run_lines.Goals as goal
 
 pub returns : goal.returns

@@ -1,6 +1,6 @@
 use Rattle.dwexpr.specs.declared.words.Command.TheVariants.{Ops}
 use Rattle.dwexpr.specs.Endings.{no_memory}
-use Rattle.dwexpr.proofs.EndLemmas.{ends_invocation, ends_without_memory}
+use Rattle.dwexpr.proofs.Ending.{ends_invocation, ends_without_memory}
 use Rattle.dwexpr.proofs.program.run_words.Goals as goal
 
 pub returns-in-Ops : goal.returns-in-Ops

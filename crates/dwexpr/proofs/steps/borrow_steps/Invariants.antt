@@ -2,7 +2,7 @@ use Rattle.std.proofs.Common.{◌≡◌, map, take}
 use Rattle.dwarf_base.specs.EndianSlice.{slice_text}
 use Rattle.dwarf_base.specs.ByteOrder.{is_big_of}
 use Rattle.dwarf_replay.specs.Replays.{steps_of}
-use Rattle.dwexpr.specs.Steps.{step_owned}
+use Rattle.dwexpr.specs.inner.Readings.{step_owned}
 use Rattle.dwexpr.proofs.steps.borrow_steps.Given as goal
 
 abbrev pub invariant-loop-step : goal.invariant-loop-step

@@ -1,9 +1,9 @@
 use Rattle.std.proofs.Common.{map, [], ◌∷◌, sym, ◌∙◌, ap, Err, arith}
 use Rattle.std.proofs.lemmas.List.{length-map, map-append}
 use Rattle.dwexpr.specs.Steps as spec
-use Rattle.dwexpr.specs.Input.{lines_within}
-use Rattle.dwexpr.specs.Steps.{said_then, step_owned}
-use Rattle.dwexpr.proofs.StepLemmas.{next_line, no_lines, none_left, said_after, said_bad, said_last, said_more, some_left}
+use Rattle.dwexpr.specs.Steps.{lines_within, said_then}
+use Rattle.dwexpr.specs.inner.Readings.{step_owned}
+use Rattle.dwexpr.proofs.Reading.{next_line, no_lines, none_left, said_after, said_bad, said_last, said_more, some_left}
 use Rattle.dwexpr.proofs.steps.steps_in.Goals as goal
 
 pub returns-in-Err-Bad : goal.returns-in-Err-Bad

@@ -1,8 +1,8 @@
 use Rattle.std.proofs.Common.{◌≡◌, ◌≤◌, ℕ, Bool, length, map}
 use Rattle.dwexpr.specs.Steps as spec
-use Rattle.dwexpr.specs.Input.{lines_in, lines_within}
-use Rattle.dwexpr.specs.Steps.{step_owned}
-use Rattle.dwexpr.proofs.StepLemmas.{said_after}
+use Rattle.dwexpr.specs.Steps.{lines_in, lines_within}
+use Rattle.dwexpr.specs.inner.Readings.{step_owned}
+use Rattle.dwexpr.proofs.Reading.{said_after}
 use Rattle.dwexpr.proofs.steps.steps_in.Given as goal
 
 abbrev pub invariant-loop-left : goal.invariant-loop-left

@@ -1,5 +1,5 @@
 use Rattle.std.proofs.Common.{arith, string_bytes}
-use Rattle.dwexpr.proofs.WordLemmas.{not_six, six_words}
+use Rattle.dwexpr.proofs.Reading.{not_six, six_words}
 use Rattle.dwexpr.proofs.words.six_words.Goals as goal
 use Rattle.dwexpr.proofs.words.six_words.Goals.{in_default-via-then-words-lt6, in_default-via-else-words-lt6+else-words-lt7}
 

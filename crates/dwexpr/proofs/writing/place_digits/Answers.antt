@@ -1,6 +1,6 @@
 use Rattle.std.proofs.Common.{sym, ap, ◌∙◌, ◌-◌, ◌/◌, drop, length-set, drop_of_length-le, arith, false}
 use Rattle.std.specs.Fmt.{digits_onto}
-use Rattle.dwexpr.proofs.DigitLemmas.{digits_all, digits_last, digits_step, drop-set_before}
+use Rattle.dwexpr.proofs.Printing.{digits_all, digits_last, digits_step, drop-set_before}
 use Rattle.dwexpr.proofs.writing.place_digits.Goals as goal
 
 pub loop-start-init : goal.loop-start-init

@@ -1,5 +1,5 @@
 use Rattle.std.proofs.Common.{ap}
-use Rattle.dwexpr.proofs.Fronts.{appends_kept, begun, taken_front}
+use Rattle.dwexpr.proofs.Printing.{appends_kept, begun, taken_front}
 use Rattle.dwexpr.proofs.writing.put.Goals as goal
 use Rattle.dwexpr.proofs.writing.put.Goals.{in-Ok, in-Err+else-ne}
 

@@ -1,4 +1,4 @@
-use Rattle.dwexpr.proofs.Fronts.{Written}
+use Rattle.dwexpr.proofs.Printing.{Written}
 use Rattle.dwexpr.proofs.writing.put.Given as goal
 
 abbrev pub invariant-loop : goal.invariant-loop

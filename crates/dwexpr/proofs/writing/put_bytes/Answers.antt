@@ -2,8 +2,7 @@ use Rattle.std.proofs.Common.{[], ◌∷◌, sym, ◌∙◌, ap, false}
 use Rattle.std.specs.Fmt.{digit_glyph}
 use Rattle.dwarf_base.specs.EndianSlice.{slice_bytes}
 use Rattle.dwexpr.specs.Writing.{pairs}
-use Rattle.dwexpr.proofs.Fronts.{as_rest, begun, more_of, prints_as, refused_in}
-use Rattle.dwexpr.proofs.WordTexts.{bytes_word-some, pairs_next}
+use Rattle.dwexpr.proofs.Printing.{as_rest, begun, more_of, prints_as, refused_in, bytes_word-some, pairs_next}
 use Rattle.dwexpr.proofs.writing.put_bytes.Goals as goal
 
 pub loop-left-init : goal.loop-left-init

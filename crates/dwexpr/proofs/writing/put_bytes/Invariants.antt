@@ -1,7 +1,7 @@
 use Rattle.std.proofs.Common.{length}
 use Rattle.dwarf_base.specs.EndianSlice.{slice_bytes}
 use Rattle.dwexpr.specs.Writing.{pairs}
-use Rattle.dwexpr.proofs.Fronts.{Written}
+use Rattle.dwexpr.proofs.Printing.{Written}
 use Rattle.dwexpr.proofs.writing.put_bytes.Given as goal
 
 abbrev pub invariant-loop-left : goal.invariant-loop-left

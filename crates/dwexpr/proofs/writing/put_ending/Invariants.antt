@@ -1,6 +1,6 @@
 use Rattle.std.proofs.Common.{map, drop}
 use Rattle.dwexpr.specs.Writing.{ending, word_text}
-use Rattle.dwexpr.proofs.Fronts.{Written}
+use Rattle.dwexpr.proofs.Printing.{Written}
 use Rattle.dwexpr.proofs.writing.put_ending.Given as goal
 
 abbrev pub invariant-loop-word : goal.invariant-loop-word

@@ -1,7 +1,6 @@
 use Rattle.std.proofs.Common.{w64, to_z-of_z, sym, ◌∙◌, ap, pos, int_lt, codes, decimal, ◌++◌, unsigned_abs}
 use Rattle.std.specs.Fmt.{signed_decimal}
-use Rattle.dwexpr.proofs.Fronts.{begun, last_of, more_of, prints_as, refused_in}
-use Rattle.dwexpr.proofs.WordTexts.{minus_before, no_minus}
+use Rattle.dwexpr.proofs.Printing.{begun, last_of, more_of, prints_as, refused_in, minus_before, no_minus}
 use Rattle.dwexpr.proofs.writing.put_integer.Goals as goal
 
 pub returns-in_err-put_text : goal.returns-in_err-put_text

@@ -1,6 +1,6 @@
 use Rattle.std.proofs.Common.{map}
 use Rattle.dwexpr.specs.Writing.{ending, word_text}
-use Rattle.dwexpr.proofs.Fronts.{begun, last_of, more_of, refused_in}
+use Rattle.dwexpr.proofs.Printing.{begun, last_of, more_of, refused_in}
 use Rattle.dwexpr.proofs.writing.put_line.Goals as goal
 
 pub returns-in_err-put_text : goal.returns-in_err-put_text

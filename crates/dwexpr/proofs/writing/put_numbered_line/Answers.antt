@@ -1,6 +1,6 @@
 use Rattle.std.proofs.Common.{decimal, map}
 use Rattle.dwexpr.specs.Writing.{ending, word_text}
-use Rattle.dwexpr.proofs.Fronts.{begun, last_of, more_of, refused_in}
+use Rattle.dwexpr.proofs.Printing.{begun, last_of, more_of, refused_in}
 use Rattle.dwexpr.proofs.writing.put_numbered_line.Goals as goal
 
 pub returns-in_err-put_digits : goal.returns-in_err-put_digits

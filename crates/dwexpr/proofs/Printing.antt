@@ -1,9 +1,12 @@
--- What was written, one part after another.
-use Rattle.std.proofs.Common.{◌≡◌, ℕ, suc, ◌+◌, ◌<◌, List, [], ◌++◌, Option, Some, None, Result, Ok, Err, refl, sym, ◌∙◌, ap, subst, append_assoc, append-nil, arith, take, drop, drop-cons, get_or, map, take-append-drop, take_all, length-drop, length, ◌-◌, IsErr, true≢false}
+-- What was written, one part after another, and the texts of its parts.
+use Rattle.std.proofs.Common.{◌≡◌, ℕ, suc, ◌+◌, ◌<◌, List, [], ◌++◌, Option, Some, None, Result, Ok, Err, refl, sym, ◌∙◌, ap, subst, append_assoc, append-nil, arith, take, drop, drop-cons, get_or, map, take-append-drop, take_all, length-drop, length, ◌-◌, IsErr, true≢false, ◌/◌, ◌%◌, ◌==◌, ◌∷◌, ℤ, pos, negsuc, int_lt, unsigned_abs, codes, decimal, false, true, eqb-true, ltb-true, ap₂, zero, ◌≤◌, Bool, if◌then◌else◌, set, eq-eqb, ne_eqb, get_or-set_same, drop-set-lt, length-set}
 use Rattle.std.specs.List.{concat}
 use Rattle.std.specs.Io.KnownBytes.{Appends, Keeps}
 use Rattle.dwexpr.specs.Endings.{Ending, WritesEnding}
-use Rattle.dwexpr.specs.Writing.{AppendsFront, Prints}
+use Rattle.dwexpr.specs.Writing.{AppendsFront, Prints, bytes_word, ending, pairs, word_text}
+use Rattle.std.specs.Fmt.{digit_glyph, signed_decimal, digits_onto, digits}
+use Rattle.dwarf_base.specs.Reads.{u8_at}
+use Rattle.dwexpr.specs.declared.writing.Word.{Word}
 
 -- ---- two parts
 
@@ -111,3 +114,75 @@ pub ends_beyond : {E : Type 0} (a b c : Option (List ℕ)) (first : List ℕ) (e
 ends_beyond a b c first ending (Ok u) h k = (appends_both a b c first ending.text (first ++ ending.text) refl h k.0, k.1)
 ends_beyond a b c first ending (Err u) h k =
     (last_of {T = ℕ} a b c (first ++ ending.text) ending.text (Err u) (more_of a a b (first ++ ending.text) first ending.text (begun a (first ++ ending.text)) h) k.0, tt)
+
+-- ---- the digits of bytes
+
+pub pairs_next : (left rest : List ℕ) (byte x y : ℕ) → u8_at left ≡ Ok (byte, rest) → x ≡ digit_glyph false (byte / 16)
+    → y ≡ digit_glyph false (byte % 16)
+    → pairs left ≡ (x ∷ y ∷ []) ++ pairs rest
+pairs_next [] rest byte x y h e f = cc h
+pairs_next (first ∷ more) rest byte x y h e f =
+    let same : (first, more) ≡ (byte, rest) = cc h in
+    ap (λ (z : ℕ × List ℕ). pairs (z.0 ∷ z.1)) same ∙ ap₂ (λ u v. u ∷ v ∷ pairs rest) (sym e) (sym f)
+
+pub bytes_word-some : (bytes : List ℕ) → (length bytes == 0) ≡ false → bytes_word bytes ≡ pairs bytes
+bytes_word-some [] e = cc e
+bytes_word-some (byte ∷ bytes) e = refl
+
+pub bytes_word-none : (bytes : List ℕ) → (length bytes == 0) ≡ true → codes "-" ≡ bytes_word bytes
+bytes_word-none [] e = refl
+bytes_word-none (byte ∷ bytes) e = absurd (omega (arith, eqb-true _ _ e))
+
+pub pairs-none : (left : List ℕ) → (length left == 0) ≡ true → pairs left ≡ []
+pairs-none [] e = refl
+pairs-none (byte ∷ left) e = absurd (omega (arith, eqb-true _ _ e))
+
+-- ---- numbers
+
+pub minus_before : (z : ℤ) → int_lt z (pos 0) ≡ true → codes "-" ++ decimal (unsigned_abs z) ≡ signed_decimal z
+minus_before (pos n) e = absurd (omega (arith, ltb-true _ _ e))
+minus_before (negsuc n) e = refl
+
+pub no_minus : (z : ℤ) → int_lt z (pos 0) ≡ false → decimal (unsigned_abs z) ≡ signed_decimal z
+no_minus (pos n) e = refl
+no_minus (negsuc n) e = cc e
+
+-- ---- words
+
+pub ending_at : (words : List Word) (i : ℕ) (d : Word) → i < length words
+    → ending (map word_text (drop i words)) ≡ codes " " ++ (word_text (get_or words i d) ++ ending (map word_text (drop (i + 1) words)))
+ending_at words i d inside =
+    ap (λ z. ending (map word_text z)) (drop-cons words i d inside)
+    ∙ ap (λ k. 32 ∷ (word_text (get_or words i d) ++ ending (map word_text (drop k words)))) {x = suc i} {y = i + 1} (omega arith)
+
+-- ---- digits, the last one first
+
+pub digits_all : (base : ℕ) (n : ℕ) → digits_onto 64 base false n [] ≡ digits base false n
+unfolding digits
+digits_all base n = refl
+
+module _ (base : ℕ) (n : ℕ) (acc : List ℕ) where
+  by_test : (k : ℕ) (t : Bool) → (n / base == 0) ≡ t
+      → digits_onto (suc k) base false n acc
+      ≡ (if t then digit_glyph false (n % base) ∷ acc else digits_onto k base false (n / base) (digit_glyph false (n % base) ∷ acc))
+  by_test k t e =
+      ap (λ (b : Bool). if b then digit_glyph false (n % base) ∷ acc else digits_onto k base false (n / base) (digit_glyph false (n % base) ∷ acc)) e
+
+  pub digits_last : (i : ℕ) → 0 < i → n / base ≡ 0 → digits_onto i base false n acc ≡ digit_glyph false (n % base) ∷ acc
+  digits_last zero h e = absurd (omega arith)
+  digits_last (suc k) h e = by_test k true (eq-eqb _ 0 e)
+
+  pub digits_step : (i : ℕ) → 0 < i → (n / base ≡ 0 → ⊥)
+      → digits_onto i base false n acc ≡ digits_onto (i - 1) base false (n / base) (digit_glyph false (n % base) ∷ acc)
+  digits_step zero h e = absurd (omega arith)
+  digits_step (suc k) h e =
+      by_test k false (ne_eqb _ 0 e)
+      ∙ ap (λ (j : ℕ). digits_onto j base false (n / base) (digit_glyph false (n % base) ∷ acc)) {x = k} {y = suc k - 1} (omega arith)
+
+pub drop-set_before : (out : List ℕ) (i x g : ℕ) → 0 < i → i ≤ length out → x ≡ g
+    → drop (i - 1) (set out (i - 1) x) ≡ g ∷ drop i out
+drop-set_before out zero x g h k e = absurd (omega arith)
+drop-set_before out (suc j) x g h k e =
+    ap (λ (m : ℕ). drop m (set out m x)) {x = suc j - 1} {y = j} (omega arith)
+    ∙ drop-cons (set out j x) j 0 (omega (arith, length-set out j x))
+    ∙ (λ t. (get_or-set_same out j x 0 k ∙ e) t ∷ drop-set-lt (suc j) out j x (omega arith) t)

@@ -1,9 +1,11 @@
--- What is printed of an evaluation that was replayed.
+-- What is printed of an evaluation that was replayed, and if there are no words.
 use Rattle.std.specs.Prelude.{[], ◌<◌, ◌-◌, ◌^◌}
+use Rattle.std.specs.declared.io.ErrorKind.{ErrorKind}
+use Rattle.std.specs.declared.io.ErrorKind.TheVariants.{InvalidData}
 use Rattle.dwarf_meaning.specs.Rest.{State, Status, CompleteStatus, FaultStatus}
 use Rattle.dwarf_replay.specs.declared.steps.Replayed.{Replayed}
 use Rattle.dwarf_replay.specs.declared.steps.Replayed.TheVariants as replayed
-use Rattle.dwexpr.specs.Endings.{Ending, complete_ending, misplaced, no_memory}
+use Rattle.dwexpr.specs.Endings.{Ending, bad_words, complete_ending, misplaced, no_memory}
 
 -- where an evaluation stands
 abbrev pub standing : State → Status → Ending
@@ -22,3 +24,8 @@ abbrev pub HasLine : {R O P : Type 0} → Replayed R O P → Type 0
 HasLine replayed.Done = Unit {0}
 HasLine (replayed.Misplaced index) = index < 2 ^ 64 - 1
 HasLine (replayed.NoRoom index answer) = Unit {0}
+
+-- what the program ends with if its words couldn't be had: one isn't UTF-8, or there was no memory for them
+abbrev pub without_words : ErrorKind → Ending
+without_words InvalidData = bad_words
+without_words _ = no_memory

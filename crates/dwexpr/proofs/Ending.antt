@@ -1,8 +1,14 @@
--- What is printed of an evaluation that was replayed is what its steps come to.
-use Rattle.std.proofs.Common.{◌≡◌, ◌⊎◌, inl, inr, ℕ, zero, suc, List, [], ◌∷◌, ◌++◌, take, Option, Some, None, refl, ◌∙◌, ap, sym, subst, length, ◌<◌, ◌^◌, arith, ap₂, Result, Ok, Err, Bool}
+-- What the program ends with, by what its parts end with, and of an evaluation that was replayed.
+use Rattle.std.proofs.Common.{◌≡◌, inl, inr, ℕ, List, [], ◌++◌, Option, Some, None, Result, Ok, Err, refl, sym, ◌∙◌, ap, ap₂, subst, ◌⊎◌, zero, suc, ◌∷◌, take, length, ◌<◌, ◌^◌, arith, Bool}
+use Rattle.std.specs.Prelude.{IfSome, IsSome, slice_get}
+use Rattle.std.specs.Result.{result_unwrap_or}
+use Rattle.dwexpr.specs.Program.{EndsInvocation, EndsCommand, EndsFor, Exits}
+use Rattle.dwexpr.specs.Endings.{Ending, WritesEnding, no_memory, misplaced}
+use Rattle.dwexpr.specs.Words.{Invocation, invocation_in}
+use Rattle.dwexpr.specs.declared.words.Command.{Command}
+use Rattle.dwexpr.specs.declared.words.Reading.{Reading}
 use Rattle.std.proofs.lemmas.List.{append_assoc, append_cancel_left, length-map, take_all}
 use Rattle.std.proofs.lemmas.Option.{slice_get_within, slice_get_past}
-use Rattle.std.specs.Prelude.{slice_get}
 use Rattle.dwarf_replay.specs.Stepping.{step_of}
 use Rattle.dwarf_base.specs.ByteOrder.{is_big_of}
 use Rattle.dwarf_base.specs.declared.byte_order.RunTimeEndian.{RunTimeEndian}
@@ -11,7 +17,7 @@ use Rattle.dwarf_base.specs.Reads.{Text}
 use Rattle.dwarf_meaning.specs.Requests.{Request}
 use Rattle.dwarf_meaning.specs.Run.{Position}
 use Rattle.dwarf_meaning.specs.Meaning.{Outcome, RequestOutcome, FaultOutcome, CompleteOutcome}
-use Rattle.dwarf_meaning.specs.Rest.{State, Status, Start, Running, RequestStatus, CompleteStatus, FaultStatus}
+use Rattle.dwarf_meaning.specs.Rest.{State, Status, RequestStatus, CompleteStatus, FaultStatus}
 use Rattle.dwarf_meaning.specs.Stores.{Setup}
 use Rattle.dwarf_meaning.specs.Refusals.{Refusal}
 use Rattle.dwarf_meaning.specs.Steps as meaning
@@ -21,28 +27,59 @@ use Rattle.dwarf_replay.specs.declared.steps.Answer.{Answer}
 use Rattle.dwarf_replay.specs.declared.steps.Replayed.{Replayed}
 use Rattle.dwarf_replay.specs.declared.steps.Replayed.TheVariants as replayed
 use Rattle.dwarf_replay.specs.declared.steps.Step.{Step}
-use Rattle.dwexpr.specs.Evaluates.{EndsAt, HasReply, all_done, not_allowed, without_memory, EvaluatesSteps, EvaluatesSaid, after_replies, outcome_ending, bad_steps}
-use Rattle.dwexpr.specs.Steps.{ReadsSteps}
+use Rattle.dwexpr.specs.Evaluates.{EndsAt, HasReply, all_done, not_allowed, without_memory, EvaluatesSteps, EvaluatesSaid, after_replies, outcome_ending}
+use Rattle.dwexpr.specs.inner.Readings.{bad_steps, ReadsSteps}
 use Rattle.dwexpr.specs.declared.steps.StepsFault.{StepsFault}
 use Rattle.dwexpr.specs.declared.steps.StepsFault.TheVariants as fault
-use Rattle.dwexpr.specs.Endings.{Ending, misplaced, no_memory}
-use Rattle.dwexpr.specs.inner.Replayed.{HasLine, ending_of, standing}
+use Rattle.dwexpr.specs.inner.Outputs.{HasLine, ending_of, standing}
+
+-- ---- words and input
+
+-- an empty list to which the bytes of a reader were appended
+pub input_read : (left : Option (List ℕ)) (old items input : List ℕ) → old ≡ [] → input ≡ items
+    → IfSome left (λ xs. items ≡ old ++ xs)
+    → IfSome left (λ bytes. input ≡ bytes)
+input_read None old items input e f h = tt
+input_read (Some xs) old items input e f h = f ∙ h ∙ ap (λ z. z ++ xs) e
+
+pub exits_of : {E : Type 0} (old new : Option (List ℕ)) (ending : Ending) (r : Result ℕ E) (status : ℕ)
+    → status ≡ result_unwrap_or r 1 → WritesEnding old new ending r
+    → Exits old new ending status
+exits_of old new ending (Ok x) status e h = inl (h.0, e ∙ h.1)
+exits_of old new ending (Err x) status e h = inr (h.0, e)
+
+-- ---- what is printed for words
+
+pub ends_invocation : (words texts : List (List ℕ)) (left : Option (List ℕ)) (command other : Command) (reading : Reading) (items bytes : List ℕ)
+    (ending : Ending) → words ≡ texts → invocation_in texts ≡ Some (record { command = command; reading = reading; bytes = items })
+    → command ≡ other → bytes ≡ items
+    → EndsCommand other (record { command = other; reading = reading; bytes = bytes }) left ending
+    → EndsFor words left ending
+ends_invocation words texts left command other reading items bytes ending w e same read h =
+    subst (λ asked. EndsInvocation asked left ending)
+    (sym (ap invocation_in w ∙ e ∙ ap₂ (λ (k : Command) (xs : List ℕ). Some (record { command = k; reading = reading; bytes = xs })) same (sym read)))
+    (inl h)
+
+asked_without_memory : (left : Option (List ℕ)) (asked : Option Invocation) → IsSome asked → EndsInvocation asked left no_memory
+asked_without_memory left (Some asked) some = inr refl
+asked_without_memory left None some = cc some
+
+pub ends_without_memory : (words texts : List (List ℕ)) (left : Option (List ℕ)) → words ≡ texts → IsSome (invocation_in texts)
+    → EndsFor words left no_memory
+ends_without_memory words texts left w some =
+    subst (λ said. EndsFor said left no_memory) (sym w) (asked_without_memory left (invocation_in texts) some)
+
+-- ---- an evaluation
 
 asking_ending : (request : Request) (positions : List Position) (x : State) (status : Status) → IsInRequest request positions x status
     → standing x status ≡ record { text = []; status = 0 }
 asking_ending request positions x (RequestStatus open_request on_answer) h = refl
-asking_ending request positions x (Start initial_value) h = absurd h
-asking_ending request positions x (CompleteStatus value) h = absurd h
-asking_ending request positions x (FaultStatus error) h = absurd h
-asking_ending request positions x Running h = absurd h
+asking_ending request positions x _ h = absurd h
 
 stopped_ending : (fault : Fault) (x : State) (status : Status) → IsInFault fault status
     → standing x status ≡ record { text = []; status = 1 }
 stopped_ending fault x (FaultStatus error) h = refl
-stopped_ending fault x (Start initial_value) h = absurd h
-stopped_ending fault x (RequestStatus request on_answer) h = absurd h
-stopped_ending fault x (CompleteStatus value) h = absurd h
-stopped_ending fault x Running h = absurd h
+stopped_ending fault x _ h = absurd h
 
 stands_ending : (told : Told) (x : State) (outcome : Option Outcome) → StandsAt told x outcome
     → standing x x.status ≡ outcome_ending outcome
@@ -76,9 +113,7 @@ replied_at setup refusal text told (first ∷ steps) zero step answer e h = subs
         → HasReply s
     of_first meaning.Evaluate h = tt
     of_first (meaning.Resume a) h = tt
-    of_first (meaning.InitialValue n) h = absurd (cc)
-    of_first (meaning.ObjectAddress n) h = absurd (cc)
-    of_first (meaning.MaxIterations n) h = absurd (cc)
+    of_first _ h = absurd (cc)
 replied_at setup refusal text told (first ∷ steps) (suc index) step answer e h =
     let now = after_step setup refusal text told first in
     let replied = step_replies first (outcome_of setup refusal text now) in
@@ -144,11 +179,10 @@ evaluates_as setup setup' text text' told told' steps ending e f g h =
 pub has_line : {R O P : Type 0} (text : R → Text) (number : O → ℕ) (limit : Option ℕ) (old new : State) (steps : List (Step R))
     (given : List (Answer R O P)) (ended : Replayed R O P) → length steps < 2 ^ 63 → Replays text number limit old steps given new ended
     → HasLine ended
-has_line text number limit old new steps given replayed.Done few w = tt
 has_line text number limit old new steps given (replayed.Misplaced index) few w =
     let inside = slice_get_within (steps_of text steps) index w.step w.is_next in
     omega (arith, length-map steps (step_of text), inside, few)
-has_line text number limit old new steps given (replayed.NoRoom index answer) few w = tt
+has_line text number limit old new steps given _ few w = tt
 
 -- ---- a fresh evaluation
 

@@ -1,18 +1,27 @@
--- What the words of numbers say, next to what std's calls answer for them.
-use Rattle.std.proofs.Common.{◌≡◌, ◌≢◌, ℕ, ◌^◌, ◌<◌, ◌≤◌, ◌==◌, Bool, true, false, ◌&&◌, List, [], ◌∷◌, drop, get_or, Some, None, Result, Ok, Err, OkIff, option_map, option_and_then, nat_lt, refl, sym, ◌∙◌, ap, arith, ltb-true, lt-ltb, le-ltb, lit≤, codes, ◌-◌, ℤ, pos, negsuc, neg_ℤ, FitsSigned, slice_index, w8, w16, w32, w64, if◌then◌else◌}
+-- What the program's words and the lines of its input say, next to what std's calls answer for them.
+use Rattle.std.proofs.Common.{◌≡◌, ◌≢◌, ℕ, ◌^◌, ◌<◌, ◌≤◌, ◌==◌, Bool, true, false, ◌&&◌, List, [], ◌∷◌, drop, get_or, Some, None, Result, Ok, Err, OkIff, option_map, option_and_then, nat_lt, refl, sym, ◌∙◌, ap, arith, ltb-true, lt-ltb, le-ltb, lit≤, codes, ◌-◌, ℤ, pos, negsuc, neg_ℤ, FitsSigned, slice_index, w8, w16, w32, w64, if◌then◌else◌, ◌%◌, length, map, IsSome, zero, suc, ◌+◌, ◌++◌, length-append, append_assoc, append-nil, eqb-true}
 use Rattle.std.specs.Result.{result_ok}
 use Rattle.std.specs.Char.{digit_value, is_digit}
-use Rattle.std.specs.List.{list_all}
-use Rattle.std.specs.Str.Parse.{AllDigits, IsNumeral, digits_value, ParsesUnsigned}
+use Rattle.std.specs.List.{list_all, AllPass, after_first, before_first, position_or_len}
+use Rattle.std.specs.Str.Parse.{AllDigits, IsNumeral, digits_value, ParsesUnsigned, ParsesSigned}
 use Rattle.std.proofs.lemmas.Str.Parse.{without_leading_plus_none}
-use Rattle.std.specs.Str.Parse.{ParsesSigned}
 use Rattle.std.specs.Str.Pattern.{FindsTextPrefix}
 use Rattle.std.proofs.lemmas.Str.Pattern.{starts_text}
 use Rattle.std.specs.Int.{FitsUnsignedBits}
 use mir.Syntax.{Width}
 use mir.Val.{hbits}
 use lib.Signed.{mag}
-use Rattle.dwexpr.specs.Values.{numeral_in, below, within, number_in, integer_in}
+use Rattle.dwexpr.specs.Steps.{numeral_in, below, within, number_in, integer_in, first_line, lines_within, named_step_in, said_then, step_in, text_step_in}
+use Rattle.hex.specs.Hex.{decode_of, is_hex_digit}
+use Rattle.hex.specs.declared.error.FromHexError.{FromHexError}
+use Rattle.hex.proofs.HexLemmas.{decode_of-digits, decode_of-ok}
+use Rattle.dwexpr.specs.Words.{bytes_in, invocation_in}
+use Rattle.std.specs.Str.{IsUtf8, is_utf8}
+use Rattle.std.proofs.lemmas.Str.{IsUtf8-from_is_utf8, is_utf8-from_IsUtf8}
+use Rattle.std.specs.Prelude.{bytes_eq}
+use Rattle.dwarf_meaning.specs.Steps.{Step}
+
+-- ---- numbers
 
 abbrev all_digits : (base : ℕ) → List ℕ → Bool
 all_digits base word = list_all (λ byte. is_digit byte base) word
@@ -87,33 +96,25 @@ number_in-plain word lacks =
 
 -- ---- integers
 
-within-some : (w : Width) (bits : ℕ) → hbits w ≡ bits - 1 → (z : ℤ) → FitsSigned w z → within bits z ≡ Some z
-within-some w bits e (pos n) fits =
-    let small : n < 2 ^ (bits - 1) = rw (← e) fits.sfits in
-    rw (lt-ltb n (2 ^ (bits - 1)) small) refl
-within-some w bits e (negsuc n) fits =
-    let small : n < 2 ^ (bits - 1) = rw (← e) fits.sfits in
-    rw (lt-ltb n (2 ^ (bits - 1)) small) refl
+within-mag : (bits : ℕ) (z : ℤ) → within bits z ≡ (if nat_lt (mag z) (2 ^ (bits - 1)) then Some z else None)
+within-mag bits (pos n) = refl
+within-mag bits (negsuc n) = refl
 
-fits-by : (w : Width) (bits : ℕ) → hbits w ≡ bits - 1 → (z : ℤ) → mag z < 2 ^ (bits - 1) → FitsSigned w z
-fits-by w bits e z small = record { sfits = rw e small }
+within-some : (w : Width) (bits : ℕ) → hbits w ≡ bits - 1 → (z : ℤ) → FitsSigned w z → within bits z ≡ Some z
+within-some w bits e z fits =
+    let small : mag z < 2 ^ (bits - 1) = rw (← e) fits.sfits in
+    within-mag bits z ∙ rw (lt-ltb (mag z) (2 ^ (bits - 1)) small) refl
 
 within-none : (w : Width) (bits : ℕ) → hbits w ≡ bits - 1 → (z : ℤ) → (FitsSigned w z → ⊥) → within bits z ≡ None
-within-none w bits e (pos n) outside =
-    elim (nat_lt n (2 ^ (bits - 1))) as
-    (λ b. nat_lt n (2 ^ (bits - 1)) ≡ b → (if b then Some (pos n) else None) ≡ None) [
-      | true ↦ λ small. absurd (outside (fits-by w bits e (pos n) (ltb-true _ _ small)))
-      | false ↦ λ _. refl
-    ] refl
-within-none w bits e (negsuc n) outside =
-    elim (nat_lt n (2 ^ (bits - 1))) as
-    (λ b. nat_lt n (2 ^ (bits - 1)) ≡ b → (if b then Some (negsuc n) else None) ≡ None) [
-      | true ↦ λ small. absurd (outside (fits-by w bits e (negsuc n) (ltb-true _ _ small)))
+within-none w bits e z outside =
+    within-mag bits z
+    ∙ elim (nat_lt (mag z) (2 ^ (bits - 1))) as
+    (λ b. nat_lt (mag z) (2 ^ (bits - 1)) ≡ b → (if b then Some z else None) ≡ None) [
+      | true ↦ λ small. absurd (outside (record { sfits = rw e (ltb-true _ _ small) }))
       | false ↦ λ _. refl
     ] refl
 
--- a conversion to a signed type of this many bits
-pub narrowed_signed : {E : Type 0} (w : Width) (bits : ℕ) → hbits w ≡ bits - 1 → (z : ℤ) (r : Result ℤ E)
+narrowed_signed : {E : Type 0} (w : Width) (bits : ℕ) → hbits w ≡ bits - 1 → (z : ℤ) (r : Result ℤ E)
     → OkIff r (FitsSigned w z) z
     → result_ok r ≡ within bits z
 narrowed_signed w bits e z (Ok x) h = ap Some h.1 ∙ sym (within-some w bits e z h.0)
@@ -171,3 +172,105 @@ integer_parsed word r h unsigned = integer_at (slice_index word 0 == 45) word re
 -- a word that begins with a plus sign is no integer
 pub integer_in-plus : (word : List ℕ) → get_or word 0 0 ≡ 43 → integer_in word ≡ None
 integer_in-plus word plus = rw (plus, numeral_in-plus 10 word (lit≤ tt) plus) refl
+
+-- ---- the bytes of a word
+
+pub IsHexadecimal : List ℕ → Type 0
+IsHexadecimal word = (length word % 2 ≡ 0) × AllPass is_hex_digit word
+
+-- what does not decode says no bytes
+undecoded : (word : List ℕ) → (IsHexadecimal word → ⊥) → (d : Result (List ℕ) FromHexError) → decode_of word ≡ d
+    → result_ok d ≡ None
+unfolding IsHexadecimal
+undecoded word bad (Ok bytes) h = let good = decode_of-ok word bytes h in absurd (bad (good.0, good.1))
+undecoded word bad (Err e) h = refl
+
+pub bytes_in-other : (word : List ℕ) → word ≢ 45 ∷ [] → ((length word % 2 ≡ 0) × AllPass is_hex_digit word → ⊥)
+    → bytes_in word ≡ None
+unfolding IsHexadecimal
+bytes_in-other [] dash bad = refl
+bytes_in-other (byte ∷ []) dash bad = grind (arith)
+bytes_in-other (byte ∷ next ∷ rest) dash bad = undecoded (byte ∷ next ∷ rest) bad (decode_of (byte ∷ next ∷ rest)) refl
+
+decoded-some : (d : Result (List ℕ) FromHexError) (bytes : List ℕ) → d ≡ Ok bytes → IsSome (result_ok d)
+decoded-some d bytes h = rw h refl
+
+pub IsSome-bytes_in : (word : List ℕ) → word ≢ [] → (length word % 2 ≡ 0) × AllPass is_hex_digit word
+    → IsSome (bytes_in word)
+IsSome-bytes_in [] some good = absurd (some refl)
+IsSome-bytes_in (byte ∷ []) some good = absurd (omega (arith, good.0))
+IsSome-bytes_in (byte ∷ next ∷ rest) some good =
+    let read = decode_of-digits (byte ∷ next ∷ rest) good.0 good.1 in
+    decoded-some (decode_of (byte ∷ next ∷ rest)) read.0 read.1
+
+-- ---- six words
+
+pub six_words : {X : Type 0} (view : X → List ℕ) (words : List X) (a b c d e f : X) → 6 ≤ length words → length words < 7
+    → a ≡ get_or words 0 a → b ≡ get_or words 1 b → c ≡ get_or words 2 c
+    → d ≡ get_or words 3 d → e ≡ get_or words 4 e → f ≡ get_or words 5 f
+    → map view words ≡ view a ∷ view b ∷ view c ∷ view d ∷ view e ∷ view f ∷ []
+six_words view (u ∷ v ∷ w ∷ x ∷ y ∷ z ∷ []) a b c d e f least most i j k l m n = rw (i, j, k, l, m, n) refl
+six_words view _ a b c d e f least most i j k l m n = absurd (omega (arith, least, most))
+
+pub not_six : {X : Type 0} (view : X → List ℕ) (words : List X) → (length words ≡ 6 → ⊥) → invocation_in (map view words) ≡ None
+not_six view (u ∷ v ∷ w ∷ x ∷ y ∷ z ∷ []) other = absurd (other refl)
+not_six view _ other = refl
+
+-- ---- a line
+
+pub step_of_text : (big : Bool) (line : List ℕ) → IsUtf8 line → step_in big line ≡ text_step_in big line
+step_of_text big line utf8 = rw (is_utf8-from_IsUtf8 line utf8) refl
+
+untold : (line : List ℕ) (told : Bool) → is_utf8 line ≡ told → (IsUtf8 line → ⊥) → is_utf8 line ≡ false
+untold line true e no_text = absurd (no_text (IsUtf8-from_is_utf8 line e))
+untold line false e no_text = e
+
+pub step_of_bytes : (big : Bool) (line : List ℕ) → (IsUtf8 line → ⊥) → step_in big line ≡ None
+step_of_bytes big line no_text = rw (untold line (is_utf8 line) refl no_text) refl
+
+pub text_parted : (big : Bool) (text name word : List ℕ) → bytes_eq text (codes "evaluate") ≡ false
+    → (position_or_len (λ b. b == 32) text < length text) × (name ≡ before_first (λ b. b == 32) text) × (word ≡ after_first (λ b. b == 32) text)
+    → text_step_in big text ≡ named_step_in big name word
+text_parted big text name word other cut = rw (other, lt-ltb _ _ cut.0, cut.1, cut.2) refl
+
+-- ---- lines
+
+-- what steps and then lines say
+abbrev pub said_after : List Step → Result (List Step) ℕ → Result (List Step) ℕ
+said_after steps (Ok more) = Ok (steps ++ more)
+said_after steps (Err number) = Err (length steps + number)
+
+pub said_more : (steps : List Step) (step : Step) (more : Result (List Step) ℕ)
+    → said_after steps (said_then (Some step) more) ≡ said_after (steps ++ step ∷ []) more
+said_more steps step (Ok more) = ap Ok (sym (append_assoc steps (step ∷ []) more))
+said_more steps step (Err number) =
+    ap Err (omega (arith, length-append steps (step ∷ [])))
+
+pub said_first : (more : Result (List Step) ℕ) → more ≡ said_after [] more
+said_first (Ok more) = refl
+said_first (Err number) = ap Err (omega arith)
+
+pub said_last : (steps : List Step) → said_after steps (Ok []) ≡ Ok steps
+said_last steps = ap Ok (append-nil steps)
+
+pub said_bad : (steps : List Step) (more : Result (List Step) ℕ) → said_after steps (said_then None more) ≡ Err (length steps + 1)
+said_bad steps more = refl
+
+pub next_line : (most : ℕ) (left text rest : List ℕ) → 0 < length left → length left ≤ most → (text, rest) ≡ first_line left
+    → (fewer : ℕ) × (length rest < length left → length rest ≤ fewer) × (lines_within most left ≡ text ∷ lines_within fewer rest)
+next_line most [] text rest some enough e = absurd (omega (arith, some))
+next_line zero (byte ∷ left) text rest some enough e = absurd (omega (arith, enough))
+next_line (suc most) (byte ∷ left) text rest some enough e =
+    (most, (λ less. omega (arith, less, enough)), ap (λ (z : List ℕ × List ℕ). z.0 ∷ lines_within most z.1) (sym e))
+
+pub no_lines : (most : ℕ) (left : List ℕ) → length left ≡ 0 → lines_within most left ≡ []
+no_lines zero left e = refl
+no_lines (suc most) [] e = refl
+no_lines (suc most) (byte ∷ left) e = absurd (omega (arith, e))
+
+pub some_left : (left : List ℕ) → false ≡ (length left == 0) → 0 < length left
+some_left [] e = cc e
+some_left (byte ∷ left) e = omega arith
+
+pub none_left : (left : List ℕ) → true ≡ (length left == 0) → length left ≡ 0
+none_left left e = eqb-true _ _ (sym e)

@@ -1,7 +1,7 @@
 //! Each byte of an operation that is decoded is read once, and no other byte is, but for a look, in memory, at the piece
 //! after a location.
 
-use crate::operations::SMALL;
+use crate::evaluation::SMALL;
 use crate::readers::{Watched, answer_cfa, answer_location, evaluate, value_of};
 use dwarf_eval::eval::Evaluation;
 use dwarf_eval::op::Expression;

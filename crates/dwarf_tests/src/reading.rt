@@ -4,7 +4,8 @@ use dwarf_base::{
     LittleEndian, Reader, ReaderOffset, Register, Result, RunTimeEndian, UnitOffset, reader_laws,
 };
 
-fn is_cut_off<T: Drop>(answer: Result<T>) -> bool {
+/// Whether bytes were wanted that aren't there.
+pub(crate) fn is_cut_off<T: Drop>(answer: Result<T>) -> bool {
     matches!(answer, Err(Error::UnexpectedEof(_)))
 }
 

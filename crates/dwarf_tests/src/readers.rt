@@ -2,7 +2,7 @@ ghost use Rattle.std.specs.Prelude.{◌≡◌, None, false};
 ghost use Rattle.dwarf_base.specs.EndianSlice.{text_of};
 ghost use Rattle.dwarf_meaning.specs.Rest.{Start};
 
-use crate::operations::SMALL;
+use crate::evaluation::SMALL;
 use dwarf_base::{EndianSlice, Error, LittleEndian, Reader, Result};
 use dwarf_eval::eval::{Evaluation, Status, WaitingKind};
 use dwarf_eval::op::{EvaluationResult, Expression, Operation};

@@ -1,30 +1,14 @@
 ghost use Rattle.std.specs.Prelude.{length, ◌<◌, ◌^◌, false};
 ghost use Rattle.dwarf_base.specs.EndianSlice.{slice_bytes};
 
+use crate::evaluation::{SMALL, Slice, little};
+use crate::reading::is_cut_off;
 use dwarf_base::{
     Encoding, EndianSlice, Error, Format, LittleEndian, Reader, Result, RunTimeEndian, UnitOffset,
 };
 use dwarf_eval::op::Expression;
 use dwarf_op::Operation;
 use std::process::Abort;
-
-type Slice<'a> = EndianSlice<'a, RunTimeEndian>;
-
-/// Addresses of 4 bytes and the 32-bit format.
-pub(crate) const SMALL: Encoding = Encoding {
-    address_size: 4,
-    format: Format::Dwarf32,
-    version: 4,
-};
-
-// The bytes, the lowest of a number first.
-fn little(text: &[u8]) -> Slice<'_> {
-    EndianSlice::new(text, RunTimeEndian::Little)
-}
-
-fn is_cut_off(outcome: Result<Operation<Slice<'_>>>) -> bool {
-    matches!(outcome, Err(Error::UnexpectedEof(_)))
-}
 
 #[test]
 fn operations(rt: HostRuntime) {

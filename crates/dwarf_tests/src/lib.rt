@@ -1,0 +1,25 @@
+//! Tests of calls that neither the program nor the archive makes.
+#![tactic(auto)]
+
+#[cfg(test)]
+mod allocators;
+#[cfg(test)]
+mod equality;
+#[cfg(test)]
+mod evaluation;
+#[cfg(test)]
+mod memory;
+#[cfg(test)]
+mod operations;
+#[cfg(test)]
+mod readers;
+#[cfg(test)]
+mod reading;
+#[cfg(test)]
+mod reads;
+#[cfg(test)]
+mod refusals;
+#[cfg(test)]
+mod replays;
+#[cfg(test)]
+mod values;

@@ -12,7 +12,7 @@ use Rattle.dwarf_meaning.specs.Meaning.{IsOver, Outcome, FaultOutcome, First, co
 use Rattle.std.specs.Option.{unwrap_or}
 use Rattle.std.specs.Option.{IfSome}
 use Rattle.dwarf_meaning.proofs.Outcomes.{outcome_from}
-use Rattle.dwarf_meaning.specs.Steps.{Step, InitialValue, ObjectAddress, MaxIterations, Evaluate, Resume, Told, outcome_of, Awaits, IsUntold, Allows, heard, after, Reply, reply, replies, step_replies, after_step, replies_of, untold}
+use Rattle.dwarf_meaning.specs.Steps.{Step, InitialValue, ObjectAddress, MaxIterations, Evaluate, Resume, Told, outcome_of, Awaits, Allows, heard, after, Reply, reply, replies, step_replies, after_step, replies_of, untold}
 use Rattle.dwarf_meaning.specs.Refusals.{Limits, Refusal}
 use Rattle.dwarf_laws.specs.Agreement.{Both, nothing, something, AgreeingAnswers, AgreeingSteps, initial_value, object_address, max_iterations, evaluate, resume, AgreeingFirsts, AgreeingInputs, AgreeingTold, AgreeingOutcomes, requests, faults, completions}
 use Rattle.dwarf_laws.specs.TwoRuns.{NoneIsFull, StandAlike, AreAlike, TwoRuns}
@@ -44,17 +44,12 @@ module _ (w : ℕ) where
   awaits_both a b o o' k (something faults) = (λ h. h, λ h. h)
   awaits_both a b o o' k (something (completions p v)) = (λ h. h, λ h. h)
 
-  untold_both : (told told' : Told) → AgreeingTold w told told' → IsUntold told → IsUntold told'
-  untold_both told told' t h =
-      record { first = none_both _ _ _ t.first h.first; initial_value = none_both _ _ _ t.now.initial_value h.initial_value }
-
-  untold_back : (told told' : Told) → AgreeingTold w told told' → IsUntold told' → IsUntold told
-  untold_back told told' t h =
-      record { first = none_back _ _ _ t.first h.first; initial_value = none_back _ _ _ t.now.initial_value h.initial_value }
-
   allows_both : (told told' : Told) (o o' : Option Outcome) (x y : Step) → AgreeingTold w told told'
       → Both (AgreeingOutcomes w) o o' → AgreeingSteps w x y → Allows told o x ↔ Allows told' o' y
-  allows_both told told' o o' x y t h (initial_value e) = (untold_both told told' t, untold_back told told' t)
+  allows_both told told' o o' x y t h (initial_value e) = (
+    λ i. (none_both _ _ _ t.first i.0, none_both _ _ _ t.now.initial_value i.1),
+    λ i. (none_back _ _ _ t.first i.0, none_back _ _ _ t.now.initial_value i.1),
+  )
   allows_both told told' o o' x y t h (object_address e) = (λ i. i, λ i. i)
   allows_both told told' o o' x y t h max_iterations = (λ i. i, λ i. i)
   allows_both told told' o o' x y t h evaluate = evaluable_both o o' h

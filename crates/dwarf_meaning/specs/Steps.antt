@@ -43,14 +43,9 @@ Awaits answer (Some (RequestOutcome request positions)) = kind_of_request reques
 Awaits answer (Some (FaultOutcome fault)) = Unit {0}
 Awaits answer _ = ⊥
 
--- it wasn't started, and has no initial value
-pub record IsUntold (told : Told) : Type 0 where
-  pub first : told.first ≡ None
-  pub initial_value : told.now.initial_value ≡ None
-
--- whether a step may come after steps with this outcome
+-- whether a step may come after steps with this outcome; an initial value is set once, before the start
 abbrev pub Allows : Told → Option Outcome → Step → Type 0
-Allows told outcome (InitialValue number) = IsUntold told
+Allows told outcome (InitialValue number) = (told.first ≡ None) × (told.now.initial_value ≡ None)
 Allows told outcome (ObjectAddress address) = Unit {0}
 Allows told outcome (MaxIterations maximum) = Unit {0}
 Allows told outcome Evaluate = IfSome outcome IsOver

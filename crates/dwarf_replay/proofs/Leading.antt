@@ -83,10 +83,10 @@ abbrev Misplaced : Step → Told → Option Outcome → Type 0
 Misplaced step told outcome = Allows told outcome step → ⊥
 
 wanted_not : (first : State) (steps : List Step) (given : List Reply) (x : State) (step : Step) (status : Status) → (MayTake step status → ⊥) → Wanted first steps given x (Misplaced step) status
-wanted_not first steps given x (InitialValue number) (Start initial_value) h = λ told s i a. h (ap Start (sym i ∙ a.initial_value))
-wanted_not first steps given x (InitialValue number) (RequestStatus request on_answer) h = λ told settings positions s a. some_not_none settings (sym s ∙ a.first)
-wanted_not first steps given x (InitialValue number) (CompleteStatus value) h = λ told settings s a. some_not_none settings (sym s ∙ a.first)
-wanted_not first steps given x (InitialValue number) (FaultStatus error) h = λ told settings s a. some_not_none settings (sym s ∙ a.first)
+wanted_not first steps given x (InitialValue number) (Start initial_value) h = λ told s i a. h (ap Start (sym i ∙ a.1))
+wanted_not first steps given x (InitialValue number) (RequestStatus request on_answer) h = λ told settings positions s a. some_not_none settings (sym s ∙ a.0)
+wanted_not first steps given x (InitialValue number) (CompleteStatus value) h = λ told settings s a. some_not_none settings (sym s ∙ a.0)
+wanted_not first steps given x (InitialValue number) (FaultStatus error) h = λ told settings s a. some_not_none settings (sym s ∙ a.0)
 wanted_not first steps given x (InitialValue number) Running h = tt
 wanted_not first steps given x (ObjectAddress address) status h = absurd (h tt)
 wanted_not first steps given x (MaxIterations maximum) status h = absurd (h tt)

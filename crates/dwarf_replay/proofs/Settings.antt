@@ -131,7 +131,7 @@ module _ (first : State) where
       subst (WentBy first (steps ++ InitialValue number ∷ []) given new) (sym status)
       (record {
         told = now;
-        walked = λ r. walked_more first steps given given (InitialValue number) r w.told now (w.walked r) (record { first = w.started; initial_value = w.initial }) refl (sym (append-nil given));
+        walked = λ r. walked_more first steps given given (InitialValue number) r w.told now (w.walked r) (w.started, w.initial) refl (sym (append-nil given));
         started = w.started;
         inputs = w.inputs;
         initial = refl;

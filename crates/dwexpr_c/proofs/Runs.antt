@@ -357,11 +357,3 @@ module _ (texts : List DwexprText) (numbers : List DwexprStep) (first new : Stat
   -- the steps were all done
   pub all_done : FinishesAt new.store.pieces new.status progress → EvaluatesGiven (given_at first texts) numbers after old places
   all_done f = finished (comes_of (given_at first texts) ran.steps) refl ran.stands f
-
--- a fresh evaluation
-pub given_is : (first : State) (texts : List DwexprText) (encoding : Encoding) (text : Text) → first.setup ≡ limited_setup encoding → first.text ≡ text → first.store.settings.object_address ≡ None → first.store.settings.maximum ≡ most → given_at first texts ≡ beginning encoding text texts
-given_is first texts encoding text s t o m =
-    ap (λ (z : Setup). record { setup = z; text = first.text; told = told_at first; texts = texts }) s
-    ∙ (ap (λ (z : Text). record { setup = limited_setup encoding; text = z; told = told_at first; texts = texts }) t
-    ∙ (ap (λ (z : Option ℕ). record { setup = limited_setup encoding; text = text; told = record { now = record { initial_value = None; settings = record { object_address = z; maximum = first.store.settings.maximum } }; first = None; inputs = [] }; texts = texts }) o
-    ∙ ap (λ (z : ℕ). record { setup = limited_setup encoding; text = text; told = record { now = record { initial_value = None; settings = record { object_address = None; maximum = z } }; first = None; inputs = [] }; texts = texts }) m))

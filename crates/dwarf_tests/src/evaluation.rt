@@ -227,42 +227,6 @@ pub(crate) fn whole(location: Location<Slice<'_>>) -> Piece<Slice<'_>> {
     }
 }
 
-// With an initial value of 1, an object at 5 and at most three operations, `33 97 22` is 8.
-fn expect_ways<A: Allocator + Copy>(rt: &impl Abort, alloc: Global, memory: A) {
-    let steps = [
-        Step::InitialValue(1),
-        Step::ObjectAddress(5),
-        Step::MaxIterations(3),
-        Step::Evaluate,
-        Step::Evaluate,
-    ];
-    let pieces = [whole(Location::Address { address: 8 })];
-    let case = with_result(
-        &[0x33, 0x97, 0x22],
-        &steps,
-        &[COMPLETE; 2],
-        Some(Generic(8)),
-        &pieces,
-    );
-    let text = little(case.text);
-    expect_with_room::<2>(rt, alloc, &case);
-    expect_of(rt, alloc, Expression(text).evaluation(memory, SMALL), &case);
-    let lists: Evaluation<Slice<'_>, StoreOnHeap<A>> = Evaluation::new_in(
-        text,
-        SMALL,
-        Vec::new(memory),
-        Vec::new(memory),
-        Vec::new(memory),
-    );
-    expect_of(rt, alloc, lists, &case);
-    expect_over_lists::<3, 0, 1>(rt, alloc, &case);
-}
-
-#[test]
-fn ways_to_begin(rt: HostRuntime) {
-    expect_ways(&rt, rt.alloc(), rt.alloc());
-}
-
 // After settings, a fault, an open request, and pieces.
 static RESTARTED: [Case<'static>; 7] = [
     Case {
@@ -272,8 +236,9 @@ static RESTARTED: [Case<'static>; 7] = [
             Step::ObjectAddress(5),
             Step::MaxIterations(3),
             Step::Evaluate,
+            Step::Evaluate,
         ],
-        told: &[COMPLETE],
+        told: &[COMPLETE; 2],
         end: Replayed::Done,
         status: Status::Complete,
         value: Some(Generic(8)),
@@ -348,6 +313,28 @@ static RESTARTED: [Case<'static>; 7] = [
         pieces: &[],
     },
 ];
+
+// The first of them, begun in each way.
+fn expect_ways<A: Allocator + Copy>(rt: &impl Abort, alloc: Global, memory: A) {
+    let case = RESTARTED[0];
+    let text = little(case.text);
+    expect_with_room::<2>(rt, alloc, &case);
+    expect_of(rt, alloc, Expression(text).evaluation(memory, SMALL), &case);
+    let lists: Evaluation<Slice<'_>, StoreOnHeap<A>> = Evaluation::new_in(
+        text,
+        SMALL,
+        Vec::new(memory),
+        Vec::new(memory),
+        Vec::new(memory),
+    );
+    expect_of(rt, alloc, lists, &case);
+    expect_over_lists::<3, 0, 1>(rt, alloc, &case);
+}
+
+#[test]
+fn ways_to_begin(rt: HostRuntime) {
+    expect_ways(&rt, rt.alloc(), rt.alloc());
+}
 
 // One evaluation serves for all. Nothing of the case before is left.
 #[test]

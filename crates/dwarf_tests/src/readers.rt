@@ -139,26 +139,46 @@ fn parses_until_a_read_is_refused(rt: HostRuntime) {
     assert!(rt; bytes.is_empty());
 }
 
+// Evaluates until a request, and answers it by 8.
+fn value_through_a_request<R: Reader + Copy, S: EvaluationStorage<R>>(
+    rt: &impl Abort,
+    mut eval: Evaluation<R, S>,
+) -> Option<Value>
+    requires { eval.status ≡ Start None }
+{
+    let asked = evaluate(&mut eval);
+    assert!(rt; matches!(asked, Ok(EvaluationResult::RequiresCallFrameCfa)));
+    let done = answer_cfa(rt, &mut eval, 8);
+    assert!(rt; matches!(done, Ok(EvaluationResult::Complete)));
+    value_of(rt, &eval)
+}
+
 #[test]
 fn evaluates_through_a_request(rt: HostRuntime) {
     let read = Cell::new(0);
     let text = Watched::<false>::new(&[0x9c, 0x23, 0x02], &read);
-    let mut eval = Evaluation::new(rt.alloc(), text, SMALL);
-    let asked = evaluate(&mut eval);
-    assert!(rt; matches!(asked, Ok(EvaluationResult::RequiresCallFrameCfa)));
-    let done = answer_cfa(&rt, &mut eval, 8);
-    assert!(rt; matches!(done, Ok(EvaluationResult::Complete)));
-    assert!(rt; value_of(&rt, &eval) == Some(Value::Generic(10)));
+    let eval = Evaluation::new(rt.alloc(), text, SMALL);
+    assert!(rt; value_through_a_request(&rt, eval) == Some(Value::Generic(10)));
+}
+
+// The fault that an evaluation of at most so many operations meets before it asks anything.
+pub(crate) fn fault_of<R: Reader + Copy, S: EvaluationStorage<R>>(
+    mut eval: Evaluation<R, S>,
+    maximum: u32,
+) -> Option<Error>
+    requires { eval.status ≡ Start None }
+{
+    eval.set_max_iterations(maximum);
+    evaluate(&mut eval).err()
 }
 
 #[test]
 fn meets_faults_in_an_evaluation(rt: HostRuntime) {
     let read = Cell::new(0);
     let text = Watched::<false>::new(&[0x50, 0x31, 0x93], &read);
-    let mut eval = Evaluation::new(rt.alloc(), text, SMALL);
     let terminator = Error::InvalidExpressionTerminator(1);
-    assert!(rt; evaluate(&mut eval).err() == Some(terminator));
+    assert!(rt; fault_of(Evaluation::new(rt.alloc(), text, SMALL), u32::MAX) == Some(terminator));
     let text = Watched::<false>::new(&[0x31, 0x0c, 0x01, 0x02], &read);
-    let mut eval = Evaluation::new(rt.alloc(), text, SMALL);
-    assert!(rt; matches!(evaluate(&mut eval), Err(Error::UnexpectedEof(_))));
+    let fault = fault_of(Evaluation::new(rt.alloc(), text, SMALL), u32::MAX);
+    assert!(rt; matches!(fault, Some(Error::UnexpectedEof(_))));
 }

@@ -1,10 +1,15 @@
 //! Each byte of an operation that is decoded is read once, and no other byte is, but for a look, in memory, at the piece
 //! after a location.
 
+ghost use Rattle.std.specs.Prelude.{◌≡◌, None};
+ghost use Rattle.dwarf_meaning.specs.Rest.{Start};
+
 use crate::evaluation::SMALL;
-use crate::readers::{Watched, answer_cfa, answer_location, evaluate, value_of};
+use crate::readers::{Watched, answer_cfa, answer_location, evaluate, fault_of, value_of};
+use dwarf_base::Reader;
 use dwarf_eval::eval::Evaluation;
 use dwarf_eval::op::Expression;
+use dwarf_eval::store::EvaluationStorage;
 use std::alloc::{AllocError, Global};
 use std::cell::Cell;
 use std::process::Abort;
@@ -74,15 +79,29 @@ fn gives_location(opcode: u8) -> bool {
     matches!(opcode, 0x50..=0x6f | 0x90 | 0x9e | 0x9f | 0xa0 | 0xf2)
 }
 
+// Adds the opcode, and a byte 01 for each byte of its operands.
+fn push_operation(text: &mut Vec<u8>, opcode: u8, operands: u64) -> Result<(), AllocError> {
+    text.push(opcode)?;
+    for _ in 0..operands {
+        text.push(0x01)?;
+    }
+    Ok(())
+}
+
+// No operation has the opcode, so the iterator gives a fault, and reads no further.
+fn expect_unknown<const IN_MEMORY: bool>(rt: &impl Abort, opcode: u8) {
+    let read = Cell::new(0);
+    let bytes = [opcode, 0x01, 0x01];
+    let mut operations = Expression(Watched::<IN_MEMORY>::new(&bytes, &read)).operations(SMALL);
+    assert!(rt; operations.next().is_err() && read.get() == 1, "{opcode}");
+}
+
 // The iterator gives an operation of each opcode, one after another, and each opcode that no operation has.
 fn expect_items<const IN_MEMORY: bool>(rt: &impl Abort, alloc: Global) -> Result<(), AllocError> {
     let mut text = Vec::new(alloc);
     for opcode in 0..=255 {
         if let Some(operands) = operands_of(opcode) {
-            text.push(opcode)?;
-            for _ in 0..operands {
-                text.push(0x01)?;
-            }
+            push_operation(&mut text, opcode, operands)?;
         }
     }
     let read = Cell::new(0);
@@ -92,19 +111,13 @@ fn expect_items<const IN_MEMORY: bool>(rt: &impl Abort, alloc: Global) -> Result
         match operands_of(opcode) {
             Some(operands) => {
                 wanted = wanted.saturating_add(1).saturating_add(operands);
-                assert!(rt; matches!(operations.next(), Ok(Some(_))), "{opcode}");
-                assert!(rt; read.get() == wanted, "{opcode}");
-            }
-            None => {
-                let alone = Cell::new(0);
-                let bytes = [opcode, 0x01, 0x01];
-                let unknown = Watched::<IN_MEMORY>::new(&bytes, &alone);
+                let item = operations.next();
                 assert!(rt;
-                    Expression(unknown).operations(SMALL).next().is_err(),
+                    matches!(item, Ok(Some(_))) && read.get() == wanted,
                     "{opcode}"
                 );
-                assert!(rt; alone.get() == 1, "{opcode}");
             }
+            None => expect_unknown::<IN_MEMORY>(rt, opcode),
         }
     }
     assert!(rt; matches!(operations.next(), Ok(None)) && read.get() == text.len() as u64);
@@ -147,15 +160,12 @@ fn expect_evaluation<const IN_MEMORY: bool>(
 ) -> Result<(), AllocError> {
     let operands = operands_of(opcode).unwrap_or(0);
     let mut text = Vec::new(alloc);
-    text.extend_from_slice(&[0x31, 0x31, 0x31, opcode])?;
-    for _ in 0..operands {
-        text.push(0x01)?;
-    }
+    text.extend_from_slice(&[0x31, 0x31, 0x31])?;
+    push_operation(&mut text, opcode, operands)?;
     text.extend_from_slice(&[0x96, 0x96])?;
     let read = Cell::new(0);
-    let mut eval = Evaluation::new(alloc, Watched::<IN_MEMORY>::new(&text, &read), SMALL);
-    eval.set_max_iterations(4);
-    let _stop = evaluate(&mut eval);
+    let bytes = Watched::<IN_MEMORY>::new(&text, &read);
+    let _fault = fault_of(Evaluation::new(alloc, bytes, SMALL), 4);
     let after = match (gives_location(opcode), IN_MEMORY) {
         (true, true) => 3,
         (true, false) => 1,
@@ -190,11 +200,15 @@ static LOOP: &[u8] = &[
 
 // Evaluates its 302 operations, which the maximum allows. In memory it looks at each piece that ends a location, of two
 // bytes, before it reads that.
-fn expect_loop<const IN_MEMORY: bool>(rt: &impl Abort, alloc: Global) {
-    let look = if IN_MEMORY { 2 } else { 0 };
-    let read = Cell::new(0);
-    let callee = Watched::<IN_MEMORY>::new(&[0x31, 0x13], &read); // lit1, drop
-    let mut eval = Evaluation::new(alloc, Watched::<IN_MEMORY>::new(LOOP, &read), SMALL);
+fn expect_turns<R: Reader + Copy, S: EvaluationStorage<R>>(
+    rt: &impl Abort,
+    mut eval: Evaluation<R, S>,
+    callee: R,
+    read: &Cell<u64>,
+)
+    requires { eval.status ≡ Start None }
+{
+    let look = if R::IN_MEMORY { 2 } else { 0 };
     eval.set_max_iterations(302);
     assert!(rt; evaluate(&mut eval).is_ok());
     let mut wanted: u64 = 2;
@@ -212,6 +226,13 @@ fn expect_loop<const IN_MEMORY: bool>(rt: &impl Abort, alloc: Global) {
     }
     assert!(rt; read.get() == wanted.saturating_add(2));
     assert!(rt; value_of(rt, &eval).is_none());
+}
+
+fn expect_loop<const IN_MEMORY: bool>(rt: &impl Abort, alloc: Global) {
+    let read = Cell::new(0);
+    let callee = Watched::<IN_MEMORY>::new(&[0x31, 0x13], &read); // lit1, drop
+    let text = Watched::<IN_MEMORY>::new(LOOP, &read);
+    expect_turns(rt, Evaluation::new(alloc, text, SMALL), callee, &read);
 }
 
 #[test]

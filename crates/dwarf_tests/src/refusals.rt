@@ -1,5 +1,6 @@
 //! Each push of an evaluation is refused in turn, and each growth of its lists and of the answers.
 ghost use Rattle.std.specs.Prelude.{◌≡◌, ◌<◌, [], None};
+ghost use Rattle.dwarf_meaning.specs.Rest.{Start};
 
 use crate::allocators::{NEVER, RefusesGrowth};
 use crate::evaluation::{COMPLETE, SMALL, Slice, little, replayed};
@@ -69,6 +70,23 @@ fn list<T>(alloc: Global, before: u64) -> RefusesOne<T>
         items: Vec::new(alloc),
         before,
     }
+}
+
+// A fresh evaluation over such lists: of the values, the callers and the pieces.
+fn evaluation<'a>(
+    alloc: Global,
+    text: &'a [u8],
+    befores: [u64; LISTS],
+) -> Evaluation<Slice<'a>, ListsOfTests>
+    ensures { result.status ≡ Start None }
+{
+    Evaluation::new_in(
+        little(text),
+        SMALL,
+        list(alloc, befores[0]),
+        list(alloc, befores[1]),
+        list(alloc, befores[PIECES]),
+    )
 }
 
 // What comes after the answers: every call that a fault allows.
@@ -195,13 +213,7 @@ fn expect_push(
 {
     let mut befores = [NEVER; LISTS];
     befores[refusing] = before;
-    let mut eval: Evaluation<Slice<'_>, ListsOfTests> = Evaluation::new_in(
-        little(&case.text),
-        SMALL,
-        list(alloc, befores[0]),
-        list(alloc, befores[1]),
-        list(alloc, befores[PIECES]),
-    );
+    let mut eval = evaluation(alloc, &case.text, befores);
     let mut steps = Vec::new(alloc);
     steps.extend_from_slice(&case.steps)?;
     steps.extend_from_slice(&later_steps())?;
@@ -335,13 +347,7 @@ fn refused_pushes_of_agreeing_answers(rt: HostRuntime) {
     let alloc = rt.alloc();
     for (values, pieces) in [(0, NEVER), (1, NEVER), (NEVER, 0)] {
         for cfa in [0x10, 0x1_0000_0010] {
-            let mut eval: Evaluation<Slice<'_>, ListsOfTests> = Evaluation::new_in(
-                little(&[0x9c, 0x31]),
-                SMALL,
-                list(alloc, values),
-                list(alloc, NEVER),
-                list(alloc, pieces),
-            );
+            let mut eval = evaluation(alloc, &[0x9c, 0x31], [values, NEVER, pieces, NEVER]);
             let steps = [Step::Evaluate, Step::CallFrameCfa(cfa)];
             let mut answers = Vec::new(alloc);
             let outcome = replayed(&rt, alloc, &mut eval, &steps, &mut answers);

@@ -189,15 +189,18 @@ fn calls<'a>(alloc: Global, count: u64) -> Result<Refusal<'a>, AllocError> {
     })
 }
 
-// The answers are those of ample memory up to the refused call, which answers the fault, and so does every later one.
+// The answers are those of ample memory up to the refused call, and none of them is the fault. That call answers the
+// fault, and so does every later one.
 fn expect_refused(rt: &impl Abort, answers: &[Answer<Slice<'_>>], told: &[Answer<Slice<'_>>]) {
-    let mut failed = false;
-    for (i, answer) in answers.iter().enumerate() {
-        failed = failed || *answer == FULL;
-        assert!(rt; failed || Some(answer) == told.get(i));
-        assert!(rt; !failed || *answer == FULL);
+    let mut refused: usize = 0;
+    for answer in answers {
+        if *answer == FULL {
+            refused = refused.saturating_add(1);
+        }
     }
-    assert!(rt; failed && answers.len() == told.len() + later_steps().len());
+    let before = answers.len().saturating_sub(refused);
+    assert!(rt; refused > 0 && told.starts_with(&answers[..before]));
+    assert!(rt; answers.len() == told.len() + later_steps().len());
 }
 
 // Replays the case, and then every call that a fault allows, over lists one of which refuses the push that this many

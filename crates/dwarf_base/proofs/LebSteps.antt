@@ -6,7 +6,7 @@ use Rattle.std.proofs.lemmas.Int.{ints}
 use Rattle.std.proofs.lemmas.Nat.{shl_whole, mul-le, pow-add}
 use Rattle.std.proofs.Math.Nat.{pow-le-pow_right, mul-suc}
 use Rattle.dwarf_base.specs.Faults.{Fault, past_the_end}
-use Rattle.dwarf_base.specs.Leb.{LebForm, unsigned_leb, signed_leb, sign_extended, leb_from, uleb_at, sleb_at}
+use Rattle.dwarf_base.specs.Leb.{LebForm, unsigned_leb, signed_leb, sign_extension, leb_from, uleb_at, sleb_at}
 use Rattle.dwarf_base.specs.Reads.{Gives, u8_at}
 use Rattle.dwarf_base.specs.declared.errors.Error.{Error}
 use Rattle.dwarf_base.proofs.Suffixes.{ok_pair}
@@ -113,13 +113,13 @@ unsigned_first bytes byte number rest read same end = rw same (first_last unsign
 
 -- ---- signs
 
-without_sign : (sum count last : ℕ) → last < 64 → sign_extended sum count last ≡ pos sum
+without_sign : (sum count last : ℕ) → last < 64 → sign_extension sum count last ≡ pos sum
 without_sign sum count last low = grind (arith, nat_tests)
 
-with_sign : (sum count last : ℕ) → 64 ≤ last → sign_extended sum count last ≡ pos sum -ℤ pos (128 ^ count)
+with_sign : (sum count last : ℕ) → 64 ≤ last → sign_extension sum count last ≡ pos sum -ℤ pos (128 ^ count)
 with_sign sum count last high = grind (arith, nat_tests)
 
-pub signed_first : (bytes : List ℕ) (byte : ℕ) (value : ℤ) (rest : List ℕ) → u8_at bytes ≡ Ok (byte, rest) → value ≡ sign_extended byte 1 byte → byte < 128
+pub signed_first : (bytes : List ℕ) (byte : ℕ) (value : ℤ) (rest : List ℕ) → u8_at bytes ≡ Ok (byte, rest) → value ≡ sign_extension byte 1 byte → byte < 128
     → sleb_at bytes ≡ Ok (value, rest)
 unfolding sleb_at
 signed_first bytes byte value rest read same end = first_last signed_leb bytes byte rest read end ∙ ap (λ z. Ok (z, rest)) (sym same)
@@ -167,7 +167,7 @@ unsigned_second bytes after rest first second low read high next end low_is =
     ∙ ap (λ (sum : ℕ). Ok (sum, rest)) (at_place_one first second low low_is))
 
 pub signed_second : (bytes after rest : List ℕ) (first second : ℕ) (value : ℤ) → u8_at bytes ≡ Ok (first, after) → 128 ≤ first
-    → u8_at after ≡ Ok (second, rest) → second < 128 → value ≡ pos (first % 128) +ℤ pos 128 *ℤ sign_extended second 1 second
+    → u8_at after ≡ Ok (second, rest) → second < 128 → value ≡ pos (first % 128) +ℤ pos 128 *ℤ sign_extension second 1 second
     → sleb_at bytes ≡ Ok (value, rest)
 unfolding sleb_at
 signed_second bytes after rest first second value read high next end same =

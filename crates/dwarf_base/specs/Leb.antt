@@ -16,12 +16,13 @@ abbrev pub unsigned_leb : LebForm ℕ
 unsigned_leb = record { allows_tenth = λ byte. nat_lt byte 2; fault = BadUnsignedLeb128; number = λ sum n last. sum }
 
 -- the bit 0x40 of the last byte is the sign's
-abbrev pub sign_extended : (sum count last : ℕ) → ℤ
-sign_extended sum count last = if nat_lt last 64 then pos sum else pos sum -ℤ pos (128 ^ count)
+abbrev pub sign_extension : (sum count last : ℕ) → ℤ
+sign_extension sum count last = if nat_lt last 64 then pos sum else pos sum -ℤ pos (128 ^ count)
 
 -- a tenth byte may be 0 or 127
 abbrev pub signed_leb : LebForm ℤ
-signed_leb = record { allows_tenth = λ byte. byte == 0 || byte == 127; fault = BadSignedLeb128; number = sign_extended }
+signed_leb =
+    record { allows_tenth = λ byte. byte == 0 || byte == 127; fault = BadSignedLeb128; number = sign_extension }
 
 -- ---- which bytes spell a number
 

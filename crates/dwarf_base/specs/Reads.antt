@@ -31,7 +31,7 @@ pub record Reads {X Y : Type 0} (view : X → Y) (old new : Text) (result : Resu
   pub order : new.is_big ≡ old.is_big
 
 -- what is left of a text
-pub record IsLeftOf (left whole : Text) : Type 0 where
+pub record IsRestOf (left whole : Text) : Type 0 where
   pub rest : IsSuffix left.bytes whole.bytes
   pub order : left.is_big ≡ whole.is_big
 

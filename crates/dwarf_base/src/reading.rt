@@ -1,5 +1,5 @@
 ghost use Rattle.std.specs.Prelude.{◌≡◌, ℕ, Bool, List, [], length, ◌-◌, ◌^◌, ◌<◌, ◌==◌, IfOk, IsTrue, pos, neg_ℤ, ◌≤ℤ◌, ◌<ℤ◌};
-ghost use Rattle.dwarf_base.specs.Leb.{uleb_at, uleb_u32_at, sleb_at, leb_from, sign_extended, unsigned_leb, signed_leb};
+ghost use Rattle.dwarf_base.specs.Leb.{uleb_at, uleb_u32_at, sleb_at, leb_from, sign_extension, unsigned_leb, signed_leb};
 ghost use Rattle.dwarf_base.specs.Reads.{Reads, Text, IsSuffix, u8_at, split_at, skip_at, fixed_at, signed_at, address_at, format_at, is_fixed_size};
 
 use crate::common::Format;
@@ -229,7 +229,7 @@ pub trait Reader {
 #[inline(always)]
 fn last_byte(byte: u8) -> i64
     requires { byte < 128 }
-    ensures value { result ≡ sign_extended byte 1 byte }
+    ensures value { result ≡ sign_extension byte 1 byte }
     ensures least { neg_ℤ (pos 64) ≤ℤ result }
     ensures most { result <ℤ pos 64 }
 {

@@ -4,11 +4,11 @@ use Rattle.dwarf_base.specs.declared.errors.Error.{Error}
 use Rattle.dwarf_base.specs.Faults.{fault_of}
 use Rattle.dwarf_base.specs.declared.errors.Error.TheVariants.{NotEnoughStackItems}
 use Rattle.dwarf_value.specs.declared.types.Value.{Value}
-use Rattle.dwarf_meaning.specs.Acts.{FaultAct, on_top, on_result, short, push, unary, binary, act}
+use Rattle.dwarf_meaning.specs.Acts.{FaultAct, on_top, on_result, underflow, push, unary, binary, act}
 use Rattle.dwarf_meaning.specs.Stores.{Plain, address_bits, push_value}
 use Rattle.dwarf_meaning.specs.Rest.{State, Running, FaultStatus}
 use Rattle.dwarf_meaning.proofs.Choices.{top_none, top_some, answer_ok, answer_err}
-use Rattle.dwarf_eval.specs.inner.Steps.{Pops, Tried, Performs, with_values, act_of}
+use Rattle.dwarf_eval.specs.inner.StateChanges.{Pops, Tried, Performs, with_values, act_of}
 use Rattle.dwarf_meaning.specs.Inputs.{with_status}
 use Rattle.dwarf_eval.proofs.Performances.{performs_as, performs_push, performs_refuses, PopsTwo, fewer_two, stays_two}
 use Rattle.dwarf_eval.proofs.Staying.{fewer_one, stays_popped}
@@ -18,10 +18,10 @@ use Rattle.dwarf_meaning.specs.Operations as operation
 -- ---- the acts
 
 pub unary_none : (call : Value → Result Value Error) (values : List Value) → values ≡ [] → unary call values ≡ FaultAct NotEnoughStackItems
-unary_none call values e = top_none values short (λ x rest. on_result (call x) FaultAct (push rest)) e
+unary_none call values e = top_none values underflow (λ x rest. on_result (call x) FaultAct (push rest)) e
 
 unary_some : (call : Value → Result Value Error) (values : List Value) (x : Value) (rest : List Value) → values ≡ x ∷ rest → unary call values ≡ on_result (call x) FaultAct (push rest)
-unary_some call values x rest e = top_some values short (λ x rest. on_result (call x) FaultAct (push rest)) x rest e
+unary_some call values x rest e = top_some values underflow (λ x rest. on_result (call x) FaultAct (push rest)) x rest e
 
 pub unary_ok : (call : Value → Result Value Error) (values : List Value) (x : Value) (rest : List Value) (v : Value) → values ≡ x ∷ rest → call x ≡ Ok v → unary call values ≡ push rest v
 unary_ok call values x rest v e f = unary_some call values x rest e ∙ answer_ok (call x) FaultAct (push rest) v f
@@ -30,17 +30,17 @@ pub unary_err : (call : Value → Result Value Error) (values : List Value) (x :
 unary_err call values x rest error e f = unary_some call values x rest e ∙ answer_err (call x) FaultAct (push rest) error f
 
 pub binary_none : (call : Value → Value → Result Value Error) (values : List Value) → values ≡ [] → binary call values ≡ FaultAct NotEnoughStackItems
-binary_none call values e = top_none values short (λ y below. on_top below short (λ x rest. on_result (call x y) FaultAct (push rest))) e
+binary_none call values e = top_none values underflow (λ y below. on_top below underflow (λ x rest. on_result (call x y) FaultAct (push rest))) e
 
 pub binary_one : (call : Value → Value → Result Value Error) (values : List Value) (y : Value) → values ≡ y ∷ [] → binary call values ≡ FaultAct NotEnoughStackItems
 binary_one call values y e =
-    top_some values short (λ y below. on_top below short (λ x rest. on_result (call x y) FaultAct (push rest))) y [] e
-    ∙ top_none [] short (λ x rest. on_result (call x y) FaultAct (push rest)) refl
+    top_some values underflow (λ y below. on_top below underflow (λ x rest. on_result (call x y) FaultAct (push rest))) y [] e
+    ∙ top_none [] underflow (λ x rest. on_result (call x y) FaultAct (push rest)) refl
 
 binary_two : (call : Value → Value → Result Value Error) (values : List Value) (y x : Value) (rest : List Value) → values ≡ y ∷ x ∷ rest → binary call values ≡ on_result (call x y) FaultAct (push rest)
 binary_two call values y x rest e =
-    top_some values short (λ y below. on_top below short (λ x rest. on_result (call x y) FaultAct (push rest))) y (x ∷ rest) e
-    ∙ top_some (x ∷ rest) short (λ x rest. on_result (call x y) FaultAct (push rest)) x rest refl
+    top_some values underflow (λ y below. on_top below underflow (λ x rest. on_result (call x y) FaultAct (push rest))) y (x ∷ rest) e
+    ∙ top_some (x ∷ rest) underflow (λ x rest. on_result (call x y) FaultAct (push rest)) x rest refl
 
 pub binary_ok : (call : Value → Value → Result Value Error) (values : List Value) (y x : Value) (rest : List Value) (v : Value) → values ≡ y ∷ x ∷ rest → call x y ≡ Ok v → binary call values ≡ push rest v
 binary_ok call values y x rest v e f = binary_two call values y x rest e ∙ answer_ok (call x y) FaultAct (push rest) v f

@@ -21,7 +21,7 @@ use Rattle.dwarf_meaning.proofs.Choices.{top_none, top_some}
 use Rattle.dwarf_meaning.proofs.Turns.{run_turn}
 use Rattle.dwarf_meaning.specs.Bounds.{endings}
 use Rattle.dwarf_meaning.specs.Inputs.{with_status}
-use Rattle.dwarf_eval.specs.inner.Steps.{Does, Refused, Stays, Pops, total, ComesBy, GoesBack, ClosesBy, Closes, is_free, Turns, with_store, with_values}
+use Rattle.dwarf_eval.specs.inner.StateChanges.{Does, Refused, Stays, Pops, total, ComesBy, GoesBack, ClosesBy, Closes, is_free, Turns, with_store, with_values}
 use Rattle.dwarf_eval.proofs.Reaching.{may_along}
 use Rattle.dwarf_eval.proofs.Loads.{EndsAlike, finish_alike, piece_stored}
 use Rattle.dwarf_eval.proofs.Spending.{nears_by, back_spends, over_spends}

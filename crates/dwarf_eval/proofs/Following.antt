@@ -8,21 +8,21 @@ use Rattle.dwarf_meaning.specs.Rest.{State, Status, Start, Running, RequestStatu
 use Rattle.dwarf_meaning.specs.Steps.{Reply, reply}
 use Rattle.dwarf_meaning.specs.Refusals.{Refusal, Never, After, before_pushes, IsLater}
 use Rattle.dwarf_eval.specs.Evaluation.{Follows, IsReplied}
-use Rattle.dwarf_eval.specs.inner.Steps.{Reaches, Falls, ComesBy, Comes}
-use Rattle.dwarf_eval.proofs.Refusals.{before_never, before_later}
+use Rattle.dwarf_eval.specs.inner.StateChanges.{Reaches, Falls, ComesBy, Comes}
+use Rattle.dwarf_eval.proofs.RefusedPushes.{before_never, before_later}
 use Rattle.dwarf_eval.proofs.Totals.{course_open}
 pub use Rattle.dwarf_eval.proofs.Totals.{total_open, total_complete, total_meaning}
 
-told_by : (r : Refusal) (x : State) (told : Reply) (status : Status) → IsReplied told status → told ≡ reply (total_by x (with_refusal r x.store) [] status).outcome
-told_by r x told (RequestStatus request on_answer) h =
+replied_by : (r : Refusal) (x : State) (replied : Reply) (status : Status) → IsReplied replied status → replied ≡ reply (total_by x (with_refusal r x.store) [] status).outcome
+replied_by r x replied (RequestStatus request on_answer) h =
     h ∙ sym (ap (λ (z : Total). reply z.outcome) (course_open x.store.count x.setup x.callers request (record { text = x.text; place = x.place } ∷ []) []))
-told_by r x told (Start initial_value) h = absurd h
-told_by r x told Running h = absurd h
-told_by r x told _ h = h
+replied_by r x replied (Start initial_value) h = absurd h
+replied_by r x replied Running h = absurd h
+replied_by r x replied _ h = h
 
-pub told_total : (r : Refusal) (x : State) (told : Reply) → IsReplied told x.status → told ≡ reply (total x r []).outcome
+pub replied_total : (r : Refusal) (x : State) (replied : Reply) → IsReplied replied x.status → replied ≡ reply (total x r []).outcome
 unfolding total
-told_total r x told h = told_by r x told x.status h
+replied_total r x replied h = replied_by r x replied x.status h
 
 -- a refusal for later is the same before any pushes
 later_before : (p : ℕ) (r : Refusal) → IsLater r → before_pushes p r ≡ r
@@ -32,25 +32,25 @@ later_before p (After (suc inputs) pushes) h = before_later p inputs pushes
 
 -- ---- from where an evaluation came, or fell, to what its call answers
 
-module _ (old : State) (totals : Refusal → List Input → Total) (new : State) (told : Reply) where
+module _ (old : State) (totals : Refusal → List Input → Total) (new : State) (replied : Reply) where
   -- what is left after a refusal for later
   later_total : (h : Reaches old totals new) (r : Refusal) (inputs : List Input) → IsLater r → totals r inputs ≡ total new r inputs
   later_total h r inputs l = ap (λ (q : Refusal). totals q inputs) (sym (later_before h.pushes r l)) ∙ h.same r inputs
 
   -- nothing more is counted in a request that waits for an input, or at the end
-  open_count : (status : Status) → new.status ≡ status → faults_in status ≡ 0 → IsReplied told status → (total new Never []).count ≡ new.store.count
+  open_count : (status : Status) → new.status ≡ status → faults_in status ≡ 0 → IsReplied replied status → (total new Never []).count ≡ new.store.count
   open_count (RequestStatus request on_answer) e o t = ap (λ (z : Total). z.count) (total_open Never new request on_answer e)
   open_count (CompleteStatus value) e o t = ap (λ (z : Total). z.count) (total_complete Never new [] value e)
   open_count (FaultStatus error) e o t = omega (arith, o)
   open_count _ e o t = absurd t
 
-  came_follows : faults_in new.status ≡ 0 → Reaches old totals new → IsReplied told new.status → Follows old totals told new
+  came_follows : faults_in new.status ≡ 0 → Reaches old totals new → IsReplied replied new.status → Follows old totals replied new
   came_follows o h t =
       let here : total new Never [] ≡ totals Never [] = sym (later_total h Never [] tt) in
       record {
         refusal = Never;
         may = tt;
-        reply = told_total Never new told t ∙ ap (λ (z : Total). reply z.outcome) here;
+        reply = replied_total Never new replied t ∙ ap (λ (z : Total). reply z.outcome) here;
         count = sym (open_count new.status refl o t) ∙ ap (λ (z : Total). z.count) here;
         status = t;
         more = λ open_now r inputs l. later_total h r inputs l;
@@ -58,11 +58,11 @@ module _ (old : State) (totals : Refusal → List Input → Total) (new : State)
         spends = h.spends;
       }
 
-  fell_follows : (error : Error) → new.status ≡ FaultStatus error → Falls old totals (fault_of error) new → IsReplied told new.status → Follows old totals told new
+  fell_follows : (error : Error) → new.status ≡ FaultStatus error → Falls old totals (fault_of error) new → IsReplied replied new.status → Follows old totals replied new
   fell_follows error failed h t = let one : faults_in new.status ≡ 1 = ap faults_in failed in record {
     refusal = h.refusal;
     may = h.may;
-    reply = subst (IsReplied told) failed t ∙ sym (ap (λ (z : Total). reply z.outcome) (h.same []));
+    reply = subst (IsReplied replied) failed t ∙ sym (ap (λ (z : Total). reply z.outcome) (h.same []));
     count = sym (ap (λ (z : Total). z.count) (h.same []));
     status = t;
     more = λ open_now r inputs l. absurd (let none = open_now in omega (arith, one, none));
@@ -70,12 +70,12 @@ module _ (old : State) (totals : Refusal → List Input → Total) (new : State)
     spends = h.spends;
   }
 
-  follows_by : (status : Status) → new.status ≡ status → ComesBy old totals new status → IsReplied told new.status → Follows old totals told new
+  follows_by : (status : Status) → new.status ≡ status → ComesBy old totals new status → IsReplied replied new.status → Follows old totals replied new
   follows_by (FaultStatus error) e h t = fell_follows error e h t
-  follows_by Running e h t = absurd (subst (IsReplied told) e t)
+  follows_by Running e h t = absurd (subst (IsReplied replied) e t)
   follows_by (Start initial_value) e h t = absurd h
   follows_by _ e h t = came_follows (ap faults_in e) h t
 
   -- a call that replies answers its outcome
-  pub comes_follow : Comes old totals new → IsReplied told new.status → Follows old totals told new
+  pub comes_follow : Comes old totals new → IsReplied replied new.status → Follows old totals replied new
   comes_follow h t = follows_by new.status refl h t

@@ -8,17 +8,17 @@ use Rattle.dwarf_base.specs.declared.errors.Error.TheVariants.{InvalidExpression
 use Rattle.dwarf_meaning.specs.Acts.{Act, EndsPiece, FaultAct}
 use Rattle.dwarf_meaning.specs.Operations as operation
 use Rattle.dwarf_meaning.specs.Operations.{Operation}
-use Rattle.dwarf_meaning.specs.Locations.{Location, Piece, sized}
+use Rattle.dwarf_meaning.specs.Locations.{Location, Piece, sized_piece}
 use Rattle.dwarf_meaning.specs.Requests.{Input}
 use Rattle.dwarf_meaning.specs.RunLaws.{waits_of}
-use Rattle.dwarf_meaning.specs.Stores.{Store, Last, Pieced, Located, push_piece, Next, Goes, FaultNext, goes, done}
+use Rattle.dwarf_meaning.specs.Stores.{Store, Last, Pieced, Located, push_piece, Next, Goes, FaultNext, goes, do_act}
 use Rattle.dwarf_meaning.specs.Run.{after_operation, do_operation, located_act, read, run, turn_by}
 use Rattle.dwarf_meaning.specs.Meaning.{FaultOutcome}
 use Rattle.dwarf_meaning.specs.Rest.{State, Running, FaultStatus, with_refusal, total_of_course}
 use Rattle.dwarf_meaning.specs.Refusals.{Refusal, Never, before_pushes}
 use Rattle.dwarf_meaning.specs.Bounds.{is_given, endings}
 use Rattle.dwarf_meaning.specs.Inputs.{with_status}
-use Rattle.dwarf_eval.specs.inner.Steps.{Does, Refused, Tries, ReadsOperation, EndsLocated, total, ComesBy, Turns, read_to, with_last}
+use Rattle.dwarf_eval.specs.inner.StateChanges.{Does, Refused, Tries, ReadsOperation, EndsLocated, total, ComesBy, Turns, read_to, with_last}
 use Rattle.dwarf_eval.proofs.Loads.{endings_more, piece_due, kept_in, piece_stored}
 use Rattle.dwarf_eval.proofs.Spending.{nears_by, held_spends}
 use Rattle.dwarf_eval.proofs.Staying.{stays_status}
@@ -59,10 +59,10 @@ module _ (x : State) (location : Location) (runs : x.status ≡ Running) (inside
     abbrev acted : Act
     acted = located_act location x.store place_then op
 
-    held_after_operation : (r : Refusal) (inputs : List Input) (a : Act) (next : Next) → acted ≡ a → done x.setup place_then (length x.text.bytes) a (with_refusal r x.store) ≡ next → total x r inputs ≡ total_of_course x.store.count x.setup x.callers (after_operation (run x.setup) x.setup x.text (length x.callers) place_then inputs next)
+    held_after_operation : (r : Refusal) (inputs : List Input) (a : Act) (next : Next) → acted ≡ a → do_act x.setup place_then (length x.text.bytes) a (with_refusal r x.store) ≡ next → total x r inputs ≡ total_of_course x.store.count x.setup x.callers (after_operation (run x.setup) x.setup x.text (length x.callers) place_then inputs next)
     held_after_operation r inputs a next e f =
         held_total r inputs (Ok (op, beyond)) was
-        ∙ (ap (λ (b : Act). total_of_course x.store.count x.setup x.callers (after_operation (run x.setup) x.setup x.text (length x.callers) place_then inputs (done x.setup place_then (length x.text.bytes) b (with_refusal r x.store)))) e
+        ∙ (ap (λ (b : Act). total_of_course x.store.count x.setup x.callers (after_operation (run x.setup) x.setup x.text (length x.callers) place_then inputs (do_act x.setup place_then (length x.text.bytes) b (with_refusal r x.store)))) e
         ∙ ap (λ (n : Next). total_of_course x.store.count x.setup x.callers (after_operation (run x.setup) x.setup x.text (length x.callers) place_then inputs n)) f)
 
     held_other : (new : State) → acted ≡ FaultAct (InvalidExpressionTerminator (place_then - 1)) → new ≡ with_status (FaultStatus (error.InvalidExpressionTerminator (place_then - 1))) (read_to place_then x) → Turns x new
@@ -70,9 +70,9 @@ module _ (x : State) (location : Location) (runs : x.status ≡ Running) (inside
         read_falls place_then new (error.InvalidExpressionTerminator (place_then - 1)) is
         (λ inputs. held_after_operation Never inputs _ (FaultNext (InvalidExpressionTerminator (place_then - 1))) none refl ∙ course_failed x.store.count x.setup x.callers (InvalidExpressionTerminator (place_then - 1)))
 
-    module _ (size_in_bits : ℕ) (bit_offset : Option ℕ) (some : acted ≡ EndsPiece x.store.values (sized size_in_bits bit_offset location)) where
+    module _ (size_in_bits : ℕ) (bit_offset : Option ℕ) (some : acted ≡ EndsPiece x.store.values (sized_piece size_in_bits bit_offset location)) where
       abbrev piece : Piece
-      piece = sized size_in_bits bit_offset location
+      piece = sized_piece size_in_bits bit_offset location
 
       abbrev mid : State
       mid = with_last Pieced (read_to place_then x)

@@ -1,6 +1,6 @@
 pub mod Gives
 pub mod Pushes
-pub mod Refusals
+pub mod RefusedPushes
 pub mod Staying
 pub mod Performances
 pub mod Computes
@@ -17,6 +17,6 @@ pub mod Placing
 pub mod Loads
 pub mod Spending
 pub mod Following
-pub mod Numbers
-pub mod Views
+pub mod MachineNumbers
+pub mod MachineViews
 pub mod Ticks

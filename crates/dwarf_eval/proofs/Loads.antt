@@ -8,10 +8,10 @@ use Rattle.dwarf_meaning.specs.Operations.{Operation}
 use Rattle.dwarf_meaning.specs.Locations.{Piece, Location, Empty, InRegister, AtAddress, HoldsValue, HoldsBytes, PointsInto}
 use Rattle.dwarf_meaning.specs.Acts.{Act, Pushes, Branches, Locates, EndsPiece, RequestAct, FaultAct, on_top}
 use Rattle.dwarf_meaning.specs.RunLaws.{waits_of}
-use Rattle.dwarf_meaning.specs.Stores.{Setup, Store, Last, Plain, Pieced, push_value, push_piece, push_caller, push_values, Next, Goes, RequestNext, FaultNext, goes, done, branch_target, address_bits, Nothing, Pushed, Called, Located}
+use Rattle.dwarf_meaning.specs.Stores.{Setup, Store, Last, Plain, Pieced, push_value, push_piece, push_caller, push_values, Next, Goes, RequestNext, FaultNext, goes, do_act, branch_target, address_bits, Nothing, Pushed, Called, Located}
 use Rattle.dwarf_meaning.specs.Refusals.{Never, room, before_pushes}
 use Rattle.dwarf_meaning.specs.Rest.{with_refusal, Status, Start, Running, RequestStatus}
-use Rattle.dwarf_eval.specs.inner.Steps.{Steps, is_free}
+use Rattle.dwarf_eval.specs.inner.StateChanges.{Steps, is_free}
 use Rattle.dwarf_meaning.proofs.Counts.{OnStore, bound_store, on_bound, OnNext, on_goes}
 use Rattle.dwarf_meaning.proofs.Effects.{IsActOf, pushes, branches, locates, ends, asks, IsGivenBy, IsOwnPlace}
 use Rattle.std.specs.List.{list_all}
@@ -78,7 +78,7 @@ goes_lighter : (n m place : ℕ) (r : Result Store Fault) → n ≤ m + 1 → On
 goes_lighter n m place (Ok s) h e = omega (arith, h, e)
 goes_lighter n m place (Err fault) h e = tt
 
-pub done_lighter : {op : Operation} (setup : Setup) (place len : ℕ) (a : Act) (s : Store) → IsActOf op (length s.values) a → IsLighter (kept_in s) (done setup place len a s)
+pub done_lighter : {op : Operation} (setup : Setup) (place len : ℕ) (a : Act) (s : Store) → IsActOf op (length s.values) a → IsLighter (kept_in s) (do_act setup place len a s)
 done_lighter setup place len (Pushes rest pushed) s (pushes fewer h) =
     goes_lighter (length rest + length s.pieces + 0 + length pushed) (kept_in s) place _ (omega (arith, h)) (values_add setup pushed (record s { values = rest; last = Plain }))
 done_lighter setup place len (Branches rest target) s (branches h _) = cond_both (nat_lt len (branch_target setup place target)) _ _ (IsLighter (kept_in s)) (λ e. tt) (λ e. omega (arith, h))
@@ -170,7 +170,7 @@ own_by (Some size_in_bits) bit_offset (AtAddress address) o = refl
 own_by (Some size_in_bits) bit_offset _ o = absurd o
 
 -- an operation that is counted ends no location
-pub done_ends : (op : Operation) (setup : Setup) (place len : ℕ) (a : Act) (s : Store) → IsActOf op (length s.values) a → AllGiven (waiting s.last Running) → OnNext (EndsNoMore (endings s.pieces)) (done setup place len a s)
+pub done_ends : (op : Operation) (setup : Setup) (place len : ℕ) (a : Act) (s : Store) → IsActOf op (length s.values) a → AllGiven (waiting s.last Running) → OnNext (EndsNoMore (endings s.pieces)) (do_act setup place len a s)
 done_ends op setup place len (Pushes rest pushed) s h free =
     on_goes (EndsNoMore (endings s.pieces)) place _ (values_end (endings s.pieces) setup pushed _ (record { pieces = refl; given = refl }))
 done_ends op setup place len (Branches rest target) s h free =

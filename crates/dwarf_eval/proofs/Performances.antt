@@ -15,8 +15,8 @@ use Rattle.dwarf_meaning.specs.Rest.{State, Status, Start, Running, RequestStatu
 use Rattle.dwarf_meaning.specs.Refusals.{Refusal, Never, before_pushes}
 use Rattle.dwarf_meaning.specs.Inputs.{with_status}
 use Rattle.dwarf_eval.specs.inner.Machine.{replied_status}
-use Rattle.dwarf_eval.specs.inner.Steps.{Asks, Stays, Tries, Tried, Pops, Jumps, done_at, LeadsToFault, LeadsBy, Performs, with_store, with_values, with_last, with_place, PopsGenerics}
-use Rattle.dwarf_eval.proofs.Refusals.{tries_as, bind_ok}
+use Rattle.dwarf_eval.specs.inner.StateChanges.{Asks, Stays, Tries, Tried, Pops, Jumps, do_act_at, LeadsToFault, LeadsBy, Performs, with_store, with_values, with_last, with_place, PopsGenerics}
+use Rattle.dwarf_eval.proofs.RefusedPushes.{tries_as, bind_ok}
 use Rattle.dwarf_eval.proofs.Staying.{stays_from, stays_low, stays_then}
 use Rattle.std.proofs.lemmas.Option.{none-some}
 use Rattle.std.specs.Prelude.{slice_get}
@@ -29,18 +29,18 @@ performs_as a b old new e h = subst (λ (z : Act). Performs z old new) (sym e) h
 -- the operation is refused, by a fault that the state keeps
 pub performs_refuses : (a : Act) (error : Error) (old mid new : State) → a ≡ FaultAct (fault_of error) → Stays 0 old mid → new ≡ with_status (FaultStatus error) mid → Performs a old new
 performs_refuses a error old mid new e stays is =
-    subst (LeadsBy (done_at a old) old new) (sym (ap (λ (z : State). z.status) is)) (record {
-      gets = record { refusal = Never; may = tt; same = ap (λ (z : Act). done_at z old (with_refusal Never old.store)) e };
+    subst (LeadsBy (do_act_at a old) old new) (sym (ap (λ (z : State). z.status) is)) (record {
+      gets = record { refusal = Never; may = tt; same = ap (λ (z : Act). do_act_at z old (with_refusal Never old.store)) e };
       stays = stays_then (FaultStatus error) old mid new stays is;
     })
 
 -- an act that goes on after the operation, once f is done
-module _ (a : Act) (f : Store → Result Store Fault) (old : State) (is : (s : Store) → done_at a old s ≡ goes old.place (f s)) where
+module _ (a : Act) (f : Store → Result Store Fault) (old : State) (is : (s : Store) → do_act_at a old s ≡ goes old.place (f s)) where
   pub performs_goes : (new : State) (done : Bool) → old.status ≡ Running → Tries 0 f old new done → Performs a old new
   performs_goes new true runs d =
       let place : new.place ≡ old.place = ap (λ (x : State). x.place) d.alone in
       let still : new.status ≡ Running = ap (λ (x : State). x.status) d.alone ∙ runs in
-      subst (LeadsBy (done_at a old) old new) (sym still) (record {
+      subst (LeadsBy (do_act_at a old) old new) (sym still) (record {
         steps = record {
           pushes = d.steps.pushes;
           same = λ r.
@@ -50,7 +50,7 @@ module _ (a : Act) (f : Store → Result Store Fault) (old : State) (is : (s : S
         alone = d.alone ∙ ap (λ (p : ℕ). with_store new.store (with_place p old)) (sym place);
       })
   performs_goes new false runs h =
-      subst (LeadsBy (done_at a old) old new) (sym h.failed) (record {
+      subst (LeadsBy (do_act_at a old) old new) (sym h.failed) (record {
         gets = record {
           refusal = h.gets.refusal;
           may = h.gets.may;
@@ -115,7 +115,7 @@ performs_ends rest piece old mid new done runs fewer e h =
 -- something is asked
 pub performs_asks : (rest : List Value) (request : Request) (on_answer : OnAnswer) (old new : State) → new ≡ with_status (RequestStatus request on_answer) (with_values rest old) → Performs (RequestAct rest request on_answer) old new
 performs_asks rest request on_answer old new e =
-    subst (LeadsBy (done_at (RequestAct rest request on_answer) old) old new) (sym (ap (λ (z : State). z.status) e)) (record {
+    subst (LeadsBy (do_act_at (RequestAct rest request on_answer) old) old new) (sym (ap (λ (z : State). z.status) e)) (record {
       steps = record { pushes = 0; same = λ r. ap (λ (z : State). RequestNext request on_answer (with_refusal r z.store)) (sym e) };
       alone = e ∙ ap (λ (z : State). with_store z.store (with_status (RequestStatus request on_answer) old)) (sym e);
     })
@@ -134,7 +134,7 @@ performs_branch t old mid new target true runs e f h =
     let fits : target ≤ length old.text.bytes = subst (λ (z : State). target ≤ length z.text.bytes) e h.0 in
     let place : new.place ≡ target = ap (λ (z : State). z.place) new_is in
     let inside : nat_lt (length old.text.bytes) target ≡ false = grind (arith, nat_tests) in
-    subst (LeadsBy (done_at (Branches rest t) old) old new) (sym (ap (λ (z : State). z.status) new_is ∙ runs)) (record {
+    subst (LeadsBy (do_act_at (Branches rest t) old) old new) (sym (ap (λ (z : State). z.status) new_is ∙ runs)) (record {
       steps = record {
         pushes = 0;
         same = λ r.
@@ -151,7 +151,7 @@ performs_branch t old mid new target false runs e f h =
     let far : length old.text.bytes < target = subst (λ (z : State). length z.text.bytes < target) e h.0 in
     let outside : nat_lt (length old.text.bytes) target ≡ true = grind (arith, nat_tests) in
     let s : Store = record (with_refusal Never old.store) { values = rest; last = Plain } in
-    subst (LeadsBy (done_at (Branches rest t) old) old new) (sym (ap (λ (z : State). z.status) h.1)) (record {
+    subst (LeadsBy (do_act_at (Branches rest t) old) old new) (sym (ap (λ (z : State). z.status) h.1)) (record {
       gets = record {
         refusal = Never;
         may = tt;
@@ -221,14 +221,14 @@ module _ (rest : List Value) (old new : State) (fewer : length rest ≤ length o
   low_by f g is _ h = record { steps = record { pushes = h.steps.pushes; same = λ r. is (before_pushes h.steps.pushes r) ∙ h.steps.same r }; alone = h.alone }
 
 -- an act leaves no trace of the values that were popped before it
-act_low : (a : Act) (rest : List Value) (old : State) (r : Refusal) → done_at a old (with_refusal r old.store) ≡ done_at a (with_values rest old) (with_refusal r (with_values rest old).store)
+act_low : (a : Act) (rest : List Value) (old : State) (r : Refusal) → do_act_at a old (with_refusal r old.store) ≡ do_act_at a (with_values rest old) (with_refusal r (with_values rest old).store)
 act_low (Pushes left pushed) rest old r = refl
 act_low _ rest old r = refl
 
 -- first a pop, and then the act on what is left
 pub performs_low : (f : List Value → Act) (rest : List Value) (old mid new : State) → length rest ≤ length old.store.values → mid ≡ with_values rest old → Performs (f mid.store.values) mid new → Performs (f rest) old new
 performs_low f rest old mid new fewer e h =
-    low_by rest old new fewer (done_at (f rest) (with_values rest old)) (done_at (f rest) old) (act_low (f rest) rest old) new.status (subst (λ (z : State). Performs (f z.store.values) z new) e h)
+    low_by rest old new fewer (do_act_at (f rest) (with_values rest old)) (do_act_at (f rest) old) (act_low (f rest) rest old) new.status (subst (λ (z : State). Performs (f z.store.values) z new) e h)
 
 two_are : (values : List Value) (y x : Value) → slice_get values 0 ≡ Some y → slice_get values 1 ≡ Some x → (rest : List Value) × (values ≡ y ∷ x ∷ rest)
 two_are [] y x e f = absurd (none-some y e)

@@ -5,7 +5,7 @@ use Rattle.dwarf_base.specs.Reads.{IsSuffix}
 use Rattle.dwarf_meaning.specs.Locations.{Location}
 use Rattle.dwarf_meaning.specs.Stores.{Last, Located}
 use Rattle.dwarf_meaning.specs.Rest.{State, Status, Running}
-use Rattle.dwarf_eval.specs.inner.Steps.{Comes, CountsOne, IsReady, Turns, at, effort, goes_on, is_free, is_running, total}
+use Rattle.dwarf_eval.specs.inner.StateChanges.{Comes, CountsOne, IsReady, Turns, at, effort, goes_on, is_free, is_running, total}
 use Rattle.dwarf_eval.proofs.Reaching.{comes_here, comes_more}
 use Rattle.dwarf_eval.proofs.Turning.{ready_none}
 

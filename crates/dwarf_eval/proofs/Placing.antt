@@ -1,14 +1,14 @@
 -- An operation that takes no branch does the same before any place, and none changes the text.
 use Rattle.std.proofs.Common.{ℕ, ◌≡◌, ◌-◌, inl, inr, List, length, Result, Ok, Err, ap, ◌∙◌, sym, refl, subst}
 use Rattle.dwarf_base.specs.Faults.{Fault}
-use Rattle.dwarf_base.specs.Reads.{IsLeftOf, Text}
+use Rattle.dwarf_base.specs.Reads.{IsRestOf, Text}
 use Rattle.dwarf_meaning.specs.Operations.{Operation}
 use Rattle.dwarf_meaning.specs.Acts.{Act, Pushes, Branches, EndsPiece}
-use Rattle.dwarf_meaning.specs.Stores.{Setup, Store, Next, Goes, RequestNext, FaultNext, goes, done, address_bits}
+use Rattle.dwarf_meaning.specs.Stores.{Setup, Store, Next, Goes, RequestNext, FaultNext, goes, do_act, address_bits}
 use Rattle.dwarf_meaning.specs.Rest.{State, Status, Start, Running, RequestStatus, CompleteStatus, FaultStatus, with_refusal}
 use Rattle.dwarf_meaning.specs.Refusals.{before_pushes}
 use Rattle.dwarf_meaning.proofs.Effects.{IsActOf, branches, act_is}
-use Rattle.dwarf_eval.specs.inner.Steps.{IsNoBranch, LeadsBy, Performs, Stays, act_of, at, done_at, with_place}
+use Rattle.dwarf_eval.specs.inner.StateChanges.{IsNoBranch, LeadsBy, Performs, Stays, act_of, at, do_act_at, with_place}
 
 -- ---- the text
 
@@ -19,7 +19,7 @@ text_by f old new (CompleteStatus value) h = absurd h
 text_by f old new _ h = ap (λ (z : State). z.text) h.alone
 
 pub performs_text : (a : Act) (old new : State) → Performs a old new → new.text ≡ old.text
-performs_text a old new h = text_by (done_at a old) old new new.status h
+performs_text a old new h = text_by (do_act_at a old) old new new.status h
 
 -- ---- the place
 
@@ -37,7 +37,7 @@ goes_moved : (place was : ℕ) (r : Result Store Fault) → goes place r ≡ mov
 goes_moved place was (Ok s) = refl
 goes_moved place was (Err fault) = refl
 
-done_moved : (setup : Setup) (place was len : ℕ) (a : Act) (s : Store) → IsStill a → done setup place len a s ≡ moved place (done setup was len a s)
+done_moved : (setup : Setup) (place was len : ℕ) (a : Act) (s : Store) → IsStill a → do_act setup place len a s ≡ moved place (do_act setup was len a s)
 done_moved setup place was len (Pushes rest pushed) s h = goes_moved place was _
 done_moved setup place was len (Branches rest target) s h = absurd h
 done_moved setup place was len (EndsPiece rest piece) s h = goes_moved place was _
@@ -55,10 +55,10 @@ stays_beyond place old new h = record {
 }
 
 module _ (a : Act) (place : ℕ) (old new : State) (still : IsStill a) where
-  moves : (s : Store) (next : Next) → done_at a old s ≡ next → done_at a (with_place place old) s ≡ moved place next
+  moves : (s : Store) (next : Next) → do_act_at a old s ≡ next → do_act_at a (with_place place old) s ≡ moved place next
   moves s next e = done_moved old.setup place old.place (length old.text.bytes) a s still ∙ ap (moved place) e
 
-  beyond_by : (status : Status) → LeadsBy (done_at a old) old new status → LeadsBy (done_at a (with_place place old)) (with_place place old) (with_place place new) status
+  beyond_by : (status : Status) → LeadsBy (do_act_at a old) old new status → LeadsBy (do_act_at a (with_place place old)) (with_place place old) (with_place place new) status
   beyond_by Running h = record {
     steps = record {
       pushes = h.steps.pushes;
@@ -104,5 +104,5 @@ performs_there op left old new none h =
 -- ---- what is left
 
 -- what is left stays left
-pub left_there : (left : Text) (a : Act) (old new : State) → IsLeftOf left old.text → Performs a old new → IsLeftOf left new.text
-left_there left a old new h performs = subst (IsLeftOf left) (sym (performs_text a old new performs)) h
+pub left_there : (left : Text) (a : Act) (old new : State) → IsRestOf left old.text → Performs a old new → IsRestOf left new.text
+left_there left a old new h performs = subst (IsRestOf left) (sym (performs_text a old new performs)) h

@@ -9,10 +9,10 @@ use Rattle.dwarf_value.specs.declared.types.Value.{Value}
 use Rattle.dwarf_meaning.specs.Locations.{Piece}
 use Rattle.dwarf_meaning.specs.Stores.{Setup, Store, push_value, push_piece, push_caller}
 use Rattle.dwarf_meaning.specs.Rest.{State, FaultStatus, with_refusal}
-use Rattle.dwarf_meaning.specs.Refusals.{Limits, Refusal, Never, After, room, spent, MayPick, before_push, before_pushes}
+use Rattle.dwarf_meaning.specs.Refusals.{Limits, Refusal, Never, After, room, refusal_after_push, MayPick, before_push, before_pushes}
 use Rattle.dwarf_eval.specs.Lists.{HasRoom, MayRefuse}
 use Rattle.dwarf_meaning.specs.Inputs.{with_status}
-use Rattle.dwarf_eval.specs.inner.Steps.{Steps, Gets, Refused}
+use Rattle.dwarf_eval.specs.inner.StateChanges.{Steps, Gets, Refused}
 use Rattle.dwarf_eval.proofs.Staying.{stays_status}
 
 -- how many pushes on lists without a limit a push is
@@ -20,13 +20,13 @@ abbrev cost : Option ℕ → ℕ
 cost None = 1
 cost (Some limit) = 0
 
-spent_before : (r : Refusal) → spent (before_push r) ≡ Ok r
-spent_before Never = refl
-spent_before (After zero pushes) = refl
-spent_before (After (suc inputs) pushes) = refl
+after_before_push : (r : Refusal) → refusal_after_push (before_push r) ≡ Ok r
+after_before_push Never = refl
+after_before_push (After zero pushes) = refl
+after_before_push (After (suc inputs) pushes) = refl
 
 room_before : (limit : Option ℕ) (n : ℕ) (r : Refusal) → HasRoom limit n → room limit n (before_pushes (cost limit) r) ≡ Ok r
-room_before None n r h = spent_before r
+room_before None n r h = after_before_push r
 room_before (Some limit) n r h = cond-true (nat_lt n limit) (Ok r) (Err StackFull) (grind (arith, nat_tests))
 
 -- the refusal under which a list at its limit, or without one, refuses now

@@ -5,7 +5,7 @@ use Rattle.dwarf_meaning.specs.Requests.{Input, Request, OnAnswer, Settings}
 use Rattle.dwarf_meaning.specs.Refusals.{Refusal}
 use Rattle.dwarf_meaning.specs.Rest.{State, Status, Start, Running, RequestStatus, CompleteStatus, FaultStatus}
 use Rattle.dwarf_meaning.specs.Bounds.{calls_left, calls_left_by, waiting, initial_due, answer_due, endings, faults_in, DecodesOnce, Spends, is_given}
-use Rattle.dwarf_eval.specs.inner.Steps.{Comes, ComesBy, HasReply, Nears, Total, replies_by}
+use Rattle.dwarf_eval.specs.inner.StateChanges.{Comes, ComesBy, HasReply, Nears, Total, replies_by}
 use Rattle.dwarf_meaning.specs.Locations.{Location}
 use Rattle.dwarf_meaning.specs.Inputs.{with_settings}
 use Rattle.dwarf_eval.proofs.Loads.{AllGiven, start_waits, piece_due, due_waits, request_waits, kept_in}
@@ -38,7 +38,7 @@ fewer_fallen old new request on_answer error was is =
     let after = ap (calls_left_by new) is in
     omega (arith, before, after)
 
-pub if_ok : {Y : Type 0} (P : Type 0) (told : Result Y Error) → P → IfOk told (λ t. P)
+pub if_ok : {Y : Type 0} (P : Type 0) (replied : Result Y Error) → P → IfOk replied (λ t. P)
 if_ok P (Ok t) h = h
 if_ok P (Err e) h = tt
 

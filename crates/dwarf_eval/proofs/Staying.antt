@@ -5,7 +5,7 @@ use Rattle.dwarf_meaning.specs.RunLaws.{waits_of}
 use Rattle.dwarf_meaning.specs.Stores.{Setup, Store, Last, push_value}
 use Rattle.dwarf_meaning.specs.Rest.{State, Status}
 use Rattle.dwarf_meaning.specs.Inputs.{Keeps, with_status}
-use Rattle.dwarf_eval.specs.inner.Steps.{Does, Pops, PopsNumber, Stays, with_last, with_values}
+use Rattle.dwarf_eval.specs.inner.StateChanges.{Does, Pops, PopsNumber, Stays, with_last, with_values}
 use Rattle.dwarf_eval.proofs.Loads.{kept_in, value_stored}
 
 pub keeps_here : (x : State) → Keeps x x

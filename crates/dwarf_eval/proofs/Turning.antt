@@ -11,7 +11,7 @@ use Rattle.dwarf_meaning.specs.Operations.{Operation}
 use Rattle.dwarf_meaning.specs.Requests.{Request, OnAnswer, Input}
 use Rattle.dwarf_meaning.specs.RunLaws.{waits_of}
 use Rattle.dwarf_meaning.specs.Stores.{Setup, address_bits, Store, Last, Located, Next, Goes, RequestNext, FaultNext}
-use Rattle.dwarf_meaning.specs.Run.{Position, CompleteEnd, FaultEnd, Course, only_end, prepend, read, most, can_count, counted, counted_act, do_operation, turn_counted, after_operation, await_answer, turn_by, run}
+use Rattle.dwarf_meaning.specs.Run.{Position, CompleteEnd, FaultEnd, Course, only_end, prepend, read, most, can_count, count_one, counted_act, do_operation, turn_counted, after_operation, await_answer, turn_by, run}
 use Rattle.dwarf_meaning.specs.Meaning.{FaultOutcome}
 use Rattle.dwarf_meaning.specs.Rest.{State, Status, Running, RequestStatus, FaultStatus, with_refusal, total_of_course}
 use Rattle.dwarf_meaning.specs.Refusals.{Refusal, Never, MayPick, before_pushes}
@@ -20,7 +20,7 @@ use Rattle.dwarf_meaning.proofs.Effects.{act_is}
 use Rattle.dwarf_meaning.proofs.Turns.{run_turn, below_most, waits_little}
 use Rattle.dwarf_meaning.specs.Bounds.{endings, faults_in}
 use Rattle.dwarf_meaning.specs.Inputs.{Keeps, with_status}
-use Rattle.dwarf_eval.specs.inner.Steps.{Stays, total, CountsOne, ReadsOperation, act_of, done_at, LeadsToPlace, LeadsToRequest, LeadsToFault, LeadsBy, Performs, read_to, with_store, ComesBy, is_free, IsReady, Turns, effort, effort_by}
+use Rattle.dwarf_eval.specs.inner.StateChanges.{Stays, total, CountsOne, ReadsOperation, act_of, do_act_at, LeadsToPlace, LeadsToRequest, LeadsToFault, LeadsBy, Performs, read_to, with_store, ComesBy, is_free, IsReady, Turns, effort, effort_by}
 use Rattle.dwarf_eval.proofs.Loads.{EndsNoMore, done_ends, free_given, piece_due, IsLighter, kept_in, done_lighter}
 use Rattle.dwarf_eval.proofs.Spending.{nears_by, asked_spends, counted_spends, fallen_spends}
 use Rattle.dwarf_eval.proofs.Staying.{stays_status}
@@ -94,7 +94,7 @@ reads_none x = record { setup = refl; settings = refl; callers = refl; items = r
 
 -- if the operation was read
 abbrev pub beyond_op : State → ℕ → State
-beyond_op x place = read_to place (with_store (counted x.store) x)
+beyond_op x place = read_to place (with_store (count_one x.store) x)
 
 counts_and_reads : (x : State) (place : ℕ) → ReadsOn x (beyond_op x place)
 counts_and_reads x place = record { setup = refl; settings = refl; callers = refl; items = refl; pieces = refl; count = omega arith; decodings = omega arith; each = omega arith; one = omega arith }
@@ -116,14 +116,14 @@ module _ (x : State) (ready : IsReady x) where
       (stays_status (FaultStatus error.TooManyIterations) x new h.1)
 
   module _ (can : can_count x.store ≡ true) where
-    ready_read : (r : Refusal) (inputs : List Input) (z : Result (Operation × List ℕ) Fault) → read x.setup x.text x.place ≡ z → total x r inputs ≡ total_of_course (x.store.count + 1) x.setup x.callers (do_operation (run x.setup) x.setup x.text (length x.callers) (counted (with_refusal r x.store)) inputs (counted_act x.setup x.store) z)
+    ready_read : (r : Refusal) (inputs : List Input) (z : Result (Operation × List ℕ) Fault) → read x.setup x.text x.place ≡ z → total x r inputs ≡ total_of_course (x.store.count + 1) x.setup x.callers (do_operation (run x.setup) x.setup x.text (length x.callers) (count_one (with_refusal r x.store)) inputs (counted_act x.setup x.store) z)
     ready_read r inputs z e =
         let position : Position = record { text = x.text; place = x.place } in
-        let course : Course = do_operation (run x.setup) x.setup x.text (length x.callers) (counted (with_refusal r x.store)) inputs (counted_act x.setup x.store) (read x.setup x.text x.place) in
+        let course : Course = do_operation (run x.setup) x.setup x.text (length x.callers) (count_one (with_refusal r x.store)) inputs (counted_act x.setup x.store) (read x.setup x.text x.place) in
         ready_total r inputs
         ∙ (ap (total_of_course x.store.count x.setup x.callers) (cond-true (can_count x.store) (prepend (position ∷ []) [] course) (only_end (FaultEnd TooManyIterations)) can)
         ∙ (course_counted x.store.count x.setup x.callers position course
-        ∙ ap (λ (y : Result (Operation × List ℕ) Fault). total_of_course (x.store.count + 1) x.setup x.callers (do_operation (run x.setup) x.setup x.text (length x.callers) (counted (with_refusal r x.store)) inputs (counted_act x.setup x.store) y)) e))
+        ∙ ap (λ (y : Result (Operation × List ℕ) Fault). total_of_course (x.store.count + 1) x.setup x.callers (do_operation (run x.setup) x.setup x.text (length x.callers) (count_one (with_refusal r x.store)) inputs (counted_act x.setup x.store) y)) e))
 
     pub ready_unread : (new : State) (error : Error) (place : ℕ) → read x.setup x.text x.place ≡ Err (fault_of error) → new ≡ with_status (FaultStatus error) (beyond_op x place) → Turns x new
     ready_unread new error place e is =
@@ -138,12 +138,12 @@ module _ (x : State) (ready : IsReady x) where
       abbrev there : State
       there = beyond_op x place_then
 
-      ready_after_operation : (r : Refusal) (inputs : List Input) (next : Next) → done_at (act_of there op) there (with_refusal r there.store) ≡ next → total x r inputs ≡ total_of_course (x.store.count + 1) x.setup x.callers (after_operation (run x.setup) x.setup x.text (length x.callers) place_then inputs next)
+      ready_after_operation : (r : Refusal) (inputs : List Input) (next : Next) → do_act_at (act_of there op) there (with_refusal r there.store) ≡ next → total x r inputs ≡ total_of_course (x.store.count + 1) x.setup x.callers (after_operation (run x.setup) x.setup x.text (length x.callers) place_then inputs next)
       ready_after_operation r inputs next e =
           ready_read r inputs (Ok (op, beyond)) was
           ∙ ap (λ (n : Next). total_of_course (x.store.count + 1) x.setup x.callers (after_operation (run x.setup) x.setup x.text (length x.callers) place_then inputs n)) e
 
-      ready_fails : (new : State) (error : Error) → new.status ≡ FaultStatus error → LeadsToFault (done_at (act_of there op) there) error there new → Turns x new
+      ready_fails : (new : State) (error : Error) → new.status ≡ FaultStatus error → LeadsToFault (do_act_at (act_of there op) there) error there new → Turns x new
       ready_fails new error failed h =
           falls_from x there new error h.gets.refusal ready.runs failed h.gets.may
           (λ inputs.
@@ -152,23 +152,23 @@ module _ (x : State) (ready : IsReady x) where
           (counts_and_reads x place_then) h.stays
 
       -- an operation leaves the count and the settings
-      next_tally : (r : Refusal) (next : Next) → done_at (act_of there op) there (with_refusal r there.store) ≡ next → OnNext (HasTally (tally_of there.store)) next
+      next_tally : (r : Refusal) (next : Next) → do_act_at (act_of there op) there (with_refusal r there.store) ≡ next → OnNext (HasTally (tally_of there.store)) next
       next_tally r next e = subst (OnNext (HasTally (tally_of there.store))) e (tally-done x.setup place_then (length x.text.bytes) (act_of there op) (with_refusal r there.store))
 
-      goes_tally : (new : State) → LeadsToPlace (done_at (act_of there op) there) there new → tally_of new.store ≡ tally_of there.store
+      goes_tally : (new : State) → LeadsToPlace (do_act_at (act_of there op) there) there new → tally_of new.store ≡ tally_of there.store
       goes_tally new h = next_tally (before_pushes h.steps.pushes Never) (Goes new.place (with_refusal Never new.store)) (h.steps.same Never)
 
-      asks_tally : (new : State) (request : Request) (on_answer : OnAnswer) → LeadsToRequest (done_at (act_of there op) there) request on_answer there new → tally_of new.store ≡ tally_of there.store
+      asks_tally : (new : State) (request : Request) (on_answer : OnAnswer) → LeadsToRequest (do_act_at (act_of there op) there) request on_answer there new → tally_of new.store ≡ tally_of there.store
       asks_tally new request on_answer h = next_tally (before_pushes h.steps.pushes Never) (RequestNext request on_answer (with_refusal Never new.store)) (h.steps.same Never)
 
       -- it adds one item at most
-      next_lighter : (r : Refusal) (next : Next) → done_at (act_of there op) there (with_refusal r there.store) ≡ next → IsLighter (kept_in there.store) next
+      next_lighter : (r : Refusal) (next : Next) → do_act_at (act_of there op) there (with_refusal r there.store) ≡ next → IsLighter (kept_in there.store) next
       next_lighter r next e =
           subst (IsLighter (kept_in there.store)) e
           (done_lighter x.setup place_then (length x.text.bytes) (act_of there op) (with_refusal r there.store) (act_is (address_bits there.setup) there.store.settings.object_address op there.store.values))
 
       -- no piece that it gives ended a location, and it gave the one that waits
-      next_ends : (r : Refusal) (next : Next) → done_at (act_of there op) there (with_refusal r there.store) ≡ next → OnNext (EndsNoMore (endings x.store.pieces)) next
+      next_ends : (r : Refusal) (next : Next) → do_act_at (act_of there op) there (with_refusal r there.store) ≡ next → OnNext (EndsNoMore (endings x.store.pieces)) next
       next_ends r next e =
           subst (OnNext (EndsNoMore (endings x.store.pieces))) e
           (done_ends op x.setup place_then (length x.text.bytes) (act_of there op) (with_refusal r there.store) (act_is (address_bits there.setup) there.store.settings.object_address op there.store.values)
@@ -177,7 +177,7 @@ module _ (x : State) (ready : IsReady x) where
       keeps_by : (new : State) → new.setup ≡ x.setup → tally_of new.store ≡ tally_of there.store → Keeps x new
       keeps_by new setup tally = record { setup = setup; settings = ap (λ (m : Tally). m.settings) tally }
 
-      ready_goes : (new : State) → new.status ≡ Running → LeadsToPlace (done_at (act_of there op) there) there new → Turns x new
+      ready_goes : (new : State) → new.status ≡ Running → LeadsToPlace (do_act_at (act_of there op) there) there new → Turns x new
       ready_goes new runs goes =
           let tally = goes_tally new goes in
           let count : new.store.count ≡ x.store.count + 1 = ap (λ (m : Tally). m.count) tally in
@@ -198,7 +198,7 @@ module _ (x : State) (ready : IsReady x) where
             less = less_counted x new ready.runs runs can (ap (λ (z : State). z.callers) goes.alone) count;
           }
 
-      ready_asks : (new : State) (request : Request) (on_answer : OnAnswer) → new.status ≡ RequestStatus request on_answer → LeadsToRequest (done_at (act_of there op) there) request on_answer there new → Turns x new
+      ready_asks : (new : State) (request : Request) (on_answer : OnAnswer) → new.status ≡ RequestStatus request on_answer → LeadsToRequest (do_act_at (act_of there op) there) request on_answer there new → Turns x new
       ready_asks new request on_answer open_now asks =
           let tally = asks_tally new request on_answer asks in
           let count : new.store.count ≡ x.store.count + 1 = ap (λ (m : Tally). m.count) tally in
@@ -221,7 +221,7 @@ module _ (x : State) (ready : IsReady x) where
             less = less_stopped x new (RequestStatus request on_answer) ready.runs open_now refl;
           }
 
-      ready_by : (new : State) (status : Status) → new.status ≡ status → LeadsBy (done_at (act_of there op) there) there new status → Turns x new
+      ready_by : (new : State) (status : Status) → new.status ≡ status → LeadsBy (do_act_at (act_of there op) there) there new status → Turns x new
       ready_by new Running e h = ready_goes new e h
       ready_by new (RequestStatus request on_answer) e h = ready_asks new request on_answer e h
       ready_by new (FaultStatus error) e h = ready_fails new error e h
@@ -233,7 +233,7 @@ module _ (x : State) (ready : IsReady x) where
 -- the operation at the place, counted, read and done
 pub counted_turns : (x mid beyond new : State) (op : Operation) → IsReady x → CountsOne x mid true → ReadsOperation op mid beyond → Performs (act_of beyond op) beyond new → Turns x new
 counted_turns x mid beyond new op ready can reads h =
-    let read_there : ReadsOperation op (with_store (counted x.store) x) beyond = subst (λ (z : State). ReadsOperation op z beyond) can.1 reads in
+    let read_there : ReadsOperation op (with_store (count_one x.store) x) beyond = subst (λ (z : State). ReadsOperation op z beyond) can.1 reads in
     ready_performs x ready can.0 op read_there.beyond read_there.was new (subst (λ (z : State). Performs (act_of z op) z new) read_there.moved h)
 
 -- the operation at the place, counted, which can't be read

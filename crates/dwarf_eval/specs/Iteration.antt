@@ -5,7 +5,7 @@ use Rattle.std.specs.Option.{option_transpose}
 use Rattle.dwarf_base.specs.declared.common.Encoding.{Encoding}
 use Rattle.dwarf_base.specs.declared.errors.Error.{Error}
 use Rattle.dwarf_base.specs.Faults.{Fault, fault_of}
-use Rattle.dwarf_base.specs.Reads.{IsLeftOf, Text}
+use Rattle.dwarf_base.specs.Reads.{IsRestOf, Text}
 use Rattle.dwarf_meaning.specs.Decoding.{operation_at}
 use Rattle.dwarf_meaning.specs.Operations as meaning
 use Rattle.dwarf_meaning.specs.Splitting.{items_at}
@@ -49,5 +49,5 @@ pub record GivesFirst {R P X : Type 0} (text : R → Text) (offset_bits : ℕ) (
   pub items : YieldsFirstBy (item_of view) (items_left text offset_bits) old given new
   pub value : GivesNext view (option_transpose given) (text (unread_of new)).bytes (text (unread_of old)).bytes
       (operation_at (encoding_of old) offset_bits (text (unread_of old)))
-  pub left : IsLeftOf (text (unread_of new)) (text (unread_of old))
+  pub left : IsRestOf (text (unread_of new)) (text (unread_of old))
   pub encoding : encoding_of new ≡ encoding_of old

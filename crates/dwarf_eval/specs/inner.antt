@@ -1,3 +1,3 @@
 pub mod Answers
 pub mod Machine
-pub mod Steps
+pub mod StateChanges

@@ -8,33 +8,33 @@ use Rattle.dwarf_meaning.specs.Requests.{Request, LocationAnswer, Settings, Inpu
 use Rattle.dwarf_meaning.specs.Stores.{Setup}
 use Rattle.dwarf_meaning.specs.Meaning.{Outcome, FaultOutcome, First, meaning}
 use Rattle.dwarf_meaning.specs.Rest.{State, FaultStatus}
-use Rattle.dwarf_meaning.proofs.Outcomes.{outcome_from}
-use Rattle.dwarf_meaning.specs.Steps.{Step, Evaluate, Resume, Told, Reply, outcome_of, AllAllowed, after_steps}
+use Rattle.dwarf_meaning.proofs.OutcomeByInputs.{outcome_from}
+use Rattle.dwarf_meaning.specs.Steps.{Step, Evaluate, Resume, Log, Reply, outcome_of, AllAllowed, after_steps}
 use Rattle.dwarf_meaning.specs.Inputs.{fresh_state}
 use Rattle.dwarf_meaning.specs.Run.{most}
-use Rattle.dwarf_meaning.specs.Rows.{no_limits, plain, unset}
+use Rattle.dwarf_meaning.specs.RowWords.{no_limits, dwarf4, unset}
 use Rattle.dwarf_meaning.specs.Refusals.{Never}
-use Rattle.dwarf_laws.specs.Rows.{IsWorked}
+use Rattle.dwarf_laws.specs.LawRows.{IsWorked}
 use Rattle.dwarf_laws.specs.TwoRuns.{NoneIsFull}
 use Rattle.dwarf_laws.specs.Inlining as inlining
-use Rattle.dwarf_laws.specs.Inlining.{CallSite, outer, called, inlined, in_force, with_answer, LeadsToCall, completions, requests}
-use Rattle.dwarf_laws.proofs.Inlined.{answered, inlines}
-use Rattle.dwarf_replay.specs.Replays.{told_at, StandsAt, Walks}
+use Rattle.dwarf_laws.specs.Inlining.{CallSite, outer_text, callee_text, inlined_text, in_force, with_answer, LeadsToCall, completions, requests}
+use Rattle.dwarf_laws.proofs.InliningLaw.{answered, inlines}
+use Rattle.dwarf_replay.specs.Replays.{log_at, StandsAt, DoesAll}
 use Rattle.dwarf_expr.specs.Inlined.{MayInline, StatesEndAlike, in_request, in_completion, InlinedReplay}
-use Rattle.dwarf_expr.proofs.Telling.{tells, tells_more, added, tells_inputs, tells_first, told_is, told_before, told_comes, unrefused}
+use Rattle.dwarf_expr.proofs.StepLogs.{log_steps, log_steps_more, added, log_steps_inputs, log_steps_first, log_is, log_before, log_comes, unrefused}
 use Rattle.dwarf_expr.proofs.Twins.{asking_of, stopped_of, did}
 
 -- ---- where they stand
 
-sound_outcome : (x : State) (told : Told) (o : Option Outcome) → StandsAt told x o → ((error : Error) → x.status ≢ FaultStatus error)
+sound_outcome : (x : State) (log : Log) (o : Option Outcome) → StandsAt log x o → ((error : Error) → x.status ≢ FaultStatus error)
     → (fault : Fault) → o ≢ Some (FaultOutcome fault)
-sound_outcome x told o h k fault e =
-    let s = stopped_of fault x.status (subst (λ (p : Option Outcome). StandsAt told x p) e h) in k s.0 s.1
+sound_outcome x log o h k fault e =
+    let s = stopped_of fault x.status (subst (λ (p : Option Outcome). StandsAt log x p) e h) in k s.0 s.1
 
-end_alike : (x y : State) (told told' : Told) (o o' : Outcome) → inlining.EndAlike o o' → StandsAt told x (Some o)
-    → StandsAt told' y (Some o') → StatesEndAlike x y
-end_alike x y told told' o o' completions h k = in_completion _ h.0 k.0 (h.1 ∙ sym k.1)
-end_alike x y told told' o o' (requests {request = request} {positions = positions} {others = others}) h k =
+end_alike : (x y : State) (log log' : Log) (o o' : Outcome) → inlining.EndAlike o o' → StandsAt log x (Some o)
+    → StandsAt log' y (Some o') → StatesEndAlike x y
+end_alike x y log log' o o' completions h k = in_completion _ h.0 k.0 (h.1 ∙ sym k.1)
+end_alike x y log log' o o' (requests {request = request} {positions = positions} {others = others}) h k =
     let first = asking_of x request positions x.status h.0 in
     let second = asking_of y request others y.status k.0 in
     in_request request first.0 second.0 first.1 second.1
@@ -46,141 +46,141 @@ no_fault o o' requests fault e = cc
 -- ---- a replay without limits in which no push was refused
 
 -- it was done by the definitions without a refusal
-record Done (setup : Setup) (text : Text) (told : Told) (steps : List Step) (new : State) : Type 0 where
-  allowed : AllAllowed setup Never text told steps
-  stands : StandsAt (after_steps setup Never text told steps) new
-      (outcome_of setup Never text (after_steps setup Never text told steps))
+record Done (setup : Setup) (text : Text) (log : Log) (steps : List Step) (new : State) : Type 0 where
+  allowed : AllAllowed setup Never text log steps
+  stands : StandsAt (after_steps setup Never text log steps) new
+      (outcome_of setup Never text (after_steps setup Never text log steps))
 
 done : (x : State) (steps : List Step) (replies : List Reply) (new : State) → x.setup.limits ≡ no_limits
-    → Walks x steps replies new → NoneIsFull replies
-    → Done x.setup x.text (told_at x) steps new
+    → DoesAll x steps replies new → NoneIsFull replies
+    → Done x.setup x.text (log_at x) steps new
 done x steps replies new h k n =
     let d = did x steps replies new k in
     let u =
-    unrefused x.setup h k.refusal x.text (told_at x) steps (λ e. cc) d.allowed (subst NoneIsFull d.replies_are n)
+    unrefused x.setup h k.refusal x.text (log_at x) steps (λ e. cc) d.allowed (subst NoneIsFull d.replies_are n)
     in
-    let comes = outcome_of x.setup Never x.text (after_steps x.setup Never x.text (told_at x) steps) in
+    let comes = outcome_of x.setup Never x.text (after_steps x.setup Never x.text (log_at x) steps) in
     record {
       allowed = u.allowed;
       stands =
-          subst (λ (t : Told). StandsAt t new comes) u.told_same
-          (subst (λ (o : Option Outcome). StandsAt (after_steps x.setup k.refusal x.text (told_at x) steps) new o)
+          subst (λ (t : Log). StandsAt t new comes) u.log_same
+          (subst (λ (o : Option Outcome). StandsAt (after_steps x.setup k.refusal x.text (log_at x) steps) new o)
           u.comes_same d.stands);
     }
 
 -- ---- the law, over plain texts
 
-module _ (setup : Setup) (site : CallSite) (offset : DieReference) (told : Told) (start beyond : List Step) (first : First) where
-  abbrev at_call : Told
-  at_call = tells told start
+module _ (setup : Setup) (site : CallSite) (offset : DieReference) (log : Log) (start beyond : List Step) (first : First) where
+  abbrev at_call : Log
+  at_call = log_steps log start
 
   abbrev later : List Input
   later = added at_call.now.settings beyond
 
   abbrev all_steps : List Step
-  all_steps = start ++ (Resume (LocationAnswer (called site)) ∷ beyond)
+  all_steps = start ++ (Resume (LocationAnswer (callee_text site)) ∷ beyond)
 
   abbrev means_outer : Outcome
-  means_outer = meaning setup Never (outer site) first (with_answer site first at_call.inputs later)
+  means_outer = meaning setup Never (outer_text site) first (with_answer site first at_call.inputs later)
 
   abbrev means_inlined : Outcome
-  means_inlined = meaning setup Never (inlined site) first (at_call.inputs ++ later)
+  means_inlined = meaning setup Never (inlined_text site) first (at_call.inputs ++ later)
 
   module _ (started : at_call.first ≡ Some first)
       (still : at_call.now.settings ≡ in_force first.settings at_call.inputs) where
-    outer_inputs : (tells told all_steps).inputs ≡ with_answer site first at_call.inputs later
+    outer_inputs : (log_steps log all_steps).inputs ≡ with_answer site first at_call.inputs later
     outer_inputs =
-        ap (λ (t : Told). t.inputs) (tells_more told start (Resume (LocationAnswer (called site)) ∷ beyond))
-        ∙ (tells_inputs at_call (Resume (LocationAnswer (called site)) ∷ beyond) ∙ ap
+        ap (λ (t : Log). t.inputs) (log_steps_more log start (Resume (LocationAnswer (callee_text site)) ∷ beyond))
+        ∙ (log_steps_inputs at_call (Resume (LocationAnswer (callee_text site)) ∷ beyond) ∙ ap
         (λ (k : Settings). at_call.inputs ++ (answered site k ∷ later)) still)
 
-    outer_first : (tells told all_steps).first ≡ Some first
+    outer_first : (log_steps log all_steps).first ≡ Some first
     outer_first =
-        ap (λ (t : Told). t.first) (tells_more told start (Resume (LocationAnswer (called site)) ∷ beyond))
-        ∙ tells_first at_call (Resume (LocationAnswer (called site)) ∷ beyond) first started
+        ap (λ (t : Log). t.first) (log_steps_more log start (Resume (LocationAnswer (callee_text site)) ∷ beyond))
+        ∙ log_steps_first at_call (Resume (LocationAnswer (callee_text site)) ∷ beyond) first started
 
-    inlined_inputs : (tells told (start ++ beyond)).inputs ≡ at_call.inputs ++ later
-    inlined_inputs = ap (λ (t : Told). t.inputs) (tells_more told start beyond) ∙ tells_inputs at_call beyond
+    inlined_inputs : (log_steps log (start ++ beyond)).inputs ≡ at_call.inputs ++ later
+    inlined_inputs = ap (λ (t : Log). t.inputs) (log_steps_more log start beyond) ∙ log_steps_inputs at_call beyond
 
-    inlined_first : (tells told (start ++ beyond)).first ≡ Some first
-    inlined_first = ap (λ (t : Told). t.first) (tells_more told start beyond) ∙ tells_first at_call beyond first started
+    inlined_first : (log_steps log (start ++ beyond)).first ≡ Some first
+    inlined_first = ap (λ (t : Log). t.first) (log_steps_more log start beyond) ∙ log_steps_first at_call beyond first started
 
-    outer_comes : outcome_of setup Never (outer site) (tells told all_steps) ≡ Some means_outer
+    outer_comes : outcome_of setup Never (outer_text site) (log_steps log all_steps) ≡ Some means_outer
     outer_comes =
-        ap (λ (o : Option First). outcome_from setup Never (outer site) (tells told all_steps).inputs o) outer_first
-        ∙ ap (λ (inputs : List Input). Some (meaning setup Never (outer site) first inputs)) outer_inputs
+        ap (λ (o : Option First). outcome_from setup Never (outer_text site) (log_steps log all_steps).inputs o) outer_first
+        ∙ ap (λ (inputs : List Input). Some (meaning setup Never (outer_text site) first inputs)) outer_inputs
 
-    inlined_comes : outcome_of setup Never (inlined site) (tells told (start ++ beyond)) ≡ Some means_inlined
+    inlined_comes : outcome_of setup Never (inlined_text site) (log_steps log (start ++ beyond)) ≡ Some means_inlined
     inlined_comes =
-        ap (λ (o : Option First). outcome_from setup Never (inlined site) (tells told (start ++ beyond)).inputs o) inlined_first
-        ∙ ap (λ (inputs : List Input). Some (meaning setup Never (inlined site) first inputs)) inlined_inputs
+        ap (λ (o : Option First). outcome_from setup Never (inlined_text site) (log_steps log (start ++ beyond)).inputs o) inlined_first
+        ∙ ap (λ (inputs : List Input). Some (meaning setup Never (inlined_text site) first inputs)) inlined_inputs
 
     ends : (new other : State)
         → (((fault : Fault) → means_outer ≢ FaultOutcome fault) → inlining.EndAlike means_outer means_inlined)
-        → Done setup (outer site) told all_steps new → ((error : Error) → new.status ≢ FaultStatus error)
-        → Done setup (inlined site) told (start ++ beyond) other → StatesEndAlike new other
+        → Done setup (outer_text site) log all_steps new → ((error : Error) → new.status ≢ FaultStatus error)
+        → Done setup (inlined_text site) log (start ++ beyond) other → StatesEndAlike new other
     ends new other law d sound d' =
-        let clear = sound_outcome new (after_steps setup Never (outer site) told all_steps) _ d.stands sound in
-        let outer_told = told_is setup Never (outer site) told all_steps d.allowed clear in
-        let outer_is = ap (λ (t : Told). outcome_of setup Never (outer site) t) outer_told ∙ outer_comes in
+        let clear = sound_outcome new (after_steps setup Never (outer_text site) log all_steps) _ d.stands sound in
+        let outer_log = log_is setup Never (outer_text site) log all_steps d.allowed clear in
+        let outer_is = ap (λ (t : Log). outcome_of setup Never (outer_text site) t) outer_log ∙ outer_comes in
         let alike = law (λ fault e. clear fault (outer_is ∙ ap Some e)) in
-        let inlined_told =
-        told_comes setup Never (inlined site) told (start ++ beyond) d'.allowed
+        let inlined_log =
+        log_comes setup Never (inlined_text site) log (start ++ beyond) d'.allowed
         (λ fault e. no_fault means_outer means_inlined alike fault (let same = sym inlined_comes ∙ e in cc))
         in
-        let inlined_is = ap (λ (t : Told). outcome_of setup Never (inlined site) t) inlined_told ∙ inlined_comes in
-        end_alike new other (after_steps setup Never (outer site) told all_steps)
-        (after_steps setup Never (inlined site) told (start ++ beyond)) means_outer means_inlined alike
-        (subst (λ (o : Option Outcome). StandsAt (after_steps setup Never (outer site) told all_steps) new o) outer_is d.stands)
-        (subst (λ (o : Option Outcome). StandsAt (after_steps setup Never (inlined site) told (start ++ beyond)) other
+        let inlined_is = ap (λ (t : Log). outcome_of setup Never (inlined_text site) t) inlined_log ∙ inlined_comes in
+        end_alike new other (after_steps setup Never (outer_text site) log all_steps)
+        (after_steps setup Never (inlined_text site) log (start ++ beyond)) means_outer means_inlined alike
+        (subst (λ (o : Option Outcome). StandsAt (after_steps setup Never (outer_text site) log all_steps) new o) outer_is d.stands)
+        (subst (λ (o : Option Outcome). StandsAt (after_steps setup Never (inlined_text site) log (start ++ beyond)) other
         o) inlined_is d'.stands)
 
 pub inlined_replays : InlinedReplay
 inlined_replays x y new other site offset start beyond replies given h k n sound l m =
     let y_free = subst (λ (s : Setup). s.limits ≡ no_limits) h.setups h.unlimited in
-    let same_told : told_at y ≡ told_at x =
+    let same_log : log_at y ≡ log_at x =
     ap (λ (k : Settings). record { now = record { initial_value = None; settings = k }; first = None; inputs = [] }) (sym h.settings)
     in
     let first_done =
-    subst (λ (t : Text). Done x.setup t (told_at x) (start ++ (Resume (LocationAnswer (called site)) ∷ beyond)) new) h.outer_text
-    (done x (start ++ (Resume (LocationAnswer (called site)) ∷ beyond)) replies new h.unlimited k n)
+    subst (λ (t : Text). Done x.setup t (log_at x) (start ++ (Resume (LocationAnswer (callee_text site)) ∷ beyond)) new) h.x_is_outer
+    (done x (start ++ (Resume (LocationAnswer (callee_text site)) ∷ beyond)) replies new h.unlimited k n)
     in
     let second_done =
-    subst (λ (s : Setup). Done s (inlined site) (told_at x) (start ++ beyond) other) (sym h.setups)
-    (subst (λ (t : Text). Done y.setup t (told_at x) (start ++ beyond) other) h.inlined_text
-    (subst (λ (t : Told). Done y.setup y.text t (start ++ beyond) other) same_told
+    subst (λ (s : Setup). Done s (inlined_text site) (log_at x) (start ++ beyond) other) (sym h.setups)
+    (subst (λ (t : Text). Done y.setup t (log_at x) (start ++ beyond) other) h.y_is_inlined
+    (subst (λ (t : Log). Done y.setup y.text t (start ++ beyond) other) same_log
     (done y (start ++ beyond) given other y_free l m)))
     in
-    let at_call : h.told ≡ tells (told_at x) start =
-    sym h.told_is
-    ∙ (ap (λ (t : Text). after_steps x.setup Never t (told_at x) start) h.outer_text
-    ∙ told_before x.setup Never (outer site) (told_at x) start (Resume (LocationAnswer (called site)) ∷ beyond)
-    first_done.allowed (sound_outcome new (after_steps x.setup Never (outer site) (told_at x) (start ++ (Resume (LocationAnswer (called site)) ∷ beyond))) _ first_done.stands sound))
+    let at_call : h.log ≡ log_steps (log_at x) start =
+    sym h.log_is
+    ∙ (ap (λ (t : Text). after_steps x.setup Never t (log_at x) start) h.x_is_outer
+    ∙ log_before x.setup Never (outer_text site) (log_at x) start (Resume (LocationAnswer (callee_text site)) ∷ beyond)
+    first_done.allowed (sound_outcome new (after_steps x.setup Never (outer_text site) (log_at x) (start ++ (Resume (LocationAnswer (callee_text site)) ∷ beyond))) _ first_done.stands sound))
     in
-    ends x.setup site offset (told_at x) start beyond h.first
-    (subst (λ (t : Told). t.first ≡ Some h.first) at_call h.is_started)
-    (subst (λ (t : Told). t.now.settings ≡ in_force h.first.settings t.inputs) at_call h.still_in_force) new other
-    (λ faultless. (inlines x.setup site offset h.first (tells (told_at x) start).inputs
-    (added (tells (told_at x) start).now.settings beyond) h.requests h.unlimited h.stands h.inlinable
-    (subst (λ (t : Told). LeadsToCall x.setup site offset h.first t.inputs h.requests) at_call h.leads) faultless).ends)
+    ends x.setup site offset (log_at x) start beyond h.first
+    (subst (λ (t : Log). t.first ≡ Some h.first) at_call h.is_started)
+    (subst (λ (t : Log). t.now.settings ≡ in_force h.first.settings t.inputs) at_call h.still_in_force) new other
+    (λ faultless. (inlines x.setup site offset h.first (log_steps (log_at x) start).inputs
+    (added (log_steps (log_at x) start).now.settings beyond) h.requests h.unlimited h.stands h.inlinable
+    (subst (λ (t : Log). LeadsToCall x.setup site offset h.first t.inputs h.requests) at_call h.leads) faultless).ends)
     first_done sound second_done
 
 -- ---- the premises, of fresh evaluations
 
 pub may_inline : (site : CallSite) (inputs : List Input) (beyond : List Request) (outcome : Outcome) → IsWorked site [] inputs [] beyond outcome
-    → MayInline (fresh_state plain (outer site)) (fresh_state plain (inlined site)) site (UnitRef 5) (Evaluate ∷ [])
+    → MayInline (fresh_state dwarf4 (outer_text site)) (fresh_state dwarf4 (inlined_text site)) site (UnitRef 5) (Evaluate ∷ [])
 unfolding most
 may_inline site inputs beyond outcome h =
     record {
       unlimited = h.unlimited;
       setups = refl;
-      outer_text = refl;
-      inlined_text = refl;
+      x_is_outer = refl;
+      y_is_inlined = refl;
       settings = refl;
       stands = h.stands;
       inlinable = h.inlinable;
-      told = record { now = unset; first = Some unset; inputs = [] };
-      told_is = refl;
+      log = record { now = unset; first = Some unset; inputs = [] };
+      log_is = refl;
       first = unset;
       is_started = refl;
       requests = [];

@@ -1,4 +1,4 @@
 pub mod Twins
-pub mod Telling
+pub mod StepLogs
 pub mod Inlined
 pub mod Refused

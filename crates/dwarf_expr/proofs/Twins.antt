@@ -12,16 +12,16 @@ use Rattle.dwarf_meaning.specs.Stores.{Setup, address_bits}
 use Rattle.dwarf_meaning.specs.Run.{Position}
 use Rattle.dwarf_meaning.specs.Meaning.{Outcome}
 use Rattle.dwarf_meaning.specs.Inputs.{fresh_state}
-use Rattle.dwarf_meaning.specs.Rows.{plain}
+use Rattle.dwarf_meaning.specs.RowWords.{dwarf4}
 use Rattle.dwarf_meaning.specs.Rest.{State, Status, Start, Running, RequestStatus, CompleteStatus, FaultStatus}
-use Rattle.dwarf_meaning.specs.Steps.{Step, Told, Reply, outcome_of, Allows, AllAllowed, step_replies, after_step, after_steps, replies_of}
+use Rattle.dwarf_meaning.specs.Steps.{Step, Log, Reply, outcome_of, Allows, AllAllowed, step_replies, after_step, after_steps, replies_of}
 use Rattle.dwarf_meaning.specs.Refusals.{Limits, Refusal, Never, After, HasFreeList, MayPick}
 use Rattle.dwarf_laws.specs.Agreement as agreeing
-use Rattle.dwarf_laws.specs.Agreement.{Both, nothing, something, AgreeingSteps, AgreeingTold, AgreeingOutcomes}
+use Rattle.dwarf_laws.specs.Agreement.{Both, nothing, something, AgreeingSteps, AgreeingLogs, AgreeingOutcomes}
 use Rattle.dwarf_laws.specs.TwoRuns.{NoneIsFull, AreAlike}
 use Rattle.dwarf_laws.proofs.Pairs.{Pairwise, none, more, zipped, pairs, same_length, get_both}
 use Rattle.dwarf_laws.proofs.Evaluations.{two_runs}
-use Rattle.dwarf_replay.specs.Replays.{told_at, IsInRequest, IsInFault, StandsAt, Walks, WalksTo}
+use Rattle.dwarf_replay.specs.Replays.{log_at, IsInRequest, IsInFault, StandsAt, DoesAll, StopsAt}
 use Rattle.dwarf_expr.specs.Twins.{MayReplay, AreComparableReplays, open_texts, StatesStandAlike, unstarted, in_request, in_fault, in_completion, IsFront, FindsNoRoom, TwoReplays}
 
 -- ---- fronts of lists
@@ -52,24 +52,24 @@ none_full_front (x ∷ xs) ys h = (h.0, none_full_front xs ys h.1)
 
 module _ (setup : Setup) (refusal : Refusal) (text : Text) where
   -- the answers to steps, and to more of them
-  pub answers_front : (told : Told) (steps rest : List Step)
-      → replies_of setup refusal text told (steps ++ rest) ≡ replies_of setup refusal text told steps ++ replies_of setup
-      refusal text (after_steps setup refusal text told steps) rest
-  answers_front told [] rest = refl
-  answers_front told (step ∷ steps) rest =
-      let now = after_step setup refusal text told step in
+  pub answers_front : (log : Log) (steps rest : List Step)
+      → replies_of setup refusal text log (steps ++ rest) ≡ replies_of setup refusal text log steps ++ replies_of setup
+      refusal text (after_steps setup refusal text log steps) rest
+  answers_front log [] rest = refl
+  answers_front log (step ∷ steps) rest =
+      let now = after_step setup refusal text log step in
       let first = step_replies step (outcome_of setup refusal text now) in
       ap (λ (l : List Reply). first ++ l) (answers_front now steps rest)
       ∙ sym (append_assoc first (replies_of setup refusal text now steps)
       (replies_of setup refusal text (after_steps setup refusal text now steps) rest))
 
   -- of steps that are all allowed, each one is
-  pub allowed_next : (told : Told) (steps rest : List Step) (step : Step)
-      → AllAllowed setup refusal text told (steps ++ step ∷ rest)
-      → Allows (after_steps setup refusal text told steps)
-      (outcome_of setup refusal text (after_steps setup refusal text told steps)) step
-  allowed_next told [] rest step h = h.0
-  allowed_next told (s ∷ steps) rest step h = allowed_next (after_step setup refusal text told s) steps rest step h.1
+  pub allowed_next : (log : Log) (steps rest : List Step) (step : Step)
+      → AllAllowed setup refusal text log (steps ++ step ∷ rest)
+      → Allows (after_steps setup refusal text log steps)
+      (outcome_of setup refusal text (after_steps setup refusal text log steps)) step
+  allowed_next log [] rest step h = h.0
+  allowed_next log (s ∷ steps) rest step h = allowed_next (after_step setup refusal text log s) steps rest step h.1
 
 -- ---- where evaluations stand
 
@@ -89,19 +89,19 @@ stopped_of fault (RequestStatus request on_answer) h = absurd h
 stopped_of fault (CompleteStatus value) h = absurd h
 stopped_of fault Running h = absurd h
 
-stand_alike : (bits : ℕ) (x y : State) (told told' : Told) (o o' : Option Outcome) → AgreeingTold bits told told'
+stand_alike : (bits : ℕ) (x y : State) (log log' : Log) (o o' : Option Outcome) → AgreeingLogs bits log log'
     → Both (AgreeingOutcomes bits) o o'
-    → StandsAt told x o → StandsAt told' y o' → StatesStandAlike bits x y
-stand_alike bits x y told told' o o' t nothing h k = unstarted _ _ h.0 k.0 t.now.initial_value
-stand_alike bits x y told told' o o' t (something (agreeing.requests {request = request} {positions = positions})) h k =
+    → StandsAt log x o → StandsAt log' y o' → StatesStandAlike bits x y
+stand_alike bits x y log log' o o' t nothing h k = unstarted _ _ h.0 k.0 t.now.initial_value
+stand_alike bits x y log log' o o' t (something (agreeing.requests {request = request} {positions = positions})) h k =
     let first = asking_of x request positions x.status h.0 in
     let second = asking_of y request positions y.status k.0 in
     in_request request first.0 second.0 first.1 second.1 (sym first.2 ∙ second.2)
-stand_alike bits x y told told' o o' t (something (agreeing.faults {fault = fault})) h k =
+stand_alike bits x y log log' o o' t (something (agreeing.faults {fault = fault})) h k =
     let first = stopped_of fault x.status h in
     let second = stopped_of fault y.status k in
     in_fault first.0 second.0 first.1 second.1 (first.2 ∙ sym second.2)
-stand_alike bits x y told told' o o' t (something (agreeing.completions {pieces = pieces} {others = others} p v)) h k =
+stand_alike bits x y log log' o o' t (something (agreeing.completions {pieces = pieces} {others = others} p v)) h k =
     let q : AllZip (agreeing.AgreeingPieces bits) x.store.pieces others =
     subst (λ ps. AllZip (agreeing.AgreeingPieces bits) ps others) (sym h.1) p
     in
@@ -109,62 +109,62 @@ stand_alike bits x y told told' o o' t (something (agreeing.completions {pieces 
 
 -- ---- steps that were done, of any setup and text
 
-pub record Did (setup : Setup) (text : Text) (told : Told) (steps : List Step) (refusal : Refusal)
+pub record Did (setup : Setup) (text : Text) (log : Log) (steps : List Step) (refusal : Refusal)
     (replies : List Reply) (new : State) : Type 0 where
-  pub allowed : AllAllowed setup refusal text told steps
-  pub replies_are : replies ≡ replies_of setup refusal text told steps
-  pub stands : StandsAt (after_steps setup refusal text told steps) new
-      (outcome_of setup refusal text (after_steps setup refusal text told steps))
+  pub allowed : AllAllowed setup refusal text log steps
+  pub replies_are : replies ≡ replies_of setup refusal text log steps
+  pub stands : StandsAt (after_steps setup refusal text log steps) new
+      (outcome_of setup refusal text (after_steps setup refusal text log steps))
 
 -- and then this one isn't allowed
-record DidTo (index : ℕ) (setup : Setup) (text : Text) (told : Told) (steps : List Step) (refusal : Refusal)
+record DidTo (index : ℕ) (setup : Setup) (text : Text) (log : Log) (steps : List Step) (refusal : Refusal)
     (replies : List Reply) (new : State) : Type 0 where
-  did : Did setup text told (take index steps) refusal replies new
+  did : Did setup text log (take index steps) refusal replies new
   step : Step
   is_next : slice_get steps index ≡ Some step
-  misplaced : Allows (after_steps setup refusal text told (take index steps))
-      (outcome_of setup refusal text (after_steps setup refusal text told (take index steps))) step → ⊥
+  misplaced : Allows (after_steps setup refusal text log (take index steps))
+      (outcome_of setup refusal text (after_steps setup refusal text log (take index steps))) step → ⊥
 
-pub did : (x : State) (steps : List Step) (replies : List Reply) (new : State) (w : Walks x steps replies new)
-    → Did x.setup x.text (told_at x) steps w.refusal replies new
+pub did : (x : State) (steps : List Step) (replies : List Reply) (new : State) (w : DoesAll x steps replies new)
+    → Did x.setup x.text (log_at x) steps w.refusal replies new
 did x steps replies new w =
     record {
-      allowed = w.tells.allowed;
-      replies_are = w.tells.replies_are;
-      stands = subst (λ (t : Told). StandsAt t new (outcome_of x.setup w.refusal x.text t)) (sym w.tells.told_is) w.stands;
+      allowed = w.are_done.allowed;
+      replies_are = w.are_done.replies_are;
+      stands = subst (λ (t : Log). StandsAt t new (outcome_of x.setup w.refusal x.text t)) (sym w.are_done.log_is) w.stands;
     }
 
-did_to : (index : ℕ) (x : State) (steps : List Step) (replies : List Reply) (new : State) (w : WalksTo index x steps replies new)
-    → DidTo index x.setup x.text (told_at x) steps w.walks.refusal replies new
+did_to : (index : ℕ) (x : State) (steps : List Step) (replies : List Reply) (new : State) (w : StopsAt index x steps replies new)
+    → DidTo index x.setup x.text (log_at x) steps w.does_all.refusal replies new
 did_to index x steps replies new w =
     record {
-      did = did x (take index steps) replies new w.walks;
+      did = did x (take index steps) replies new w.does_all;
       step = w.step;
       is_next = w.is_next;
       misplaced =
-          subst (λ (t : Told). Allows t (outcome_of x.setup w.walks.refusal x.text t) w.step → ⊥)
-          (sym w.walks.tells.told_is) w.misplaced;
+          subst (λ (t : Log). Allows t (outcome_of x.setup w.does_all.refusal x.text t) w.step → ⊥)
+          (sym w.does_all.are_done.log_is) w.misplaced;
     }
 
 -- no more steps than these meet no more refusals
-front_is_clear : (n m : ℕ) (setup : Setup) (text : Text) (told : Told) (steps : List Step) (refusal : Refusal)
+front_is_clear : (n m : ℕ) (setup : Setup) (text : Text) (log : Log) (steps : List Step) (refusal : Refusal)
     (replies : List Reply) (new : State) → n ≤ m
-    → Did setup text told (take m steps) refusal replies new → NoneIsFull replies
-    → NoneIsFull (replies_of setup refusal text told (take n steps))
-front_is_clear n m setup text told steps refusal replies new h d k =
+    → Did setup text log (take m steps) refusal replies new → NoneIsFull replies
+    → NoneIsFull (replies_of setup refusal text log (take n steps))
+front_is_clear n m setup text log steps refusal replies new h d k =
     let s = shorter n m steps h in
-    none_full_front (replies_of setup refusal text told (take n steps)) _
-    (subst NoneIsFull (d.replies_are ∙ (ap (λ (l : List Step). replies_of setup refusal text told l) s.1 ∙ answers_front
-    setup refusal text told (take n steps) s.0)) k)
+    none_full_front (replies_of setup refusal text log (take n steps)) _
+    (subst NoneIsFull (d.replies_are ∙ (ap (λ (l : List Step). replies_of setup refusal text log l) s.1 ∙ answers_front
+    setup refusal text log (take n steps) s.0)) k)
 
-front_of : (n m : ℕ) (setup : Setup) (text : Text) (told : Told) (steps : List Step) (refusal : Refusal)
+front_of : (n m : ℕ) (setup : Setup) (text : Text) (log : Log) (steps : List Step) (refusal : Refusal)
     (replies : List Reply) (new : State) → n ≤ m
-    → Did setup text told (take m steps) refusal replies new → IsFront (replies_of setup refusal text told (take n steps)) replies
-front_of n m setup text told steps refusal replies new h d =
+    → Did setup text log (take m steps) refusal replies new → IsFront (replies_of setup refusal text log (take n steps)) replies
+front_of n m setup text log steps refusal replies new h d =
     let s = shorter n m steps h in (
-      replies_of setup refusal text (after_steps setup refusal text told (take n steps)) s.0,
-      sym (d.replies_are ∙ (ap (λ (l : List Step). replies_of setup refusal text told l) s.1 ∙ answers_front setup
-          refusal text told (take n steps) s.0)),
+      replies_of setup refusal text (after_steps setup refusal text log (take n steps)) s.0,
+      sym (d.replies_are ∙ (ap (λ (l : List Step). replies_of setup refusal text log l) s.1 ∙ answers_front setup
+          refusal text log (take n steps) s.0)),
     )
 
 same_setup : (a b : Setup) → a.encoding ≡ b.encoding → a.offset_bits ≡ b.offset_bits → b ≡ record a { limits = b.limits }
@@ -219,8 +219,8 @@ module _ (x y : State) (steps others : List Step) (h : MayReplay x y steps other
       subst (λ (s : Setup). P s x.text) (same_setup x.setup y.setup h.twins.encoding h.twins.offset_bits)
       (subst (λ (t : Text). P y.setup t) (sym h.twins.text) p)
 
-  told_alike : AgreeingTold w (told_at x) (told_at y)
-  told_alike =
+  log_alike : AgreeingLogs w (log_at x) (log_at y)
+  log_alike =
       record {
         now = record { initial_value = nothing; settings = h.twins.settings };
         first = nothing;
@@ -231,19 +231,19 @@ module _ (x y : State) (steps others : List Step) (h : MayReplay x y steps other
   paired = pairs steps others h.agreeing
 
   abbrev First : ℕ → Refusal → List Reply → State → Type 0
-  First n refusal replies new = Did x.setup x.text (told_at x) (take n steps) refusal replies new
+  First n refusal replies new = Did x.setup x.text (log_at x) (take n steps) refusal replies new
 
   abbrev Second : ℕ → Refusal → List Reply → State → Type 0
-  Second n refusal replies new = Did other_setup x.text (told_at y) (take n others) refusal replies new
+  Second n refusal replies new = Did other_setup x.text (log_at y) (take n others) refusal replies new
 
-  second : (n : ℕ) (replies : List Reply) (new : State) (k : Walks y (take n others) replies new) → Second n k.refusal replies new
+  second : (n : ℕ) (replies : List Reply) (new : State) (k : DoesAll y (take n others) replies new) → Second n k.refusal replies new
   second n replies new k =
-      carry (λ s t. Did s t (told_at y) (take n others) k.refusal replies new) (did y (take n others) replies new k)
+      carry (λ s t. Did s t (log_at y) (take n others) k.refusal replies new) (did y (take n others) replies new k)
 
-  second_to : (n : ℕ) (replies : List Reply) (new : State) (k : WalksTo n y others replies new)
-      → DidTo n other_setup x.text (told_at y) others k.walks.refusal replies new
+  second_to : (n : ℕ) (replies : List Reply) (new : State) (k : StopsAt n y others replies new)
+      → DidTo n other_setup x.text (log_at y) others k.does_all.refusal replies new
   second_to n replies new k =
-      carry (λ s t. DidTo n s t (told_at y) others k.walks.refusal replies new) (did_to n y others replies new k)
+      carry (λ s t. DidTo n s t (log_at y) others k.does_all.refusal replies new) (did_to n y others replies new k)
 
   -- the same limits and refusals, or no push that was refused
   abbrev Terms : Refusal → Refusal → List Reply → List Reply → Type 0
@@ -258,17 +258,17 @@ module _ (x y : State) (steps others : List Step) (h : MayReplay x y steps other
   -- no more steps than each side did
   alike : (n a b : ℕ) (r r' : Refusal) (replies given : List Reply) (new new' : State) → n ≤ a → n ≤ b
       → First a r replies new → Second b r' given new' → Terms r r' replies given
-      → AreAlike x.setup other_setup r r' x.text (told_at x) (told_at y) (take n steps) (take n others)
+      → AreAlike x.setup other_setup r r' x.text (log_at x) (log_at y) (take n steps) (take n others)
   alike n a b r r' replies given new new' la lb d d' (inl e) =
-      two_runs x.setup y.setup.limits r r' x.text (told_at x) (told_at y) (take n steps) (take n others) h.width
-      told_alike (zipped (take_both n paired)) (inl e)
+      two_runs x.setup y.setup.limits r r' x.text (log_at x) (log_at y) (take n steps) (take n others) h.width
+      log_alike (zipped (take_both n paired)) (inl e)
   alike n a b r r' replies given new new' la lb d d' (inr e) =
-      two_runs x.setup y.setup.limits r r' x.text (told_at x) (told_at y) (take n steps) (take n others) h.width
-      told_alike (zipped (take_both n paired))
+      two_runs x.setup y.setup.limits r r' x.text (log_at x) (log_at y) (take n steps) (take n others) h.width
+      log_alike (zipped (take_both n paired))
       (inr (
-        front_is_clear n a x.setup x.text (told_at x) steps r replies new la d e.0,
+        front_is_clear n a x.setup x.text (log_at x) steps r replies new la d e.0,
         front_is_clear n b other_setup
-            x.text (told_at y) others r' given new' lb d' e.1,
+            x.text (log_at y) others r' given new' lb d' e.1,
       ))
 
   -- as many steps on both sides
@@ -284,7 +284,7 @@ module _ (x y : State) (steps others : List Step) (h : MayReplay x y steps other
 
   -- a step that is misplaced on the first side isn't done on the second
   not_first : (i m : ℕ) (r r' : Refusal) (replies given : List Reply) (new new' : State) → i < m
-      → DidTo i x.setup x.text (told_at x) steps r replies new → Second m r' given new'
+      → DidTo i x.setup x.text (log_at x) steps r replies new → Second m r' given new'
       → Terms r r' replies given → ⊥
   not_first i m r r' replies given new new' l d d' t =
       let a = alike i i m r r' replies given new new' (omega arith) (omega arith) d.did d' t in
@@ -292,11 +292,11 @@ module _ (x y : State) (steps others : List Step) (h : MayReplay x y steps other
       let rest = next_item i m others s.0 s.1 l in
       d.misplaced
       ((a.stand.next d.step s.0 s.2).1
-      (allowed_next other_setup r' x.text (told_at y) (take i others) rest.0 s.0
-      (subst (λ (k : List Step). AllAllowed other_setup r' x.text (told_at y) k) rest.1 d'.allowed)))
+      (allowed_next other_setup r' x.text (log_at y) (take i others) rest.0 s.0
+      (subst (λ (k : List Step). AllAllowed other_setup r' x.text (log_at y) k) rest.1 d'.allowed)))
 
   not_second : (i m : ℕ) (r r' : Refusal) (replies given : List Reply) (new new' : State) → i < m
-      → First m r replies new → DidTo i other_setup x.text (told_at y) others r' given new'
+      → First m r replies new → DidTo i other_setup x.text (log_at y) others r' given new'
       → Terms r r' replies given → ⊥
   not_second i m r r' replies given new new' l d d' t =
       let a = alike i m i r r' replies given new new' (omega arith) (omega arith) d d'.did t in
@@ -304,8 +304,8 @@ module _ (x y : State) (steps others : List Step) (h : MayReplay x y steps other
       let rest = next_item i m steps s.0 s.1 l in
       d'.misplaced
       ((a.stand.next s.0 d'.step s.2).0
-      (allowed_next x.setup r x.text (told_at x) (take i steps) rest.0 s.0
-      (subst (λ (k : List Step). AllAllowed x.setup r x.text (told_at x) k) rest.1 d.allowed)))
+      (allowed_next x.setup r x.text (log_at x) (take i steps) rest.0 s.0
+      (subst (λ (k : List Step). AllAllowed x.setup r x.text (log_at x) k) rest.1 d.allowed)))
 
   -- the second side did no more steps: its answers are the first ones of the other's
   front : (n m : ℕ) (r r' : Refusal) (replies given : List Reply) (new new' : State) → n ≤ m → First m r replies new
@@ -314,99 +314,99 @@ module _ (x y : State) (steps others : List Step) (h : MayReplay x y steps other
   front n m r r' replies given new new' l d d' t =
       let a = alike n m n r r' replies given new new' l (omega arith) d d' t in
       subst (λ (k : List Reply). IsFront k replies) (a.replies ∙ sym d'.replies_are)
-      (front_of n m x.setup x.text (told_at x) steps r replies new l d)
+      (front_of n m x.setup x.text (log_at x) steps r replies new l d)
 
   -- all steps
-  all_first : (replies : List Reply) (new : State) (k : Walks x steps replies new) → First (length steps) k.refusal replies new
+  all_first : (replies : List Reply) (new : State) (k : DoesAll x steps replies new) → First (length steps) k.refusal replies new
   all_first replies new k =
-      subst (λ (l : List Step). Did x.setup x.text (told_at x) l k.refusal replies new)
+      subst (λ (l : List Step). Did x.setup x.text (log_at x) l k.refusal replies new)
       (sym (take_all (length steps) steps (omega arith))) (did x steps replies new k)
 
   all_others : others ≡ take (length steps) others
   all_others = sym (ap (λ (n : ℕ). take n others) (same_length paired) ∙ take_all (length others) others (omega arith))
 
-  all_second : (replies : List Reply) (new : State) (k : Walks y others replies new) → Second (length steps) k.refusal replies new
+  all_second : (replies : List Reply) (new : State) (k : DoesAll y others replies new) → Second (length steps) k.refusal replies new
   all_second replies new k =
-      subst (λ (l : List Step). Did other_setup x.text (told_at y) l k.refusal replies new) all_others
-      (carry (λ s t. Did s t (told_at y) others k.refusal replies new) (did y others replies new k))
+      subst (λ (l : List Step). Did other_setup x.text (log_at y) l k.refusal replies new) all_others
+      (carry (λ s t. Did s t (log_at y) others k.refusal replies new) (did y others replies new k))
 
-  pub done_done : (new other : State) (replies given : List Reply) (k : Walks x steps replies new)
-      (l : Walks y others given other) → AreComparableReplays x y k.refusal l.refusal replies given
+  pub done_done : (new other : State) (replies given : List Reply) (k : DoesAll x steps replies new)
+      (l : DoesAll y others given other) → AreComparableReplays x y k.refusal l.refusal replies given
       → (replies ≡ given) × StatesStandAlike w new other
   done_done new other replies given k l c =
       equal (length steps) k.refusal l.refusal replies given new other (all_first replies new k) (all_second given other l)
       (terms k.refusal l.refusal replies given k.may l.may c)
 
   pub to_to : (index second_index : ℕ) (new other : State) (replies given : List Reply)
-      (k : WalksTo index x steps replies new) (l : WalksTo second_index y others given other)
-      → AreComparableReplays x y k.walks.refusal l.walks.refusal replies given
+      (k : StopsAt index x steps replies new) (l : StopsAt second_index y others given other)
+      → AreComparableReplays x y k.does_all.refusal l.does_all.refusal replies given
       → (index ≡ second_index) × (replies ≡ given) × StatesStandAlike w new other
   to_to i j new other replies given k l c = by_order (order i j)
     where
-      t : Terms k.walks.refusal l.walks.refusal replies given
-      t = terms k.walks.refusal l.walks.refusal replies given k.walks.may l.walks.may c
+      t : Terms k.does_all.refusal l.does_all.refusal replies given
+      t = terms k.does_all.refusal l.does_all.refusal replies given k.does_all.may l.does_all.may c
 
       by_order : Order i j → (i ≡ j) × (replies ≡ given) × StatesStandAlike w new other
       by_order (below lt) =
-          absurd (not_first i j k.walks.refusal l.walks.refusal replies given new other lt
+          absurd (not_first i j k.does_all.refusal l.does_all.refusal replies given new other lt
           (did_to i x steps replies new k) (second_to j given other l).did t)
       by_order (same e) =
           let both =
-          equal i k.walks.refusal l.walks.refusal replies given new other (did_to i x steps replies new k).did
-          (subst (λ (n : ℕ). Second n l.walks.refusal given other) (sym e) (second_to j given other l).did) t
+          equal i k.does_all.refusal l.does_all.refusal replies given new other (did_to i x steps replies new k).did
+          (subst (λ (n : ℕ). Second n l.does_all.refusal given other) (sym e) (second_to j given other l).did) t
           in
           (e, both.0, both.1)
       by_order (above gt) =
-          absurd (not_second j i k.walks.refusal l.walks.refusal replies given new other gt
+          absurd (not_second j i k.does_all.refusal l.does_all.refusal replies given new other gt
           (did_to i x steps replies new k).did (second_to j given other l) t)
 
-  pub to_done : (index : ℕ) (new other : State) (replies given : List Reply) (k : WalksTo index x steps replies new)
-      (l : Walks y others given other) → AreComparableReplays x y k.walks.refusal l.refusal replies given → ⊥
+  pub to_done : (index : ℕ) (new other : State) (replies given : List Reply) (k : StopsAt index x steps replies new)
+      (l : DoesAll y others given other) → AreComparableReplays x y k.does_all.refusal l.refusal replies given → ⊥
   to_done i new other replies given k l c =
-      not_first i (length steps) k.walks.refusal l.refusal replies given new other
+      not_first i (length steps) k.does_all.refusal l.refusal replies given new other
       (slice_get_within steps i k.step k.is_next) (did_to i x steps replies new k) (all_second given other l)
-      (terms k.walks.refusal l.refusal replies given k.walks.may l.may c)
+      (terms k.does_all.refusal l.refusal replies given k.does_all.may l.may c)
 
-  pub done_to : (index : ℕ) (new other : State) (replies given : List Reply) (k : Walks x steps replies new)
-      (l : WalksTo index y others given other) → AreComparableReplays x y k.refusal l.walks.refusal replies given → ⊥
+  pub done_to : (index : ℕ) (new other : State) (replies given : List Reply) (k : DoesAll x steps replies new)
+      (l : StopsAt index y others given other) → AreComparableReplays x y k.refusal l.does_all.refusal replies given → ⊥
   done_to i new other replies given k l c =
-      not_second i (length steps) k.refusal l.walks.refusal replies given new other
+      not_second i (length steps) k.refusal l.does_all.refusal replies given new other
       (subst (λ (n : ℕ). i < n) (sym (same_length paired)) (slice_get_within others i l.step l.is_next))
       (all_first replies new k) (second_to i given other l)
-      (terms k.refusal l.walks.refusal replies given k.may l.walks.may c)
+      (terms k.refusal l.does_all.refusal replies given k.may l.does_all.may c)
 
   module _ (n : ℕ) (r' : Refusal) (other : State) (given : List Reply) (l : FindsNoRoom n r' y others given other) where
-    over : Second (suc n) l.3.walks.refusal given other
+    over : Second (suc n) l.3.does_all.refusal given other
     over =
-        subst (λ (k : List Reply). Second (suc n) l.3.walks.refusal k other) (sym l.5)
-        (second (suc n) (l.0 ++ l.1 ∷ []) other l.3.walks)
+        subst (λ (k : List Reply). Second (suc n) l.3.does_all.refusal k other) (sym l.5)
+        (second (suc n) (l.0 ++ l.1 ∷ []) other l.3.does_all)
 
-    pub done_over : (new : State) (replies : List Reply) (k : Walks x steps replies new)
-        → AreComparableReplays x y k.refusal l.3.walks.refusal replies given → IsFront given replies
+    pub done_over : (new : State) (replies : List Reply) (k : DoesAll x steps replies new)
+        → AreComparableReplays x y k.refusal l.3.does_all.refusal replies given → IsFront given replies
     done_over new replies k c =
         let inside : n < length steps = subst (λ (m : ℕ). n < m) (sym (same_length paired))
         (slice_get_within others n l.3.inside.0 l.3.inside.1) in
-        front (suc n) (length steps) k.refusal l.3.walks.refusal replies given new other (omega arith)
+        front (suc n) (length steps) k.refusal l.3.does_all.refusal replies given new other (omega arith)
         (all_first replies new k) over
-        (terms k.refusal l.3.walks.refusal replies given k.may l.3.walks.may c)
+        (terms k.refusal l.3.does_all.refusal replies given k.may l.3.does_all.may c)
 
-    pub to_over : (index : ℕ) (new : State) (replies : List Reply) (k : WalksTo index x steps replies new)
-        → AreComparableReplays x y k.walks.refusal l.3.walks.refusal replies given
+    pub to_over : (index : ℕ) (new : State) (replies : List Reply) (k : StopsAt index x steps replies new)
+        → AreComparableReplays x y k.does_all.refusal l.3.does_all.refusal replies given
         → (n < index) × IsFront given replies
     to_over i new replies k c = by_order (order n i)
       where
-        t : Terms k.walks.refusal l.3.walks.refusal replies given
-        t = terms k.walks.refusal l.3.walks.refusal replies given k.walks.may l.3.walks.may c
+        t : Terms k.does_all.refusal l.3.does_all.refusal replies given
+        t = terms k.does_all.refusal l.3.does_all.refusal replies given k.does_all.may l.3.does_all.may c
 
         late : i ≤ n → ⊥
         late le =
-            not_first i (suc n) k.walks.refusal l.3.walks.refusal replies given new other (omega arith)
+            not_first i (suc n) k.does_all.refusal l.3.does_all.refusal replies given new other (omega arith)
             (did_to i x steps replies new k) over t
 
         by_order : Order n i → (n < i) × IsFront given replies
         by_order (below lt) = (
           lt,
-          front (suc n) i k.walks.refusal l.3.walks.refusal replies given new other (omega arith)
+          front (suc n) i k.does_all.refusal l.3.does_all.refusal replies given new other (omega arith)
               (did_to i x steps replies new k).did over t,
         )
         by_order (same e) = absurd (late (omega arith))
@@ -414,16 +414,16 @@ module _ (x y : State) (steps others : List Step) (h : MayReplay x y steps other
 
     pub over_over : (index : ℕ) (r : Refusal) (new : State) (replies : List Reply)
         (k : FindsNoRoom index r x steps replies new)
-        → n ≤ index → AreComparableReplays x y k.3.walks.refusal l.3.walks.refusal replies given → IsFront given replies
+        → n ≤ index → AreComparableReplays x y k.3.does_all.refusal l.3.does_all.refusal replies given → IsFront given replies
     over_over i r new replies k le c =
-        front (suc n) (suc i) k.3.walks.refusal l.3.walks.refusal replies given new other (omega arith)
-        (subst (λ (r : List Reply). First (suc i) k.3.walks.refusal r new) (sym k.5)
-        (did x (take (suc i) steps) (k.0 ++ k.1 ∷ []) new k.3.walks)) over
-        (terms k.3.walks.refusal l.3.walks.refusal replies given k.3.walks.may l.3.walks.may c)
+        front (suc n) (suc i) k.3.does_all.refusal l.3.does_all.refusal replies given new other (omega arith)
+        (subst (λ (r : List Reply). First (suc i) k.3.does_all.refusal r new) (sym k.5)
+        (did x (take (suc i) steps) (k.0 ++ k.1 ∷ []) new k.3.does_all)) over
+        (terms k.3.does_all.refusal l.3.does_all.refusal replies given k.3.does_all.may l.3.does_all.may c)
 
 -- ---- the law
 
--- the refusals of the walks are these
+-- the refusals of both are these
 by_walks : (x y : State) (replies given : List Reply) (r r' refusal another : Refusal) → r ≡ refusal → r' ≡ another
     → AreComparableReplays x y refusal another replies given → AreComparableReplays x y r r' replies given
 by_walks x y replies given r r' refusal another e e' (inl c) = inl (c.0, λ free. e ∙ (c.1 free ∙ sym e'))
@@ -452,7 +452,7 @@ two_replays x y new other steps others refusal another replies given h c =
 -- ---- the premises, of fresh evaluations
 
 pub may_replay : (text : Text) (steps others : List Step) → AllZip (AgreeingSteps 32) steps others
-    → MayReplay (fresh_state plain text) (fresh_state plain text) steps others
+    → MayReplay (fresh_state dwarf4 text) (fresh_state dwarf4 text) steps others
 may_replay text steps others h =
     record {
       width = record { some_bit = omega arith; within_64 = omega arith };

@@ -6,30 +6,30 @@ use Rattle.dwarf_meaning.specs.Operations.{DieReference}
 use Rattle.dwarf_meaning.specs.Requests.{Request, OnAnswer, LocationAnswer}
 use Rattle.dwarf_meaning.specs.Meaning.{First}
 use Rattle.dwarf_meaning.specs.Rest.{State, RequestStatus, CompleteStatus, FaultStatus}
-use Rattle.dwarf_meaning.specs.Steps.{Step, Resume, Told, Reply, after_steps}
+use Rattle.dwarf_meaning.specs.Steps.{Step, Resume, Log, Reply, after_steps}
 use Rattle.dwarf_meaning.specs.Refusals.{Never}
-use Rattle.dwarf_meaning.specs.Rows.{no_limits}
+use Rattle.dwarf_meaning.specs.RowWords.{no_limits}
 use Rattle.dwarf_laws.specs.TwoRuns.{NoneIsFull}
-use Rattle.dwarf_laws.specs.Inlining.{CallSite, outer, called, inlined, in_force, StandsIn, IsInlinable, LeadsToCall}
-use Rattle.dwarf_replay.specs.Replays.{told_at, Walks}
+use Rattle.dwarf_laws.specs.Inlining.{CallSite, outer_text, callee_text, inlined_text, in_force, StandsIn, IsInlinable, LeadsToCall}
+use Rattle.dwarf_replay.specs.Replays.{log_at, DoesAll}
 
 -- Two evaluations without limits, of the outer text and of the inlined one, with the same settings. The steps in
 -- `start` lead the first one to the call, and no setting was changed since its last answer, or since it was started.
 pub record MayInline (x y : State) (site : CallSite) (offset : DieReference) (start : List Step) : Type 0 where
   pub unlimited : x.setup.limits ≡ no_limits
   pub setups : x.setup ≡ y.setup
-  pub outer_text : x.text ≡ outer site
-  pub inlined_text : y.text ≡ inlined site
+  pub x_is_outer : x.text ≡ outer_text site
+  pub y_is_inlined : y.text ≡ inlined_text site
   pub settings : x.store.settings ≡ y.store.settings
   pub stands : StandsIn x.setup site offset
   pub inlinable : IsInlinable x.setup site
-  pub told : Told
-  pub told_is : after_steps x.setup Never x.text (told_at x) start ≡ told
+  pub log : Log
+  pub log_is : after_steps x.setup Never x.text (log_at x) start ≡ log
   pub first : First
-  pub is_started : told.first ≡ Some first
+  pub is_started : log.first ≡ Some first
   pub requests : List Request
-  pub leads : LeadsToCall x.setup site offset first told.inputs requests
-  pub still_in_force : told.now.settings ≡ in_force first.settings told.inputs
+  pub leads : LeadsToCall x.setup site offset first log.inputs requests
+  pub still_in_force : log.now.settings ≡ in_force first.settings log.inputs
 
 -- both wait in the same request, or are complete with the same pieces and value
 pub data StatesEndAlike (x y : State) : Type 0 where
@@ -45,7 +45,7 @@ InlinedReplay =
     (x y new other : State) (site : CallSite) (offset : DieReference) (start rest : List Step)
     (replies given : List Reply)
     → MayInline x y site offset start
-    → Walks x (start ++ (Resume (LocationAnswer (called site)) ∷ rest)) replies new
+    → DoesAll x (start ++ (Resume (LocationAnswer (callee_text site)) ∷ rest)) replies new
     → NoneIsFull replies → ((error : Error) → new.status ≢ FaultStatus error)
-    → Walks y (start ++ rest) given other → NoneIsFull given
+    → DoesAll y (start ++ rest) given other → NoneIsFull given
     → StatesEndAlike new other

@@ -11,13 +11,13 @@ use Rattle.dwarf_meaning.specs.Requests.{Request, OnAnswer}
 use Rattle.dwarf_meaning.specs.Stores.{address_bits}
 use Rattle.dwarf_meaning.specs.Run.{Position}
 use Rattle.dwarf_meaning.specs.Inputs.{fresh_state}
-use Rattle.dwarf_meaning.specs.Rows.{text, plain}
+use Rattle.dwarf_meaning.specs.RowWords.{text, dwarf4}
 use Rattle.dwarf_meaning.specs.Rest.{State, Start, RequestStatus, CompleteStatus, FaultStatus}
 use Rattle.dwarf_meaning.specs.Steps.{Step, Reply}
 use Rattle.dwarf_meaning.specs.Refusals.{Refusal, HasFreeList}
 use Rattle.dwarf_laws.specs.Agreement.{Both, AgreeingNumbers, AgreeingSteps, AgreeingSettings, AgreeingPieces}
 use Rattle.dwarf_laws.specs.TwoRuns.{NoneIsFull}
-use Rattle.dwarf_replay.specs.Replays.{Walks, WalksTo, WalksOver}
+use Rattle.dwarf_replay.specs.Replays.{DoesAll, StopsAt, OverflowsAt}
 
 -- ---- the premises
 
@@ -64,26 +64,26 @@ abbrev pub IsFront : List Reply → List Reply → Type 0
 IsFront replies all = (more : List Reply) × (replies ++ more ≡ all)
 
 -- all steps were done, with this refusal
-abbrev pub DoesAll : Refusal → State → List Step → List Reply → State → Type 0
-DoesAll refusal old steps replies new = (walks : Walks old steps replies new) × (walks.refusal ≡ refusal)
+abbrev pub DoesAllWith : Refusal → State → List Step → List Reply → State → Type 0
+DoesAllWith refusal old steps replies new = (does_all : DoesAll old steps replies new) × (does_all.refusal ≡ refusal)
 
 -- the steps before this one were done, with this refusal, and it isn't allowed
 abbrev pub FindsMisplaced : (index : ℕ) → Refusal → State → List Step → List Reply → State → Type 0
 FindsMisplaced index refusal old steps replies new =
-    (walks_to : WalksTo index old steps replies new) × (walks_to.walks.refusal ≡ refusal)
+    (stops_at : StopsAt index old steps replies new) × (stops_at.does_all.refusal ≡ refusal)
 
 -- the steps up to this one were done, with this refusal, and its reply, which is the last of these, found no room
 abbrev pub FindsNoRoom : (index : ℕ) → Refusal → State → List Step → List Reply → State → Type 0
 FindsNoRoom index refusal old steps replies new =
     (before : List Reply) × (last : Reply) × (limit : Option ℕ)
-    × (walks_over : WalksOver index last limit old steps before new)
-    × (walks_over.walks.refusal ≡ refusal) × (replies ≡ before ++ last ∷ [])
+    × (overflows_at : OverflowsAt index last limit old steps before new)
+    × (overflows_at.does_all.refusal ≡ refusal) × (replies ≡ before ++ last ∷ [])
 
 -- What two replays have in common, by how each ended: the same replies, as far as both go, and where both stand.
 pub record ReplayAlike (x y new other : State) (steps others : List Step) (refusal another : Refusal)
     (replies given : List Reply) : Type 0 where
   -- all steps were done on both sides: the replies are the same
-  pub done : DoesAll refusal x steps replies new → DoesAll another y others given other
+  pub done : DoesAllWith refusal x steps replies new → DoesAllWith another y others given other
       → (replies ≡ given) × StatesStandAlike (address_bits x.setup) new other
   -- a step was misplaced on both sides: it is the same step, and the replies before it are the same
   pub misplaced : (index second : ℕ) → FindsMisplaced index refusal x steps replies new
@@ -91,11 +91,11 @@ pub record ReplayAlike (x y new other : State) (steps others : List Step) (refus
       → (index ≡ second) × (replies ≡ given) × StatesStandAlike (address_bits x.setup) new other
   -- no step is misplaced on one side if all were done on the other
   pub not_alone : (index : ℕ)
-      → (FindsMisplaced index refusal x steps replies new → DoesAll another y others given other → ⊥)
-      × (DoesAll refusal x steps replies new → FindsMisplaced index another y others given other → ⊥)
+      → (FindsMisplaced index refusal x steps replies new → DoesAllWith another y others given other → ⊥)
+      × (DoesAllWith refusal x steps replies new → FindsMisplaced index another y others given other → ⊥)
   -- A reply found no room on the second side, and all steps were done on the first: the replies of the second, with
   -- that one, are a front of the first's.
-  pub no_room : (second : ℕ) → DoesAll refusal x steps replies new → FindsNoRoom second another y others given other
+  pub no_room : (second : ℕ) → DoesAllWith refusal x steps replies new → FindsNoRoom second another y others given other
       → IsFront given replies
   -- The same if a step was misplaced on the first, which then comes later.
   pub no_room_before : (index second : ℕ) → FindsMisplaced index refusal x steps replies new
@@ -118,5 +118,5 @@ TwoReplays =
 pub record MeetRefusal (refusal : Refusal) (bytes : List ℕ) (steps others : List Step)
     (replied : List Reply) : Type 0 where
   pub agree : AllZip (AgreeingSteps 32) steps others
-  pub one : (new : State) × DoesAll refusal (fresh_state plain (text bytes)) steps replied new
-  pub another : (new : State) × DoesAll refusal (fresh_state plain (text bytes)) others replied new
+  pub one : (new : State) × DoesAllWith refusal (fresh_state dwarf4 (text bytes)) steps replied new
+  pub another : (new : State) × DoesAllWith refusal (fresh_state dwarf4 (text bytes)) others replied new

@@ -9,12 +9,12 @@ ghost use Rattle.dwarf_meaning.specs.Requests.{Request, RequiresCallFrameCfa, Nu
 ghost use Rattle.dwarf_meaning.specs.Refusals.{After};
 ghost use Rattle.dwarf_meaning.specs.Inputs.{fresh_state};
 ghost use Rattle.dwarf_meaning.specs.Meaning.{Outcome};
-ghost use Rattle.dwarf_meaning.specs.Rows.{plain};
+ghost use Rattle.dwarf_meaning.specs.RowWords.{dwarf4};
 ghost use Rattle.dwarf_meaning.specs.Steps.{Step, Evaluate, RequestReply, FaultReply};
 ghost use Rattle.std.specs.List.{AllZip};
 ghost use Rattle.dwarf_laws.specs.Agreement.{AgreeingSteps};
-ghost use Rattle.dwarf_laws.specs.Inlining.{CallSite, outer, inlined};
-ghost use Rattle.dwarf_laws.specs.Rows.{IsWorked, started_steps};
+ghost use Rattle.dwarf_laws.specs.Inlining.{CallSite, outer_text, inlined_text};
+ghost use Rattle.dwarf_laws.specs.LawRows.{IsWorked, started_steps};
 ghost use Rattle.dwarf_expr.specs.Inlined.{MayInline, InlinedReplay};
 ghost use Rattle.dwarf_expr.specs.Twins.{MayReplay, TwoReplays, MeetRefusal};
 
@@ -34,7 +34,7 @@ pub fn two_replays()
     ensures alike { TwoReplays }
     ensures met { (text : Text) (steps others : List Step)
         → AllZip (AgreeingSteps 32) steps others
-        → MayReplay (fresh_state plain text) (fresh_state plain text) steps others }
+        → MayReplay (fresh_state dwarf4 text) (fresh_state dwarf4 text) steps others }
     ensures refused { MeetRefusal (After 1 0) (0x9c ∷ [])
         (started_steps (NumberAnswer kind.CallFrameCfa 0x10 ∷ []))
         (started_steps (NumberAnswer kind.CallFrameCfa 0x100000010 ∷ []))
@@ -49,6 +49,7 @@ pub fn inlined_replay()
     ensures ends { InlinedReplay }
     ensures met { (site : CallSite) (later : List Input) (after : List Request) (outcome : Outcome)
         → IsWorked site [] later [] after outcome
-        → MayInline (fresh_state plain (outer site)) (fresh_state plain (inlined site)) site
+        → MayInline (fresh_state dwarf4 (outer_text site))
+        (fresh_state dwarf4 (inlined_text site)) site
         (UnitRef 5) (Evaluate ∷ []) }
 {}

@@ -14,7 +14,7 @@ use Rattle.dwarf_meaning.specs.Operations.{Operation}
 use Rattle.dwarf_meaning.specs.Locations.{Location, AtAddress, Piece}
 use Rattle.dwarf_meaning.specs.Requests.{Request, RequiresMemory, RequiresTls, OnAnswer, Push, Add, Parse, Convert, Answer}
 use Rattle.dwarf_meaning.specs.Kinds.{kind_of_answer}
-use Rattle.dwarf_meaning.specs.Acts.{on_top, on_result, Act, Pushes, Branches, Locates, EndsPiece, RequestAct, FaultAct, short, unary, binary, act, Use, PushesAnswer, Calls, FaultUse, use_of}
+use Rattle.dwarf_meaning.specs.Acts.{on_top, on_result, Act, Pushes, Branches, Locates, EndsPiece, RequestAct, FaultAct, underflow, unary, binary, act, Use, PushesAnswer, Calls, FaultUse, use_of}
 use Rattle.dwarf_meaning.specs.Stores.{Store}
 use Rattle.dwarf_meaning.specs.Run.{located_act}
 use Rattle.dwarf_laws.specs.Agreement as agreeing
@@ -69,8 +69,8 @@ module _ (w : ℕ) where
   top_acts : (values others : List Value) (go go' : Value → List Value → Act) → Pairwise (Agree w) values others
       → ((x x' : Value) (rest rest' : List Value) → Agree w x x' → Pairwise (Agree w) rest rest'
       → AgreeingActs w (go x rest) (go' x' rest'))
-      → AgreeingActs w (on_top values short go) (on_top others short go')
-  top_acts values others go go' h g = top_pair (AgreeingActs w) w values others short short go go' h refuses g
+      → AgreeingActs w (on_top values underflow go) (on_top others underflow go')
+  top_acts values others go go' h g = top_pair (AgreeingActs w) w values others underflow underflow go go' h refuses g
 
   unary_acts : (call : Value → Result Value Error) (values others : List Value)
       → ((x x' : Value) → Agree w x x' → call x ≡ call x') → Pairwise (Agree w) values others

@@ -8,10 +8,10 @@ use Rattle.dwarf_base.specs.declared.errors.Error.TheVariants.{BadBranchTarget}
 use Rattle.dwarf_value.specs.declared.types.Value.{Value}
 use Rattle.dwarf_meaning.specs.Operations as operation
 use Rattle.dwarf_meaning.specs.Operations.{Operation}
-use Rattle.dwarf_meaning.specs.Locations.{Location, sized}
+use Rattle.dwarf_meaning.specs.Locations.{Location, sized_piece}
 use Rattle.dwarf_meaning.specs.Requests.{Request, OnAnswer, Settings}
 use Rattle.dwarf_meaning.specs.Acts.{Act, Pushes, Branches, Locates, EndsPiece, RequestAct, FaultAct}
-use Rattle.dwarf_meaning.specs.Stores.{Setup, Store, Plain, Pieced, Located, push_value, push_piece, push_values, Next, Goes, RequestNext, FaultNext, goes, done, branch_target, branch}
+use Rattle.dwarf_meaning.specs.Stores.{Setup, Store, Plain, Pieced, Located, push_value, push_piece, push_values, Next, Goes, RequestNext, FaultNext, goes, do_act, branch_target, branch}
 use Rattle.dwarf_meaning.specs.Run.{located_act}
 use Rattle.dwarf_meaning.specs.Refusals.{Never}
 use Rattle.dwarf_laws.proofs.Jumps.{Jumping, pushes, branches, locates, ends, asks, refuses}
@@ -81,7 +81,7 @@ module _ (encoding : Encoding) (bits : ℕ) where
         no)) (goes_both t lands.1 refl))
 
     pub done_both : (a : Act) (t : Store) → Al place place' → Jumping Lands a
-        → NextBoth n Al t.settings (done S place len a (ahead n t)) (done S place' len' a (calm t))
+        → NextBoth n Al t.settings (do_act S place len a (ahead n t)) (do_act S place' len' a (calm t))
     unfolding push_piece
     done_both (Pushes rest pushed) t al pushes =
         let u : Store = record t { values = rest; last = Plain } in
@@ -98,9 +98,9 @@ module _ (encoding : Encoding) (bits : ℕ) where
     done_both (FaultAct fault) t al refuses = fails_both
 
     pub located_both : (location : Location) (t : Store) (op : Operation) → Al place place'
-        → NextBoth n Al t.settings (done S place len (located_act location t place op) (ahead n t))
-        (done S place' len' (located_act location t place' op) (calm t))
+        → NextBoth n Al t.settings (do_act S place len (located_act location t place op) (ahead n t))
+        (do_act S place' len' (located_act location t place' op) (calm t))
     unfolding push_piece
     located_both location t (operation.Piece size_in_bits bit_offset) al =
-        goes_both (record t { last = Pieced; pieces = t.pieces ++ sized size_in_bits bit_offset location ∷ [] }) al refl
+        goes_both (record t { last = Pieced; pieces = t.pieces ++ sized_piece size_in_bits bit_offset location ∷ [] }) al refl
     located_both location t op al = fails_both

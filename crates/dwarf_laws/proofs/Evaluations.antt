@@ -11,10 +11,10 @@ use Rattle.dwarf_meaning.specs.Stores.{Setup, address_bits}
 use Rattle.dwarf_meaning.specs.Meaning.{IsOver, Outcome, FaultOutcome, First, course_of}
 use Rattle.std.specs.Option.{unwrap_or}
 use Rattle.std.specs.Option.{IfSome}
-use Rattle.dwarf_meaning.proofs.Outcomes.{outcome_from}
-use Rattle.dwarf_meaning.specs.Steps.{Step, InitialValue, ObjectAddress, MaxIterations, Evaluate, Resume, Told, outcome_of, Awaits, Allows, heard, after, Reply, reply, replies, step_replies, after_step, replies_of, untold}
+use Rattle.dwarf_meaning.proofs.OutcomeByInputs.{outcome_from}
+use Rattle.dwarf_meaning.specs.Steps.{Step, InitialValue, ObjectAddress, MaxIterations, Evaluate, Resume, Log, outcome_of, Awaits, Allows, inputs_after, after, Reply, reply, replies, step_replies, after_step, replies_of, empty_log}
 use Rattle.dwarf_meaning.specs.Refusals.{Limits, Refusal}
-use Rattle.dwarf_laws.specs.Agreement.{Both, nothing, something, AgreeingAnswers, AgreeingSteps, initial_value, object_address, max_iterations, evaluate, resume, AgreeingFirsts, AgreeingInputs, AgreeingTold, AgreeingOutcomes, requests, faults, completions}
+use Rattle.dwarf_laws.specs.Agreement.{Both, nothing, something, AgreeingAnswers, AgreeingSteps, initial_value, object_address, max_iterations, evaluate, resume, AgreeingFirsts, AgreeingInputs, AgreeingLogs, AgreeingOutcomes, requests, faults, completions}
 use Rattle.dwarf_laws.specs.TwoRuns.{NoneIsFull, StandAlike, AreAlike, TwoRuns}
 use Rattle.dwarf_laws.proofs.Pairs.{Pairwise, none, more, pairs}
 use Rattle.dwarf_laws.proofs.Actions.{same_kinds}
@@ -44,42 +44,42 @@ module _ (w : ℕ) where
   awaits_both a b o o' k (something faults) = (λ h. h, λ h. h)
   awaits_both a b o o' k (something (completions p v)) = (λ h. h, λ h. h)
 
-  allows_both : (told told' : Told) (o o' : Option Outcome) (x y : Step) → AgreeingTold w told told'
-      → Both (AgreeingOutcomes w) o o' → AgreeingSteps w x y → Allows told o x ↔ Allows told' o' y
-  allows_both told told' o o' x y t h (initial_value e) = (
+  allows_both : (log log' : Log) (o o' : Option Outcome) (x y : Step) → AgreeingLogs w log log'
+      → Both (AgreeingOutcomes w) o o' → AgreeingSteps w x y → Allows log o x ↔ Allows log' o' y
+  allows_both log log' o o' x y t h (initial_value e) = (
     λ i. (none_both _ _ _ t.first i.0, none_both _ _ _ t.now.initial_value i.1),
     λ i. (none_back _ _ _ t.first i.0, none_back _ _ _ t.now.initial_value i.1),
   )
-  allows_both told told' o o' x y t h (object_address e) = (λ i. i, λ i. i)
-  allows_both told told' o o' x y t h max_iterations = (λ i. i, λ i. i)
-  allows_both told told' o o' x y t h evaluate = evaluable_both o o' h
-  allows_both told told' o o' x y t h (resume k) = awaits_both _ _ o o' k h
+  allows_both log log' o o' x y t h (object_address e) = (λ i. i, λ i. i)
+  allows_both log log' o o' x y t h max_iterations = (λ i. i, λ i. i)
+  allows_both log log' o o' x y t h evaluate = evaluable_both o o' h
+  allows_both log log' o o' x y t h (resume k) = awaits_both _ _ o o' k h
 
-  -- ---- what a step tells
+  -- ---- the log after a step
 
   begun_both : (x y : First) (f g : Option First) → AgreeingFirsts w x y → Both (AgreeingFirsts w) f g
       → AgreeingFirsts w (unwrap_or f x) (unwrap_or g y)
   begun_both x y f g a nothing = a
   begun_both x y f g a (something b) = b
 
-  heard_both : (x y : First) (inputs inputs' : List Input) (a b : Answer) (o o' : Option Outcome)
+  inputs_after_both : (x y : First) (inputs inputs' : List Input) (a b : Answer) (o o' : Option Outcome)
       → AgreeingFirsts w x y → AllZip (AgreeingInputs w) inputs inputs' → AgreeingAnswers w a b
-      → Both (AgreeingOutcomes w) o o' → AllZip (AgreeingInputs w) (heard x inputs a o) (heard y inputs' b o')
-  heard_both x y inputs inputs' a b o o' f i k nothing = i
-  heard_both x y inputs inputs' a b o o' f i k (something requests) =
+      → Both (AgreeingOutcomes w) o o' → AllZip (AgreeingInputs w) (inputs_after x inputs a o) (inputs_after y inputs' b o')
+  inputs_after_both x y inputs inputs' a b o o' f i k nothing = i
+  inputs_after_both x y inputs inputs' a b o o' f i k (something requests) =
       AllZip-push (AgreeingInputs w) _ _ _ _ i (record { settings = f.settings; answer = k })
-  heard_both x y inputs inputs' a b o o' f i k (something faults) = i
-  heard_both x y inputs inputs' a b o o' f i k (something (completions p v)) = i
+  inputs_after_both x y inputs inputs' a b o o' f i k (something faults) = i
+  inputs_after_both x y inputs inputs' a b o o' f i k (something (completions p v)) = i
 
-  after_both : (told told' : Told) (o o' : Option Outcome) (x y : Step) → AgreeingTold w told told'
-      → Both (AgreeingOutcomes w) o o' → AgreeingSteps w x y → AgreeingTold w (after told o x) (after told' o' y)
-  after_both told told' o o' x y t h (initial_value e) =
+  after_both : (log log' : Log) (o o' : Option Outcome) (x y : Step) → AgreeingLogs w log log'
+      → Both (AgreeingOutcomes w) o o' → AgreeingSteps w x y → AgreeingLogs w (after log o x) (after log' o' y)
+  after_both log log' o o' x y t h (initial_value e) =
       record {
         now = record { initial_value = something e; settings = t.now.settings };
         first = t.first;
         inputs = t.inputs;
       }
-  after_both told told' o o' x y t h (object_address e) =
+  after_both log log' o o' x y t h (object_address e) =
       record {
         now = record {
           initial_value = t.now.initial_value;
@@ -88,7 +88,7 @@ module _ (w : ℕ) where
         first = t.first;
         inputs = t.inputs;
       }
-  after_both told told' o o' x y t h max_iterations =
+  after_both log log' o o' x y t h max_iterations =
       record {
         now = record {
           initial_value = t.now.initial_value;
@@ -97,10 +97,10 @@ module _ (w : ℕ) where
         first = t.first;
         inputs = t.inputs;
       }
-  after_both told told' o o' x y t h evaluate =
+  after_both log log' o o' x y t h evaluate =
       record { now = t.now; first = something (begun_both _ _ _ _ t.now t.first); inputs = t.inputs }
-  after_both told told' o o' x y t h (resume k) =
-      record { now = t.now; first = t.first; inputs = heard_both _ _ _ _ _ _ o o' t.now t.inputs k h }
+  after_both log log' o o' x y t h (resume k) =
+      record { now = t.now; first = t.first; inputs = inputs_after_both _ _ _ _ _ _ o o' t.now t.inputs k h }
 
   -- ---- what a step answers
 
@@ -133,16 +133,16 @@ module _ (Free : Type 0) where
   clear_reply None rest h free e = cc
   clear_reply (Some x) rest h free e = let i : x ≡ FaultOutcome StackFull = cc in (h free).0 (ap reply i)
 
-  pub clear_after : (setup : Setup) (refusal : Refusal) (text : Text) (told : Told) (x : Step) (rest : List Reply)
-      → IsClearSoFar (outcome_of setup refusal text told)
+  pub clear_after : (setup : Setup) (refusal : Refusal) (text : Text) (log : Log) (x : Step) (rest : List Reply)
+      → IsClearSoFar (outcome_of setup refusal text log)
       → (Free → NoneIsFull (step_replies x (outcome_of setup refusal text
-      (after_step setup refusal text told x)) ++ rest))
-      → IsClearSoFar (outcome_of setup refusal text (after_step setup refusal text told x))
-  clear_after setup refusal text told (InitialValue number) rest c h = c
-  clear_after setup refusal text told (ObjectAddress address) rest c h = c
-  clear_after setup refusal text told (MaxIterations maximum) rest c h = c
-  clear_after setup refusal text told Evaluate rest c h = clear_reply _ rest h
-  clear_after setup refusal text told (Resume answer) rest c h = clear_reply _ rest h
+      (after_step setup refusal text log x)) ++ rest))
+      → IsClearSoFar (outcome_of setup refusal text (after_step setup refusal text log x))
+  clear_after setup refusal text log (InitialValue number) rest c h = c
+  clear_after setup refusal text log (ObjectAddress address) rest c h = c
+  clear_after setup refusal text log (MaxIterations maximum) rest c h = c
+  clear_after setup refusal text log Evaluate rest c h = clear_reply _ rest h
+  clear_after setup refusal text log (Resume answer) rest c h = clear_reply _ rest h
 
 module _ (Free : Type 0) (setup : Setup) (limits : Limits) (premise : Free ⊎ (setup.limits ≡ limits))
     (width : IsWidth (address_bits setup)) (refusal another : Refusal) (same_refusal : Free ⊎ (refusal ≡ another))
@@ -174,65 +174,65 @@ module _ (Free : Type 0) (setup : Setup) (limits : Limits) (premise : Free ⊎ (
       ap Some (path_both Free setup limits premise width refusal another same_refusal text _ _ inputs inputs' a i
       (λ free e. h free (ap Some e)) (λ free e. k free (ap Some e)))
 
-  -- what agreeing tellings lead to, if no push was refused
-  stand_alike : (told told' : Told) → AgreeingTold w told told'
-      → IsClearSoFar Free (outcome_of setup refusal text told) → IsClearSoFar Free (outcome_of other another text told')
-      → StandAlike setup other refusal another text told told'
-  stand_alike told told' t c d =
-      let o = outcomes_from told.first told'.first told.inputs told'.inputs t.first t.inputs c d in
+  -- what agreeing logs lead to, if no push was refused
+  stand_alike : (log log' : Log) → AgreeingLogs w log log'
+      → IsClearSoFar Free (outcome_of setup refusal text log) → IsClearSoFar Free (outcome_of other another text log')
+      → StandAlike setup other refusal another text log log'
+  stand_alike log log' t c d =
+      let o = outcomes_from log.first log'.first log.inputs log'.inputs t.first t.inputs c d in
       record {
         agreeing = t;
         outcomes = o;
-        paths = paths_from told.first told'.first told.inputs told'.inputs t.first t.inputs c d;
-        next = λ x y a. allows_both w told told' _ _ x y t o a;
+        paths = paths_from log.first log'.first log.inputs log'.inputs t.first t.inputs c d;
+        next = λ x y a. allows_both w log log' _ _ x y t o a;
       }
 
-  pub alike_steps : (steps others : List Step) (told told' : Told) → Pairwise (AgreeingSteps w) steps others
-      → AgreeingTold w told told'
-      → IsClearSoFar Free (outcome_of setup refusal text told) → IsClearSoFar Free (outcome_of other another text told')
-      → (Free → NoneIsFull (replies_of setup refusal text told steps))
-      → (Free → NoneIsFull (replies_of other another text told' others))
-      → AreAlike setup other refusal another text told told' steps others
-  alike_steps steps others told told' none t c d h k =
-      record { allowed = (λ i. i, λ i. i); replies = refl; stand = stand_alike told told' t c d }
-  alike_steps steps others told told' (more {x = x} {y = y} {xs = xs} {ys = ys} a as') t c d h k =
-      let now = stand_alike told told' t c d in
-      let told_now = after_step setup refusal text told x in
-      let told_now' = after_step other another text told' y in
-      let t_now = after_both w told told' _ _ x y t now.outcomes a in
-      let c_now = clear_after Free setup refusal text told x (replies_of setup refusal text told_now xs) c h in
-      let d_now = clear_after Free other another text told' y (replies_of other another text told_now' ys) d k in
-      let o_now = outcomes_from told_now.first told_now'.first told_now.inputs told_now'.inputs t_now.first
+  pub alike_steps : (steps others : List Step) (log log' : Log) → Pairwise (AgreeingSteps w) steps others
+      → AgreeingLogs w log log'
+      → IsClearSoFar Free (outcome_of setup refusal text log) → IsClearSoFar Free (outcome_of other another text log')
+      → (Free → NoneIsFull (replies_of setup refusal text log steps))
+      → (Free → NoneIsFull (replies_of other another text log' others))
+      → AreAlike setup other refusal another text log log' steps others
+  alike_steps steps others log log' none t c d h k =
+      record { allowed = (λ i. i, λ i. i); replies = refl; stand = stand_alike log log' t c d }
+  alike_steps steps others log log' (more {x = x} {y = y} {xs = xs} {ys = ys} a as') t c d h k =
+      let now = stand_alike log log' t c d in
+      let log_now = after_step setup refusal text log x in
+      let log_now' = after_step other another text log' y in
+      let t_now = after_both w log log' _ _ x y t now.outcomes a in
+      let c_now = clear_after Free setup refusal text log x (replies_of setup refusal text log_now xs) c h in
+      let d_now = clear_after Free other another text log' y (replies_of other another text log_now' ys) d k in
+      let o_now = outcomes_from log_now.first log_now'.first log_now.inputs log_now'.inputs t_now.first
       t_now.inputs c_now d_now in
       let allows = now.next x y a in
-      let rest = alike_steps xs ys told_now told_now' as' t_now c_now d_now
+      let rest = alike_steps xs ys log_now log_now' as' t_now c_now d_now
       (λ free. none_full_beyond _ _ (h free)) (λ free. none_full_beyond _ _ (k free)) in
       let reply_now = same_step_replies w _ _ x y o_now a in
       let replies_beyond = rest.replies in
       record {
         allowed = (λ i. (allows.0 i.0, rest.allowed.0 i.1), λ i. (allows.1 i.0, rest.allowed.1 i.1));
-        replies = ap (λ (l : List Reply). l ++ replies_of setup refusal text told_now xs) reply_now
-            ∙ ap (λ (l : List Reply). step_replies y (outcome_of other another text told_now') ++ l) replies_beyond;
+        replies = ap (λ (l : List Reply). l ++ replies_of setup refusal text log_now xs) reply_now
+            ∙ ap (λ (l : List Reply). step_replies y (outcome_of other another text log_now') ++ l) replies_beyond;
         stand = rest.stand;
       }
 
-clear_start : (setup : Setup) (refusal : Refusal) (text : Text) (told : Told) (rest : List Reply)
-    → NoneIsFull (replies (outcome_of setup refusal text told) ++ rest)
-    → IsClearSoFar (Unit {0}) (outcome_of setup refusal text told)
-clear_start setup refusal text told rest h = clear_reply (Unit {0}) _ rest (λ free. h)
+clear_start : (setup : Setup) (refusal : Refusal) (text : Text) (log : Log) (rest : List Reply)
+    → NoneIsFull (replies (outcome_of setup refusal text log) ++ rest)
+    → IsClearSoFar (Unit {0}) (outcome_of setup refusal text log)
+clear_start setup refusal text log rest h = clear_reply (Unit {0}) _ rest (λ free. h)
 
 pub two_runs : TwoRuns
-two_runs setup limits refusal another text told second steps others width t p (inl e) =
-    alike_steps ⊥ setup limits (inr e.0) width refusal another (inr e.1) text steps others told second (pairs _ _ p) t
+two_runs setup limits refusal another text log second steps others width t p (inl e) =
+    alike_steps ⊥ setup limits (inr e.0) width refusal another (inr e.1) text steps others log second (pairs _ _ p) t
     (λ free. absurd free) (λ free. absurd free) (λ free. absurd free) (λ free. absurd free)
-two_runs setup limits refusal another text told second steps others width t p (inr e) =
-    alike_steps (Unit {0}) setup limits (inl tt) width refusal another (inl tt) text steps others told second (pairs _ _ p) t
-    (clear_start setup refusal text told _ e.0) (clear_start (record setup { limits = limits }) another text second _ e.1)
+two_runs setup limits refusal another text log second steps others width t p (inr e) =
+    alike_steps (Unit {0}) setup limits (inl tt) width refusal another (inl tt) text steps others log second (pairs _ _ p) t
+    (clear_start setup refusal text log _ e.0) (clear_start (record setup { limits = limits }) another text second _ e.1)
     (λ free. none_full_beyond _ _ e.0) (λ free. none_full_beyond _ _ e.1)
 
--- with nothing told on either side the premise holds
-pub nothing_told : (w : ℕ) → AgreeingTold w untold untold
-nothing_told w =
+-- with empty logs the premise holds
+pub empty_logs_agree : (w : ℕ) → AgreeingLogs w empty_log empty_log
+empty_logs_agree w =
     record {
       now = record { initial_value = nothing; settings = record { object_address = nothing; maximum = refl } };
       first = nothing;

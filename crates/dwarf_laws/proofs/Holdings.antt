@@ -9,8 +9,8 @@ use Rattle.dwarf_value.specs.Values.{Agree}
 use Rattle.dwarf_meaning.specs.Locations.{Location, Piece}
 use Rattle.dwarf_meaning.specs.Requests.{Request, OnAnswer}
 use Rattle.dwarf_meaning.specs.Acts.{Act}
-use Rattle.dwarf_meaning.specs.Stores.{Setup, address_bits, Store, Last, Nothing, Plain, Pieced, Pushed, Called, Located, push_value, push_piece, push_caller, push_values, Next, Goes, RequestNext, FaultNext, goes, done}
-use Rattle.dwarf_meaning.specs.Refusals.{Limits, Refusal, Never, After, spent, room}
+use Rattle.dwarf_meaning.specs.Stores.{Setup, address_bits, Store, Last, Nothing, Plain, Pieced, Pushed, Called, Located, push_value, push_piece, push_caller, push_values, Next, Goes, RequestNext, FaultNext, goes, do_act}
+use Rattle.dwarf_meaning.specs.Refusals.{Limits, Refusal, Never, After, refusal_after_push, room}
 use Rattle.dwarf_laws.specs.Agreement.{AgreeingSettings, AgreeingLocations, AgreeingPieces}
 use Rattle.dwarf_laws.proofs.Pairs.{Pairwise, none, more, same_length, snoc_both, if_pair}
 use Rattle.dwarf_laws.proofs.Actions.{AgreeingActs, pushes, branches, locates, ends, asks, refuses}
@@ -61,14 +61,14 @@ pub data IsRoom : Result Refusal Fault → Type 0 where
   is_left : {left : Refusal} → IsRoom (Ok left)
   is_full : IsRoom (Err StackFull)
 
-pub spent_is : (refusal : Refusal) → IsRoom (spent refusal)
-spent_is Never = is_left
-spent_is (After zero zero) = is_full
-spent_is (After zero (suc more_pushes)) = is_left
-spent_is (After (suc inputs) more_pushes) = is_left
+pub after_push_is : (refusal : Refusal) → IsRoom (refusal_after_push refusal)
+after_push_is Never = is_left
+after_push_is (After zero zero) = is_full
+after_push_is (After zero (suc more_pushes)) = is_left
+after_push_is (After (suc inputs) more_pushes) = is_left
 
 room_is : (limit : Option ℕ) (n : ℕ) (refusal : Refusal) → IsRoom (room limit n refusal)
-room_is None n refusal = spent_is refusal
+room_is None n refusal = after_push_is refusal
 room_is (Some limit) n refusal = cond_both (nat_lt n limit) (Ok refusal) (Err StackFull) IsRoom (λ e. is_left) (λ e. is_full)
 
 pub map_free : {Free A B : Type 0} (f : A → B) (x y : A) → Free ⊎ (x ≡ y) → Free ⊎ (f x ≡ f y)
@@ -203,7 +203,7 @@ module _ (Free : Type 0) (setup : Setup) (limits : Limits) (premise : Free ⊎ (
   goes_both place r r' (result_second free) = next_second free
 
   pub done_both : (place len : ℕ) (a b : Act) (s t : Store) → AgreeingActs w a b → AgreeingStores Free w s t
-      → AgreeingNexts Free w (done setup place len a s) (done other place len b t)
+      → AgreeingNexts Free w (do_act setup place len a s) (do_act other place len b t)
   done_both place len a b s t (pushes r p) h = goes_both place _ _ (push_values_both _ _ _ _ p (changed h r both_plain))
   done_both place len a b s t (branches r) h =
       if_pair (AgreeingNexts Free w) _ _ _ _ _ _ refl fails (goes_on (changed h r both_plain))

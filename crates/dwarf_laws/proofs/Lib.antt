@@ -6,9 +6,9 @@ pub mod Evaluations
 pub mod Jumps
 pub mod Calm
 pub mod Mirror
-pub mod Texts
+pub mod TextPlaces
 pub mod Phase
-pub mod Calling
-pub mod Inlined
+pub mod UpToCall
+pub mod InliningLaw
 pub mod Premises
 pub mod Unrefused

@@ -9,8 +9,8 @@ use Rattle.dwarf_meaning.specs.Requests.{Request, OnAnswer, Input}
 use Rattle.dwarf_meaning.specs.Kinds.{kind_of_request, is_same_kind}
 use Rattle.dwarf_meaning.specs.Acts.{Act, Use}
 use Rattle.dwarf_meaning.specs.Stores.{Setup, address_bits, Store, Last, Next, Nothing, Plain, Located}
-use Rattle.dwarf_meaning.specs.Run.{Position, End, CompleteEnd, RequestEnd, FaultEnd, Course, only_end, prepend, Continues, return_to_caller, after_push, enter_callee, run_callee, after_answer, with_input, await_answer, after_operation, read, can_count, counted, do_operation, turn_counted, counted_act, turn_by, turn, out_of_turns, run_for, enough, run}
-use Rattle.dwarf_meaning.specs.Refusals.{Limits, taken, Refusal}
+use Rattle.dwarf_meaning.specs.Run.{Position, End, CompleteEnd, RequestEnd, FaultEnd, Course, only_end, prepend, Continues, return_to_caller, after_push, enter_callee, run_callee, after_answer, with_input, await_answer, after_operation, read, can_count, count_one, do_operation, turn_counted, counted_act, turn_by, turn, out_of_turns, run_for, enough, run}
+use Rattle.dwarf_meaning.specs.Refusals.{Limits, refusal_after_input, Refusal}
 use Rattle.dwarf_laws.specs.Agreement.{AgreeingInputs, Both, nothing, something, AgreeingNumbers, AgreeingFirsts, AgreeingLocations, AgreeingPieces, AgreeingOutcomes, requests, faults, completions}
 use Rattle.dwarf_laws.proofs.Pairs.{Pairwise, none, more, if_pair, zipped, pairs, top_pair}
 use Rattle.dwarf_laws.proofs.Actions.{AgreeingActs, located_both, AgreeingUses, gives, calls, denies, act_both, same_kinds, use_both, same_addresses}
@@ -20,7 +20,7 @@ use Rattle.dwarf_value.specs.declared.types.Value.{Value}
 use Rattle.dwarf_value.specs.Values.{Agree}
 use Rattle.dwarf_value.proofs.Agreements.{Agree-Generic}
 use Rattle.dwarf_meaning.specs.Locations.{Location, Piece}
-use Rattle.dwarf_meaning.specs.Meaning.{Outcome, FaultOutcome, completion_of, has_pieces, finish_value, finish_by, First, fresh, with_initial, outcome_of_end, course_of, meaning}
+use Rattle.dwarf_meaning.specs.Meaning.{Outcome, FaultOutcome, completion_of, has_pieces, finish_value, finish_by, First, fresh_store, with_initial, outcome_of_end, course_of, meaning}
 
 pub data AgreeingEnds (Free : Type 0) (w : ℕ) : End → End → Type 0 where
   finish_both : {s t : Store} {inputs inputs' : List Input} → AgreeingStores Free w s t
@@ -102,7 +102,7 @@ module _ (Free : Type 0) (setup : Setup) (limits : Limits) (premise : Free ⊎ (
         count = h.count;
         settings = a.settings;
         last = h.last;
-        refusal = map_free taken s.refusal t.refusal h.refusal;
+        refusal = map_free refusal_after_input s.refusal t.refusal h.refusal;
       }
 
   module _ (go go' : Continues) (H : GoAlike Free w go go') where
@@ -190,7 +190,7 @@ module _ (Free : Type 0) (setup : Setup) (limits : Limits) (premise : Free ⊎ (
         (done_both Free setup limits premise _ (length text.bytes) _ _ s t (acts _ x.0) h)
     does_both text depth s t inputs inputs' act_at act_at' (Err fault) acts h i = ended_both Free w _ _ fail_both
 
-    counted_both : (s t : Store) → AgreeingStores Free w s t → AgreeingStores Free w (counted s) (counted t)
+    counted_both : (s t : Store) → AgreeingStores Free w s t → AgreeingStores Free w (count_one s) (count_one t)
     counted_both s t h =
         record {
           values = h.values;
@@ -210,7 +210,7 @@ module _ (Free : Type 0) (setup : Setup) (limits : Limits) (premise : Free ⊎ (
     counts_both text place depth s t inputs inputs' h i =
         if_pair (AgreeingCourses Free w) (can_count s) (can_count t) _ _ _ _ (same_can s t h)
         (passing_both Free w (record { text = text; place = place }) _ _
-        (does_both text depth (counted s) (counted t) inputs inputs' (counted_act setup s) (counted_act other t) (read setup text place)
+        (does_both text depth (count_one s) (count_one t) inputs inputs' (counted_act setup s) (counted_act other t) (read setup text place)
         (λ after op. act_both w s.settings.object_address t.settings.object_address op s.values t.values h.settings.object_address h.values)
         (counted_both s t h) i))
         (ended_both Free w _ _ fail_both)
@@ -305,7 +305,7 @@ module _ (Free : Type 0) (setup : Setup) (limits : Limits) (premise : Free ⊎ (
   initial_both m n s t (something e) h = push_value_both Free setup limits premise _ _ s t (Agree-Generic w _ _ e) h
 
   module _ (refusal another : Refusal) (same_refusal : Free ⊎ (refusal ≡ another)) (text : Text) where
-    fresh_both : (x y : First) → AgreeingFirsts w x y → AgreeingStores Free w (fresh x refusal) (fresh y another)
+    fresh_both : (x y : First) → AgreeingFirsts w x y → AgreeingStores Free w (fresh_store x refusal) (fresh_store y another)
     fresh_both x y a =
         record {
           values = none;

@@ -13,7 +13,7 @@ use Rattle.dwarf_meaning.specs.Requests.{Request, OnAnswer, Input, Settings}
 use Rattle.dwarf_meaning.specs.Kinds.{kind_of_request, kind_of_answer, is_same_kind}
 use Rattle.dwarf_meaning.specs.Acts.{act, Use, PushesAnswer, Calls, FaultUse, use_of}
 use Rattle.dwarf_meaning.specs.Stores.{Setup, address_bits, Store, Last, Nothing, Plain, Pieced, Pushed, Called, Located, push_value, push_caller, Next}
-use Rattle.dwarf_meaning.specs.Run.{Position, End, CompleteEnd, RequestEnd, FaultEnd, Course, only_end, prepend, Continues, return_to_caller, run_callee, after_answer, await_answer, after_operation, read, can_count, counted, do_operation, turn_counted, counted_act, located_act, turn_by, turn, out_of_turns, run_for, enough, run}
+use Rattle.dwarf_meaning.specs.Run.{Position, End, CompleteEnd, RequestEnd, FaultEnd, Course, only_end, prepend, Continues, return_to_caller, run_callee, after_answer, await_answer, after_operation, read, can_count, count_one, do_operation, turn_counted, counted_act, located_act, turn_by, turn, out_of_turns, run_for, enough, run}
 use Rattle.dwarf_laws.specs.Inlining.{in_force}
 use Rattle.dwarf_meaning.proofs.Turns.{run_turn}
 use Rattle.dwarf_laws.proofs.Pairs.{if_pair}
@@ -222,7 +222,7 @@ module _ (encoding : Encoding) (bits : ℕ) (target : Settings) (n : ℕ) where
         (after_operation_mirror _ _ inputs t.settings _ _ too.next f
         (located_both encoding bits n Al (length T.bytes) (length T'.bytes) _ _ location t x.0 too.next))
 
-    counted_ahead : (t : Store) → ahead n (record t { count = t.count + 1 }) ≡ counted (ahead n t)
+    counted_ahead : (t : Store) → ahead n (record t { count = t.count + 1 }) ≡ count_one (ahead n t)
     counted_ahead t =
         ap (λ (k : ℕ). record (ahead n t) { count = k }) (let e : t.count + 1 + n ≡ t.count + n + 1 = omega arith in e)
 
@@ -234,14 +234,14 @@ module _ (encoding : Encoding) (bits : ℕ) (target : Settings) (n : ℕ) where
     counts_mirror p p' t inputs a f =
         cond_both (can_count (ahead n t)) _ _ (λ (c : Course). Here c (turn_counted (run S) S T' p' d' (calm t) inputs))
         (λ can.
-        let first = prepend ((at T p) ∷ []) [] (do_operation go S T d (counted (ahead n t)) inputs (counted_act S t) (read S T p)) in
-        let inner : Here first (do_operation (run S) S T' d' (counted (calm t)) inputs (counted_act S t) (read S T' p')) = subst
+        let first = prepend ((at T p) ∷ []) [] (do_operation go S T d (count_one (ahead n t)) inputs (counted_act S t) (read S T p)) in
+        let inner : Here first (do_operation (run S) S T' d' (count_one (calm t)) inputs (counted_act S t) (read S T' p')) = subst
         (λ (s : Store). Here (do_operation go S T d s inputs (counted_act S t) (read S T p))
-        (do_operation (run S) S T' d' (counted (calm t)) inputs (counted_act S t) (read S T' p'))) (counted_ahead t)
+        (do_operation (run S) S T' d' (count_one (calm t)) inputs (counted_act S t) (read S T' p'))) (counted_ahead t)
         (does_mirror p p' (record t { count = t.count + 1 }) inputs (read S T p) a f refl) in
         subst (λ (c : Course). Here first c) (sym
         (cond-true (can_count (calm t))
-        (prepend ((at T' p') ∷ []) [] (do_operation (run S) S T' d' (counted (calm t)) inputs (counted_act S t) (read S T' p')))
+        (prepend ((at T' p') ∷ []) [] (do_operation (run S) S T' d' (count_one (calm t)) inputs (counted_act S t) (read S T' p')))
         (only_end (FaultEnd TooManyIterations)) (can_too t can))) inner)
         (λ e. tt)
 

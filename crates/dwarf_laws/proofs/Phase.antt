@@ -13,11 +13,11 @@ use Rattle.dwarf_meaning.specs.Spelling.{Spells}
 use Rattle.dwarf_meaning.specs.Requests.{Request, RequiresAtLocation, OnAnswer, Input, Settings}
 use Rattle.dwarf_meaning.specs.Kinds.{kind_of_request, kind_of_answer, is_same_kind}
 use Rattle.dwarf_meaning.specs.Acts.{Act, Pushes, Branches, Locates, EndsPiece, RequestAct, FaultAct, act, Use, PushesAnswer, Calls, FaultUse, use_of}
-use Rattle.dwarf_meaning.specs.Stores.{Setup, address_bits, Store, Last, Nothing, Plain, Pieced, Pushed, Called, Located, push_value, push_piece, push_caller, Next, Goes, RequestNext, FaultNext, goes, done}
+use Rattle.dwarf_meaning.specs.Stores.{Setup, address_bits, Store, Last, Nothing, Plain, Pieced, Pushed, Called, Located, push_value, push_piece, push_caller, Next, Goes, RequestNext, FaultNext, goes, do_act}
 use Rattle.dwarf_meaning.specs.Run.{Position, End, CompleteEnd, RequestEnd, FaultEnd, Course, only_end, prepend, return_to_caller, run_callee, after_answer, await_answer, after_operation, read, can_count, do_operation, turn_counted, counted_act, located_act, turn_by, run}
 use Rattle.dwarf_meaning.specs.RunLaws.{IsSettled, end_before, course_before, Open, alone, calling}
 use Rattle.dwarf_meaning.proofs.Turns.{run_turn}
-use Rattle.dwarf_meaning.proofs.Inputs.{extends_run}
+use Rattle.dwarf_meaning.proofs.MoreInputs.{extends_run}
 use Rattle.dwarf_laws.proofs.Jumps.{Jumping, pushes, branches, locates, ends, asks, refuses, located_jumps}
 use Rattle.dwarf_laws.proofs.Calm.{free, calm, ahead, piled, piles_calm}
 use Rattle.dwarf_laws.proofs.Mirror.{Fits, GoesOn, Rests, MirrorsAt, mirror_same}
@@ -52,7 +52,7 @@ pub data NextCalm (settings : Settings) (place : ℕ) : Next → Type 0 where
   fails_calm : {fault : Fault} → NextCalm settings place (FaultNext fault)
 
 same_len : (setup : Setup) (place len other : ℕ) (a : Act) (s : Store) → Jumping (λ z. ⊥) a
-    → done setup place len a s ≡ done setup place other a s
+    → do_act setup place len a s ≡ do_act setup place other a s
 same_len setup place len other (Pushes rest pushed) s pushes = refl
 same_len setup place len other (Branches rest target) s (branches h) = absurd h
 same_len setup place len other (Locates rest location) s locates = refl
@@ -65,7 +65,7 @@ module _ (encoding : Encoding) (bits : ℕ) where
   S = free encoding bits
 
   done_calm : (place len : ℕ) (a : Act) (t : Store) → Jumping (λ z. ⊥) a
-      → NextCalm t.settings place (done S place len a (calm t))
+      → NextCalm t.settings place (do_act S place len a (calm t))
   unfolding push_piece
   done_calm place len (Pushes rest pushed) t pushes =
       let u : Store = record t { values = rest; last = Plain } in
@@ -252,19 +252,19 @@ module _ (encoding : Encoding) (bits : ℕ) where
         module _ (act_at : ℕ → Operation → Act) (jumps : (k : ℕ) → Jumping (λ z. ⊥) (act_at k op)) where
           does_is : (X : List ℕ) (s : Store) (inputs : List Input)
               → do_operation (run S) S (text X) 0 s inputs act_at (read S (text X) q) ≡ after_operation (run S) S (text X) 0 p inputs
-              (done S p 0 (act_at p op) s)
+              (do_act S p 0 (act_at p op) s)
           does_is X s inputs =
               ap (do_operation (run S) S (text X) 0 s inputs act_at) (reads X)
-              ∙ (ap (λ (k : ℕ). after_operation (run S) S (text X) 0 k inputs (done S k (length (A ++ X)) (act_at k op) s)) (place X)
+              ∙ (ap (λ (k : ℕ). after_operation (run S) S (text X) 0 k inputs (do_act S k (length (A ++ X)) (act_at k op) s)) (place X)
               ∙ ap (after_operation (run S) S (text X) 0 p inputs) (same_len S p (length (A ++ X)) 0 (act_at p op) s (jumps p)))
 
           does_leads : (u : Store) (inputs : List Input) → Fits target inputs u.settings
               → Leads (do_operation (run S) S outer 0 (calm u) inputs act_at (read S outer q))
               (λ X more. do_operation (run S) S (text X) 0 (calm u) (inputs ++ more) act_at (read S (text X) q))
           does_leads u inputs f =
-              leads_as (after_operation (run S) S outer 0 p inputs (done S p 0 (act_at p op) (calm u)))
+              leads_as (after_operation (run S) S outer 0 p inputs (do_act S p 0 (act_at p op) (calm u)))
               (do_operation (run S) S outer 0 (calm u) inputs act_at (read S outer q))
-              (λ X more. after_operation (run S) S (text X) 0 p (inputs ++ more) (done S p 0 (act_at p op) (calm u)))
+              (λ X more. after_operation (run S) S (text X) 0 p (inputs ++ more) (do_act S p 0 (act_at p op) (calm u)))
               (λ X more. do_operation (run S) S (text X) 0 (calm u) (inputs ++ more) act_at (read S (text X) q))
               (does_is (K ++ B) (calm u) inputs) (λ X more. does_is X (calm u) (inputs ++ more))
               (after_operation_leads inputs u.settings _ f (done_calm p 0 (act_at p op) u (jumps p)))

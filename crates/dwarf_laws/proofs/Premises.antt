@@ -9,10 +9,10 @@ use Rattle.dwarf_meaning.specs.Decoding.{operation_at}
 use Rattle.dwarf_meaning.specs.Spelling.{Spells}
 use Rattle.dwarf_meaning.specs.Splitting.{items_of, items_at}
 use Rattle.dwarf_meaning.specs.Stores.{Setup}
-use Rattle.dwarf_meaning.proofs.Decoded.{operation_begins}
+use Rattle.dwarf_meaning.proofs.DecodingFacts.{operation_begins}
 use Rattle.dwarf_meaning.proofs.Splittings.{splits_once, is_splitting}
-use Rattle.dwarf_laws.specs.Inlining.{CallSite, outer, IsStraight, StandsIn, EndAlike}
-use Rattle.dwarf_laws.proofs.Texts.{AllStraight}
+use Rattle.dwarf_laws.specs.Inlining.{CallSite, outer_text, IsStraight, StandsIn, EndAlike}
+use Rattle.dwarf_laws.proofs.TextPlaces.{AllStraight}
 use Rattle.dwarf_value.specs.declared.types.Value.{Value}
 use Rattle.dwarf_value.specs.Values.{Agree}
 use Rattle.dwarf_meaning.specs.Meaning.{Outcome, RequestOutcome, FaultOutcome, CompleteOutcome}
@@ -41,13 +41,13 @@ all_straight (op ∷ ops) fault h = (h.0, all_straight ops fault h.1)
 pub stands_in : (setup : Setup) (site : CallSite) (offset : DieReference)
     → AllRead (items_at setup.encoding setup.offset_bits (record { bytes = site.before; is_big = site.is_big }))
     → operation_at setup.encoding setup.offset_bits (record { bytes = site.call; is_big = site.is_big }) ≡ Ok (Call offset, [])
-    → AllStraight (items_at setup.encoding setup.offset_bits (outer site))
+    → AllStraight (items_at setup.encoding setup.offset_bits (outer_text site))
     → StandsIn setup site offset
 stands_in setup site offset h e k =
     let before = (splits_once setup.encoding setup.offset_bits site.is_big site.before).some in
     let before_is = is_splitting setup.encoding setup.offset_bits site.is_big site.before before.0 before.1.0 before.1.1 in
-    let all = (splits_once setup.encoding setup.offset_bits site.is_big (outer site).bytes).some in
-    let all_is = is_splitting setup.encoding setup.offset_bits site.is_big (outer site).bytes all.0 all.1.0 all.1.1 in
+    let all = (splits_once setup.encoding setup.offset_bits site.is_big (outer_text site).bytes).some in
+    let all_is = is_splitting setup.encoding setup.offset_bits site.is_big (outer_text site).bytes all.0 all.1.0 all.1.1 in
     let begins = operation_begins setup.encoding setup.offset_bits
     (record { bytes = site.call; is_big = site.is_big }) (Call offset) [] e in
     record {

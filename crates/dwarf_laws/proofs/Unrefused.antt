@@ -10,12 +10,12 @@ use Rattle.dwarf_meaning.specs.Locations.{Location, Piece}
 use Rattle.dwarf_meaning.specs.Requests.{Request, OnAnswer, Input}
 use Rattle.dwarf_meaning.specs.Kinds.{kind_of_request, kind_of_answer, is_same_kind}
 use Rattle.dwarf_meaning.specs.Acts.{on_top, Act, Pushes, Branches, Locates, EndsPiece, RequestAct, FaultAct, Use, PushesAnswer, Calls, FaultUse, use_of}
-use Rattle.dwarf_meaning.specs.Stores.{Setup, address_bits, Store, Last, Nothing, Plain, Pieced, Pushed, Called, Located, push_value, push_piece, push_caller, push_values, Next, Goes, RequestNext, FaultNext, goes, done}
-use Rattle.dwarf_meaning.specs.Run.{Position, End, CompleteEnd, RequestEnd, FaultEnd, Course, only_end, prepend, Continues, return_to_caller, after_push, enter_callee, run_callee, after_answer, with_input, await_answer, after_operation, read, can_count, counted, do_operation, turn_counted, counted_act, located_act, turn_by, turn, out_of_turns, run_for, enough}
-use Rattle.dwarf_meaning.specs.Meaning.{Outcome, FaultOutcome, completion_of, finish_value, finish_by, First, fresh, with_initial, outcome_of_end, meaning, has_pieces, CompleteOutcome, whole}
+use Rattle.dwarf_meaning.specs.Stores.{Setup, address_bits, Store, Last, Nothing, Plain, Pieced, Pushed, Called, Located, push_value, push_piece, push_caller, push_values, Next, Goes, RequestNext, FaultNext, goes, do_act}
+use Rattle.dwarf_meaning.specs.Run.{Position, End, CompleteEnd, RequestEnd, FaultEnd, Course, only_end, prepend, Continues, return_to_caller, after_push, enter_callee, run_callee, after_answer, with_input, await_answer, after_operation, read, can_count, count_one, do_operation, turn_counted, counted_act, located_act, turn_by, turn, out_of_turns, run_for, enough}
+use Rattle.dwarf_meaning.specs.Meaning.{Outcome, FaultOutcome, completion_of, finish_value, finish_by, First, fresh_store, with_initial, outcome_of_end, meaning, has_pieces, CompleteOutcome, whole}
 use Rattle.dwarf_meaning.specs.Refusals.{Refusal, Never}
 use Rattle.dwarf_laws.proofs.Pairs.{if_pair}
-use Rattle.dwarf_laws.proofs.Holdings.{IsRoom, is_left, is_full, spent_is}
+use Rattle.dwarf_laws.proofs.Holdings.{IsRoom, is_left, is_full, after_push_is}
 use Rattle.dwarf_laws.proofs.Calm.{free, calm}
 
 -- ---- pushes
@@ -87,25 +87,25 @@ module _ (encoding : Encoding) (bits : ℕ) where
   unfolding push_value
   value_calm x s =
       by_room (λ left. record s { values = x ∷ s.values; refusal = left })
-      (record s { values = x ∷ s.values; refusal = Never }) (λ left. refl) _ (spent_is s.refusal)
+      (record s { values = x ∷ s.values; refusal = Never }) (λ left. refl) _ (after_push_is s.refusal)
 
   piece_calm : (p : Piece) (s : Store) → CalmResults (push_piece S p s) (push_piece S p (calm s))
   unfolding push_piece
   piece_calm p s =
       by_room (λ left. record s { pieces = s.pieces ++ p ∷ []; refusal = left })
-      (record s { pieces = s.pieces ++ p ∷ []; refusal = Never }) (λ left. refl) _ (spent_is s.refusal)
+      (record s { pieces = s.pieces ++ p ∷ []; refusal = Never }) (λ left. refl) _ (after_push_is s.refusal)
 
   frame_calm : (depth : ℕ) (s : Store) → CalmResults (push_caller S depth s) (push_caller S depth (calm s))
   unfolding push_caller
   frame_calm depth s =
-      by_room (λ left. record s { refusal = left }) (record s { refusal = Never }) (λ left. refl) _ (spent_is s.refusal)
+      by_room (λ left. record s { refusal = left }) (record s { refusal = Never }) (λ left. refl) _ (after_push_is s.refusal)
 
   values_calm : (xs : List Value) (s : Store) → CalmResults (push_values S xs s) (push_values S xs (calm s))
   values_calm [] s = stores
   values_calm (x ∷ xs) s =
       bind_calm (push_value S x s) (push_value S x (calm s)) (push_values S xs) (value_calm x s) (values_calm xs)
 
-  done_calm : (place len : ℕ) (a : Act) (s : Store) → CalmNexts (done S place len a s) (done S place len a (calm s))
+  done_calm : (place len : ℕ) (a : Act) (s : Store) → CalmNexts (do_act S place len a s) (do_act S place len a (calm s))
   done_calm place len (Pushes rest pushed) s = goes_calm place _ _ (values_calm pushed (record s { values = rest; last = Plain }))
   done_calm place len (Branches rest target) s = if_pair CalmNexts _ _ _ _ _ _ refl fails goes_on
   done_calm place len (Locates rest location) s = goes_on
@@ -179,7 +179,7 @@ module _ (encoding : Encoding) (bits : ℕ) where
     counts_calm text place depth s inputs =
         if_pair Calms (can_count s) (can_count s) _ _ _ _ refl
         (passing_calm (record { text = text; place = place }) _ _
-        (does_calm text depth (counted s) inputs (counted_act S s) (read S text place))) (ended_calm _ _ fail_calm)
+        (does_calm text depth (count_one s) inputs (counted_act S s) (read S text place))) (ended_calm _ _ fail_calm)
 
     by_calm : (text : Text) (place depth : ℕ) (s : Store) (inputs : List Input) (l : Last)
         → Calms (turn_by go S text place depth s inputs l) (turn_by go' S text place depth (calm s) inputs l)
@@ -260,4 +260,4 @@ module _ (encoding : Encoding) (bits : ℕ) where
   meaning_calm refusal text first inputs =
       courses_calm _ _
       (resumed_calm (run_for enough S) (run_for enough S) (run_for_calm enough) (record { text = text; place = 0 }) 0 inputs _ _
-      (initial_calm first.initial_value (fresh first refusal)))
+      (initial_calm first.initial_value (fresh_store first refusal)))

@@ -11,7 +11,7 @@ use Rattle.dwarf_meaning.specs.declared.kinds.WaitingKind.{WaitingKind}
 use Rattle.dwarf_meaning.specs.Requests.{Request, Answer, ValueAnswer, NumberAnswer, LocationAnswer, BaseTypeAnswer, Settings, Input}
 use Rattle.dwarf_meaning.specs.Run.{Position}
 use Rattle.dwarf_meaning.specs.Meaning.{Outcome, RequestOutcome, FaultOutcome, CompleteOutcome, First}
-use Rattle.dwarf_meaning.specs.Steps.{Step, InitialValue, ObjectAddress, MaxIterations, Evaluate, Resume, Told}
+use Rattle.dwarf_meaning.specs.Steps.{Step, InitialValue, ObjectAddress, MaxIterations, Evaluate, Resume, Log}
 
 -- nothing twice, or two that are related
 pub data Both {A : Type 0} (R : A → A → Type 0) : Option A → Option A → Type 0 where
@@ -55,11 +55,11 @@ pub record AgreeingInputs (w : ℕ) (first second : Input) : Type 0 where
   pub settings : AgreeingSettings w first.settings second.settings
   pub answer : AgreeingAnswers w first.answer second.answer
 
--- What was told so far: settings and answers that agree, started on both sides or on neither.
-pub record AgreeingTold (w : ℕ) (told other : Told) : Type 0 where
-  pub now : AgreeingFirsts w told.now other.now
-  pub first : Both (AgreeingFirsts w) told.first other.first
-  pub inputs : AllZip (AgreeingInputs w) told.inputs other.inputs
+-- Logs whose settings and answers agree, started on both sides or on neither.
+pub record AgreeingLogs (w : ℕ) (log other : Log) : Type 0 where
+  pub now : AgreeingFirsts w log.now other.now
+  pub first : Both (AgreeingFirsts w) log.first other.first
+  pub inputs : AllZip (AgreeingInputs w) log.inputs other.inputs
 
 -- ---- its outcome
 

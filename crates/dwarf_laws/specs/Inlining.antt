@@ -15,7 +15,7 @@ use Rattle.dwarf_meaning.specs.Stores.{Setup}
 use Rattle.dwarf_meaning.specs.Run.{Position, RequestEnd}
 use Rattle.dwarf_meaning.specs.Meaning.{Outcome, RequestOutcome, FaultOutcome, CompleteOutcome, First, course_of, meaning}
 use Rattle.dwarf_meaning.specs.Refusals.{Never}
-use Rattle.dwarf_meaning.specs.Rows.{no_limits}
+use Rattle.dwarf_meaning.specs.RowWords.{no_limits}
 
 -- ---- the texts
 
@@ -28,16 +28,16 @@ pub record CallSite : Type 0 where
   pub is_big : Bool
 
 -- the text with the call
-abbrev pub outer : CallSite → Text
-outer site = record { bytes = site.before ++ (site.call ++ site.beyond); is_big = site.is_big }
+abbrev pub outer_text : CallSite → Text
+outer_text site = record { bytes = site.before ++ (site.call ++ site.beyond); is_big = site.is_big }
 
 -- the text that the call is answered by
-abbrev pub called : CallSite → Text
-called site = record { bytes = site.callee; is_big = site.is_big }
+abbrev pub callee_text : CallSite → Text
+callee_text site = record { bytes = site.callee; is_big = site.is_big }
 
 -- the text with the called bytes in the place of the call's
-abbrev pub inlined : CallSite → Text
-inlined site = record { bytes = site.before ++ (site.callee ++ site.beyond); is_big = site.is_big }
+abbrev pub inlined_text : CallSite → Text
+inlined_text site = record { bytes = site.before ++ (site.callee ++ site.beyond); is_big = site.is_big }
 
 -- ---- the inputs
 
@@ -49,7 +49,7 @@ in_force settings (input ∷ inputs) = in_force input.settings inputs
 -- the inputs of the outer text: the earlier ones, the called text as an answer that changes no setting, the later ones
 abbrev pub with_answer : CallSite → First → (earlier later : List Input) → List Input
 with_answer site first earlier later =
-    earlier ++ record { settings = in_force first.settings earlier; answer = LocationAnswer (called site) } ∷ later
+    earlier ++ record { settings = in_force first.settings earlier; answer = LocationAnswer (callee_text site) } ∷ later
 
 -- ---- the premises
 
@@ -66,22 +66,24 @@ pub record StandsIn (setup : Setup) (site : CallSite) (offset : DieReference) : 
   pub spelled : Spells (context_of setup.encoding setup.offset_bits site.is_big) site.call (Call offset)
   pub operations : List Operation
   pub fault : Option Fault
-  pub splits : Splitting (context_of setup.encoding setup.offset_bits site.is_big) (outer site).bytes operations fault
+  pub splits : Splitting (context_of setup.encoding setup.offset_bits site.is_big)
+      (outer_text site).bytes operations fault
   pub straight : AllByRecursion IsStraight operations
 
 -- The callee has bytes, and no branch of 16 bits wraps in the inlined text.
 pub record IsInlinable (setup : Setup) (site : CallSite) : Type 0 where
   pub some : 0 < length site.callee
   pub bytes : AreBytes site.callee
-  pub short : length (inlined site).bytes + 32768 < 2 ^ setup.offset_bits
+  pub short : length (inlined_text site).bytes + 32768 < 2 ^ setup.offset_bits
 
 -- The earlier inputs, all of them, lead to the call, in the outer text alone; `requests` were asked before it.
 pub record LeadsToCall (setup : Setup) (site : CallSite) (offset : DieReference) (first : First)
     (earlier : List Input) (requests : List Request) : Type 0 where
-  pub end : (course_of setup Never (outer site) first earlier).end
+  pub end : (course_of setup Never (outer_text site) first earlier).end
       ≡ RequestEnd (RequiresAtLocation offset)
-      (record { text = outer site; place = length site.before + length site.call } ∷ []) []
-  pub asked : (course_of setup Never (outer site) first earlier).requests ≡ requests ++ (RequiresAtLocation offset ∷ [])
+      (record { text = outer_text site; place = length site.before + length site.call } ∷ []) []
+  pub asked : (course_of setup Never (outer_text site) first earlier).requests
+      ≡ requests ++ (RequiresAtLocation offset ∷ [])
 
 -- ---- what is said
 
@@ -95,12 +97,12 @@ pub data EndAlike : Outcome → Outcome → Type 0 where
 -- The inlined text ends as the outer one does, without the answer of that call, and asks the same but for its request.
 pub record IsInlined (setup : Setup) (site : CallSite) (offset : DieReference) (first : First)
     (earlier later : List Input) (requests : List Request) : Type 0 where
-  pub ends : EndAlike (meaning setup Never (outer site) first (with_answer site first earlier later))
-      (meaning setup Never (inlined site) first (earlier ++ later))
+  pub ends : EndAlike (meaning setup Never (outer_text site) first (with_answer site first earlier later))
+      (meaning setup Never (inlined_text site) first (earlier ++ later))
   pub after : List Request
-  pub outer_asks : (course_of setup Never (outer site) first (with_answer site first earlier later)).requests
+  pub outer_asks : (course_of setup Never (outer_text site) first (with_answer site first earlier later)).requests
       ≡ requests ++ (RequiresAtLocation offset ∷ after)
-  pub inlined_asks : (course_of setup Never (inlined site) first (earlier ++ later)).requests ≡ requests ++ after
+  pub inlined_asks : (course_of setup Never (inlined_text site) first (earlier ++ later)).requests ≡ requests ++ after
 
 -- without limits and refusals, if the outer run meets no fault
 abbrev pub Inlining : Type 0
@@ -110,5 +112,5 @@ Inlining =
     → setup.limits ≡ no_limits → StandsIn setup site offset → IsInlinable setup site
     → LeadsToCall setup site offset first earlier requests
     → ((fault : Fault)
-    → meaning setup Never (outer site) first (with_answer site first earlier later) ≢ FaultOutcome fault)
+    → meaning setup Never (outer_text site) first (with_answer site first earlier later) ≢ FaultOutcome fault)
     → IsInlined setup site offset first earlier later requests

@@ -1,4 +1,4 @@
 pub mod Agreement
 pub mod TwoRuns
 pub mod Inlining
-pub mod Rows
+pub mod LawRows

@@ -7,57 +7,57 @@ use Rattle.dwarf_value.specs.Laws.{IsWidth}
 use Rattle.dwarf_meaning.specs.Stores.{Setup, address_bits}
 use Rattle.dwarf_meaning.specs.Run.{Position}
 use Rattle.dwarf_meaning.specs.Meaning.{First, course_of}
-use Rattle.dwarf_meaning.specs.Steps.{Step, Told, outcome_of, Allows, AllAllowed, after_steps, Reply, FaultReply, replies, replies_of}
+use Rattle.dwarf_meaning.specs.Steps.{Step, Log, outcome_of, Allows, AllAllowed, after_steps, Reply, FaultReply, replies, replies_of}
 use Rattle.dwarf_meaning.specs.Refusals.{Limits, Refusal}
-use Rattle.dwarf_laws.specs.Agreement.{Both, AgreeingSteps, AgreeingTold, AgreeingOutcomes}
+use Rattle.dwarf_laws.specs.Agreement.{Both, AgreeingSteps, AgreeingLogs, AgreeingOutcomes}
 
 -- no push was refused
 abbrev pub NoneIsFull : List Reply → Type 0
 NoneIsFull replies = AllByRecursion (λ (reply : Reply). reply ≢ FaultReply StackFull) replies
 
 -- where the operations stand that were counted so far, once it was started
-abbrev pub path_of : Setup → Refusal → Text → Told → Option (List Position)
-path_of setup refusal text told =
-    option_map (λ (first : First). (course_of setup refusal text first told.inputs).path) told.first
+abbrev pub path_of : Setup → Refusal → Text → Log → Option (List Position)
+path_of setup refusal text log =
+    option_map (λ (first : First). (course_of setup refusal text first log.inputs).path) log.first
 
--- Two evaluations of one text stand alike, by what each was told.
+-- Two evaluations of one text stand alike, by their logs.
 pub record StandAlike (setup other : Setup) (refusal another : Refusal) (text : Text)
-    (told second : Told) : Type 0 where
-  pub agreeing : AgreeingTold (address_bits setup) told second
+    (log second : Log) : Type 0 where
+  pub agreeing : AgreeingLogs (address_bits setup) log second
   -- the same request with the same open texts and places, the same fault, or agreeing pieces and values
-  pub outcomes : Both (AgreeingOutcomes (address_bits setup)) (outcome_of setup refusal text told)
+  pub outcomes : Both (AgreeingOutcomes (address_bits setup)) (outcome_of setup refusal text log)
       (outcome_of other another text second)
-  pub paths : path_of setup refusal text told ≡ path_of other another text second
+  pub paths : path_of setup refusal text log ≡ path_of other another text second
   -- of agreeing next steps, one is allowed exactly when the other is
   pub next : (step following : Step) → AgreeingSteps (address_bits setup) step following
-      → Allows told (outcome_of setup refusal text told) step
+      → Allows log (outcome_of setup refusal text log) step
       ↔ Allows second (outcome_of other another text second) following
 
--- Two evaluations of one text, each by its own steps, from what it was told before.
-pub record AreAlike (setup other : Setup) (refusal another : Refusal) (text : Text) (told second : Told)
+-- Two evaluations of one text, each by its own steps, from its log before them.
+pub record AreAlike (setup other : Setup) (refusal another : Refusal) (text : Text) (log second : Log)
     (steps others : List Step) : Type 0 where
-  pub allowed : AllAllowed setup refusal text told steps ↔ AllAllowed other another text second others
+  pub allowed : AllAllowed setup refusal text log steps ↔ AllAllowed other another text second others
   -- requests and faults are the same, and come at the same steps
-  pub replies : replies_of setup refusal text told steps ≡ replies_of other another text second others
+  pub replies : replies_of setup refusal text log steps ≡ replies_of other another text second others
   pub stand : StandAlike setup other refusal another text
-      (after_steps setup refusal text told steps) (after_steps other another text second others)
+      (after_steps setup refusal text log steps) (after_steps other another text second others)
 
 -- the same limits and the same refusal, or no push that was refused, so far or by the steps
-abbrev pub AreComparable : (setup other : Setup) (refusal another : Refusal) (text : Text) (told second : Told)
+abbrev pub AreComparable : (setup other : Setup) (refusal another : Refusal) (text : Text) (log second : Log)
     (steps others : List Step) → Type 0
-AreComparable setup other refusal another text told second steps others =
+AreComparable setup other refusal another text log second steps others =
     ((setup.limits ≡ other.limits) × (refusal ≡ another))
-    ⊎ (NoneIsFull (replies (outcome_of setup refusal text told) ++ replies_of setup refusal text told steps)
+    ⊎ (NoneIsFull (replies (outcome_of setup refusal text log) ++ replies_of setup refusal text log steps)
     × NoneIsFull (replies (outcome_of other another text second) ++ replies_of other another text second others))
 
--- Agreeing steps, from what was told before, under any limits and refusals. With nothing told on either side
--- (`untold`) it speaks of whole evaluations.
+-- Agreeing steps, from logs before them, under any limits and refusals. With `empty_log` on either side it speaks of
+-- whole evaluations.
 abbrev pub TwoRuns : Type 0
 TwoRuns =
-    (setup : Setup) (limits : Limits) (refusal another : Refusal) (text : Text) (told second : Told)
+    (setup : Setup) (limits : Limits) (refusal another : Refusal) (text : Text) (log second : Log)
     (steps others : List Step)
     → IsWidth (address_bits setup)
-    → AgreeingTold (address_bits setup) told second
+    → AgreeingLogs (address_bits setup) log second
     → AllZip (AgreeingSteps (address_bits setup)) steps others
-    → AreComparable setup (record setup { limits = limits }) refusal another text told second steps others
-    → AreAlike setup (record setup { limits = limits }) refusal another text told second steps others
+    → AreComparable setup (record setup { limits = limits }) refusal another text log second steps others
+    → AreAlike setup (record setup { limits = limits }) refusal another text log second steps others

@@ -5,8 +5,8 @@ mod bounds;
 mod rows;
 
 ghost use Rattle.std.specs.Prelude.{ℕ};
-ghost use Rattle.dwarf_meaning.specs.Steps.{untold};
-ghost use Rattle.dwarf_laws.specs.Agreement.{AgreeingTold};
+ghost use Rattle.dwarf_meaning.specs.Steps.{empty_log};
+ghost use Rattle.dwarf_laws.specs.Agreement.{AgreeingLogs};
 ghost use Rattle.dwarf_laws.specs.Inlining.{Inlining};
 ghost use Rattle.dwarf_laws.specs.TwoRuns.{TwoRuns};
 
@@ -15,11 +15,11 @@ pub use rows::{called_rows, premises_of_high_bits, premises_of_inlining, twin_ro
 
 /// Bits above an address change nothing that matters.
 ///
-/// It does nothing. Its contract is the law, from all that was told before; and that it speaks of evaluations from
-/// their beginning, as there what was told agrees.
+/// It does nothing. Its contract is the law, from all logs before; and that it speaks of evaluations from their
+/// beginning, as empty logs agree.
 pub fn high_bits()
     ensures onwards { TwoRuns }
-    ensures from_the_beginning { (bits : ℕ) → AgreeingTold bits untold untold }
+    ensures from_the_beginning { (bits : ℕ) → AgreeingLogs bits empty_log empty_log }
 {}
 
 /// A called text may be written in its call's place.

@@ -11,106 +11,106 @@ ghost use Rattle.dwarf_meaning.specs.Requests.{RequiresMemory, RequiresRegister,
 ghost use Rattle.dwarf_meaning.specs.Refusals.{Never, After};
 ghost use Rattle.dwarf_meaning.specs.Meaning.{RequestOutcome, FaultOutcome, CompleteOutcome, whole};
 ghost use Rattle.dwarf_meaning.specs.Steps.{InitialValue, ObjectAddress, RequestReply, CompleteReply, FaultReply};
-ghost use Rattle.dwarf_meaning.specs.Rows.{text, no_limits, with_limits, plain, at_most, unset, given, calls, open_at, word_at, valued, pieced};
-ghost use Rattle.dwarf_laws.specs.Rows.{started_steps, ComeAlike, call_site, IsWorked, Disagree, EndUnlike};
+ghost use Rattle.dwarf_meaning.specs.RowWords.{text, no_limits, with_limits, dwarf4, at_most, unset, inputs_of, callee, open_at, word_at, value_at, pieces_only};
+ghost use Rattle.dwarf_laws.specs.LawRows.{started_steps, ComeAlike, call_site, IsWorked, Disagree, EndUnlike};
 
 /// Worked rows of `high_bits`: two runs of one text whose answers differ above the 32 bits of an address.
 ///
 /// It does nothing. Each clause of its contract gives the limits, the text's bytes, and the steps of both runs, which
 /// agree; then what both reply, and the outcome of each.
 pub fn twin_rows()
-    ensures frame_address { ComeAlike plain (0x9c ∷ [])
+    ensures frame_address { ComeAlike dwarf4 (0x9c ∷ [])
         (started_steps (NumberAnswer kind.CallFrameCfa 0x10 ∷ []))
         (started_steps (NumberAnswer kind.CallFrameCfa 0x100000010 ∷ []))
         (RequestReply RequiresCallFrameCfa ∷ CompleteReply ∷ [])
-        (valued 0x10 0x10) (valued 0x100000010 0x10) }
-    ensures register { ComeAlike plain (0x70 ∷ 0x00 ∷ [])
+        (value_at 0x10 0x10) (value_at 0x100000010 0x10) }
+    ensures register { ComeAlike dwarf4 (0x70 ∷ 0x00 ∷ [])
         (started_steps (ValueAnswer kind.Register (Generic 5) ∷ []))
         (started_steps (ValueAnswer kind.Register (Generic 0x700000005) ∷ []))
-        (RequestReply (RequiresRegister 0 0) ∷ CompleteReply ∷ []) (valued 5 5) (valued 5 5) }
-    ensures frame_base { ComeAlike plain (0x91 ∷ 0x00 ∷ [])
+        (RequestReply (RequiresRegister 0 0) ∷ CompleteReply ∷ []) (value_at 5 5) (value_at 5 5) }
+    ensures frame_base { ComeAlike dwarf4 (0x91 ∷ 0x00 ∷ [])
         (started_steps (NumberAnswer kind.FrameBase 0x10 ∷ []))
         (started_steps (NumberAnswer kind.FrameBase 0x100000010 ∷ []))
         (RequestReply RequiresFrameBase ∷ CompleteReply ∷ [])
-        (valued 0x10 0x10) (valued 0x100000010 0x10) }
-    ensures tls { ComeAlike plain (0x35 ∷ 0x9b ∷ [])
+        (value_at 0x10 0x10) (value_at 0x100000010 0x10) }
+    ensures tls { ComeAlike dwarf4 (0x35 ∷ 0x9b ∷ [])
         (started_steps (NumberAnswer kind.Tls 0x10 ∷ [])) (started_steps (NumberAnswer kind.Tls 0x100000010 ∷ []))
         (RequestReply (RequiresTls 5) ∷ CompleteReply ∷ [])
-        (valued 0x10 0x10) (valued 0x100000010 0x10) }
-    ensures parameter { ComeAlike plain (0xfa ∷ 0x05 ∷ 0x00 ∷ 0x00 ∷ 0x00 ∷ [])
+        (value_at 0x10 0x10) (value_at 0x100000010 0x10) }
+    ensures parameter { ComeAlike dwarf4 (0xfa ∷ 0x05 ∷ 0x00 ∷ 0x00 ∷ 0x00 ∷ [])
         (started_steps (NumberAnswer kind.ParameterRef 0x10 ∷ []))
         (started_steps (NumberAnswer kind.ParameterRef 0x100000010 ∷ []))
         (RequestReply (RequiresParameterRef 5) ∷ CompleteReply ∷ [])
-        (valued 0x10 0x10) (valued 0x100000010 0x10) }
-    ensures relocated_address { ComeAlike plain (0x03 ∷ 0x05 ∷ 0x00 ∷ 0x00 ∷ 0x00 ∷ [])
+        (value_at 0x10 0x10) (value_at 0x100000010 0x10) }
+    ensures relocated_address { ComeAlike dwarf4 (0x03 ∷ 0x05 ∷ 0x00 ∷ 0x00 ∷ 0x00 ∷ [])
         (started_steps (NumberAnswer kind.RelocatedAddress 0x10 ∷ []))
         (started_steps (NumberAnswer kind.RelocatedAddress 0x100000010 ∷ []))
         (RequestReply (RequiresRelocatedAddress 5) ∷ CompleteReply ∷ [])
-        (valued 0x10 0x10) (valued 0x100000010 0x10) }
-    ensures indexed_address { ComeAlike plain (0xa1 ∷ 0x05 ∷ [])
+        (value_at 0x10 0x10) (value_at 0x100000010 0x10) }
+    ensures indexed_address { ComeAlike dwarf4 (0xa1 ∷ 0x05 ∷ [])
         (started_steps (NumberAnswer kind.IndexedAddress 0x10 ∷ []))
         (started_steps (NumberAnswer kind.IndexedAddress 0x100000010 ∷ []))
         (RequestReply (RequiresIndexedAddress 5 true) ∷ CompleteReply ∷ [])
-        (valued 0x10 0x10) (valued 0x100000010 0x10) }
-    ensures indexed_constant { ComeAlike plain (0xa2 ∷ 0x05 ∷ [])
+        (value_at 0x10 0x10) (value_at 0x100000010 0x10) }
+    ensures indexed_constant { ComeAlike dwarf4 (0xa2 ∷ 0x05 ∷ [])
         (started_steps (NumberAnswer kind.IndexedAddress 0x10 ∷ []))
         (started_steps (NumberAnswer kind.IndexedAddress 0x100000010 ∷ []))
         (RequestReply (RequiresIndexedAddress 5 false) ∷ CompleteReply ∷ [])
-        (valued 0x10 0x10) (valued 0x100000010 0x10) }
-    ensures wasm_local { ComeAlike plain (0xed ∷ 0x00 ∷ 0x05 ∷ [])
+        (value_at 0x10 0x10) (value_at 0x100000010 0x10) }
+    ensures wasm_local { ComeAlike dwarf4 (0xed ∷ 0x00 ∷ 0x05 ∷ [])
         (started_steps (ValueAnswer kind.WasmValue (Generic 0x10) ∷ []))
         (started_steps (ValueAnswer kind.WasmValue (Generic 0x100000010) ∷ []))
         (RequestReply (RequiresWasmLocal 5) ∷ CompleteReply ∷ [])
-        (valued 0x10 0x10) (valued 0x100000010 0x10) }
-    ensures wasm_global { ComeAlike plain (0xed ∷ 0x01 ∷ 0x05 ∷ [])
+        (value_at 0x10 0x10) (value_at 0x100000010 0x10) }
+    ensures wasm_global { ComeAlike dwarf4 (0xed ∷ 0x01 ∷ 0x05 ∷ [])
         (started_steps (ValueAnswer kind.WasmValue (Generic 0x10) ∷ []))
         (started_steps (ValueAnswer kind.WasmValue (Generic 0x100000010) ∷ []))
         (RequestReply (RequiresWasmGlobal 5) ∷ CompleteReply ∷ [])
-        (valued 0x10 0x10) (valued 0x100000010 0x10) }
-    ensures wasm_stack { ComeAlike plain (0xed ∷ 0x02 ∷ 0x05 ∷ [])
+        (value_at 0x10 0x10) (value_at 0x100000010 0x10) }
+    ensures wasm_stack { ComeAlike dwarf4 (0xed ∷ 0x02 ∷ 0x05 ∷ [])
         (started_steps (ValueAnswer kind.WasmValue (Generic 0x10) ∷ []))
         (started_steps (ValueAnswer kind.WasmValue (Generic 0x100000010) ∷ []))
         (RequestReply (RequiresWasmStack 5) ∷ CompleteReply ∷ [])
-        (valued 0x10 0x10) (valued 0x100000010 0x10) }
-    ensures entry_value { ComeAlike plain (0xa3 ∷ 0x01 ∷ 0x9c ∷ [])
+        (value_at 0x10 0x10) (value_at 0x100000010 0x10) }
+    ensures entry_value { ComeAlike dwarf4 (0xa3 ∷ 0x01 ∷ 0x9c ∷ [])
         (started_steps (ValueAnswer kind.EntryValue (Generic 0x10) ∷ []))
         (started_steps (ValueAnswer kind.EntryValue (Generic 0x100000010) ∷ []))
         (RequestReply (RequiresEntryValue (text (0x9c ∷ []))) ∷ CompleteReply ∷ [])
-        (valued 0x10 0x10) (valued 0x100000010 0x10) }
-    ensures memory { ComeAlike plain (0x9c ∷ 0x06 ∷ [])
+        (value_at 0x10 0x10) (value_at 0x100000010 0x10) }
+    ensures memory { ComeAlike dwarf4 (0x9c ∷ 0x06 ∷ [])
         (started_steps (NumberAnswer kind.CallFrameCfa 0x10 ∷ ValueAnswer kind.Memory (Generic 0x10) ∷ []))
         (started_steps (NumberAnswer kind.CallFrameCfa 0x100000010
         ∷ ValueAnswer kind.Memory (Generic 0x100000010) ∷ []))
         (RequestReply RequiresCallFrameCfa ∷ RequestReply
         (RequiresMemory 0x10 4 None 0) ∷ CompleteReply ∷ [])
-        (valued 0x10 0x10) (valued 0x100000010 0x10) }
-    ensures called_text { ComeAlike plain (0x98 ∷ 0x05 ∷ 0x00 ∷ [])
-        (started_steps (calls (0x9c ∷ []) ∷ NumberAnswer kind.CallFrameCfa 0x10 ∷ []))
-        (started_steps (calls (0x9c ∷ []) ∷ NumberAnswer kind.CallFrameCfa 0x100000010 ∷ []))
+        (value_at 0x10 0x10) (value_at 0x100000010 0x10) }
+    ensures called_text { ComeAlike dwarf4 (0x98 ∷ 0x05 ∷ 0x00 ∷ [])
+        (started_steps (callee (0x9c ∷ []) ∷ NumberAnswer kind.CallFrameCfa 0x10 ∷ []))
+        (started_steps (callee (0x9c ∷ []) ∷ NumberAnswer kind.CallFrameCfa 0x100000010 ∷ []))
         (RequestReply (RequiresAtLocation (UnitRef 5)) ∷ RequestReply
         RequiresCallFrameCfa ∷ CompleteReply ∷ [])
-        (valued 0x10 0x10) (valued 0x100000010 0x10) }
-    ensures value_of_a_piece { ComeAlike plain (0x9c ∷ 0x9f ∷ [])
+        (value_at 0x10 0x10) (value_at 0x100000010 0x10) }
+    ensures value_of_a_piece { ComeAlike dwarf4 (0x9c ∷ 0x9f ∷ [])
         (started_steps (NumberAnswer kind.CallFrameCfa 0x10 ∷ []))
         (started_steps (NumberAnswer kind.CallFrameCfa 0x100000010 ∷ []))
         (RequestReply RequiresCallFrameCfa ∷ CompleteReply ∷ [])
-        (pieced (whole (HoldsValue (Generic 0x10)) ∷ []))
-        (pieced (whole (HoldsValue (Generic 0x100000010)) ∷ [])) }
-    ensures shift { ComeAlike plain (0x9c ∷ 0x12 ∷ 0x24 ∷ [])
+        (pieces_only (whole (HoldsValue (Generic 0x10)) ∷ []))
+        (pieces_only (whole (HoldsValue (Generic 0x100000010)) ∷ [])) }
+    ensures shift { ComeAlike dwarf4 (0x9c ∷ 0x12 ∷ 0x24 ∷ [])
         (started_steps (NumberAnswer kind.CallFrameCfa 1 ∷ []))
         (started_steps (NumberAnswer kind.CallFrameCfa 0x100000001 ∷ []))
-        (RequestReply RequiresCallFrameCfa ∷ CompleteReply ∷ []) (valued 2 2) (valued 2 2) }
-    ensures branch { ComeAlike plain (0x31 ∷ 0x9c ∷ 0x28 ∷ 0x01 ∷ 0x00 ∷ 0x33 ∷ [])
+        (RequestReply RequiresCallFrameCfa ∷ CompleteReply ∷ []) (value_at 2 2) (value_at 2 2) }
+    ensures branch { ComeAlike dwarf4 (0x31 ∷ 0x9c ∷ 0x28 ∷ 0x01 ∷ 0x00 ∷ 0x33 ∷ [])
         (started_steps (NumberAnswer kind.CallFrameCfa 0 ∷ []))
         (started_steps (NumberAnswer kind.CallFrameCfa 0x100000000 ∷ []))
-        (RequestReply RequiresCallFrameCfa ∷ CompleteReply ∷ []) (valued 3 3) (valued 3 3) }
-    ensures reinterpreted { ComeAlike plain (0x9c ∷ 0xa9 ∷ 0x09 ∷ [])
+        (RequestReply RequiresCallFrameCfa ∷ CompleteReply ∷ []) (value_at 3 3) (value_at 3 3) }
+    ensures reinterpreted { ComeAlike dwarf4 (0x9c ∷ 0xa9 ∷ 0x09 ∷ [])
         (started_steps (NumberAnswer kind.CallFrameCfa 0x10 ∷ BaseTypeAnswer value_type.U32 ∷ []))
         (started_steps (NumberAnswer kind.CallFrameCfa 0x100000010 ∷ BaseTypeAnswer value_type.U32 ∷ []))
         (RequestReply RequiresCallFrameCfa ∷ RequestReply (RequiresBaseType 9) ∷ CompleteReply ∷ [])
         (CompleteOutcome (whole (AtAddress 0x10) ∷ []) (Some (U32 0x10)))
         (CompleteOutcome (whole (AtAddress 0x10) ∷ []) (Some (U32 0x10))) }
-    ensures converted { ComeAlike plain (0x9c ∷ 0xa8 ∷ 0x09 ∷ [])
+    ensures converted { ComeAlike dwarf4 (0x9c ∷ 0xa8 ∷ 0x09 ∷ [])
         (started_steps (NumberAnswer kind.CallFrameCfa 0x10 ∷ BaseTypeAnswer value_type.U64 ∷ []))
         (started_steps (NumberAnswer kind.CallFrameCfa 0x100000010 ∷ BaseTypeAnswer value_type.U64 ∷ []))
         (RequestReply RequiresCallFrameCfa ∷ RequestReply (RequiresBaseType 9) ∷ CompleteReply ∷ [])
@@ -122,12 +122,12 @@ pub fn twin_rows()
         (started_steps (NumberAnswer kind.CallFrameCfa 0x100000010 ∷ []))
         (RequestReply RequiresCallFrameCfa ∷ FaultReply StackFull ∷ []) (FaultOutcome StackFull)
         (FaultOutcome StackFull) }
-    ensures object_address { ComeAlike plain (0x97 ∷ [])
+    ensures object_address { ComeAlike dwarf4 (0x97 ∷ [])
         (ObjectAddress 0x10 ∷ started_steps []) (ObjectAddress 0x100000010 ∷ started_steps [])
-        (CompleteReply ∷ []) (valued 0x10 0x10) (valued 0x100000010 0x10) }
-    ensures initial_value { ComeAlike plain []
+        (CompleteReply ∷ []) (value_at 0x10 0x10) (value_at 0x100000010 0x10) }
+    ensures initial_value { ComeAlike dwarf4 []
         (InitialValue 0x10 ∷ started_steps []) (InitialValue 0x100000010 ∷ started_steps [])
-        (CompleteReply ∷ []) (valued 0x10 0x10) (valued 0x100000010 0x10) }
+        (CompleteReply ∷ []) (value_at 0x10 0x10) (value_at 0x100000010 0x10) }
 {}
 
 /// Worked rows of `inlining`: calls and the texts that they are answered by.
@@ -138,20 +138,22 @@ pub fn twin_rows()
 pub fn called_rows()
     ensures sum { IsWorked (call_site (0x31 ∷ []) (0x22 ∷ []) (0x32 ∷ []))
         [] []
-        [] [] (valued 3 3) }
+        [] [] (value_at 3 3) }
     ensures location { IsWorked (call_site [] (0x93 ∷ 0x04 ∷ []) (0x50 ∷ []))
         [] []
-        [] [] (pieced (word_at (InRegister 0) ∷ [])) }
+        [] [] (pieces_only (word_at (InRegister 0) ∷ [])) }
     ensures asks { IsWorked (call_site [] (0x9c ∷ 0x22 ∷ []) (0x9c ∷ []))
-        [] (given unset (NumberAnswer kind.CallFrameCfa 1 ∷ NumberAnswer kind.CallFrameCfa 2 ∷ []))
-        [] (RequiresCallFrameCfa ∷ RequiresCallFrameCfa ∷ []) (valued 3 3) }
+        [] (inputs_of unset
+        (NumberAnswer kind.CallFrameCfa 1 ∷ NumberAnswer kind.CallFrameCfa 2 ∷ []))
+        [] (RequiresCallFrameCfa ∷ RequiresCallFrameCfa ∷ []) (value_at 3 3) }
     ensures branches { IsWorked
         (call_site (0x31 ∷ []) (0x22 ∷ []) (0x32 ∷ 0x2f ∷ 0x01 ∷ 0x00 ∷ 0xff ∷ []))
         [] []
-        [] [] (valued 3 3) }
+        [] [] (value_at 3 3) }
     ensures asked_before { IsWorked (call_site (0x9c ∷ []) (0x9c ∷ 0x22 ∷ []) (0x32 ∷ 0x22 ∷ []))
-        (given unset (NumberAnswer kind.CallFrameCfa 1 ∷ [])) (given unset (NumberAnswer kind.CallFrameCfa 2 ∷ []))
-        (RequiresCallFrameCfa ∷ []) (RequiresCallFrameCfa ∷ []) (valued 5 5) }
+        (inputs_of unset (NumberAnswer kind.CallFrameCfa 1 ∷ []))
+        (inputs_of unset (NumberAnswer kind.CallFrameCfa 2 ∷ []))
+        (RequiresCallFrameCfa ∷ []) (RequiresCallFrameCfa ∷ []) (value_at 5 5) }
 {}
 
 /// Why premises of `high_bits` stand: the smallest two runs whose outcomes disagree if one doesn't hold.
@@ -159,38 +161,41 @@ pub fn called_rows()
 /// It does nothing. Each clause of its contract gives the limits and the refusal of both runs, the text's bytes, the
 /// settings and the answers of both, and the outcome of each.
 pub fn premises_of_high_bits()
-    ensures limits_differ { Disagree plain (with_limits (record no_limits { values = Some 0 }))
+    ensures limits_differ { Disagree dwarf4 (with_limits (record no_limits { values = Some 0 }))
         Never Never (0x31 ∷ []) unset unset
-        [] [] (valued 1 1) (FaultOutcome StackFull) }
-    ensures refusals_differ { Disagree plain plain Never (After 0 0) (0x31 ∷ []) unset unset
-        [] [] (valued 1 1) (FaultOutcome StackFull) }
-    ensures maxima_differ { Disagree plain plain Never Never (0x31 ∷ []) (at_most 1) (at_most 0)
-        [] [] (valued 1 1) (FaultOutcome TooManyIterations) }
-    ensures one_initial_value { Disagree plain plain Never Never []
+        [] [] (value_at 1 1) (FaultOutcome StackFull) }
+    ensures refusals_differ { Disagree dwarf4 dwarf4 Never (After 0 0) (0x31 ∷ []) unset unset
+        [] [] (value_at 1 1) (FaultOutcome StackFull) }
+    ensures maxima_differ { Disagree dwarf4 dwarf4 Never Never (0x31 ∷ []) (at_most 1) (at_most 0)
+        [] [] (value_at 1 1) (FaultOutcome TooManyIterations) }
+    ensures one_initial_value { Disagree dwarf4 dwarf4 Never Never []
         (record unset { initial_value = Some 0 }) unset
-        [] [] (valued 0 0) (FaultOutcome NotEnoughStackItems) }
-    ensures one_object_address { Disagree plain plain Never Never (0x97 ∷ [])
+        [] [] (value_at 0 0) (FaultOutcome NotEnoughStackItems) }
+    ensures one_object_address { Disagree dwarf4 dwarf4 Never Never (0x97 ∷ [])
         (record unset { settings = record unset.settings { object_address = Some 0 } }) unset
-        [] [] (valued 0 0) (FaultOutcome InvalidPushObjectAddress) }
-    ensures numbers_differ { Disagree plain plain Never Never (0x9c ∷ []) unset unset
-        (given unset (NumberAnswer kind.CallFrameCfa 0 ∷ [])) (given unset (NumberAnswer kind.CallFrameCfa 1 ∷ []))
-        (valued 0 0) (valued 1 1) }
-    ensures types_of_values_differ { Disagree plain plain Never Never (0x70 ∷ 0x00 ∷ []) unset
+        [] [] (value_at 0 0) (FaultOutcome InvalidPushObjectAddress) }
+    ensures numbers_differ { Disagree dwarf4 dwarf4 Never Never (0x9c ∷ []) unset unset
+        (inputs_of unset (NumberAnswer kind.CallFrameCfa 0 ∷ []))
+        (inputs_of unset (NumberAnswer kind.CallFrameCfa 1 ∷ []))
+        (value_at 0 0) (value_at 1 1) }
+    ensures types_of_values_differ { Disagree dwarf4 dwarf4 Never Never (0x70 ∷ 0x00 ∷ []) unset
         unset
-        (given unset (ValueAnswer kind.Register (U8 0) ∷ [])) (given unset (ValueAnswer kind.Register (U16 0) ∷ []))
+        (inputs_of unset (ValueAnswer kind.Register (U8 0) ∷ []))
+        (inputs_of unset (ValueAnswer kind.Register (U16 0) ∷ []))
         (CompleteOutcome (whole (AtAddress 0) ∷ []) (Some (U8 0)))
         (CompleteOutcome (whole (AtAddress 0) ∷ []) (Some (U16 0))) }
-    ensures typed_values_differ_above { Disagree plain plain Never Never (0x70 ∷ 0x00 ∷ []) unset
+    ensures typed_values_differ_above { Disagree dwarf4 dwarf4 Never Never (0x70 ∷ 0x00 ∷ []) unset
         unset
-        (given unset (ValueAnswer kind.Register (U64 0) ∷ []))
-        (given unset (ValueAnswer kind.Register (U64 0x100000000) ∷ []))
+        (inputs_of unset (ValueAnswer kind.Register (U64 0) ∷ []))
+        (inputs_of unset (ValueAnswer kind.Register (U64 0x100000000) ∷ []))
         (CompleteOutcome (whole (AtAddress 0) ∷ []) (Some (U64 0)))
         (CompleteOutcome (whole (AtAddress 0x100000000) ∷ []) (Some (U64 0x100000000))) }
-    ensures texts_differ { Disagree plain plain Never Never (0x98 ∷ 0x05 ∷ 0x00 ∷ []) unset unset
-        (given unset (calls (0x30 ∷ []) ∷ [])) (given unset (calls (0x31 ∷ []) ∷ []))
-        (valued 0 0) (valued 1 1) }
-    ensures types_differ { Disagree plain plain Never Never (0x30 ∷ 0xa8 ∷ 0x05 ∷ []) unset unset
-        (given unset (BaseTypeAnswer value_type.U8 ∷ [])) (given unset (BaseTypeAnswer value_type.U16 ∷ []))
+    ensures texts_differ { Disagree dwarf4 dwarf4 Never Never (0x98 ∷ 0x05 ∷ 0x00 ∷ []) unset unset
+        (inputs_of unset (callee (0x30 ∷ []) ∷ [])) (inputs_of unset (callee (0x31 ∷ []) ∷ []))
+        (value_at 0 0) (value_at 1 1) }
+    ensures types_differ { Disagree dwarf4 dwarf4 Never Never (0x30 ∷ 0xa8 ∷ 0x05 ∷ []) unset unset
+        (inputs_of unset (BaseTypeAnswer value_type.U8 ∷ []))
+        (inputs_of unset (BaseTypeAnswer value_type.U16 ∷ []))
         (CompleteOutcome (whole (AtAddress 0) ∷ []) (Some (U8 0)))
         (CompleteOutcome (whole (AtAddress 0) ∷ []) (Some (U16 0))) }
 {}
@@ -202,43 +207,46 @@ pub fn premises_of_high_bits()
 pub fn premises_of_inlining()
     ensures callers_have_a_limit { EndUnlike (with_limits (record no_limits { callers = Some 0 }))
         (0x98 ∷ 0x05 ∷ 0x00 ∷ []) (0x31 ∷ [])
-        unset (given unset (calls (0x31 ∷ []) ∷ [])) [] (FaultOutcome StackFull) (valued 1 1) }
-    ensures outer_text_branches { EndUnlike plain (0x98 ∷ 0x05 ∷ 0x00 ∷ 0x2f ∷ 0xfa ∷ 0xff ∷ [])
+        unset (inputs_of unset (callee (0x31 ∷ []) ∷ [])) [] (FaultOutcome StackFull)
+        (value_at 1 1) }
+    ensures outer_text_branches { EndUnlike dwarf4 (0x98 ∷ 0x05 ∷ 0x00 ∷ 0x2f ∷ 0xfa ∷ 0xff ∷ [])
         (0x31 ∷ 0x2f ∷ 0xfa ∷ 0xff ∷ [])
-        unset (given unset (calls (0x31 ∷ []) ∷ [])) []
+        unset (inputs_of unset (callee (0x31 ∷ []) ∷ [])) []
         (RequestOutcome (RequiresAtLocation (UnitRef 5))
         (open_at (0x98 ∷ 0x05 ∷ 0x00 ∷ 0x2f ∷ 0xfa ∷ 0xff ∷ []) 3 ∷ []))
         (FaultOutcome (BadBranchTarget 0xfffffffffffffffe)) }
-    ensures callee_is_empty { EndUnlike plain (0x31 ∷ 0x93 ∷ 0x04 ∷ 0x31 ∷ 0x98 ∷ 0x05 ∷ 0x00 ∷ [])
+    ensures callee_is_empty { EndUnlike dwarf4 (0x31 ∷ 0x93 ∷ 0x04 ∷ 0x31 ∷ 0x98 ∷ 0x05 ∷ 0x00 ∷ [])
         (0x31 ∷ 0x93 ∷ 0x04 ∷ 0x31 ∷ [])
-        unset (given unset (calls [] ∷ [])) [] (pieced (word_at (AtAddress 1) ∷ []))
+        unset (inputs_of unset (callee [] ∷ [])) [] (pieces_only (word_at (AtAddress 1) ∷ []))
         (FaultOutcome InvalidPiece) }
-    ensures callee_in_the_other_order { EndUnlike plain (0x98 ∷ 0x05 ∷ 0x00 ∷ [])
+    ensures callee_in_the_other_order { EndUnlike dwarf4 (0x98 ∷ 0x05 ∷ 0x00 ∷ [])
         (0x0a ∷ 0x01 ∷ 0x02 ∷ [])
         unset
-        (given unset
+        (inputs_of unset
         (LocationAnswer (record { bytes = 0x0a ∷ 0x01 ∷ 0x02 ∷ []; is_big = true }) ∷ [])) []
-        (valued 258 258) (valued 513 513) }
-    ensures offsets_are_narrow { EndUnlike (record plain { offset_bits = 2 })
+        (value_at 258 258) (value_at 513 513) }
+    ensures offsets_are_narrow { EndUnlike (record dwarf4 { offset_bits = 2 })
         (0x31 ∷ 0x98 ∷ 0x01 ∷ 0x00 ∷ [])
         (0x31 ∷ 0x2f ∷ 0x00 ∷ 0x00 ∷ [])
-        (at_most 3) (given (at_most 3) (calls (0x2f ∷ 0x00 ∷ 0x00 ∷ []) ∷ [])) [] (valued 1 1)
+        (at_most 3)
+        (inputs_of (at_most 3) (callee (0x2f ∷ 0x00 ∷ 0x00 ∷ []) ∷ [])) [] (value_at 1 1)
         (FaultOutcome TooManyIterations) }
-    ensures call_is_not_reached { EndUnlike plain (0x9c ∷ 0x98 ∷ 0x05 ∷ 0x00 ∷ []) (0x9c ∷ 0x31 ∷ [])
-        unset (given unset (calls (0x31 ∷ []) ∷ NumberAnswer kind.CallFrameCfa 0 ∷ []))
-        (given unset (NumberAnswer kind.CallFrameCfa 0 ∷ []))
+    ensures call_is_not_reached { EndUnlike dwarf4 (0x9c ∷ 0x98 ∷ 0x05 ∷ 0x00 ∷ []) (0x9c ∷ 0x31 ∷ [])
+        unset (inputs_of unset (callee (0x31 ∷ []) ∷ NumberAnswer kind.CallFrameCfa 0 ∷ []))
+        (inputs_of unset (NumberAnswer kind.CallFrameCfa 0 ∷ []))
         (RequestOutcome RequiresCallFrameCfa (open_at (0x9c ∷ 0x98 ∷ 0x05 ∷ 0x00 ∷ []) 1 ∷ []))
-        (valued 1 1) }
-    ensures maximum_is_set_at_the_answer { EndUnlike plain (0x98 ∷ 0x05 ∷ 0x00 ∷ [])
+        (value_at 1 1) }
+    ensures maximum_is_set_at_the_answer { EndUnlike dwarf4 (0x98 ∷ 0x05 ∷ 0x00 ∷ [])
         (0x31 ∷ 0x96 ∷ [])
-        (at_most 1) (given (at_most 3) (calls (0x31 ∷ 0x96 ∷ []) ∷ [])) []
-        (valued 1 1) (FaultOutcome TooManyIterations) }
-    ensures object_is_set_at_the_answer { EndUnlike plain (0x98 ∷ 0x05 ∷ 0x00 ∷ []) (0x97 ∷ [])
-        unset (given (record unset { settings = record unset.settings { object_address = Some 7 } })
-        (calls (0x97 ∷ []) ∷ [])) []
-        (valued 7 7)
+        (at_most 1) (inputs_of (at_most 3) (callee (0x31 ∷ 0x96 ∷ []) ∷ [])) []
+        (value_at 1 1) (FaultOutcome TooManyIterations) }
+    ensures object_is_set_at_the_answer { EndUnlike dwarf4 (0x98 ∷ 0x05 ∷ 0x00 ∷ []) (0x97 ∷ [])
+        unset (inputs_of
+        (record unset { settings = record unset.settings { object_address = Some 7 } })
+        (callee (0x97 ∷ []) ∷ [])) []
+        (value_at 7 7)
         (FaultOutcome InvalidPushObjectAddress) }
-    ensures outer_run_meets_a_fault { EndUnlike plain (0x98 ∷ 0x05 ∷ 0x00 ∷ []) (0x31 ∷ [])
-        (at_most 1) (given (at_most 1) (calls (0x31 ∷ []) ∷ [])) []
-        (FaultOutcome TooManyIterations) (valued 1 1) }
+    ensures outer_run_meets_a_fault { EndUnlike dwarf4 (0x98 ∷ 0x05 ∷ 0x00 ∷ []) (0x31 ∷ [])
+        (at_most 1) (inputs_of (at_most 1) (callee (0x31 ∷ []) ∷ [])) []
+        (FaultOutcome TooManyIterations) (value_at 1 1) }
 {}

@@ -10,8 +10,8 @@ use Rattle.dwarf_meaning.specs.Requests.{Request, OnAnswer, LocationAnswer, Inpu
 use Rattle.dwarf_meaning.specs.Kinds.{kind_of_request, kind_of_answer, is_same_kind}
 use Rattle.dwarf_meaning.specs.Acts.{Act, Use, PushesAnswer, Calls, FaultUse, use_of}
 use Rattle.dwarf_meaning.specs.Stores.{Setup, address_bits, Store, Last, Nothing, Plain, Pieced, Pushed, Called, Located, push_value, push_caller, Next, Goes, RequestNext, FaultNext}
-use Rattle.dwarf_meaning.specs.Run.{Position, End, CompleteEnd, RequestEnd, FaultEnd, Course, Continues, return_to_caller, after_push, enter_callee, run_callee, after_answer, with_input, await_answer, after_operation, read, can_count, counted, do_operation, turn_counted, counted_act, located_act, turn_by, turn, out_of_turns, run_for, enough, run}
-use Rattle.dwarf_meaning.specs.Meaning.{completion_of, has_pieces, finish_value, finish_by, First, fresh, with_initial, outcome_of_end, course_of, meaning}
+use Rattle.dwarf_meaning.specs.Run.{Position, End, CompleteEnd, RequestEnd, FaultEnd, Course, Continues, return_to_caller, after_push, enter_callee, run_callee, after_answer, with_input, await_answer, after_operation, read, can_count, count_one, do_operation, turn_counted, counted_act, located_act, turn_by, turn, out_of_turns, run_for, enough, run}
+use Rattle.dwarf_meaning.specs.Meaning.{completion_of, has_pieces, finish_value, finish_by, First, fresh_store, with_initial, outcome_of_end, course_of, meaning}
 use Rattle.dwarf_meaning.specs.RunLaws.{IsCallee, Open, alone, calling, OutcomeOpen}
 use Rattle.dwarf_meaning.specs.Refusals.{Refusal}
 use Rattle.dwarf_meaning.proofs.Choices.{top_both}
@@ -93,7 +93,7 @@ module _ (all : List Input) where
 
     opens_counts : (setup : Setup) (text : Text) (place depth : ℕ) (s : Store) (inputs : List Input) → Known all inputs → Ends text (turn_counted go setup text place depth s inputs).end
     opens_counts setup text place depth s inputs k =
-        cond_both (can_count s) _ _ (λ (c : Course). Ends text c.end) (λ can. opens_does setup text depth (counted s) inputs (counted_act setup s) (read setup text place) k) (λ e. tt)
+        cond_both (can_count s) _ _ (λ (c : Course). Ends text c.end) (λ can. opens_does setup text depth (count_one s) inputs (counted_act setup s) (read setup text place) k) (λ e. tt)
 
     opens_by : (setup : Setup) (text : Text) (place depth : ℕ) (s : Store) (inputs : List Input) (last : Last) → Known all inputs → Ends text (turn_by go setup text place depth s inputs last).end
     opens_by setup text place depth s inputs (Located location) k = opens_does setup text depth s inputs (located_act location s) (read setup text place) k
@@ -156,4 +156,4 @@ pub meaning_open : (setup : Setup) (refusal : Refusal) (text : Text) (first : Fi
 unfolding meaning
 meaning_open setup refusal text first inputs =
     ended_open inputs text setup (course_of setup refusal text first inputs).end
-    (opens_resumed inputs (run setup) (opens_run_for inputs enough setup) (record { text = text; place = 0 }) 0 inputs (with_initial setup first.initial_value (fresh first refusal)) (known_all inputs))
+    (opens_resumed inputs (run setup) (opens_run_for inputs enough setup) (record { text = text; place = 0 }) 0 inputs (with_initial setup first.initial_value (fresh_store first refusal)) (known_all inputs))

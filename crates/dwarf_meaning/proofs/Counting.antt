@@ -12,7 +12,7 @@ use Rattle.dwarf_meaning.specs.Requests.{Request, OnAnswer, Input}
 use Rattle.dwarf_meaning.specs.Kinds.{kind_of_request, kind_of_answer, is_same_kind}
 use Rattle.dwarf_meaning.specs.Acts.{Act, Use, PushesAnswer, Calls, FaultUse, use_of}
 use Rattle.dwarf_meaning.specs.Stores.{Setup, address_bits, Store, Last, Nothing, Plain, Pieced, Pushed, Called, Located, Next, Goes, RequestNext, FaultNext}
-use Rattle.dwarf_meaning.specs.Run.{Position, End, CompleteEnd, RequestEnd, FaultEnd, Course, only_end, prepend, Continues, return_to_caller, after_push, enter_callee, run_callee, after_answer, with_input, await_answer, after_operation, read, most, can_count, counted, do_operation, turn_counted, counted_act, located_act, turn_by, turn, out_of_turns, run_for, enough, run}
+use Rattle.dwarf_meaning.specs.Run.{Position, End, CompleteEnd, RequestEnd, FaultEnd, Course, only_end, prepend, Continues, return_to_caller, after_push, enter_callee, run_callee, after_answer, with_input, await_answer, after_operation, read, most, can_count, count_one, do_operation, turn_counted, counted_act, located_act, turn_by, turn, out_of_turns, run_for, enough, run}
 use Rattle.dwarf_meaning.specs.RunLaws.{MaximaWithin, AtEnd, CountsWithin}
 use Rattle.dwarf_meaning.proofs.Counts.{OnStore, OnNext, Tally, tally_of, HasTally, tally-push_value, tally-push_caller, tally-done}
 
@@ -128,7 +128,7 @@ module _ (bound : ℕ) (Fits : ℕ → Type 0) where
     counted_counts setup text place depth s inputs a =
         cond_both (can_count s) _ _ (Counted bound Fits s.count)
         (λ can. let below = bounded.below s.settings.maximum a.maximum s.count (grind (arith, nat_tests)) (grind (arith, nat_tests)) in
-        counted_passing s.count _ _ (counted_does setup text depth (counted s) inputs (counted_act setup s) (read setup text place)
+        counted_passing s.count _ _ (counted_does setup text depth (count_one s) inputs (counted_act setup s) (read setup text place)
         (record { count = omega (arith, below); maximum = a.maximum; others = a.others })))
         (λ e. counted_failed s.count TooManyIterations a.count)
 

@@ -5,10 +5,10 @@ use Rattle.dwarf_base.specs.Faults.{Fault, ◌>>=◌}
 use Rattle.dwarf_value.specs.declared.types.Value.{Value}
 use Rattle.dwarf_meaning.specs.Operations as operation
 use Rattle.dwarf_meaning.specs.Operations.{Operation}
-use Rattle.dwarf_meaning.specs.Locations.{Location, Piece, sized}
+use Rattle.dwarf_meaning.specs.Locations.{Location, Piece, sized_piece}
 use Rattle.dwarf_meaning.specs.Requests.{Settings}
 use Rattle.dwarf_meaning.specs.Acts.{Act, Pushes, Branches, Locates, EndsPiece, RequestAct, FaultAct}
-use Rattle.dwarf_meaning.specs.Stores.{Setup, Store, Last, Plain, Pieced, push_value, push_piece, push_caller, push_values, Next, Goes, RequestNext, FaultNext, goes, branch_target, done}
+use Rattle.dwarf_meaning.specs.Stores.{Setup, Store, Last, Plain, Pieced, push_value, push_piece, push_caller, push_values, Next, Goes, RequestNext, FaultNext, goes, branch_target, do_act}
 use Rattle.dwarf_meaning.specs.Run.{located_act}
 use Rattle.dwarf_meaning.specs.Refusals.{Refusal, room}
 
@@ -83,7 +83,7 @@ pub on_goes : (P : Store → Type 0) (place : ℕ) (r : Result Store Fault) → 
 on_goes P place (Ok s) h = h
 on_goes P place (Err fault) h = tt
 
-pub tally-done : (setup : Setup) (place len : ℕ) (a : Act) (s : Store) → OnNext (HasTally (tally_of s)) (done setup place len a s)
+pub tally-done : (setup : Setup) (place len : ℕ) (a : Act) (s : Store) → OnNext (HasTally (tally_of s)) (do_act setup place len a s)
 tally-done setup place len (Pushes rest pushed) s =
     on_goes (HasTally (tally_of s)) place _ (tally-push_values setup pushed (record s { values = rest; last = Plain }))
 tally-done setup place len (Branches rest target) s = cond_both (nat_lt len (branch_target setup place target)) _ _ (OnNext (HasTally (tally_of s))) (λ e. tt) (λ e. refl)
@@ -102,6 +102,6 @@ piece_goes : (m : Tally) (place : ℕ) (r : Result Store Fault) → OnStore (Kee
 piece_goes m place (Ok s) h = h
 piece_goes m place (Err fault) h = tt
 
-pub both-located : (setup : Setup) (location : Location) (place len : ℕ) (s : Store) (op : Operation) → OnPiece (tally_of s) (done setup place len (located_act location s place op) s)
-both-located setup location place len s (operation.Piece size_in_bits bit_offset) = piece_goes (tally_of s) place _ (both-push_piece setup (sized size_in_bits bit_offset location) (record s { last = Pieced }))
+pub both-located : (setup : Setup) (location : Location) (place len : ℕ) (s : Store) (op : Operation) → OnPiece (tally_of s) (do_act setup place len (located_act location s place op) s)
+both-located setup location place len s (operation.Piece size_in_bits bit_offset) = piece_goes (tally_of s) place _ (both-push_piece setup (sized_piece size_in_bits bit_offset location) (record s { last = Pieced }))
 both-located setup location place len s op = tt

@@ -9,7 +9,7 @@ use Rattle.dwarf_meaning.specs.Operations as operation
 use Rattle.dwarf_meaning.specs.Operations.{Operation}
 use Rattle.dwarf_meaning.specs.Locations.{Location, Empty, InRegister, AtAddress, HoldsValue, HoldsBytes, PointsInto, Piece}
 use Rattle.dwarf_meaning.specs.Requests.{Request, RequiresEntryValue, OnAnswer, Add, Parse, Answer, ValueAnswer, NumberAnswer, LocationAnswer, BaseTypeAnswer}
-use Rattle.dwarf_meaning.specs.Acts.{on_top, on_result, Act, Pushes, Branches, Locates, EndsPiece, RequestAct, FaultAct, short, push, unary, binary, act, Use, PushesAnswer, Calls, FaultUse, turn_top, use_of}
+use Rattle.dwarf_meaning.specs.Acts.{on_top, on_result, Act, Pushes, Branches, Locates, EndsPiece, RequestAct, FaultAct, underflow, push, unary, binary, act, Use, PushesAnswer, Calls, FaultUse, turn_top, use_of}
 use Rattle.dwarf_meaning.proofs.Choices.{top_both, some_both, answer_both}
 
 -- ---- operations
@@ -48,8 +48,8 @@ pub data IsActOf (op : Operation) (n : ℕ) : Act → Type 0 where
   refuses : {fault : Fault} → IsActOf op n (FaultAct fault)
 
 module _ {op : Operation} {n : ℕ} where
-  top_is : (values : List Value) (go : Value → List Value → Act) → ((x : Value) (rest : List Value) → length values ≡ suc (length rest) → IsActOf op n (go x rest)) → IsActOf op n (on_top values short go)
-  top_is values go h = top_both (IsActOf op n) values short go refuses h
+  top_is : (values : List Value) (go : Value → List Value → Act) → ((x : Value) (rest : List Value) → length values ≡ suc (length rest) → IsActOf op n (go x rest)) → IsActOf op n (on_top values underflow go)
+  top_is values go h = top_both (IsActOf op n) values underflow go refuses h
 
 module _ {op : Operation} where
   push_is : (values : List Value) (x : Value) → IsActOf op (length values) (push values x)
@@ -67,7 +67,7 @@ module _ {op : Operation} where
 pub act_is : (bits : ℕ) (object : Option ℕ) (op : Operation) (values : List Value) → IsActOf op (length values) (act bits object op values)
 unfolding act
 act_is bits object operation.Drop values = top_is values _ (λ x rest e. pushes (omega (arith, e)) (omega (arith, e)))
-act_is bits object (operation.Pick index) values = some_both (IsActOf (operation.Pick index) (length values)) _ short (push values) refuses (λ x. push_is values x)
+act_is bits object (operation.Pick index) values = some_both (IsActOf (operation.Pick index) (length values)) _ underflow (push values) refuses (λ x. push_is values x)
 act_is bits object operation.Swap [] = refuses
 act_is bits object operation.Swap (y ∷ []) = refuses
 act_is bits object operation.Swap (y ∷ x ∷ rest) = pushes (omega arith) (omega arith)

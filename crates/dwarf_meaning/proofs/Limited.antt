@@ -9,15 +9,15 @@ use Rattle.dwarf_base.specs.Reads.{Text}
 use Rattle.dwarf_value.specs.declared.types.Value.{Value}
 use Rattle.dwarf_meaning.specs.Operations as operation
 use Rattle.dwarf_meaning.specs.Operations.{Operation}
-use Rattle.dwarf_meaning.specs.Locations.{Location, Piece, sized}
+use Rattle.dwarf_meaning.specs.Locations.{Location, Piece, sized_piece}
 use Rattle.dwarf_meaning.specs.Requests.{Request, OnAnswer, Answer, Input}
 use Rattle.dwarf_meaning.specs.Kinds.{kind_of_request, kind_of_answer, is_same_kind}
 use Rattle.dwarf_meaning.specs.Acts.{on_top, Act, Pushes, Branches, Locates, EndsPiece, RequestAct, FaultAct, Use, PushesAnswer, Calls, FaultUse, use_of}
-use Rattle.dwarf_meaning.specs.Stores.{IsWithin, Setup, address_bits, Store, Last, Nothing, Plain, Pieced, Pushed, Called, Located, push_value, push_piece, push_caller, push_values, Next, Goes, RequestNext, FaultNext, branch_target, done}
-use Rattle.dwarf_meaning.specs.Run.{Position, End, CompleteEnd, RequestEnd, FaultEnd, Course, Continues, return_to_caller, after_push, enter_callee, run_callee, after_answer, with_input, await_answer, after_operation, read, can_count, counted, do_operation, turn_counted, counted_act, located_act, turn_by, turn, out_of_turns, run_for, enough, run, return_to_callers}
-use Rattle.dwarf_meaning.specs.Meaning.{completion_of, has_pieces, whole, finish_value, finish_by, First, fresh, with_initial, outcome_of_end, course_of, meaning}
+use Rattle.dwarf_meaning.specs.Stores.{IsWithin, Setup, address_bits, Store, Last, Nothing, Plain, Pieced, Pushed, Called, Located, push_value, push_piece, push_caller, push_values, Next, Goes, RequestNext, FaultNext, branch_target, do_act}
+use Rattle.dwarf_meaning.specs.Run.{Position, End, CompleteEnd, RequestEnd, FaultEnd, Course, Continues, return_to_caller, after_push, enter_callee, run_callee, after_answer, with_input, await_answer, after_operation, read, can_count, count_one, do_operation, turn_counted, counted_act, located_act, turn_by, turn, out_of_turns, run_for, enough, run, return_to_callers}
+use Rattle.dwarf_meaning.specs.Meaning.{completion_of, has_pieces, whole, finish_value, finish_by, First, fresh_store, with_initial, outcome_of_end, course_of, meaning}
 use Rattle.dwarf_meaning.specs.RunLaws.{ListsWithin, OpenTexts, EndWithin, OutcomeWithin, outermost}
-use Rattle.dwarf_meaning.specs.Refusals.{Refusal, spent, room}
+use Rattle.dwarf_meaning.specs.Refusals.{Refusal, refusal_after_push, room}
 use Rattle.dwarf_meaning.proofs.Counts.{OnStore, OnNext, bound_store, on_bound, on_goes}
 use Rattle.dwarf_meaning.proofs.Effects.{IsActOf, pushes, branches, locates, ends, asks, act_is, IsUseOf, use_is}
 
@@ -29,7 +29,7 @@ within_less (Some limit) n m h i = omega (arith, h, i)
 
 -- if there is room for one more, there is one more within the limit
 room_within : (limit : Option ℕ) (n : ℕ) (refusal : Refusal) (P : Store → Type 0) (make : Refusal → Store) → (IsWithin limit (suc n) → (left : Refusal) → P (make left)) → OnStore P (room limit n refusal >>= λ left. Ok (make left))
-room_within None n refusal P make h = bound_store P (spent refusal) make (h tt)
+room_within None n refusal P make h = bound_store P (refusal_after_push refusal) make (h tt)
 room_within (Some limit) n refusal P make h =
     cond_both (nat_lt n limit) (Ok refusal) (Err StackFull) (λ (r : Result Refusal Fault). OnStore P (r >>= λ left. Ok (make left)))
     (λ e. let below : n < limit = grind (arith, nat_tests) in h (omega (arith, below)) refusal)
@@ -70,7 +70,7 @@ module _ (setup : Setup) where
 
   -- ---- operations
 
-  kept_done : {op : Operation} (place len : ℕ) (a : Act) (s : Store) → IsActOf op (length s.values) a → Kept s → OnNext Kept (done setup place len a s)
+  kept_done : {op : Operation} (place len : ℕ) (a : Act) (s : Store) → IsActOf op (length s.values) a → Kept s → OnNext Kept (do_act setup place len a s)
   kept_done place len (Pushes rest pushed) s (pushes l _) h =
       on_goes Kept place _ (kept_values pushed (record s { values = rest; last = Plain }) (record { values = within_less setup.limits.values _ _ l h.values; pieces = h.pieces }))
   kept_done place len (Branches rest target) s (branches l _) h =
@@ -81,9 +81,9 @@ module _ (setup : Setup) where
   kept_done place len (RequestAct rest request on_answer) s (asks l _) h = record { values = within_less setup.limits.values _ _ l h.values; pieces = h.pieces }
   kept_done place len (FaultAct fault) s _ h = tt
 
-  kept_located : (location : Location) (s : Store) → Kept s → (place len : ℕ) (op : Operation) → OnNext Kept (done setup place len (located_act location s place op) s)
+  kept_located : (location : Location) (s : Store) → Kept s → (place len : ℕ) (op : Operation) → OnNext Kept (do_act setup place len (located_act location s place op) s)
   kept_located location s h place len (operation.Piece size_in_bits bit_offset) =
-      on_goes Kept place _ (kept_piece (sized size_in_bits bit_offset location) (record s { last = Pieced }) (record { values = h.values; pieces = h.pieces }))
+      on_goes Kept place _ (kept_piece (sized_piece size_in_bits bit_offset location) (record s { last = Pieced }) (record { values = h.values; pieces = h.pieces }))
   kept_located location s h place len op = tt
 
   -- ---- runs
@@ -140,15 +140,15 @@ module _ (setup : Setup) where
     limited_led text depth place inputs (RequestNext request on_answer s) d h = limited_asked (record { text = text; place = place }) depth request on_answer s inputs d h
     limited_led text depth place inputs (FaultNext fault) d h = tt
 
-    limited_does : (text : Text) (depth : ℕ) (s : Store) (inputs : List Input) (act_at : ℕ → Operation → Act) (r : Result (Operation × List ℕ) Fault) → IsWithin setup.limits.callers depth → ((place len : ℕ) (op : Operation) → OnNext Kept (done setup place len (act_at place op) s)) → EndWithin setup.limits text depth (do_operation go setup text depth s inputs act_at r).end
+    limited_does : (text : Text) (depth : ℕ) (s : Store) (inputs : List Input) (act_at : ℕ → Operation → Act) (r : Result (Operation × List ℕ) Fault) → IsWithin setup.limits.callers depth → ((place len : ℕ) (op : Operation) → OnNext Kept (do_act setup place len (act_at place op) s)) → EndWithin setup.limits text depth (do_operation go setup text depth s inputs act_at r).end
     limited_does text depth s inputs act_at (Ok x) d h = limited_led text depth _ inputs _ d (h _ _ x.0)
     limited_does text depth s inputs act_at (Err fault) d h = tt
 
     limited_counts : (text : Text) (place depth : ℕ) (s : Store) (inputs : List Input) → IsWithin setup.limits.callers depth → Kept s → EndWithin setup.limits text depth (turn_counted go setup text place depth s inputs).end
     limited_counts text place depth s inputs d h =
         cond_both (can_count s) _ _ (λ (c : Course). EndWithin setup.limits text depth c.end)
-        (λ can. limited_does text depth (counted s) inputs (counted_act setup s) (read setup text place) d
-        (λ place len op. kept_done place len _ (counted s) (act_is (address_bits setup) s.settings.object_address op s.values) (record { values = h.values; pieces = h.pieces })))
+        (λ can. limited_does text depth (count_one s) inputs (counted_act setup s) (read setup text place) d
+        (λ place len op. kept_done place len _ (count_one s) (act_is (address_bits setup) s.settings.object_address op s.values) (record { values = h.values; pieces = h.pieces })))
         (λ e. tt)
 
     limited_by : (text : Text) (place depth : ℕ) (s : Store) (inputs : List Input) (last : Last) → IsWithin setup.limits.callers depth → Kept s → EndWithin setup.limits text depth (turn_by go setup text place depth s inputs last).end
@@ -229,5 +229,5 @@ pub meaning_within : (setup : Setup) (refusal : Refusal) (text : Text) (first : 
 unfolding meaning
 meaning_within setup refusal text first inputs =
     ended_within setup text (course_of setup refusal text first inputs).end
-    (limited_resumed setup (run setup) (limited_run_for setup enough) (record { text = text; place = 0 }) 0 inputs (with_initial setup first.initial_value (fresh first refusal)) (none_within setup setup.limits.callers)
-    (initial_kept setup first.initial_value (fresh first refusal) (record { values = none_within setup setup.limits.values; pieces = none_within setup setup.limits.pieces })))
+    (limited_resumed setup (run setup) (limited_run_for setup enough) (record { text = text; place = 0 }) 0 inputs (with_initial setup first.initial_value (fresh_store first refusal)) (none_within setup setup.limits.callers)
+    (initial_kept setup first.initial_value (fresh_store first refusal) (record { values = none_within setup setup.limits.values; pieces = none_within setup setup.limits.pieces })))

@@ -11,7 +11,7 @@ use Rattle.dwarf_meaning.specs.Splitting as splitting
 use Rattle.dwarf_meaning.specs.DecodeLaws.{SplitsOnce, IsSplitting}
 use Rattle.dwarf_meaning.proofs.ReadsExactly.{Reading}
 use Rattle.dwarf_meaning.proofs.OperationReads.{reads_operation}
-use Rattle.dwarf_meaning.proofs.Decoded.{operation_begins, operation_shortens, spelled_operation, some_bytes}
+use Rattle.dwarf_meaning.proofs.DecodingFacts.{operation_begins, operation_shortens, spelled_operation, some_bytes}
 
 abbrev Items : Type 0
 Items = List (Result Operation Fault)

@@ -11,7 +11,7 @@ use Rattle.dwarf_meaning.specs.Requests.{Request, OnAnswer, Input}
 use Rattle.dwarf_meaning.specs.Kinds.{kind_of_request, kind_of_answer, is_same_kind}
 use Rattle.dwarf_meaning.specs.Acts.{Act, Use, PushesAnswer, Calls, FaultUse, use_of}
 use Rattle.dwarf_meaning.specs.Stores.{Setup, address_bits, Store, Last, Nothing, Plain, Pieced, Pushed, Called, Located, Next, Goes, RequestNext, FaultNext}
-use Rattle.dwarf_meaning.specs.Run.{Position, End, CompleteEnd, RequestEnd, FaultEnd, Course, only_end, prepend, Continues, return_to_caller, after_push, enter_callee, run_callee, after_answer, with_input, await_answer, after_operation, read, most, can_count, counted, do_operation, turn_counted, counted_act, located_act, turn_by, turn, out_of_turns, run_for, enough, run}
+use Rattle.dwarf_meaning.specs.Run.{Position, End, CompleteEnd, RequestEnd, FaultEnd, Course, only_end, prepend, Continues, return_to_caller, after_push, enter_callee, run_callee, after_answer, with_input, await_answer, after_operation, read, most, can_count, count_one, do_operation, turn_counted, counted_act, located_act, turn_by, turn, out_of_turns, run_for, enough, run}
 use Rattle.dwarf_meaning.specs.RunLaws.{waits_of, turns_left}
 use Rattle.dwarf_meaning.proofs.Counts.{OnStore, OnNext, Tally, tally_of, HasTally, OnPiece, tally-push_value, tally-push_caller, tally-done, both-located}
 
@@ -94,7 +94,7 @@ module _ (go : Continues) (lowers : Lowers go) where
   lowers_counts : (setup : Setup) (text : Text) (place depth : ℕ) (s : Store) (inputs : List Input) → EndsWithin (turns_left s) (turn_counted go setup text place depth s inputs).end
   lowers_counts setup text place depth s inputs =
       cond_both (can_count s) _ _ (λ (c : Course). EndsWithin (turns_left s) c.end)
-      (λ can. let below = below_most s can in ends_more (room_at (s.count + 1)) (turns_left s) _ (omega arith) (lowers_does setup text depth (counted s) inputs (counted_act setup s) (read setup text place)))
+      (λ can. let below = below_most s can in ends_more (room_at (s.count + 1)) (turns_left s) _ (omega arith) (lowers_does setup text depth (count_one s) inputs (counted_act setup s) (read setup text place)))
       (λ e. tt)
 
   -- after a location
@@ -180,11 +180,11 @@ module _ (go other : Continues) (m : ℕ) (alike : Alike m go other) (lowers : L
   alike_counts setup text place depth s inputs h =
       alike_by_test (can_count s) refl
     where
-      alike_by_test : (b : Bool) → can_count s ≡ b → cond b (prepend (record { text = text; place = place } ∷ []) [] (do_operation go setup text depth (counted s) inputs (counted_act setup s) (read setup text place))) (only_end (FaultEnd TooManyIterations)) ≡ cond b (prepend (record { text = text; place = place } ∷ []) [] (do_operation other setup text depth (counted s) inputs (counted_act setup s) (read setup text place))) (only_end (FaultEnd TooManyIterations))
+      alike_by_test : (b : Bool) → can_count s ≡ b → cond b (prepend (record { text = text; place = place } ∷ []) [] (do_operation go setup text depth (count_one s) inputs (counted_act setup s) (read setup text place))) (only_end (FaultEnd TooManyIterations)) ≡ cond b (prepend (record { text = text; place = place } ∷ []) [] (do_operation other setup text depth (count_one s) inputs (counted_act setup s) (read setup text place))) (only_end (FaultEnd TooManyIterations))
       alike_by_test true e =
           let below = below_most s e in
           ap (prepend (record { text = text; place = place } ∷ []) [])
-          (alike_does setup text depth (counted s) inputs (counted_act setup s) (read setup text place) (omega arith))
+          (alike_does setup text depth (count_one s) inputs (counted_act setup s) (read setup text place) (omega arith))
       alike_by_test false e = refl
 
   alike_piece : (setup : Setup) (text : Text) (depth place : ℕ) (inputs : List Input) (n : Tally) (next : Next) → OnPiece n next → 2 * (most - n.count) ≤ m → after_operation go setup text depth place inputs next ≡ after_operation other setup text depth place inputs next

@@ -11,7 +11,7 @@ use Rattle.dwarf_value.specs.declared.types.Value.TheVariants.{Generic}
 use Rattle.dwarf_value.specs.Values.{type_of, to_u64_of, from_u64_of, convert_of, reinterpret_of, parse_of, unary_of, binary_of, Plus}
 use Rattle.dwarf_meaning.specs.Operations as operation
 use Rattle.dwarf_meaning.specs.Operations.{Operation, UnsignedConstant, SignedConstant, Address, AddressIndex, ConstantIndex, TypedLiteral, FrameOffset, RegisterOffset, Drop, Swap, Rot, Pick, Deref, PushObjectAddress, TLS, CallFrameCFA, Unary, PlusConstant, Binary, Skip, Bra, Call, Convert, Reinterpret, Nop, EntryValue, Register, ImplicitValue, StackValue, ImplicitPointer, Uninitialized, ParameterRef, VariableValue, WasmLocal, WasmGlobal, WasmStack}
-use Rattle.dwarf_meaning.specs.Locations.{Location, Empty, InRegister, AtAddress, HoldsValue, HoldsBytes, PointsInto, Piece, sized}
+use Rattle.dwarf_meaning.specs.Locations.{Location, Empty, InRegister, AtAddress, HoldsValue, HoldsBytes, PointsInto, Piece, sized_piece}
 use Rattle.dwarf_meaning.specs.Requests.{Request, RequiresMemory, RequiresRegister, RequiresWasmLocal, RequiresWasmGlobal, RequiresWasmStack, RequiresFrameBase, RequiresTls, RequiresCallFrameCfa, RequiresAtLocation, RequiresEntryValue, RequiresParameterRef, RequiresRelocatedAddress, RequiresIndexedAddress, RequiresBaseType, OnAnswer, Push, Add, Parse, Convert, Reinterpret, Answer, ValueAnswer, NumberAnswer, LocationAnswer, BaseTypeAnswer}
 
 -- What an operation does: `rest` are the values that it leaves of the stack, the top first.
@@ -41,8 +41,8 @@ on_result (Ok x) faulted go = go x
 on_result (Err error) faulted go = faulted (fault_of error)
 
 -- no value is there to be popped
-abbrev pub short : Act
-short = FaultAct NotEnoughStackItems
+abbrev pub underflow : Act
+underflow = FaultAct NotEnoughStackItems
 
 -- one value is pushed
 abbrev pub push : List Value → Value → Act
@@ -50,12 +50,12 @@ push rest value = Pushes rest (value ∷ [])
 
 -- the top becomes the call's result
 abbrev pub unary : (Value → Result Value Error) → List Value → Act
-unary call values = on_top values short (λ x rest. on_result (call x) FaultAct (push rest))
+unary call values = on_top values underflow (λ x rest. on_result (call x) FaultAct (push rest))
 
 -- the two on top become the call's result
 abbrev pub binary : (Value → Value → Result Value Error) → List Value → Act
 binary call values =
-    on_top values short (λ y below. on_top below short (λ x rest. on_result (call x y) FaultAct (push rest)))
+    on_top values underflow (λ y below. on_top below underflow (λ x rest. on_result (call x y) FaultAct (push rest)))
 
 -- ---- operations that are done at once, and those that ask
 
@@ -63,12 +63,12 @@ binary call values =
 module _ (bits : ℕ) (object : Option ℕ) where
   -- what an operation does with the values on the stack
   unfoldable pub act : Operation → List Value → Act
-  act Drop values = on_top values short (λ x rest. Pushes rest [])
-  act (Pick index) values = option_map_or (push values) (slice_get values index) short
+  act Drop values = on_top values underflow (λ x rest. Pushes rest [])
+  act (Pick index) values = option_map_or (push values) (slice_get values index) underflow
   act Swap (y ∷ x ∷ rest) = Pushes rest (y ∷ x ∷ [])
-  act Swap _ = short
+  act Swap _ = underflow
   act Rot (z ∷ y ∷ x ∷ rest) = Pushes rest (z ∷ x ∷ y ∷ [])
-  act Rot _ = short
+  act Rot _ = underflow
   act (Unary op) values = unary (unary_of op bits) values
   act (Binary op) values = binary (binary_of op bits) values
   act (PlusConstant value) values = unary (λ x. binary_of Plus bits x (from_u64_of (type_of x) value)) values
@@ -77,21 +77,22 @@ module _ (bits : ℕ) (object : Option ℕ) where
   act PushObjectAddress values =
       option_map_or (λ address. push values (Generic address)) object (FaultAct InvalidPushObjectAddress)
   act (Bra target) values =
-      on_top values short (λ x rest. if to_u64_of bits x == 0 then Pushes rest [] else Branches rest target)
+      on_top values underflow (λ x rest. if to_u64_of bits x == 0 then Pushes rest [] else Branches rest target)
   act (Skip target) values = Branches values target
   act Nop values = Pushes values []
   act (VariableValue offset) values = FaultAct UnsupportedEvaluation
   act Uninitialized values = FaultAct UnsupportedEvaluation
   act (Deref base_type size false) values =
       if nat_lt bits (8 * size) then FaultAct (InvalidDerefSize size)
-      else on_top values short (λ x rest. RequestAct rest (RequiresMemory (to_u64_of bits x) size None base_type) Push)
+      else on_top values underflow
+      (λ x rest. RequestAct rest (RequiresMemory (to_u64_of bits x) size None base_type) Push)
   act (Deref base_type size true) values =
       if nat_lt bits (8 * size) then FaultAct (InvalidDerefSize size)
-      else on_top values short (λ x below. on_top below short (λ y rest.
+      else on_top values underflow (λ x below. on_top below underflow (λ y rest.
       RequestAct rest (RequiresMemory (to_u64_of bits x) size (Some (to_u64_of bits y)) base_type) Push))
   act (RegisterOffset register offset type) values = RequestAct values (RequiresRegister register type) (Add offset)
   act (FrameOffset offset) values = RequestAct values RequiresFrameBase (Add offset)
-  act TLS values = on_top values short (λ x rest. RequestAct rest (RequiresTls (to_u64_of bits x)) Push)
+  act TLS values = on_top values underflow (λ x rest. RequestAct rest (RequiresTls (to_u64_of bits x)) Push)
   act CallFrameCFA values = RequestAct values RequiresCallFrameCfa Push
   act (Call offset) values = RequestAct values (RequiresAtLocation offset) Push
   act (EntryValue expression) values = RequestAct values (RequiresEntryValue expression) Push
@@ -107,10 +108,10 @@ module _ (bits : ℕ) (object : Option ℕ) where
   act (WasmStack index) values = RequestAct values (RequiresWasmStack index) Push
   act (Register register) values = Locates values (InRegister register)
   act (ImplicitValue bytes) values = Locates values (HoldsBytes bytes)
-  act StackValue values = on_top values short (λ x rest. Locates rest (HoldsValue x))
+  act StackValue values = on_top values underflow (λ x rest. Locates rest (HoldsValue x))
   act (ImplicitPointer value byte_offset) values = Locates values (PointsInto value byte_offset)
-  act (operation.Piece size offset) values = on_top values (EndsPiece [] (sized size offset Empty))
-      (λ x rest. EndsPiece rest (sized size offset (AtAddress (to_u64_of bits x))))
+  act (operation.Piece size offset) values = on_top values (EndsPiece [] (sized_piece size offset Empty))
+      (λ x rest. EndsPiece rest (sized_piece size offset (AtAddress (to_u64_of bits x))))
 
 -- ---- what is done with an answer
 

@@ -4,9 +4,9 @@ use Rattle.dwarf_base.specs.Reads.{Text}
 use Rattle.dwarf_meaning.specs.Requests.{Answer, Settings, Input}
 use Rattle.dwarf_meaning.specs.Stores.{Setup}
 use Rattle.dwarf_meaning.specs.Refusals.{Never}
-use Rattle.dwarf_meaning.specs.Meaning.{fresh}
+use Rattle.dwarf_meaning.specs.Meaning.{fresh_store}
 use Rattle.dwarf_meaning.specs.Rest.{State, Status, Start}
-use Rattle.dwarf_meaning.specs.Steps.{untold}
+use Rattle.dwarf_meaning.specs.Steps.{empty_log}
 
 -- an evaluation of a text, with nothing set and nothing done
 abbrev pub fresh_state : Setup → Text → State
@@ -16,7 +16,7 @@ fresh_state setup text = record {
   text = text;
   place = 0;
   callers = [];
-  store = fresh untold.now Never;
+  store = fresh_store empty_log.now Never;
   decodings = 0;
 }
 

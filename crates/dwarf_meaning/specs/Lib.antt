@@ -17,5 +17,5 @@ pub mod Rest
 pub mod Inputs
 pub mod Bounds
 pub mod Steps
-pub mod Rows
+pub mod RowWords
 pub mod RunLaws

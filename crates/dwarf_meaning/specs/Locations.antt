@@ -19,5 +19,5 @@ pub record Piece : Type 0 where
   pub location : Location
 
 -- a piece of this size, at this offset
-abbrev pub sized : (size_in_bits : ℕ) → (bit_offset : Option ℕ) → Location → Piece
-sized size offset location = record { size_in_bits = Some size; bit_offset = offset; location = location }
+abbrev pub sized_piece : (size_in_bits : ℕ) → (bit_offset : Option ℕ) → Location → Piece
+sized_piece size offset location = record { size_in_bits = Some size; bit_offset = offset; location = location }

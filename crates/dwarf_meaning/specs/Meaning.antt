@@ -75,8 +75,9 @@ pub record First : Type 0 where
   pub settings : Settings
 
 -- what is kept at the start: nothing but the settings
-abbrev pub fresh : First → Refusal → Store
-fresh first r = record { values = []; pieces = []; count = 0; settings = first.settings; last = Nothing; refusal = r }
+abbrev pub fresh_store : First → Refusal → Store
+fresh_store first r =
+    record { values = []; pieces = []; count = 0; settings = first.settings; last = Nothing; refusal = r }
 
 -- the initial value is pushed, if there is one
 abbrev pub with_initial : Setup → Option ℕ → Store → Result Store Fault
@@ -87,7 +88,7 @@ with_initial setup (Some number) s = push_value setup (Generic number) s
 abbrev pub course_of : Setup → Refusal → Text → First → List Input → Course
 course_of setup refusal text first inputs =
     after_push (run setup) (record { text = text; place = 0 }) 0 inputs
-    (with_initial setup first.initial_value (fresh first refusal))
+    (with_initial setup first.initial_value (fresh_store first refusal))
 
 -- the outcome of a text; its path and its requests are those of the course
 unfoldable pub meaning : Setup → Refusal → Text → First → List Input → Outcome

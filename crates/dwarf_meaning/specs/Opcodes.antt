@@ -44,10 +44,10 @@ both standard gnu row = record { has = λ n. n == standard || n == gnu; row = λ
 abbrev pub range : (from to : ℕ) → (ℕ → Row) → Line
 range from to row = record { has = λ n. nat_le from n && nat_le n to; row = λ n. row (n - from) }
 
--- consecutive opcodes, each with an operation that has no operands
-abbrev pub plain : (from : ℕ) → List Operation → List Line
-plain from [] = []
-plain from (op ∷ ops) = one from (Makes op) ∷ plain (from + 1) ops
+-- consecutive opcodes, each without operands
+abbrev pub nullary : (from : ℕ) → List Operation → List Line
+nullary from [] = []
+nullary from (op ∷ ops) = one from (Makes op) ∷ nullary (from + 1) ops
 
 -- the row of the line that has the opcode, or this one if none has
 abbrev pub row_among : (none : Row) → (opcode : ℕ) → List Line → Row
@@ -71,15 +71,15 @@ lines encoding =
     ∷ one 0x0c (unsigned (Bytes 4, Any) UnsignedConstant) ∷ one 0x0d (signed (Bytes 4) SignedConstant)
     ∷ one 0x0e (unsigned (Bytes 8, Any) UnsignedConstant) ∷ one 0x0f (signed (Bytes 8) SignedConstant)
     ∷ one 0x10 (unsigned (Leb128, Any) UnsignedConstant) ∷ one 0x11 (signed Leb128 SignedConstant)
-    ∷ plain 0x12 (Pick 0 ∷ Drop ∷ Pick 1 ∷ [])
+    ∷ nullary 0x12 (Pick 0 ∷ Drop ∷ Pick 1 ∷ [])
     ++ one 0x15 (unsigned (Bytes 1, Any) Pick)
-    ∷ plain 0x16 (Swap ∷ Rot ∷ Deref 0 encoding.address_size true ∷ [])
-    ++ plain 0x19 (Unary Abs ∷ Binary And ∷ Binary Div ∷ Binary Minus ∷ Binary Mod ∷ Binary Mul ∷ Unary Neg ∷ [])
-    ++ plain 0x20 (Unary Not ∷ Binary Or ∷ Binary Plus ∷ [])
+    ∷ nullary 0x16 (Swap ∷ Rot ∷ Deref 0 encoding.address_size true ∷ [])
+    ++ nullary 0x19 (Unary Abs ∷ Binary And ∷ Binary Div ∷ Binary Minus ∷ Binary Mod ∷ Binary Mul ∷ Unary Neg ∷ [])
+    ++ nullary 0x20 (Unary Not ∷ Binary Or ∷ Binary Plus ∷ [])
     ++ one 0x23 (unsigned (Leb128, Any) PlusConstant)
-    ∷ plain 0x24 (Binary Shl ∷ Binary Shr ∷ Binary Shra ∷ Binary Xor ∷ [])
+    ∷ nullary 0x24 (Binary Shl ∷ Binary Shr ∷ Binary Shra ∷ Binary Xor ∷ [])
     ++ one 0x28 (signed (Bytes 2) Bra)
-    ∷ plain 0x29 (Binary Eq ∷ Binary Ge ∷ Binary Gt ∷ Binary Le ∷ Binary Lt ∷ Binary Ne ∷ [])
+    ∷ nullary 0x29 (Binary Eq ∷ Binary Ge ∷ Binary Gt ∷ Binary Le ∷ Binary Lt ∷ Binary Ne ∷ [])
     ++ one 0x2f (signed (Bytes 2) Skip)
     ∷ range 0x30 0x4f (λ number. Makes (UnsignedConstant number))
     ∷ range 0x50 0x6f (λ number. Makes (operation.Register number))
@@ -90,7 +90,7 @@ lines encoding =
     ∷ one 0x93 (unsigned (Leb128, PieceSize) (λ size. Piece (8 * size) None))
     ∷ one 0x94 (unsigned (Bytes 1, Any) (λ size. Deref 0 size false))
     ∷ one 0x95 (unsigned (Bytes 1, Any) (λ size. Deref 0 size true))
-    ∷ plain 0x96 (Nop ∷ PushObjectAddress ∷ [])
+    ∷ nullary 0x96 (Nop ∷ PushObjectAddress ∷ [])
     ++ one 0x98 (unsigned (Bytes 2, Any) (λ offset. Call (UnitRef offset)))
     ∷ one 0x99 (unsigned (Bytes 4, Any) (λ offset. Call (UnitRef offset)))
     ∷ one 0x9a (unsigned (Bytes (offset_size encoding.format), Offset) (λ offset. Call (DebugInfoRef offset)))

@@ -17,16 +17,16 @@ pub data Refusal : Type 0 where
 
 -- ---- pushes
 
--- what is left of the refusal after a push on a list without a limit
-abbrev pub spent : Refusal → Result Refusal Fault
-spent Never = Ok Never
-spent (After zero zero) = Err StackFull
-spent (After zero (suc pushes)) = Ok (After zero pushes)
-spent (After (suc inputs) pushes) = Ok (After (suc inputs) pushes)
+-- the refusal after a push on a list without a limit
+abbrev pub refusal_after_push : Refusal → Result Refusal Fault
+refusal_after_push Never = Ok Never
+refusal_after_push (After zero zero) = Err StackFull
+refusal_after_push (After zero (suc pushes)) = Ok (After zero pushes)
+refusal_after_push (After (suc inputs) pushes) = Ok (After (suc inputs) pushes)
 
--- what is left of the refusal after a push on a list with this limit, of n items
+-- the refusal after a push on a list with this limit, of n items
 abbrev pub room : Option ℕ → (n : ℕ) → Refusal → Result Refusal Fault
-room None n refusal = spent refusal
+room None n refusal = refusal_after_push refusal
 room (Some limit) n refusal = if nat_lt n limit then Ok refusal else Err StackFull
 
 -- the refusal before a push on a list without a limit
@@ -42,11 +42,11 @@ before_pushes (suc pushes) refusal = before_push (before_pushes pushes refusal)
 
 -- ---- inputs
 
--- what is left of it once an input is taken
-abbrev pub taken : Refusal → Refusal
-taken Never = Never
-taken (After zero pushes) = Never
-taken (After (suc inputs) pushes) = After inputs pushes
+-- the refusal after an input is taken
+abbrev pub refusal_after_input : Refusal → Refusal
+refusal_after_input Never = Never
+refusal_after_input (After zero pushes) = Never
+refusal_after_input (After (suc inputs) pushes) = After inputs pushes
 
 -- one of the lists has no limit
 abbrev pub HasFreeList : Limits → Type 0

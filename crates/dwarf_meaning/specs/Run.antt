@@ -5,13 +5,13 @@ use Rattle.dwarf_base.specs.declared.errors.Error.TheVariants.{InvalidExpression
 use Rattle.dwarf_base.specs.Reads.{Text}
 use Rattle.dwarf_meaning.specs.Operations as operation
 use Rattle.dwarf_meaning.specs.Operations.{Operation}
-use Rattle.dwarf_meaning.specs.Locations.{Location, sized}
+use Rattle.dwarf_meaning.specs.Locations.{Location, sized_piece}
 use Rattle.dwarf_meaning.specs.Decoding.{operation_at}
 use Rattle.dwarf_meaning.specs.Requests.{Request, OnAnswer, Input}
 use Rattle.dwarf_meaning.specs.Kinds.{kind_of_request, kind_of_answer, is_same_kind}
 use Rattle.dwarf_meaning.specs.Acts.{Act, EndsPiece, FaultAct, act, Use, PushesAnswer, Calls, FaultUse, use_of}
-use Rattle.dwarf_meaning.specs.Stores.{Setup, address_bits, Store, Last, Pushed, Called, Located, push_value, push_caller, Next, Goes, RequestNext, FaultNext, done}
-use Rattle.dwarf_meaning.specs.Refusals.{taken}
+use Rattle.dwarf_meaning.specs.Stores.{Setup, address_bits, Store, Last, Pushed, Called, Located, push_value, push_caller, Next, Goes, RequestNext, FaultNext, do_act}
+use Rattle.dwarf_meaning.specs.Refusals.{refusal_after_input}
 
 -- a text and a place in it
 pub record Position : Type 0 where
@@ -45,7 +45,7 @@ Continues = (text : Text) (place depth : ℕ) → Store → List Input → Cours
 
 -- what is kept once an input is taken
 abbrev pub with_input : Input → Store → Store
-with_input input s = record s { settings = input.settings; refusal = taken s.refusal }
+with_input input s = record s { settings = input.settings; refusal = refusal_after_input s.refusal }
 
 -- the operation at a place, and the bytes after it
 abbrev pub read : Setup → Text → (place : ℕ) → Result (Operation × List ℕ) Fault
@@ -61,8 +61,8 @@ abbrev pub can_count : Store → Bool
 can_count s = nat_lt s.count s.settings.maximum && nat_lt s.count most
 
 -- one more operation is counted
-abbrev pub counted : Store → Store
-counted s = record s { count = s.count + 1 }
+abbrev pub count_one : Store → Store
+count_one s = record s { count = s.count + 1 }
 
 -- what an operation that is counted does; `place` is the one after it
 abbrev pub counted_act : Setup → Store → (place : ℕ) → Operation → Act
@@ -70,7 +70,7 @@ counted_act setup s place op = act (address_bits setup) s.settings.object_addres
 
 -- what the operation after a location does: it ends the piece there, and none else may follow
 abbrev pub located_act : Location → Store → (place : ℕ) → Operation → Act
-located_act location s place (operation.Piece size offset) = EndsPiece s.values (sized size offset location)
+located_act location s place (operation.Piece size offset) = EndsPiece s.values (sized_piece size offset location)
 located_act location s place _ = FaultAct (InvalidExpressionTerminator (place - 1))
 
 module _ (go : Continues) where
@@ -130,7 +130,7 @@ module _ (go : Continues) where
           → Result (Operation × List ℕ) Fault → Course
       do_operation depth s inputs act_at (Ok x) =
           let place = length text.bytes - length x.1 in
-          after_operation depth place inputs (done setup place (length text.bytes) (act_at place x.0) s)
+          after_operation depth place inputs (do_act setup place (length text.bytes) (act_at place x.0) s)
       do_operation depth s inputs act_at (Err fault) = only_end (FaultEnd fault)
 
       -- one more operation is counted, and done
@@ -138,7 +138,7 @@ module _ (go : Continues) where
       turn_counted place depth s inputs =
           if can_count s
           then prepend (record { text = text; place = place } ∷ []) []
-          (do_operation depth (counted s) inputs (counted_act setup s) (read setup text place))
+          (do_operation depth (count_one s) inputs (counted_act setup s) (read setup text place))
           else only_end (FaultEnd TooManyIterations)
 
       -- a turn by the last operation: after a location, with nothing counted, or one that is counted

@@ -17,23 +17,23 @@ pub data Step : Type 0 where
   Evaluate : Step
   Resume : (answer : Answer) → Step
 
--- What some steps told: what is set now, what was set at the start, if there was one, and the inputs since.
-pub record Told : Type 0 where
+-- The log of an evaluation: what is set now, what was set at the start, if there was one, and the inputs since.
+pub record Log : Type 0 where
   pub now : First
   pub first : Option First
   pub inputs : List Input
 
 -- no step was done: nothing is set, and nothing was started
-abbrev pub untold : Told
-untold = record {
+abbrev pub empty_log : Log
+empty_log = record {
   now = record { initial_value = None; settings = record { object_address = None; maximum = most } };
   first = None;
   inputs = [];
 }
 
--- the outcome of all that was told, once it was started
-abbrev pub outcome_of : Setup → Refusal → Text → Told → Option Outcome
-outcome_of setup refusal text told = option_map (λ first. meaning setup refusal text first told.inputs) told.first
+-- the outcome by a log, once it was started
+abbrev pub outcome_of : Setup → Refusal → Text → Log → Option Outcome
+outcome_of setup refusal text log = option_map (λ first. meaning setup refusal text first log.inputs) log.first
 
 -- ---- which step may come next
 
@@ -44,30 +44,30 @@ Awaits answer (Some (FaultOutcome fault)) = Unit {0}
 Awaits answer _ = ⊥
 
 -- whether a step may come after steps with this outcome; an initial value is set once, before the start
-abbrev pub Allows : Told → Option Outcome → Step → Type 0
-Allows told outcome (InitialValue number) = (told.first ≡ None) × (told.now.initial_value ≡ None)
-Allows told outcome (ObjectAddress address) = Unit {0}
-Allows told outcome (MaxIterations maximum) = Unit {0}
-Allows told outcome Evaluate = IfSome outcome IsOver
-Allows told outcome (Resume answer) = Awaits answer outcome
+abbrev pub Allows : Log → Option Outcome → Step → Type 0
+Allows log outcome (InitialValue number) = (log.first ≡ None) × (log.now.initial_value ≡ None)
+Allows log outcome (ObjectAddress address) = Unit {0}
+Allows log outcome (MaxIterations maximum) = Unit {0}
+Allows log outcome Evaluate = IfSome outcome IsOver
+Allows log outcome (Resume answer) = Awaits answer outcome
 
--- ---- what a step tells
+-- ---- the log after a step
 
--- an answer, with the settings that hold now; after a fault it says nothing
-abbrev pub heard : First → List Input → Answer → Option Outcome → List Input
-heard now inputs answer (Some (RequestOutcome request positions)) =
+-- the inputs after an answer, which comes with the settings that hold now; after a fault it isn't added
+abbrev pub inputs_after : First → List Input → Answer → Option Outcome → List Input
+inputs_after now inputs answer (Some (RequestOutcome request positions)) =
     inputs ++ record { settings = now.settings; answer = answer } ∷ []
-heard now inputs answer _ = inputs
+inputs_after now inputs answer _ = inputs
 
--- what was told once a step is done; the settings at the start are those of the first start
-abbrev pub after : Told → Option Outcome → Step → Told
-after told outcome (InitialValue number) = record told { now = record told.now { initial_value = Some number } }
-after told outcome (ObjectAddress address) =
-    record told { now = record told.now { settings = record told.now.settings { object_address = Some address } } }
-after told outcome (MaxIterations maximum) =
-    record told { now = record told.now { settings = record told.now.settings { maximum = maximum } } }
-after told outcome Evaluate = record told { first = Some (unwrap_or told.first told.now) }
-after told outcome (Resume answer) = record told { inputs = heard told.now told.inputs answer outcome }
+-- the log once a step is done; the settings at the start are those of the first start
+abbrev pub after : Log → Option Outcome → Step → Log
+after log outcome (InitialValue number) = record log { now = record log.now { initial_value = Some number } }
+after log outcome (ObjectAddress address) =
+    record log { now = record log.now { settings = record log.now.settings { object_address = Some address } } }
+after log outcome (MaxIterations maximum) =
+    record log { now = record log.now { settings = record log.now.settings { maximum = maximum } } }
+after log outcome Evaluate = record log { first = Some (unwrap_or log.first log.now) }
+after log outcome (Resume answer) = record log { inputs = inputs_after log.now log.inputs answer outcome }
 
 -- ---- what the steps reply
 
@@ -88,38 +88,38 @@ abbrev pub replies : Option Outcome → List Reply
 replies None = []
 replies (Some outcome) = reply outcome ∷ []
 
--- a setting has no reply; `outcome` is the outcome of what was told, the step included
+-- a setting has no reply; `outcome` is that by the log, the step included
 abbrev pub step_replies : Step → Option Outcome → List Reply
 step_replies Evaluate outcome = replies outcome
 step_replies (Resume answer) outcome = replies outcome
 step_replies _ outcome = []
 
 module _ (setup : Setup) (refusal : Refusal) (text : Text) where
-  -- what was told once a step is done, by the outcome of the steps before
-  abbrev pub after_step : Told → Step → Told
-  after_step told step = after told (outcome_of setup refusal text told) step
+  -- the log once a step is done, by the outcome of the steps before
+  abbrev pub after_step : Log → Step → Log
+  after_step log step = after log (outcome_of setup refusal text log) step
 
-  -- what was told once these steps are done
-  abbrev pub after_steps : Told → List Step → Told
-  after_steps told [] = told
-  after_steps told (step ∷ steps) = after_steps (after_step told step) steps
+  -- the log once these steps are done
+  abbrev pub after_steps : Log → List Step → Log
+  after_steps log [] = log
+  after_steps log (step ∷ steps) = after_steps (after_step log step) steps
 
   -- each step is allowed when it comes
-  abbrev pub AllAllowed : Told → List Step → Type 0
-  AllAllowed told [] = Unit {0}
-  AllAllowed told (step ∷ steps) =
-      Allows told (outcome_of setup refusal text told) step × AllAllowed (after_step told step) steps
+  abbrev pub AllAllowed : Log → List Step → Type 0
+  AllAllowed log [] = Unit {0}
+  AllAllowed log (step ∷ steps) =
+      Allows log (outcome_of setup refusal text log) step × AllAllowed (after_step log step) steps
 
-  -- the replies to the steps, one after another: each the outcome of all that was told up to it
-  abbrev pub replies_of : Told → List Step → List Reply
-  replies_of told [] = []
-  replies_of told (step ∷ steps) =
-      let told_now = after_step told step
-      in step_replies step (outcome_of setup refusal text told_now) ++ replies_of told_now steps
+  -- the replies to the steps, one after another: each by the outcome of the log up to it
+  abbrev pub replies_of : Log → List Step → List Reply
+  replies_of log [] = []
+  replies_of log (step ∷ steps) =
+      let log_now = after_step log step
+      in step_replies step (outcome_of setup refusal text log_now) ++ replies_of log_now steps
 
--- With this refusal each step is allowed when it comes, the replies are theirs, and this is what is told after them.
-pub record AreDone (setup : Setup) (refusal : Refusal) (text : Text) (told : Told) (steps : List Step)
-    (given : List Reply) (now : Told) : Type 0 where
-  pub allowed : AllAllowed setup refusal text told steps
-  pub replies_are : given ≡ replies_of setup refusal text told steps
-  pub told_is : after_steps setup refusal text told steps ≡ now
+-- With this refusal each step is allowed when it comes, the replies are theirs, and this is the log after them.
+pub record AreDone (setup : Setup) (refusal : Refusal) (text : Text) (log : Log) (steps : List Step)
+    (given : List Reply) (now : Log) : Type 0 where
+  pub allowed : AllAllowed setup refusal text log steps
+  pub replies_are : given ≡ replies_of setup refusal text log steps
+  pub log_is : after_steps setup refusal text log steps ≡ now

@@ -98,11 +98,11 @@ branch len place s = if nat_lt len place then FaultNext (BadBranchTarget place) 
 
 module _ (setup : Setup) (place len : ℕ) where
   -- What an operation does to what is kept; `place` is the one after it, in a text of length `len`.
-  abbrev pub done : Act → Store → Next
-  done (Pushes rest pushed) s = goes place (push_values setup pushed (record s { values = rest; last = Plain }))
-  done (Branches rest target) s =
+  abbrev pub do_act : Act → Store → Next
+  do_act (Pushes rest pushed) s = goes place (push_values setup pushed (record s { values = rest; last = Plain }))
+  do_act (Branches rest target) s =
       branch len (branch_target setup place target) (record s { values = rest; last = Plain })
-  done (Locates rest location) s = Goes place (record s { values = rest; last = Located location })
-  done (EndsPiece rest piece) s = goes place (push_piece setup piece (record s { values = rest; last = Pieced }))
-  done (RequestAct rest request on_answer) s = RequestNext request on_answer (record s { values = rest })
-  done (FaultAct fault) s = FaultNext fault
+  do_act (Locates rest location) s = Goes place (record s { values = rest; last = Located location })
+  do_act (EndsPiece rest piece) s = goes place (push_piece setup piece (record s { values = rest; last = Pieced }))
+  do_act (RequestAct rest request on_answer) s = RequestNext request on_answer (record s { values = rest })
+  do_act (FaultAct fault) s = FaultNext fault

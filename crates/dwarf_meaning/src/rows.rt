@@ -10,119 +10,127 @@ ghost use Rattle.dwarf_meaning.specs.declared.kinds.WaitingKind.TheVariants as k
 ghost use Rattle.dwarf_meaning.specs.Requests.{RequiresCallFrameCfa, RequiresAtLocation, RequiresRelocatedAddress, ValueAnswer, NumberAnswer};
 ghost use Rattle.dwarf_meaning.specs.Refusals.{Never, After};
 ghost use Rattle.dwarf_meaning.specs.Meaning.{RequestOutcome, FaultOutcome, meaning};
-ghost use Rattle.dwarf_meaning.specs.Rows.{text, no_limits, with_limits, plain, at_most, unset, given, calls, open_at, word_at, valued, pieced};
+ghost use Rattle.dwarf_meaning.specs.RowWords.{text, no_limits, with_limits, dwarf4, at_most, unset, inputs_of, callee, open_at, word_at, value_at, pieces_only};
 
 /// Worked rows: what the definitions compute for single expressions, with nothing assumed.
 ///
 /// It does nothing. Each clause of its contract gives a text's bytes, the settings and answers, and what comes
 /// of it: a request with the open texts and places, a fault, pieces, or a value too.
 pub fn worked_rows()
-    ensures sum { meaning plain Never (text (0x33 ∷ 0x35 ∷ 0x22 ∷ [])) unset [] ≡ valued 8 8 }
-    ensures nothing { meaning plain Never (text []) unset [] ≡ FaultOutcome NotEnoughStackItems }
-    ensures initial_value { meaning plain Never (text [])
-        (record unset { initial_value = Some 0x100000005 }) [] ≡ valued 0x100000005 5 }
-    ensures branch_of_zero_up_to_the_address { meaning plain Never
+    ensures sum { meaning dwarf4 Never (text (0x33 ∷ 0x35 ∷ 0x22 ∷ [])) unset [] ≡ value_at 8 8 }
+    ensures nothing { meaning dwarf4 Never (text []) unset [] ≡ FaultOutcome NotEnoughStackItems }
+    ensures initial_value { meaning dwarf4 Never (text [])
+        (record unset { initial_value = Some 0x100000005 }) [] ≡ value_at 0x100000005 5 }
+    ensures branch_of_zero_up_to_the_address { meaning dwarf4 Never
         (text (0x28 ∷ 0x04 ∷ 0x00 ∷ 0x31 ∷ 0x2f ∷ 0x01 ∷ 0x00 ∷ 0x32 ∷ []))
-        (record unset { initial_value = Some 0x100000000 }) [] ≡ valued 1 1 }
-    ensures branch_of_nothing { (s : Store) → branch 5 (branch_target plain 0 (pos 0)) s ≡ Goes 0 s }
-    ensures branch_before_the_start { (s : Store) → branch 5 (branch_target plain 0 (negsuc 0)) s
+        (record unset { initial_value = Some 0x100000000 }) [] ≡ value_at 1 1 }
+    ensures branch_of_nothing { (s : Store) → branch 5 (branch_target dwarf4 0 (pos 0)) s ≡ Goes 0 s }
+    ensures branch_before_the_start { (s : Store) → branch 5 (branch_target dwarf4 0 (negsuc 0)) s
         ≡ FaultNext (BadBranchTarget 18446744073709551615) }
-    ensures branch_to_the_end { (s : Store) → branch 5 (branch_target plain 0 (pos 5)) s ≡ Goes 5 s }
-    ensures branch_back { (s : Store) → branch 5 (branch_target plain 3 (negsuc 1)) s ≡ Goes 1 s }
-    ensures branch_ahead { (s : Store) → branch 5 (branch_target plain 2 (pos 2)) s ≡ Goes 4 s }
-    ensures value_after_piece { meaning plain Never (text (0x31 ∷ 0x93 ∷ 0x04 ∷ 0x31 ∷ [])) unset []
+    ensures branch_to_the_end { (s : Store) → branch 5 (branch_target dwarf4 0 (pos 5)) s ≡ Goes 5 s }
+    ensures branch_back { (s : Store) → branch 5 (branch_target dwarf4 3 (negsuc 1)) s ≡ Goes 1 s }
+    ensures branch_ahead { (s : Store) → branch 5 (branch_target dwarf4 2 (pos 2)) s ≡ Goes 4 s }
+    ensures value_after_piece { meaning dwarf4 Never (text (0x31 ∷ 0x93 ∷ 0x04 ∷ 0x31 ∷ [])) unset []
         ≡ FaultOutcome InvalidPiece }
-    ensures endless_loop { meaning plain Never (text (0x2f ∷ 0xfd ∷ 0xff ∷ [])) (at_most 3) []
+    ensures endless_loop { meaning dwarf4 Never (text (0x2f ∷ 0xfd ∷ 0xff ∷ [])) (at_most 3) []
         ≡ FaultOutcome TooManyIterations }
-    ensures call_asks { meaning plain Never (text (0x98 ∷ 0x05 ∷ 0x00 ∷ 0x93 ∷ 0x04 ∷ []))
+    ensures call_asks { meaning dwarf4 Never (text (0x98 ∷ 0x05 ∷ 0x00 ∷ 0x93 ∷ 0x04 ∷ []))
         (at_most 2) []
         ≡ RequestOutcome (RequiresAtLocation (UnitRef 5))
         (open_at (0x98 ∷ 0x05 ∷ 0x00 ∷ 0x93 ∷ 0x04 ∷ []) 3 ∷ []) }
-    ensures call_gives_location { meaning plain Never (text (0x98 ∷ 0x05 ∷ 0x00 ∷ 0x93 ∷ 0x04 ∷ []))
-        (at_most 2) (given (at_most 2) (calls (0x50 ∷ []) ∷ []))
-        ≡ pieced (word_at (InRegister 0) ∷ []) }
-    ensures call_asks_at_maximum { meaning plain Never
+    ensures call_gives_location { meaning dwarf4 Never (text (0x98 ∷ 0x05 ∷ 0x00 ∷ 0x93 ∷ 0x04 ∷ []))
+        (at_most 2) (inputs_of (at_most 2) (callee (0x50 ∷ []) ∷ []))
+        ≡ pieces_only (word_at (InRegister 0) ∷ []) }
+    ensures call_asks_at_maximum { meaning dwarf4 Never
         (text (0x98 ∷ 0x05 ∷ 0x00 ∷ 0x93 ∷ 0x04 ∷ [])) (at_most 1) []
         ≡ RequestOutcome (RequiresAtLocation (UnitRef 5))
         (open_at (0x98 ∷ 0x05 ∷ 0x00 ∷ 0x93 ∷ 0x04 ∷ []) 3 ∷ []) }
-    ensures callee_past_maximum { meaning plain Never (text (0x98 ∷ 0x05 ∷ 0x00 ∷ 0x93 ∷ 0x04 ∷ []))
-        (at_most 1) (given (at_most 1) (calls (0x50 ∷ []) ∷ [])) ≡ FaultOutcome TooManyIterations }
-    ensures call_of_nothing { meaning plain Never (text (0x31 ∷ 0x98 ∷ 0x05 ∷ 0x00 ∷ [])) unset
-        (given unset (calls [] ∷ [])) ≡ valued 1 1 }
-    ensures callee_shares_stack { meaning plain Never (text (0x31 ∷ 0x98 ∷ 0x05 ∷ 0x00 ∷ [])) unset
-        (given unset (calls (0x12 ∷ 0x22 ∷ []) ∷ [])) ≡ valued 2 2 }
-    ensures callee_skips_to_its_end { meaning plain Never (text (0x98 ∷ 0x05 ∷ 0x00 ∷ 0x33 ∷ []))
-        unset (given unset (calls (0x2f ∷ 0x00 ∷ 0x00 ∷ []) ∷ [])) ≡ valued 3 3 }
-    ensures callee_skips_past_its_end { meaning plain Never (text (0x98 ∷ 0x05 ∷ 0x00 ∷ 0x33 ∷ []))
-        unset (given unset (calls (0x2f ∷ 0x01 ∷ 0x00 ∷ []) ∷ []))
+    ensures callee_past_maximum { meaning dwarf4 Never (text (0x98 ∷ 0x05 ∷ 0x00 ∷ 0x93 ∷ 0x04 ∷ []))
+        (at_most 1) (inputs_of (at_most 1) (callee (0x50 ∷ []) ∷ []))
+        ≡ FaultOutcome TooManyIterations }
+    ensures call_of_nothing { meaning dwarf4 Never (text (0x31 ∷ 0x98 ∷ 0x05 ∷ 0x00 ∷ [])) unset
+        (inputs_of unset (callee [] ∷ [])) ≡ value_at 1 1 }
+    ensures callee_shares_stack { meaning dwarf4 Never (text (0x31 ∷ 0x98 ∷ 0x05 ∷ 0x00 ∷ [])) unset
+        (inputs_of unset (callee (0x12 ∷ 0x22 ∷ []) ∷ [])) ≡ value_at 2 2 }
+    ensures callee_skips_to_its_end { meaning dwarf4 Never (text (0x98 ∷ 0x05 ∷ 0x00 ∷ 0x33 ∷ []))
+        unset (inputs_of unset (callee (0x2f ∷ 0x00 ∷ 0x00 ∷ []) ∷ [])) ≡ value_at 3 3 }
+    ensures callee_skips_past_its_end { meaning dwarf4 Never (text (0x98 ∷ 0x05 ∷ 0x00 ∷ 0x33 ∷ []))
+        unset (inputs_of unset (callee (0x2f ∷ 0x01 ∷ 0x00 ∷ []) ∷ []))
         ≡ FaultOutcome (BadBranchTarget 4) }
-    ensures callee_ends_in_location { meaning plain Never (text (0x98 ∷ 0x05 ∷ 0x00 ∷ 0x31 ∷ []))
-        unset (given unset (calls (0x50 ∷ []) ∷ []))
+    ensures callee_ends_in_location { meaning dwarf4 Never (text (0x98 ∷ 0x05 ∷ 0x00 ∷ 0x31 ∷ []))
+        unset (inputs_of unset (callee (0x50 ∷ []) ∷ []))
         ≡ FaultOutcome (InvalidExpressionTerminator 3) }
     ensures four_calls_of_itself { meaning (with_limits (record no_limits { callers = Some 4 }))
         Never (text (0x98 ∷ 0x01 ∷ 0x00 ∷ [])) unset
-        (given unset
-        (calls (0x98 ∷ 0x01 ∷ 0x00 ∷ []) ∷ calls (0x98 ∷ 0x01 ∷ 0x00 ∷ []) ∷ calls
-        (0x98 ∷ 0x01 ∷ 0x00 ∷ []) ∷ calls (0x98 ∷ 0x01 ∷ 0x00 ∷ []) ∷ []))
+        (inputs_of unset
+        (callee (0x98 ∷ 0x01 ∷ 0x00 ∷ []) ∷ callee (0x98 ∷ 0x01 ∷ 0x00 ∷ []) ∷ callee
+        (0x98 ∷ 0x01 ∷ 0x00 ∷ []) ∷ callee (0x98 ∷ 0x01 ∷ 0x00 ∷ []) ∷ []))
         ≡ RequestOutcome (RequiresAtLocation (UnitRef 1))
         (open_at (0x98 ∷ 0x01 ∷ 0x00 ∷ []) 3 ∷ open_at (0x98 ∷ 0x01 ∷ 0x00 ∷ []) 3 ∷ open_at
         (0x98 ∷ 0x01 ∷ 0x00 ∷ []) 3 ∷ open_at (0x98 ∷ 0x01 ∷ 0x00 ∷ []) 3 ∷ open_at
         (0x98 ∷ 0x01 ∷ 0x00 ∷ []) 3 ∷ []) }
     ensures five_calls_of_itself { meaning (with_limits (record no_limits { callers = Some 4 }))
         Never (text (0x98 ∷ 0x01 ∷ 0x00 ∷ [])) unset
-        (given unset
-        (calls (0x98 ∷ 0x01 ∷ 0x00 ∷ []) ∷ calls (0x98 ∷ 0x01 ∷ 0x00 ∷ []) ∷ calls
-        (0x98 ∷ 0x01 ∷ 0x00 ∷ []) ∷ calls (0x98 ∷ 0x01 ∷ 0x00 ∷ []) ∷ calls
+        (inputs_of unset
+        (callee (0x98 ∷ 0x01 ∷ 0x00 ∷ []) ∷ callee (0x98 ∷ 0x01 ∷ 0x00 ∷ []) ∷ callee
+        (0x98 ∷ 0x01 ∷ 0x00 ∷ []) ∷ callee (0x98 ∷ 0x01 ∷ 0x00 ∷ []) ∷ callee
         (0x98 ∷ 0x01 ∷ 0x00 ∷ []) ∷ [])) ≡ FaultOutcome StackFull }
-    ensures literal_after_location { meaning plain Never (text (0x50 ∷ 0x31 ∷ [])) unset []
+    ensures literal_after_location { meaning dwarf4 Never (text (0x50 ∷ 0x31 ∷ [])) unset []
         ≡ FaultOutcome (InvalidExpressionTerminator 1) }
-    ensures longer_literal_after_location { meaning plain Never (text (0x50 ∷ 0x08 ∷ 0x07 ∷ []))
+    ensures longer_literal_after_location { meaning dwarf4 Never (text (0x50 ∷ 0x08 ∷ 0x07 ∷ []))
         unset [] ≡ FaultOutcome (InvalidExpressionTerminator 2) }
-    ensures address_asks { meaning plain Never
+    ensures address_asks { meaning dwarf4 Never
         (text (0x31 ∷ 0x93 ∷ 0x04 ∷ 0x03 ∷ 0x10 ∷ 0x00 ∷ 0x00 ∷ 0x00 ∷ [])) unset []
         ≡ RequestOutcome (RequiresRelocatedAddress 0x10)
         (open_at (0x31 ∷ 0x93 ∷ 0x04 ∷ 0x03 ∷ 0x10 ∷ 0x00 ∷ 0x00 ∷ 0x00 ∷ []) 8 ∷ []) }
-    ensures address_after_piece { meaning plain Never
+    ensures address_after_piece { meaning dwarf4 Never
         (text (0x31 ∷ 0x93 ∷ 0x04 ∷ 0x03 ∷ 0x10 ∷ 0x00 ∷ 0x00 ∷ 0x00 ∷ [])) unset
-        (given unset (NumberAnswer kind.RelocatedAddress 0x10 ∷ [])) ≡ FaultOutcome InvalidPiece }
-    ensures frame_address_after_piece { meaning plain Never (text (0x31 ∷ 0x93 ∷ 0x04 ∷ 0x9c ∷ []))
-        unset (given unset (NumberAnswer kind.CallFrameCfa 1 ∷ [])) ≡ FaultOutcome InvalidPiece }
-    ensures call_of_nothing_after_piece { meaning plain Never
-        (text (0x31 ∷ 0x93 ∷ 0x04 ∷ 0x98 ∷ 0x05 ∷ 0x00 ∷ [])) unset (given unset (calls [] ∷ []))
-        ≡ pieced (word_at (AtAddress 1) ∷ []) }
-    ensures call_of_nop_after_piece { meaning plain Never
+        (inputs_of unset (NumberAnswer kind.RelocatedAddress 0x10 ∷ []))
+        ≡ FaultOutcome InvalidPiece }
+    ensures frame_address_after_piece { meaning dwarf4 Never (text (0x31 ∷ 0x93 ∷ 0x04 ∷ 0x9c ∷ []))
+        unset (inputs_of unset (NumberAnswer kind.CallFrameCfa 1 ∷ []))
+        ≡ FaultOutcome InvalidPiece }
+    ensures call_of_nothing_after_piece { meaning dwarf4 Never
         (text (0x31 ∷ 0x93 ∷ 0x04 ∷ 0x98 ∷ 0x05 ∷ 0x00 ∷ [])) unset
-        (given unset (calls (0x96 ∷ []) ∷ [])) ≡ FaultOutcome InvalidPiece }
-    ensures called_frame_address_after_piece { meaning plain Never
+        (inputs_of unset (callee [] ∷ []))
+        ≡ pieces_only (word_at (AtAddress 1) ∷ []) }
+    ensures call_of_nop_after_piece { meaning dwarf4 Never
         (text (0x31 ∷ 0x93 ∷ 0x04 ∷ 0x98 ∷ 0x05 ∷ 0x00 ∷ [])) unset
-        (given unset (calls (0x9c ∷ []) ∷ NumberAnswer kind.CallFrameCfa 1 ∷ [])) ≡ FaultOutcome InvalidPiece }
-    ensures call_of_nothing_last { meaning plain Never
+        (inputs_of unset (callee (0x96 ∷ []) ∷ [])) ≡ FaultOutcome InvalidPiece }
+    ensures called_frame_address_after_piece { meaning dwarf4 Never
+        (text (0x31 ∷ 0x93 ∷ 0x04 ∷ 0x98 ∷ 0x05 ∷ 0x00 ∷ [])) unset
+        (inputs_of unset (callee (0x9c ∷ []) ∷ NumberAnswer kind.CallFrameCfa 1 ∷ []))
+        ≡ FaultOutcome InvalidPiece }
+    ensures call_of_nothing_last { meaning dwarf4 Never
         (text (0x31 ∷ 0x93 ∷ 0x04 ∷ 0x9c ∷ 0x98 ∷ 0x05 ∷ 0x00 ∷ [])) unset
-        (given unset (NumberAnswer kind.CallFrameCfa 1 ∷ calls [] ∷ [])) ≡ pieced (word_at (AtAddress 1) ∷ []) }
-    ensures piece_last { meaning plain Never (text (0x31 ∷ 0x93 ∷ 0x04 ∷ 0x9c ∷ 0x93 ∷ 0x04 ∷ []))
-        unset (given unset (NumberAnswer kind.CallFrameCfa 2 ∷ []))
-        ≡ pieced (word_at (AtAddress 1) ∷ word_at (AtAddress 2) ∷ []) }
-    ensures frame_address { meaning plain Never (text (0x9c ∷ [])) unset
-        (given unset (NumberAnswer kind.CallFrameCfa 1 ∷ [])) ≡ valued 1 1 }
-    ensures register_offset { meaning plain Never (text (0x70 ∷ 0x7f ∷ [])) unset
-        (given unset (ValueAnswer kind.Register (Generic 0) ∷ [])) ≡ valued 0xffffffff 0xffffffff }
-    ensures register_offset_of_high_bits { meaning plain Never (text (0x70 ∷ 0x7f ∷ [])) unset
-        (given unset (ValueAnswer kind.Register (Generic 0x500000000) ∷ [])) ≡ valued 0xffffffff 0xffffffff }
+        (inputs_of unset (NumberAnswer kind.CallFrameCfa 1 ∷ callee [] ∷ [])) ≡ pieces_only
+        (word_at (AtAddress 1) ∷ []) }
+    ensures piece_last { meaning dwarf4 Never (text (0x31 ∷ 0x93 ∷ 0x04 ∷ 0x9c ∷ 0x93 ∷ 0x04 ∷ []))
+        unset (inputs_of unset (NumberAnswer kind.CallFrameCfa 2 ∷ []))
+        ≡ pieces_only (word_at (AtAddress 1) ∷ word_at (AtAddress 2) ∷ []) }
+    ensures frame_address { meaning dwarf4 Never (text (0x9c ∷ [])) unset
+        (inputs_of unset (NumberAnswer kind.CallFrameCfa 1 ∷ [])) ≡ value_at 1 1 }
+    ensures register_offset { meaning dwarf4 Never (text (0x70 ∷ 0x7f ∷ [])) unset
+        (inputs_of unset (ValueAnswer kind.Register (Generic 0) ∷ []))
+        ≡ value_at 0xffffffff 0xffffffff }
+    ensures register_offset_of_high_bits { meaning dwarf4 Never (text (0x70 ∷ 0x7f ∷ [])) unset
+        (inputs_of unset (ValueAnswer kind.Register (Generic 0x500000000) ∷ []))
+        ≡ value_at 0xffffffff 0xffffffff }
     ensures two_values_of_two { meaning (with_limits (record no_limits { values = Some 2 })) Never
-        (text (0x31 ∷ 0x32 ∷ [])) unset [] ≡ valued 2 2 }
+        (text (0x31 ∷ 0x32 ∷ [])) unset [] ≡ value_at 2 2 }
     ensures three_values_of_two { meaning (with_limits (record no_limits { values = Some 2 })) Never
         (text (0x31 ∷ 0x32 ∷ 0x33 ∷ [])) unset [] ≡ FaultOutcome StackFull }
-    ensures second_push_refused { meaning plain (After 0 1) (text (0x31 ∷ 0x32 ∷ [])) unset []
+    ensures second_push_refused { meaning dwarf4 (After 0 1) (text (0x31 ∷ 0x32 ∷ [])) unset []
         ≡ FaultOutcome StackFull }
-    ensures piece_refused { meaning plain (After 0 1) (text (0x31 ∷ [])) unset []
+    ensures piece_refused { meaning dwarf4 (After 0 1) (text (0x31 ∷ [])) unset []
         ≡ FaultOutcome StackFull }
-    ensures later_push_refused { meaning plain (After 0 2) (text (0x31 ∷ [])) unset []
-        ≡ valued 1 1 }
-    ensures asks_before_refusal { meaning plain (After 1 0) (text (0x31 ∷ 0x9c ∷ [])) unset []
+    ensures later_push_refused { meaning dwarf4 (After 0 2) (text (0x31 ∷ [])) unset []
+        ≡ value_at 1 1 }
+    ensures asks_before_refusal { meaning dwarf4 (After 1 0) (text (0x31 ∷ 0x9c ∷ [])) unset []
         ≡ RequestOutcome RequiresCallFrameCfa (open_at (0x31 ∷ 0x9c ∷ []) 2 ∷ []) }
-    ensures answer_refused { meaning plain (After 1 0) (text (0x31 ∷ 0x9c ∷ [])) unset
-        (given unset (NumberAnswer kind.CallFrameCfa 1 ∷ [])) ≡ FaultOutcome StackFull }
-    ensures answer_of_another_kind { meaning plain Never (text (0x9c ∷ [])) unset
-        (given unset (NumberAnswer kind.RelocatedAddress 1 ∷ []))
+    ensures answer_refused { meaning dwarf4 (After 1 0) (text (0x31 ∷ 0x9c ∷ [])) unset
+        (inputs_of unset (NumberAnswer kind.CallFrameCfa 1 ∷ [])) ≡ FaultOutcome StackFull }
+    ensures answer_of_another_kind { meaning dwarf4 Never (text (0x9c ∷ [])) unset
+        (inputs_of unset (NumberAnswer kind.RelocatedAddress 1 ∷ []))
         ≡ RequestOutcome RequiresCallFrameCfa (open_at (0x9c ∷ []) 1 ∷ []) }
 {}

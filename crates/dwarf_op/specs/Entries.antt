@@ -9,8 +9,8 @@ use Rattle.dwarf_meaning.specs.Operations as meaning
 use Rattle.dwarf_meaning.specs.Decoding.{operands_at, unsigned_at}
 use Rattle.dwarf_meaning.specs.Operands.{Layout, Range, Bytes, Leb128, Any, Offset, Register, PieceSize, ref_size}
 use Rattle.dwarf_meaning.specs.Opcodes.{Row, Makes, Unsigned, Invalid, unsigned, signed, sized_block, wasm_row}
-use Rattle.dwarf_op.specs.declared.opcodes.Plain.{Plain}
-use Rattle.dwarf_op.specs.declared.opcodes.Plain.TheVariants as plain
+use Rattle.dwarf_op.specs.declared.opcodes.Fieldless.{Fieldless}
+use Rattle.dwarf_op.specs.declared.opcodes.Fieldless.TheVariants as fieldless
 use Rattle.dwarf_op.specs.declared.opcodes.Unsigned as shapes
 use Rattle.dwarf_op.specs.declared.opcodes.Unsigned.TheVariants as unsigned_shape
 use Rattle.dwarf_op.specs.declared.opcodes.Signed as signed_shapes
@@ -26,36 +26,36 @@ use Rattle.dwarf_op.specs.declared.opcodes.Rare.TheVariants as rare_entry
 use Rattle.dwarf_value.specs.Values.{Abs, Neg, Not, Plus, Minus, Mul, Div, Mod, And, Or, Xor, Shl, Shr, Shra, Eq, Ne, Lt, Le, Gt, Ge}
 
 -- the operation without operands
-abbrev pub plain_operation : Plain → meaning.Operation
-plain_operation plain.Drop = meaning.Drop
-plain_operation plain.Swap = meaning.Swap
-plain_operation plain.Rot = meaning.Rot
-plain_operation plain.Abs = meaning.Unary Abs
-plain_operation plain.And = meaning.Binary And
-plain_operation plain.Div = meaning.Binary Div
-plain_operation plain.Minus = meaning.Binary Minus
-plain_operation plain.Mod = meaning.Binary Mod
-plain_operation plain.Mul = meaning.Binary Mul
-plain_operation plain.Neg = meaning.Unary Neg
-plain_operation plain.Not = meaning.Unary Not
-plain_operation plain.Or = meaning.Binary Or
-plain_operation plain.Plus = meaning.Binary Plus
-plain_operation plain.Shl = meaning.Binary Shl
-plain_operation plain.Shr = meaning.Binary Shr
-plain_operation plain.Shra = meaning.Binary Shra
-plain_operation plain.Xor = meaning.Binary Xor
-plain_operation plain.Eq = meaning.Binary Eq
-plain_operation plain.Ge = meaning.Binary Ge
-plain_operation plain.Gt = meaning.Binary Gt
-plain_operation plain.Le = meaning.Binary Le
-plain_operation plain.Lt = meaning.Binary Lt
-plain_operation plain.Ne = meaning.Binary Ne
-plain_operation plain.Nop = meaning.Nop
-plain_operation plain.PushObjectAddress = meaning.PushObjectAddress
-plain_operation plain.TLS = meaning.TLS
-plain_operation plain.CallFrameCFA = meaning.CallFrameCFA
-plain_operation plain.StackValue = meaning.StackValue
-plain_operation plain.Uninitialized = meaning.Uninitialized
+abbrev pub fieldless_operation : Fieldless → meaning.Operation
+fieldless_operation fieldless.Drop = meaning.Drop
+fieldless_operation fieldless.Swap = meaning.Swap
+fieldless_operation fieldless.Rot = meaning.Rot
+fieldless_operation fieldless.Abs = meaning.Unary Abs
+fieldless_operation fieldless.And = meaning.Binary And
+fieldless_operation fieldless.Div = meaning.Binary Div
+fieldless_operation fieldless.Minus = meaning.Binary Minus
+fieldless_operation fieldless.Mod = meaning.Binary Mod
+fieldless_operation fieldless.Mul = meaning.Binary Mul
+fieldless_operation fieldless.Neg = meaning.Unary Neg
+fieldless_operation fieldless.Not = meaning.Unary Not
+fieldless_operation fieldless.Or = meaning.Binary Or
+fieldless_operation fieldless.Plus = meaning.Binary Plus
+fieldless_operation fieldless.Shl = meaning.Binary Shl
+fieldless_operation fieldless.Shr = meaning.Binary Shr
+fieldless_operation fieldless.Shra = meaning.Binary Shra
+fieldless_operation fieldless.Xor = meaning.Binary Xor
+fieldless_operation fieldless.Eq = meaning.Binary Eq
+fieldless_operation fieldless.Ge = meaning.Binary Ge
+fieldless_operation fieldless.Gt = meaning.Binary Gt
+fieldless_operation fieldless.Le = meaning.Binary Le
+fieldless_operation fieldless.Lt = meaning.Binary Lt
+fieldless_operation fieldless.Ne = meaning.Binary Ne
+fieldless_operation fieldless.Nop = meaning.Nop
+fieldless_operation fieldless.PushObjectAddress = meaning.PushObjectAddress
+fieldless_operation fieldless.TLS = meaning.TLS
+fieldless_operation fieldless.CallFrameCFA = meaning.CallFrameCFA
+fieldless_operation fieldless.StackValue = meaning.StackValue
+fieldless_operation fieldless.Uninitialized = meaning.Uninitialized
 
 -- the layout and the range of an unsigned operand
 abbrev pub unsigned_form : shapes.Unsigned → Layout × Range
@@ -119,7 +119,7 @@ rare_row encoding rare_entry.WasmLocation = Unsigned (Bytes 1, Any) wasm_row
 -- the row that an entry is at an opcode
 abbrev pub entry_row : Encoding → (opcode : ℕ) → Entry → Row
 entry_row encoding opcode entry.Unknown = Invalid opcode
-entry_row encoding opcode (entry.Plain operation) = Makes (plain_operation operation)
+entry_row encoding opcode (entry.Fieldless operation) = Makes (fieldless_operation operation)
 entry_row encoding opcode (entry.Literal number) = Makes (meaning.UnsignedConstant number)
 entry_row encoding opcode (entry.Register register) = Makes (meaning.Register register)
 entry_row encoding opcode (entry.Pick index) = Makes (meaning.Pick index)

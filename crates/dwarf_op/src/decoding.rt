@@ -8,7 +8,7 @@ ghost use Rattle.dwarf_op.specs.Entries.{entry_row, operands_in, rare_row};
 ghost use Rattle.dwarf_op.specs.Entries as entries;
 ghost use Rattle.dwarf_op.specs.Views.{operation_of};
 
-use crate::opcodes::{Entry, FromOffset, Offset, Plain, Rare, entry_at};
+use crate::opcodes::{Entry, Fieldless, FromOffset, Offset, Rare, entry_at};
 use crate::operands::{
     generic_type, read_block, read_i16, read_offset, read_register, read_signed, read_u8,
     read_unsigned,
@@ -20,39 +20,39 @@ use dwarf_base::{
 };
 
 #[inline(always)]
-fn plain_operation<R: Reader>(operation: Plain) -> Operation<R>
-    ensures { operation_of R.text R.Offset.number result ≡ entries.plain_operation operation }
+fn fieldless_operation<R: Reader>(operation: Fieldless) -> Operation<R>
+    ensures { operation_of R.text R.Offset.number result ≡ entries.fieldless_operation operation }
 {
     match operation {
-        Plain::Drop => Operation::Drop,
-        Plain::Swap => Operation::Swap,
-        Plain::Rot => Operation::Rot,
-        Plain::Abs => Operation::Abs,
-        Plain::And => Operation::And,
-        Plain::Div => Operation::Div,
-        Plain::Minus => Operation::Minus,
-        Plain::Mod => Operation::Mod,
-        Plain::Mul => Operation::Mul,
-        Plain::Neg => Operation::Neg,
-        Plain::Not => Operation::Not,
-        Plain::Or => Operation::Or,
-        Plain::Plus => Operation::Plus,
-        Plain::Shl => Operation::Shl,
-        Plain::Shr => Operation::Shr,
-        Plain::Shra => Operation::Shra,
-        Plain::Xor => Operation::Xor,
-        Plain::Eq => Operation::Eq,
-        Plain::Ge => Operation::Ge,
-        Plain::Gt => Operation::Gt,
-        Plain::Le => Operation::Le,
-        Plain::Lt => Operation::Lt,
-        Plain::Ne => Operation::Ne,
-        Plain::Nop => Operation::Nop,
-        Plain::PushObjectAddress => Operation::PushObjectAddress,
-        Plain::TLS => Operation::TLS,
-        Plain::CallFrameCFA => Operation::CallFrameCFA,
-        Plain::StackValue => Operation::StackValue,
-        Plain::Uninitialized => Operation::Uninitialized,
+        Fieldless::Drop => Operation::Drop,
+        Fieldless::Swap => Operation::Swap,
+        Fieldless::Rot => Operation::Rot,
+        Fieldless::Abs => Operation::Abs,
+        Fieldless::And => Operation::And,
+        Fieldless::Div => Operation::Div,
+        Fieldless::Minus => Operation::Minus,
+        Fieldless::Mod => Operation::Mod,
+        Fieldless::Mul => Operation::Mul,
+        Fieldless::Neg => Operation::Neg,
+        Fieldless::Not => Operation::Not,
+        Fieldless::Or => Operation::Or,
+        Fieldless::Plus => Operation::Plus,
+        Fieldless::Shl => Operation::Shl,
+        Fieldless::Shr => Operation::Shr,
+        Fieldless::Shra => Operation::Shra,
+        Fieldless::Xor => Operation::Xor,
+        Fieldless::Eq => Operation::Eq,
+        Fieldless::Ge => Operation::Ge,
+        Fieldless::Gt => Operation::Gt,
+        Fieldless::Le => Operation::Le,
+        Fieldless::Lt => Operation::Lt,
+        Fieldless::Ne => Operation::Ne,
+        Fieldless::Nop => Operation::Nop,
+        Fieldless::PushObjectAddress => Operation::PushObjectAddress,
+        Fieldless::TLS => Operation::TLS,
+        Fieldless::CallFrameCFA => Operation::CallFrameCFA,
+        Fieldless::StackValue => Operation::StackValue,
+        Fieldless::Uninitialized => Operation::Uninitialized,
     }
 }
 
@@ -353,7 +353,7 @@ fn read_operands<R: Reader + Copy>(
 {
     match entry {
         Entry::Unknown => Err(Error::InvalidExpression(DwOp(opcode))),
-        Entry::Plain(operation) => Ok(plain_operation(operation)),
+        Entry::Fieldless(operation) => Ok(fieldless_operation(operation)),
         Entry::Literal(number) => Ok(Operation::UnsignedConstant {
             value: u64::from(number),
         }),

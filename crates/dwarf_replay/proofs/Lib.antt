@@ -1,5 +1,5 @@
-pub mod Calling
+pub mod CallSteps
 pub mod Leading
 pub mod Settings
 pub mod Standings
-pub mod Turns
+pub mod ReplayTurns

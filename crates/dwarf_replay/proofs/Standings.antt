@@ -6,8 +6,8 @@ use Rattle.dwarf_meaning.specs.Requests.{Input}
 use Rattle.dwarf_meaning.specs.Refusals.{Refusal, Never, After, Limits, IsLater, before_inputs, MayPick, before_input}
 use Rattle.dwarf_meaning.specs.Meaning.{FaultOutcome, First, meaning, Outcome}
 use Rattle.dwarf_meaning.specs.Rest.{State, Status, Start, Running, FaultStatus, total}
-use Rattle.dwarf_meaning.specs.Steps.{Step, Told, Reply, Allows, AllAllowed, after, after_step, after_steps, replies_of, outcome_of, step_replies}
-use Rattle.dwarf_replay.specs.Replays.{told_at, Tells}
+use Rattle.dwarf_meaning.specs.Steps.{Step, Log, Reply, Allows, AllAllowed, after, after_step, after_steps, replies_of, outcome_of, step_replies}
+use Rattle.dwarf_replay.specs.Replays.{log_at, AreDoneFrom}
 use Rattle.dwarf_meaning.specs.Bounds.{Spends}
 use Rattle.dwarf_eval.proofs.Spending.{spent_here}
 use Rattle.std.proofs.lemmas.List.{append-nil}
@@ -21,44 +21,44 @@ abbrev pub initial_count : Option ℕ → ℕ
 initial_count (Some number) = 1
 initial_count None = 0
 
--- the settings are those that were told
-pub record Holds (first : State) (told : Told) (x : State) : Type 0 where
+-- the settings are those of the log
+pub record Holds (first : State) (log : Log) (x : State) : Type 0 where
   pub setup : x.setup ≡ first.setup
-  pub settings : x.store.settings ≡ told.now.settings
+  pub settings : x.store.settings ≡ log.now.settings
 
 -- it wasn't started
 pub record Unstarted (first : State) (steps : List Step) (given : List Reply) (x : State) (initial_value : Option ℕ) : Type 0 where
-  pub told : Told
-  pub walked : (r : Refusal) → Tells first steps given told r
-  pub started : told.first ≡ None
-  pub inputs : told.inputs ≡ []
-  pub initial : told.now.initial_value ≡ initial_value
+  pub log : Log
+  pub are_done : (r : Refusal) → AreDoneFrom first steps given log r
+  pub started : log.first ≡ None
+  pub inputs : log.inputs ≡ []
+  pub initial : log.now.initial_value ≡ initial_value
   pub text : x.text ≡ first.text
-  pub holds : Holds first told x
-  pub spent : Spends (initial_count told.now.initial_value) first x
+  pub holds : Holds first log x
+  pub spent : Spends (initial_count log.now.initial_value) first x
 
 -- it waits or is complete: what is left of it is what the meaning gives, for all inputs to come
 pub record Going (first : State) (steps : List Step) (given : List Reply) (x : State) : Type 0 where
-  pub told : Told
+  pub log : Log
   pub taken : ℕ
-  pub counted : length told.inputs ≡ taken
-  pub walked : (r : Refusal) → IsLater r → Tells first steps given told (before_inputs taken r)
+  pub counted : length log.inputs ≡ taken
+  pub are_done : (r : Refusal) → IsLater r → AreDoneFrom first steps given log (before_inputs taken r)
   pub settings : First
-  pub started : told.first ≡ Some settings
-  pub rest_is : (r : Refusal) (inputs : List Input) → IsLater r → meaning first.setup (before_inputs taken r) first.text settings (told.inputs ++ inputs) ≡ (total x r inputs).outcome
-  pub holds : Holds first told x
-  pub spent : Spends (initial_count told.now.initial_value) first x
+  pub started : log.first ≡ Some settings
+  pub rest_is : (r : Refusal) (inputs : List Input) → IsLater r → meaning first.setup (before_inputs taken r) first.text settings (log.inputs ++ inputs) ≡ (total x r inputs).outcome
+  pub holds : Holds first log x
+  pub spent : Spends (initial_count log.now.initial_value) first x
 
 -- it met a fault, for some refusal
 pub record Over (first : State) (steps : List Step) (given : List Reply) (x : State) (error : Error) : Type 0 where
-  pub told : Told
+  pub log : Log
   pub refusal : Refusal
   pub may : MayPick first.setup.limits refusal
-  pub walked : Tells first steps given told refusal
+  pub are_done : AreDoneFrom first steps given log refusal
   pub settings : First
-  pub started : told.first ≡ Some settings
-  pub fails : meaning first.setup refusal first.text settings told.inputs ≡ FaultOutcome (fault_of error)
-  pub spent : Spends (initial_count told.now.initial_value) first x
+  pub started : log.first ≡ Some settings
+  pub fails : meaning first.setup refusal first.text settings log.inputs ≡ FaultOutcome (fault_of error)
+  pub spent : Spends (initial_count log.now.initial_value) first x
 
 abbrev pub WentBy : State → List Step → List Reply → State → Status → Type 0
 WentBy first steps given x (Start initial_value) = Unstarted first steps given x initial_value
@@ -73,8 +73,8 @@ pub went_at_first : (x : State) → x.status ≡ Start None → Went x [] [] x
 went_at_first x e =
     subst (WentBy x [] [] x) (sym e)
     (record {
-      told = told_at x;
-      walked = λ r. record { allowed = tt; replies_are = refl; told_is = refl };
+      log = log_at x;
+      are_done = λ r. record { allowed = tt; replies_are = refl; log_is = refl };
       started = refl;
       inputs = refl;
       initial = refl;
@@ -100,18 +100,18 @@ may_inputs limits (suc n) r h = may_inputs limits n (before_input r) (may_input 
 -- ---- one more step of the definitions
 
 module _ (setup : Setup) (refusal : Refusal) (text : Text) where
-  after_more : (told : Told) (steps : List Step) (step : Step) → after_steps setup refusal text told (steps ++ step ∷ []) ≡ after_step setup refusal text (after_steps setup refusal text told steps) step
-  after_more told [] step = refl
-  after_more told (s ∷ steps) step = after_more (after_step setup refusal text told s) steps step
+  after_more : (log : Log) (steps : List Step) (step : Step) → after_steps setup refusal text log (steps ++ step ∷ []) ≡ after_step setup refusal text (after_steps setup refusal text log steps) step
+  after_more log [] step = refl
+  after_more log (s ∷ steps) step = after_more (after_step setup refusal text log s) steps step
 
-  allowed_more : (told : Told) (steps : List Step) (step : Step) → AllAllowed setup refusal text told steps → Allows (after_steps setup refusal text told steps) (outcome_of setup refusal text (after_steps setup refusal text told steps)) step → AllAllowed setup refusal text told (steps ++ step ∷ [])
-  allowed_more told [] step h i = (i, tt)
-  allowed_more told (s ∷ steps) step h i = (h.0, allowed_more (after_step setup refusal text told s) steps step h.1 i)
+  allowed_more : (log : Log) (steps : List Step) (step : Step) → AllAllowed setup refusal text log steps → Allows (after_steps setup refusal text log steps) (outcome_of setup refusal text (after_steps setup refusal text log steps)) step → AllAllowed setup refusal text log (steps ++ step ∷ [])
+  allowed_more log [] step h i = (i, tt)
+  allowed_more log (s ∷ steps) step h i = (h.0, allowed_more (after_step setup refusal text log s) steps step h.1 i)
 
-  pub answers_more : (told : Told) (steps : List Step) (step : Step) → replies_of setup refusal text told (steps ++ step ∷ []) ≡ replies_of setup refusal text told steps ++ step_replies step (outcome_of setup refusal text (after_step setup refusal text (after_steps setup refusal text told steps) step))
-  answers_more told [] step = append-nil (step_replies step (outcome_of setup refusal text (after_step setup refusal text told step)))
-  answers_more told (s ∷ steps) step =
-      let now = after_step setup refusal text told s in
+  pub answers_more : (log : Log) (steps : List Step) (step : Step) → replies_of setup refusal text log (steps ++ step ∷ []) ≡ replies_of setup refusal text log steps ++ step_replies step (outcome_of setup refusal text (after_step setup refusal text (after_steps setup refusal text log steps) step))
+  answers_more log [] step = append-nil (step_replies step (outcome_of setup refusal text (after_step setup refusal text log step)))
+  answers_more log (s ∷ steps) step =
+      let now = after_step setup refusal text log s in
       let first = step_replies s (outcome_of setup refusal text now) in
       ap (λ (l : List Reply). first ++ l) (answers_more now steps step)
       ∙ sym (append_assoc first (replies_of setup refusal text now steps) (step_replies step (outcome_of setup refusal text (after_step setup refusal text (after_steps setup refusal text now steps) step))))
@@ -119,27 +119,27 @@ module _ (setup : Setup) (refusal : Refusal) (text : Text) where
 -- ---- one more step
 
 module _ (first : State) where
-  abbrev pub outcome : Refusal → Told → Option Outcome
-  outcome r told = outcome_of first.setup r first.text told
+  abbrev pub outcome : Refusal → Log → Option Outcome
+  outcome r log = outcome_of first.setup r first.text log
 
-  walked_by : (steps : List Step) (given : List Reply) (step : Step) (r : Refusal) (told : Told) → AllAllowed first.setup r first.text (told_at first) steps → given ≡ replies_of first.setup r first.text (told_at first) steps → after_steps first.setup r first.text (told_at first) steps ≡ told → Allows told (outcome r told) step → Tells first (steps ++ step ∷ []) (given ++ step_replies step (outcome r (after told (outcome r told) step))) (after told (outcome r told) step) r
-  walked_by steps given step r told allowed replies_are told_is h =
-      let was = after_steps first.setup r first.text (told_at first) steps in
+  done_by : (steps : List Step) (given : List Reply) (step : Step) (r : Refusal) (log : Log) → AllAllowed first.setup r first.text (log_at first) steps → given ≡ replies_of first.setup r first.text (log_at first) steps → after_steps first.setup r first.text (log_at first) steps ≡ log → Allows log (outcome r log) step → AreDoneFrom first (steps ++ step ∷ []) (given ++ step_replies step (outcome r (after log (outcome r log) step))) (after log (outcome r log) step) r
+  done_by steps given step r log allowed replies_are log_is h =
+      let was = after_steps first.setup r first.text (log_at first) steps in
       record {
-        allowed = allowed_more first.setup r first.text (told_at first) steps step allowed (subst (λ (t : Told). Allows t (outcome r t) step) (sym told_is) h);
+        allowed = allowed_more first.setup r first.text (log_at first) steps step allowed (subst (λ (t : Log). Allows t (outcome r t) step) (sym log_is) h);
         replies_are =
-            ap (λ (l : List Reply). l ++ step_replies step (outcome r (after told (outcome r told) step))) replies_are
-            ∙ (ap (λ (t : Told). replies_of first.setup r first.text (told_at first) steps ++ step_replies step (outcome r (after t (outcome r t) step))) (sym told_is)
-            ∙ sym (answers_more first.setup r first.text (told_at first) steps step));
-        told_is = after_more first.setup r first.text (told_at first) steps step ∙ ap (λ (t : Told). after t (outcome r t) step) told_is;
+            ap (λ (l : List Reply). l ++ step_replies step (outcome r (after log (outcome r log) step))) replies_are
+            ∙ (ap (λ (t : Log). replies_of first.setup r first.text (log_at first) steps ++ step_replies step (outcome r (after t (outcome r t) step))) (sym log_is)
+            ∙ sym (answers_more first.setup r first.text (log_at first) steps step));
+        log_is = after_more first.setup r first.text (log_at first) steps step ∙ ap (λ (t : Log). after t (outcome r t) step) log_is;
       }
 
-  -- one more step that is allowed, and what was told and replied by then
-  pub walked_more : (steps : List Step) (given all : List Reply) (step : Step) (r : Refusal) (told now : Told) → Tells first steps given told r → Allows told (outcome r told) step → after told (outcome r told) step ≡ now → all ≡ given ++ step_replies step (outcome r now) → Tells first (steps ++ step ∷ []) all now r
-  walked_more steps given all step r told now w h after_is all_is =
-      let made = walked_by steps given step r told w.allowed w.replies_are w.told_is h in
+  -- one more step that is allowed, and the log and the replies by then
+  pub done_more : (steps : List Step) (given all : List Reply) (step : Step) (r : Refusal) (log now : Log) → AreDoneFrom first steps given log r → Allows log (outcome r log) step → after log (outcome r log) step ≡ now → all ≡ given ++ step_replies step (outcome r now) → AreDoneFrom first (steps ++ step ∷ []) all now r
+  done_more steps given all step r log now w h after_is all_is =
+      let made = done_by steps given step r log w.allowed w.replies_are w.log_is h in
       record {
         allowed = made.allowed;
-        replies_are = all_is ∙ (ap (λ (t : Told). given ++ step_replies step (outcome r t)) (sym after_is) ∙ made.replies_are);
-        told_is = made.told_is ∙ after_is;
+        replies_are = all_is ∙ (ap (λ (t : Log). given ++ step_replies step (outcome r t)) (sym after_is) ∙ made.replies_are);
+        log_is = made.log_is ∙ after_is;
       }

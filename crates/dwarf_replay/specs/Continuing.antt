@@ -5,8 +5,8 @@ use Rattle.dwarf_meaning.specs.Requests.{Input}
 use Rattle.dwarf_meaning.specs.Refusals.{Refusal, IsLater, before_inputs}
 use Rattle.dwarf_meaning.specs.Rest.{State, Status, Start, Running, RequestStatus, CompleteStatus, FaultStatus, total}
 use Rattle.dwarf_meaning.specs.Steps as meaning
-use Rattle.dwarf_meaning.specs.Steps.{InitialValue, Told, Reply, outcome_of}
-use Rattle.dwarf_replay.specs.Replays.{reply_in, replies_in, steps_of, Tells}
+use Rattle.dwarf_meaning.specs.Steps.{InitialValue, Log, Reply, outcome_of}
+use Rattle.dwarf_replay.specs.Replays.{reply_in, replies_in, steps_of, AreDoneFrom}
 use Rattle.dwarf_replay.specs.declared.steps.Answer.{Answer}
 use Rattle.dwarf_replay.specs.declared.steps.Replayed.{Replayed}
 use Rattle.dwarf_replay.specs.declared.steps.Replayed.TheVariants as replayed
@@ -38,20 +38,20 @@ initial_items (step ∷ steps) = initial_items steps
 
 -- It wasn't started: the setup and the text stay, and no refusal changed anything.
 pub record IsUnbegun (old : State) (steps : List meaning.Step) (replies : List Reply) (new : State) : Type 0 where
-  pub told : Told
+  pub log : Log
   pub setup : new.setup ≡ old.setup
   pub text : new.text ≡ old.text
-  pub alike : (r : Refusal) → Tells old steps replies told r
+  pub alike : (r : Refusal) → AreDoneFrom old steps replies log r
 
 -- It isn't over: the setup stays, no refusal after the inputs so far changed anything, and what is left gives what the
 -- meaning gives for the inputs so far and all that are to come.
 pub record IsLeft (old : State) (steps : List meaning.Step) (replies : List Reply) (new : State) : Type 0 where
-  pub told : Told
+  pub log : Log
   pub setup : new.setup ≡ old.setup
-  pub alike : (r : Refusal) → IsLater r → Tells old steps replies told (before_inputs (length told.inputs) r)
+  pub alike : (r : Refusal) → IsLater r → AreDoneFrom old steps replies log (before_inputs (length log.inputs) r)
   pub more : (r : Refusal) (inputs : List Input) → IsLater r →
-      outcome_of old.setup (before_inputs (length told.inputs) r) old.text
-      (record told { inputs = told.inputs ++ inputs }) ≡ Some (total new r inputs).outcome
+      outcome_of old.setup (before_inputs (length log.inputs) r) old.text
+      (record log { inputs = log.inputs ++ inputs }) ≡ Some (total new r inputs).outcome
 
 -- what is left, by the status
 abbrev pub Leaves : State → List meaning.Step → List Reply → State → Status → Type 0

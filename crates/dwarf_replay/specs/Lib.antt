@@ -1,4 +1,4 @@
 pub mod Continuing
-pub mod Equality
+pub mod StepEquality
 pub mod Replays
 pub mod Stepping

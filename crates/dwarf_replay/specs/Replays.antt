@@ -8,7 +8,7 @@ use Rattle.dwarf_meaning.specs.Run.{Position}
 use Rattle.dwarf_meaning.specs.Meaning.{Outcome, RequestOutcome, FaultOutcome, CompleteOutcome}
 use Rattle.dwarf_meaning.specs.Rest.{State, Status, Start, RequestStatus, CompleteStatus, FaultStatus, first_of}
 use Rattle.dwarf_meaning.specs.Steps as meaning
-use Rattle.dwarf_meaning.specs.Steps.{Told, Reply, Allows, AreDone, replies_of, outcome_of}
+use Rattle.dwarf_meaning.specs.Steps.{Log, Reply, Allows, AreDone, replies_of, outcome_of}
 use Rattle.dwarf_eval.specs.Evaluation.{reply_of}
 use Rattle.dwarf_eval.specs.Lists.{MayRefuse}
 use Rattle.dwarf_replay.specs.Stepping.{step_of}
@@ -30,9 +30,9 @@ module _ {R O P : Type 0} (text : R → Text) (number : O → ℕ) where
   abbrev pub replies_in : List (Answer R O P) → List Reply
   replies_in given = map reply_in given
 
--- nothing was told but the settings
-abbrev pub told_at : State → Told
-told_at x = record { now = first_of x None; first = None; inputs = [] }
+-- the log of the settings alone
+abbrev pub log_at : State → Log
+log_at x = record { now = first_of x None; first = None; inputs = [] }
 
 -- ---- where an evaluation stands
 
@@ -49,41 +49,41 @@ IsInFault fault _ = ⊥
 
 -- It is where the steps lead: not started yet, in a request, at a fault, or complete with pieces and a value. Until it is
 -- over, the settings are the last that were set.
-abbrev pub StandsAt : Told → State → Option Outcome → Type 0
-StandsAt told x None = (x.status ≡ Start told.now.initial_value) × (x.store.settings ≡ told.now.settings)
-StandsAt told x (Some (RequestOutcome request positions)) =
-    IsInRequest request positions x x.status × (x.store.settings ≡ told.now.settings)
-StandsAt told x (Some (FaultOutcome fault)) = IsInFault fault x.status
-StandsAt told x (Some (CompleteOutcome pieces value)) = (x.status ≡ CompleteStatus value) × (x.store.pieces ≡ pieces)
+abbrev pub StandsAt : Log → State → Option Outcome → Type 0
+StandsAt log x None = (x.status ≡ Start log.now.initial_value) × (x.store.settings ≡ log.now.settings)
+StandsAt log x (Some (RequestOutcome request positions)) =
+    IsInRequest request positions x x.status × (x.store.settings ≡ log.now.settings)
+StandsAt log x (Some (FaultOutcome fault)) = IsInFault fault x.status
+StandsAt log x (Some (CompleteOutcome pieces value)) = (x.status ≡ CompleteStatus value) × (x.store.pieces ≡ pieces)
 
 -- the steps are done from a state on, with this refusal
-abbrev pub Tells : State → List meaning.Step → List Reply → Told → Refusal → Type 0
-Tells old steps replies told refusal = AreDone old.setup refusal old.text (told_at old) steps replies told
+abbrev pub AreDoneFrom : State → List meaning.Step → List Reply → Log → Refusal → Type 0
+AreDoneFrom old steps replies log refusal = AreDone old.setup refusal old.text (log_at old) steps replies log
 
 -- ---- replay
 
 -- Steps that are all allowed were done, for some refusal or for none: the replies are theirs, and the evaluation stands
 -- where they lead.
-pub record Walks (old : State) (steps : List meaning.Step) (replies : List Reply) (new : State) : Type 0 where
+pub record DoesAll (old : State) (steps : List meaning.Step) (replies : List Reply) (new : State) : Type 0 where
   pub refusal : Refusal
   pub may : MayPick old.setup.limits refusal
-  pub told : Told
-  pub tells : Tells old steps replies told refusal
-  pub stands : StandsAt told new (outcome_of old.setup refusal old.text told)
+  pub log : Log
+  pub are_done : AreDoneFrom old steps replies log refusal
+  pub stands : StandsAt log new (outcome_of old.setup refusal old.text log)
 
 -- the steps before this one were done, and it isn't allowed
-pub record WalksTo (index : ℕ) (old : State) (steps : List meaning.Step) (replies : List Reply)
+pub record StopsAt (index : ℕ) (old : State) (steps : List meaning.Step) (replies : List Reply)
     (new : State) : Type 0 where
-  pub walks : Walks old (take index steps) replies new
+  pub does_all : DoesAll old (take index steps) replies new
   pub step : meaning.Step
   pub is_next : slice_get steps index ≡ Some step
-  pub misplaced : Allows walks.told (outcome_of old.setup walks.refusal old.text walks.told) step → ⊥
+  pub misplaced : Allows does_all.log (outcome_of old.setup does_all.refusal old.text does_all.log) step → ⊥
 
 -- the steps up to this one were done, and its reply found no room
-pub record WalksOver (index : ℕ) (answer : Reply) (limit : Option ℕ) (old : State) (steps : List meaning.Step)
+pub record OverflowsAt (index : ℕ) (answer : Reply) (limit : Option ℕ) (old : State) (steps : List meaning.Step)
     (replies : List Reply) (new : State) : Type 0 where
-  pub walks : Walks old (take (suc index) steps) (replies ++ answer ∷ []) new
-  pub before : replies ≡ replies_of old.setup walks.refusal old.text (told_at old) (take index steps)
+  pub does_all : DoesAll old (take (suc index) steps) (replies ++ answer ∷ []) new
+  pub before : replies ≡ replies_of old.setup does_all.refusal old.text (log_at old) (take index steps)
   pub inside : (step : meaning.Step) × (slice_get steps index ≡ Some step)
   pub full : MayRefuse limit (length replies)
 
@@ -91,8 +91,8 @@ module _ {R O P : Type 0} (text : R → Text) (number : O → ℕ) where
   -- by how it ended: all steps were done, one isn't allowed, or a reply found no room
   abbrev pub Replays : Option ℕ → State → List (Step R) → List (Answer R O P) → State → Replayed R O P → Type 0
   Replays limit old steps given new replayed.Done =
-      Walks old (steps_of text steps) (replies_in text number given) new
+      DoesAll old (steps_of text steps) (replies_in text number given) new
   Replays limit old steps given new (replayed.Misplaced index) =
-      WalksTo index old (steps_of text steps) (replies_in text number given) new
+      StopsAt index old (steps_of text steps) (replies_in text number given) new
   Replays limit old steps given new (replayed.NoRoom index answer) =
-      WalksOver index (reply_in text number answer) limit old (steps_of text steps) (replies_in text number given) new
+      OverflowsAt index (reply_in text number answer) limit old (steps_of text steps) (replies_in text number given) new

@@ -2,7 +2,7 @@
 ghost use Rattle.std.specs.Prelude.{ℕ};
 ghost use Rattle.dwarf_base.specs.Equality.{IsEqualityOf};
 ghost use Rattle.dwarf_base.specs.Reads.{Text};
-ghost use Rattle.dwarf_replay.specs.Equality.{came_of, ended_of, given_of};
+ghost use Rattle.dwarf_replay.specs.StepEquality.{outcome_of_step, end_of_replay, reply_or_error};
 ghost use Rattle.dwarf_replay.specs.Stepping.{step_of};
 
 use crate::steps::{Answer, Replayed, Step, Stepped};
@@ -19,11 +19,12 @@ pub fn step_equality_laws<R: Reader + Eq>()
 pub fn answer_equality_laws<R: Reader + Eq, O: Eq>()
     ensures answer { (text : R → Text) (number : O → ℕ) → IsEqualityOf text R.PartialEq.eq
         → IsEqualityOf number O.PartialEq.eq
-        → IsEqualityOf (λ answer. given_of text number answer.0) ⟦<Answer<R, O> as PartialEq>⟧.eq }
+        → IsEqualityOf
+        (λ answer. reply_or_error text number answer.0) ⟦<Answer<R, O> as PartialEq>⟧.eq }
     ensures stepped { (text : R → Text) (number : O → ℕ) → IsEqualityOf text R.PartialEq.eq
         → IsEqualityOf number O.PartialEq.eq
-        → IsEqualityOf (came_of text number) ⟦<Stepped<R, O> as PartialEq>⟧.eq }
+        → IsEqualityOf (outcome_of_step text number) ⟦<Stepped<R, O> as PartialEq>⟧.eq }
     ensures replayed { (text : R → Text) (number : O → ℕ) → IsEqualityOf text R.PartialEq.eq
         → IsEqualityOf number O.PartialEq.eq
-        → IsEqualityOf (ended_of text number) ⟦<Replayed<R, O> as PartialEq>⟧.eq }
+        → IsEqualityOf (end_of_replay text number) ⟦<Replayed<R, O> as PartialEq>⟧.eq }
 {}

@@ -53,7 +53,7 @@ pub(crate) const COMPLETE: Answer<Slice<'static>> = Answer(Ok(EvaluationResult::
 pub(crate) struct Case<'a> {
     pub(crate) text: &'a [u8],
     pub(crate) steps: &'a [Step<Slice<'a>>],
-    pub(crate) told: &'a [Answer<Slice<'a>>],
+    pub(crate) replies: &'a [Answer<Slice<'a>>],
     pub(crate) end: Replayed<Slice<'a>>,
     pub(crate) status: Status,
     pub(crate) value: Option<Value>,
@@ -64,14 +64,14 @@ pub(crate) struct Case<'a> {
 pub(crate) fn without_result<'a>(
     text: &'a [u8],
     steps: &'a [Step<Slice<'a>>],
-    told: &'a [Answer<Slice<'a>>],
+    replies: &'a [Answer<Slice<'a>>],
     end: Replayed<Slice<'a>>,
     status: Status,
 ) -> Case<'a> {
     Case {
         text,
         steps,
-        told,
+        replies,
         end,
         status,
         value: None,
@@ -83,14 +83,14 @@ pub(crate) fn without_result<'a>(
 pub(crate) fn with_result<'a>(
     text: &'a [u8],
     steps: &'a [Step<Slice<'a>>],
-    told: &'a [Answer<Slice<'a>>],
+    replies: &'a [Answer<Slice<'a>>],
     value: Option<Value>,
     pieces: &'a [Piece<Slice<'a>>],
 ) -> Case<'a> {
     Case {
         text,
         steps,
-        told,
+        replies,
         end: Replayed::Done,
         status: Status::Complete,
         value,
@@ -141,7 +141,7 @@ pub(crate) fn expect(
     answers: &[Answer<Slice<'_>>],
     case: &Case<'_>,
 ) {
-    assert!(rt; answers == case.told);
+    assert!(rt; answers == case.replies);
     assert!(rt; outcome.end == case.end);
     assert!(rt; outcome.status == case.status);
     assert!(rt; outcome.value == case.value);
@@ -238,7 +238,7 @@ static RESTARTED: [Case<'static>; 7] = [
             Step::Evaluate,
             Step::Evaluate,
         ],
-        told: &[COMPLETE; 2],
+        replies: &[COMPLETE; 2],
         end: Replayed::Done,
         status: Status::Complete,
         value: Some(Generic(8)),
@@ -251,7 +251,7 @@ static RESTARTED: [Case<'static>; 7] = [
     Case {
         text: &[0x97],
         steps: &[Step::Evaluate],
-        told: &[Answer(Err(Error::InvalidPushObjectAddress))],
+        replies: &[Answer(Err(Error::InvalidPushObjectAddress))],
         end: Replayed::Done,
         status: Status::Failed(Error::InvalidPushObjectAddress),
         value: None,
@@ -260,7 +260,7 @@ static RESTARTED: [Case<'static>; 7] = [
     Case {
         text: &[0x31; 4],
         steps: &[Step::Evaluate],
-        told: &[COMPLETE],
+        replies: &[COMPLETE],
         end: Replayed::Done,
         status: Status::Complete,
         value: Some(Generic(1)),
@@ -273,7 +273,7 @@ static RESTARTED: [Case<'static>; 7] = [
     Case {
         text: &[0x31, 0x91, 0x00],
         steps: &[Step::Evaluate],
-        told: &[Answer(Ok(EvaluationResult::RequiresFrameBase))],
+        replies: &[Answer(Ok(EvaluationResult::RequiresFrameBase))],
         end: Replayed::Done,
         status: Status::Waiting(WaitingKind::FrameBase),
         value: None,
@@ -282,7 +282,7 @@ static RESTARTED: [Case<'static>; 7] = [
     Case {
         text: &[0x22],
         steps: &[Step::Evaluate],
-        told: &[Answer(Err(Error::NotEnoughStackItems))],
+        replies: &[Answer(Err(Error::NotEnoughStackItems))],
         end: Replayed::Done,
         status: Status::Failed(Error::NotEnoughStackItems),
         value: None,
@@ -291,7 +291,7 @@ static RESTARTED: [Case<'static>; 7] = [
     Case {
         text: &[0x50, 0x93, 0x04],
         steps: &[Step::Evaluate],
-        told: &[COMPLETE],
+        replies: &[COMPLETE],
         end: Replayed::Done,
         status: Status::Complete,
         value: None,
@@ -306,7 +306,7 @@ static RESTARTED: [Case<'static>; 7] = [
     Case {
         text: &[],
         steps: &[Step::Evaluate],
-        told: &[Answer(Err(Error::NotEnoughStackItems))],
+        replies: &[Answer(Err(Error::NotEnoughStackItems))],
         end: Replayed::Done,
         status: Status::Failed(Error::NotEnoughStackItems),
         value: None,
@@ -439,10 +439,16 @@ fn answers<'a>(callee: Slice<'a>) -> [Step<Slice<'a>>; 13] {
 
 #[test]
 fn each_request(rt: HostRuntime) {
-    let told = requests(little(&[0x9c]));
+    let replies = requests(little(&[0x9c]));
     let steps = answers(little(&[0x0a, 0x00, 0x04]));
     let pieces = [whole(Location::Address { address: 2047 })];
-    let case = with_result(EACH_REQUEST, &steps, &told, Some(Value::U16(2047)), &pieces);
+    let case = with_result(
+        EACH_REQUEST,
+        &steps,
+        &replies,
+        Some(Value::U16(2047)),
+        &pieces,
+    );
     expect_with_room::<13>(&rt, rt.alloc(), &case);
     expect_over_lists::<2, 1, 1>(&rt, rt.alloc(), &case);
 }

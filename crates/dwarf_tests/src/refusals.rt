@@ -121,7 +121,7 @@ const ANSWERS: usize = 3;
 struct Refusal<'a> {
     text: Vec<u8>,
     steps: Vec<Step<Slice<'a>>>,
-    told: Vec<Answer<Slice<'a>>>,
+    replies: Vec<Answer<Slice<'a>>>,
     value: Option<Value>,
     pushes: [u64; LISTS],
     values: u64,
@@ -145,7 +145,7 @@ fn sum<'a>(alloc: Global, count: u64) -> Result<Refusal<'a>, AllocError> {
     Ok(Refusal {
         text,
         steps: repeated(alloc, Step::Evaluate, 1)?,
-        told: repeated(alloc, COMPLETE, 1)?,
+        replies: repeated(alloc, COMPLETE, 1)?,
         value: Some(Generic(count)),
         pushes: [count.saturating_mul(2).saturating_sub(1), 0, 1, 2],
         values: count,
@@ -161,7 +161,7 @@ fn registers<'a>(alloc: Global, count: u64) -> Result<Refusal<'a>, AllocError> {
     Ok(Refusal {
         text,
         steps: repeated(alloc, Step::Evaluate, 1)?,
-        told: repeated(alloc, COMPLETE, 1)?,
+        replies: repeated(alloc, COMPLETE, 1)?,
         value: None,
         pushes: [0, 0, count, 2],
         values: 0,
@@ -175,14 +175,14 @@ fn calls<'a>(alloc: Global, count: u64) -> Result<Refusal<'a>, AllocError> {
         steps.push(Step::AtLocation(little(AGAIN)))?;
     }
     steps.push(Step::AtLocation(little(&[0x31])))?;
-    let mut told = repeated(alloc, ITSELF, count)?;
-    told.push(COMPLETE)?;
+    let mut replies = repeated(alloc, ITSELF, count)?;
+    replies.push(COMPLETE)?;
     let mut text = Vec::new(alloc);
     text.extend_from_slice(AGAIN)?;
     Ok(Refusal {
         text,
         steps,
-        told,
+        replies,
         value: Some(Generic(1)),
         pushes: [1, count, 1, count.saturating_add(2)],
         values: 1,
@@ -191,7 +191,7 @@ fn calls<'a>(alloc: Global, count: u64) -> Result<Refusal<'a>, AllocError> {
 
 // The answers are those of ample memory up to the refused call, and none of them is the fault. That call answers the
 // fault, and so does every later one.
-fn expect_refused(rt: &impl Abort, answers: &[Answer<Slice<'_>>], told: &[Answer<Slice<'_>>]) {
+fn expect_refused(rt: &impl Abort, answers: &[Answer<Slice<'_>>], replies: &[Answer<Slice<'_>>]) {
     let mut refused: usize = 0;
     for answer in answers {
         if *answer == FULL {
@@ -199,8 +199,8 @@ fn expect_refused(rt: &impl Abort, answers: &[Answer<Slice<'_>>], told: &[Answer
         }
     }
     let before = answers.len().saturating_sub(refused);
-    assert!(rt; refused > 0 && told.starts_with(&answers[..before]));
-    assert!(rt; answers.len() == told.len() + later_steps().len());
+    assert!(rt; refused > 0 && replies.starts_with(&answers[..before]));
+    assert!(rt; answers.len() == replies.len() + later_steps().len());
 }
 
 // Replays the case, and then every call that a fault allows, over lists one of which refuses the push that this many
@@ -222,23 +222,23 @@ fn expect_push(
     steps.extend_from_slice(&later_steps())?;
     let mut answers = list(alloc, befores[ANSWERS]);
     let outcome = replayed(rt, alloc, &mut eval, &steps, &mut answers);
-    let told = answers.items.as_slice();
+    let replies = answers.items.as_slice();
     if before == case.pushes[refusing] {
         // After the end `evaluate` gives `Complete` once more, and no answer is allowed.
         assert!(rt; outcome.end == Replayed::Misplaced(case.steps.len() + 1));
-        assert!(rt; told.split_last() == Some((&COMPLETE, case.told.as_slice())));
+        assert!(rt; replies.split_last() == Some((&COMPLETE, case.replies.as_slice())));
         assert!(rt; outcome.status == Status::Complete);
         assert!(rt; outcome.value == case.value);
         assert!(rt; outcome.pieces.len() as u64 == case.pushes[PIECES]);
     } else if refusing == ANSWERS {
-        let index = told.len();
-        let answer = *case.told.as_slice().get(index).unwrap_or(&COMPLETE);
-        assert!(rt; index as u64 == before && case.told.starts_with(told));
+        let index = replies.len();
+        let answer = *case.replies.as_slice().get(index).unwrap_or(&COMPLETE);
+        assert!(rt; index as u64 == before && case.replies.starts_with(replies));
         assert!(rt; outcome.end == Replayed::NoRoom { index, answer });
     } else {
         assert!(rt; outcome.end == Replayed::Done);
         assert!(rt; outcome.status == Status::Failed(Error::StackFull));
-        expect_refused(rt, told, &case.told);
+        expect_refused(rt, replies, &case.replies);
     }
     Ok(())
 }
@@ -281,9 +281,9 @@ fn expect_steps<'a, S: EvaluationStorage<Slice<'a>>>(
     answers: &[Answer<Slice<'a>>],
     memory: &RefusesGrowth<Global>,
 ) {
-    for (step, told) in steps.iter().zip(answers) {
+    for (step, reply) in steps.iter().zip(answers) {
         let stepped = take_step(&mut eval, *step);
-        let wanted = if memory.has_refused() { FULL } else { *told };
+        let wanted = if memory.has_refused() { FULL } else { *reply };
         assert!(rt; stepped == Stepped::Answered(wanted));
     }
 }
@@ -295,8 +295,8 @@ fn expect_answers<A: Allocator>(rt: &impl Abort, alloc: Global, case: &Refusal<'
     let mut answers = Vec::new(memory);
     let outcome = replayed(rt, alloc, &mut eval, &case.steps, &mut answers);
     let index = answers.len();
-    assert!(rt; case.told.starts_with(answers.as_slice()));
-    let end = match case.told.as_slice().get(index) {
+    assert!(rt; case.replies.starts_with(answers.as_slice()));
+    let end = match case.replies.as_slice().get(index) {
         Some(answer) => Replayed::NoRoom {
             index,
             answer: *answer,
@@ -311,7 +311,7 @@ fn expect_growths(rt: &impl Abort, alloc: Global, case: &Refusal<'_>) -> Result<
     let mut steps = Vec::new(alloc);
     steps.extend_from_slice(&case.steps)?;
     let mut answers = Vec::new(alloc);
-    answers.extend_from_slice(&case.told)?;
+    answers.extend_from_slice(&case.replies)?;
     let mut growths = growths_of(rt, alloc, case.values);
     growths = growths.saturating_add(growths_of(rt, alloc, case.pushes[1]));
     growths = growths.saturating_add(growths_of(rt, alloc, case.pushes[PIECES]));
@@ -321,7 +321,7 @@ fn expect_growths(rt: &impl Abort, alloc: Global, case: &Refusal<'_>) -> Result<
         expect_steps(rt, eval, &steps, &answers, &memory);
         expect_memory(rt, &memory, before, growths);
     }
-    growths = growths_of(rt, alloc, case.told.len() as u64);
+    growths = growths_of(rt, alloc, case.replies.len() as u64);
     for before in 0..=growths {
         let memory = RefusesGrowth::new(alloc, before);
         expect_answers(rt, alloc, case, &memory);
@@ -344,7 +344,7 @@ fn refused_growths(rt: HostRuntime) -> Result<(), AllocError> {
     Ok(())
 }
 
-// Two answers that agree up to the width of an address meet the same refused push, and are told the same.
+// Two answers that agree up to the width of an address meet the same refused push, and get the same replies.
 #[test]
 fn refused_pushes_of_agreeing_answers(rt: HostRuntime) {
     let alloc = rt.alloc();

@@ -228,16 +228,16 @@ fn expect_over(rt: &impl Abort, alloc: Global, capacities: (usize, usize, usize)
 #[test]
 fn fixed_capacities(rt: HostRuntime) -> Result<(), AllocError> {
     for row in &ROWS {
-        let (capacities, text, row_steps, told) = *row;
+        let (capacities, text, row_steps, replies) = *row;
         let mut steps = Vec::new(rt.alloc());
         for step in row_steps {
             steps.push(read(*step))?;
         }
-        let status = match told.last() {
+        let status = match replies.last() {
             Some(Answer(Err(error))) => Status::Failed(*error),
             _ => Status::Complete,
         };
-        let case = without_result(text, &steps, told, Replayed::Done, status);
+        let case = without_result(text, &steps, replies, Replayed::Done, status);
         expect_over(&rt, rt.alloc(), capacities, &case);
     }
     Ok(())

@@ -156,16 +156,16 @@ abbrev pub of_one_type : Value → Value → Value → Result Value Error
 of_one_type x y result = if is_same (type_of x) (type_of y) then Ok result else Err TypeMismatch
 
 -- the integers of two values of one type combined, and wrapped
-abbrev pub combined : (ℤ → ℤ → ℤ) → (w : ℕ) → Value → Value → Result Value Error
-combined f w x y = of_one_type x y (value_of w (type_of x) (f (unsigned_integer w x) (unsigned_integer w y)))
+abbrev pub combination : (ℤ → ℤ → ℤ) → (w : ℕ) → Value → Value → Result Value Error
+combination f w x y = of_one_type x y (value_of w (type_of x) (f (unsigned_integer w x) (unsigned_integer w y)))
 
 -- a result for a dividend and a divisor; a zero divisor doesn't fit, of whatever type
-abbrev pub divided : (w : ℕ) → Value → Value → Value → Result Value Error
-divided w x y result = if int_eq (unsigned_integer w y) (pos 0) then Err DivisionByZero else of_one_type x y result
+abbrev pub division : (w : ℕ) → Value → Value → Value → Result Value Error
+division w x y result = if int_eq (unsigned_integer w y) (pos 0) then Err DivisionByZero else of_one_type x y result
 
 -- a result for a shift's length, which may be of any type; a negative one doesn't fit
-abbrev pub shifted : (w : ℕ) (length : Value) → (ℕ → Result Value Error) → Result Value Error
-shifted w length result =
+abbrev pub shift : (w : ℕ) (length : Value) → (ℕ → Result Value Error) → Result Value Error
+shift w length result =
     if is_negative (unsigned_integer w length) then Err InvalidShiftExpression
     else result (unsigned_abs (unsigned_integer w length))
 
@@ -175,8 +175,8 @@ floor_quotient (pos n) m = pos (n / m)
 floor_quotient (negsuc n) m = negsuc (n / m)
 
 -- the generic 1 if the integers of two values of one type pass the test, else the generic 0
-abbrev pub compared : (ℤ → ℤ → Bool) → (w : ℕ) → Value → Value → Result Value Error
-compared passes w x y = of_one_type x y (Generic (if passes (signed_integer w x) (signed_integer w y) then 1 else 0))
+abbrev pub comparison : (ℤ → ℤ → Bool) → (w : ℕ) → Value → Value → Result Value Error
+comparison passes w x y = of_one_type x y (Generic (if passes (signed_integer w x) (signed_integer w y) then 1 else 0))
 
 -- What each operator on one value gives: the absolute value; the negated integer, or a fault for an unsigned type; each
 -- binary digit turned, which is to negate the integer and take one off.
@@ -192,26 +192,26 @@ unary_of Not w x = Ok (value_of 64 (type_of x) (neg_ℤ (unsigned_integer w x) -
 -- by 2 ^ n, or to divide and round down: from the type's size on all bits are shifted out to the left, signed types
 -- have no `Shr`, and unsigned ones no `Shra`.
 abbrev pub binary_of : BinaryOperator → (w : ℕ) → Value → Value → Result Value Error
-binary_of Plus w x y = combined ◌+ℤ◌ w x y
-binary_of Minus w x y = combined ◌-ℤ◌ w x y
-binary_of Mul w x y = combined ◌*ℤ◌ w x y
-binary_of Div w x y = divided w x y (value_of 64 (type_of x) (int_div (signed_integer w x) (signed_integer w y)))
-binary_of Mod w x y = divided w x y (value_of 64 (type_of x) (int_rem (unsigned_integer w x) (unsigned_integer w y)))
+binary_of Plus w x y = combination ◌+ℤ◌ w x y
+binary_of Minus w x y = combination ◌-ℤ◌ w x y
+binary_of Mul w x y = combination ◌*ℤ◌ w x y
+binary_of Div w x y = division w x y (value_of 64 (type_of x) (int_div (signed_integer w x) (signed_integer w y)))
+binary_of Mod w x y = division w x y (value_of 64 (type_of x) (int_rem (unsigned_integer w x) (unsigned_integer w y)))
 binary_of And w x y = of_one_type x y (from_u64_of (type_of x) (bit_and (to_u64_of w x) (to_u64_of w y)))
 binary_of Or w x y = of_one_type x y (from_u64_of (type_of x) (bit_or (to_u64_of w x) (to_u64_of w y)))
 binary_of Xor w x y = of_one_type x y (from_u64_of (type_of x) (bit_xor (to_u64_of w x) (to_u64_of w y)))
-binary_of Shl w x y = shifted w y λ n.
+binary_of Shl w x y = shift w y λ n.
     Ok (value_of 64 (type_of x) (if nat_le (bit_size_of w (type_of x)) n then pos 0
     else unsigned_integer w x *ℤ pos (2 ^ n)))
-binary_of Shr w x y = shifted w y λ n.
+binary_of Shr w x y = shift w y λ n.
     if is_signed false (type_of x) then Err UnsupportedTypeOperation
     else Ok (value_of 64 (type_of x) (floor_quotient (unsigned_integer w x) (2 ^ n)))
-binary_of Shra w x y = shifted w y λ n.
+binary_of Shra w x y = shift w y λ n.
     if is_signed true (type_of x) then Ok (value_of 64 (type_of x) (floor_quotient (signed_integer w x) (2 ^ n)))
     else Err UnsupportedTypeOperation
-binary_of Eq w x y = compared int_eq w x y
-binary_of Ne w x y = compared (λ a b. not (int_eq a b)) w x y
-binary_of Lt w x y = compared int_lt w x y
-binary_of Le w x y = compared int_le w x y
-binary_of Gt w x y = compared (λ a b. int_lt b a) w x y
-binary_of Ge w x y = compared (λ a b. int_le b a) w x y
+binary_of Eq w x y = comparison int_eq w x y
+binary_of Ne w x y = comparison (λ a b. not (int_eq a b)) w x y
+binary_of Lt w x y = comparison int_lt w x y
+binary_of Le w x y = comparison int_le w x y
+binary_of Gt w x y = comparison (λ a b. int_lt b a) w x y
+binary_of Ge w x y = comparison (λ a b. int_le b a) w x y

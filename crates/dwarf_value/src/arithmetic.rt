@@ -1,7 +1,7 @@
 ghost use Rattle.std.specs.Prelude.{◌≡◌, pos, ◌+ℤ◌, ◌-ℤ◌, ◌*ℤ◌, MatchResult};
 ghost use Rattle.dwarf_base.specs.Numbers.{residue};
-ghost use Rattle.dwarf_value.specs.inner.Operands.{AreDivided, UnfitDivision};
-ghost use Rattle.dwarf_value.specs.Values.{IsAddressMask, width_of, combined, unary_of, binary_of, Abs, Neg, Div, Mod};
+ghost use Rattle.dwarf_value.specs.inner.OperandPairs.{AreDivided, UnfitDivision};
+ghost use Rattle.dwarf_value.specs.Values.{IsAddressMask, width_of, combination, unary_of, binary_of, Abs, Neg, Div, Mod};
 
 use crate::types::{Value, ValueType};
 use crate::word::{low_bits, same_type};
@@ -14,7 +14,7 @@ impl Value {
     #[inline(always)]
     pub fn add(self, rhs: Value, addr_mask: u64) -> Result<Value>
         requires { IsAddressMask addr_mask }
-        ensures { result ≡ combined ◌+ℤ◌ (width_of addr_mask) self rhs }
+        ensures { result ≡ combination ◌+ℤ◌ (width_of addr_mask) self rhs }
     {
         let (value_type, x, y) = self.operands(rhs, addr_mask, false)?;
         Ok(Value::wrapped(value_type, x + y, addr_mask))
@@ -26,7 +26,7 @@ impl Value {
     #[inline(always)]
     pub fn sub(self, rhs: Value, addr_mask: u64) -> Result<Value>
         requires { IsAddressMask addr_mask }
-        ensures { result ≡ combined ◌-ℤ◌ (width_of addr_mask) self rhs }
+        ensures { result ≡ combination ◌-ℤ◌ (width_of addr_mask) self rhs }
     {
         let (value_type, x, y) = self.operands(rhs, addr_mask, false)?;
         Ok(Value::wrapped(value_type, x - y, addr_mask))
@@ -39,7 +39,7 @@ impl Value {
     #[inline(always)]
     pub fn mul(self, rhs: Value, addr_mask: u64) -> Result<Value>
         requires { IsAddressMask addr_mask }
-        ensures { result ≡ combined ◌*ℤ◌ (width_of addr_mask) self rhs }
+        ensures { result ≡ combination ◌*ℤ◌ (width_of addr_mask) self rhs }
     {
         let (value_type, x, y) = self.operands(rhs, addr_mask, false)?;
         Ok(Value::wrapped(value_type, low_product(x, y), addr_mask))

@@ -1,6 +1,6 @@
 ghost use Rattle.std.specs.Prelude.{◌≡◌, ◌<◌, ◌≤◌, ◌^◌, ◌%◌, pos, neg_ℤ, ◌≤ℤ◌, ◌<ℤ◌, MatchResult};
 ghost use Rattle.dwarf_base.specs.Numbers.{residue};
-ghost use Rattle.dwarf_value.specs.inner.Operands.{AreOperands, UnfitOperands};
+ghost use Rattle.dwarf_value.specs.inner.OperandPairs.{AreOperands, UnfitOperands};
 ghost use Rattle.dwarf_value.specs.Values.{IsAddressMask, width_of, word_integer, type_of, bit_size_of, is_signed, is_same, integer_of, value_of};
 
 use crate::masks::mask_width;

@@ -3,7 +3,7 @@ use Rattle.std.proofs.Common.{◌≡◌, inl, inr, ℕ, List, [], ◌++◌, Opti
 use Rattle.std.specs.Prelude.{IfSome, IsSome, slice_get}
 use Rattle.std.specs.Result.{result_unwrap_or}
 use Rattle.dwexpr.specs.Program.{EndsInvocation, EndsCommand, EndsFor, Exits}
-use Rattle.dwexpr.specs.Endings.{Ending, WritesEnding, no_memory, misplaced}
+use Rattle.dwexpr.specs.Endings.{Ending, WritesEnding, no_memory, misplaced_step}
 use Rattle.dwexpr.specs.Words.{Invocation, invocation_in}
 use Rattle.dwexpr.specs.declared.words.Command.{Command}
 use Rattle.dwexpr.specs.declared.words.Reading.{Reading}
@@ -21,8 +21,8 @@ use Rattle.dwarf_meaning.specs.Rest.{State, Status, RequestStatus, CompleteStatu
 use Rattle.dwarf_meaning.specs.Stores.{Setup}
 use Rattle.dwarf_meaning.specs.Refusals.{Refusal}
 use Rattle.dwarf_meaning.specs.Steps as meaning
-use Rattle.dwarf_meaning.specs.Steps.{Allows, AllAllowed, AreDone, Reply, Told, after_step, after_steps, outcome_of, replies_of, step_replies, untold}
-use Rattle.dwarf_replay.specs.Replays.{IsInRequest, IsInFault, Replays, StandsAt, replies_in, reply_in, steps_of, told_at}
+use Rattle.dwarf_meaning.specs.Steps.{Allows, AllAllowed, AreDone, Reply, Log, after_step, after_steps, outcome_of, replies_of, step_replies, empty_log}
+use Rattle.dwarf_replay.specs.Replays.{IsInRequest, IsInFault, Replays, StandsAt, replies_in, reply_in, steps_of, log_at}
 use Rattle.dwarf_replay.specs.declared.steps.Answer.{Answer}
 use Rattle.dwarf_replay.specs.declared.steps.Replayed.{Replayed}
 use Rattle.dwarf_replay.specs.declared.steps.Replayed.TheVariants as replayed
@@ -31,7 +31,7 @@ use Rattle.dwexpr.specs.Evaluates.{EndsAt, HasReply, all_done, not_allowed, with
 use Rattle.dwexpr.specs.inner.Readings.{bad_steps, ReadsSteps}
 use Rattle.dwexpr.specs.declared.steps.StepsFault.{StepsFault}
 use Rattle.dwexpr.specs.declared.steps.StepsFault.TheVariants as fault
-use Rattle.dwexpr.specs.inner.Outputs.{HasLine, ending_of, standing}
+use Rattle.dwexpr.specs.inner.Outputs.{HasLine, ending_of, state_ending}
 
 -- ---- words and input
 
@@ -72,109 +72,109 @@ ends_without_memory words texts left w some =
 -- ---- an evaluation
 
 asking_ending : (request : Request) (positions : List Position) (x : State) (status : Status) → IsInRequest request positions x status
-    → standing x status ≡ record { text = []; status = 0 }
+    → state_ending x status ≡ record { text = []; status = 0 }
 asking_ending request positions x (RequestStatus open_request on_answer) h = refl
 asking_ending request positions x _ h = absurd h
 
 stopped_ending : (fault : Fault) (x : State) (status : Status) → IsInFault fault status
-    → standing x status ≡ record { text = []; status = 1 }
+    → state_ending x status ≡ record { text = []; status = 1 }
 stopped_ending fault x (FaultStatus error) h = refl
 stopped_ending fault x _ h = absurd h
 
-stands_ending : (told : Told) (x : State) (outcome : Option Outcome) → StandsAt told x outcome
-    → standing x x.status ≡ outcome_ending outcome
-stands_ending told x None h = ap (standing x) h.0
-stands_ending told x (Some (RequestOutcome request positions)) h = asking_ending request positions x x.status h.0
-stands_ending told x (Some (FaultOutcome fault)) h = stopped_ending fault x x.status h
-stands_ending told x (Some (CompleteOutcome pieces value)) h = ap (standing x) h.0 ∙ ap (λ z. standing (record x { store = record x.store { pieces = z } }) (CompleteStatus value)) h.1
+stands_ending : (log : Log) (x : State) (outcome : Option Outcome) → StandsAt log x outcome
+    → state_ending x x.status ≡ outcome_ending outcome
+stands_ending log x None h = ap (state_ending x) h.0
+stands_ending log x (Some (RequestOutcome request positions)) h = asking_ending request positions x x.status h.0
+stands_ending log x (Some (FaultOutcome fault)) h = stopped_ending fault x x.status h
+stands_ending log x (Some (CompleteOutcome pieces value)) h = ap (state_ending x) h.0 ∙ ap (λ z. state_ending (record x { store = record x.store { pieces = z } }) (CompleteStatus value)) h.1
 
 -- of steps that are all allowed up to one, those before it are, and then that one
-allowed_at : (setup : Setup) (refusal : Refusal) (text : Text) (told : Told) (steps : List meaning.Step) (index : ℕ) (step : meaning.Step)
-    → slice_get steps index ≡ Some step → AllAllowed setup refusal text told (take (suc index) steps)
-    → AllAllowed setup refusal text told (take index steps)
-    × Allows (after_steps setup refusal text told (take index steps)) (outcome_of setup refusal text (after_steps setup refusal text told (take index steps))) step
-allowed_at setup refusal text told [] index step e h = absurd (cc)
-allowed_at setup refusal text told (first ∷ steps) zero step e h =
+allowed_at : (setup : Setup) (refusal : Refusal) (text : Text) (log : Log) (steps : List meaning.Step) (index : ℕ) (step : meaning.Step)
+    → slice_get steps index ≡ Some step → AllAllowed setup refusal text log (take (suc index) steps)
+    → AllAllowed setup refusal text log (take index steps)
+    × Allows (after_steps setup refusal text log (take index steps)) (outcome_of setup refusal text (after_steps setup refusal text log (take index steps))) step
+allowed_at setup refusal text log [] index step e h = absurd (cc)
+allowed_at setup refusal text log (first ∷ steps) zero step e h =
     let same : first ≡ step = cc in
-    (tt, subst (λ z. Allows told (outcome_of setup refusal text told) z) same h.0)
-allowed_at setup refusal text told (first ∷ steps) (suc index) step e h =
-    let later = allowed_at setup refusal text (after_step setup refusal text told first) steps index step e h.1 in
+    (tt, subst (λ z. Allows log (outcome_of setup refusal text log) z) same h.0)
+allowed_at setup refusal text log (first ∷ steps) (suc index) step e h =
+    let later = allowed_at setup refusal text (after_step setup refusal text log first) steps index step e h.1 in
     ((h.0, later.0), later.1)
 
 -- a step after which there is one reply more is one that replies
-replied_at : (setup : Setup) (refusal : Refusal) (text : Text) (told : Told) (steps : List meaning.Step) (index : ℕ) (step : meaning.Step) (answer : Reply)
+replied_at : (setup : Setup) (refusal : Refusal) (text : Text) (log : Log) (steps : List meaning.Step) (index : ℕ) (step : meaning.Step) (answer : Reply)
     → slice_get steps index ≡ Some step
-    → replies_of setup refusal text told (take index steps) ++ answer ∷ [] ≡ replies_of setup refusal text told (take (suc index) steps)
+    → replies_of setup refusal text log (take index steps) ++ answer ∷ [] ≡ replies_of setup refusal text log (take (suc index) steps)
     → HasReply step
-replied_at setup refusal text told [] index step answer e h = absurd (cc)
-replied_at setup refusal text told (first ∷ steps) zero step answer e h = subst HasReply (cc) (of_first first h)
+replied_at setup refusal text log [] index step answer e h = absurd (cc)
+replied_at setup refusal text log (first ∷ steps) zero step answer e h = subst HasReply (cc) (of_first first h)
   where
-    of_first : (s : meaning.Step) → answer ∷ [] ≡ step_replies s (outcome_of setup refusal text (after_step setup refusal text told s)) ++ []
+    of_first : (s : meaning.Step) → answer ∷ [] ≡ step_replies s (outcome_of setup refusal text (after_step setup refusal text log s)) ++ []
         → HasReply s
     of_first meaning.Evaluate h = tt
     of_first (meaning.Resume a) h = tt
     of_first _ h = absurd (cc)
-replied_at setup refusal text told (first ∷ steps) (suc index) step answer e h =
-    let now = after_step setup refusal text told first in
+replied_at setup refusal text log (first ∷ steps) (suc index) step answer e h =
+    let now = after_step setup refusal text log first in
     let replied = step_replies first (outcome_of setup refusal text now) in
     replied_at setup refusal text now steps index step answer e
     (append_cancel_left replied _ _ (sym (append_assoc replied _ _) ∙ h))
 
 pub evaluates_to : {R O P : Type 0} (text : R → Text) (number : O → ℕ) (limit : Option ℕ) (old new : State) (steps : List (Step R))
     (given : List (Answer R O P)) (ended : Replayed R O P) → Replays text number limit old steps given new ended
-    → EvaluatesSteps old.setup old.text (told_at old) (steps_of text steps) (after_replies (replies_in text number given) (ending_of new ended))
+    → EvaluatesSteps old.setup old.text (log_at old) (steps_of text steps) (after_replies (replies_in text number given) (ending_of new ended))
 evaluates_to text number limit old new steps given replayed.Done w =
     let all = steps_of text steps in
     record {
       refusal = w.refusal;
       index = length all;
       replies = replies_in text number given;
-      now = w.told;
+      now = w.log;
       done =
-          subst (λ z. AreDone old.setup w.refusal old.text (told_at old) z (replies_in text number given) w.told)
-          (sym (take_all (length all) all (omega arith))) w.tells;
-      last = outcome_ending (outcome_of old.setup w.refusal old.text w.told);
+          subst (λ z. AreDone old.setup w.refusal old.text (log_at old) z (replies_in text number given) w.log)
+          (sym (take_all (length all) all (omega arith))) w.are_done;
+      last = outcome_ending (outcome_of old.setup w.refusal old.text w.log);
       ends =
-          subst (λ z. EndsAt (length all) w.told (outcome_of old.setup w.refusal old.text w.told) z (outcome_ending (outcome_of old.setup w.refusal old.text w.told)))
+          subst (λ z. EndsAt (length all) w.log (outcome_of old.setup w.refusal old.text w.log) z (outcome_ending (outcome_of old.setup w.refusal old.text w.log)))
           (sym (slice_get_past all (length all) (omega arith))) all_done;
-      ending_is = ap (after_replies _) (stands_ending w.told new _ w.stands);
+      ending_is = ap (after_replies _) (stands_ending w.log new _ w.stands);
     }
 evaluates_to text number limit old new steps given (replayed.Misplaced index) w =
     record {
-      refusal = w.walks.refusal;
+      refusal = w.does_all.refusal;
       index = index;
       replies = replies_in text number given;
-      now = w.walks.told;
-      done = w.walks.tells;
-      last = misplaced index;
+      now = w.does_all.log;
+      done = w.does_all.are_done;
+      last = misplaced_step index;
       ends =
-          subst (λ z. EndsAt index w.walks.told (outcome_of old.setup w.walks.refusal old.text w.walks.told) z (misplaced index))
+          subst (λ z. EndsAt index w.does_all.log (outcome_of old.setup w.does_all.refusal old.text w.does_all.log) z (misplaced_step index))
           (sym w.is_next) (not_allowed w.misplaced);
       ending_is = refl;
     }
 evaluates_to text number limit old new steps given (replayed.NoRoom index answer) w =
-    let refusal = w.walks.refusal in
-    let now = after_steps old.setup refusal old.text (told_at old) (take index (steps_of text steps)) in
-    let allowed = allowed_at old.setup refusal old.text (told_at old) (steps_of text steps) index w.inside.0 w.inside.1 w.walks.tells.allowed in
-    let replied = replied_at old.setup refusal old.text (told_at old) (steps_of text steps) index w.inside.0 (reply_in text number answer) w.inside.1
-    (ap (λ z. z ++ reply_in text number answer ∷ []) (sym w.before) ∙ w.walks.tells.replies_are) in
+    let refusal = w.does_all.refusal in
+    let now = after_steps old.setup refusal old.text (log_at old) (take index (steps_of text steps)) in
+    let allowed = allowed_at old.setup refusal old.text (log_at old) (steps_of text steps) index w.inside.0 w.inside.1 w.does_all.are_done.allowed in
+    let replied = replied_at old.setup refusal old.text (log_at old) (steps_of text steps) index w.inside.0 (reply_in text number answer) w.inside.1
+    (ap (λ z. z ++ reply_in text number answer ∷ []) (sym w.before) ∙ w.does_all.are_done.replies_are) in
     record {
       refusal = refusal;
       index = index;
       replies = replies_in text number given;
       now = now;
-      done = record { allowed = allowed.0; replies_are = w.before; told_is = refl };
+      done = record { allowed = allowed.0; replies_are = w.before; log_is = refl };
       last = no_memory;
       ends =
           subst (λ z. EndsAt index now (outcome_of old.setup refusal old.text now) z no_memory) (sym w.inside.1) (without_memory allowed.1 replied);
       ending_is = refl;
     }
 
--- the same of a setup, a text and what was told, in other words
-pub evaluates_as : (setup setup' : Setup) (text text' : Text) (told told' : Told) (steps : List meaning.Step) (ending : Ending)
-    → setup ≡ setup' → text ≡ text' → told ≡ told' → EvaluatesSteps setup text told steps ending → EvaluatesSteps setup' text' told' steps ending
-evaluates_as setup setup' text text' told told' steps ending e f g h =
-    subst (λ z. EvaluatesSteps z text' told' steps ending) e (subst (λ z. EvaluatesSteps setup z told' steps ending) f (subst (λ z. EvaluatesSteps setup text z steps ending) g h))
+-- the same of a setup, a text and a log, in other words
+pub evaluates_as : (setup setup' : Setup) (text text' : Text) (log log' : Log) (steps : List meaning.Step) (ending : Ending)
+    → setup ≡ setup' → text ≡ text' → log ≡ log' → EvaluatesSteps setup text log steps ending → EvaluatesSteps setup' text' log' steps ending
+evaluates_as setup setup' text text' log log' steps ending e f g h =
+    subst (λ z. EvaluatesSteps z text' log' steps ending) e (subst (λ z. EvaluatesSteps setup z log' steps ending) f (subst (λ z. EvaluatesSteps setup text z steps ending) g h))
 
 pub has_line : {R O P : Type 0} (text : R → Text) (number : O → ℕ) (limit : Option ℕ) (old new : State) (steps : List (Step R))
     (given : List (Answer R O P)) (ended : Replayed R O P) → length steps < 2 ^ 63 → Replays text number limit old steps given new ended
@@ -201,7 +201,7 @@ pub follows_refused : (big : Bool) (setup : Setup) (text : Text) (said : Result 
 follows_refused big setup text said A B (fault.Bad number) e = inl (rw e refl)
 follows_refused big setup text said A B fault.NoMemory e = inr refl
 
-pub follows_steps : (setup : Setup) (text : Text) (said : Result (List meaning.Step) ℕ) (steps told : List meaning.Step) (ending : Ending)
-    → said ≡ Ok steps → told ≡ steps → EvaluatesSteps setup text untold told ending
+pub follows_steps : (setup : Setup) (text : Text) (said : Result (List meaning.Step) ℕ) (steps done : List meaning.Step) (ending : Ending)
+    → said ≡ Ok steps → done ≡ steps → EvaluatesSteps setup text empty_log done ending
     → EvaluatesSaid setup text said ending
-follows_steps setup text said steps told ending e f h = rw e (subst (λ z. EvaluatesSteps setup text untold z ending) f h)
+follows_steps setup text said steps done ending e f h = rw e (subst (λ z. EvaluatesSteps setup text empty_log z ending) f h)

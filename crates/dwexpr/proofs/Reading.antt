@@ -11,7 +11,7 @@ use Rattle.std.specs.Int.{FitsUnsignedBits}
 use mir.Syntax.{Width}
 use mir.Val.{hbits}
 use lib.Signed.{mag}
-use Rattle.dwexpr.specs.Steps.{numeral_in, below, within, number_in, integer_in, first_line, lines_within, named_step_in, said_then, step_in, text_step_in}
+use Rattle.dwexpr.specs.StepLines.{numeral_in, below, within, number_in, integer_in, first_line, lines_within, named_step_in, said_then, step_in, text_step_in}
 use Rattle.hex.specs.Hex.{decode_of, is_hex_digit}
 use Rattle.hex.specs.declared.error.FromHexError.{FromHexError}
 use Rattle.hex.proofs.HexLemmas.{decode_of-digits, decode_of-ok}
@@ -221,12 +221,12 @@ not_six view _ other = refl
 pub step_of_text : (big : Bool) (line : List ℕ) → IsUtf8 line → step_in big line ≡ text_step_in big line
 step_of_text big line utf8 = rw (is_utf8-from_IsUtf8 line utf8) refl
 
-untold : (line : List ℕ) (told : Bool) → is_utf8 line ≡ told → (IsUtf8 line → ⊥) → is_utf8 line ≡ false
-untold line true e no_text = absurd (no_text (IsUtf8-from_is_utf8 line e))
-untold line false e no_text = e
+empty_log : (line : List ℕ) (said : Bool) → is_utf8 line ≡ said → (IsUtf8 line → ⊥) → is_utf8 line ≡ false
+empty_log line true e no_text = absurd (no_text (IsUtf8-from_is_utf8 line e))
+empty_log line false e no_text = e
 
 pub step_of_bytes : (big : Bool) (line : List ℕ) → (IsUtf8 line → ⊥) → step_in big line ≡ None
-step_of_bytes big line no_text = rw (untold line (is_utf8 line) refl no_text) refl
+step_of_bytes big line no_text = rw (empty_log line (is_utf8 line) refl no_text) refl
 
 pub text_parted : (big : Bool) (text name word : List ℕ) → bytes_eq text (codes "evaluate") ≡ false
     → (position_or_len (λ b. b == 32) text < length text) × (name ≡ before_first (λ b. b == 32) text) × (word ≡ after_first (λ b. b == 32) text)

@@ -23,16 +23,16 @@ abbrev pub no_memory : Ending
 no_memory = record { text = line (codes "no memory") []; status = 1 }
 
 -- the input could not be read
-abbrev pub unread : Ending
-unread = record { text = []; status = 1 }
+abbrev pub no_input : Ending
+no_input = record { text = []; status = 1 }
 
 -- the line of this number is no step
 abbrev pub bad_step : (number : ℕ) → Ending
 bad_step number = record { text = line (codes "bad step") (decimal number ∷ []); status = 2 }
 
 -- the step at this index, from 0, isn't allowed: its line, from 1
-abbrev pub misplaced : (index : ℕ) → Ending
-misplaced index = record { text = line (codes "misplaced") (decimal (index + 1) ∷ []); status = 2 }
+abbrev pub misplaced_step : (index : ℕ) → Ending
+misplaced_step index = record { text = line (codes "misplaced") (decimal (index + 1) ∷ []); status = 2 }
 
 -- the pieces and the value of a complete evaluation
 abbrev pub complete_ending : List Piece → Option Value → Ending

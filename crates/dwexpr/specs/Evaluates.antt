@@ -4,11 +4,11 @@ use Rattle.dwarf_base.specs.declared.common.Encoding.{Encoding}
 use Rattle.dwarf_base.specs.Reads.{Text}
 use Rattle.dwarf_meaning.specs.Stores.{Setup, setup_of}
 use Rattle.dwarf_meaning.specs.Meaning.{Outcome, RequestOutcome, FaultOutcome, CompleteOutcome}
-use Rattle.dwarf_meaning.specs.Steps.{Step, Evaluate, Resume, Told, Reply, Allows, AreDone, outcome_of, untold}
+use Rattle.dwarf_meaning.specs.Steps.{Step, Evaluate, Resume, Log, Reply, Allows, AreDone, outcome_of, empty_log}
 use Rattle.dwarf_meaning.specs.Refusals.{Refusal}
 use Rattle.dwexpr.specs.Lines.{reply_lines}
-use Rattle.dwexpr.specs.Steps.{lines_in, steps_in}
-use Rattle.dwexpr.specs.Endings.{Ending, bad_step, complete_ending, misplaced, no_memory}
+use Rattle.dwexpr.specs.StepLines.{lines_in, steps_in}
+use Rattle.dwexpr.specs.Endings.{Ending, bad_step, complete_ending, misplaced_step, no_memory}
 
 -- what comes out, after the replies: pieces and a value, the status of a fault, or nothing
 abbrev pub outcome_ending : Option Outcome → Ending
@@ -28,27 +28,28 @@ HasReply (Resume answer) = Unit {0}
 HasReply _ = ⊥
 
 -- how it ends, by the step that comes next: there is none; it isn't allowed; or there was no memory for its reply
-pub data EndsAt (index : ℕ) (now : Told) (outcome : Option Outcome) : (next : Option Step) → Ending → Type 0 where
+pub data EndsAt (index : ℕ) (now : Log) (outcome : Option Outcome) : (next : Option Step) → Ending → Type 0 where
   all_done : EndsAt index now outcome None (outcome_ending outcome)
-  not_allowed : {step : Step} → (Allows now outcome step → ⊥) → EndsAt index now outcome (Some step) (misplaced index)
+  not_allowed : {step : Step} → (Allows now outcome step → ⊥) → EndsAt index now outcome (Some step)
+      (misplaced_step index)
   without_memory : {step : Step} → Allows now outcome step → HasReply step
       → EndsAt index now outcome (Some step) no_memory
 
 -- the steps before some index were done, for some push that memory was refused to, or for none, and it ended there
-pub record EvaluatesSteps (setup : Setup) (text : Text) (told : Told) (steps : List Step) (ending : Ending)
+pub record EvaluatesSteps (setup : Setup) (text : Text) (log : Log) (steps : List Step) (ending : Ending)
     : Type 0 where
   pub refusal : Refusal
   pub index : ℕ
   pub replies : List Reply
-  pub now : Told
-  pub done : AreDone setup refusal text told (take index steps) replies now
+  pub now : Log
+  pub done : AreDone setup refusal text log (take index steps) replies now
   pub last : Ending
   pub ends : EndsAt index now (outcome_of setup refusal text now) (slice_get steps index) last
   pub ending_is : ending ≡ after_replies replies last
 
 -- what lines come to that say these steps, or of which one says none
 abbrev pub EvaluatesSaid : Setup → Text → Result (List Step) ℕ → Ending → Type 0
-EvaluatesSaid setup text (Ok steps) ending = EvaluatesSteps setup text untold steps ending
+EvaluatesSaid setup text (Ok steps) ending = EvaluatesSteps setup text empty_log steps ending
 EvaluatesSaid setup text (Err number) ending = ending ≡ bad_step number
 
 -- the same of an input, with no limit of any list; or there was no memory for its steps

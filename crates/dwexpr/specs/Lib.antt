@@ -3,7 +3,7 @@ pub mod Evaluates
 pub mod Lines
 pub mod Listing
 pub mod Program
-pub mod Steps
+pub mod StepLines
 pub mod Words
 pub mod Writing
 pub mod inner

@@ -6,7 +6,7 @@ use Rattle.dwarf_base.specs.declared.common.Encoding.{Encoding}
 use Rattle.dwarf_base.specs.Reads.{Text}
 use Rattle.dwarf_meaning.specs.Operands.{context_of}
 use Rattle.dwexpr.specs.Evaluates.{EvaluatesLines}
-use Rattle.dwexpr.specs.Endings.{Ending, bad_words, no_memory, unread}
+use Rattle.dwexpr.specs.Endings.{Ending, bad_words, no_memory, no_input}
 use Rattle.dwexpr.specs.Listing.{ListsOperations}
 use Rattle.dwexpr.specs.Words.{Invocation, invocation_in}
 use Rattle.dwexpr.specs.Writing.{AppendsFront}
@@ -17,7 +17,7 @@ use Rattle.dwexpr.specs.declared.words.Command.TheVariants.{Ops, Eval}
 abbrev pub EvaluatesInput : Encoding → Text → (left : Option (List ℕ)) → Ending → Type 0
 EvaluatesInput encoding text left ending =
     ((input : List ℕ) × IfSome left (λ bytes. input ≡ bytes) × EvaluatesLines encoding text input ending)
-    ⊎ ((ending ≡ unread) ⊎ (ending ≡ no_memory))
+    ⊎ ((ending ≡ no_input) ⊎ (ending ≡ no_memory))
 
 -- what a command ends with
 abbrev pub EndsCommand : Command → Invocation → (left : Option (List ℕ)) → Ending → Type 0

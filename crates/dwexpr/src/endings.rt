@@ -41,9 +41,10 @@ pub(crate) fn bad_step<W: Write>(output: &mut W, number: usize) -> io::Result<u8
 }
 
 /// Prints that the step at this index, from 0, isn't allowed.
-pub(crate) fn misplaced<W: Write>(output: &mut W, index: usize) -> io::Result<u8>
+pub(crate) fn misplaced_step<W: Write>(output: &mut W, index: usize) -> io::Result<u8>
     requires { index < 2 ^ 64 - 1 }
-    ensures { WritesEnding (W.contents output.old) (W.contents output.new) (endings.misplaced index)
+    ensures { WritesEnding (W.contents output.old) (W.contents output.new)
+        (endings.misplaced_step index)
         result }
 {
     put_line(output, "misplaced", &[Word::Number(index as u64 + 1)])?;

@@ -1,7 +1,7 @@
 ghost use Rattle.std.specs.Prelude.{◌≡◌, ◌==◌, ◌<◌, length};
 ghost use Rattle.std.specs.List.{position};
 ghost use Rattle.std.specs.Str.Lines.{strip_carriage_return};
-ghost use Rattle.dwexpr.specs.Steps as spec;
+ghost use Rattle.dwexpr.specs.StepLines as spec;
 
 /// A line of the input, and what follows it.
 #[derive(Clone, Copy)]

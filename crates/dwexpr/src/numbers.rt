@@ -1,5 +1,5 @@
 ghost use Rattle.std.specs.Prelude.{◌≡◌, ◌≤◌, option_and_then};
-ghost use Rattle.dwexpr.specs.Steps.{below, integer_in, number_in, numeral_in};
+ghost use Rattle.dwexpr.specs.StepLines.{below, integer_in, number_in, numeral_in};
 
 /// The number that digits say.
 fn numeral_of(digits: &str, base: u32) -> Option<u64>

@@ -5,18 +5,18 @@ ghost use Rattle.dwarf_base.specs.EndianSlice.{slice_text};
 ghost use Rattle.dwarf_base.specs.ByteOrder.{is_big_of};
 ghost use Rattle.dwarf_op.specs.Views.{piece_of};
 ghost use Rattle.dwarf_replay.specs.Replays.{replies_in, steps_of};
-ghost use Rattle.dwarf_meaning.specs.Steps.{untold};
+ghost use Rattle.dwarf_meaning.specs.Steps.{empty_log};
 ghost use Rattle.dwarf_meaning.specs.Stores.{setup_of};
 ghost use Rattle.dwexpr.specs.Evaluates.{EvaluatesSteps, EvaluatesLines, after_replies};
 ghost use Rattle.dwexpr.specs.inner.Readings.{bad_steps};
 ghost use Rattle.dwexpr.specs.Lines.{piece_lines, reply_lines};
 ghost use Rattle.dwexpr.specs.Program.{EndsFor, EvaluatesInput, Exits};
-ghost use Rattle.dwexpr.specs.inner.Outputs.{without_words, HasLine, ending_of, standing};
+ghost use Rattle.dwexpr.specs.inner.Outputs.{without_words, HasLine, ending_of, state_ending};
 ghost use Rattle.dwexpr.specs.Endings as runs;
 ghost use Rattle.dwexpr.specs.Endings.{Ending, WritesEnding, complete_ending};
 ghost use Rattle.dwexpr.specs.Writing.{Prints};
 
-use crate::endings::{DONE, FAILED, bad_step, bad_words, misplaced, no_memory};
+use crate::endings::{DONE, FAILED, bad_step, bad_words, misplaced_step, no_memory};
 use crate::explaining::{
     explain_no_words, explain_read, explain_replayed, explain_steps, explain_words, explain_write,
 };
@@ -77,7 +77,7 @@ fn print_outcome<'a, S: EvaluationStorage<Text<'a>>, W: Write>(
     evaluation: &Evaluation<Text<'a>, S>,
 ) -> io::Result<u8>
     ensures { WritesEnding (W.contents output.old) (W.contents output.new)
-        (standing evaluation.now evaluation.now.status) result }
+        (state_ending evaluation.now evaluation.now.status) result }
 {
     match evaluation.status() {
         Status::Complete => print_complete(
@@ -102,7 +102,7 @@ fn print_end<A: Allocator + Copy, W: Write>(
 {
     match replayed {
         Replayed::Done => print_outcome(output, evaluation),
-        Replayed::Misplaced(index) => misplaced(output, index),
+        Replayed::Misplaced(index) => misplaced_step(output, index),
         Replayed::NoRoom { .. } => no_memory(output),
     }
 }
@@ -138,7 +138,7 @@ fn evaluate<'a, A: Allocator + Copy, W: Write, E: Write>(
     requires few { length steps.now < 2 ^ 63 }
     ensures { (ending : Ending)
         × EvaluatesSteps (setup_of reading.encoding 64 None None None)
-        (record { bytes = bytes.now; is_big = is_big_of reading.order }) untold
+        (record { bytes = bytes.now; is_big = is_big_of reading.order }) empty_log
         (steps_of slice_text steps.now) ending
         × WritesEnding (W.contents output.old) (W.contents output.new) ending result }
 {

@@ -3,9 +3,9 @@ ghost use Rattle.dwarf_base.specs.EndianSlice.{slice_text};
 ghost use Rattle.dwarf_base.specs.ByteOrder.{is_big_of};
 ghost use Rattle.dwarf_replay.specs.Replays.{steps_of};
 ghost use Rattle.dwarf_replay.specs.Stepping.{step_of};
-ghost use Rattle.dwexpr.specs.Steps as spec;
+ghost use Rattle.dwexpr.specs.StepLines as spec;
 ghost use Rattle.dwexpr.specs.inner.Readings.{Reads, ReadsSteps, step_owned};
-ghost use Rattle.dwexpr.specs.Steps.{lines_in};
+ghost use Rattle.dwexpr.specs.StepLines.{lines_in};
 
 use crate::hexadecimal::{ReadFault, bytes_of};
 use crate::input::first_line;
@@ -21,7 +21,7 @@ use std::alloc::{AllocError, Allocator};
 #[derive(Drop)]
 pub(crate) enum OwnedStep<A: Allocator> {
     /// A step that has none.
-    Plain(Step<Text<'static>>),
+    Textless(Step<Text<'static>>),
     /// The answer that is a text.
     Location(Vec<u8, A>),
 }
@@ -32,7 +32,7 @@ impl<A: Allocator> OwnedStep<A> {
         ensures { step_of slice_text result ≡ step_owned (is_big_of order) self.now }
     {
         match self {
-            OwnedStep::Plain(step) => *step,
+            OwnedStep::Textless(step) => *step,
             OwnedStep::Location(bytes) => {
                 Step::AtLocation(EndianSlice::new(bytes.as_slice(), order))
             }
@@ -57,8 +57,8 @@ pub(crate) const ANSWERS: [(&str, &str, WaitingKind); 12] = [
 ];
 
 /// The step of this name, with the word that follows it, unless its text has to be kept.
-fn plain_step(name: &str, word: &str) -> Option<Step<Text<'static>>>
-    ensures { option_map (step_of slice_text) result ≡ spec.plain_step_in name.now word.now }
+fn textless_step(name: &str, word: &str) -> Option<Step<Text<'static>>>
+    ensures { option_map (step_of slice_text) result ≡ spec.textless_step_in name.now word.now }
 {
     Some(match name {
         "initial" => Step::InitialValue(number_of(word)?),
@@ -87,8 +87,8 @@ fn named_step<A: Allocator>(alloc: A, name: &str, word: &str) -> Result<OwnedSte
     if name == "location" {
         return Ok(OwnedStep::Location(bytes_of(alloc, word)?));
     }
-    match plain_step(name, word) {
-        Some(step) => Ok(OwnedStep::Plain(step)),
+    match textless_step(name, word) {
+        Some(step) => Ok(OwnedStep::Textless(step)),
         None => Err(ReadFault::Bad),
     }
 }
@@ -98,7 +98,7 @@ fn text_step<A: Allocator>(alloc: A, text: &str) -> Result<OwnedStep<A>, ReadFau
     ensures { (big : Bool) → Reads (step_owned big) (spec.text_step_in big text.now) result }
 {
     if text == "evaluate" {
-        return Ok(OwnedStep::Plain(Step::Evaluate));
+        return Ok(OwnedStep::Textless(Step::Evaluate));
     }
     match text.split_once(' ') {
         Some((name, word)) => named_step(alloc, name, word),

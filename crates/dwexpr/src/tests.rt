@@ -1,5 +1,5 @@
 //! Lines that are handed to writers which don't take all at once.
-use crate::endings::{bad_step, bad_words, misplaced, no_memory};
+use crate::endings::{bad_step, bad_words, misplaced_step, no_memory};
 use crate::lines::{print_fault, print_piece, print_reply, print_value_line};
 use crate::listing::print_operations;
 use crate::words::reading_of;
@@ -97,7 +97,7 @@ fn print_all<W: Write>(output: &mut W) -> io::Result<()> {
     bad_words(output)?;
     no_memory(output)?;
     bad_step(output, 3)?;
-    misplaced(output, 4)?;
+    misplaced_step(output, 4)?;
     for request in requests(little(&[0x50, 0x93, 0x04]), little(&[])) {
         print_reply(output, Answer(Ok(request)))?;
     }

@@ -1,5 +1,5 @@
 ghost use Rattle.std.specs.Prelude.{◌≡◌};
-ghost use Rattle.dwexpr.specs.Steps.{type_in, value_in, value_of_type};
+ghost use Rattle.dwexpr.specs.StepLines.{type_in, value_in, value_of_type};
 
 use crate::numbers::{integer_of, number_of};
 use dwarf_value::{Value, ValueType};

@@ -11,14 +11,14 @@ use Rattle.dwarf_meaning.specs.Locations.{Location, HoldsBytes, Piece}
 use Rattle.dwarf_meaning.specs.Kinds.{kind_of_request, kind_of_answer, is_same_kind}
 use Rattle.dwarf_meaning.specs.Requests.{Request, OnAnswer, Answer, LocationAnswer, Input}
 use Rattle.dwarf_meaning.specs.Acts.{Act, Pushes, Branches, Locates, EndsPiece, RequestAct, FaultAct, Use, PushesAnswer, Calls, FaultUse, use_of}
-use Rattle.dwarf_meaning.specs.Stores.{Setup, address_bits, Store, Last, Nothing, Plain, Pieced, Pushed, Called, Located, push_value, push_piece, push_caller, push_values, Next, Goes, RequestNext, FaultNext, goes, done, branch_target}
-use Rattle.dwarf_meaning.specs.Run.{Position, End, CompleteEnd, RequestEnd, FaultEnd, Course, Continues, return_to_caller, after_push, enter_callee, run_callee, after_answer, with_input, await_answer, after_operation, read, can_count, counted, do_operation, turn_counted, counted_act, located_act, turn_by, turn, out_of_turns, run_for, enough}
-use Rattle.dwarf_meaning.specs.Meaning.{Outcome, RequestOutcome, FaultOutcome, CompleteOutcome, completion_of, has_pieces, whole, finish_value, finish_by, First, fresh, with_initial, outcome_of_end, meaning}
+use Rattle.dwarf_meaning.specs.Stores.{Setup, address_bits, Store, Last, Nothing, Plain, Pieced, Pushed, Called, Located, push_value, push_piece, push_caller, push_values, Next, Goes, RequestNext, FaultNext, goes, do_act, branch_target}
+use Rattle.dwarf_meaning.specs.Run.{Position, End, CompleteEnd, RequestEnd, FaultEnd, Course, Continues, return_to_caller, after_push, enter_callee, run_callee, after_answer, with_input, await_answer, after_operation, read, can_count, count_one, do_operation, turn_counted, counted_act, located_act, turn_by, turn, out_of_turns, run_for, enough}
+use Rattle.dwarf_meaning.specs.Meaning.{Outcome, RequestOutcome, FaultOutcome, CompleteOutcome, completion_of, has_pieces, whole, finish_value, finish_by, First, fresh_store, with_initial, outcome_of_end, meaning}
 use Rattle.dwarf_meaning.specs.Refusals.{Refusal, room}
 use Rattle.dwarf_meaning.proofs.Choices.{top_both}
 use Rattle.dwarf_meaning.proofs.Counts.{OnStore, bound_store, on_bound}
 use Rattle.dwarf_meaning.proofs.Effects.{IsActOf, IsOwnPlace, locates, ends, asks, act_is, IsUseOf, use_is}
-use Rattle.dwexpr_c.specs.Operations.{block_in}
+use Rattle.dwexpr_c.specs.CodedOperations.{block_in}
 use Rattle.dwarf_meaning.specs.Requests as asked_for
 
 -- ---- what is known of blocks, and where they may be
@@ -123,7 +123,7 @@ module _ (Q : List ℕ → Type 0) where
   goes_holds place (Ok s) h = h
   goes_holds place (Err fault) h = tt
 
-  done_holds : (setup : Setup) (place len : ℕ) (a : Act) (s : Store) → OnAct Q a → Holds Q s → OnNext (done setup place len a s)
+  done_holds : (setup : Setup) (place len : ℕ) (a : Act) (s : Store) → OnAct Q a → Holds Q s → OnNext (do_act setup place len a s)
   done_holds setup place len (Pushes rest pushed) s a h =
       goes_holds place _ (values_hold setup pushed (record s { values = rest; last = Plain }) (record { pieces = h.pieces; last = tt }))
   done_holds setup place len (Branches rest target) s a h =
@@ -210,7 +210,7 @@ module _ (P : Text → Type 0) (Q : List ℕ → Type 0) where
     counts_carries : (text : Text) (place depth : ℕ) (s : Store) (inputs : List Input) → P text → Holds Q s → OnInputs P inputs → OnEnd (turn_counted go setup text place depth s inputs).end
     counts_carries text place depth s inputs p h i =
         cond_both (can_count s) _ _ (λ (c : Course). OnEnd c.end)
-        (λ e. does_carries text depth (counted s) inputs (read setup text place) p (reads text place p) (record { pieces = h.pieces; last = h.last }) i)
+        (λ e. does_carries text depth (count_one s) inputs (read setup text place) p (reads text place p) (record { pieces = h.pieces; last = h.last }) i)
         (λ e. tt)
 
     held_carries : (text : Text) (depth : ℕ) (location : Location) (s : Store) (inputs : List Input) (r : Result (Operation × List ℕ) Fault) → P text → OnLocation Q location → Holds Q s → OnInputs P inputs → OnEnd (do_operation go setup text depth s inputs (located_act location s) r).end
@@ -261,9 +261,9 @@ module _ (P : Text → Type 0) (Q : List ℕ → Type 0) where
   ends_holds setup (RequestEnd request positions inputs) h = h
   ends_holds setup (FaultEnd fault) h = tt
 
-  begins : (setup : Setup) (first : First) (refusal : Refusal) (initial : Option ℕ) → OnStore (Holds Q) (with_initial setup initial (fresh first refusal))
+  begins : (setup : Setup) (first : First) (refusal : Refusal) (initial : Option ℕ) → OnStore (Holds Q) (with_initial setup initial (fresh_store first refusal))
   begins setup first refusal None = record { pieces = tt; last = tt }
-  begins setup first refusal (Some number) = value_holds Q setup (Generic number) (fresh first refusal) (record { pieces = tt; last = tt })
+  begins setup first refusal (Some number) = value_holds Q setup (Generic number) (fresh_store first refusal) (record { pieces = tt; last = tt })
 
   pub meaning_holds : (setup : Setup) (refusal : Refusal) (text : Text) (first : First) (inputs : List Input) → Reads setup → P text → OnInputs P inputs → OnOutcome Q (meaning setup refusal text first inputs)
   unfolding meaning

@@ -15,20 +15,20 @@ use Rattle.dwarf_meaning.specs.Requests.{Request, Answer, Input}
 use Rattle.dwarf_meaning.specs.Meaning.{Outcome, RequestOutcome, CompleteOutcome, First}
 use Rattle.dwarf_meaning.specs.Rest.{State}
 use Rattle.dwarf_meaning.specs.Run.{read}
-use Rattle.dwarf_meaning.proofs.Outcomes.{outcome_from}
-use Rattle.dwarf_meaning.specs.Steps.{Step, Resume, Told, RequestReply, heard, after, after_step, after_steps, outcome_of}
+use Rattle.dwarf_meaning.proofs.OutcomeByInputs.{outcome_from}
+use Rattle.dwarf_meaning.specs.Steps.{Step, Resume, Log, RequestReply, inputs_after, after, after_step, after_steps, outcome_of}
 use Rattle.dwarf_meaning.specs.Stores.{Setup}
 use Rattle.dwarf_meaning.specs.Refusals.{Refusal, Never}
-use Rattle.dwarf_replay.specs.Replays.{told_at}
+use Rattle.dwarf_replay.specs.Replays.{log_at}
 use Rattle.dwexpr_c.specs.Evaluated.{comes_of}
-use Rattle.dwexpr_c.specs.Operations.{block_in}
+use Rattle.dwexpr_c.specs.CodedOperations.{block_in}
 use Rattle.dwexpr_c.specs.Outcomes.{resume_or, step_coded}
-use Rattle.dwexpr_c.specs.Texts.{IsAt, IsPlaced, text_in, AsksNowhere, HoldsNowhere, SomeNowhere}
+use Rattle.dwexpr_c.specs.CallerTexts.{IsAt, IsPlaced, text_in, AsksNowhere, HoldsNowhere, SomeNowhere}
 use Rattle.dwexpr_c.specs.inner.Runs.{IsGiven, given_at}
 use Rattle.dwexpr_c.specs.declared.steps.DwexprStep.{DwexprStep}
 use Rattle.dwexpr_c.specs.declared.steps.DwexprText.{DwexprText}
 use Rattle.dwexpr_c.specs.declared.faults.TheConstants as codes
-use Rattle.dwexpr_c.proofs.Blocks.{block_at}
+use Rattle.dwexpr_c.proofs.DecodedBlocks.{block_at}
 use Rattle.dwexpr_c.proofs.Carried.{OnBlock, OnRead, OnLocation, OnPieces, OnRequest, OnGiven, OnInputs, OnOutcome, Reads, meaning_holds}
 
 record IsSomewhere (texts : List DwexprText) (block : List ℕ) : Type 0 where
@@ -70,7 +70,7 @@ module _ (texts : List DwexprText) where
   reads : (setup : Setup) → Reads P Q setup
   reads setup text place given = on_read setup text place (read setup text place) refl given
 
-  -- ---- what the steps tell
+  -- ---- the log after the steps
 
   abbrev OnStep : Step → Type 0
   OnStep (Resume answer) = OnGiven P answer
@@ -118,18 +118,18 @@ module _ (texts : List DwexprText) where
   snoc_inputs [] input h i = (i, tt)
   snoc_inputs (first ∷ inputs) input h i = (h.0, snoc_inputs inputs input h.1 i)
 
-  on_heard : (settings : First) (inputs : List Input) (answer : Answer) (o : Option Outcome) → OnInputs P inputs → OnGiven P answer → OnInputs P (heard settings inputs answer o)
-  on_heard settings inputs answer (Some (RequestOutcome request positions)) h a = snoc_inputs inputs _ h a
-  on_heard settings inputs answer _ h a = h
+  on_inputs_after : (settings : First) (inputs : List Input) (answer : Answer) (o : Option Outcome) → OnInputs P inputs → OnGiven P answer → OnInputs P (inputs_after settings inputs answer o)
+  on_inputs_after settings inputs answer (Some (RequestOutcome request positions)) h a = snoc_inputs inputs _ h a
+  on_inputs_after settings inputs answer _ h a = h
 
-  on_after : (told : Told) (o : Option Outcome) (step : Step) → OnInputs P told.inputs → OnStep step → OnInputs P (after told o step).inputs
-  on_after told o (Resume answer) h a = on_heard told.now told.inputs answer o h a
-  on_after told o _ h a = h
+  on_after : (log : Log) (o : Option Outcome) (step : Step) → OnInputs P log.inputs → OnStep step → OnInputs P (after log o step).inputs
+  on_after log o (Resume answer) h a = on_inputs_after log.now log.inputs answer o h a
+  on_after log o _ h a = h
 
-  on_told : (setup : Setup) (refusal : Refusal) (text : Text) (told : Told) (steps : List Step) → OnInputs P told.inputs → OnSteps steps → OnInputs P (after_steps setup refusal text told steps).inputs
-  on_told setup refusal text told [] h a = h
-  on_told setup refusal text told (step ∷ steps) h a =
-      on_told setup refusal text (after_step setup refusal text told step) steps (on_after told (outcome_of setup refusal text told) step h a.0) a.1
+  on_log : (setup : Setup) (refusal : Refusal) (text : Text) (log : Log) (steps : List Step) → OnInputs P log.inputs → OnSteps steps → OnInputs P (after_steps setup refusal text log steps).inputs
+  on_log setup refusal text log [] h a = h
+  on_log setup refusal text log (step ∷ steps) h a =
+      on_log setup refusal text (after_step setup refusal text log step) steps (on_after log (outcome_of setup refusal text log) step h a.0) a.1
 
   -- ---- their outcome
 
@@ -144,9 +144,9 @@ module _ (texts : List DwexprText) where
   module _ (first : State) (given : IsGiven texts first.text.bytes) (numbers : List DwexprStep) (steps : List Step) (said : map (step_coded first.text.is_big texts) numbers ≡ map Ok steps) where
     comes : OnComes (comes_of (given_at first texts) steps)
     comes =
-        let told = after_steps first.setup Never first.text (told_at first) steps in
-        on_outcome first.setup Never first.text told.inputs told.first given
-        (on_told first.setup Never first.text (told_at first) steps tt (on_steps first.text.is_big numbers steps said))
+        let log = after_steps first.setup Never first.text (log_at first) steps in
+        on_outcome first.setup Never first.text log.inputs log.first given
+        (on_log first.setup Never first.text (log_at first) steps tt (on_steps first.text.is_big numbers steps said))
 
     request_somewhere : (request : Request) → OnRequest Q request → AsksNowhere texts (RequestReply request) → ⊥
     request_somewhere (requests.RequiresEntryValue text) h n = n h.text h.offset h.placed

@@ -1,5 +1,5 @@
-pub mod Blocks
+pub mod DecodedBlocks
 pub mod Carried
 pub mod Given
-pub mod Keeping
+pub mod KeptSetups
 pub mod Runs

@@ -1,4 +1,4 @@
--- The steps that a caller gives, one after another, come to what the meaning of all that they told gives.
+-- The steps that a caller gives, one after another, come to what the meaning of their log gives.
 use Rattle.std.proofs.Common.{ℕ, suc, ◌≡◌, ◌∙◌, inl, inr, ◌++◌, ◌≤◌, List, [], ◌∷◌, map, take, slice_get, Option, Some, None, Result, Ok, Err, length, refl, sym, ap, subst}
 use Rattle.std.proofs.lemmas.List.{map-append, take_all}
 use Rattle.std.proofs.lemmas.Option.{slice_get_within, get_or_from_slice_get}
@@ -9,21 +9,21 @@ use Rattle.dwarf_meaning.specs.Meaning.{Outcome, RequestOutcome, FaultOutcome, C
 use Rattle.dwarf_meaning.specs.Requests.{Request}
 use Rattle.dwarf_meaning.specs.Rest.{State, Status, Start, RequestStatus, CompleteStatus, FaultStatus}
 use Rattle.dwarf_meaning.specs.Steps as meaning
-use Rattle.dwarf_meaning.specs.Steps.{Step, InitialValue, ObjectAddress, MaxIterations, Evaluate, Resume, Told, Reply, CompleteReply, RequestReply, FaultReply, Allows, AllAllowed, after_steps, outcome_of}
+use Rattle.dwarf_meaning.specs.Steps.{Step, InitialValue, ObjectAddress, MaxIterations, Evaluate, Resume, Log, Reply, CompleteReply, RequestReply, FaultReply, Allows, AllAllowed, after_steps, outcome_of}
 use Rattle.dwarf_meaning.specs.Refusals.{Limits, Refusal, Never, After, MayPick}
 use Rattle.dwarf_eval.specs.Evaluation.{IsReplied, reply_of, ok_reply}
 use Rattle.dwarf_eval.specs.declared.op.results.EvaluationResult.{EvaluationResult}
 use Rattle.dwarf_eval.specs.declared.op.results.EvaluationResult.TheVariants as replied
-use Rattle.dwarf_replay.specs.Replays.{StandsAt, IsInRequest, IsInFault, Tells, told_at}
+use Rattle.dwarf_replay.specs.Replays.{StandsAt, IsInRequest, IsInFault, AreDoneFrom, log_at}
 use Rattle.dwarf_replay.specs.Stepping.{HasReplied, IsSet, MayTake}
 use Rattle.dwarf_replay.proofs.Standings.{Went, went_at_first}
 use Rattle.dwarf_replay.proofs.Settings.{set_went_on}
-use Rattle.dwarf_replay.proofs.Calling.{called_went_on}
-use Rattle.dwarf_replay.proofs.Leading.{walks_all, walks_to}
-use Rattle.dwexpr_c.specs.Evaluated.{AreTaken, EndsByStep, Beginning, IsCutShort, IsNoFault, capacities, comes_of, told_by, EvaluatesGiven, ShowsOutcome, beginning, limited_setup}
+use Rattle.dwarf_replay.proofs.CallSteps.{called_went_on}
+use Rattle.dwarf_replay.proofs.Leading.{does_all_by, stops_at}
+use Rattle.dwexpr_c.specs.Evaluated.{AreTaken, EndsByStep, Beginning, IsCutShort, IsNoFault, capacities, comes_of, log_by, EvaluatesGiven, ShowsOutcome, beginning, limited_setup}
 use Rattle.dwexpr_c.specs.Outcomes.{ShowsReply, ended_outcome, ShowsRequest, blank_outcome, step_coded}
-use Rattle.dwexpr_c.specs.Stepping.{DoesStep, Ends, Stops, FinishesOutcome}
-use Rattle.dwexpr_c.specs.Texts.{text_of_placed, AsksNowhere}
+use Rattle.dwexpr_c.specs.StepEffects.{DoesStep, Ends, Stops, FinishesOutcome}
+use Rattle.dwexpr_c.specs.CallerTexts.{text_of_placed, AsksNowhere}
 use Rattle.dwexpr_c.specs.Held.{HasStopped, HasTaken}
 use Rattle.dwexpr_c.specs.inner.Runs.{IsGiven, Runs, ShowsStatus, given_at, latest}
 use Rattle.dwexpr_c.specs.declared.evaluating.Progress.{Progress}
@@ -34,7 +34,7 @@ use Rattle.dwexpr_c.specs.declared.places.Placed.{Placed}
 use Rattle.dwexpr_c.specs.declared.steps.DwexprStep.{DwexprStep}
 use Rattle.dwexpr_c.specs.declared.steps.DwexprText.{DwexprText}
 use Rattle.dwexpr_c.proofs.Given.{asks_somewhere, pieces_somewhere}
-use Rattle.dwexpr_c.proofs.Keeping.{replied_by, set_keeps, stop_keeps}
+use Rattle.dwexpr_c.proofs.KeptSetups.{replied_by, set_keeps, stop_keeps}
 use Rattle.dwarf_base.specs.declared.common.Encoding.{Encoding}
 use Rattle.dwarf_base.specs.Reads.{Text}
 use Rattle.dwarf_meaning.specs.Locations.{Piece}
@@ -66,10 +66,10 @@ shows_set texts progress out (MaxIterations maximum) x new h s = subst (λ (z : 
 shows_set texts progress out _ x new h s = absurd h
 
 -- where the evaluation stands is no fault
-no_fault : (texts : List DwexprText) (told : Told) (x : State) (o : Option Outcome) (status : Status) (progress : Progress) (out : DwexprOutcome) → x.status ≡ status → ShowsStatus texts status progress out → StandsAt told x o → IsNoFault o
-no_fault texts told x (Some (FaultOutcome fault)) (FaultStatus error) progress out e s h = absurd s
-no_fault texts told x (Some (FaultOutcome fault)) _ progress out e s h = absurd (subst (IsInFault fault) e h)
-no_fault texts told x _ status progress out e s h = tt
+no_fault : (texts : List DwexprText) (log : Log) (x : State) (o : Option Outcome) (status : Status) (progress : Progress) (out : DwexprOutcome) → x.status ≡ status → ShowsStatus texts status progress out → StandsAt log x o → IsNoFault o
+no_fault texts log x (Some (FaultOutcome fault)) (FaultStatus error) progress out e s h = absurd s
+no_fault texts log x (Some (FaultOutcome fault)) _ progress out e s h = absurd (subst (IsInFault fault) e h)
+no_fault texts log x _ status progress out e s h = tt
 
 in_request : (request : Request) (positions : List _) (x : State) (answer : Reply) (status : Status) → IsInRequest request positions x status → IsReplied answer status → answer ≡ RequestReply request
 in_request request positions x answer (RequestStatus other on_answer) h r = r ∙ ap RequestReply h.0
@@ -80,11 +80,11 @@ in_fault fault answer (FaultStatus error) h r = r ∙ ap FaultReply h
 in_fault fault answer _ h r = absurd h
 
 -- what was replied is the reply of where it stands
-replied_there : (told : Told) (x : State) (o : Option Outcome) (answer : Reply) → IsReplied answer x.status → StandsAt told x o → (outcome : Outcome) × (o ≡ Some outcome) × (answer ≡ meaning.reply outcome)
-replied_there told x None answer r h = absurd (subst (IsReplied answer) h.0 r)
-replied_there told x (Some (RequestOutcome request positions)) answer r h = (RequestOutcome request positions, refl, in_request request positions x answer x.status h.0 r)
-replied_there told x (Some (FaultOutcome fault)) answer r h = (FaultOutcome fault, refl, in_fault fault answer x.status h r)
-replied_there told x (Some (CompleteOutcome pieces value)) answer r h = (CompleteOutcome pieces value, refl, subst (IsReplied answer) h.0 r)
+replied_there : (log : Log) (x : State) (o : Option Outcome) (answer : Reply) → IsReplied answer x.status → StandsAt log x o → (outcome : Outcome) × (o ≡ Some outcome) × (answer ≡ meaning.reply outcome)
+replied_there log x None answer r h = absurd (subst (IsReplied answer) h.0 r)
+replied_there log x (Some (RequestOutcome request positions)) answer r h = (RequestOutcome request positions, refl, in_request request positions x answer x.status h.0 r)
+replied_there log x (Some (FaultOutcome fault)) answer r h = (FaultOutcome fault, refl, in_fault fault answer x.status h r)
+replied_there log x (Some (CompleteOutcome pieces value)) answer r h = (CompleteOutcome pieces value, refl, subst (IsReplied answer) h.0 r)
 
 fault_replied : (outcome : Outcome) (fault : Fault) → FaultReply fault ≡ meaning.reply outcome → outcome ≡ FaultOutcome fault
 fault_replied (FaultOutcome other) fault e = cc
@@ -100,25 +100,25 @@ none_free limits (After inputs pushes) e (inr (inr h)) = absurd (let v : Some 32
 
 -- these steps were done without a refusal
 record Done (first : State) (steps : List Step) (replies : List Reply) (new : State) : Type 0 where
-  allowed : AllAllowed first.setup Never first.text (told_at first) steps
+  allowed : AllAllowed first.setup Never first.text (log_at first) steps
   stands :
-      let told = after_steps first.setup Never first.text (told_at first) steps in
-      StandsAt told new (outcome_of first.setup Never first.text told)
+      let log = after_steps first.setup Never first.text (log_at first) steps in
+      StandsAt log new (outcome_of first.setup Never first.text log)
 
-done_by : (first : State) (steps : List Step) (replies : List Reply) (x : State) (told : Told) (refusal : Refusal)
-    → Tells first steps replies told refusal → StandsAt told x (outcome_of first.setup refusal first.text told) → refusal ≡ Never
+done_by : (first : State) (steps : List Step) (replies : List Reply) (x : State) (log : Log) (refusal : Refusal)
+    → AreDoneFrom first steps replies log refusal → StandsAt log x (outcome_of first.setup refusal first.text log) → refusal ≡ Never
     → Done first steps replies x
-done_by first steps replies x told refusal tells stands never = record {
-  allowed = subst (λ (r : Refusal). AllAllowed first.setup r first.text (told_at first) steps) never tells.allowed;
+done_by first steps replies x log refusal are_done stands never = record {
+  allowed = subst (λ (r : Refusal). AllAllowed first.setup r first.text (log_at first) steps) never are_done.allowed;
   stands =
-      subst (λ (r : Refusal). StandsAt (after_steps first.setup r first.text (told_at first) steps) x (outcome_of first.setup r first.text (after_steps first.setup r first.text (told_at first) steps))) never
-      (subst (λ (t : Told). StandsAt t x (outcome_of first.setup refusal first.text t)) (sym tells.told_is) stands);
+      subst (λ (r : Refusal). StandsAt (after_steps first.setup r first.text (log_at first) steps) x (outcome_of first.setup r first.text (after_steps first.setup r first.text (log_at first) steps))) never
+      (subst (λ (t : Log). StandsAt t x (outcome_of first.setup refusal first.text t)) (sym are_done.log_is) stands);
 }
 
 done_never : (first : State) (steps : List Step) (replies : List Reply) (x : State) → first.setup.limits ≡ capacities → Went first steps replies x → Done first steps replies x
 done_never first steps replies x limits went =
-    let all = walks_all first steps replies x went in
-    done_by first steps replies x all.told all.refusal all.tells all.stands (none_free first.setup.limits all.refusal limits all.may)
+    let all = does_all_by first steps replies x went in
+    done_by first steps replies x all.log all.refusal all.are_done all.stands (none_free first.setup.limits all.refusal limits all.may)
 
 at_seam : (steps : List Step) (step : Step) → slice_get (steps ++ step ∷ []) (length steps) ≡ Some step
 at_seam [] step = refl
@@ -130,8 +130,8 @@ some_same a b e = cc
 -- a step that isn't allowed after these steps
 abbrev Refuses : State → Refusal → Step → List Step → Type 0
 Refuses first refusal step steps =
-    let told = after_steps first.setup refusal first.text (told_at first) steps in
-    Allows told (outcome_of first.setup refusal first.text told) step → ⊥
+    let log = after_steps first.setup refusal first.text (log_at first) steps in
+    Allows log (outcome_of first.setup refusal first.text log) step → ⊥
 
 refused_as : (first : State) (refusal : Refusal) (a b : Step) (steps others : List Step) → refusal ≡ Never → a ≡ b → steps ≡ others → Refuses first refusal a steps → Refuses first Never b others
 refused_as first refusal a b steps others r s l h =
@@ -187,20 +187,20 @@ module _ (texts : List DwexprText) (all : List DwexprStep) (index : ℕ) (at : D
           setup = set_keeps x new step h ∙ r.setup;
         })
 
-    next_called : (now : DwexprOutcome) (after : Progress) (step : Step) → step_coded first.text.is_big texts at ≡ Ok step → (told : EvaluationResult Placed ℕ ℕ) → HasReplied text_of_placed (λ x. x) step x new (Ok told) → ShowsStatus texts new.status after now → Reached texts (take (suc index) all) first new after now
-    next_called now after step one told called shown = record {
+    next_called : (now : DwexprOutcome) (after : Progress) (step : Step) → step_coded first.text.is_big texts at ≡ Ok step → (result : EvaluationResult Placed ℕ ℕ) → HasReplied text_of_placed (λ x. x) step x new (Ok result) → ShowsStatus texts new.status after now → Reached texts (take (suc index) all) first new after now
+    next_called now after step one result called shown = record {
       steps = r.steps ++ step ∷ [];
       said = said_next r.steps step r.said one;
-      replies = r.replies ++ reply_of text_of_placed (λ x. x) (Ok told) ∷ [];
-      went = called_went_on text_of_placed (λ x. x) first r.steps r.replies x new step (Ok told) called r.went;
+      replies = r.replies ++ reply_of text_of_placed (λ x. x) (Ok result) ∷ [];
+      went = called_went_on text_of_placed (λ x. x) first r.steps r.replies x new step (Ok result) called r.went;
       shown = shown;
-      setup = (replied_by x new (Ok told) step called).setup ∙ r.setup;
+      setup = (replied_by x new (Ok result) step called).setup ∙ r.setup;
     }
 
     next_by : (now : DwexprOutcome) (o : Result Step ℕ) (one : Progress) → step_coded first.text.is_big texts at ≡ o → DoesStep texts o index x new out now one → (one ≡ Ended → ⊥) → Reached texts (take (suc index) all) first new (latest progress one) now
     next_by now (Ok step) Set is h goes_on = next_set now step is h.0 h.1
     next_by now (Ok step) Asked is h goes_on =
-        next_called now Asked step is h.told h.called (shows_asked texts now (ok_reply text_of_placed (λ x. x) h.told) new.status (replied_by x new (Ok h.told) step h.called).status h.shown)
+        next_called now Asked step is h.result h.called (shows_asked texts now (ok_reply text_of_placed (λ x. x) h.result) new.status (replied_by x new (Ok h.result) step h.called).status h.shown)
     next_by now (Ok step) Complete is h goes_on =
         next_called now Complete step is replied.Complete h (shows_complete texts now new.status (replied_by x new (Ok replied.Complete) step h).status)
     next_by now (Ok step) Ended is h goes_on = absurd (goes_on refl)
@@ -215,37 +215,37 @@ module _ (texts : List DwexprText) (all : List DwexprStep) (index : ℕ) (at : D
     abbrev given : Beginning
     given = given_at first texts
 
-    walks : Done first r.steps r.replies x
-    walks = done_never first r.steps r.replies x limits r.went
+    does_all : Done first r.steps r.replies x
+    does_all = done_never first r.steps r.replies x limits r.went
 
     taken : AreTaken given (take index all) r.steps
-    taken = record { said = r.said; allowed = walks.allowed }
+    taken = record { said = r.said; allowed = does_all.allowed }
 
     ends_by : (end : FaultNumbers) → EndsByStep given r.steps (step_coded first.text.is_big texts at) (ended_outcome end.code end.number index) → IsCutShort given all (ended_outcome end.code end.number index)
     ends_by end h = record {
       before = r.steps;
       taken = taken;
-      no_fault = no_fault texts (told_by given r.steps) x (comes_of given r.steps) x.status progress out refl r.shown walks.stands;
+      no_fault = no_fault texts (log_by given r.steps) x (comes_of given r.steps) x.status progress out refl r.shown does_all.stands;
       at = at;
       is_there = is_there;
       ends = h;
     }
 
-    called_walks : (step : Step) (told : Result (EvaluationResult Placed ℕ ℕ) Error) → HasReplied text_of_placed (λ x. x) step x new told → Done first (r.steps ++ step ∷ []) (r.replies ++ reply_of text_of_placed (λ x. x) told ∷ []) new
-    called_walks step told called =
-        done_never first (r.steps ++ step ∷ []) _ new limits (called_went_on text_of_placed (λ x. x) first r.steps r.replies x new step told called r.went)
+    called_does_all : (step : Step) (result : Result (EvaluationResult Placed ℕ ℕ) Error) → HasReplied text_of_placed (λ x. x) step x new result → Done first (r.steps ++ step ∷ []) (r.replies ++ reply_of text_of_placed (λ x. x) result ∷ []) new
+    called_does_all step result called =
+        done_never first (r.steps ++ step ∷ []) _ new limits (called_went_on text_of_placed (λ x. x) first r.steps r.replies x new step result called r.went)
 
-    misplaced_at : (step : Step) → (MayTake step x.status → ⊥) → Allows (told_by given r.steps) (comes_of given r.steps) step → ⊥
+    misplaced_at : (step : Step) → (MayTake step x.status → ⊥) → Allows (log_by given r.steps) (comes_of given r.steps) step → ⊥
     misplaced_at step h =
         let beyond = r.steps ++ step ∷ [] in
         let there : slice_get beyond (length r.steps) ≡ Some step = at_seam r.steps step in
         let front : take (length r.steps) beyond ≡ r.steps = take-append_seam r.steps (step ∷ []) in
-        let w = walks_to first beyond (length r.steps) r.replies x step there (subst (λ (l : List Step). Went first l r.replies x) (sym front) r.went) h in
+        let w = stops_at first beyond (length r.steps) r.replies x step there (subst (λ (l : List Step). Went first l r.replies x) (sym front) r.went) h in
         let same : w.step ≡ step = some_same w.step step (sym w.is_next ∙ there) in
-        let refused : Refuses first w.walks.refusal w.step (take (length r.steps) beyond) =
-        subst (λ (t : Told). Allows t (outcome_of first.setup w.walks.refusal first.text t) w.step → ⊥) (sym w.walks.tells.told_is) w.misplaced
+        let refused : Refuses first w.does_all.refusal w.step (take (length r.steps) beyond) =
+        subst (λ (t : Log). Allows t (outcome_of first.setup w.does_all.refusal first.text t) w.step → ⊥) (sym w.does_all.are_done.log_is) w.misplaced
         in
-        refused_as first w.walks.refusal w.step step (take (length r.steps) beyond) r.steps (none_free first.setup.limits w.walks.refusal limits w.walks.may) same front refused
+        refused_as first w.does_all.refusal w.step step (take (length r.steps) beyond) r.steps (none_free first.setup.limits w.does_all.refusal limits w.does_all.may) same front refused
 
     nowhere_never : (step : Step) → step_coded first.text.is_big texts at ≡ Ok step → (outcome : Outcome) → comes_of given (r.steps ++ step ∷ []) ≡ Some outcome → AsksNowhere texts (meaning.reply outcome) → ⊥
     nowhere_never step one (RequestOutcome request positions) e a =
@@ -256,8 +256,8 @@ module _ (texts : List DwexprText) (all : List DwexprStep) (index : ℕ) (at : D
     ends_at end step one (inl h) =
         inl (record { not_allowed = misplaced_at step h.not_taken; shown = ap (λ (e : FaultNumbers). ended_outcome e.code e.number index) h.shown })
     ends_at end step one (inr (inl h)) =
-        let w = called_walks step (Err h.error) h.called in
-        let there = replied_there (told_by given (r.steps ++ step ∷ [])) new _ (FaultReply (fault_of h.error)) (replied_by x new (Err h.error) step h.called).status w.stands in
+        let w = called_does_all step (Err h.error) h.called in
+        let there = replied_there (log_by given (r.steps ++ step ∷ [])) new _ (FaultReply (fault_of h.error)) (replied_by x new (Err h.error) step h.called).status w.stands in
         inr (record {
           allowed = w.allowed;
           fault = fault_of h.error;
@@ -265,8 +265,8 @@ module _ (texts : List DwexprText) (all : List DwexprStep) (index : ℕ) (at : D
           shown = ap (λ (e : FaultNumbers). ended_outcome e.code e.number index) h.shown;
         })
     ends_at end step one (inr (inr h)) =
-        let w = called_walks step (Ok h.told) h.called in
-        let there = replied_there (told_by given (r.steps ++ step ∷ [])) new _ (ok_reply text_of_placed (λ x. x) h.told) (replied_by x new (Ok h.told) step h.called).status w.stands in
+        let w = called_does_all step (Ok h.result) h.called in
+        let there = replied_there (log_by given (r.steps ++ step ∷ [])) new _ (ok_reply text_of_placed (λ x. x) h.result) (replied_by x new (Ok h.result) step h.called).status w.stands in
         absurd (nowhere_never step one there.0 there.1 (subst (AsksNowhere texts) there.2 h.asks))
 
     cut_short_by : (end : FaultNumbers) (o : Result Step ℕ) → step_coded first.text.is_big texts at ≡ o → Stops texts o x new end → EndsByStep given r.steps o (ended_outcome end.code end.number index)
@@ -278,7 +278,7 @@ module _ (texts : List DwexprText) (all : List DwexprStep) (index : ℕ) (at : D
     stopped_with end h = record {
       cut = ends_by end (cut_short_by end (step_coded first.text.is_big texts at) refl h);
       before = x;
-      stands = walks.stands;
+      stands = does_all.stands;
       end = end;
       stops = h;
       setup = stop_keeps x new texts (step_coded first.text.is_big texts at) end h ∙ r.setup;
@@ -340,14 +340,14 @@ module _ (texts : List DwexprText) (numbers : List DwexprStep) (first new : Stat
   completes_as pieces value e (inr f) =
       absurd (pieces_somewhere texts first is_given numbers ran.steps ran.taken.said pieces value e f.1)
 
-  finished : (o : Option Outcome) → comes_of (given_at first texts) ran.steps ≡ o → StandsAt (told_by (given_at first texts) ran.steps) new o → FinishesAt new.store.pieces new.status progress → EvaluatesGiven (given_at first texts) numbers after old places
+  finished : (o : Option Outcome) → comes_of (given_at first texts) ran.steps ≡ o → StandsAt (log_by (given_at first texts) ran.steps) new o → FinishesAt new.store.pieces new.status progress → EvaluatesGiven (given_at first texts) numbers after old places
   finished None e h f =
       let s : progress ≡ Set = subst (λ (z : Status). ShowsStatus texts z progress out) h.0 showed in
       let k : FinishesAt new.store.pieces new.status Set = subst (FinishesAt new.store.pieces new.status) s f in
       done None e k
   finished (Some (RequestOutcome request positions)) e h f =
       done (Some (RequestOutcome request positions)) e (asked_as request positions new.status h.0 showed f)
-  finished (Some (FaultOutcome fault)) e h f = absurd (no_fault texts (told_by (given_at first texts) ran.steps) new (Some (FaultOutcome fault)) new.status progress out refl showed h)
+  finished (Some (FaultOutcome fault)) e h f = absurd (no_fault texts (log_by (given_at first texts) ran.steps) new (Some (FaultOutcome fault)) new.status progress out refl showed h)
   finished (Some (CompleteOutcome pieces value)) e h f =
       let s : progress ≡ Complete = subst (λ (z : Status). ShowsStatus texts z progress out) h.0 showed in
       let k : FinishesAt new.store.pieces new.status Complete = subst (FinishesAt new.store.pieces new.status) s f in

@@ -5,7 +5,7 @@ use Rattle.dwarf_base.specs.Faults.{Fault}
 use Rattle.dwarf_base.specs.Reads.{Text}
 use Rattle.dwarf_meaning.specs.Stores.{Setup}
 use Rattle.dwarf_meaning.specs.Meaning.{Outcome, RequestOutcome, FaultOutcome, CompleteOutcome}
-use Rattle.dwarf_meaning.specs.Steps.{Step, Told, Allows, AllAllowed, after_steps, outcome_of, untold}
+use Rattle.dwarf_meaning.specs.Steps.{Step, Log, Allows, AllAllowed, after_steps, outcome_of, empty_log}
 use Rattle.dwarf_meaning.specs.Refusals.{Limits, Never}
 use Rattle.dwexpr_c.specs.Codes.{code_of_fault, number_of_fault}
 use Rattle.dwexpr_c.specs.Outcomes.{ShowsRequest, complete_outcome, ended_outcome, blank_outcome, AreWritten, step_coded}
@@ -23,28 +23,28 @@ capacities = record { values = Some 64; callers = Some 16; pieces = Some 32 }
 abbrev pub limited_setup : Encoding → Setup
 limited_setup encoding = record { encoding = encoding; offset_bits = 64; limits = capacities }
 
--- an expression, what was told before its steps, and the texts that these may name
+-- an expression, the log before its steps, and the texts that these may name
 pub record Beginning : Type 0 where
   pub setup : Setup
   pub text : Text
-  pub told : Told
+  pub log : Log
   pub texts : List DwexprText
 
 -- an expression before any step
 abbrev pub beginning : Encoding → Text → List DwexprText → Beginning
-beginning encoding text texts = record { setup = limited_setup encoding; text = text; told = untold; texts = texts }
+beginning encoding text texts = record { setup = limited_setup encoding; text = text; log = empty_log; texts = texts }
 
--- what was told once the steps are done
-abbrev pub told_by : Beginning → List Step → Told
-told_by given steps = after_steps given.setup Never given.text given.told steps
+-- the log once the steps are done
+abbrev pub log_by : Beginning → List Step → Log
+log_by given steps = after_steps given.setup Never given.text given.log steps
 
 -- the outcome of the steps
 abbrev pub comes_of : Beginning → List Step → Option Outcome
-comes_of given steps = outcome_of given.setup Never given.text (told_by given steps)
+comes_of given steps = outcome_of given.setup Never given.text (log_by given steps)
 
 -- each step is allowed when it comes
 abbrev pub MayAll : Beginning → List Step → Type 0
-MayAll given steps = AllAllowed given.setup Never given.text given.told steps
+MayAll given steps = AllAllowed given.setup Never given.text given.log steps
 
 -- the numbers say these steps, and each is allowed when it comes
 pub record AreTaken (given : Beginning) (numbers : List DwexprStep) (steps : List Step) : Type 0 where
@@ -75,7 +75,7 @@ pub record IsDone (given : Beginning) (numbers : List DwexprStep) (out : DwexprO
 
 -- it isn't allowed
 pub record IsMisplaced (given : Beginning) (before : List Step) (step : Step) (out : DwexprOutcome) : Type 0 where
-  pub not_allowed : Allows (told_by given before) (comes_of given before) step → ⊥
+  pub not_allowed : Allows (log_by given before) (comes_of given before) step → ⊥
   pub shown : out ≡ ended_outcome codes.MISPLACED 0 out.step
 
 -- it is allowed, and meets a fault

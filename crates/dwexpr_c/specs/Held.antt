@@ -8,9 +8,9 @@ use Rattle.dwarf_meaning.specs.Rest.{State, Start}
 use Rattle.dwarf_meaning.specs.Run.{most}
 use Rattle.dwarf_meaning.specs.Steps.{Step}
 use Rattle.dwarf_replay.specs.Replays.{StandsAt}
-use Rattle.dwexpr_c.specs.Evaluated.{AreTaken, Beginning, IsCutShort, beginning, capacities, comes_of, limited_setup, told_by}
+use Rattle.dwexpr_c.specs.Evaluated.{AreTaken, Beginning, IsCutShort, beginning, capacities, comes_of, limited_setup, log_by}
 use Rattle.dwexpr_c.specs.Outcomes.{blank_outcome, step_coded}
-use Rattle.dwexpr_c.specs.Stepping.{DoesStep, FinishesOutcome, Stops}
+use Rattle.dwexpr_c.specs.StepEffects.{DoesStep, FinishesOutcome, Stops}
 use Rattle.dwexpr_c.specs.declared.faults.FaultNumbers.{FaultNumbers}
 use Rattle.dwexpr_c.specs.declared.evaluating.Progress.{Progress}
 use Rattle.dwexpr_c.specs.declared.evaluating.Progress.TheVariants.{Set, Complete}
@@ -47,14 +47,14 @@ pub record IsUnstarted (held : Held) : Type 0 where
 pub record HasTaken (given : Beginning) (numbers : List DwexprStep) (new : State) : Type 0 where
   pub steps : List Step
   pub taken : AreTaken given numbers steps
-  pub stands : StandsAt (told_by given steps) new (comes_of given steps)
+  pub stands : StandsAt (log_by given steps) new (comes_of given steps)
   pub setup : new.setup ≡ given.setup
 
 -- a step ended it, as is shown: those before it led to a state, of which this step made the new one
 pub record HasStopped (given : Beginning) (numbers : List DwexprStep) (new : State) (out : DwexprOutcome) : Type 0 where
   pub cut : IsCutShort given numbers out
   pub before : State
-  pub stands : StandsAt (told_by given cut.before) before (comes_of given cut.before)
+  pub stands : StandsAt (log_by given cut.before) before (comes_of given cut.before)
   pub end : FaultNumbers
   pub stops : Stops given.texts (step_coded given.text.is_big given.texts cut.at) before new end
   pub setup : new.setup ≡ given.setup
@@ -73,18 +73,18 @@ StandsAfterFirst encoding (Some text) texts numbers before after out =
 -- ---- after a resume
 
 -- what is shown in the end: after a setting too the pieces and the value of a complete evaluation
-abbrev pub Shows : List DwexprText → State → (told : DwexprOutcome) → Progress → (out : DwexprOutcome)
+abbrev pub Shows : List DwexprText → State → (unfinished : DwexprOutcome) → Progress → (out : DwexprOutcome)
     → (old new : List DwexprPiece) → Type 0
-Shows texts x told Set out old new = FinishesOutcome texts 0 x.store.pieces told out old new x.status
-Shows texts x told Complete out old new = FinishesOutcome texts 0 x.store.pieces told out old new x.status
-Shows texts x told _ out old new = (out ≡ told) × (new ≡ old)
+Shows texts x unfinished Set out old new = FinishesOutcome texts 0 x.store.pieces unfinished out old new x.status
+Shows texts x unfinished Complete out old new = FinishesOutcome texts 0 x.store.pieces unfinished out old new x.status
+Shows texts x unfinished _ out old new = (out ≡ unfinished) × (new ≡ old)
 
 -- the step that the numbers say was taken, or ended the evaluation, and that is shown
 pub record HasResumed (texts : List DwexprText) (number : DwexprStep) (before after : Held) (out : DwexprOutcome)
     (old new : List DwexprPiece) : Type 0 where
   pub order : after.order ≡ before.order
   pub progress : Progress
-  pub told : DwexprOutcome
+  pub unfinished : DwexprOutcome
   pub does : DoesStep texts (step_coded (is_big_of before.order) texts number) 0 before.evaluation after.evaluation
-      blank_outcome told progress
-  pub shown : Shows texts after.evaluation told progress out old new
+      blank_outcome unfinished progress
+  pub shown : Shows texts after.evaluation unfinished progress out old new

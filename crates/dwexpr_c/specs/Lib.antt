@@ -2,10 +2,10 @@ pub mod Codes
 pub mod Encodings
 pub mod Evaluated
 pub mod Held
-pub mod Operations
+pub mod CodedOperations
 pub mod Outcomes
 pub mod Owned
-pub mod Stepping
-pub mod Texts
-pub mod Values
+pub mod StepEffects
+pub mod CallerTexts
+pub mod CodedValues
 pub mod inner

@@ -6,9 +6,9 @@ use Rattle.dwarf_meaning.specs.Operations as operations
 use Rattle.dwarf_meaning.specs.Requests as requests
 use Rattle.dwarf_meaning.specs.Requests.{Request}
 use Rattle.dwarf_meaning.specs.Steps.{Reply, RequestReply}
-use Rattle.dwexpr_c.specs.Operations.{flag_of}
-use Rattle.dwexpr_c.specs.Texts.{IsPlaced, text_at}
-use Rattle.dwexpr_c.specs.Values.{shown_value, type_coded, value_coded}
+use Rattle.dwexpr_c.specs.CodedOperations.{flag_of}
+use Rattle.dwexpr_c.specs.CallerTexts.{IsPlaced, text_at}
+use Rattle.dwexpr_c.specs.CodedValues.{shown_value, type_coded, value_coded}
 use Rattle.dwexpr_c.specs.declared.outcomes.DwexprOutcome.{DwexprOutcome}
 use Rattle.dwexpr_c.specs.declared.steps.DwexprText.{DwexprText}
 use Rattle.dwarf_meaning.specs.Locations.{Location, Empty, InRegister, AtAddress, HoldsValue, HoldsBytes, PointsInto, Piece}
@@ -48,28 +48,28 @@ abbrev pub ended_outcome : (code number step : ℕ) → DwexprOutcome
 ended_outcome code number step = record blank_outcome { code = code; detail = number; step = step }
 
 -- a request and what it names, but for a block
-abbrev pub request_shown : Request → DwexprOutcome
-request_shown (requests.RequiresMemory address size None base_type) =
+abbrev pub shown_request : Request → DwexprOutcome
+shown_request (requests.RequiresMemory address size None base_type) =
     record (request_outcome 2 address) { size = size; base_type = base_type }
-request_shown (requests.RequiresMemory address size (Some space) base_type) =
+shown_request (requests.RequiresMemory address size (Some space) base_type) =
     record (request_outcome 2 address) { size = size; base_type = base_type; flag = 1; space = space }
-request_shown (requests.RequiresRegister register base_type) =
+shown_request (requests.RequiresRegister register base_type) =
     record (request_outcome 3 0) { register_number = register; base_type = base_type }
-request_shown requests.RequiresFrameBase = request_outcome 4 0
-request_shown (requests.RequiresTls index) = request_outcome 5 index
-request_shown requests.RequiresCallFrameCfa = request_outcome 6 0
-request_shown (requests.RequiresAtLocation (operations.UnitRef offset)) = request_outcome 7 offset
-request_shown (requests.RequiresAtLocation (operations.DebugInfoRef offset)) =
+shown_request requests.RequiresFrameBase = request_outcome 4 0
+shown_request (requests.RequiresTls index) = request_outcome 5 index
+shown_request requests.RequiresCallFrameCfa = request_outcome 6 0
+shown_request (requests.RequiresAtLocation (operations.UnitRef offset)) = request_outcome 7 offset
+shown_request (requests.RequiresAtLocation (operations.DebugInfoRef offset)) =
     record (request_outcome 7 offset) { flag = 1 }
-request_shown (requests.RequiresEntryValue expression) = request_outcome 8 0
-request_shown (requests.RequiresParameterRef offset) = request_outcome 9 offset
-request_shown (requests.RequiresRelocatedAddress address) = request_outcome 10 address
-request_shown (requests.RequiresIndexedAddress index relocate) =
+shown_request (requests.RequiresEntryValue expression) = request_outcome 8 0
+shown_request (requests.RequiresParameterRef offset) = request_outcome 9 offset
+shown_request (requests.RequiresRelocatedAddress address) = request_outcome 10 address
+shown_request (requests.RequiresIndexedAddress index relocate) =
     record (request_outcome 11 index) { flag = flag_of relocate }
-request_shown (requests.RequiresBaseType offset) = record (request_outcome 12 0) { base_type = offset }
-request_shown (requests.RequiresWasmLocal index) = request_outcome 13 index
-request_shown (requests.RequiresWasmGlobal index) = request_outcome 14 index
-request_shown (requests.RequiresWasmStack index) = request_outcome 15 index
+shown_request (requests.RequiresBaseType offset) = record (request_outcome 12 0) { base_type = offset }
+shown_request (requests.RequiresWasmLocal index) = request_outcome 13 index
+shown_request (requests.RequiresWasmGlobal index) = request_outcome 14 index
+shown_request (requests.RequiresWasmStack index) = request_outcome 15 index
 
 -- the outcome names the place of these bytes, and nothing else differs
 abbrev pub ShowsBlock : List DwexprText → List ℕ → (shown out : DwexprOutcome) → Type 0
@@ -81,7 +81,7 @@ ShowsBlock texts block shown out =
 abbrev pub ShowsRequest : List DwexprText → Request → DwexprOutcome → Type 0
 ShowsRequest texts (requests.RequiresEntryValue expression) out =
     ShowsBlock texts expression.bytes (request_outcome 8 0) out
-ShowsRequest texts request out = out ≡ request_shown request
+ShowsRequest texts request out = out ≡ shown_request request
 
 -- a call replied a request
 abbrev pub ShowsReply : List DwexprText → Reply → DwexprOutcome → Type 0
@@ -131,8 +131,8 @@ step_coded big texts step =
 -- ---- pieces
 
 -- the kind and the sizes; all else is 0
-abbrev pub sized : (kind : ℕ) → (size_in_bits bit_offset : Option ℕ) → DwexprPiece
-sized kind size_in_bits bit_offset = record {
+abbrev pub piece_of_kind : (kind : ℕ) → (size_in_bits bit_offset : Option ℕ) → DwexprPiece
+piece_of_kind kind size_in_bits bit_offset = record {
   kind = kind;
   has_size = flag_of (is_some size_in_bits);
   size_in_bits = unwrap_or size_in_bits 0;
@@ -154,17 +154,19 @@ ShowsBytes texts block shown out =
 
 -- the place shows a location, with its size and offset
 abbrev pub ShowsLocation : List DwexprText → (size_in_bits bit_offset : Option ℕ) → Location → DwexprPiece → Type 0
-ShowsLocation texts size offset Empty out = out ≡ sized 1 size offset
-ShowsLocation texts size offset (InRegister register) out = out ≡ record (sized 2 size offset) { number = register }
-ShowsLocation texts size offset (AtAddress address) out = out ≡ record (sized 3 size offset) { number = address }
+ShowsLocation texts size offset Empty out = out ≡ piece_of_kind 1 size offset
+ShowsLocation texts size offset (InRegister register) out =
+    out ≡ record (piece_of_kind 2 size offset) { number = register }
+ShowsLocation texts size offset (AtAddress address) out =
+    out ≡ record (piece_of_kind 3 size offset) { number = address }
 ShowsLocation texts size offset (HoldsValue value) out =
-    out ≡ record (sized 4 size offset) {
+    out ≡ record (piece_of_kind 4 size offset) {
       value_type = (shown_value value).value_type;
       number = (shown_value value).content;
     }
-ShowsLocation texts size offset (HoldsBytes value) out = ShowsBytes texts value.bytes (sized 5 size offset) out
+ShowsLocation texts size offset (HoldsBytes value) out = ShowsBytes texts value.bytes (piece_of_kind 5 size offset) out
 ShowsLocation texts size offset (PointsInto value byte_offset) out =
-    out ≡ record (sized 6 size offset) { number = value; byte_offset = byte_offset }
+    out ≡ record (piece_of_kind 6 size offset) { number = value; byte_offset = byte_offset }
 
 -- the place shows a piece
 abbrev pub ShowsPiece : List DwexprText → Piece → DwexprPiece → Type 0

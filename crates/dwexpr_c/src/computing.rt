@@ -1,8 +1,8 @@
 ghost use Rattle.std.specs.Prelude.{◌≡◌, None, Some};
 ghost use Rattle.dwarf_base.specs.ByteOrder.{is_big_of};
 ghost use Rattle.dwarf_value.specs.Values.{IsAddressMask, from_encoding_of, parse_of, width_of};
-ghost use Rattle.dwexpr_c.specs.Values as calls;
-ghost use Rattle.dwexpr_c.specs.Values.{type_code, type_coded};
+ghost use Rattle.dwexpr_c.specs.CodedValues as calls;
+ghost use Rattle.dwexpr_c.specs.CodedValues.{type_code, type_coded};
 
 use crate::encodings::order_of;
 use crate::faults::{BAD_VALUE, OK, numbers_of};

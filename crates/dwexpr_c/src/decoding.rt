@@ -1,7 +1,7 @@
 ghost use Rattle.std.specs.Prelude.{◌≡◌, ◌<◌, ◌≤◌, length, drop, slice_index};
 ghost use Rattle.dwarf_base.specs.ByteOrder.{is_big_of};
 ghost use Rattle.dwarf_meaning.specs.Decoding.{operation_at};
-ghost use Rattle.dwexpr_c.specs.Operations.{Decodes, IsBlockAt, undecoded};
+ghost use Rattle.dwexpr_c.specs.CodedOperations.{Decodes, IsBlockAt, undecoded_operation};
 ghost use Rattle.dwexpr_c.specs.Encodings.{IsEncoding, encoding_in, is_big_in};
 ghost use Rattle.dwexpr_c.specs.declared.faults.TheConstants as codes;
 
@@ -20,9 +20,9 @@ fn decode_at(bytes: &[u8], reading: Reading, offset: usize, shown: &mut DwexprOp
 {
     let opcode = bytes[offset];
     let front = EndianSlice::new(&bytes[offset..], reading.order);
-    let mut left = front;
-    match Operation::parse(&mut left, reading.encoding) {
-        Ok(operation) => show(operation, offset, opcode, left.offset_from(&front), shown),
+    let mut rest = front;
+    match Operation::parse(&mut rest, reading.encoding) {
+        Ok(operation) => show(operation, offset, opcode, rest.offset_from(&front), shown),
         Err(error) => *shown = show_fault(offset, opcode, numbers_of(error)),
     }
 }
@@ -31,7 +31,7 @@ fn decode_at(bytes: &[u8], reading: Reading, offset: usize, shown: &mut DwexprOp
 ///
 /// It answers 0, the code of a fault of the bytes, 1 to 21, or of an argument: 64 if the encoding's numbers say none,
 /// then 65 if there is no byte at the offset. `operation` is written in each case; its `fault` is the code.
-#[tactic(auto, using(crate::proofs::Blocks::block_shown))]
+#[tactic(auto, using(crate::proofs::DecodedBlocks::block_shown))]
 #[unsafe(no_mangle)]
 pub extern "C" fn dwexpr_decode(
     bytes: &[u8],
@@ -41,9 +41,9 @@ pub extern "C" fn dwexpr_decode(
 ) -> u32
     ensures code { result ≡ operation.new.fault }
     ensures encoding { (IsEncoding encoding → ⊥)
-        → operation.new ≡ undecoded offset codes.BAD_ENCODING }
+        → operation.new ≡ undecoded_operation offset codes.BAD_ENCODING }
     ensures offset { IsEncoding encoding → length bytes.now ≤ offset
-        → operation.new ≡ undecoded offset codes.BAD_OFFSET }
+        → operation.new ≡ undecoded_operation offset codes.BAD_OFFSET }
     ensures decodes { IsEncoding encoding → offset < length bytes.now
         → Decodes offset (slice_index bytes.now offset) (length (drop offset bytes.now))
         (operation_at (encoding_in encoding) 64

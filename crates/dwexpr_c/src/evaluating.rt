@@ -5,12 +5,12 @@ ghost use Rattle.dwarf_meaning.specs.Rest.{CompleteStatus, Start};
 ghost use Rattle.dwexpr_c.specs.Evaluated.{EvaluatesGiven};
 ghost use Rattle.dwexpr_c.specs.Held.{HasCapacities, StandsAfter};
 ghost use Rattle.dwexpr_c.specs.Outcomes.{ended_outcome, step_coded};
-ghost use Rattle.dwexpr_c.specs.Stepping.{DoesStep, FinishesOutcome};
-ghost use Rattle.dwexpr_c.specs.Texts.{text_of_placed};
+ghost use Rattle.dwexpr_c.specs.StepEffects.{DoesStep, FinishesOutcome};
+ghost use Rattle.dwexpr_c.specs.CallerTexts.{text_of_placed};
 ghost use Rattle.dwexpr_c.specs.inner.Runs.{IsGiven, Runs, given_at, latest};
 
-use crate::faults::{FaultNumbers, LOST_TEXT, MISPLACED, numbers_of, plain};
-use crate::outcomes::{DwexprOutcome, UNTOLD, show_complete, show_end, show_request};
+use crate::faults::{FaultNumbers, LOST_TEXT, MISPLACED, code_alone, numbers_of};
+use crate::outcomes::{BLANK, DwexprOutcome, show_complete, show_end, show_request};
 use crate::pieces::{DwexprPiece, write_pieces};
 use crate::places::Placed;
 use crate::steps::{DwexprStep, DwexprText, step_of};
@@ -70,10 +70,10 @@ pub(crate) fn do_step<'a, S: EvaluationStorage<Placed<'a>>>(
 {
     let step = match step_of(texts, order, *numbers) {
         Ok(step) => step,
-        Err(code) => return end(plain(code), index, outcome),
+        Err(code) => return end(code_alone(code), index, outcome),
     };
     match take_step(evaluation, step) {
-        Stepped::Misplaced => end(plain(MISPLACED), index, outcome),
+        Stepped::Misplaced => end(code_alone(MISPLACED), index, outcome),
         Stepped::Set => Progress::Set,
         Stepped::Answered(answer) => match answer.0 {
             Ok(EvaluationResult::Complete) => Progress::Complete,
@@ -81,7 +81,7 @@ pub(crate) fn do_step<'a, S: EvaluationStorage<Placed<'a>>>(
                 if show_request(texts, request, outcome) {
                     Progress::Asked
                 } else {
-                    end(plain(LOST_TEXT), index, outcome)
+                    end(code_alone(LOST_TEXT), index, outcome)
                 }
             }
             Err(error) => end(numbers_of(error), index, outcome),
@@ -172,7 +172,7 @@ pub(crate) fn show_status<'a, S: EvaluationStorage<Placed<'a>>>(
             let pieces = evaluation.as_result();
             *outcome = show_complete(pieces.len(), evaluation.value_result());
             if !write_pieces(texts, pieces, places) {
-                *outcome = show_end(plain(LOST_TEXT), count);
+                *outcome = show_end(code_alone(LOST_TEXT), count);
             }
         }
         _ => {}
@@ -198,7 +198,7 @@ pub(crate) fn evaluate_steps<'a, S: EvaluationStorage<Placed<'a>>>(
         outcome.new }
 {
     match do_steps(evaluation, texts, order, steps, outcome) {
-        Progress::Set => *outcome = UNTOLD,
+        Progress::Set => *outcome = BLANK,
         Progress::Complete => show_status(evaluation, texts, steps.len(), outcome, places),
         Progress::Asked | Progress::Ended => {}
     }

@@ -38,13 +38,13 @@ pub(crate) struct FaultNumbers {
 }
 
 /// A code that carries no number.
-pub(crate) fn plain(code: u32) -> FaultNumbers
+pub(crate) fn code_alone(code: u32) -> FaultNumbers
     ensures { result ≡ record { code = code; number = 0 } }
 {
     FaultNumbers { code, number: 0 }
 }
 
-fn carrying(code: u32, number: u64) -> FaultNumbers
+fn code_with(code: u32, number: u64) -> FaultNumbers
     ensures { result ≡ record { code = code; number = number } }
 {
     FaultNumbers { code, number }
@@ -60,26 +60,26 @@ pub(crate) fn numbers_of(error: Error) -> FaultNumbers
         } }
 {
     match error {
-        Error::UnexpectedEof(_) => plain(1),
-        Error::BadUnsignedLeb128 => plain(2),
-        Error::BadSignedLeb128 => plain(3),
-        Error::UnsupportedAddressSize(size) => carrying(4, u64::from(size)),
-        Error::UnsupportedOffset => plain(5),
-        Error::UnsupportedRegister(register) => carrying(6, register),
-        Error::InvalidExpression(opcode) => carrying(7, u64::from(opcode.0)),
-        Error::InvalidPieceSize(size) => carrying(8, size),
-        Error::UnsupportedTypeOperation => plain(9),
-        Error::TypeMismatch => plain(10),
-        Error::DivisionByZero => plain(11),
-        Error::InvalidShiftExpression => plain(12),
-        Error::NotEnoughStackItems => plain(13),
-        Error::InvalidDerefSize(size) => carrying(14, u64::from(size)),
-        Error::InvalidPushObjectAddress => plain(15),
-        Error::UnsupportedEvaluation => plain(16),
-        Error::BadBranchTarget(target) => carrying(17, target),
-        Error::TooManyIterations => plain(18),
-        Error::InvalidPiece => plain(19),
-        Error::InvalidExpressionTerminator(place) => carrying(20, place),
-        Error::StackFull => plain(21),
+        Error::UnexpectedEof(_) => code_alone(1),
+        Error::BadUnsignedLeb128 => code_alone(2),
+        Error::BadSignedLeb128 => code_alone(3),
+        Error::UnsupportedAddressSize(size) => code_with(4, u64::from(size)),
+        Error::UnsupportedOffset => code_alone(5),
+        Error::UnsupportedRegister(register) => code_with(6, register),
+        Error::InvalidExpression(opcode) => code_with(7, u64::from(opcode.0)),
+        Error::InvalidPieceSize(size) => code_with(8, size),
+        Error::UnsupportedTypeOperation => code_alone(9),
+        Error::TypeMismatch => code_alone(10),
+        Error::DivisionByZero => code_alone(11),
+        Error::InvalidShiftExpression => code_alone(12),
+        Error::NotEnoughStackItems => code_alone(13),
+        Error::InvalidDerefSize(size) => code_with(14, u64::from(size)),
+        Error::InvalidPushObjectAddress => code_alone(15),
+        Error::UnsupportedEvaluation => code_alone(16),
+        Error::BadBranchTarget(target) => code_with(17, target),
+        Error::TooManyIterations => code_alone(18),
+        Error::InvalidPiece => code_alone(19),
+        Error::InvalidExpressionTerminator(place) => code_with(20, place),
+        Error::StackFull => code_alone(21),
     }
 }

@@ -30,7 +30,7 @@ pub struct Held<'a> {
 }
 
 /// An evaluation of no bytes, before it is started with a text.
-pub(crate) fn unstarted<'a>() -> Held<'a>
+pub(crate) fn fresh_held<'a>() -> Held<'a>
     ensures { IsUnstarted result }
 {
     let order = RunTimeEndian::Little;

@@ -5,13 +5,13 @@ ghost use Rattle.dwexpr_c.specs.Evaluated.{EvaluatesFirst};
 ghost use Rattle.dwexpr_c.specs.Held.{HasCapacities, HasResumed, IsBegun, IsUnstarted, StandsAfterFirst};
 ghost use Rattle.dwexpr_c.specs.Outcomes.{ended_outcome};
 ghost use Rattle.dwexpr_c.specs.Owned.{held_row};
-ghost use Rattle.dwexpr_c.specs.Texts.{text_at};
+ghost use Rattle.dwexpr_c.specs.CallerTexts.{text_at};
 ghost use Rattle.dwexpr_c.specs.declared.faults.TheConstants as codes;
 
 use crate::encodings::DwexprEncoding;
 use crate::evaluating::{Progress, do_step, show_status};
-use crate::held::{DwexprEvaluation, Held, unstarted};
-use crate::outcomes::{DwexprOutcome, UNTOLD};
+use crate::held::{DwexprEvaluation, Held, fresh_held};
+use crate::outcomes::{BLANK, DwexprOutcome};
 use crate::pieces::DwexprPiece;
 use crate::starting::start;
 use crate::steps::{DwexprStep, DwexprText};
@@ -30,7 +30,7 @@ fn resume(
 {
     match do_step(&mut held.evaluation, texts, held.order, &step, 0, outcome) {
         Progress::Set => {
-            *outcome = UNTOLD;
+            *outcome = BLANK;
             show_status(&held.evaluation, texts, 0, outcome, places);
         }
         Progress::Complete => show_status(&held.evaluation, texts, 0, outcome, places),
@@ -53,7 +53,7 @@ pub extern "C" fn dwexpr_evaluation_begin(evaluation: &mut DwexprEvaluation)
     ensures begun { IsBegun evaluation.new.held }
     ensures unstarted { IsSomeAnd evaluation.new.held (λ held. IsUnstarted held) }
 {
-    evaluation.fill(unstarted());
+    evaluation.fill(fresh_held());
 }
 
 /// Starts an evaluation that is held: of the first of the texts, in the steps, from nothing (DWARF 5, sections 2.5

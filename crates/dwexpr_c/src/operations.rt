@@ -1,7 +1,7 @@
 ghost use Rattle.std.specs.Prelude.{◌≡◌, ◌+◌, ◌-◌, ◌^◌, ◌<◌};
 ghost use Rattle.dwarf_base.specs.EndianSlice.{slice_text};
 ghost use Rattle.dwarf_op.specs.Views.{operation_of};
-ghost use Rattle.dwexpr_c.specs.Operations.{decoded, undecoded, with_block, block_in, numbered, operands_of, of_kind, signed_operand, typed};
+ghost use Rattle.dwexpr_c.specs.CodedOperations.{decoded_operation, undecoded_operation, with_block, block_in, with_number, operands_of, of_kind, with_signed_number, with_base_type};
 
 use crate::faults::{FaultNumbers, OK};
 use crate::kinds;
@@ -64,7 +64,7 @@ const NOTHING: DwexprOperation = DwexprOperation {
 
 /// What is shown if an argument isn't allowed.
 pub(crate) fn disallow(offset: usize, code: u32) -> DwexprOperation
-    ensures { result ≡ undecoded offset code }
+    ensures { result ≡ undecoded_operation offset code }
 {
     DwexprOperation {
         offset,
@@ -76,7 +76,8 @@ pub(crate) fn disallow(offset: usize, code: u32) -> DwexprOperation
 /// What is shown of a fault.
 pub(crate) fn show_fault(offset: usize, opcode: u8, fault: FaultNumbers) -> DwexprOperation
     ensures { result
-        ≡ record (undecoded offset fault.code) { opcode = opcode; detail = fault.number } }
+        ≡ record (undecoded_operation offset fault.code)
+        { opcode = opcode; detail = fault.number } }
 {
     DwexprOperation {
         opcode: u32::from(opcode),
@@ -85,14 +86,14 @@ pub(crate) fn show_fault(offset: usize, opcode: u8, fault: FaultNumbers) -> Dwex
     }
 }
 
-fn plain(kind: u32) -> DwexprOperation
+fn of_kind(kind: u32) -> DwexprOperation
     ensures { result ≡ of_kind kind }
 {
     DwexprOperation { kind, ..NOTHING }
 }
 
-fn numbered(kind: u32, number: u64) -> DwexprOperation
-    ensures { result ≡ numbered kind number }
+fn with_number(kind: u32, number: u64) -> DwexprOperation
+    ensures { result ≡ with_number kind number }
 {
     DwexprOperation {
         kind,
@@ -101,8 +102,8 @@ fn numbered(kind: u32, number: u64) -> DwexprOperation
     }
 }
 
-fn signed(kind: u32, signed_number: i64) -> DwexprOperation
-    ensures { result ≡ signed_operand kind signed_number }
+fn with_signed_number(kind: u32, signed_number: i64) -> DwexprOperation
+    ensures { result ≡ with_signed_number kind signed_number }
 {
     DwexprOperation {
         kind,
@@ -111,8 +112,8 @@ fn signed(kind: u32, signed_number: i64) -> DwexprOperation
     }
 }
 
-fn typed(kind: u32, base_type: usize) -> DwexprOperation
-    ensures { result ≡ typed kind base_type }
+fn with_base_type(kind: u32, base_type: usize) -> DwexprOperation
+    ensures { result ≡ with_base_type kind base_type }
 {
     DwexprOperation {
         kind,
@@ -122,7 +123,7 @@ fn typed(kind: u32, base_type: usize) -> DwexprOperation
 }
 
 /// The operation with its block, which ends here.
-fn blocked(shown: DwexprOperation, length: usize, end: usize) -> DwexprOperation
+fn with_block(shown: DwexprOperation, length: usize, end: usize) -> DwexprOperation
     ensures { result ≡ record shown { block_offset = end - length; block_length = length } }
 {
     DwexprOperation {
@@ -146,40 +147,46 @@ fn show_operands(operation: Operation<Bytes<'_>>, end: usize, shown: &mut Dwexpr
         } => *shown = DwexprOperation {
             deref_size: u32::from(size),
             flag: u32::from(space),
-            ..typed(kinds::DEREF, base_type.0)
+            ..with_base_type(kinds::DEREF, base_type.0)
         },
-        Operation::Drop => *shown = plain(kinds::DROP),
-        Operation::Pick { index } => *shown = numbered(kinds::PICK, u64::from(index)),
-        Operation::Swap => *shown = plain(kinds::SWAP),
-        Operation::Rot => *shown = plain(kinds::ROT),
-        Operation::Abs => *shown = plain(kinds::ABS),
-        Operation::And => *shown = plain(kinds::AND),
-        Operation::Div => *shown = plain(kinds::DIV),
-        Operation::Minus => *shown = plain(kinds::MINUS),
-        Operation::Mod => *shown = plain(kinds::MOD),
-        Operation::Mul => *shown = plain(kinds::MUL),
-        Operation::Neg => *shown = plain(kinds::NEG),
-        Operation::Not => *shown = plain(kinds::NOT),
-        Operation::Or => *shown = plain(kinds::OR),
-        Operation::Plus => *shown = plain(kinds::PLUS),
-        Operation::PlusConstant { value } => *shown = numbered(kinds::PLUS_CONSTANT, value),
-        Operation::Shl => *shown = plain(kinds::SHL),
-        Operation::Shr => *shown = plain(kinds::SHR),
-        Operation::Shra => *shown = plain(kinds::SHRA),
-        Operation::Xor => *shown = plain(kinds::XOR),
-        Operation::Bra { target } => *shown = signed(kinds::BRA, i64::from(target)),
-        Operation::Eq => *shown = plain(kinds::EQ),
-        Operation::Ge => *shown = plain(kinds::GE),
-        Operation::Gt => *shown = plain(kinds::GT),
-        Operation::Le => *shown = plain(kinds::LE),
-        Operation::Lt => *shown = plain(kinds::LT),
-        Operation::Ne => *shown = plain(kinds::NE),
-        Operation::Skip { target } => *shown = signed(kinds::SKIP, i64::from(target)),
-        Operation::UnsignedConstant { value } => *shown = numbered(kinds::UNSIGNED_CONSTANT, value),
-        Operation::SignedConstant { value } => *shown = signed(kinds::SIGNED_CONSTANT, value),
+        Operation::Drop => *shown = of_kind(kinds::DROP),
+        Operation::Pick { index } => *shown = with_number(kinds::PICK, u64::from(index)),
+        Operation::Swap => *shown = of_kind(kinds::SWAP),
+        Operation::Rot => *shown = of_kind(kinds::ROT),
+        Operation::Abs => *shown = of_kind(kinds::ABS),
+        Operation::And => *shown = of_kind(kinds::AND),
+        Operation::Div => *shown = of_kind(kinds::DIV),
+        Operation::Minus => *shown = of_kind(kinds::MINUS),
+        Operation::Mod => *shown = of_kind(kinds::MOD),
+        Operation::Mul => *shown = of_kind(kinds::MUL),
+        Operation::Neg => *shown = of_kind(kinds::NEG),
+        Operation::Not => *shown = of_kind(kinds::NOT),
+        Operation::Or => *shown = of_kind(kinds::OR),
+        Operation::Plus => *shown = of_kind(kinds::PLUS),
+        Operation::PlusConstant { value } => *shown = with_number(kinds::PLUS_CONSTANT, value),
+        Operation::Shl => *shown = of_kind(kinds::SHL),
+        Operation::Shr => *shown = of_kind(kinds::SHR),
+        Operation::Shra => *shown = of_kind(kinds::SHRA),
+        Operation::Xor => *shown = of_kind(kinds::XOR),
+        Operation::Bra { target } => *shown = with_signed_number(kinds::BRA, i64::from(target)),
+        Operation::Eq => *shown = of_kind(kinds::EQ),
+        Operation::Ge => *shown = of_kind(kinds::GE),
+        Operation::Gt => *shown = of_kind(kinds::GT),
+        Operation::Le => *shown = of_kind(kinds::LE),
+        Operation::Lt => *shown = of_kind(kinds::LT),
+        Operation::Ne => *shown = of_kind(kinds::NE),
+        Operation::Skip { target } => *shown = with_signed_number(kinds::SKIP, i64::from(target)),
+        Operation::UnsignedConstant { value } => *shown = with_number(
+            kinds::UNSIGNED_CONSTANT,
+            value,
+        ),
+        Operation::SignedConstant { value } => *shown = with_signed_number(
+            kinds::SIGNED_CONSTANT,
+            value,
+        ),
         Operation::Register { register } => *shown = DwexprOperation {
             register_number: u32::from(register.0),
-            ..plain(kinds::REGISTER)
+            ..of_kind(kinds::REGISTER)
         },
         Operation::RegisterOffset {
             register,
@@ -188,74 +195,83 @@ fn show_operands(operation: Operation<Bytes<'_>>, end: usize, shown: &mut Dwexpr
         } => *shown = DwexprOperation {
             register_number: u32::from(register.0),
             signed_number: offset,
-            ..typed(kinds::REGISTER_OFFSET, base_type.0)
+            ..with_base_type(kinds::REGISTER_OFFSET, base_type.0)
         },
-        Operation::FrameOffset { offset } => *shown = signed(kinds::FRAME_OFFSET, offset),
-        Operation::Nop => *shown = plain(kinds::NOP),
-        Operation::PushObjectAddress => *shown = plain(kinds::PUSH_OBJECT_ADDRESS),
+        Operation::FrameOffset { offset } => *shown = with_signed_number(
+            kinds::FRAME_OFFSET,
+            offset,
+        ),
+        Operation::Nop => *shown = of_kind(kinds::NOP),
+        Operation::PushObjectAddress => *shown = of_kind(kinds::PUSH_OBJECT_ADDRESS),
         Operation::Call {
             offset: DieReference::UnitRef(offset),
-        } => *shown = numbered(kinds::CALL, offset.0 as u64),
+        } => *shown = with_number(kinds::CALL, offset.0 as u64),
         Operation::Call {
             offset: DieReference::DebugInfoRef(offset),
         } => *shown = DwexprOperation {
             flag: 1,
-            ..numbered(kinds::CALL, offset.0 as u64)
+            ..with_number(kinds::CALL, offset.0 as u64)
         },
-        Operation::TLS => *shown = plain(kinds::TLS),
-        Operation::CallFrameCFA => *shown = plain(kinds::CALL_FRAME_CFA),
+        Operation::TLS => *shown = of_kind(kinds::TLS),
+        Operation::CallFrameCFA => *shown = of_kind(kinds::CALL_FRAME_CFA),
         Operation::Piece {
             size_in_bits,
             bit_offset: None,
-        } => *shown = numbered(kinds::PIECE, size_in_bits),
+        } => *shown = with_number(kinds::PIECE, size_in_bits),
         Operation::Piece {
             size_in_bits,
             bit_offset: Some(bit_offset),
         } => *shown = DwexprOperation {
             flag: 1,
             detail: bit_offset,
-            ..numbered(kinds::PIECE, size_in_bits)
+            ..with_number(kinds::PIECE, size_in_bits)
         },
-        Operation::ImplicitValue { bytes } => *shown = blocked(
-            plain(kinds::IMPLICIT_VALUE),
+        Operation::ImplicitValue { bytes } => *shown = with_block(
+            of_kind(kinds::IMPLICIT_VALUE),
             bytes.len(),
             end,
         ),
-        Operation::StackValue => *shown = plain(kinds::STACK_VALUE),
+        Operation::StackValue => *shown = of_kind(kinds::STACK_VALUE),
         Operation::ImplicitPointer { value, byte_offset } => *shown = DwexprOperation {
             signed_number: byte_offset,
-            ..numbered(kinds::IMPLICIT_POINTER, value.0 as u64)
+            ..with_number(kinds::IMPLICIT_POINTER, value.0 as u64)
         },
-        Operation::EntryValue { expression } => *shown = blocked(
-            plain(kinds::ENTRY_VALUE),
+        Operation::EntryValue { expression } => *shown = with_block(
+            of_kind(kinds::ENTRY_VALUE),
             expression.len(),
             end,
         ),
-        Operation::ParameterRef { offset } => *shown = numbered(
+        Operation::ParameterRef { offset } => *shown = with_number(
             kinds::PARAMETER_REF,
             offset.0 as u64,
         ),
-        Operation::Address { address } => *shown = numbered(kinds::ADDRESS, address),
-        Operation::AddressIndex { index } => *shown = numbered(
+        Operation::Address { address } => *shown = with_number(kinds::ADDRESS, address),
+        Operation::AddressIndex { index } => *shown = with_number(
             kinds::ADDRESS_INDEX,
             index.0 as u64,
         ),
-        Operation::ConstantIndex { index } => *shown = numbered(
+        Operation::ConstantIndex { index } => *shown = with_number(
             kinds::CONSTANT_INDEX,
             index.0 as u64,
         ),
-        Operation::TypedLiteral { base_type, value } => *shown = blocked(
-            typed(kinds::TYPED_LITERAL, base_type.0),
+        Operation::TypedLiteral { base_type, value } => *shown = with_block(
+            with_base_type(kinds::TYPED_LITERAL, base_type.0),
             value.len(),
             end,
         ),
-        Operation::Convert { base_type } => *shown = typed(kinds::CONVERT, base_type.0),
-        Operation::Reinterpret { base_type } => *shown = typed(kinds::REINTERPRET, base_type.0),
-        Operation::Uninitialized => *shown = plain(kinds::UNINITIALIZED),
-        Operation::WasmLocal { index } => *shown = numbered(kinds::WASM_LOCAL, u64::from(index)),
-        Operation::WasmGlobal { index } => *shown = numbered(kinds::WASM_GLOBAL, u64::from(index)),
-        Operation::WasmStack { index } => *shown = numbered(kinds::WASM_STACK, u64::from(index)),
-        Operation::VariableValue { offset } => *shown = numbered(
+        Operation::Convert { base_type } => *shown = with_base_type(kinds::CONVERT, base_type.0),
+        Operation::Reinterpret { base_type } => *shown = with_base_type(
+            kinds::REINTERPRET,
+            base_type.0,
+        ),
+        Operation::Uninitialized => *shown = of_kind(kinds::UNINITIALIZED),
+        Operation::WasmLocal { index } => *shown = with_number(kinds::WASM_LOCAL, u64::from(index)),
+        Operation::WasmGlobal { index } => *shown = with_number(
+            kinds::WASM_GLOBAL,
+            u64::from(index),
+        ),
+        Operation::WasmStack { index } => *shown = with_number(kinds::WASM_STACK, u64::from(index)),
+        Operation::VariableValue { offset } => *shown = with_number(
             kinds::VARIABLE_VALUE,
             offset.0 as u64,
         ),
@@ -272,7 +288,7 @@ pub(crate) fn show(
 )
     requires { offset + size < 2 ^ 64 }
     ensures { shown.new
-        ≡ decoded offset opcode size (operation_of slice_text (λ x. x) operation.entry) }
+        ≡ decoded_operation offset opcode size (operation_of slice_text (λ x. x) operation.entry) }
 {
     show_operands(operation, offset + size, shown);
     shown.offset = offset;

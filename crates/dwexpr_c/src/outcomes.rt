@@ -1,7 +1,7 @@
 ghost use Rattle.std.specs.Prelude.{◌≡◌, true, false};
 ghost use Rattle.dwarf_eval.specs.Evaluation.{ok_reply};
 ghost use Rattle.dwexpr_c.specs.Outcomes.{ShowsReply, request_outcome, complete_outcome, ended_outcome};
-ghost use Rattle.dwexpr_c.specs.Texts.{text_of_placed, AsksNowhere};
+ghost use Rattle.dwexpr_c.specs.CallerTexts.{text_of_placed, AsksNowhere};
 
 use crate::faults::{FaultNumbers, OK};
 use crate::places::Placed;
@@ -50,7 +50,7 @@ pub struct DwexprOutcome {
     pub pieces: usize,
 }
 
-pub(crate) const UNTOLD: DwexprOutcome = DwexprOutcome {
+pub(crate) const BLANK: DwexprOutcome = DwexprOutcome {
     code: OK,
     request: 0,
     detail: 0,
@@ -77,28 +77,28 @@ pub(crate) fn show_end(fault: FaultNumbers, step: usize) -> DwexprOutcome
         code: fault.code,
         detail: fault.number,
         step,
-        ..UNTOLD
+        ..BLANK
     }
 }
 
-fn asking(request: u32, number: u64) -> DwexprOutcome
+fn request_outcome(request: u32, number: u64) -> DwexprOutcome
     ensures { result ≡ request_outcome request number }
 {
     DwexprOutcome {
         request,
         number,
-        ..UNTOLD
+        ..BLANK
     }
 }
 
 /// A request of memory.
-fn asking_memory(address: u64, size: u8, base_type: usize) -> DwexprOutcome
+fn memory_outcome(address: u64, size: u8, base_type: usize) -> DwexprOutcome
     ensures { result ≡ record (request_outcome 2 address) { size = size; base_type = base_type } }
 {
     DwexprOutcome {
         size: u32::from(size),
         base_type: base_type as u64,
-        ..asking(2, address)
+        ..request_outcome(2, address)
     }
 }
 
@@ -121,7 +121,7 @@ pub(crate) fn show_request(
             size,
             space: None,
             base_type,
-        } => *outcome = asking_memory(address, size, base_type.0),
+        } => *outcome = memory_outcome(address, size, base_type.0),
         EvaluationResult::RequiresMemory {
             address,
             size,
@@ -130,7 +130,7 @@ pub(crate) fn show_request(
         } => *outcome = DwexprOutcome {
             flag: 1,
             space,
-            ..asking_memory(address, size, base_type.0)
+            ..memory_outcome(address, size, base_type.0)
         },
         EvaluationResult::RequiresRegister {
             register,
@@ -138,19 +138,17 @@ pub(crate) fn show_request(
         } => *outcome = DwexprOutcome {
             register_number: u32::from(register.0),
             base_type: base_type.0 as u64,
-            ..asking(3, 0)
+            ..request_outcome(3, 0)
         },
-        EvaluationResult::RequiresFrameBase => *outcome = asking(4, 0),
-        EvaluationResult::RequiresTls(index) => *outcome = asking(5, index),
-        EvaluationResult::RequiresCallFrameCfa => *outcome = asking(6, 0),
-        EvaluationResult::RequiresAtLocation(DieReference::UnitRef(offset)) => *outcome = asking(
-            7,
-            offset.0 as u64,
-        ),
+        EvaluationResult::RequiresFrameBase => *outcome = request_outcome(4, 0),
+        EvaluationResult::RequiresTls(index) => *outcome = request_outcome(5, index),
+        EvaluationResult::RequiresCallFrameCfa => *outcome = request_outcome(6, 0),
+        EvaluationResult::RequiresAtLocation(DieReference::UnitRef(offset)) => *outcome =
+            request_outcome(7, offset.0 as u64),
         EvaluationResult::RequiresAtLocation(DieReference::DebugInfoRef(offset)) => *outcome =
             DwexprOutcome {
                 flag: 1,
-                ..asking(7, offset.0 as u64)
+                ..request_outcome(7, offset.0 as u64)
             },
         EvaluationResult::RequiresEntryValue(expression) => {
             let Some(place) = place_of(texts, expression.0) else {
@@ -160,22 +158,36 @@ pub(crate) fn show_request(
                 block_text: place.text,
                 block_offset: place.offset,
                 block_length: expression.0.len(),
-                ..asking(8, 0)
+                ..request_outcome(8, 0)
             };
         }
-        EvaluationResult::RequiresParameterRef(offset) => *outcome = asking(9, offset.0 as u64),
-        EvaluationResult::RequiresRelocatedAddress(address) => *outcome = asking(10, address),
+        EvaluationResult::RequiresParameterRef(offset) => *outcome = request_outcome(
+            9,
+            offset.0 as u64,
+        ),
+        EvaluationResult::RequiresRelocatedAddress(address) => *outcome = request_outcome(
+            10, address,
+        ),
         EvaluationResult::RequiresIndexedAddress { index, relocate } => *outcome = DwexprOutcome {
             flag: u32::from(relocate),
-            ..asking(11, index.0 as u64)
+            ..request_outcome(11, index.0 as u64)
         },
         EvaluationResult::RequiresBaseType(offset) => *outcome = DwexprOutcome {
             base_type: offset.0 as u64,
-            ..asking(12, 0)
+            ..request_outcome(12, 0)
         },
-        EvaluationResult::RequiresWasmLocal { index } => *outcome = asking(13, u64::from(index)),
-        EvaluationResult::RequiresWasmGlobal { index } => *outcome = asking(14, u64::from(index)),
-        EvaluationResult::RequiresWasmStack { index } => *outcome = asking(15, u64::from(index)),
+        EvaluationResult::RequiresWasmLocal { index } => *outcome = request_outcome(
+            13,
+            u64::from(index),
+        ),
+        EvaluationResult::RequiresWasmGlobal { index } => *outcome = request_outcome(
+            14,
+            u64::from(index),
+        ),
+        EvaluationResult::RequiresWasmStack { index } => *outcome = request_outcome(
+            15,
+            u64::from(index),
+        ),
     }
     true
 }
@@ -186,7 +198,7 @@ pub(crate) fn show_complete(pieces: usize, value: Option<Value>) -> DwexprOutcom
 {
     let complete = DwexprOutcome {
         pieces,
-        ..asking(1, 0)
+        ..request_outcome(1, 0)
     };
     match value {
         None => complete,

@@ -1,8 +1,8 @@
 ghost use Rattle.std.specs.Prelude.{◌≡◌, is_some, true, false, map, option_map, slice_get, unwrap_or};
 ghost use Rattle.dwarf_op.specs.Views.{location_of, piece_of};
-ghost use Rattle.dwexpr_c.specs.Operations.{flag_of};
-ghost use Rattle.dwexpr_c.specs.Outcomes.{AreWritten, ShowsLocation, sized};
-ghost use Rattle.dwexpr_c.specs.Texts.{text_of_placed, HoldsNowhere, SomeNowhere};
+ghost use Rattle.dwexpr_c.specs.CodedOperations.{flag_of};
+ghost use Rattle.dwexpr_c.specs.Outcomes.{AreWritten, ShowsLocation, piece_of_kind};
+ghost use Rattle.dwexpr_c.specs.CallerTexts.{text_of_placed, HoldsNowhere, SomeNowhere};
 
 use crate::places::Placed;
 use crate::steps::{DwexprText, place_of};
@@ -38,8 +38,8 @@ pub struct DwexprPiece {
     pub block_length: usize,
 }
 
-fn sized(kind: u32, size_in_bits: Option<u64>, bit_offset: Option<u64>) -> DwexprPiece
-    ensures { result ≡ sized kind size_in_bits bit_offset }
+fn piece_of_kind(kind: u32, size_in_bits: Option<u64>, bit_offset: Option<u64>) -> DwexprPiece
+    ensures { result ≡ piece_of_kind kind size_in_bits bit_offset }
 {
     DwexprPiece {
         kind,
@@ -71,21 +71,21 @@ fn show_location(
         → HoldsNowhere texts.now (location_of text_of_placed (λ x. x) location.entry) }
 {
     match location {
-        Location::Empty => *shown = sized(1, size, offset),
+        Location::Empty => *shown = piece_of_kind(1, size, offset),
         Location::Register { register } => *shown = DwexprPiece {
             number: u64::from(register.0),
-            ..sized(2, size, offset)
+            ..piece_of_kind(2, size, offset)
         },
         Location::Address { address } => *shown = DwexprPiece {
             number: address,
-            ..sized(3, size, offset)
+            ..piece_of_kind(3, size, offset)
         },
         Location::Value { value } => {
             let numbers = numbers_of_value(value);
             *shown = DwexprPiece {
                 value_type: numbers.value_type,
                 number: numbers.content,
-                ..sized(4, size, offset)
+                ..piece_of_kind(4, size, offset)
             };
         }
         Location::Bytes { value } => {
@@ -96,13 +96,13 @@ fn show_location(
                 block_text: place.text,
                 block_offset: place.offset,
                 block_length: value.len(),
-                ..sized(5, size, offset)
+                ..piece_of_kind(5, size, offset)
             };
         }
         Location::ImplicitPointer { value, byte_offset } => *shown = DwexprPiece {
             number: value.0 as u64,
             byte_offset,
-            ..sized(6, size, offset)
+            ..piece_of_kind(6, size, offset)
         },
     }
     true

@@ -1,7 +1,7 @@
 ghost use Rattle.std.specs.Prelude.{◌≡◌, ◌==◌, ◌≤◌, ◌-◌, ◌/◌, ◌%◌, ◌^◌, length, drop};
 ghost use Rattle.dwarf_base.specs.ByteOrder.{is_big_of};
 ghost use Rattle.dwarf_base.specs.EndianSlice.{slice_bytes, slice_order};
-ghost use Rattle.dwexpr_c.specs.Texts.{text_of_placed};
+ghost use Rattle.dwexpr_c.specs.CallerTexts.{text_of_placed};
 
 use dwarf_base::{EndianSlice, Reader, Result, RunTimeEndian};
 

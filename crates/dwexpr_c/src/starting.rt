@@ -4,14 +4,14 @@ ghost use Rattle.dwexpr_c.specs.Encodings.{IsEncoding, encoding_in, is_big_in};
 ghost use Rattle.dwexpr_c.specs.Evaluated.{EvaluatesGiven, EvaluatesFirst, beginning};
 ghost use Rattle.dwexpr_c.specs.Held.{HasCapacities, StandsAfter, StandsAfterFirst};
 ghost use Rattle.dwexpr_c.specs.Outcomes.{ended_outcome};
-ghost use Rattle.dwexpr_c.specs.Texts.{text_at, text_of_placed};
+ghost use Rattle.dwexpr_c.specs.CallerTexts.{text_at, text_of_placed};
 ghost use Rattle.dwexpr_c.specs.inner.Runs.{IsGiven};
 ghost use Rattle.dwexpr_c.specs.declared.faults.TheConstants as codes;
 
 use crate::encodings::{DwexprEncoding, Reading, reading_of};
 use crate::evaluating::evaluate_steps;
-use crate::faults::{BAD_ENCODING, BAD_TEXT, plain};
-use crate::held::{Held, unstarted};
+use crate::faults::{BAD_ENCODING, BAD_TEXT, code_alone};
+use crate::held::{Held, fresh_held};
 use crate::outcomes::{DwexprOutcome, show_end};
 use crate::pieces::DwexprPiece;
 use crate::places::Placed;
@@ -75,9 +75,9 @@ pub(crate) fn start<'a>(
         steps.now held.old held.new outcome.new }
 {
     match reading_of(numbers) {
-        None => *outcome = show_end(plain(BAD_ENCODING), 0),
+        None => *outcome = show_end(code_alone(BAD_ENCODING), 0),
         Some(reading) => match text_at(texts, reading.order, 0) {
-            None => *outcome = show_end(plain(BAD_TEXT), 0),
+            None => *outcome = show_end(code_alone(BAD_TEXT), 0),
             Some(text) => start_text(held, texts, text, reading, steps, outcome, places),
         },
     }
@@ -104,6 +104,6 @@ pub extern "C" fn dwexpr_evaluate(
         → EvaluatesFirst (encoding_in encoding) (text_at (is_big_in encoding) texts.now 0) texts.now
         steps.now outcome.new pieces.old pieces.new }
 {
-    start(&mut unstarted(), texts, encoding, steps, outcome, pieces);
+    start(&mut fresh_held(), texts, encoding, steps, outcome, pieces);
     outcome.code
 }

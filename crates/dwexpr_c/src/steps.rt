@@ -2,8 +2,8 @@ ghost use Rattle.std.specs.Prelude.{ℕ, ◌≡◌, Some, None, IfSome, IfNone, 
 ghost use Rattle.dwarf_base.specs.ByteOrder.{is_big_of};
 ghost use Rattle.dwarf_replay.specs.Stepping as stepping;
 ghost use Rattle.dwexpr_c.specs.Outcomes.{step_coded};
-ghost use Rattle.dwexpr_c.specs.Values.{value_coded};
-ghost use Rattle.dwexpr_c.specs.Texts.{IsAt, IsPlaced, text_at, text_of_placed, IsNowhere};
+ghost use Rattle.dwexpr_c.specs.CodedValues.{value_coded};
+ghost use Rattle.dwexpr_c.specs.CallerTexts.{IsAt, IsPlaced, text_at, text_of_placed, IsNowhere};
 ghost use Rattle.dwexpr_c.specs.inner.Runs.{IsGiven};
 ghost use Rattle.dwexpr_c.specs.declared.faults.TheConstants as codes;
 

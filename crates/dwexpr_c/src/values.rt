@@ -1,5 +1,5 @@
 ghost use Rattle.std.specs.Prelude.{◌≡◌};
-ghost use Rattle.dwexpr_c.specs.Values.{shown_value, type_code, type_coded, value_coded};
+ghost use Rattle.dwexpr_c.specs.CodedValues.{shown_value, type_code, type_coded, value_coded};
 
 use dwarf_value::{Value, ValueType};
 

@@ -2,7 +2,7 @@
 use Rattle.std.specs.Prelude.{ℕ, List, Option, Some, None, ◌*◌, ◌-◌, ◌≡◌, length, reverse, map}
 use Rattle.std.specs.List.{AllByRecursion}
 use Rattle.dwarf_base.specs.declared.common.Encoding.{Encoding}
-use Rattle.dwarf_base.specs.Reads.{IsLeftOf, Text}
+use Rattle.dwarf_base.specs.Reads.{IsRestOf, Text}
 use Rattle.dwarf_value.specs.declared.types.Value.{Value}
 use Rattle.dwarf_value.specs.Values as meant_value
 use Rattle.dwarf_value.specs.Values.{IsAddressMask, width_of}
@@ -84,8 +84,8 @@ pub record IsSound {R : Type 0} (text : R → Text) (encoding : Encoding) (addr_
     (readers : List (R × R)) : Type 0 where
   pub mask : IsAddressMask addr_mask
   pub width : width_of addr_mask ≡ 8 * encoding.address_size
-  pub here : IsLeftOf (text left) (text whole)
-  pub callers : AllByRecursion (λ (f : R × R). IsLeftOf (text f.0) (text f.1)) readers
+  pub here : IsRestOf (text left) (text whole)
+  pub callers : AllByRecursion (λ (f : R × R). IsRestOf (text f.0) (text f.1)) readers
 
 -- an operator on one value, as the definitions have it
 abbrev pub operator_of : UnaryOperator → meant_value.UnaryOperator

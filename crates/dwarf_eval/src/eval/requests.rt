@@ -1,6 +1,6 @@
 ghost use Rattle.std.specs.Prelude.{◌≡◌, IfOk, option_map};
 ghost use Rattle.dwarf_meaning.specs.Kinds.{kind_of_request};
-ghost use Rattle.dwarf_eval.specs.inner.Steps.{HasReply};
+ghost use Rattle.dwarf_eval.specs.inner.StateChanges.{HasReply};
 ghost use Rattle.dwarf_eval.specs.Permits.{Admits};
 ghost use Rattle.dwarf_eval.specs.Evaluation.{IsReplied, reply_of, request_in};
 ghost use Rattle.dwarf_eval.specs.inner.Answers.{IsAtRest, IsEndedBy};

@@ -1,6 +1,6 @@
 ghost use Rattle.std.specs.Prelude.{◌≡◌, ◌-◌, length};
 ghost use Rattle.std.specs.Iterator.{item_count};
-ghost use Rattle.dwarf_base.specs.Reads.{IsLeftOf, IsSuffix};
+ghost use Rattle.dwarf_base.specs.Reads.{IsRestOf, IsSuffix};
 ghost use Rattle.dwarf_meaning.specs.Decoding.{operation_at};
 ghost use Rattle.dwarf_meaning.specs.Splitting.{items_at};
 ghost use Rattle.dwarf_eval.specs.Iteration.{unread_of, encoding_of, items_left, GivesFirst, GivesNext, GivesItem};
@@ -44,7 +44,7 @@ impl<R: Reader + Copy> OperationIter<R> {
             (R.text (unread_of self.new)).bytes (R.text (unread_of self.old)).bytes
             (operation_at (encoding_of self.old) R.Offset.BITS
             (R.text (unread_of self.old))) }
-        ensures left { IsLeftOf (R.text (unread_of self.new)) (R.text (unread_of self.old)) }
+        ensures left { IsRestOf (R.text (unread_of self.new)) (R.text (unread_of self.old)) }
         ensures encoding { encoding_of self.new ≡ encoding_of self.old }
         ensures items { GivesItem (operation_of R.text R.Offset.number) result
             (items_left R.text R.Offset.BITS self.new)

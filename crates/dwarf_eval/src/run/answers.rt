@@ -7,7 +7,7 @@ ghost use Rattle.dwarf_eval.specs.Permits.{IsOpenFor};
 ghost use Rattle.dwarf_eval.specs.inner.Answers.{IsWaiting, answer_of};
 ghost use Rattle.dwarf_eval.specs.inner.Machine.{on_answer_of};
 ghost use Rattle.dwarf_meaning.specs.Inputs.{input_of, with_status};
-ghost use Rattle.dwarf_eval.specs.inner.Steps.{Comes, HasReply, Takes, Tried, total_after, with_last};
+ghost use Rattle.dwarf_eval.specs.inner.StateChanges.{Comes, HasReply, Takes, Tried, total_after, with_last};
 
 use crate::run::machine::Machine;
 use crate::run::states::{Given, OnAnswer};

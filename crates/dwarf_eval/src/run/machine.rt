@@ -1,5 +1,5 @@
 ghost use Rattle.std.specs.Prelude.{◌≡◌, ◌<◌, ◌≤◌, ◌+◌, ◌*◌, [], None, Some, Err, map, length, slice_get, false, true, OnOk, IfOk, IfErr};
-ghost use Rattle.dwarf_base.specs.Reads.{IsLeftOf, Reads};
+ghost use Rattle.dwarf_base.specs.Reads.{IsRestOf, Reads};
 ghost use Rattle.dwarf_base.specs.Faults.{fault_of};
 ghost use Rattle.dwarf_base.specs.declared.errors.Error.TheVariants.{StackFull, TooManyIterations};
 ghost use Rattle.dwarf_value.specs.Values.{IsAddressMask, width_of};
@@ -13,7 +13,7 @@ ghost use Rattle.dwarf_op.specs.Views.{operation_of, location_of, piece_of};
 ghost use Rattle.dwarf_meaning.specs.Inputs.{fresh_state, with_maximum, with_object, with_status};
 ghost use Rattle.dwarf_eval.specs.Evaluation.{request_in};
 ghost use Rattle.dwarf_eval.specs.inner.Machine.{last_of, on_answer_of, replied_status, status_of};
-ghost use Rattle.dwarf_eval.specs.inner.Steps.{CountsOne, GoesBack, Jumps, Pops, PopsGeneric, PopsGenerics, ReadsOperation, Tries, TriesToEnter, at, is_free, is_running, read_to, with_last};
+ghost use Rattle.dwarf_eval.specs.inner.StateChanges.{CountsOne, GoesBack, Jumps, Pops, PopsGeneric, PopsGenerics, ReadsOperation, Tries, TriesToEnter, at, is_free, is_running, read_to, with_last};
 
 use crate::op::EvaluationResult;
 use crate::run::states::{EvaluationState, LastOperation, OnAnswer};
@@ -92,7 +92,7 @@ impl<R: Reader + Copy, S: EvaluationStorage<R>> Machine<R, S> {
     /// Keeps the fault of a maximum that is reached.
     #[cold]
     #[inline(never)]
-    fn fail_spent(&mut self)
+    fn fail_too_many(&mut self)
         ensures { self.new ≡ with_status (FaultStatus TooManyIterations) self.old }
     {
         self.fail(Error::TooManyIterations);
@@ -177,7 +177,7 @@ impl<R: Reader + Copy, S: EvaluationStorage<R>> Machine<R, S> {
         ensures { CountsOne self.old self.new result }
     {
         if self.iteration >= self.max_iterations {
-            self.fail_spent();
+            self.fail_too_many();
             return false;
         }
         self.iteration += 1;
@@ -373,18 +373,18 @@ impl<R: Reader + Copy, S: EvaluationStorage<R>> Machine<R, S> {
 
     /// The place that is before what is left of the running text.
     #[inline(always)]
-    pub(crate) fn place_of(&self, left: R) -> R::Offset
-        requires { IsLeftOf (R.text left) self.now.text }
-        ensures value { R.Offset.number result ≡ (at (R.text left).bytes self.now).place }
+    pub(crate) fn place_of(&self, rest: R) -> R::Offset
+        requires { IsRestOf (R.text rest) self.now.text }
+        ensures value { R.Offset.number result ≡ (at (R.text rest).bytes self.now).place }
         ensures bits { self.now.setup.offset_bits ≡ R.Offset.BITS }
     {
-        left.offset_from(&self.running.1)
+        rest.offset_from(&self.running.1)
     }
 
     /// What is left of the running text.
     #[inline(always)]
-    pub(crate) fn left(&self) -> R
-        ensures rest { IsLeftOf (R.text result) self.now.text }
+    pub(crate) fn rest(&self) -> R
+        ensures rest { IsRestOf (R.text result) self.now.text }
         ensures here { at (R.text result).bytes self.now ≡ self.now }
     {
         self.running.0
@@ -392,45 +392,45 @@ impl<R: Reader + Copy, S: EvaluationStorage<R>> Machine<R, S> {
 
     /// Goes to what is left of the running text.
     #[inline(always)]
-    pub(crate) fn go_to(&mut self, left: R)
-        requires { IsLeftOf (R.text left) self.old.text }
-        ensures { self.new ≡ at (R.text left).bytes self.old }
+    pub(crate) fn go_to(&mut self, rest: R)
+        requires { IsRestOf (R.text rest) self.old.text }
+        ensures { self.new ≡ at (R.text rest).bytes self.old }
     {
-        self.running.0 = left;
+        self.running.0 = rest;
     }
 
     /// Reads an operation, and counts that. Nothing else of an evaluation decodes, and nothing else raises the count.
     #[inline(always)]
     fn read_operation(
-        left: &mut R,
+        rest: &mut R,
         decodings: &mut Ticks,
         encoding: Encoding,
     ) -> Result<Operation<R>>
-        ensures reads { Reads (operation_of R.text R.Offset.number) (R.text left.old)
-            (R.text left.new) result (operation_at encoding R.Offset.BITS (R.text left.old)) }
+        ensures reads { Reads (operation_of R.text R.Offset.number) (R.text rest.old)
+            (R.text rest.new) result (operation_at encoding R.Offset.BITS (R.text rest.old)) }
         ensures less { OnOk result
-            (length (R.text left.new).bytes < length (R.text left.old).bytes) }
+            (length (R.text rest.new).bytes < length (R.text rest.old).bytes) }
         ensures counted { decodings.new.count ≡ decodings.old.count + 1 }
     {
         decodings.tick();
-        Operation::parse(left, encoding)
+        Operation::parse(rest, encoding)
     }
 
     /// Reads the operation before what is left of the running text.
     #[inline(always)]
-    pub(crate) fn decode(&mut self, left: &mut R) -> Result<Operation<R>>
-        requires { IsLeftOf (R.text left.old) self.old.text }
+    pub(crate) fn decode(&mut self, rest: &mut R) -> Result<Operation<R>>
+        requires { IsRestOf (R.text rest.old) self.old.text }
         ensures ok { IfOk result
             (λ operation. ReadsOperation (operation_of R.text R.Offset.number operation)
-            (at (R.text left.old).bytes self.old) (at (R.text left.new).bytes self.new)) }
-        ensures beyond { OnOk result (0 < (at (R.text left.new).bytes self.new).place) }
+            (at (R.text rest.old).bytes self.old) (at (R.text rest.new).bytes self.new)) }
+        ensures beyond { OnOk result (0 < (at (R.text rest.new).bytes self.new).place) }
         ensures err { IfErr result
-            (λ e. read self.old.setup self.old.text (at (R.text left.old).bytes self.old).place
+            (λ e. read self.old.setup self.old.text (at (R.text rest.old).bytes self.old).place
             ≡ Err (fault_of e)) }
         ensures alone { self.new ≡ read_to self.old.place self.old }
-        ensures rest { IsLeftOf (R.text left.new) self.new.text }
+        ensures rest { IsRestOf (R.text rest.new) self.new.text }
     {
-        Self::read_operation(left, &mut self.decodings, self.encoding)
+        Self::read_operation(rest, &mut self.decodings, self.encoding)
     }
 
     /// Reads the operation at the place, and goes after it. What is left of the text is a local meanwhile, so a caller
@@ -445,9 +445,9 @@ impl<R: Reader + Copy, S: EvaluationStorage<R>> Machine<R, S> {
             (λ e. read self.old.setup self.old.text self.old.place ≡ Err (fault_of e)) }
         ensures alone { self.new ≡ read_to self.new.place self.old }
     {
-        let mut left = self.running.0;
-        let operation = Self::read_operation(&mut left, &mut self.decodings, self.encoding);
-        self.running.0 = left;
+        let mut rest = self.running.0;
+        let operation = Self::read_operation(&mut rest, &mut self.decodings, self.encoding);
+        self.running.0 = rest;
         operation
     }
 
@@ -457,11 +457,11 @@ impl<R: Reader + Copy, S: EvaluationStorage<R>> Machine<R, S> {
         if !R::IN_MEMORY {
             return false;
         }
-        let mut left = self.running.0;
-        let Ok(opcode) = left.read_u8() else {
+        let mut rest = self.running.0;
+        let Ok(opcode) = rest.read_u8() else {
             return false;
         };
-        let Ok(size) = left.read_u8() else {
+        let Ok(size) = rest.read_u8() else {
             return false;
         };
         opcode == constants::DW_OP_piece.0 && size < 128
@@ -469,18 +469,18 @@ impl<R: Reader + Copy, S: EvaluationStorage<R>> Machine<R, S> {
 
     /// Goes to a place of the running text, or keeps the fault of a place that it doesn't have.
     #[inline(always)]
-    pub(crate) fn jump(&mut self, place: R::Offset, left: &mut R) -> bool
-        requires { IsLeftOf (R.text left.old) self.old.text }
-        ensures jumps { Jumps (R.Offset.number place) (at (R.text left.old).bytes self.old)
-            (at (R.text left.new).bytes self.new) result }
-        ensures rest { IsLeftOf (R.text left.new) self.new.text }
+    pub(crate) fn jump(&mut self, place: R::Offset, rest: &mut R) -> bool
+        requires { IsRestOf (R.text rest.old) self.old.text }
+        ensures jumps { Jumps (R.Offset.number place) (at (R.text rest.old).bytes self.old)
+            (at (R.text rest.new).bytes self.new) result }
+        ensures rest { IsRestOf (R.text rest.new) self.new.text }
     {
         let mut target = self.running.1;
         let Ok(()) = target.skip(place) else {
             self.fail(Error::BadBranchTarget(place.into_u64()));
             return false;
         };
-        *left = target;
+        *rest = target;
         true
     }
 

@@ -1,5 +1,5 @@
 ghost use Rattle.std.specs.Prelude.{◌≡◌, [], ◌∷◌};
-ghost use Rattle.dwarf_base.specs.Reads.{IsLeftOf};
+ghost use Rattle.dwarf_base.specs.Reads.{IsRestOf};
 ghost use Rattle.dwarf_meaning.specs.Acts.{Branches, Locates, Pushes, FaultAct, binary, push, unary};
 ghost use Rattle.dwarf_meaning.specs.Operations as meaning;
 ghost use Rattle.dwarf_meaning.specs.Requests as requests;
@@ -12,7 +12,7 @@ ghost use Rattle.dwarf_eval.specs.Evaluation.{request_in};
 ghost use Rattle.dwarf_eval.specs.inner.Machine.{on_answer_of};
 ghost use Rattle.dwarf_op.specs.Views.{location_of};
 ghost use Rattle.dwarf_eval.specs.inner.Machine.{operator_of};
-ghost use Rattle.dwarf_eval.specs.inner.Steps.{Asks, Performs, PopsNumber, PushesAllPlain, PushesPlain, Tries, act_of, at};
+ghost use Rattle.dwarf_eval.specs.inner.StateChanges.{Asks, Performs, PopsNumber, PushesAllPlain, PushesPlain, Tries, act_of, at};
 
 use crate::op::EvaluationResult;
 use crate::run::binary::BinaryOperator;
@@ -325,26 +325,26 @@ impl<R: Reader + Copy, S: EvaluationStorage<R>> Machine<R, S> {
 
     /// Goes on this many bytes after the operation.
     #[inline(always)]
-    pub(crate) fn take_branch(&mut self, target: i16, left: &mut R)
+    pub(crate) fn take_branch(&mut self, target: i16, rest: &mut R)
         requires runs { self.old.status ≡ Running }
-        requires rest { IsLeftOf (R.text left.old) self.old.text }
+        requires rest { IsRestOf (R.text rest.old) self.old.text }
         ensures performs { Performs (Branches self.old.store.values target)
-            (at (R.text left.old).bytes self.old) (at (R.text left.new).bytes self.new) }
-        ensures rest { IsLeftOf (R.text left.new) self.new.text }
+            (at (R.text rest.old).bytes self.old) (at (R.text rest.new).bytes self.new) }
+        ensures rest { IsRestOf (R.text rest.new) self.new.text }
     {
         self.mark_plain();
-        let place = self.place_of(*left);
-        self.jump(place.wrapping_add(R::Offset::from_i16(target)), left);
+        let place = self.place_of(*rest);
+        self.jump(place.wrapping_add(R::Offset::from_i16(target)), rest);
     }
 
     /// Branches if the top isn't zero.
     #[inline(always)]
-    pub(crate) fn branch_if(&mut self, target: i16, left: &mut R)
+    pub(crate) fn branch_if(&mut self, target: i16, rest: &mut R)
         requires runs { self.old.status ≡ Running }
-        requires rest { IsLeftOf (R.text left.old) self.old.text }
+        requires rest { IsRestOf (R.text rest.old) self.old.text }
         ensures performs { Performs (act_of self.old (meaning.Bra target))
-            (at (R.text left.old).bytes self.old) (at (R.text left.new).bytes self.new) }
-        ensures rest { IsLeftOf (R.text left.new) self.new.text }
+            (at (R.text rest.old).bytes self.old) (at (R.text rest.new).bytes self.new) }
+        ensures rest { IsRestOf (R.text rest.new) self.new.text }
     {
         let Some(number) = self.pop_number() else {
             self.fall_short();
@@ -354,7 +354,7 @@ impl<R: Reader + Copy, S: EvaluationStorage<R>> Machine<R, S> {
             self.pass();
             return;
         }
-        self.take_branch(target, left)
+        self.take_branch(target, rest)
     }
 
     /// Lets a location wait for its piece.

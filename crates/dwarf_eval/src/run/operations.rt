@@ -1,9 +1,9 @@
 //! The method of each operation.
 
 ghost use Rattle.std.specs.Prelude.{◌≡◌};
-ghost use Rattle.dwarf_base.specs.Reads.{IsLeftOf};
+ghost use Rattle.dwarf_base.specs.Reads.{IsRestOf};
 ghost use Rattle.dwarf_meaning.specs.Rest.{Running};
-ghost use Rattle.dwarf_eval.specs.inner.Steps.{IsNoBranch, Performs, act_of, at};
+ghost use Rattle.dwarf_eval.specs.inner.StateChanges.{IsNoBranch, Performs, act_of, at};
 ghost use Rattle.dwarf_op.specs.Views.{operation_of};
 
 use crate::op::EvaluationResult::{
@@ -25,17 +25,17 @@ impl<R: Reader + Copy, S: EvaluationStorage<R>> Machine<R, S> {
     /// Does an operation, before what is left of the text.
     #[inline(always)]
     #[tactic(auto, using(crate::proofs::Placing::left_there))]
-    pub(crate) fn operate(&mut self, operation: Operation<R>, left: &mut R)
+    pub(crate) fn operate(&mut self, operation: Operation<R>, rest: &mut R)
         requires runs { self.old.status ≡ Running }
-        requires rest { IsLeftOf (R.text left.old) self.old.text }
+        requires rest { IsRestOf (R.text rest.old) self.old.text }
         ensures performs { Performs
             (act_of self.old (operation_of R.text R.Offset.number operation))
-            (at (R.text left.old).bytes self.old) (at (R.text left.new).bytes self.new) }
-        ensures rest { IsLeftOf (R.text left.new) self.new.text }
+            (at (R.text rest.old).bytes self.old) (at (R.text rest.new).bytes self.new) }
+        ensures rest { IsRestOf (R.text rest.new) self.new.text }
     {
         match operation {
-            Operation::Bra { target } => self.branch_if(target, left),
-            Operation::Skip { target } => self.take_branch(target, left),
+            Operation::Bra { target } => self.branch_if(target, rest),
+            Operation::Skip { target } => self.take_branch(target, rest),
             _ => self.operate_in_place(operation),
         }
     }

@@ -1,5 +1,5 @@
 ghost use Rattle.std.specs.Prelude.{◌≡◌, ◌<◌, length, false};
-ghost use Rattle.dwarf_base.specs.Reads.{IsLeftOf};
+ghost use Rattle.dwarf_base.specs.Reads.{IsRestOf};
 ghost use Rattle.dwarf_meaning.specs.Operations as meant;
 ghost use Rattle.dwarf_meaning.specs.Meaning.{whole as meant_whole, finish, finish_value};
 ghost use Rattle.dwarf_eval.specs.inner.Answers.{IsAtRestBy};
@@ -9,7 +9,7 @@ ghost use Rattle.dwarf_meaning.specs.Stores.{Located, address_bits};
 ghost use Rattle.dwarf_meaning.specs.Locations.{AtAddress};
 ghost use Rattle.dwarf_value.specs.Values.{to_u64_of};
 ghost use Rattle.dwarf_op.specs.Views.{operation_of, location_of, piece_of};
-ghost use Rattle.dwarf_eval.specs.inner.Steps.{Closes, Comes, CompletesWith, EndsLocated, HasReply, IsReady, Turns, at, goes_on, is_free, total};
+ghost use Rattle.dwarf_eval.specs.inner.StateChanges.{Closes, Comes, CompletesWith, EndsLocated, HasReply, IsReady, Turns, at, goes_on, is_free, total};
 
 use crate::run::machine::Machine;
 use crate::run::states::LastOperation;
@@ -33,29 +33,29 @@ fn whole<R: Reader + Copy>(location: Location<R>) -> Piece<R>
 
 impl<R: Reader + Copy, S: EvaluationStorage<R>> Machine<R, S> {
     /// Counts the operation before what is left, and does it.
-    fn perform(&mut self, left: &mut R)
-        requires ready { IsReady (at (R.text left.old).bytes self.old) }
-        requires rest { IsLeftOf (R.text left.old) self.old.text }
-        ensures turns { Turns (at (R.text left.old).bytes self.old)
-            (at (R.text left.new).bytes self.new) }
-        ensures rest { IsLeftOf (R.text left.new) self.new.text }
+    fn perform(&mut self, rest: &mut R)
+        requires ready { IsReady (at (R.text rest.old).bytes self.old) }
+        requires rest { IsRestOf (R.text rest.old) self.old.text }
+        ensures turns { Turns (at (R.text rest.old).bytes self.old)
+            (at (R.text rest.new).bytes self.new) }
+        ensures rest { IsRestOf (R.text rest.new) self.new.text }
     {
         if !self.count() {
             return;
         }
-        match self.decode(left) {
-            Ok(operation) => self.operate(operation, left),
+        match self.decode(rest) {
+            Ok(operation) => self.operate(operation, rest),
             Err(error) => self.fail(error),
         }
     }
 
     /// Whether the operation before what is left comes next.
     #[inline(always)]
-    fn goes_on(&self, left: R) -> bool
-        requires { IsLeftOf (R.text left) self.now.text }
-        ensures { result ≡ goes_on (at (R.text left).bytes self.now) }
+    fn goes_on(&self, rest: R) -> bool
+        requires { IsRestOf (R.text rest) self.now.text }
+        ensures { result ≡ goes_on (at (R.text rest).bytes self.now) }
     {
-        self.is_running() && self.is_free() && !left.is_empty()
+        self.is_running() && self.is_free() && !rest.is_empty()
     }
 
     /// Does operations until something else comes next. What is left of the text is a local meanwhile.
@@ -64,13 +64,13 @@ impl<R: Reader + Copy, S: EvaluationStorage<R>> Machine<R, S> {
         requires { IsReady self.old }
         ensures { Turns self.old self.new }
     {
-        let mut left = self.left();
+        let mut rest = self.rest();
         let mut goes_on = true;
         while goes_on {
-            self.perform(&mut left);
-            goes_on = self.goes_on(left);
+            self.perform(&mut rest);
+            goes_on = self.goes_on(rest);
         }
-        self.go_to(left);
+        self.go_to(rest);
     }
 
     /// Adds the piece of the location that waits for it.

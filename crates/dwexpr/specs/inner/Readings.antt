@@ -4,7 +4,7 @@ use Rattle.dwarf_base.specs.EndianSlice.{slice_text}
 use Rattle.dwarf_meaning.specs.Steps.{Step}
 use Rattle.dwarf_replay.specs.Stepping.{step_of}
 use Rattle.dwexpr.specs.Endings.{Ending, bad_step, no_memory}
-use Rattle.dwexpr.specs.Steps.{location_step}
+use Rattle.dwexpr.specs.StepLines.{location_step}
 use Rattle.dwexpr.specs.Words as spec
 use Rattle.dwexpr.specs.declared.hexadecimal.ReadFault.{ReadFault}
 use Rattle.dwexpr.specs.declared.hexadecimal.ReadFault.TheVariants as read
@@ -37,7 +37,7 @@ asked_by x = record { command = x.command; reading = x.reading; bytes = x.bytes.
 
 -- a step that owns its text
 abbrev pub step_owned : {A : Type 0} → (big : Bool) → OwnedStep A → Step
-step_owned big (owned.Plain step) = step_of slice_text step
+step_owned big (owned.Textless step) = step_of slice_text step
 step_owned big (owned.Location bytes) = location_step big bytes.items
 
 -- what is read of lines that say these steps, or of which one says none: the same, unless there was no memory

@@ -1,7 +1,7 @@
 -- What the steps of a caller come to, before pieces and a value are shown.
 use Rattle.std.specs.Prelude.{ℕ, ◌≡◌, List, Some, slice_get}
 use Rattle.dwarf_meaning.specs.Rest.{State, Status, Start, RequestStatus, CompleteStatus}
-use Rattle.dwarf_replay.specs.Replays.{told_at}
+use Rattle.dwarf_replay.specs.Replays.{log_at}
 use Rattle.dwexpr_c.specs.Evaluated.{Beginning}
 use Rattle.dwexpr_c.specs.Held.{HasTaken, HasStopped}
 use Rattle.dwexpr_c.specs.Outcomes.{ShowsRequest}
@@ -13,7 +13,7 @@ use Rattle.dwexpr_c.specs.declared.steps.DwexprText.{DwexprText}
 
 -- an evaluation with the texts that its steps may name
 abbrev pub given_at : State → List DwexprText → Beginning
-given_at first texts = record { setup = first.setup; text = first.text; told = told_at first; texts = texts }
+given_at first texts = record { setup = first.setup; text = first.text; log = log_at first; texts = texts }
 
 -- these are the bytes of one of the texts
 pub record IsGiven (texts : List DwexprText) (bytes : List ℕ) : Type 0 where

@@ -14,11 +14,11 @@ use Rattle.dwarf_meaning.specs.Rest.{State}
 use Rattle.dwarf_meaning.specs.Steps.{RequestReply, FaultReply}
 use Rattle.dwarf_meaning.specs.Refusals.{After}
 use Rattle.dwarf_meaning.specs.Inputs.{fresh_state}
-use Rattle.dwarf_meaning.specs.Rows.{text, plain, unset, given, open_at}
+use Rattle.dwarf_meaning.specs.RowWords.{text, dwarf4, unset, inputs_of, open_at}
 use Rattle.dwarf_meaning.proofs.Turns.{few_turns}
 use Rattle.dwarf_laws.specs.Agreement.{number, evaluate, resume}
-use Rattle.dwarf_laws.specs.Rows.{started_steps}
-use Rattle.dwarf_expr.specs.Twins.{DoesAll}
+use Rattle.dwarf_laws.specs.LawRows.{started_steps}
+use Rattle.dwarf_expr.specs.Twins.{DoesAllWith}
 use Rattle.dwarf_expr.proofs.Twins.{two_replays, may_replay}
 use Rattle.dwarf_expr.proofs.Refused.{refused_once}
 use Rattle.dwarf_expr.proofs.laws.two_replays.Goals as goal
@@ -28,7 +28,7 @@ frame_address = text (0x9c ∷ [])
 
 -- the frame's address is asked for, and its push is refused
 refused_by : (address : ℕ)
-    → (new : State) × DoesAll (After 1 0) (fresh_state plain frame_address) (started_steps (NumberAnswer kind.CallFrameCfa address ∷ []))
+    → (new : State) × DoesAllWith (After 1 0) (fresh_state dwarf4 frame_address) (started_steps (NumberAnswer kind.CallFrameCfa address ∷ []))
     (RequestReply RequiresCallFrameCfa ∷ FaultReply StackFull ∷ []) new
 unfolding on_top on_result act use_of is_same_kind operation_at row_of push_value push_piece push_caller most run_for meaning
 refused_by address =

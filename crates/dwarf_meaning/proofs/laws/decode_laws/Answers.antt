@@ -1,4 +1,4 @@
-use Rattle.dwarf_meaning.proofs.Decoded.{reads_the_spelled, decided, some_bytes, takes_operation, decoding_fault}
+use Rattle.dwarf_meaning.proofs.DecodingFacts.{reads_the_spelled, decided, some_bytes, takes_operation, decoding_fault}
 use Rattle.dwarf_meaning.proofs.Splittings.{splits_once, is_splitting}
 use Rattle.dwarf_meaning.proofs.Branches.{branches_near}
 use Rattle.dwarf_meaning.proofs.laws.decode_laws.Goals as goal

@@ -1,5 +1,5 @@
 use Rattle.dwarf_meaning.proofs.Turns.{run_turn, run_for-enough, all_left}
-use Rattle.dwarf_meaning.proofs.Inputs.{extends_run, over_meaning, run_takes}
+use Rattle.dwarf_meaning.proofs.MoreInputs.{extends_run, over_meaning, run_takes}
 use Rattle.dwarf_meaning.proofs.Counting.{counts_path, count_within, maximum_within, count_at_most}
 use Rattle.dwarf_meaning.proofs.Limited.{run_within, callers_within, meaning_within}
 use Rattle.dwarf_meaning.proofs.Callees.{run_opens, meaning_open}

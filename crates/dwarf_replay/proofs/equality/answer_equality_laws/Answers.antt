@@ -14,7 +14,7 @@ use Rattle.dwarf_replay.specs.contracts.steps.ReplayedPartialEq.TheImpl as ends
 use Rattle.dwarf_replay.specs.declared.steps.Answer.{Answer}
 use Rattle.dwarf_replay.specs.declared.steps.Replayed.{Replayed}
 use Rattle.dwarf_replay.specs.declared.steps.Replayed.TheVariants as replayed
-use Rattle.dwarf_replay.specs.Equality.{given_of, ended_of}
+use Rattle.dwarf_replay.specs.StepEquality.{reply_or_error, end_of_replay}
 use denote.RattleType.{RattleType}
 use mir.Syntax.{Dict}
 use Rattle.dwarf_replay.proofs.equality.answer_equality_laws.Goals as goal
@@ -32,10 +32,10 @@ module _ (R O P : RattleType)
   abbrev are_ends_equal : Replayed R.Denot O.Denot P.Denot → Replayed R.Denot O.Denot P.Denot → Bool
   are_ends_equal = (ends.ghosts R O P a b e f h i j k l m n o are_readers_equal p are_offsets_equal q).eq
 
-  equal_answers : IsEqualityOf (λ (x : Answer R.Denot O.Denot P.Denot). given_of text number x.0) are_answers_equal
+  equal_answers : IsEqualityOf (λ (x : Answer R.Denot O.Denot P.Denot). reply_or_error text number x.0) are_answers_equal
   equal_answers = search (rules, texts, numbers)
 
-  equal_ends : IsEqualityOf (ended_of text number) are_ends_equal
+  equal_ends : IsEqualityOf (end_of_replay text number) are_ends_equal
   equal_ends replayed.Done replayed.Done = (λ _. refl, λ _. refl)
   equal_ends replayed.Done (replayed.Misplaced index) = (λ h. cc, λ h. cc)
   equal_ends replayed.Done (replayed.NoRoom index answer) = (λ h. cc, λ h. cc)
@@ -49,11 +49,11 @@ module _ (R O P : RattleType)
       let all = both_of (nat_eq x y) (are_answers_equal answer other) (unsigned_Decides x y) (equal_answers answer other) in (
         λ passes. let p = all.0 passes in
             let index : x ≡ y = p.0 in
-            let given : given_of text number answer.0 ≡ given_of text number other.0 = p.1 in
+            let given : reply_or_error text number answer.0 ≡ reply_or_error text number other.0 = p.1 in
             cc,
         λ same.
             let index : x ≡ y = cc in
-            let given : given_of text number answer.0 ≡ given_of text number other.0 = cc in
+            let given : reply_or_error text number answer.0 ≡ reply_or_error text number other.0 = cc in
             all.1 (index, given),
       )
 

@@ -4,9 +4,9 @@ use Rattle.dwarf_replay.specs.Replays.{replies_in, reply_in, steps_of}
 use Rattle.dwarf_replay.specs.Stepping.{HasReplied, step_of}
 use Rattle.dwarf_replay.specs.declared.steps.Answer.{Answer}
 use Rattle.dwarf_eval.specs.Lists.{MayRefuse}
-use Rattle.dwarf_replay.proofs.Leading.{leaves, spends, walks_all, walks_to}
+use Rattle.dwarf_replay.proofs.Leading.{leaves, spends, does_all_by, stops_at}
 use Rattle.dwarf_replay.proofs.Standings.{Went, went_at_first}
-use Rattle.dwarf_replay.proofs.Turns.{called_on, kept_on, next_is, overflowed, set_on, went_all}
+use Rattle.dwarf_replay.proofs.ReplayTurns.{called_on, kept_on, next_is, overflowed, set_on, went_all}
 use Rattle.dwarf_replay.proofs.replaying.replay.Goals as goal
 use Rattle.dwarf_replay.proofs.replaying.replay.Goals.{in-Set, in-Answered+in_default}
 
@@ -55,7 +55,7 @@ returns-in-Misplaced g c =
     let same : new ≡ c.loop-index.eval = c.in-Misplaced.ensures.0 in
     let went = subst (Went first done replies) (sym same) c.loop-index.invariant.0 in
     record {
-      replays = walks_to first (steps_of view steps) index replies new (step_of view step) (next_is view steps index step next) went (rw same c.in-Misplaced.ensures.1);
+      replays = stops_at first (steps_of view steps) index replies new (step_of view step) (next_is view steps index step next) went (rw same c.in-Misplaced.ensures.1);
       spends = spends first done replies new went;
       leaves = leaves first done replies new went;
       limit = c.loop-index.invariant.2;
@@ -98,7 +98,7 @@ returns g c =
     let new = c.loop-index.eval in
     let went = went_all view number first steps c.loop-index.index answers new (omega (arith, c.loop-index-test.false)) c.loop-index.invariant.0 in
     record {
-      replays = walks_all first (steps_of view steps) (replies_in view number answers) new went;
+      replays = does_all_by first (steps_of view steps) (replies_in view number answers) new went;
       spends = spends first (steps_of view steps) (replies_in view number answers) new went;
       leaves = leaves first (steps_of view steps) (replies_in view number answers) new went;
       limit = c.loop-index.invariant.2;

@@ -5,7 +5,7 @@ use Rattle.dwarf_base.specs.EndianSlice.{slice_bytes, slice_order, slice_text}
 use Rattle.dwarf_base.specs.Faults.{fault_of}
 use Rattle.dwarf_base.specs.Reads.{IsSuffix}
 use Rattle.dwarf_eval.specs.Iteration.{encoding_of, unread_of}
-use Rattle.dwarf_meaning.proofs.Decoded.{operation_begins, operation_shortens}
+use Rattle.dwarf_meaning.proofs.DecodingFacts.{operation_begins, operation_shortens}
 use Rattle.dwarf_meaning.specs.Operands.{context_of}
 use Rattle.dwexpr.specs.Lines.{fault_words}
 use Rattle.dwexpr.specs.Writing.{line}

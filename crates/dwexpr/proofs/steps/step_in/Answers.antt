@@ -1,5 +1,5 @@
 use Rattle.std.proofs.Common.{sym, ◌∙◌, ap, subst}
-use Rattle.dwexpr.specs.Steps.{text_step_in}
+use Rattle.dwexpr.specs.StepLines.{text_step_in}
 use Rattle.dwexpr.specs.inner.Readings.{Reads, step_owned}
 use Rattle.dwexpr.proofs.Reading.{step_of_bytes, step_of_text}
 use Rattle.dwexpr.proofs.steps.step_in.Goals as goal

@@ -1,7 +1,7 @@
 use Rattle.std.proofs.Common.{map, [], ◌∷◌, sym, ◌∙◌, ap, Err, arith}
 use Rattle.std.proofs.lemmas.List.{length-map, map-append}
-use Rattle.dwexpr.specs.Steps as spec
-use Rattle.dwexpr.specs.Steps.{lines_within, said_then}
+use Rattle.dwexpr.specs.StepLines as spec
+use Rattle.dwexpr.specs.StepLines.{lines_within, said_then}
 use Rattle.dwexpr.specs.inner.Readings.{step_owned}
 use Rattle.dwexpr.proofs.Reading.{next_line, no_lines, none_left, said_after, said_bad, said_last, said_more, some_left}
 use Rattle.dwexpr.proofs.steps.steps_in.Goals as goal

@@ -1,6 +1,6 @@
 use Rattle.std.proofs.Common.{◌≡◌, ◌≤◌, ℕ, Bool, length, map}
-use Rattle.dwexpr.specs.Steps as spec
-use Rattle.dwexpr.specs.Steps.{lines_in, lines_within}
+use Rattle.dwexpr.specs.StepLines as spec
+use Rattle.dwexpr.specs.StepLines.{lines_in, lines_within}
 use Rattle.dwexpr.specs.inner.Readings.{step_owned}
 use Rattle.dwexpr.proofs.Reading.{said_after}
 use Rattle.dwexpr.proofs.steps.steps_in.Given as goal

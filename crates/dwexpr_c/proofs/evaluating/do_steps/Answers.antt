@@ -1,7 +1,7 @@
 use Rattle.std.proofs.Common.{ℕ, suc, ◌≡◌, ◌+◌, Bool, take, arith, ◌∙◌, sym, ap, subst}
 use Rattle.std.specs.Prelude.{option_map}
 use Rattle.dwexpr_c.specs.Outcomes.{step_coded}
-use Rattle.dwexpr_c.specs.Stepping.{DoesStep}
+use Rattle.dwexpr_c.specs.StepEffects.{DoesStep}
 use Rattle.dwexpr_c.specs.declared.evaluating.Progress.{Progress}
 use Rattle.dwexpr_c.specs.declared.evaluating.Progress.TheVariants.{Ended}
 use Rattle.dwexpr_c.proofs.Runs.{Reached, at_first, next, ran_all, stopped}

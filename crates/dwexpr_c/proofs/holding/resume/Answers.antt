@@ -3,7 +3,7 @@ use Rattle.dwarf_base.specs.ByteOrder.{is_big_of}
 use Rattle.dwarf_meaning.specs.Stores.{Setup}
 use Rattle.dwexpr_c.specs.Outcomes.{step_coded}
 use Rattle.dwexpr_c.specs.declared.evaluating.Progress.TheVariants.{Complete}
-use Rattle.dwexpr_c.proofs.Keeping.{step_keeps}
+use Rattle.dwexpr_c.proofs.KeptSetups.{step_keeps}
 use Rattle.dwexpr_c.proofs.holding.resume.Goals as goal
 
 pub returns-in-Set-clause-capacities : goal.returns-in-Set-clause-capacities
@@ -14,7 +14,7 @@ pub returns-in-Complete-clause-resumes : goal.returns-in-Complete-clause-resumes
 returns-in-Complete-clause-resumes c = record {
   order = refl;
   progress = Complete;
-  told = c.do_step.new.outcome;
+  unfinished = c.do_step.new.outcome;
   does = c.in-Complete.ensures;
   shown = c.show_status-in-Complete.ensures;
 }

@@ -9,7 +9,7 @@ use Rattle.dwexpr_c.specs.declared.pieces.DwexprPiece.{DwexprPiece}
 use Rattle.dwexpr_c.specs.declared.steps.DwexprText.{DwexprText}
 use Rattle.std.proofs.lemmas.List.{length-map}
 use Rattle.dwarf_op.specs.Views.{piece_of}
-use Rattle.dwexpr_c.specs.Texts.{text_of_placed}
+use Rattle.dwexpr_c.specs.CallerTexts.{text_of_placed}
 use Rattle.dwexpr_c.proofs.pieces.write_pieces.Goals as goal
 use Rattle.dwexpr_c.proofs.pieces.write_pieces.Invariants.{ShownAt}
 

@@ -5,7 +5,7 @@ use Rattle.dwarf_meaning.specs.Rest.{State}
 use Rattle.dwarf_meaning.specs.Stores.{setup_of}
 use Rattle.dwexpr_c.specs.Evaluated.{Beginning}
 use Rattle.dwexpr_c.specs.Held.{StandsAfter}
-use Rattle.dwexpr_c.specs.Texts.{text_of_placed}
+use Rattle.dwexpr_c.specs.CallerTexts.{text_of_placed}
 use Rattle.dwexpr_c.specs.inner.Runs.{given_at}
 use Rattle.dwexpr_c.proofs.starting.start_text.Goals as goal
 

@@ -1,5 +1,5 @@
 use Rattle.std.proofs.Common.{ℕ, ◌<◌}
-use Rattle.dwexpr_c.specs.Texts.{IsPlaced}
+use Rattle.dwexpr_c.specs.CallerTexts.{IsPlaced}
 use Rattle.dwexpr_c.proofs.steps.find.Given as goal
 
 -- it is in none of the texts before this one

@@ -1,5 +1,5 @@
 use Rattle.std.proofs.Common.{ℕ, ◌<◌}
-use Rattle.dwexpr_c.specs.Texts.{IsAt}
+use Rattle.dwexpr_c.specs.CallerTexts.{IsAt}
 use Rattle.dwexpr_c.proofs.steps.find_in.Given as goal
 
 -- it is at no place before this one

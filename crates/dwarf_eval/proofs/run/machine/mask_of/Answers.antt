@@ -1,7 +1,7 @@
 use Rattle.std.proofs.Common.{◌≡◌, ◌*◌, ◌<◌, ◌≤◌, ap, ◌∙◌, sym, subst, arith}
 use Rattle.dwarf_value.specs.Values.{IsAddressMask, width_of}
 use Rattle.dwarf_value.proofs.MaskBits.{address_mask, width_of-low}
-use Rattle.dwarf_eval.proofs.Numbers.{mask_is}
+use Rattle.dwarf_eval.proofs.MachineNumbers.{mask_is}
 use Rattle.dwarf_eval.proofs.run.machine.mask_of.Goals as goal
 
 pub returns-clause-mask : goal.returns-clause-mask

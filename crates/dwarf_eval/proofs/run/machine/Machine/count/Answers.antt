@@ -1,5 +1,5 @@
 use Rattle.std.proofs.Common.{refl, ◌<◌, ◌^◌, arith}
-use Rattle.dwarf_eval.proofs.Numbers.{may_count}
+use Rattle.dwarf_eval.proofs.MachineNumbers.{may_count}
 use Rattle.dwarf_eval.proofs.run.machine.Machine.count.Goals as goal
 
 pub returns : goal.returns

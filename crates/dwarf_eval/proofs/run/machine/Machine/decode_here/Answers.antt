@@ -7,7 +7,7 @@ pub returns-clause-ok : goal.returns-clause-ok
 returns-clause-ok g c =
     let here = c.self.invariant.here in
     rw (← c.self.view_is) (IfOk-weaker c.read_operation-operation.result _ _ (λ op e. record {
-      beyond = (g.R.Reader.text c.read_operation-operation.new.left).bytes;
+      beyond = (g.R.Reader.text c.read_operation-operation.new.rest).bytes;
       was = rw (here.rest.same, ← here.order) e;
       moved = rw (c.read_operation-operation.ensures.counted) refl;
     }) (gives_ok _ _ _ _ c.read_operation-operation.ensures.reads.value))

@@ -1,6 +1,6 @@
 use Rattle.std.proofs.Common.{Bool, subst, sym, arith, ℕ, ◌≡◌, ◌<◌, ◌≤◌, ◌*◌, true, false, List, [], ◌∷◌, Some, None, ap, ◌∙◌, nat_lt}
 use Rattle.dwarf_meaning.specs.Operations as operation
-use Rattle.dwarf_eval.specs.inner.Steps.{Performs, act_of, PopsTo, PopsNumber, with_values}
+use Rattle.dwarf_eval.specs.inner.StateChanges.{Performs, act_of, PopsTo, PopsNumber, with_values}
 use Rattle.std.proofs.lemmas.Bool.Decides.{nat_tests}
 use Rattle.dwarf_base.specs.declared.errors.Error.TheVariants as error
 use Rattle.dwarf_value.specs.declared.types.Value.{Value}

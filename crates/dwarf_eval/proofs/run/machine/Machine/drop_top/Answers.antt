@@ -3,7 +3,7 @@ use Rattle.dwarf_base.specs.declared.errors.Error.TheVariants.{NotEnoughStackIte
 use Rattle.dwarf_meaning.specs.Operations as operation
 use Rattle.dwarf_meaning.specs.Acts.{Pushes}
 use Rattle.dwarf_meaning.specs.Stores.{Plain, address_bits}
-use Rattle.dwarf_eval.specs.inner.Steps.{act_of, with_last}
+use Rattle.dwarf_eval.specs.inner.StateChanges.{act_of, with_last}
 use Rattle.dwarf_eval.proofs.ActCases.{drops}
 use Rattle.dwarf_eval.proofs.Performances.{performs_as, performs_none, performs_refuses}
 use Rattle.dwarf_eval.proofs.Staying.{stays_popped}

@@ -6,7 +6,7 @@ use Rattle.dwarf_meaning.specs.Locations.{Empty, AtAddress}
 use Rattle.dwarf_meaning.specs.Acts.{EndsPiece}
 use Rattle.dwarf_meaning.specs.Stores.{Pieced, address_bits, push_piece}
 use Rattle.dwarf_meaning.specs.Rest.{State, Running}
-use Rattle.dwarf_eval.specs.inner.Steps.{PopsNumber, Tries, Performs, act_of, with_last, with_values}
+use Rattle.dwarf_eval.specs.inner.StateChanges.{PopsNumber, Tries, Performs, act_of, with_last, with_values}
 use Rattle.dwarf_eval.proofs.ActCases.{ends_piece}
 use Rattle.dwarf_eval.proofs.Performances.{performs_as, performs_ends}
 use Rattle.dwarf_eval.proofs.Staying.{fewer_one}

@@ -2,7 +2,7 @@ use Rattle.std.proofs.Common.{subst}
 use Rattle.dwarf_value.specs.declared.types.Value.TheVariants.{Generic}
 use Rattle.dwarf_meaning.specs.Meaning.{finish_value}
 use Rattle.dwarf_meaning.specs.Rest.{State}
-use Rattle.dwarf_eval.specs.inner.Steps.{Closes}
+use Rattle.dwarf_eval.specs.inner.StateChanges.{Closes}
 use Rattle.dwarf_eval.proofs.Finishing.{value_closes, value_none}
 use Rattle.dwarf_eval.proofs.run.machine.Machine.finish_value.Goals as goal
 

@@ -2,7 +2,7 @@ use Rattle.std.proofs.Common.{subst, Bool}
 use Rattle.dwarf_meaning.specs.Meaning.{finish}
 use Rattle.dwarf_meaning.specs.RunLaws.{waits_of}
 use Rattle.dwarf_meaning.specs.Rest.{State}
-use Rattle.dwarf_eval.specs.inner.Steps.{GoesBack, Closes}
+use Rattle.dwarf_eval.specs.inner.StateChanges.{GoesBack, Closes}
 use Rattle.dwarf_eval.proofs.Finishing.{back_turned, finish_turns}
 use Rattle.dwarf_eval.proofs.run.machine.Machine.leave.Goals as goal
 

@@ -1,5 +1,5 @@
 use Rattle.std.proofs.Common.{refl}
-use Rattle.dwarf_eval.proofs.Views.{popped}
+use Rattle.dwarf_eval.proofs.MachineViews.{popped}
 use Rattle.dwarf_eval.proofs.run.machine.Machine.pop.Goals as goal
 
 pub returns : goal.returns

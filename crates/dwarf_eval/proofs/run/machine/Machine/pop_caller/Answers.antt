@@ -1,13 +1,13 @@
 use Rattle.std.proofs.Common.{refl, subst}
 use Rattle.std.specs.List.{AllByRecursion}
-use Rattle.dwarf_base.specs.Reads.{IsLeftOf}
-use Rattle.dwarf_eval.proofs.Views.{callers-push, all_but_last}
+use Rattle.dwarf_base.specs.Reads.{IsRestOf}
+use Rattle.dwarf_eval.proofs.MachineViews.{callers-push, all_but_last}
 use Rattle.dwarf_eval.proofs.run.machine.Machine.pop_caller.Goals as goal
 
 pub invariant_of-self-2 : goal.invariant_of-self-2
 invariant_of-self-2 g c =
     let R = g.row.R.Denot in
-    let P = λ (f : R × R). IsLeftOf (g.R.Reader.text f.0) (g.R.Reader.text f.1) in
+    let P = λ (f : R × R). IsRestOf (g.R.Reader.text f.0) (g.R.Reader.text f.1) in
     let h = all_but_last P (g.S.ExpressionStack.ArrayLike.items c.pop.new.self) c.in-Some.caller (subst (AllByRecursion P) c.in-Some.ensures.items c.self.invariant.callers) in
     record { mask = c.self.invariant.mask; width = c.self.invariant.width; here = h.1; callers = h.0 }
 

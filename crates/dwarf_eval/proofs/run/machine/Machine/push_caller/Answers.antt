@@ -3,8 +3,8 @@ use Rattle.std.specs.List.{AllByRecursion}
 use Rattle.dwarf_meaning.specs.Rest.{State}
 use Rattle.dwarf_base.proofs.Suffixes.{suffix_whole}
 use Rattle.dwarf_eval.specs.Lists.{MayRefuse}
-use Rattle.dwarf_base.specs.Reads.{IsLeftOf}
-use Rattle.dwarf_eval.proofs.Views.{callers-push, length-callers, all_and_last}
+use Rattle.dwarf_base.specs.Reads.{IsRestOf}
+use Rattle.dwarf_eval.proofs.MachineViews.{callers-push, length-callers, all_and_last}
 use Rattle.dwarf_eval.proofs.Pushes.{caller_pushed, caller_faults}
 use Rattle.dwarf_eval.proofs.run.machine.Machine.push_caller.Goals as goal
 
@@ -18,7 +18,7 @@ returns-in_default g c =
 pub invariant_of-self-2 : goal.invariant_of-self-2
 invariant_of-self-2 g c =
     let R = g.row.R.Denot in
-    let P = λ (f : R × R). IsLeftOf (g.R.Reader.text f.0) (g.R.Reader.text f.1) in
+    let P = λ (f : R × R). IsRestOf (g.R.Reader.text f.0) (g.R.Reader.text f.1) in
     record {
       mask = c.self.invariant.mask;
       width = c.self.invariant.width;

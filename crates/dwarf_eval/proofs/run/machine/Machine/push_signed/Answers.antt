@@ -1,6 +1,6 @@
 use Rattle.dwarf_value.specs.declared.types.Value.TheVariants.{Generic}
 use Rattle.dwarf_eval.proofs.ActCases.{signed_constant}
-use Rattle.dwarf_eval.proofs.Numbers.{passed-residue}
+use Rattle.dwarf_eval.proofs.MachineNumbers.{passed-residue}
 use Rattle.dwarf_eval.proofs.Performances.{performs_as, performs_more}
 use Rattle.dwarf_eval.proofs.run.machine.Machine.push_signed.Goals as goal
 

@@ -1,6 +1,6 @@
 use Rattle.std.proofs.Common.{[], ◌∷◌}
 use Rattle.dwarf_meaning.specs.Stores.{push_values}
-use Rattle.dwarf_eval.proofs.Refusals.{plain_tried, values_then}
+use Rattle.dwarf_eval.proofs.RefusedPushes.{plain_tried, values_then}
 use Rattle.dwarf_eval.proofs.run.machine.Machine.push_three.Goals as goal
 
 pub returns-then-push : goal.returns-then-push

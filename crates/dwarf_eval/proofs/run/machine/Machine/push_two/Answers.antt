@@ -1,4 +1,4 @@
-use Rattle.dwarf_eval.proofs.Refusals.{value_then}
+use Rattle.dwarf_eval.proofs.RefusedPushes.{value_then}
 use Rattle.dwarf_eval.proofs.run.machine.Machine.push_two.Goals as goal
 
 pub returns : goal.returns

@@ -6,7 +6,7 @@ use Rattle.dwarf_meaning.specs.Kinds.{kind_of_answer}
 use Rattle.dwarf_meaning.specs.Stores.{address_bits}
 use Rattle.dwarf_eval.specs.inner.Answers.{answer_of}
 use Rattle.dwarf_eval.specs.inner.Machine.{on_answer_of}
-use Rattle.dwarf_eval.specs.inner.Steps.{total_after, total_used}
+use Rattle.dwarf_eval.specs.inner.StateChanges.{total_after, total_used}
 use Rattle.dwarf_eval.proofs.AnswerUses.{open_in, open_to}
 use Rattle.dwarf_eval.proofs.Reaching.{comes_more, comes_over}
 use Rattle.dwarf_eval.proofs.Resuming.{answer_comes}

@@ -1,4 +1,4 @@
-use Rattle.dwarf_eval.specs.inner.Steps.{Comes, effort, total}
+use Rattle.dwarf_eval.specs.inner.StateChanges.{Comes, effort, total}
 use Rattle.dwarf_eval.proofs.run.machine.Machine.run_on.Given as goal
 
 -- the outcome of the state at the call is the outcome of the state now

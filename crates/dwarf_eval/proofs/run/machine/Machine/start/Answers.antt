@@ -1,5 +1,5 @@
 use Rattle.std.proofs.Common.{sym, ◌∙◌}
-use Rattle.dwarf_eval.specs.inner.Steps.{total}
+use Rattle.dwarf_eval.specs.inner.StateChanges.{total}
 use Rattle.dwarf_eval.proofs.Reaching.{comes_more}
 use Rattle.dwarf_eval.proofs.run.machine.Machine.start.Goals as goal
 

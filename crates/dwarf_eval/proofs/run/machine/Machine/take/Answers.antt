@@ -4,7 +4,7 @@ use Rattle.dwarf_meaning.specs.declared.kinds.WaitingKind.{WaitingKind}
 use Rattle.dwarf_meaning.specs.Requests.{OnAnswer}
 use Rattle.dwarf_meaning.specs.Rest.{State}
 use Rattle.dwarf_eval.specs.inner.Answers.{answer_of}
-use Rattle.dwarf_eval.specs.inner.Steps.{Takes}
+use Rattle.dwarf_eval.specs.inner.StateChanges.{Takes}
 use Rattle.dwarf_eval.specs.declared.run.states.Given.{Given}
 use Rattle.dwarf_eval.proofs.run.machine.Machine.take.Goals as goal
 

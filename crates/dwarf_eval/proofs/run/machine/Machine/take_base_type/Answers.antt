@@ -1,7 +1,7 @@
 use Rattle.std.proofs.Common.{sym, subst}
 use Rattle.dwarf_meaning.specs.Acts.{Use}
 use Rattle.dwarf_meaning.specs.Stores.{address_bits}
-use Rattle.dwarf_eval.specs.inner.Steps.{Comes, total_used}
+use Rattle.dwarf_eval.specs.inner.StateChanges.{Comes, total_used}
 use Rattle.dwarf_eval.proofs.AnswerUses.{reinterpret_is}
 use Rattle.dwarf_eval.proofs.run.machine.Machine.take_base_type.Goals as goal
 

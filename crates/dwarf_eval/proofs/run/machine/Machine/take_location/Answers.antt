@@ -1,7 +1,7 @@
 use Rattle.std.proofs.Common.{sym, ap, ◌∙◌, ℕ, suc, ◌≡◌, ◌==◌, true, false, List, [], ◌∷◌, length, refl, arith}
 use Rattle.dwarf_meaning.specs.Requests.{LocationAnswer}
 use Rattle.dwarf_meaning.specs.Stores.{Called}
-use Rattle.dwarf_eval.specs.inner.Steps.{with_last}
+use Rattle.dwarf_eval.specs.inner.StateChanges.{with_last}
 use Rattle.dwarf_eval.proofs.AnswerUses.{location_calls}
 use Rattle.dwarf_eval.proofs.Resuming.{empty_takes, text_takes}
 use Rattle.std.proofs.lemmas.Bool.Decides.{nat_tests}

@@ -4,7 +4,7 @@ use mir.Val.{SFits}
 use Rattle.dwarf_value.specs.declared.types.Value.TheVariants.{Generic}
 use Rattle.dwarf_meaning.specs.Requests.{OnAnswer, Add, NumberAnswer}
 use Rattle.dwarf_eval.specs.inner.Machine.{on_answer_of}
-use Rattle.dwarf_eval.specs.inner.Steps.{Takes}
+use Rattle.dwarf_eval.specs.inner.StateChanges.{Takes}
 use Rattle.dwarf_eval.proofs.AnswerUses.{plain}
 use Rattle.dwarf_eval.proofs.Resuming.{value_takes}
 use Rattle.dwarf_eval.proofs.run.machine.Machine.take_number.Goals as goal

@@ -2,7 +2,7 @@ use Rattle.std.proofs.Common.{◌+◌, ◌%◌, ◌^◌, ℕ, ap, ◌∙◌, ref
 use Rattle.dwarf_value.specs.declared.types.Value.TheVariants.{Generic}
 use Rattle.dwarf_meaning.specs.Requests.{Add, NumberAnswer}
 use Rattle.dwarf_eval.proofs.AnswerUses.{offset_gives}
-use Rattle.dwarf_eval.proofs.Numbers.{passed-residue, residue-add}
+use Rattle.dwarf_eval.proofs.MachineNumbers.{passed-residue, residue-add}
 use Rattle.dwarf_eval.proofs.Resuming.{value_takes}
 use Rattle.dwarf_eval.proofs.run.machine.Machine.take_number_sum.Goals as goal
 

@@ -3,7 +3,7 @@ use Rattle.std.proofs.lemmas.Int.{to_z-of_z}
 use mir.Val.{SFits}
 use Rattle.dwarf_meaning.specs.Requests.{OnAnswer, Add, ValueAnswer}
 use Rattle.dwarf_eval.specs.inner.Machine.{on_answer_of}
-use Rattle.dwarf_eval.specs.inner.Steps.{Takes}
+use Rattle.dwarf_eval.specs.inner.StateChanges.{Takes}
 use Rattle.dwarf_eval.proofs.AnswerUses.{plain}
 use Rattle.dwarf_eval.proofs.Resuming.{value_takes}
 use Rattle.dwarf_eval.proofs.run.machine.Machine.take_value.Goals as goal

@@ -3,7 +3,7 @@ use Rattle.dwarf_value.specs.Values.{from_u64_of, type_of, binary_of, Plus}
 use Rattle.dwarf_meaning.specs.Requests.{Add, ValueAnswer}
 use Rattle.dwarf_meaning.specs.Stores.{address_bits}
 use Rattle.dwarf_eval.proofs.AnswerUses.{sum_gives, sum_denies}
-use Rattle.dwarf_eval.proofs.Numbers.{passed-residue}
+use Rattle.dwarf_eval.proofs.MachineNumbers.{passed-residue}
 use Rattle.dwarf_eval.proofs.Resuming.{denies, value_takes}
 use Rattle.dwarf_eval.proofs.Staying.{stays_here}
 use Rattle.dwarf_eval.proofs.run.machine.Machine.take_value_sum.Goals as goal

@@ -7,8 +7,8 @@ use Rattle.dwarf_meaning.specs.Requests.{Request, OnAnswer, Input}
 use Rattle.dwarf_meaning.specs.Kinds.{kind_of_request, kind_of_answer, is_same_kind}
 use Rattle.dwarf_meaning.specs.Acts.{Act, Use, PushesAnswer, Calls, FaultUse, use_of}
 use Rattle.dwarf_meaning.specs.Stores.{Setup, address_bits, Store, Last, Nothing, Plain, Pieced, Pushed, Called, Located, push_value, push_caller, Next, Goes, RequestNext, FaultNext}
-use Rattle.dwarf_meaning.specs.Run.{Position, End, CompleteEnd, RequestEnd, FaultEnd, Course, prepend, Continues, return_to_caller, after_push, enter_callee, run_callee, after_answer, with_input, await_answer, after_operation, read, can_count, counted, do_operation, turn_counted, counted_act, located_act, turn_by, turn, out_of_turns, run_for, enough, run, only_end}
-use Rattle.dwarf_meaning.specs.Meaning.{IsOver, First, fresh, with_initial, outcome_of_end, course_of, meaning}
+use Rattle.dwarf_meaning.specs.Run.{Position, End, CompleteEnd, RequestEnd, FaultEnd, Course, prepend, Continues, return_to_caller, after_push, enter_callee, run_callee, after_answer, with_input, await_answer, after_operation, read, can_count, count_one, do_operation, turn_counted, counted_act, located_act, turn_by, turn, out_of_turns, run_for, enough, run, only_end}
+use Rattle.dwarf_meaning.specs.Meaning.{IsOver, First, fresh_store, with_initial, outcome_of_end, course_of, meaning}
 use Rattle.dwarf_meaning.specs.RunLaws.{IsSettled, end_before, course_before, Took, EndTook}
 use Rattle.dwarf_meaning.specs.Refusals.{Refusal}
 use Rattle.std.proofs.lemmas.Bool.{cond_both}
@@ -78,7 +78,7 @@ module _ (more : List Input) (go : Continues) (extends : Extensible more go) whe
   extends_counts setup text place depth s inputs =
       let position : Position = record { text = text; place = place } in
       extends_if more (can_count s) _ _ _ _
-      (λ settled. ap (prepend (position ∷ []) []) (extends_does setup text depth (counted s) inputs (counted_act setup s) (read setup text place) settled))
+      (λ settled. ap (prepend (position ∷ []) []) (extends_does setup text depth (count_one s) inputs (counted_act setup s) (read setup text place) settled))
       (λ settled. refl)
 
   extends_by : (setup : Setup) (text : Text) (place depth : ℕ) (s : Store) (inputs : List Input) (last : Last) → Extends more (turn_by go setup text place depth s inputs last) (turn_by go setup text place depth s (inputs ++ more) last)
@@ -115,7 +115,7 @@ over_end setup more (FaultEnd fault) = refl
 
 extends_course : (setup : Setup) (refusal : Refusal) (text : Text) (first : First) (inputs more : List Input) → IsSettled (course_of setup refusal text first inputs).end → course_of setup refusal text first (inputs ++ more) ≡ course_before more (course_of setup refusal text first inputs)
 extends_course setup refusal text first inputs more =
-    extends_resumed more (run setup) (extends_run_for enough setup more) (record { text = text; place = 0 }) 0 inputs (with_initial setup first.initial_value (fresh first refusal))
+    extends_resumed more (run setup) (extends_run_for enough setup more) (record { text = text; place = 0 }) 0 inputs (with_initial setup first.initial_value (fresh_store first refusal))
 
 pub over_meaning : (setup : Setup) (refusal : Refusal) (text : Text) (first : First) (inputs more : List Input) → IsOver (meaning setup refusal text first inputs) → meaning setup refusal text first (inputs ++ more) ≡ meaning setup refusal text first inputs
 unfolding meaning
@@ -216,7 +216,7 @@ module _ (go : Continues) (takes : Takes go) where
 
   takes_counts : (setup : Setup) (text : Text) (place depth : ℕ) (s : Store) (inputs : List Input) → Taking inputs (turn_counted go setup text place depth s inputs)
   takes_counts setup text place depth s inputs =
-      cond_both (can_count s) _ _ (Taking inputs) (λ can. takes_does setup text depth (counted s) inputs (counted_act setup s) (read setup text place)) (λ e. omega arith)
+      cond_both (can_count s) _ _ (Taking inputs) (λ can. takes_does setup text depth (count_one s) inputs (counted_act setup s) (read setup text place)) (λ e. omega arith)
 
   takes_by : (setup : Setup) (text : Text) (place depth : ℕ) (s : Store) (inputs : List Input) (last : Last) → Taking inputs (turn_by go setup text place depth s inputs last)
   takes_by setup text place depth s inputs (Located location) = takes_does setup text depth s inputs (located_act location s) (read setup text place)

@@ -9,7 +9,7 @@ use Rattle.dwarf_value.specs.declared.types.ValueType.TheVariants as value_type
 use Rattle.dwexpr_c.specs.declared.values.DwexprValue.{DwexprValue}
 use Rattle.dwarf_base.specs.Faults.{Fault}
 use Rattle.dwexpr_c.specs.Codes.{code_of_fault}
-use Rattle.dwexpr_c.specs.Operations.{binary_kind, unary_kind}
+use Rattle.dwexpr_c.specs.CodedOperations.{binary_kind, unary_kind}
 use Rattle.dwexpr_c.specs.declared.kinds.TheConstants as kinds
 use Rattle.dwexpr_c.specs.declared.faults.TheConstants as codes
 

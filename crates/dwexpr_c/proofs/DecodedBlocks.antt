@@ -13,9 +13,9 @@ use Rattle.dwarf_meaning.specs.Opcodes.{Row, Makes, Unsigned, Signed, Block, Inv
 use Rattle.dwarf_meaning.specs.Decoding.{operation_at}
 use Rattle.dwarf_meaning.specs.Spelling.{SpellsOperands, Spells}
 use Rattle.dwarf_meaning.specs.Spelling as spelling
-use Rattle.dwarf_meaning.proofs.Decoded.{operation_begins}
-use Rattle.dwexpr_c.specs.Texts.{IsAt}
-use Rattle.dwexpr_c.specs.Operations.{Decodes, IsBlockAt, with_block, block_in, operands_of}
+use Rattle.dwarf_meaning.proofs.DecodingFacts.{operation_begins}
+use Rattle.dwexpr_c.specs.CallerTexts.{IsAt}
+use Rattle.dwexpr_c.specs.CodedOperations.{Decodes, IsBlockAt, with_block, block_in, operands_of}
 use Rattle.dwexpr_c.specs.declared.operations.DwexprOperation.{DwexprOperation}
 use Rattle.dwarf_meaning.proofs.OperationReads.{OnLines, row_holds}
 

@@ -10,19 +10,19 @@ use Rattle.dwarf_meaning.specs.Requests.{Answer}
 use Rattle.dwarf_meaning.specs.Stores.{Setup}
 use Rattle.dwarf_meaning.specs.Meaning.{First, meaning}
 use Rattle.dwarf_meaning.specs.Rest.{State}
-use Rattle.dwarf_meaning.proofs.Outcomes.{outcome_from}
-use Rattle.dwarf_meaning.specs.Steps.{Step, Evaluate, Resume, Told, Reply, reply, replies, Awaits, Allows, AllAllowed, after_step, after_steps, replies_of, outcome_of, step_replies}
+use Rattle.dwarf_meaning.proofs.OutcomeByInputs.{outcome_from}
+use Rattle.dwarf_meaning.specs.Steps.{Step, Evaluate, Resume, Log, Reply, reply, replies, Awaits, Allows, AllAllowed, after_step, after_steps, replies_of, outcome_of, step_replies}
 use Rattle.dwarf_meaning.specs.Refusals.{Refusal}
 use Rattle.dwarf_eval.specs.Lists.{MayRefuse}
 use Rattle.dwarf_replay.specs.Stepping.{step_of, IsSet, HasReplied}
-use Rattle.dwarf_replay.specs.Replays.{told_at, steps_of, reply_in, replies_in, WalksOver}
+use Rattle.dwarf_replay.specs.Replays.{log_at, steps_of, reply_in, replies_in, OverflowsAt}
 use Rattle.dwarf_replay.specs.declared.steps.Step as code
 use Rattle.dwarf_replay.specs.declared.steps.Answer as kept_answer
 use Rattle.dwarf_eval.specs.declared.op.results.EvaluationResult.{EvaluationResult}
 use Rattle.dwarf_replay.proofs.Standings.{answers_more, Went}
 use Rattle.dwarf_replay.proofs.Settings.{set_went_on}
-use Rattle.dwarf_replay.proofs.Calling.{called_went_on}
-use Rattle.dwarf_replay.proofs.Leading.{walks_all}
+use Rattle.dwarf_replay.proofs.CallSteps.{called_went_on}
+use Rattle.dwarf_replay.proofs.Leading.{does_all_by}
 
 -- ---- one turn of a replay
 
@@ -39,28 +39,28 @@ same_front xs ys a b e =
     ∙ take-append_seam ys (b ∷ [])))
 
 module _ (setup : Setup) (refusal : Refusal) (text : Text) where
-  last_allowed : (told : Told) (steps : List Step) (step : Step) → AllAllowed setup refusal text told (steps ++ step ∷ []) → Allows (after_steps setup refusal text told steps) (outcome_of setup refusal text (after_steps setup refusal text told steps)) step
-  last_allowed told [] step h = h.0
-  last_allowed told (s ∷ steps) step h = last_allowed (after_step setup refusal text told s) steps step h.1
+  last_allowed : (log : Log) (steps : List Step) (step : Step) → AllAllowed setup refusal text log (steps ++ step ∷ []) → Allows (after_steps setup refusal text log steps) (outcome_of setup refusal text (after_steps setup refusal text log steps)) step
+  last_allowed log [] step h = h.0
+  last_allowed log (s ∷ steps) step h = last_allowed (after_step setup refusal text log s) steps step h.1
 
   -- a call that is allowed answers once
-  record Replies (step : Step) (told : Told) : Type 0 where
+  record Replies (step : Step) (log : Log) : Type 0 where
     reply_is : Reply
-    one : step_replies step (outcome_of setup refusal text (after_step setup refusal text told step)) ≡ reply_is ∷ []
+    one : step_replies step (outcome_of setup refusal text (after_step setup refusal text log step)) ≡ reply_is ∷ []
 
-  started_replies : (answer : Answer) (told : Told) (f : Option First) → told.first ≡ f → Awaits answer (outcome_from setup refusal text told.inputs f) → Replies (Resume answer) told
-  started_replies answer told None e h = absurd h
-  started_replies answer told (Some first) e h =
-      let now = after_step setup refusal text told (Resume answer) in
+  started_replies : (answer : Answer) (log : Log) (f : Option First) → log.first ≡ f → Awaits answer (outcome_from setup refusal text log.inputs f) → Replies (Resume answer) log
+  started_replies answer log None e h = absurd h
+  started_replies answer log (Some first) e h =
+      let now = after_step setup refusal text log (Resume answer) in
       record {
         reply_is = reply (meaning setup refusal text first now.inputs);
         one = ap (λ (f : Option First). replies (outcome_from setup refusal text now.inputs f)) e;
       }
 
-  call_replies : {R O P : Type 0} (view : R → Text) (number : O → ℕ) (step : Step) (told : Told) (x new : State) (given : Result (EvaluationResult R O P) Error) → HasReplied view number step x new given → Allows told (outcome_of setup refusal text told) step → Replies step told
-  call_replies view number Evaluate told x new given c h = record { reply_is = reply (meaning setup refusal text (unwrap_or told.first told.now) told.inputs); one = refl }
-  call_replies view number (Resume answer) told x new given c h = started_replies answer told told.first refl h
-  call_replies view number _ told x new given c h = absurd c
+  call_replies : {R O P : Type 0} (view : R → Text) (number : O → ℕ) (step : Step) (log : Log) (x new : State) (given : Result (EvaluationResult R O P) Error) → HasReplied view number step x new given → Allows log (outcome_of setup refusal text log) step → Replies step log
+  call_replies view number Evaluate log x new given c h = record { reply_is = reply (meaning setup refusal text (unwrap_or log.first log.now) log.inputs); one = refl }
+  call_replies view number (Resume answer) log x new given c h = started_replies answer log log.first refl h
+  call_replies view number _ log x new given c h = absurd c
 
 module _ {R : Type 0} (view : R → Text) (all : List (code.Step R)) (index : ℕ) (step : code.Step R) (is_next : slice_get all index ≡ Some step) where
   pub next_is : slice_get (steps_of view all) index ≡ Some (step_of view step)
@@ -93,23 +93,23 @@ module _ {R O P : Type 0} (view : R → Text) (number : O → ℕ) (first : Stat
         (sym (ap (replies_in view number) e ∙ map-append (reply_in view number) given (answer ∷ []))) called_on
 
     -- which found no room
-    pub overflowed : (limit : Option ℕ) → MayRefuse limit (length given) → WalksOver index (reply_in view number answer) limit first (steps_of view all) (replies_in view number given) new
+    pub overflowed : (limit : Option ℕ) → MayRefuse limit (length given) → OverflowsAt index (reply_in view number answer) limit first (steps_of view all) (replies_in view number given) new
     overflowed limit full =
         let done = take index (steps_of view all) in
         let one = reply_in view number answer in
         let before = replies_in view number given in
         let next = take_next view all index step is_next in
-        let whole = walks_all first (take (suc index) (steps_of view all)) (before ++ one ∷ []) new called_on in
+        let whole = does_all_by first (take (suc index) (steps_of view all)) (before ++ one ∷ []) new called_on in
         let r = whole.refusal in
-        let told = after_steps first.setup r first.text (told_at first) done in
-        let allowed = subst (AllAllowed first.setup r first.text (told_at first)) next whole.tells.allowed in
-        let calls = call_replies first.setup r first.text view number (step_of view step) told x new answer.0 h (last_allowed first.setup r first.text (told_at first) done (step_of view step) allowed) in
+        let log = after_steps first.setup r first.text (log_at first) done in
+        let allowed = subst (AllAllowed first.setup r first.text (log_at first)) next whole.are_done.allowed in
+        let calls = call_replies first.setup r first.text view number (step_of view step) log x new answer.0 h (last_allowed first.setup r first.text (log_at first) done (step_of view step) allowed) in
         record {
-          walks = whole;
-          before = same_front before (replies_of first.setup r first.text (told_at first) done) one calls.reply_is
-              (whole.tells.replies_are ∙ (ap (replies_of first.setup r first.text (told_at first)) next
-              ∙ (answers_more first.setup r first.text (told_at first) done (step_of view step)
-              ∙ ap (λ (l : List Reply). replies_of first.setup r first.text (told_at first) done ++ l) calls.one)));
+          does_all = whole;
+          before = same_front before (replies_of first.setup r first.text (log_at first) done) one calls.reply_is
+              (whole.are_done.replies_are ∙ (ap (replies_of first.setup r first.text (log_at first)) next
+              ∙ (answers_more first.setup r first.text (log_at first) done (step_of view step)
+              ∙ ap (λ (l : List Reply). replies_of first.setup r first.text (log_at first) done ++ l) calls.one)));
           inside = (step_of view step, next_is view all index step is_next);
           full = subst (MayRefuse limit) (sym (length-map given (reply_in view number))) full;
         }

@@ -10,12 +10,12 @@ use Rattle.dwarf_value.specs.declared.types.Value.TheVariants.{Generic}
 use Rattle.dwarf_value.specs.Values.{to_u64_of}
 use Rattle.dwarf_meaning.specs.Operations.{Operation}
 use Rattle.dwarf_meaning.specs.Operations as operation
-use Rattle.dwarf_meaning.specs.Locations.{Location, Piece, sized}
+use Rattle.dwarf_meaning.specs.Locations.{Location, Piece, sized_piece}
 use Rattle.dwarf_meaning.specs.Requests.{Request, OnAnswer, Answer, Input}
 use Rattle.dwarf_meaning.specs.Acts.{Act, RequestAct, act, Use, use_of}
 use Rattle.dwarf_meaning.specs.RunLaws.{waits_of}
-use Rattle.dwarf_meaning.specs.Stores.{address_bits, Store, Last, Plain, Pieced, Located, push_value, push_values, push_piece, push_caller, Next, Goes, RequestNext, FaultNext, done}
-use Rattle.dwarf_meaning.specs.Run.{Position, after_answer, can_count, counted, read, most, run}
+use Rattle.dwarf_meaning.specs.Stores.{address_bits, Store, Last, Plain, Pieced, Located, push_value, push_values, push_piece, push_caller, Next, Goes, RequestNext, FaultNext, do_act}
+use Rattle.dwarf_meaning.specs.Run.{Position, after_answer, can_count, count_one, read, most, run}
 use Rattle.dwarf_meaning.specs.Meaning.{Outcome, FaultOutcome, CompleteOutcome, completion_of}
 use Rattle.dwarf_meaning.specs.Rest.{State, Status, Start, Running, RequestStatus, CompleteStatus, FaultStatus, total_of_course, with_refusal}
 pub use Rattle.dwarf_meaning.specs.Rest.{Total, total, total_after}
@@ -119,7 +119,7 @@ PopsNumber old new None = (old.store.values ≡ []) × (new ≡ old)
 
 -- one more operation is counted, or the maximum doesn't allow it
 abbrev pub CountsOne : State → State → Bool → Type 0
-CountsOne old new true = (can_count old.store ≡ true) × (new ≡ with_store (counted old.store) old)
+CountsOne old new true = (can_count old.store ≡ true) × (new ≡ with_store (count_one old.store) old)
 CountsOne old new false = (can_count old.store ≡ false) × (new ≡ with_status (FaultStatus TooManyIterations) old)
 
 -- went to a place of the text, or there is no such place
@@ -155,8 +155,8 @@ IsNoBranch (operation.Skip target) = ⊥
 IsNoBranch _ = Unit {0}
 
 -- what an operation does to what is kept, if it was read
-abbrev pub done_at : Act → State → Store → Next
-done_at a x s = done x.setup x.place (length x.text.bytes) a s
+abbrev pub do_act_at : Act → State → Store → Next
+do_act_at a x s = do_act x.setup x.place (length x.text.bytes) a s
 
 -- f, of what is kept, leads to a place
 pub record LeadsToPlace (f : Store → Next) (old new : State) : Type 0 where
@@ -181,7 +181,7 @@ LeadsBy f old new _ = ⊥
 
 -- the operation was done: it leads on, or to a request, or for some refusal to a fault, which the state keeps
 abbrev pub Performs : Act → State → State → Type 0
-Performs a old new = LeadsBy (done_at a old) old new new.status
+Performs a old new = LeadsBy (do_act_at a old) old new new.status
 
 -- a request was opened, if there is one
 abbrev pub Asks : Option Request → OnAnswer → State → State → Type 0
@@ -191,7 +191,7 @@ Asks None on_answer old new = Unit {0}
 -- a piece after a location: it is ended, or the state keeps the fault
 abbrev pub EndsLocated : Location → Operation → State → State → Type 0
 EndsLocated location (operation.Piece size_in_bits bit_offset) old new =
-    Tried 0 (push_piece old.setup (sized size_in_bits bit_offset location)) (with_last Pieced old) new
+    Tried 0 (push_piece old.setup (sized_piece size_in_bits bit_offset location)) (with_last Pieced old) new
 EndsLocated location _ old new = new ≡ with_status (FaultStatus (InvalidExpressionTerminator (old.place - 1))) old
 
 -- ---- turns

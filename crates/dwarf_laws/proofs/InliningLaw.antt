@@ -13,26 +13,26 @@ use Rattle.dwarf_meaning.specs.Requests.{Request, RequiresAtLocation, LocationAn
 use Rattle.dwarf_meaning.specs.Kinds.{is_same_kind}
 use Rattle.dwarf_meaning.specs.Acts.{use_of}
 use Rattle.dwarf_meaning.specs.Stores.{Setup, Store, Last, Nothing, Plain, Pieced, Pushed, Called, Located, push_caller, push_value, push_piece}
-use Rattle.dwarf_meaning.specs.Run.{Position, End, CompleteEnd, RequestEnd, FaultEnd, Course, prepend, return_to_caller, after_push, run_callee, await_answer, counted, run}
-use Rattle.dwarf_meaning.specs.Meaning.{Outcome, RequestOutcome, FaultOutcome, CompleteOutcome, First, finish, finish_by, fresh, with_initial, outcome_of_end, course_of, meaning}
+use Rattle.dwarf_meaning.specs.Run.{Position, End, CompleteEnd, RequestEnd, FaultEnd, Course, prepend, return_to_caller, after_push, run_callee, await_answer, count_one, run}
+use Rattle.dwarf_meaning.specs.Meaning.{Outcome, RequestOutcome, FaultOutcome, CompleteOutcome, First, finish, finish_by, fresh_store, with_initial, outcome_of_end, course_of, meaning}
 use Rattle.dwarf_meaning.specs.Refusals.{Limits, Never}
-use Rattle.dwarf_meaning.specs.Rows.{no_limits}
+use Rattle.dwarf_meaning.specs.RowWords.{no_limits}
 use Rattle.dwarf_laws.specs.Inlining as inlining
 use Rattle.dwarf_laws.specs.Inlining.{CallSite, in_force, with_answer, StandsIn, IsInlinable, LeadsToCall, EndAlike, IsInlined, Inlining}
 use Rattle.dwarf_meaning.proofs.Splittings.{splitting_items, items_ok}
-use Rattle.dwarf_meaning.proofs.Decoded.{spelled_operation}
+use Rattle.dwarf_meaning.proofs.DecodingFacts.{spelled_operation}
 use Rattle.std.proofs.Math.Seq.{drop-append_seam}
 use Rattle.dwarf_laws.proofs.Calm.{free, calm, ahead}
 use Rattle.dwarf_laws.proofs.Mirror.{Fits, AsksToo, MirrorsAt, at_end, mirror}
-use Rattle.dwarf_laws.proofs.Texts.{AllStraight, straight_items, StraightFrom, callee_aligned, InCallee, beyond_aligned, Beside}
+use Rattle.dwarf_laws.proofs.TextPlaces.{AllStraight, straight_items, StraightFrom, callee_aligned, InCallee, beyond_aligned, Beside}
 use Rattle.dwarf_laws.proofs.Phase.{Reached, leads_as}
-use Rattle.dwarf_laws.proofs.Calling.{call_course, call_turn, straight_beyond, from}
+use Rattle.dwarf_laws.proofs.UpToCall.{call_course, call_turn, straight_beyond, from}
 
 -- ---- settings
 
 -- the called text as an answer that changes no setting
 abbrev pub answered : CallSite → Settings → Input
-answered site settings = record { settings = settings; answer = LocationAnswer (inlining.called site) }
+answered site settings = record { settings = settings; answer = LocationAnswer (inlining.callee_text site) }
 
 snoc_same : {A : Type 0} (a b : List A) (x : A) → a ++ x ∷ [] ≡ b ++ x ∷ [] → a ≡ b
 snoc_same [] [] x e = refl
@@ -148,13 +148,13 @@ module _ (encoding : Encoding) (bits : ℕ) where
     B = site.beyond
 
     abbrev outer : Text
-    outer = inlining.outer site
+    outer = inlining.outer_text site
 
     abbrev inlined : Text
-    inlined = inlining.inlined site
+    inlined = inlining.inlined_text site
 
     abbrev callee : Text
-    callee = inlining.called site
+    callee = inlining.callee_text site
 
     abbrev after_call : Position
     after_call = record { text = outer; place = length A + length K }
@@ -207,7 +207,7 @@ module _ (encoding : Encoding) (bits : ℕ) where
 
     -- the outer run from the call on, with the answer
     answered_call : (t : Store) (settings : Settings) (inputs : List Input)
-        → await_answer (run S) S after_call 0 (RequiresAtLocation offset) Push (counted (calm t))
+        → await_answer (run S) S after_call 0 (RequiresAtLocation offset) Push (count_one (calm t))
         (answered site settings ∷ inputs)
         ≡ (let u : Store = record t { settings = settings } in
         let c = run S callee 0 1 (ahead 1 u) inputs in return_to_caller (run S) after_call 0 c c.end)
@@ -218,11 +218,11 @@ module _ (encoding : Encoding) (bits : ℕ) where
     -- ---- the whole
 
     started : Option ℕ → First → Store
-    started None first = fresh first Never
-    started (Some number) first = record (fresh first Never) { values = Generic number ∷ [] }
+    started None first = fresh_store first Never
+    started (Some number) first = record (fresh_store first Never) { values = Generic number ∷ [] }
 
     starts : (o : Option ℕ) (first : First) (text : Text) (inputs : List Input)
-        → after_push (run S) (record { text = text; place = 0 }) 0 inputs (with_initial S o (fresh first Never))
+        → after_push (run S) (record { text = text; place = 0 }) 0 inputs (with_initial S o (fresh_store first Never))
         ≡ run S text 0 0 (calm (started o first)) inputs
     unfolding started push_value
     starts None first text inputs = refl
@@ -350,7 +350,7 @@ unlimited setup h = ap (λ (limits : Limits). record setup { limits = limits }) 
 pub inlines : Inlining
 inlines setup site offset first earlier later requests h =
     subst (λ (k : Setup). StandsIn k site offset → IsInlinable k site → LeadsToCall k site offset first earlier requests
-    → ((fault : Fault) → meaning k Never (inlining.outer site) first (with_answer site first earlier later) ≢ FaultOutcome fault)
+    → ((fault : Fault) → meaning k Never (inlining.outer_text site) first (with_answer site first earlier later) ≢ FaultOutcome fault)
     → IsInlined k site offset first earlier later requests)
     (unlimited setup h)
     (λ stands fit leads faultless. is_inlined setup.encoding setup.offset_bits site offset stands fit first earlier

@@ -16,7 +16,7 @@ use Rattle.dwarf_meaning.specs.Splitting.{items_of, items_at}
 use Rattle.dwarf_meaning.specs.Stores.{Setup, branch_target}
 use Rattle.dwarf_meaning.specs.Run.{read}
 use Rattle.dwarf_laws.specs.Inlining.{IsStraight}
-use Rattle.dwarf_meaning.proofs.Decoded.{operation_begins, operation_shortens, operation_before}
+use Rattle.dwarf_meaning.proofs.DecodingFacts.{operation_begins, operation_shortens, operation_before}
 use Rattle.dwarf_meaning.proofs.Splittings.{items_ok}
 use Rattle.dwarf_meaning.proofs.Branches.{branches_near}
 use Rattle.dwarf_laws.proofs.Jumps.{near_jumps, straight_jumps}

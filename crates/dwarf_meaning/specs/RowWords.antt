@@ -3,7 +3,7 @@ use Rattle.std.specs.Prelude.{ℕ, false, List, [], ◌∷◌, Some, None}
 use Rattle.dwarf_base.specs.declared.common.Format.TheVariants.{Dwarf32}
 use Rattle.dwarf_base.specs.Reads.{Text}
 use Rattle.dwarf_value.specs.declared.types.Value.TheVariants.{Generic}
-use Rattle.dwarf_meaning.specs.Locations.{Location, AtAddress, Piece, sized}
+use Rattle.dwarf_meaning.specs.Locations.{Location, AtAddress, Piece, sized_piece}
 use Rattle.dwarf_meaning.specs.Requests.{Answer, LocationAnswer, Input}
 use Rattle.dwarf_meaning.specs.Stores.{Setup}
 use Rattle.dwarf_meaning.specs.Run.{Position}
@@ -24,8 +24,8 @@ with_limits limits =
     record { encoding = record { address_size = 4; format = Dwarf32; version = 4 }; offset_bits = 64; limits = limits }
 
 -- the same without limits
-abbrev pub plain : Setup
-plain = with_limits no_limits
+abbrev pub dwarf4 : Setup
+dwarf4 = with_limits no_limits
 
 -- no initial value, no object address, and this maximum
 abbrev pub at_most : (maximum : ℕ) → First
@@ -36,13 +36,13 @@ abbrev pub unset : First
 unset = at_most 4294967295
 
 -- answers, with these settings still in force
-abbrev pub given : First → List Answer → List Input
-given first [] = []
-given first (answer ∷ answers) = record { settings = first.settings; answer = answer } ∷ given first answers
+abbrev pub inputs_of : First → List Answer → List Input
+inputs_of first [] = []
+inputs_of first (answer ∷ answers) = record { settings = first.settings; answer = answer } ∷ inputs_of first answers
 
--- a called text's bytes
-abbrev pub calls : List ℕ → Answer
-calls bytes = LocationAnswer (text bytes)
+-- the answer of a called text's bytes
+abbrev pub callee : List ℕ → Answer
+callee bytes = LocationAnswer (text bytes)
 
 -- a text that is open at a place
 abbrev pub open_at : List ℕ → (place : ℕ) → Position
@@ -50,12 +50,12 @@ open_at bytes place = record { text = text bytes; place = place }
 
 -- a piece of 32 bits
 abbrev pub word_at : Location → Piece
-word_at location = sized 32 None location
+word_at location = sized_piece 32 None location
 
 -- a generic value, and the whole variable at this address
-abbrev pub valued : (number address : ℕ) → Outcome
-valued number address = CompleteOutcome (whole (AtAddress address) ∷ []) (Some (Generic number))
+abbrev pub value_at : (number address : ℕ) → Outcome
+value_at number address = CompleteOutcome (whole (AtAddress address) ∷ []) (Some (Generic number))
 
 -- pieces, and no value
-abbrev pub pieced : List Piece → Outcome
-pieced pieces = CompleteOutcome pieces None
+abbrev pub pieces_only : List Piece → Outcome
+pieces_only pieces = CompleteOutcome pieces None

@@ -32,16 +32,16 @@ abbrev pub of_kind : (kind : ℕ) → DwexprOperation
 of_kind kind = record blank_operation { kind = kind }
 
 -- a kind and a number
-abbrev pub numbered : (kind number : ℕ) → DwexprOperation
-numbered kind number = record (of_kind kind) { number = number }
+abbrev pub with_number : (kind number : ℕ) → DwexprOperation
+with_number kind number = record (of_kind kind) { number = number }
 
 -- a kind and a signed number
-abbrev pub signed_operand : (kind : ℕ) → ℤ → DwexprOperation
-signed_operand kind number = record (of_kind kind) { signed_number = number }
+abbrev pub with_signed_number : (kind : ℕ) → ℤ → DwexprOperation
+with_signed_number kind number = record (of_kind kind) { signed_number = number }
 
 -- a kind and a base type
-abbrev pub typed : (kind base_type : ℕ) → DwexprOperation
-typed kind base_type = record (of_kind kind) { base_type = base_type }
+abbrev pub with_base_type : (kind base_type : ℕ) → DwexprOperation
+with_base_type kind base_type = record (of_kind kind) { base_type = base_type }
 
 -- 1 if it is so
 abbrev pub flag_of : Bool → ℕ
@@ -77,47 +77,48 @@ binary_kind Ne = kinds.NE
 -- the kind and the operands, but for a block
 abbrev pub operands_of : meaning.Operation → DwexprOperation
 operands_of (meaning.Deref base_type size space) =
-    record (typed kinds.DEREF base_type) { deref_size = size; flag = flag_of space }
+    record (with_base_type kinds.DEREF base_type) { deref_size = size; flag = flag_of space }
 operands_of meaning.Drop = of_kind kinds.DROP
-operands_of (meaning.Pick index) = numbered kinds.PICK index
+operands_of (meaning.Pick index) = with_number kinds.PICK index
 operands_of meaning.Swap = of_kind kinds.SWAP
 operands_of meaning.Rot = of_kind kinds.ROT
 operands_of (meaning.Unary operator) = of_kind (unary_kind operator)
 operands_of (meaning.Binary operator) = of_kind (binary_kind operator)
-operands_of (meaning.PlusConstant value) = numbered kinds.PLUS_CONSTANT value
-operands_of (meaning.Bra target) = signed_operand kinds.BRA target
-operands_of (meaning.Skip target) = signed_operand kinds.SKIP target
-operands_of (meaning.UnsignedConstant value) = numbered kinds.UNSIGNED_CONSTANT value
-operands_of (meaning.SignedConstant value) = signed_operand kinds.SIGNED_CONSTANT value
+operands_of (meaning.PlusConstant value) = with_number kinds.PLUS_CONSTANT value
+operands_of (meaning.Bra target) = with_signed_number kinds.BRA target
+operands_of (meaning.Skip target) = with_signed_number kinds.SKIP target
+operands_of (meaning.UnsignedConstant value) = with_number kinds.UNSIGNED_CONSTANT value
+operands_of (meaning.SignedConstant value) = with_signed_number kinds.SIGNED_CONSTANT value
 operands_of (meaning.Register register) = record (of_kind kinds.REGISTER) { register_number = register }
 operands_of (meaning.RegisterOffset register offset base_type) =
-    record (signed_operand kinds.REGISTER_OFFSET offset) { register_number = register; base_type = base_type }
-operands_of (meaning.FrameOffset offset) = signed_operand kinds.FRAME_OFFSET offset
+    record (with_signed_number kinds.REGISTER_OFFSET offset) { register_number = register; base_type = base_type }
+operands_of (meaning.FrameOffset offset) = with_signed_number kinds.FRAME_OFFSET offset
 operands_of meaning.Nop = of_kind kinds.NOP
 operands_of meaning.PushObjectAddress = of_kind kinds.PUSH_OBJECT_ADDRESS
-operands_of (meaning.Call (meaning.UnitRef offset)) = numbered kinds.CALL offset
-operands_of (meaning.Call (meaning.DebugInfoRef offset)) = record (numbered kinds.CALL offset) { flag = 1 }
+operands_of (meaning.Call (meaning.UnitRef offset)) = with_number kinds.CALL offset
+operands_of (meaning.Call (meaning.DebugInfoRef offset)) = record (with_number kinds.CALL offset) { flag = 1 }
 operands_of meaning.TLS = of_kind kinds.TLS
 operands_of meaning.CallFrameCFA = of_kind kinds.CALL_FRAME_CFA
-operands_of (meaning.Piece size_in_bits None) = numbered kinds.PIECE size_in_bits
+operands_of (meaning.Piece size_in_bits None) = with_number kinds.PIECE size_in_bits
 operands_of (meaning.Piece size_in_bits (Some bit_offset)) =
-    record (numbered kinds.PIECE size_in_bits) { flag = 1; detail = bit_offset }
+    record (with_number kinds.PIECE size_in_bits) { flag = 1; detail = bit_offset }
 operands_of (meaning.ImplicitValue bytes) = of_kind kinds.IMPLICIT_VALUE
 operands_of meaning.StackValue = of_kind kinds.STACK_VALUE
-operands_of (meaning.ImplicitPointer value byte_offset) = record (numbered kinds.IMPLICIT_POINTER value) { signed_number = byte_offset }
+operands_of (meaning.ImplicitPointer value byte_offset) =
+    record (with_number kinds.IMPLICIT_POINTER value) { signed_number = byte_offset }
 operands_of (meaning.EntryValue expression) = of_kind kinds.ENTRY_VALUE
-operands_of (meaning.ParameterRef offset) = numbered kinds.PARAMETER_REF offset
-operands_of (meaning.Address address) = numbered kinds.ADDRESS address
-operands_of (meaning.AddressIndex index) = numbered kinds.ADDRESS_INDEX index
-operands_of (meaning.ConstantIndex index) = numbered kinds.CONSTANT_INDEX index
-operands_of (meaning.TypedLiteral base_type value) = typed kinds.TYPED_LITERAL base_type
-operands_of (meaning.Convert base_type) = typed kinds.CONVERT base_type
-operands_of (meaning.Reinterpret base_type) = typed kinds.REINTERPRET base_type
+operands_of (meaning.ParameterRef offset) = with_number kinds.PARAMETER_REF offset
+operands_of (meaning.Address address) = with_number kinds.ADDRESS address
+operands_of (meaning.AddressIndex index) = with_number kinds.ADDRESS_INDEX index
+operands_of (meaning.ConstantIndex index) = with_number kinds.CONSTANT_INDEX index
+operands_of (meaning.TypedLiteral base_type value) = with_base_type kinds.TYPED_LITERAL base_type
+operands_of (meaning.Convert base_type) = with_base_type kinds.CONVERT base_type
+operands_of (meaning.Reinterpret base_type) = with_base_type kinds.REINTERPRET base_type
 operands_of meaning.Uninitialized = of_kind kinds.UNINITIALIZED
-operands_of (meaning.WasmLocal index) = numbered kinds.WASM_LOCAL index
-operands_of (meaning.WasmGlobal index) = numbered kinds.WASM_GLOBAL index
-operands_of (meaning.WasmStack index) = numbered kinds.WASM_STACK index
-operands_of (meaning.VariableValue offset) = numbered kinds.VARIABLE_VALUE offset
+operands_of (meaning.WasmLocal index) = with_number kinds.WASM_LOCAL index
+operands_of (meaning.WasmGlobal index) = with_number kinds.WASM_GLOBAL index
+operands_of (meaning.WasmStack index) = with_number kinds.WASM_STACK index
+operands_of (meaning.VariableValue offset) = with_number kinds.VARIABLE_VALUE offset
 
 -- the block, if the operation has one
 abbrev pub block_in : meaning.Operation → Option (List ℕ)
@@ -129,13 +130,13 @@ block_in _ = None
 -- ---- decoding
 
 -- nothing was decoded at this offset, and the code says why
-abbrev pub undecoded : (offset code : ℕ) → DwexprOperation
-undecoded offset code = record blank_operation { offset = offset; fault = code }
+abbrev pub undecoded_operation : (offset code : ℕ) → DwexprOperation
+undecoded_operation offset code = record blank_operation { offset = offset; fault = code }
 
 -- a fault was met after this opcode
 abbrev pub faulted : (offset opcode : ℕ) → Fault → DwexprOperation
 faulted offset opcode fault =
-    record (undecoded offset (code_of_fault fault)) { opcode = opcode; detail = number_of_fault fault }
+    record (undecoded_operation offset (code_of_fault fault)) { opcode = opcode; detail = number_of_fault fault }
 
 -- a block is the last part of its operation, which ends here
 abbrev pub with_block : (end : ℕ) → Option (List ℕ) → DwexprOperation → DwexprOperation
@@ -143,13 +144,13 @@ with_block end None shown = shown
 with_block end (Some block) shown = record shown { block_offset = end - length block; block_length = length block }
 
 -- an operation at this offset, with its opcode and this many bytes
-abbrev pub decoded : (offset opcode size : ℕ) → Operation → DwexprOperation
-decoded offset opcode size op =
+abbrev pub decoded_operation : (offset opcode size : ℕ) → Operation → DwexprOperation
+decoded_operation offset opcode size op =
     record (with_block (offset + size) (block_in op) (operands_of op)) { offset = offset; opcode = opcode; size = size }
 
 -- what is shown of what is read from the offset on, if this many bytes are left
 abbrev pub Decodes : (offset opcode left : ℕ) → Result (Operation × List ℕ) Fault → DwexprOperation → Type 0
-Decodes offset opcode left (Ok read) shown = shown ≡ decoded offset opcode (left - length read.1) read.0
+Decodes offset opcode left (Ok read) shown = shown ≡ decoded_operation offset opcode (left - length read.1) read.0
 Decodes offset opcode left (Err fault) shown = shown ≡ faulted offset opcode fault
 
 -- the bytes at the place that is shown are the block of what was read, if it has one

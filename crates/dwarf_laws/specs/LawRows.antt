@@ -5,12 +5,12 @@ use Rattle.dwarf_base.specs.Faults.{Fault}
 use Rattle.dwarf_meaning.specs.Operations.{UnitRef}
 use Rattle.dwarf_meaning.specs.Requests.{Request, RequiresAtLocation, Answer, Input}
 use Rattle.dwarf_meaning.specs.Stores.{Setup, Located}
-use Rattle.dwarf_meaning.specs.Meaning.{Outcome, FaultOutcome, First, course_of, meaning, fresh}
-use Rattle.dwarf_meaning.specs.Steps.{Step, Evaluate, Resume, outcome_of, AllAllowed, after_steps, Reply, replies_of, untold}
-use Rattle.dwarf_meaning.specs.Rows.{text, no_limits, plain, unset}
+use Rattle.dwarf_meaning.specs.Meaning.{Outcome, FaultOutcome, First, course_of, meaning, fresh_store}
+use Rattle.dwarf_meaning.specs.Steps.{Step, Evaluate, Resume, outcome_of, AllAllowed, after_steps, Reply, replies_of, empty_log}
+use Rattle.dwarf_meaning.specs.RowWords.{text, no_limits, dwarf4, unset}
 use Rattle.dwarf_meaning.specs.Refusals.{Refusal, Never}
 use Rattle.dwarf_laws.specs.Agreement.{AgreeingSteps, AgreeingOutcomes}
-use Rattle.dwarf_laws.specs.Inlining.{CallSite, outer, inlined, with_answer, StandsIn, IsInlinable, LeadsToCall, EndAlike}
+use Rattle.dwarf_laws.specs.Inlining.{CallSite, outer_text, inlined_text, with_answer, StandsIn, IsInlinable, LeadsToCall, EndAlike}
 use Rattle.dwarf_base.specs.declared.errors.Error.TheVariants.{InvalidPiece}
 use Rattle.dwarf_value.specs.declared.types.Value.{Value}
 use Rattle.dwarf_meaning.specs.Locations.{Location, Piece}
@@ -25,9 +25,9 @@ started_steps answers = Evaluate ∷ map Resume answers
 -- Steps from the beginning, each of them allowed: the replies to them, and their outcome.
 pub record ComeTo (setup : Setup) (bytes : List ℕ) (steps : List Step) (replied : List Reply)
     (outcome : Outcome) : Type 0 where
-  pub allowed : AllAllowed setup Never (text bytes) untold steps
-  pub replies : replies_of setup Never (text bytes) untold steps ≡ replied
-  pub comes : outcome_of setup Never (text bytes) (after_steps setup Never (text bytes) untold steps) ≡ Some outcome
+  pub allowed : AllAllowed setup Never (text bytes) empty_log steps
+  pub replies : replies_of setup Never (text bytes) empty_log steps ≡ replied
+  pub comes : outcome_of setup Never (text bytes) (after_steps setup Never (text bytes) empty_log steps) ≡ Some outcome
 
 -- Two runs by agreeing steps, for addresses of 4 bytes: the same replies, and the outcome of each.
 pub record ComeAlike (setup : Setup) (bytes : List ℕ) (steps others : List Step) (replied : List Reply)
@@ -47,18 +47,18 @@ call_site before beyond callee =
 -- after it.
 pub record IsWorked (site : CallSite) (earlier later : List Input) (before after : List Request)
     (outcome : Outcome) : Type 0 where
-  pub unlimited : plain.limits ≡ no_limits
-  pub stands : StandsIn plain site (UnitRef 5)
-  pub inlinable : IsInlinable plain site
-  pub leads : LeadsToCall plain site (UnitRef 5) unset earlier before
+  pub unlimited : dwarf4.limits ≡ no_limits
+  pub stands : StandsIn dwarf4 site (UnitRef 5)
+  pub inlinable : IsInlinable dwarf4 site
+  pub leads : LeadsToCall dwarf4 site (UnitRef 5) unset earlier before
   pub faultless : (fault : Fault)
-      → meaning plain Never (outer site) unset (with_answer site unset earlier later) ≢ FaultOutcome fault
-  pub outer_comes : meaning plain Never (outer site) unset (with_answer site unset earlier later) ≡ outcome
-  pub inlined_comes : meaning plain Never (inlined site) unset (earlier ++ later) ≡ outcome
+      → meaning dwarf4 Never (outer_text site) unset (with_answer site unset earlier later) ≢ FaultOutcome fault
+  pub outer_comes : meaning dwarf4 Never (outer_text site) unset (with_answer site unset earlier later) ≡ outcome
+  pub inlined_comes : meaning dwarf4 Never (inlined_text site) unset (earlier ++ later) ≡ outcome
   pub outer_asks :
-      (course_of plain Never (outer site) unset (with_answer site unset earlier later)).requests
+      (course_of dwarf4 Never (outer_text site) unset (with_answer site unset earlier later)).requests
       ≡ before ++ (RequiresAtLocation (UnitRef 5) ∷ after)
-  pub inlined_asks : (course_of plain Never (inlined site) unset (earlier ++ later)).requests ≡ before ++ after
+  pub inlined_asks : (course_of dwarf4 Never (inlined_text site) unset (earlier ++ later)).requests ≡ before ++ after
 
 -- ---- why the premises stand
 
@@ -79,14 +79,14 @@ pub record EndUnlike (setup : Setup) (bytes others : List ℕ) (first : First) (
 -- ---- how tight the bounds are (DWARF 5, section 2.5)
 
 -- an evaluation that counted and decoded so often, with these values, callers and pieces
-abbrev pub spent : (count decodings : ℕ) → List Value → List Position → List Piece → State
-spent count decodings values callers pieces = record {
+abbrev pub sample : (count decodings : ℕ) → List Value → List Position → List Piece → State
+sample count decodings values callers pieces = record {
   status = Running;
-  setup = plain;
+  setup = dwarf4;
   text = text [];
   place = 0;
   callers = callers;
-  store = record (fresh unset Never) { values = values; pieces = pieces; count = count };
+  store = record (fresh_store unset Never) { values = values; pieces = pieces; count = count };
   decodings = decodings;
 }
 
@@ -95,18 +95,18 @@ abbrev pub byte_at : Location → Piece
 byte_at location = record { size_in_bits = Some 8; bit_offset = None; location = location }
 
 -- the same state, but it met a fault
-abbrev pub failed : State → State
-failed x = record x { status = FaultStatus InvalidPiece }
+abbrev pub in_fault : State → State
+in_fault x = record x { status = FaultStatus InvalidPiece }
 
 -- the same state, in which a location waits for its piece
-abbrev pub located : Location → State → State
-located location x = record x { store = record x.store { last = Located location } }
+abbrev pub with_waiting : Location → State → State
+with_waiting location x = record x { store = record x.store { last = Located location } }
 
 -- a run that counted operations at these positions
-abbrev pub counted_at : List Position → Course
-counted_at path = record { path = path; requests = []; end = FaultEnd InvalidPiece }
+abbrev pub course_over : List Position → Course
+course_over path = record { path = path; requests = []; end = FaultEnd InvalidPiece }
 
 -- From the start, an evaluation may come to the first state, and not to its neighbour.
 pub record IsTight (new neighbour : State) : Type 0 where
-  pub holds : Spends 0 (spent 0 0 [] [] []) new
-  pub fails : Spends 0 (spent 0 0 [] [] []) neighbour → ⊥
+  pub holds : Spends 0 (sample 0 0 [] [] []) new
+  pub fails : Spends 0 (sample 0 0 [] [] []) neighbour → ⊥

@@ -10,8 +10,8 @@ use Rattle.dwarf_eval.specs.Permits.{IsOpenFor}
 use Rattle.dwarf_eval.specs.declared.op.results.EvaluationResult.{EvaluationResult}
 use Rattle.dwarf_eval.specs.declared.op.results.EvaluationResult.TheVariants as replied
 use Rattle.dwarf_replay.specs.Stepping.{HasReplied, IsSet}
-use Rattle.dwexpr_c.specs.Stepping.{DoesStep, Stops}
-use Rattle.dwexpr_c.specs.Texts.{text_of_placed}
+use Rattle.dwexpr_c.specs.StepEffects.{DoesStep, Stops}
+use Rattle.dwexpr_c.specs.CallerTexts.{text_of_placed}
 use Rattle.dwexpr_c.specs.declared.evaluating.Progress.{Progress}
 use Rattle.dwexpr_c.specs.declared.evaluating.Progress.TheVariants.{Set, Asked, Complete, Ended}
 use Rattle.dwexpr_c.specs.declared.faults.FaultNumbers.{FaultNumbers}
@@ -29,35 +29,35 @@ module _ (x new : State) where
   set_keeps (MaxIterations maximum) h = ap (λ (z : State). z.setup) h
   set_keeps _ h = absurd h
 
-  module _ (told : Result (EvaluationResult Placed ℕ ℕ) Error) where
+  module _ (result : Result (EvaluationResult Placed ℕ ℕ) Error) where
     -- the status is that of the reply
     pub record Replied : Type 0 where
       pub setup : new.setup ≡ x.setup
-      pub status : IsReplied (reply_of text_of_placed (λ x. x) told) new.status
+      pub status : IsReplied (reply_of text_of_placed (λ x. x) result) new.status
 
     -- it was replied before
-    again : (status : Status) (before : Result (EvaluationResult Placed ℕ ℕ) Error) → x.status ≡ status → told ≡ before → new ≡ x → IsReplied (reply_of text_of_placed (λ x. x) before) status → Replied
+    again : (status : Status) (before : Result (EvaluationResult Placed ℕ ℕ) Error) → x.status ≡ status → result ≡ before → new ≡ x → IsReplied (reply_of text_of_placed (λ x. x) before) status → Replied
     again status before e t n h =
         let stays : new.status ≡ status = ap (λ (z : State). z.status) n ∙ e in
         record {
           setup = same_keeps n;
           status =
-              subst (λ (s : Status). IsReplied (reply_of text_of_placed (λ x. x) told) s) (sym stays)
+              subst (λ (s : Status). IsReplied (reply_of text_of_placed (λ x. x) result) s) (sym stays)
               (subst (λ (r : Result (EvaluationResult Placed ℕ ℕ) Error). IsReplied (reply_of text_of_placed (λ x. x) r) status) (sym t) h);
         }
 
-    evaluated : (status : Status) → x.status ≡ status → IsClosed status → Evaluates text_of_placed (λ x. x) x new told status → Replied
+    evaluated : (status : Status) → x.status ≡ status → IsClosed status → Evaluates text_of_placed (λ x. x) x new result status → Replied
     evaluated (Start initial_value) e closed h = record { setup = h.kept.setup; status = h.status }
     evaluated (CompleteStatus value) e closed h = again (CompleteStatus value) (Ok replied.Complete) e h.0 h.1 refl
     evaluated (FaultStatus error) e closed h = again (FaultStatus error) (Err error) e h.0 h.1 refl
     evaluated _ e closed h = absurd h
 
-    resumed : (answer : requests.Answer) (status : Status) → x.status ≡ status → IsOpenFor (kind_of_answer answer) status → Resumes text_of_placed (λ x. x) (input_of x answer) x new told status → Replied
+    resumed : (answer : requests.Answer) (status : Status) → x.status ≡ status → IsOpenFor (kind_of_answer answer) status → Resumes text_of_placed (λ x. x) (input_of x answer) x new result status → Replied
     resumed answer (RequestStatus request on_answer) e asking h = record { setup = h.kept.setup; status = h.status }
     resumed answer (FaultStatus error) e asking h = again (FaultStatus error) (Err error) e h.0 h.1 refl
     resumed answer _ e asking h = absurd asking
 
-    pub replied_by : (step : Step) → HasReplied text_of_placed (λ x. x) step x new told → Replied
+    pub replied_by : (step : Step) → HasReplied text_of_placed (λ x. x) step x new result → Replied
     replied_by Evaluate h = evaluated x.status refl h.0 h.1
     replied_by (Resume answer) h = resumed answer x.status refl h.0 h.1
     replied_by _ h = absurd h
@@ -66,13 +66,13 @@ module _ (x new : State) where
     pub stop_keeps : (said : Result Step ℕ) (end : FaultNumbers) → Stops texts said x new end → new.setup ≡ x.setup
     stop_keeps (Ok step) end (inl h) = same_keeps h.same
     stop_keeps (Ok step) end (inr (inl h)) = (replied_by (Err h.error) step h.called).setup
-    stop_keeps (Ok step) end (inr (inr h)) = (replied_by (Ok h.told) step h.called).setup
+    stop_keeps (Ok step) end (inr (inr h)) = (replied_by (Ok h.result) step h.called).setup
     stop_keeps (Err code) end h = same_keeps h.1
 
     pub step_keeps : (said : Result Step ℕ) (index : ℕ) (before after : DwexprOutcome) (progress : Progress) → DoesStep texts said index x new before after progress → new.setup ≡ x.setup
     step_keeps said index before after Ended h = stop_keeps said h.end h.stops
     step_keeps (Ok step) index before after Set h = set_keeps step h.0
-    step_keeps (Ok step) index before after Asked h = (replied_by (Ok h.told) step h.called).setup
+    step_keeps (Ok step) index before after Asked h = (replied_by (Ok h.result) step h.called).setup
     step_keeps (Ok step) index before after Complete h = (replied_by (Ok replied.Complete) step h).setup
     step_keeps (Err code) index before after Set h = absurd h.0
     step_keeps (Err code) index before after _ h = absurd h

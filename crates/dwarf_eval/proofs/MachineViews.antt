@@ -4,7 +4,7 @@ use Rattle.std.specs.Prelude.{option_to_list, IfNone}
 use Rattle.std.proofs.lemmas.List.{reverse-append, append-nil, map-append, length-reverse, length-map}
 use Rattle.dwarf_value.specs.declared.types.Value.{Value}
 use Rattle.dwarf_meaning.specs.Rest.{State}
-use Rattle.dwarf_eval.specs.inner.Steps.{Pops, with_values, is_free}
+use Rattle.dwarf_eval.specs.inner.StateChanges.{Pops, with_values, is_free}
 use Rattle.std.specs.List.{AllByRecursion}
 use Rattle.dwarf_base.specs.Reads.{Text}
 use Rattle.dwarf_eval.specs.inner.Machine.{caller_of, callers_of, last_of}

@@ -1,7 +1,7 @@
 -- What one step of a caller does, and what is shown of it.
 use Rattle.std.specs.Prelude.{ℕ, List, Result, Ok, Err, ◌≡◌, ◌⊎◌, IsOkAnd, length}
 use Rattle.dwexpr_c.specs.Codes.{code_of_fault, number_of_fault}
-use Rattle.dwexpr_c.specs.Texts.{text_of_placed, AsksNowhere, SomeNowhere}
+use Rattle.dwexpr_c.specs.CallerTexts.{text_of_placed, AsksNowhere, SomeNowhere}
 use Rattle.dwexpr_c.specs.declared.steps.DwexprText.{DwexprText}
 use Rattle.dwarf_base.specs.declared.errors.Error.{Error}
 use Rattle.dwarf_base.specs.Faults.{fault_of}
@@ -22,8 +22,8 @@ use Rattle.dwexpr_c.specs.declared.places.Placed.{Placed}
 use Rattle.dwexpr_c.specs.declared.faults.TheConstants as codes
 
 -- the end with this code, which carries no number
-abbrev pub plain_end : (code : ℕ) → FaultNumbers
-plain_end code = record { code = code; number = 0 }
+abbrev pub code_alone : (code : ℕ) → FaultNumbers
+code_alone code = record { code = code; number = 0 }
 
 -- a call replied that the evaluation is complete
 abbrev pub Completes : Step → (old new : State) → Type 0
@@ -31,9 +31,9 @@ Completes step old new = HasReplied {R = Placed} {O = ℕ} {P = ℕ} text_of_pla
 
 -- a call replied a request, and that is shown
 pub record Asks (texts : List DwexprText) (step : Step) (old new : State) (after : DwexprOutcome) : Type 0 where
-  pub told : EvaluationResult Placed ℕ ℕ
-  pub called : HasReplied text_of_placed (λ x. x) step old new (Ok told)
-  pub shown : ShowsReply texts (ok_reply text_of_placed (λ x. x) told) after
+  pub result : EvaluationResult Placed ℕ ℕ
+  pub called : HasReplied text_of_placed (λ x. x) step old new (Ok result)
+  pub shown : ShowsReply texts (ok_reply text_of_placed (λ x. x) result) after
 
 -- a call met a fault
 pub record Failed (step : Step) (old new : State) (end : FaultNumbers) : Type 0 where
@@ -43,22 +43,22 @@ pub record Failed (step : Step) (old new : State) (end : FaultNumbers) : Type 0 
 
 -- a call asks of a block that is nowhere
 pub record Unplaced (texts : List DwexprText) (step : Step) (old new : State) (end : FaultNumbers) : Type 0 where
-  pub told : EvaluationResult Placed ℕ ℕ
-  pub called : HasReplied text_of_placed (λ x. x) step old new (Ok told)
-  pub asks : AsksNowhere texts (ok_reply text_of_placed (λ x. x) told)
-  pub shown : end ≡ plain_end codes.LOST_TEXT
+  pub result : EvaluationResult Placed ℕ ℕ
+  pub called : HasReplied text_of_placed (λ x. x) step old new (Ok result)
+  pub asks : AsksNowhere texts (ok_reply text_of_placed (λ x. x) result)
+  pub shown : end ≡ code_alone codes.LOST_TEXT
 
 -- the step isn't allowed, and nothing changes
 pub record NotTaken (step : Step) (old new : State) (end : FaultNumbers) : Type 0 where
   pub same : new ≡ old
   pub not_taken : MayTake step old.status → ⊥
-  pub shown : end ≡ plain_end codes.MISPLACED
+  pub shown : end ≡ code_alone codes.MISPLACED
 
 -- the step ended the evaluation, or the numbers say none
 abbrev pub Stops : List DwexprText → Result Step ℕ → (old new : State) → FaultNumbers → Type 0
 Stops texts (Ok step) old new end =
     NotTaken step old new end ⊎ (Failed step old new end ⊎ Unplaced texts step old new end)
-Stops texts (Err code) old new end = (end ≡ plain_end code) × (new ≡ old)
+Stops texts (Err code) old new end = (end ≡ code_alone code) × (new ≡ old)
 
 -- the step at this index ended the evaluation, or the numbers say none, and that is shown
 pub record Ends (texts : List DwexprText) (said : Result Step ℕ) (index : ℕ) (old new : State)

@@ -107,8 +107,8 @@ abbrev pub number_step : WaitingKind → (word : List ℕ) → Option Step
 number_step kind word = option_map (λ n. Resume (requests.NumberAnswer kind n)) (number_in word)
 
 -- the steps whose word is a number, a value or a type
-abbrev pub plain_step_in : (name word : List ℕ) → Option Step
-plain_step_in name word =
+abbrev pub textless_step_in : (name word : List ℕ) → Option Step
+textless_step_in name word =
     if bytes_eq name (codes "initial") then option_map InitialValue (number_in word)
     else if bytes_eq name (codes "object") then option_map ObjectAddress (number_in word)
     else if bytes_eq name (codes "max") then option_map MaxIterations (option_and_then (below 32) (number_in word))
@@ -132,7 +132,8 @@ location_step big bytes = Resume (requests.LocationAnswer (record { bytes = byte
 -- the step of this name and word
 abbrev pub named_step_in : (big : Bool) → (name word : List ℕ) → Option Step
 named_step_in big name word =
-    if bytes_eq name (codes "location") then option_map (location_step big) (bytes_in word) else plain_step_in name word
+    if bytes_eq name (codes "location") then option_map (location_step big) (bytes_in word)
+    else textless_step_in name word
 
 -- `evaluate`, or a name, a blank (32) and a word
 abbrev pub text_step_in : (big : Bool) → List ℕ → Option Step

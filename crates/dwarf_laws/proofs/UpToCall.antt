@@ -8,12 +8,12 @@ use Rattle.dwarf_meaning.specs.Operations.{Operation, DieReference}
 use Rattle.dwarf_meaning.specs.Requests.{Request, OnAnswer, Input, RequiresAtLocation, Push, Settings}
 use Rattle.dwarf_meaning.specs.Kinds.{kind_of_request, kind_of_answer, is_same_kind}
 use Rattle.dwarf_meaning.specs.Acts.{Act, Pushes, Branches, Locates, EndsPiece, RequestAct, FaultAct, Use, PushesAnswer, Calls, FaultUse, use_of, act}
-use Rattle.dwarf_meaning.specs.Stores.{Setup, address_bits, Store, Last, Nothing, Plain, Pieced, Pushed, Called, Located, push_value, push_caller, Next, Goes, RequestNext, FaultNext, goes, done}
-use Rattle.dwarf_meaning.specs.Run.{Position, End, CompleteEnd, RequestEnd, FaultEnd, Course, Continues, return_to_caller, after_push, enter_callee, run_callee, after_answer, with_input, await_answer, after_operation, read, can_count, counted, do_operation, turn_counted, counted_act, located_act, turn_by, turn, out_of_turns, run_for, enough, run, only_end, prepend}
+use Rattle.dwarf_meaning.specs.Stores.{Setup, address_bits, Store, Last, Nothing, Plain, Pieced, Pushed, Called, Located, push_value, push_caller, Next, Goes, RequestNext, FaultNext, goes, do_act}
+use Rattle.dwarf_meaning.specs.Run.{Position, End, CompleteEnd, RequestEnd, FaultEnd, Course, Continues, return_to_caller, after_push, enter_callee, run_callee, after_answer, with_input, await_answer, after_operation, read, can_count, count_one, do_operation, turn_counted, counted_act, located_act, turn_by, turn, out_of_turns, run_for, enough, run, only_end, prepend}
 use Rattle.dwarf_laws.specs.Inlining.{IsStraight}
 use Rattle.dwarf_laws.proofs.Jumps.{Jumping, pushes, branches, locates, ends, asks, refuses, straight_jumps, act_jumps, located_jumps}
 use Rattle.dwarf_laws.proofs.Calm.{free, calm}
-use Rattle.dwarf_laws.proofs.Texts.{stands, StraightFrom, straight_step}
+use Rattle.dwarf_laws.proofs.TextPlaces.{stands, StraightFrom, straight_step}
 use Rattle.std.proofs.lemmas.Bool.Decides.{nat_tests}
 use Rattle.std.proofs.lemmas.List.{drop-append-le, length-drop}
 use Rattle.std.proofs.Math.Seq.{drop-append_seam}
@@ -26,7 +26,7 @@ use Rattle.dwarf_meaning.specs.Splitting.{Joined}
 use Rattle.dwarf_meaning.specs.Splitting as splitting
 use Rattle.dwarf_meaning.proofs.Turns.{run_turn}
 use Rattle.dwarf_meaning.proofs.Callees.{EndOpen, run_open}
-use Rattle.dwarf_meaning.proofs.Decoded.{spelled_operation, some_bytes}
+use Rattle.dwarf_meaning.proofs.DecodingFacts.{spelled_operation, some_bytes}
 use Rattle.dwarf_laws.proofs.Phase as phase
 use Rattle.dwarf_laws.proofs.Phase.{last_place, last_snoc, positions_of, open_some, turn_leads}
 
@@ -41,7 +41,7 @@ leads_goes place (Ok s) = refl
 leads_goes place (Err fault) = tt
 
 pub leads_done : (setup : Setup) (place len : ℕ) (a : Act) (s : Store) → Jumping (λ z. ⊥) a
-    → LeadsTo place (done setup place len a s)
+    → LeadsTo place (do_act setup place len a s)
 leads_done setup place len (Pushes rest pushed) s pushes = leads_goes place _
 leads_done setup place len (Branches rest target) s (branches h) = absurd h
 leads_done setup place len (Locates rest location) s locates = refl
@@ -132,7 +132,7 @@ module _ (encoding : Encoding) (bits : ℕ) (T : Text) (q : ℕ) where
     counts_later : AsksBeyond T q (turn_counted go Free T p d s inputs).end
     counts_later =
         cond_both (can_count s) _ _ (λ (c : Course). AsksBeyond T q c.end)
-        (λ e. does_later (counted s) (counted_act Free s) (read Free T p)
+        (λ e. does_later (count_one s) (counted_act Free s) (read Free T p)
         (λ place op straight. act_jumps (λ z. ⊥) (address_bits Free) s.settings.object_address op s.values
         (straight_jumps (λ z. ⊥) op straight)) refl) (λ e. tt)
 
@@ -194,14 +194,14 @@ module _ (encoding : Encoding) (bits : ℕ) (A K B : List ℕ) (big : Bool) (off
   abbrev pub call_course : Store → List Input → Course
   call_course t inputs =
       prepend (record { text = outer; place = length A } ∷ []) []
-      (prepend [] (call ∷ []) (await_answer (run S) S after_call 0 call Push (counted (calm t)) inputs))
+      (prepend [] (call ∷ []) (await_answer (run S) S after_call 0 call Push (count_one (calm t)) inputs))
 
   does_call : (s : Store) (inputs : List Input) → do_operation (run S) S outer 0 s inputs (counted_act S s) (read S outer (length A)) ≡ prepend [] (call ∷ []) (await_answer (run S) S after_call 0 call Push s inputs)
   unfolding act
   does_call s inputs =
       ap (do_operation (run S) S outer 0 s inputs (counted_act S s)) read_call
       ∙ ap (λ (k : ℕ). after_operation (run S) S outer 0 k inputs
-      (done S k (length (A ++ (K ++ B))) (act (address_bits S) s.settings.object_address (operation.Call offset) s.values)
+      (do_act S k (length (A ++ (K ++ B))) (act (address_bits S) s.settings.object_address (operation.Call offset) s.values)
       s)) call_place
 
   counts_call : (t : Store) (before : List Input) → AtCall (turn_counted (run S) S outer (length A) 0 (calm t) before).end
@@ -211,12 +211,12 @@ module _ (encoding : Encoding) (bits : ℕ) (A K B : List ℕ) (big : Bool) (off
       by_test : (b : Bool) → can_count (calm t) ≡ b → turn_counted (run S) S outer (length A) 0 (calm t) inputs ≡ call_course t inputs
       by_test true e =
           cond-true (can_count (calm t)) _ _ e ∙ ap (prepend (record { text = outer; place = length A } ∷ []) [])
-          (does_call (counted (calm t)) inputs)
+          (does_call (count_one (calm t)) inputs)
       by_test false e =
           let x : FaultEnd TooManyIterations ≡ RequestEnd call (after_call ∷ []) [] = sym
           (ap (λ (c : Course). c.end) (cond-false (can_count (calm t))
           (prepend (record { text = outer; place = length A } ∷ []) []
-          (do_operation (run S) S outer 0 (counted (calm t)) before (counted_act S t) (read S outer (length A))))
+          (do_operation (run S) S outer 0 (count_one (calm t)) before (counted_act S t) (read S outer (length A))))
           (only_end (FaultEnd TooManyIterations)) e)) ∙ at_call in
           absurd cc
 
@@ -291,7 +291,7 @@ module _ (encoding : Encoding) (bits : ℕ) (A K B : List ℕ) (big : Bool) (off
     used_not (FaultUse fault) s inputs at_call = let x : FaultEnd fault ≡ RequestEnd call (after_call ∷ []) [] = at_call in cc
 
     asked_not : (t : Store) (input : Input) (inputs : List Input)
-        → AtCall (await_answer (run S) S after_call 0 call Push (counted (calm t)) (input ∷ inputs)).end → ⊥
+        → AtCall (await_answer (run S) S after_call 0 call Push (count_one (calm t)) (input ∷ inputs)).end → ⊥
     asked_not t input inputs =
         cond_both (is_same_kind (kind_of_request call) (kind_of_answer input.answer)) _ _ (λ (c : Course). AtCall c.end → ⊥)
         (λ fits. used_not (use_of (address_bits S) Push input.answer t.values) (record t

@@ -80,8 +80,6 @@ class Source:
             line = 1 + "".join(self.tokens[:index]).count("\n")
             raise Refused(f"{self.path}:{line}: {why}: `{self.tokens[index]}`")
 
-    # Changes.
-
     def replace(self, first, last, text):
         """Puts text in the place of code. Gives the place after it."""
         self.changed.update(dict.fromkeys(range(self.code[first], self.code[last] + 1), ""))
@@ -116,8 +114,6 @@ class Source:
         if places:
             self.settle()
         return len(places)
-
-    # What isn't Rust.
 
     def delete_contracts(self):
         """Deletes all that isn't Rust."""
@@ -184,8 +180,6 @@ class Source:
                 if self.word(name).endswith("_laws"):
                     self.delete(name, name + (self.word(name + 1) == ","), above="")
         self.settle()
-
-    # What is left.
 
     def left(self):
         """The text in the place of each token."""

@@ -3,7 +3,7 @@ use Rattle.std.proofs.Common.{◌≡◌, ℕ, Bool, true, false, List, [], ◌�
 use Rattle.std.proofs.lemmas.Bool.Decides.{nat_tests}
 use Rattle.std.specs.Int.{Width, w16, w32, w64, from_le_bytes, from_be_bytes}
 use Rattle.dwarf_base.specs.Faults.{Fault}
-use Rattle.dwarf_base.specs.Numbers.{number_of, little_of}
+use Rattle.dwarf_base.specs.Numbers.{number_of}
 use Rattle.dwarf_base.specs.Reads.{u8_at, split_at, fixed_at}
 use Rattle.dwarf_base.proofs.Suffixes.{length_taken}
 

@@ -1,4 +1,4 @@
-ghost use Rattle.std.specs.Prelude.{◌≡◌, [], length, slice_get};
+ghost use Rattle.std.specs.Prelude.{◌≡◌, []};
 ghost use Rattle.dwarf_meaning.specs.Bounds.{Spends};
 ghost use Rattle.dwarf_meaning.specs.Rest.{Start};
 ghost use Rattle.dwarf_replay.specs.Continuing.{Leaves, done_replies, done_steps, initial_items};

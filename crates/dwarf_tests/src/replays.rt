@@ -5,7 +5,7 @@ use crate::evaluation::{
     COMPLETE, Case, SMALL, Slice, expect, expect_of, expect_over_lists, expect_with_room, little,
     replayed, whole, with_result, without_result,
 };
-use dwarf_base::{Error, Register, UnitOffset};
+use dwarf_base::{Error, Reader, Register, UnitOffset};
 use dwarf_eval::eval::{Evaluation, Status, WaitingKind};
 use dwarf_eval::op::{DieReference, EvaluationResult, Location, Piece};
 use dwarf_eval::store::EvaluationStorage;
@@ -66,7 +66,23 @@ fn room_for_answers(rt: HostRuntime) {
     expect_with_room::<0>(&rt, rt.alloc(), &first);
 }
 
-// What was set before a replay counts. A step that isn't allowed changes nothing, and the evaluation goes on by hand.
+// An evaluation that waits for the address of the frame goes on by hand.
+fn expect_goes_on<R: Reader + Copy, S: EvaluationStorage<R>>(
+    rt: &impl Abort,
+    eval: &mut Evaluation<R, S>,
+) {
+    assert!(rt; eval.status() == Status::Waiting(WaitingKind::CallFrameCfa));
+    assert!(rt;
+        matches!(
+            eval.resume_with_call_frame_cfa(1),
+            Ok(EvaluationResult::Complete)
+        )
+    );
+    assert!(rt; eval.status() == Status::Complete);
+    assert!(rt; eval.value_result() == Some(Generic(0x7000)));
+}
+
+// What was set before a replay counts, and a step that isn't allowed changes nothing.
 fn expect_misplaced<'a, S: EvaluationStorage<Slice<'a>>>(
     rt: &impl Abort,
     alloc: Global,
@@ -79,10 +95,7 @@ fn expect_misplaced<'a, S: EvaluationStorage<Slice<'a>>>(
     let mut answers = Vec::new(alloc);
     let outcome = replayed(rt, alloc, &mut eval, case.steps, &mut answers);
     expect(rt, &outcome, answers.as_slice(), case);
-    assert!(rt; eval.status() == Status::Waiting(WaitingKind::CallFrameCfa));
-    assert!(rt; eval.resume_with_call_frame_cfa(1) == Ok(EvaluationResult::Complete));
-    assert!(rt; eval.status() == Status::Complete);
-    assert!(rt; eval.value_result() == Some(Generic(0x7000)));
+    expect_goes_on(rt, &mut eval);
 }
 
 #[test]

@@ -9,7 +9,7 @@ use Rattle.dwarf_meaning.specs.Meaning.{Outcome, RequestOutcome, FaultOutcome, C
 use Rattle.dwarf_meaning.specs.Requests.{Request}
 use Rattle.dwarf_meaning.specs.Rest.{State, Status, Start, RequestStatus, CompleteStatus, FaultStatus}
 use Rattle.dwarf_meaning.specs.Steps as meaning
-use Rattle.dwarf_meaning.specs.Steps.{Step, InitialValue, ObjectAddress, MaxIterations, Evaluate, Resume, Log, Reply, CompleteReply, RequestReply, FaultReply, Allows, AllAllowed, after_steps, outcome_of}
+use Rattle.dwarf_meaning.specs.Steps.{Step, InitialValue, ObjectAddress, MaxIterations, Log, Reply, CompleteReply, RequestReply, FaultReply, Allows, AllAllowed, after_steps, outcome_of}
 use Rattle.dwarf_meaning.specs.Refusals.{Limits, Refusal, Never, After, MayPick}
 use Rattle.dwarf_eval.specs.Evaluation.{IsReplied, reply_of, ok_reply}
 use Rattle.dwarf_eval.specs.declared.op.results.EvaluationResult.{EvaluationResult}
@@ -20,7 +20,7 @@ use Rattle.dwarf_replay.proofs.Standings.{Went, went_at_first}
 use Rattle.dwarf_replay.proofs.Settings.{set_went_on}
 use Rattle.dwarf_replay.proofs.CallSteps.{called_went_on}
 use Rattle.dwarf_replay.proofs.Leading.{does_all_by, stops_at}
-use Rattle.dwexpr_c.specs.Evaluated.{AreTaken, EndsByStep, Beginning, IsCutShort, IsNoFault, capacities, comes_of, log_by, EvaluatesGiven, ShowsOutcome, beginning, limited_setup}
+use Rattle.dwexpr_c.specs.Evaluated.{AreTaken, EndsByStep, Beginning, IsCutShort, IsNoFault, capacities, comes_of, log_by, EvaluatesGiven, ShowsOutcome}
 use Rattle.dwexpr_c.specs.Outcomes.{ShowsReply, ended_outcome, ShowsRequest, blank_outcome, step_coded}
 use Rattle.dwexpr_c.specs.StepEffects.{DoesStep, Ends, Stops, FinishesOutcome}
 use Rattle.dwexpr_c.specs.CallerTexts.{text_of_placed, AsksNowhere}
@@ -35,11 +35,7 @@ use Rattle.dwexpr_c.specs.declared.steps.DwexprStep.{DwexprStep}
 use Rattle.dwexpr_c.specs.declared.steps.DwexprText.{DwexprText}
 use Rattle.dwexpr_c.proofs.Given.{asks_somewhere, pieces_somewhere}
 use Rattle.dwexpr_c.proofs.KeptSetups.{replied_by, set_keeps, stop_keeps}
-use Rattle.dwarf_base.specs.declared.common.Encoding.{Encoding}
-use Rattle.dwarf_base.specs.Reads.{Text}
 use Rattle.dwarf_meaning.specs.Locations.{Piece}
-use Rattle.dwarf_meaning.specs.Stores.{Setup}
-use Rattle.dwarf_meaning.specs.Run.{most}
 use Rattle.dwexpr_c.specs.declared.pieces.DwexprPiece.{DwexprPiece}
 
 -- ---- what a call answered, and where the evaluation stands after it

@@ -1,12 +1,10 @@
-ghost use Rattle.std.specs.Prelude.{◌≡◌, None, map, option_map, slice_get};
+ghost use Rattle.std.specs.Prelude.{◌≡◌, None, option_map, slice_get};
 ghost use Rattle.dwarf_base.specs.ByteOrder.{is_big_of};
-ghost use Rattle.dwarf_op.specs.Views.{piece_of};
-ghost use Rattle.dwarf_meaning.specs.Rest.{CompleteStatus, Start};
+ghost use Rattle.dwarf_meaning.specs.Rest.{Start};
 ghost use Rattle.dwexpr_c.specs.Evaluated.{EvaluatesGiven};
 ghost use Rattle.dwexpr_c.specs.Held.{HasCapacities, StandsAfter};
 ghost use Rattle.dwexpr_c.specs.Outcomes.{ended_outcome, step_coded};
 ghost use Rattle.dwexpr_c.specs.StepEffects.{DoesStep, FinishesOutcome};
-ghost use Rattle.dwexpr_c.specs.CallerTexts.{text_of_placed};
 ghost use Rattle.dwexpr_c.specs.inner.Runs.{IsGiven, Runs, given_at, latest};
 
 use crate::faults::{FaultNumbers, LOST_TEXT, MISPLACED, code_alone, numbers_of};

@@ -2,7 +2,6 @@ ghost use Rattle.std.specs.Prelude.{◌≡◌, ◌-◌, length};
 ghost use Rattle.std.specs.Iterator.{item_count};
 ghost use Rattle.dwarf_base.specs.Reads.{IsRestOf, IsSuffix};
 ghost use Rattle.dwarf_meaning.specs.Decoding.{operation_at};
-ghost use Rattle.dwarf_meaning.specs.Splitting.{items_at};
 ghost use Rattle.dwarf_eval.specs.Iteration.{unread_of, encoding_of, items_left, GivesFirst, GivesNext, GivesItem};
 ghost use Rattle.dwarf_op.specs.Views.{operation_of};
 

@@ -14,7 +14,7 @@ use Rattle.dwarf_meaning.specs.Rest.{State}
 use Rattle.dwarf_meaning.specs.Steps.{RequestReply, FaultReply}
 use Rattle.dwarf_meaning.specs.Refusals.{After}
 use Rattle.dwarf_meaning.specs.Inputs.{fresh_state}
-use Rattle.dwarf_meaning.specs.RowWords.{text, dwarf4, unset, inputs_of, open_at}
+use Rattle.dwarf_meaning.specs.RowWords.{text, dwarf4, open_at}
 use Rattle.dwarf_meaning.proofs.Turns.{few_turns}
 use Rattle.dwarf_laws.specs.Agreement.{number, evaluate, resume}
 use Rattle.dwarf_laws.specs.LawRows.{started_steps}

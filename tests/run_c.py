@@ -16,54 +16,19 @@ import json
 import pathlib
 import re
 import shutil
-import subprocess
 import sys
 import tempfile
 
 TOP = pathlib.Path(__file__).resolve().parent.parent
 sys.dont_write_bytecode = True
-sys.path.insert(0, str(TOP / "bin"))
+sys.path[:0] = [str(TOP / "bin"), str(TOP / "tests")]
 import archive  # noqa: E402
+from checks import check, count, end, left_out, run  # noqa: E402
 
 CRATE = archive.CRATE
 ARCHIVE = archive.path_of()
 WARNINGS = ["-Wall", "-Wextra", "-Werror", f"-I{TOP / 'include'}"]
 SANITIZERS = ["-g", "-fsanitize=address,undefined", "-fno-sanitize-recover=all"]
-SECONDS = 300
-
-passed = failed = 0
-
-
-def count(good, bad, name, said=""):
-    global passed, failed
-    passed += good
-    failed += bad
-    if bad:
-        print(f"FAILED {name}\n{said}".rstrip())
-
-
-def run(words, seconds=SECONDS, given="", **more):
-    try:
-        return subprocess.run(
-            [str(word) for word in words],
-            text=True,
-            capture_output=True,
-            timeout=seconds,
-            input=given,
-            **more,
-        )
-    except (OSError, subprocess.TimeoutExpired) as error:
-        return subprocess.CompletedProcess(words, 1, "", str(error))
-
-
-def check(name, words, **more):
-    done = run(words, **more)
-    count(done.returncode == 0, done.returncode != 0, name, done.stdout + done.stderr)
-    return done.returncode == 0
-
-
-def left_out(what, lack):
-    print(f"left out: {what}: there is no {lack}")
 
 
 def headers():
@@ -180,7 +145,7 @@ def names():
     """The lines that tests/c/names.c reads: the number and the name of each opcode."""
     constants = (TOP / "crates/dwarf_base/src/constants.rt").read_text(encoding="utf-8")
     numbers = dict(re.findall(r"^pub const (DW_OP_\w+): DwOp = DwOp\(0x(\w+)\);", constants, re.MULTILINE))
-    expanded = run(["cc", "-E", "-x", "c", "-"], given="#include <dwarf.h>\n")
+    expanded = run(["cc", "-E", "-x", "c", "-"], input="#include <dwarf.h>\n")
     if expanded.returncode:
         left_out("the names of opcodes in dwarf.h", "dwarf.h")
     else:
@@ -201,7 +166,7 @@ def callers(folder):
             build = ["cc", "-std=c11", *words, *WARNINGS, source, ARCHIVE, "-o", program]
             if not check(f"{source.name}{kind}: build", build):
                 continue
-            done = run([program], given=given.get(source.stem, ""))
+            done = run([program], input=given.get(source.stem, ""))
             said = re.search(r"(\d+) passed, (\d+) failed\n\Z", done.stdout)
             if not said or (done.returncode != 0) != (said.group(2) != "0"):
                 count(0, 1, f"{source.name}{kind}", done.stdout + done.stderr)
@@ -242,8 +207,7 @@ def main():
             layout()
             callers(folder)
             decode(folder)
-    print(f"{passed} passed, {failed} failed")
-    return 1 if failed else 0
+    return end()
 
 
 if __name__ == "__main__":

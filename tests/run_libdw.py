@@ -23,7 +23,6 @@ import pathlib
 import platform
 import re
 import shutil
-import subprocess
 import sys
 import tempfile
 
@@ -31,7 +30,9 @@ TOP = pathlib.Path(__file__).resolve().parent.parent
 sys.dont_write_bytecode = True
 sys.path[:0] = [str(TOP / "bin"), str(TOP / "tests")]
 import archive  # noqa: E402
+import checks  # noqa: E402
 import compare_gdb  # noqa: E402
+from checks import check, count, end, left_out, run  # noqa: E402
 
 ARCHIVE = archive.path_of()
 LINKS = [ARCHIVE, "-ldw", "-lelf"]
@@ -39,37 +40,8 @@ STRICT = ["-std=c11", "-pedantic", "-Wall", "-Wextra", "-Werror", f"-I{TOP / 'in
 SANITIZERS = ["-g", "-fsanitize=address,undefined", "-fno-sanitize-recover=all"]
 DEBUG = pathlib.Path("/usr/lib/debug")
 ALL = "--all" in sys.argv
-SECONDS = 3000 if ALL else 300
-
-passed = failed = 0
-
-
-def count(good, bad, name, said=""):
-    global passed, failed
-    passed += good
-    failed += bad
-    if bad:
-        print(f"FAILED {name}\n{said}".rstrip())
-    return not bad
-
-
-def run(words, **more):
-    words = [str(word) for word in words]
-    try:
-        return subprocess.run(words, text=True, capture_output=True, timeout=SECONDS, check=False, **more)
-    except (OSError, subprocess.TimeoutExpired) as error:
-        return subprocess.CompletedProcess(words, 1, "", str(error))
-
-
-def check(name, words, **more):
-    done = run(words, **more)
-    good = done.returncode == 0
-    count(good, not good, name, done.stdout + done.stderr)
-    return done if good else None
-
-
-def left_out(what, lack):
-    print(f"left out: {what}: there is no {lack}")
+if ALL:
+    checks.SECONDS = 3000
 
 
 def built(source, program, *words):
@@ -277,8 +249,7 @@ def main():
         else:
             for stage in [headers, callers, round_trip, expressions, examples, with_gdb, hostile]:
                 stage(folder)
-    print(f"{passed} passed, {failed} failed")
-    return 1 if failed else 0
+    return end()
 
 
 if __name__ == "__main__":

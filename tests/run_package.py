@@ -25,8 +25,14 @@ import tempfile
 import time
 
 TOP = pathlib.Path(__file__).resolve().parent.parent
+sys.dont_write_bytecode = True
+sys.path.insert(0, str(TOP / "tests"))
+import checks  # noqa: E402
+from checks import check, count, end, left_out, run  # noqa: E402
+
 ARM = "aarch64-unknown-linux-gnu"
-SECONDS = 3600
+# The archive is proved for each processor.
+checks.SECONDS = 3600
 
 CMAKE = """\
 cmake_minimum_required(VERSION 3.10)
@@ -122,44 +128,19 @@ PROVED = re.compile(r"libdwexpr.a \S+ for \S+\ncommit \S+\nkit \S.*\nsources [0-
 WORDS = ["8", "4", "5", "le", "916c06"]
 WANTED = "0 DW_OP_fbreg -20\n2 DW_OP_deref\n"
 
-passed = failed = 0
-
-
-def run(words, **more):
-    words = [str(word) for word in words]
-    try:
-        return subprocess.run(words, text=True, capture_output=True, timeout=SECONDS, check=False, **more)
-    except (OSError, subprocess.TimeoutExpired) as error:
-        return subprocess.CompletedProcess(words, 1, "", str(error))
-
-
-def check(good, name, said=""):
-    global passed, failed
-    passed += bool(good)
-    failed += not good
-    if not good:
-        print(f"FAILED {name}\n{said}".rstrip())
-    return good
-
-
-def check_run(name, words, **more):
-    done = run(words, **more)
-    return check(done.returncode == 0, name, done.stdout + done.stderr)
+def expect(good, name, said=""):
+    return count(bool(good), not good, name, said)
 
 
 def check_decode(name, words, **more):
     done = run([*words, *WORDS], **more)
-    check(done.returncode == 0 and done.stdout == WANTED, name, done.stdout + done.stderr)
-
-
-def left_out(what, lack):
-    print(f"left out: {what}: there is no {lack}")
+    expect(done.returncode == 0 and done.stdout == WANTED, name, done.stdout + done.stderr)
 
 
 def packed(*words):
     """The package that bin/package writes."""
     done = run([TOP / "bin/package", *words])
-    if not check(done.returncode == 0, f"bin/package {' '.join(words)}", done.stdout + done.stderr):
+    if not expect(done.returncode == 0, f"bin/package {' '.join(words)}", done.stdout + done.stderr):
         return None
     return pathlib.Path(done.stdout.strip())
 
@@ -192,10 +173,10 @@ def crate_files(packed):
     """The names of the files of the Rust crate, which are those that were packed."""
     with tempfile.TemporaryDirectory() as name:
         crate = pathlib.Path(name, "dwexpr")
-        check_run("bin/crate", [TOP / "bin/crate", crate])
+        check("bin/crate", [TOP / "bin/crate", crate])
         names = [it.relative_to(crate) for it in crate.rglob("*") if it.is_file()]
         same = all((packed / it).exists() and (packed / it).read_bytes() == (crate / it).read_bytes() for it in names)
-        check(same, "the Rust crate is the one that bin/crate writes")
+        expect(same, "the Rust crate is the one that bin/crate writes")
         return names
 
 
@@ -205,12 +186,12 @@ def files_of(package):
     examples = {f"share/dwexpr/examples/{it.name}" for it in TOP.glob("examples/*.[ch]")}
     crate = {f"{RUST}/{name}" for name in crate_files(package / RUST)}
     wanted = {*FILES, *examples, *crate}
-    check(found == wanted, "the files of the package", f"{sorted(found - wanted)} and {sorted(wanted - found)}")
-    check(PROVED.fullmatch((package / "share/doc/dwexpr/PROVED").read_text()), "PROVED")
+    expect(found == wanted, "the files of the package", f"{sorted(found - wanted)} and {sorted(wanted - found)}")
+    expect(PROVED.fullmatch((package / "share/doc/dwexpr/PROVED").read_text()), "PROVED")
     pages = [it for it in package.rglob("*.md") if RUST not in str(it)]
     links = [(page, link) for page in pages for link in LINK.findall(page.read_text()) if "://" not in link]
     dead = [f"{page.name}: {link}" for page, link in links if not (page.parent / (link.split("#")[0] or ".")).exists()]
-    check(not dead, "the links of the package", "\n".join(dead))
+    expect(not dead, "the links of the package", "\n".join(dead))
 
 
 def refusals(folder):
@@ -223,7 +204,7 @@ def refusals(folder):
         shutil.copy2(TOP / name, top)
     archive = top / "crates/dwexpr_c/out/libdwexpr_c.a"
     words = [top / "bin/package", "--prefix", top / "prefix"]
-    check_run("the copy is packed", words)
+    check("the copy is packed", words)
     for name, path in [
         ("an archive of other sources", top / "crates/dwarf_base/src/lib.rt"),
         ("another archive", archive),
@@ -234,7 +215,7 @@ def refusals(folder):
         if path.exists():
             os.utime(path, times)
         done = run(words)
-        check(done.returncode == 1 and "isn't packed" in done.stderr, f"{name} isn't packed", done.stdout + done.stderr)
+        expect(done.returncode == 1 and "isn't packed" in done.stderr, f"{name} isn't packed", done.stdout + done.stderr)
         path.write_bytes(kept)
         os.utime(path, times)
 
@@ -245,26 +226,26 @@ def by_compilers(package, folder, env):
     if shutil.which("pkg-config"):
         asked = {**env, "PKG_CONFIG_PATH": str(package / "lib/pkgconfig")}
         done = run(["pkg-config", "--cflags", "--libs", "dwexpr"], env=asked)
-        check(done.returncode == 0, "pkg-config", done.stderr)
+        expect(done.returncode == 0, "pkg-config", done.stderr)
         flags = done.stdout.split()
     else:
         left_out("the words of pkg-config", "pkg-config")
     program = folder / "decode"
-    if check_run("decode.c by cc", ["cc", "-std=c11", source, *flags, "-o", program], env=env):
+    if check("decode.c by cc", ["cc", "-std=c11", source, *flags, "-o", program], env=env):
         check_decode("decode.c by cc, run", [program], env=env)
     caller, program = folder / "run.c", folder / "run"
     caller.write_text(RUN)
     words = ["cc", "-std=c11", "-Wall", "-Wextra", caller, *flags, "-o", program]
-    if check_run("a caller of dwexpr_run", words, env=env):
+    if check("a caller of dwexpr_run", words, env=env):
         done = run([program], env=env)
-        check(done.stdout == "0 aabb\n", "a caller of dwexpr_run, run", done.stdout + done.stderr)
+        expect(done.stdout == "0 aabb\n", "a caller of dwexpr_run, run", done.stdout + done.stderr)
     if not shutil.which("c++"):
         return left_out("a caller in C++", "c++")
     caller, program = folder / "caller.cpp", folder / "caller"
     caller.write_text(CPP)
-    if check_run("a caller in C++", ["c++", "-std=c++17", "-Wall", "-Wextra", caller, *flags, "-o", program], env=env):
+    if check("a caller in C++", ["c++", "-std=c++17", "-Wall", "-Wextra", caller, *flags, "-o", program], env=env):
         done = run([program], env=env)
-        check(done.stdout == "0 0x2ff0\n", "a caller in C++, run", done.stdout + done.stderr)
+        expect(done.stdout == "0 0x2ff0\n", "a caller in C++, run", done.stdout + done.stderr)
 
 
 def by_libdw(package, folder, env):
@@ -273,16 +254,16 @@ def by_libdw(package, folder, env):
     if not done or done.returncode:
         return left_out("examples/variable.c", "libdw for pkg-config")
     source, variable = package / "share/dwexpr/examples/variable.c", folder / "variable"
-    check_run("variable.c by cc", ["cc", "-std=c11", source, *done.stdout.split(), "-o", variable], env=env)
+    check("variable.c by cc", ["cc", "-std=c11", source, *done.stdout.split(), "-o", variable], env=env)
     loop, program = folder / "loop.c", folder / "loop"
     loop.write_text(LOOP)
-    check_run("a program with a variable", ["cc", "-g", "-O0", loop, "-o", program], env=env)
+    check("a program with a variable", ["cc", "-g", "-O0", loop, "-o", program], env=env)
     with subprocess.Popen([program]) as process:
         time.sleep(1)
         process.send_signal(signal.SIGSTOP)
         done = run([variable, process.pid, "answer"], env=env)
         process.kill()
-    check(done.stdout == "answer = 42\n", "variable.c, run", done.stdout + done.stderr)
+    expect(done.stdout == "answer = 42\n", "variable.c, run", done.stdout + done.stderr)
 
 
 def by_cmake(package, folder, env):
@@ -293,7 +274,7 @@ def by_cmake(package, folder, env):
     (project / "CMakeLists.txt").write_text(CMAKE)
     words = ["cmake", "-S", project, "-B", folder / "made", f"-DCMAKE_PREFIX_PATH={package}"]
     words.append(f"-DEXAMPLES={package / 'share/dwexpr/examples'}")
-    if check_run("CMake: configure", words, env=env) and check_run(
+    if check("CMake: configure", words, env=env) and check(
         "CMake: build", ["cmake", "--build", folder / "made"], env=env
     ):
         check_decode("CMake: run", [folder / "made/decode"], env=env)
@@ -310,7 +291,7 @@ def for_arm(folder, env):
     package = unpacked(package, folder)
     program = folder / "decode_arm"
     words = [compiler, "-static", package / "share/dwexpr/examples/decode.c", f"-I{package / 'include'}"]
-    if check_run(f"decode.c for {ARM}", [*words, f"-L{package / 'lib'}", "-ldwexpr", "-o", program], env=env):
+    if check(f"decode.c for {ARM}", [*words, f"-L{package / 'lib'}", "-ldwexpr", "-o", program], env=env):
         check_decode(f"decode.c for {ARM}, run", [runner, program], env=env)
 
 
@@ -320,22 +301,21 @@ def main():
         home = folder / "home"
         home.mkdir()
         env = environment(home)
-        check(shutil.which("rt", path=env["PATH"]) is None, "no rt on PATH")
+        expect(shutil.which("rt", path=env["PATH"]) is None, "no rt on PATH")
         package = packed()
         if package:
             first = package.read_bytes()
-            check(packed() == package and package.read_bytes() == first, "two packages are the same")
+            expect(packed() == package and package.read_bytes() == first, "two packages are the same")
             here = unpacked(package, folder)
             files_of(here)
             refusals(folder)
             by_compilers(here, folder, env)
             by_libdw(here, folder, env)
             by_cmake(here, folder, env)
-            check_run("bin/package --prefix", [TOP / "bin/package", "--prefix", folder / "prefix"])
-            check((folder / "prefix/lib/libdwexpr.a").exists(), "the prefix has the archive")
+            check("bin/package --prefix", [TOP / "bin/package", "--prefix", folder / "prefix"])
+            expect((folder / "prefix/lib/libdwexpr.a").exists(), "the prefix has the archive")
             for_arm(folder, env)
-    print(f"{passed} passed, {failed} failed")
-    return 1 if failed else 0
+    return end()
 
 
 if __name__ == "__main__":

@@ -5,16 +5,6 @@
 
 enum { ROUNDS = 20000, TEXTS = 8, BYTES = 200, MOST = 24 };
 
-static uint64_t state = 88172645463325252u;
-
-static uint64_t any(void)
-{
-    state ^= state << 13;
-    state ^= state >> 7;
-    state ^= state << 17;
-    return state;
-}
-
 /* A block is the bytes of a piece, or an expression whose value is asked for. */
 struct block {
     int is_piece;

@@ -1,4 +1,4 @@
-/* What the callers share: counts of checks, encodings, bytes from hexadecimal text. */
+/* What the callers share: counts of checks, encodings, bytes from hexadecimal text, made-up numbers. */
 #ifndef CHECK_H
 #define CHECK_H
 
@@ -52,6 +52,16 @@ static inline size_t bytes_of(const char *digits, uint8_t *bytes)
         digits += 2;
     }
     return count;
+}
+
+/* The next made-up number, of the same series in each run. */
+static inline uint64_t any(void)
+{
+    static uint64_t state = 88172645463325252u;
+    state ^= state << 13;
+    state ^= state >> 7;
+    state ^= state << 17;
+    return state;
 }
 
 #endif

@@ -6,16 +6,6 @@
 
 enum { PAGE = 4096, ROUNDS = 200000 };
 
-static uint64_t state = 88172645463325252u;
-
-static uint64_t any(void)
-{
-    state ^= state << 13;
-    state ^= state >> 7;
-    state ^= state << 17;
-    return state;
-}
-
 /* the end of two pages, before one that can't be touched */
 static uint8_t *guarded(void)
 {

@@ -4,16 +4,6 @@
 
 enum { ROUNDS = 1000000, STEPS = 8, PLACES = 4 };
 
-static uint64_t state = 88172645463325252u;
-
-static uint64_t any(void)
-{
-    state ^= state << 13;
-    state ^= state >> 7;
-    state ^= state << 17;
-    return state;
-}
-
 /* Bytes of an operation: of those that push, of those that change what was pushed, or of those that end a piece. In a
  * few of them a byte is any. */
 static size_t any_operation(uint8_t *bytes, size_t *depth)

@@ -1,0 +1,44 @@
+"""What the scripts that run programs share: a count of checks, and runs that end."""
+
+import subprocess
+
+# How long a program may take.
+SECONDS = 300
+
+passed = failed = 0
+
+
+def count(good, bad, name, said=""):
+    """Counts checks, and prints the name if one failed. Whether none did."""
+    global passed, failed
+    passed += good
+    failed += bad
+    if bad:
+        print(f"FAILED {name}\n{said}".rstrip())
+    return not bad
+
+
+def left_out(what, lack):
+    print(f"left out: {what}: there is no {lack}")
+
+
+def run(words, **more):
+    """Runs a program. The status is 1 if it can't be run or takes too long."""
+    words = [str(word) for word in words]
+    try:
+        return subprocess.run(words, text=True, capture_output=True, timeout=SECONDS, check=False, **more)
+    except (OSError, subprocess.TimeoutExpired) as error:
+        return subprocess.CompletedProcess(words, 1, "", str(error))
+
+
+def check(name, words, **more):
+    """Runs a program, which has to end with status 0. What it said, or `None` if it ended otherwise."""
+    done = run(words, **more)
+    good = done.returncode == 0
+    return done if count(good, not good, name, done.stdout + done.stderr) else None
+
+
+def end():
+    """Prints the count. The status of the script."""
+    print(f"{passed} passed, {failed} failed")
+    return 1 if failed else 0

@@ -2,8 +2,8 @@
 """Builds bench/, and compares what gimli, the proved library, and the Rust crate answer. So `bench/run` proves nothing
 after the gate.
 
-Without a network, DWEXPR_GIMLI and DWEXPR_ARRAYVEC have to name folders, as bench/README.md says. If they don't, this is
-left out.
+Without a network, DWEXPR_GIMLI and DWEXPR_ARRAYVEC have to name folders, as bench/README.md says. If they don't, this
+is left out.
 """
 
 import os

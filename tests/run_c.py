@@ -5,8 +5,8 @@
   handler; as they are, and built with the sanitizers of addresses and of undefined behaviour. decode.c is given the
   vectors of tests/vectors/decode.json, cut.c the expressions of tests/rows, and names.c the names of libdw's dwarf.h,
   or the repository's if that lacks them.
-- include: the headers, without a warning as C11, C17 and C++17. The structs of the crate have the fields of dwexpr.h, by
-  name, type and order, and so the places that it asserts.
+- include: the headers, without a warning as C11, C17 and C++17. The structs of the crate have the fields of dwexpr.h,
+  by name, type and order, and so the places that it asserts.
 - examples/decode.c is compared with what it is to print.
 
 It wants cc; what else is missing is left out, and said so. The last line is `N passed, M failed`.

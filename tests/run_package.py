@@ -215,7 +215,8 @@ def refusals(folder):
         if path.exists():
             os.utime(path, times)
         done = run(words)
-        expect(done.returncode == 1 and "isn't packed" in done.stderr, f"{name} isn't packed", done.stdout + done.stderr)
+        is_refused = done.returncode == 1 and "isn't packed" in done.stderr
+        expect(is_refused, f"{name} isn't packed", done.stdout + done.stderr)
         path.write_bytes(kept)
         os.utime(path, times)
 

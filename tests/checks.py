@@ -1,6 +1,13 @@
-"""What the scripts that run programs share: a count of checks, and runs that end."""
+"""What the scripts that run programs share: a count of checks, runs that end, and how C is compiled."""
 
+import pathlib
+import shutil
 import subprocess
+
+# What a compiler of C or C++ is told: to take no warning, and where the headers are.
+STRICT = ["-pedantic", "-Wall", "-Wextra", "-Werror", f"-I{pathlib.Path(__file__).resolve().parent.parent / 'include'}"]
+# The compilers that have to read the headers, each by a standard.
+COMPILERS = [("cc", "c11"), ("cc", "c17"), ("c++", "c++17"), ("clang", "c11"), ("clang++", "c++17")]
 
 # How long a program may take.
 SECONDS = 300
@@ -36,6 +43,18 @@ def check(name, words, **more):
     done = run(words, **more)
     good = done.returncode == 0
     return done if count(good, not good, name, done.stdout + done.stderr) else None
+
+
+def check_headers(*names):
+    """Has each compiler read these headers."""
+    text = "".join(f'#include "{name}"\n' for name in names)
+    for compiler, standard in COMPILERS:
+        what = f"{names[0]} by {compiler} -std={standard}"
+        if shutil.which(compiler):
+            words = [f"-std={standard}", "-x", standard.rstrip("0123456789"), *STRICT, "-Wshadow", "-fsyntax-only", "-"]
+            check(what, [compiler, *words], input=text)
+        else:
+            left_out(what, compiler)
 
 
 def end():

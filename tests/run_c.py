@@ -23,31 +23,11 @@ TOP = pathlib.Path(__file__).resolve().parent.parent
 sys.dont_write_bytecode = True
 sys.path[:0] = [str(TOP / "bin"), str(TOP / "tests")]
 import archive  # noqa: E402
-from checks import check, count, end, left_out, run  # noqa: E402
+from checks import STRICT, check, check_headers, count, end, left_out, run  # noqa: E402
 
 CRATE = archive.CRATE
 ARCHIVE = archive.path_of()
-WARNINGS = ["-Wall", "-Wextra", "-Werror", f"-I{TOP / 'include'}"]
 SANITIZERS = ["-g", "-fsanitize=address,undefined", "-fno-sanitize-recover=all"]
-
-
-def headers():
-    text = '#include "dwexpr_run.h"\nint main(void) { return 0; }\n'
-    for compiler, words in [
-        ("cc", ["-std=c11"]),
-        ("cc", ["-std=c17"]),
-        ("c++", ["-std=c++17", "-x", "c++"]),
-        ("clang", ["-std=c11"]),
-        ("clang++", ["-std=c++17", "-x", "c++"]),
-    ]:
-        name = f"the headers by {compiler} {words[0]}"
-        if not shutil.which(compiler):
-            left_out(name, compiler)
-            continue
-        with tempfile.NamedTemporaryFile("w", suffix=".c") as file:
-            file.write(text)
-            file.flush()
-            check(name, [compiler, *words, "-pedantic", *WARNINGS, "-fsyntax-only", file.name])
 
 
 STRUCTS = ["encoding", "operation", "text", "step", "value", "outcome", "piece"]
@@ -163,7 +143,7 @@ def callers(folder):
             if kind and source.stem == "signal":
                 continue
             program = folder / (source.stem + kind.replace(" ", "_"))
-            build = ["cc", "-std=c11", *words, *WARNINGS, source, ARCHIVE, "-o", program]
+            build = ["cc", "-std=c11", *words, *STRICT, source, ARCHIVE, "-o", program]
             if not check(f"{source.name}{kind}: build", build):
                 continue
             done = run([program], input=given.get(source.stem, ""))
@@ -187,7 +167,7 @@ DECODED = """\
 
 def decode(folder):
     program = folder / "decode"
-    build = ["cc", "-std=c11", "-pedantic", *WARNINGS, TOP / "examples/decode.c", ARCHIVE, "-o", program]
+    build = ["cc", "-std=c11", *STRICT, TOP / "examples/decode.c", ARCHIVE, "-o", program]
     if check("examples/decode.c: build", build):
         done = run([program, "8", "4", "5", "le", "916c06a301559e02aabb9d030501"])
         good = done.stdout == DECODED and done.returncode == 1
@@ -203,7 +183,7 @@ def main():
     else:
         with tempfile.TemporaryDirectory() as name:
             folder = pathlib.Path(name)
-            headers()
+            check_headers("dwexpr_run.h")
             layout()
             callers(folder)
             decode(folder)

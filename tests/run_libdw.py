@@ -32,11 +32,10 @@ sys.path[:0] = [str(TOP / "bin"), str(TOP / "tests")]
 import archive  # noqa: E402
 import checks  # noqa: E402
 import compare_gdb  # noqa: E402
-from checks import check, count, end, left_out, run  # noqa: E402
+from checks import STRICT, check, check_headers, count, end, left_out, run  # noqa: E402
 
 ARCHIVE = archive.path_of()
 LINKS = [ARCHIVE, "-ldw", "-lelf"]
-STRICT = ["-std=c11", "-pedantic", "-Wall", "-Wextra", "-Werror", f"-I{TOP / 'include'}"]
 SANITIZERS = ["-g", "-fsanitize=address,undefined", "-fno-sanitize-recover=all"]
 DEBUG = pathlib.Path("/usr/lib/debug")
 ALL = "--all" in sys.argv
@@ -47,24 +46,7 @@ if ALL:
 def built(source, program, *words):
     """Builds a source without a warning: the program, or None."""
     name = f"{source.relative_to(TOP)}: build"
-    return program if check(name, ["cc", *STRICT, *words, source, *LINKS, "-o", program]) else None
-
-
-def headers(folder):
-    source = folder / "headers.c"
-    source.write_text('#include "dwexpr_libdw.h"\n#include "dwexpr_names.h"\nint main(void) { return 0; }\n')
-    for compiler, words in [
-        ("cc", ["-std=c11"]),
-        ("cc", ["-std=c17"]),
-        ("c++", ["-std=c++17", "-x", "c++"]),
-        ("clang", ["-std=c11"]),
-        ("clang++", ["-std=c++17", "-x", "c++"]),
-    ]:
-        name = f"dwexpr_libdw.h by {compiler} {words[0]}"
-        if shutil.which(compiler):
-            check(name, [compiler, *STRICT[1:], "-Wshadow", *words, "-fsyntax-only", source])
-        else:
-            left_out(name, compiler)
+    return program if check(name, ["cc", "-std=c11", *STRICT, *words, source, *LINKS, "-o", program]) else None
 
 
 def callers(folder):
@@ -171,7 +153,7 @@ def examples(folder):
     good = done.stdout == INNERMOST + "\n"
     count(good, not good, "examples/variable.c", done.stdout + done.stderr)
     if shutil.which("c++"):
-        words = ["-std=c++17", *STRICT[2:], TOP / "tests/libdw/stack.cpp", *LINKS, "-o", folder / "stack"]
+        words = ["-std=c++17", *STRICT, TOP / "tests/libdw/stack.cpp", *LINKS, "-o", folder / "stack"]
         if check("stack.cpp: build", ["c++", *words]):
             done = run([folder / "stack", process.pid])
             count(done.stdout == "middle\n", done.stdout != "middle\n", "stack.cpp", done.stdout + done.stderr)
@@ -247,7 +229,8 @@ def main():
         elif failure := archive.build():
             count(0, 1, "the archive", failure)
         else:
-            for stage in [headers, callers, round_trip, expressions, examples, with_gdb, hostile]:
+            check_headers("dwexpr_libdw.h", "dwexpr_names.h")
+            for stage in [callers, round_trip, expressions, examples, with_gdb, hostile]:
                 stage(folder)
     return end()
 

@@ -25,6 +25,11 @@ def count(good, bad, name, said=""):
     return not bad
 
 
+def expect(good, name, said=""):
+    """Counts one check."""
+    return count(bool(good), not good, name, said)
+
+
 def left_out(what, lack):
     print(f"left out: {what}: there is no {lack}")
 
@@ -41,8 +46,7 @@ def run(words, **more):
 def check(name, words, **more):
     """Runs a program, which has to end with status 0. What it said, or `None` if it ended otherwise."""
     done = run(words, **more)
-    good = done.returncode == 0
-    return done if count(good, not good, name, done.stdout + done.stderr) else None
+    return done if expect(done.returncode == 0, name, done.stdout + done.stderr) else None
 
 
 def check_headers(*names):

@@ -22,6 +22,9 @@ import subprocess
 import sys
 import tempfile
 
+sys.dont_write_bytecode = True
+from checks import end, expect  # noqa: E402
+
 TOP = pathlib.Path(__file__).resolve().parent.parent
 BUILD = TOP / "bin" / "build"
 PROGRAM = TOP / "crates" / "dwexpr" / "out" / "dwexpr"
@@ -113,16 +116,6 @@ RUNS = [
     ),
 ]
 
-passed = failed = 0
-
-
-def count(good, said):
-    global passed, failed
-    passed += good
-    failed += not good
-    if not good:
-        print(said)
-
 
 def run(library, kind, number, digits, text, command="eval", failure=errno.EIO):
     """What is printed, what is said on standard error, and the status, if this call of a kind is refused so."""
@@ -156,13 +149,13 @@ def refuse_allocations(library):
             is_whole = (printed, status) == (ample, 0)
             is_met = is_met or not is_whole
             good = is_whole or is_allowed(steps, ample, printed, status)
-            count(good, f"{name}, allocation {number} refused: it printed {printed!r}, status {status}")
+            expect(good, f"{name}, allocation {number} refused: it printed {printed!r}, status {status}")
         if number == 1:
-            count(is_met, "no run met the refusal of its first allocation")
+            expect(is_met, "no run met the refusal of its first allocation")
         in_a_row = 0 if is_met else in_a_row + 1
         if in_a_row == IN_A_ROW:
             return
-    count(False, f"{MOST} numbers did not end the runs")
+    expect(False, f"{MOST} numbers did not end the runs")
 
 
 def refuse_reads(library):
@@ -171,7 +164,7 @@ def refuse_reads(library):
         for number in range(1, len(text) + 2):
             printed, said, status = got = run(library, "READ", number, "31", text)
             good = (printed, status) == ("", 1) and said.startswith("dwexpr: standard input can't be read: ")
-            count(good, f"input {text!r}, read {number} refused: {got!r}")
+            expect(good, f"input {text!r}, read {number} refused: {got!r}")
 
 
 def refuse_writes(library):
@@ -179,7 +172,7 @@ def refuse_writes(library):
         for number, failure in itertools.product(range(1, len(wanted) + 1), (errno.EIO, 0)):
             printed, said, status = got = run(library, "WRITE", number, digits, text, command, failure)
             good = (printed, status) == (wanted[: number - 1], 1) and "standard output can't be written: " in said
-            count(good, f"{digits}, write {number} refused by {failure}: {got!r}")
+            expect(good, f"{digits}, write {number} refused by {failure}: {got!r}")
 
 
 def interrupt(library):
@@ -188,7 +181,7 @@ def interrupt(library):
             for number in range(1, moved + 1):
                 printed, _, status = got = run(library, kind, number, digits, text, command, errno.EINTR)
                 good = (printed, status) == (wanted, wanted_status)
-                count(good, f"{digits}, {kind.lower()} {number} interrupted: {got!r}")
+                expect(good, f"{digits}, {kind.lower()} {number} interrupted: {got!r}")
 
 
 def main():
@@ -198,14 +191,13 @@ def main():
         words = ["cc", "-std=c11", "-O1", "-Wall", "-Wextra", "-Werror", "-shared", "-fPIC"]
         words += [str(TOP / "tests" / "refuse.c"), "-o", str(library)]
         if built.returncode != 0 or subprocess.run(words, check=False).returncode != 0:
-            count(False, "the program, or what refuses its calls, was not built")
+            expect(False, "the program, or what refuses its calls, was not built")
         else:
             refuse_allocations(library)
             refuse_reads(library)
             refuse_writes(library)
             interrupt(library)
-    print(f"{passed} passed, {failed} failed")
-    return 1 if failed else 0
+    return end()
 
 
 if __name__ == "__main__":

@@ -23,7 +23,7 @@ TOP = pathlib.Path(__file__).resolve().parent.parent
 sys.dont_write_bytecode = True
 sys.path[:0] = [str(TOP / "bin"), str(TOP / "tests")]
 import archive  # noqa: E402
-from checks import STRICT, check, check_headers, count, end, left_out, run  # noqa: E402
+from checks import STRICT, check, check_headers, count, end, expect, left_out, run  # noqa: E402
 
 CRATE = archive.CRATE
 ARCHIVE = archive.path_of()
@@ -85,7 +85,7 @@ def layout():
 
 
 def count_one(name, got, wanted):
-    count(got == wanted, got != wanted, name, f"{got} is not {wanted}")
+    expect(got == wanted, name, f"{got} is not {wanted}")
 
 
 def numbers_of(encoding):
@@ -149,7 +149,7 @@ def callers(folder):
             done = run([program], input=given.get(source.stem, ""))
             said = re.search(r"(\d+) passed, (\d+) failed\n\Z", done.stdout)
             if not said or (done.returncode != 0) != (said.group(2) != "0"):
-                count(0, 1, f"{source.name}{kind}", done.stdout + done.stderr)
+                expect(False, f"{source.name}{kind}", done.stdout + done.stderr)
             else:
                 count(int(said.group(1)), int(said.group(2)), f"{source.name}{kind}", done.stdout + done.stderr)
 
@@ -171,15 +171,15 @@ def decode(folder):
     if check("examples/decode.c: build", build):
         done = run([program, "8", "4", "5", "le", "916c06a301559e02aabb9d030501"])
         good = done.stdout == DECODED and done.returncode == 1
-        count(good, not good, "examples/decode.c", done.stdout + done.stderr)
+        expect(good, "examples/decode.c", done.stdout + done.stderr)
 
 
 def main():
     if not shutil.which("cc"):
         print("tests/run_c.py: cc isn't on PATH: add a C compiler")
-        count(0, 1, "cc")
+        expect(False, "cc")
     elif failure := archive.build():
-        count(0, 1, "the archive", failure)
+        expect(False, "the archive", failure)
     else:
         with tempfile.TemporaryDirectory() as name:
             folder = pathlib.Path(name)

@@ -18,12 +18,15 @@ import os
 import pathlib
 import re
 import shutil
-import subprocess
 import sys
 import tempfile
 
+sys.dont_write_bytecode = True
+import checks  # noqa: E402
+from checks import check, end, expect, left_out  # noqa: E402
+
 TOP = pathlib.Path(__file__).resolve().parent.parent
-SECONDS = 600
+checks.SECONDS = 600
 
 # The crates that the features need: the variable, and what stands in if it names no folder.
 NEEDED = {
@@ -71,37 +74,24 @@ def find_crates(folder):
     return found
 
 
-class Runs:
-    """Counts what passed and what failed."""
-
-    def __init__(self):
-        self.passed = self.failed = 0
-
-    def run(self, name, words, **settings):
-        """Runs a command. Gives what it prints, or `None` if it fails: then that is shown."""
-        done = subprocess.run(words, capture_output=True, text=True, check=False, timeout=SECONDS, **settings)
-        self.check(name, done.returncode == 0, done.stdout + done.stderr)
-        return done.stdout if done.returncode == 0 else None
-
-    def check(self, name, is_good, shown=""):
-        self.passed, self.failed = self.passed + is_good, self.failed + (not is_good)
-        print(f"{'ok' if is_good else 'FAILED'} {name}", flush=True)
-        if not is_good:
-            print(shown)
+def printed_by(name, words, **settings):
+    """Runs a program, which has to end with status 0, and gives what it printed."""
+    done = check(name, words, **settings)
+    return done.stdout if done else ""
 
 
-def run_example(runs, cargo, features, folder):
+def run_example(cargo, features, folder):
     """Compares what the example says of a program's variables with what the program says."""
     if not shutil.which("cc"):
-        print("left out: the example: there is no cc")
+        left_out("the example", "cc")
         return
     source, program = folder / "program.c", folder / "program"
     source.write_text(PROGRAM)
-    runs.run("cc", ["cc", "-g", "-O0", "-no-pie", "-fno-omit-frame-pointer", source, "-o", program])
-    said = runs.run("the program", [program])
+    check("cc", ["cc", "-g", "-O0", "-no-pie", "-fno-omit-frame-pointer", source, "-o", program])
+    said = printed_by("the program", [program])
     printed = cargo("the example", "run", *features, "--example", "variables", program, "100000000000")
     if said and printed:
-        runs.check("the example says where the variables are", printed == said, f"{said}\nisn't\n{printed}")
+        expect(printed == said, "the example says where the variables are", f"{said}\nisn't\n{printed}")
 
 
 def main():
@@ -110,15 +100,13 @@ def main():
         return 2
     missing = [it for it in ("cargo", "rustfmt") if not shutil.which(it)]
     if missing:
-        print(f"left out: the Rust crate: there is no {missing[0]}\n0 passed, 0 failed")
-        return 0
-    runs = Runs()
+        left_out("the Rust crate", missing[0])
+        return end()
     with tempfile.TemporaryDirectory() as name:
         folder = pathlib.Path(name)
         crate = folder / "crate"
-        if runs.run("bin/crate", [TOP / "bin/crate", crate]) is None:
-            print(f"{runs.passed} passed, {runs.failed} failed")
-            return 1
+        if not check("bin/crate", [TOP / "bin/crate", crate]):
+            return end()
         found = find_crates(folder)
         for name in NEEDED.keys() - set(found):
             print(f"left out: the feature {name}: {NEEDED[name][0]} names no folder")
@@ -126,25 +114,24 @@ def main():
         env = {**os.environ, "CARGO_TARGET_DIR": str(target), "RUSTDOCFLAGS": "-D warnings"}
 
         def cargo(name, *words):
-            return runs.run(name, ["cargo", *words], cwd=crate, env=env)
+            return printed_by(name, ["cargo", *words], cwd=crate, env=env)
 
-        tree = cargo("tree", "tree") or ""
-        runs.check("without features it depends on nothing", len(tree.splitlines()) == 1, tree)
+        tree = cargo("tree", "tree")
+        expect(len(tree.splitlines()) == 1, "without features it depends on nothing", tree)
         for chosen in [[], found] if found else [[]]:
             enabled = ["--features", ",".join(chosen)] if chosen else []
             said = " with " + " and ".join(chosen) if chosen else ""
             printed = cargo(f"test{said}", "test", *enabled)
-            print("  ", sum(map(int, re.findall(r"(\d+) passed", printed or ""))), "tests")
+            print("  ", sum(map(int, re.findall(r"(\d+) passed", printed))), "tests")
             if shutil.which("cargo-clippy"):
                 cargo(f"clippy{said}", "clippy", "--all-targets", "--no-deps", *enabled, "--", "-D", "warnings")
             cargo(f"doc{said}", "doc", "--no-deps", *enabled)
-        listed = cargo("package --list", "package", "--list") or ""
-        runs.check("the package has its licences", {"LICENSE-APACHE", "LICENSE-MIT"} <= set(listed.split()), listed)
+        listed = cargo("package --list", "package", "--list")
+        expect({"LICENSE-APACHE", "LICENSE-MIT"} <= set(listed.split()), "the package has its licences", listed)
         cargo("package", "package")
         if "gimli" in found:
-            run_example(runs, cargo, ["--features", ",".join(found)], folder)
-    print(f"{runs.passed} passed, {runs.failed} failed")
-    return 1 if runs.failed else 0
+            run_example(cargo, ["--features", ",".join(found)], folder)
+    return end()
 
 
 if __name__ == "__main__":

@@ -32,7 +32,7 @@ sys.path[:0] = [str(TOP / "bin"), str(TOP / "tests")]
 import archive  # noqa: E402
 import checks  # noqa: E402
 import compare_gdb  # noqa: E402
-from checks import STRICT, check, check_headers, count, end, left_out, run  # noqa: E402
+from checks import STRICT, check, check_headers, count, end, expect, left_out, run  # noqa: E402
 
 ARCHIVE = archive.path_of()
 LINKS = [ARCHIVE, "-ldw", "-lelf"]
@@ -123,7 +123,7 @@ def where_on(folder, words, where, checked):
         return
     lines = done.stdout.splitlines()
     good = all(line in lines for line in WANTED)
-    count(good, not good, f"examples/where.c {words[0]}: variables", done.stdout)
+    expect(good, f"examples/where.c {words[0]}: variables", done.stdout)
     suppressed = folder / "suppressed"
     suppressed.write_text("leak:libdw\n")
     # a sanitizer of leaks can't trace a process that it is to read itself
@@ -131,7 +131,7 @@ def where_on(folder, words, where, checked):
     env = {"ASAN_OPTIONS": leaks, "LSAN_OPTIONS": f"suppressions={suppressed}:print_suppressions=0"}
     again = check(f"examples/where.c {words[0]} with sanitizers", [checked, *words], env=env)
     if again:
-        count(again.stdout == done.stdout, again.stdout != done.stdout, "the same with sanitizers", again.stdout)
+        expect(again.stdout == done.stdout, "the same with sanitizers", again.stdout)
     if shutil.which("valgrind"):
         check(f"examples/where.c {words[0]} under valgrind", ["valgrind", "-q", "--error-exitcode=9", where, *words])
     else:
@@ -151,12 +151,12 @@ def examples(folder):
         return left_out("the examples on a stopped process", "process that stops")
     done = run([variable, process.pid, INNERMOST.split()[0]])
     good = done.stdout == INNERMOST + "\n"
-    count(good, not good, "examples/variable.c", done.stdout + done.stderr)
+    expect(good, "examples/variable.c", done.stdout + done.stderr)
     if shutil.which("c++"):
         words = ["-std=c++17", *STRICT, TOP / "tests/libdw/stack.cpp", *LINKS, "-o", folder / "stack"]
         if check("stack.cpp: build", ["c++", *words]):
             done = run([folder / "stack", process.pid])
-            count(done.stdout == "middle\n", done.stdout != "middle\n", "stack.cpp", done.stdout + done.stderr)
+            expect(done.stdout == "middle\n", "stack.cpp", done.stdout + done.stderr)
     else:
         left_out("tests/libdw/stack.cpp", "c++")
     where_on(folder, ["--pid", process.pid], where, checked)
@@ -223,11 +223,11 @@ def main():
     with tempfile.TemporaryDirectory() as name:
         folder = pathlib.Path(name)
         if not shutil.which("cc"):
-            count(0, 1, "cc", "cc isn't on PATH: add a C compiler")
+            expect(False, "cc", "cc isn't on PATH: add a C compiler")
         elif not has_libdw(folder):
             left_out("include/dwexpr_libdw.h and the examples over it", "libdw")
         elif failure := archive.build():
-            count(0, 1, "the archive", failure)
+            expect(False, "the archive", failure)
         else:
             check_headers("dwexpr_libdw.h", "dwexpr_names.h")
             for stage in [callers, round_trip, expressions, examples, with_gdb, hostile]:

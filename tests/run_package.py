@@ -28,7 +28,7 @@ TOP = pathlib.Path(__file__).resolve().parent.parent
 sys.dont_write_bytecode = True
 sys.path.insert(0, str(TOP / "tests"))
 import checks  # noqa: E402
-from checks import check, count, end, left_out, run  # noqa: E402
+from checks import check, end, expect, left_out, run  # noqa: E402
 
 ARM = "aarch64-unknown-linux-gnu"
 # The archive is proved for each processor.
@@ -127,10 +127,6 @@ PROVED = re.compile(r"libdwexpr.a \S+ for \S+\ncommit \S+\nkit \S.*\nsources [0-
 
 WORDS = ["8", "4", "5", "le", "916c06"]
 WANTED = "0 DW_OP_fbreg -20\n2 DW_OP_deref\n"
-
-def expect(good, name, said=""):
-    return count(bool(good), not good, name, said)
-
 
 def check_decode(name, words, **more):
     done = run([*words, *WORDS], **more)

@@ -14,8 +14,10 @@ import subprocess
 import sys
 import tempfile
 
-TOP = pathlib.Path(__file__).resolve().parent.parent
 sys.dont_write_bytecode = True
+from checks import end, expect  # noqa: E402
+
+TOP = pathlib.Path(__file__).resolve().parent.parent
 loader = importlib.machinery.SourceFileLoader("crate", str(TOP / "bin/crate"))
 crate = importlib.util.module_from_spec(importlib.util.spec_from_loader("crate", loader))
 loader.exec_module(crate)
@@ -77,16 +79,6 @@ TAKEN = [
     ("op/decoding", "// The size of a piece", "// A piece's size", "// The size of a piece", "// A piece's size"),
 ]
 
-passed = failed = 0
-
-
-def count(good, said):
-    global passed, failed
-    passed += bool(good)
-    failed += not good
-    if not good:
-        print(f"FAILED {said}")
-
 
 def path_of(module):
     """The source of a module, under crates/."""
@@ -111,7 +103,7 @@ def with_change(module, old, new):
         for name in crate.CRATES:
             shutil.copytree(TOP / "crates" / name / "src", crates / name / "src")
         text = (crates / path).read_text()
-        count(old in text, f"{path} has no {old!r}")
+        expect(old in text, f"{path} has no {old!r}")
         (crates / path).write_text(text.replace(old, new, 1))
         return written(crates, pathlib.Path(folder) / "proved")
 
@@ -131,7 +123,7 @@ def try_tokens(module, source, text):
             changed = found[:at] + changed + found[at + 2 :]
             is_same = tokens.difference(texts, "\n".join(changed)) is None
             may_be_same = without_commas(changed) == without_commas(found)
-            count(is_same == may_be_same, f"{module}: {' '.join(changed[at - 3 : at + 4])}: is_same is {is_same}")
+            expect(is_same == may_be_same, f"{module}: {' '.join(changed[at - 3 : at + 4])}: is_same is {is_same}")
 
 
 def try_other_text(folder):
@@ -140,7 +132,7 @@ def try_other_text(folder):
     tokens.Source.text = lambda source: text(source).replace("self.read_fixed(8)", "self.read_fixed(4)")
     said = written(TOP / "crates", folder / "other text")
     tokens.Source.text = text
-    count("what rustfmt wrote differs: self . read_fixed ( 8 )" in said, f"other text is written: {str(said)[:200]}")
+    expect("what rustfmt wrote differs: self . read_fixed ( 8 )" in said, f"other text is written: {str(said)[:200]}")
 
 
 def run(folder, **environment):
@@ -155,21 +147,21 @@ def try_folders(folder):
     for name in ("python3", "rustfmt"):
         (programs / name).symlink_to(sys.executable if name == "python3" else shutil.which(name))
     done = run(made, PATH=str(programs))
-    count(done.returncode == 0, f"on a PATH of three programs: {done.stderr}")
+    expect(done.returncode == 0, f"on a PATH of three programs: {done.stderr}")
     files = {path.relative_to(made): path.read_bytes() for path in made.rglob("*") if path.is_file()}
     for name in ("Cargo.toml", "README.md", "src/lib.rs", "src/proved/mod.rs", "LICENSE-MIT", "LICENSE-APACHE"):
-        count(pathlib.Path(name) in files, f"{name} isn't written")
+        expect(pathlib.Path(name) in files, f"{name} isn't written")
     (made / "target").mkdir()
     (made / "target/kept").touch()
     (made / "src/proved/stale.rs").touch()
-    count(run(made).returncode == 0, "the crate isn't written once more")
+    expect(run(made).returncode == 0, "the crate isn't written once more")
     again = {path.relative_to(made): path.read_bytes() for path in made.rglob("*") if path.is_file()}
-    count(again == files | {pathlib.Path("target/kept"): b""}, "the crate isn't the same when written once more")
+    expect(again == files | {pathlib.Path("target/kept"): b""}, "the crate isn't the same when written once more")
     other.mkdir()
     (other / "Cargo.toml").touch()
     done = run(other)
-    count(done.returncode == 1 and "isn't a crate that this wrote" in done.stderr, "another folder is written over")
-    count([path.name for path in other.iterdir()] == ["Cargo.toml"], "another folder is changed")
+    expect(done.returncode == 1 and "isn't a crate that this wrote" in done.stderr, "another folder is written over")
+    expect([path.name for path in other.iterdir()] == ["Cargo.toml"], "another folder is changed")
 
 
 def main():
@@ -180,25 +172,24 @@ def main():
         # Each source has its module, but for those that are left out by name.
         modules = {module for module in crate.LAWS + crate.HEAP} | set(plain) - {"mod"}
         paths = {path for name in crate.CRATES for path in (TOP / "crates" / name / "src").rglob("*.rt")}
-        count({TOP / "crates" / path_of(module) for module in modules} == paths, "a source has no module")
+        expect({TOP / "crates" / path_of(module) for module in modules} == paths, "a source has no module")
         for module, text in plain.items():
-            count(module == "mod" or f" crates/{path_of(module)}," in text.split("\n")[0], f"{module} names no source")
+            expect(module == "mod" or f" crates/{path_of(module)}," in text.split("\n")[0], f"{module} names no source")
             words = {token for token in tokens.split(text) if not token.startswith("//")}
-            count(not words & {"ghost", "requires", "ensures", "tactic", "final", "std"}, f"{module} has a contract")
+            expect(not words & {"ghost", "requires", "ensures", "tactic", "final", "std"}, f"{module} has a contract")
         for module, old, new, message in REFUSED:
             said = with_change(module, old, new)
-            count(isinstance(said, str) and message in said, f"{new!r} for {old!r} in {module}: {str(said)[:200]}")
+            expect(isinstance(said, str) and message in said, f"{new!r} for {old!r} in {module}: {str(said)[:200]}")
         for module, old, new, before, after in TAKEN:
             expected = plain | ({module: plain[module].replace(before, after, 1)} if before else {})
             said = with_change(module, old, new)
             said = "other text" if isinstance(said, dict) and said != expected else said
-            count(said == expected, f"{new!r} for {old!r} in {module}: {said}")
+            expect(said == expected, f"{new!r} for {old!r} in {module}: {said}")
         for module in ("base/mod", "value/word", "eval/store/lists"):
             try_tokens(module, sources[module], plain[module])
         try_other_text(folder)
         try_folders(folder)
-    print(f"{passed} passed, {failed} failed")
-    return 1 if failed else 0
+    return end()
 
 
 if __name__ == "__main__":

@@ -9,6 +9,9 @@
   status is 1.
 - A read or a write that a signal interrupts changes nothing.
 
+Writes are tried twice: with the buffer of standard output, which the kit's library empties, and without memory for it,
+where the program hands each text to the system itself.
+
 A refused read or write is named on standard error.
 
 The last line is `N passed, M failed`, of the runs; the status is 1 if a run failed. It wants cc.
@@ -104,6 +107,7 @@ RUNS = [
     ("eval", "9c", "evaluate\nevaluate\n", "cfa\nmisplaced 2\n", 2),
     ("eval", "22", "evaluate\n", "fault NotEnoughStackItems\n", 1),
     ("eval", "ff", "evaluate\n", "fault InvalidExpression 255\n", 1),
+    ("eval", "5031", "evaluate\n", "fault InvalidExpressionTerminator 1\n", 1),
     ("eval", "31", "evaluate\n\n", "bad step 2\n", 2),
     ("eval", "3", "", "bad words\n", 2),
     ("ops", "5093040a01", "", "0 50 Register\n1 9304 Piece\n3 fault UnexpectedEof\n", 1),
@@ -117,14 +121,15 @@ RUNS = [
 ]
 
 
-def run(library, kind, number, digits, text, command="eval", failure=errno.EIO):
-    """What is printed, what is said on standard error, and the status, if this call of a kind is refused so."""
+def run(library, refused, digits, text, command="eval", failure=errno.EIO):
+    """What is printed, what is said on standard error, and the status, if these calls, one of a kind, are refused so."""
+    numbers = {f"REFUSED_{kind}": str(number) for kind, number in refused.items()}
     ran = subprocess.run(
         [str(PROGRAM), command, "4", "4", "4", "le", digits],
         input=text,
         text=True,
         capture_output=True,
-        env={**os.environ, "LD_PRELOAD": str(library), f"REFUSED_{kind}": str(number), "REFUSED_WITH": str(failure)},
+        env={**os.environ, "LD_PRELOAD": str(library), "REFUSED_WITH": str(failure), **numbers},
         timeout=SECONDS,
         check=False,
     )
@@ -144,7 +149,7 @@ def refuse_allocations(library):
     for number in range(1, MOST):
         is_met = False
         for name, (digits, steps, ample) in CASES.items():
-            text, _, status = run(library, "ALLOCATION", number, digits, "".join(f"{step}\n" for step in steps))
+            text, _, status = run(library, {"ALLOCATION": number}, digits, lines(steps))
             printed = text.splitlines()
             is_whole = (printed, status) == (ample, 0)
             is_met = is_met or not is_whole
@@ -162,26 +167,36 @@ def refuse_reads(library):
     for text in INPUTS:
         # The last of them is the read that finds the end.
         for number in range(1, len(text) + 2):
-            printed, said, status = got = run(library, "READ", number, "31", text)
+            printed, said, status = got = run(library, {"READ": number}, "31", text)
             good = (printed, status) == ("", 1) and said.startswith("dwexpr: standard input can't be read: ")
             expect(good, f"input {text!r}, read {number} refused: {got!r}")
 
 
-def refuse_writes(library):
+def number_of_buffer(library):
+    """The number of the first allocation that the program can do without: that of its buffer of standard output."""
+    command, digits, text, wanted, status = RUNS[0]
+    for number in range(1, MOST):
+        printed, _, ended = run(library, {"ALLOCATION": number}, digits, text, command)
+        if (printed, ended) == (wanted, status):
+            return number
+    return 0
+
+
+def refuse_writes(library, buffer):
     for command, digits, text, wanted, _ in RUNS:
-        for number, failure in itertools.product(range(1, len(wanted) + 1), (errno.EIO, 0)):
-            printed, said, status = got = run(library, "WRITE", number, digits, text, command, failure)
+        for number, failure in itertools.product(range(1, len(wanted) + 1), (errno.EIO, errno.EPIPE, 0)):
+            printed, said, status = got = run(library, {**buffer, "WRITE": number}, digits, text, command, failure)
             good = (printed, status) == (wanted[: number - 1], 1) and "standard output can't be written: " in said
-            expect(good, f"{digits}, write {number} refused by {failure}: {got!r}")
+            expect(good, f"{digits}, write {number} refused by {failure}, {buffer}: {got!r}")
 
 
-def interrupt(library):
+def interrupt(library, kind, buffer):
     for command, digits, text, wanted, wanted_status in RUNS:
-        for kind, moved in (("READ", len(text) + 1), ("WRITE", len(wanted))):
-            for number in range(1, moved + 1):
-                printed, _, status = got = run(library, kind, number, digits, text, command, errno.EINTR)
-                good = (printed, status) == (wanted, wanted_status)
-                expect(good, f"{digits}, {kind.lower()} {number} interrupted: {got!r}")
+        moved = {"READ": len(text) + 1, "WRITE": len(wanted)}
+        for number in range(1, moved[kind] + 1):
+            printed, _, status = got = run(library, {**buffer, kind: number}, digits, text, command, errno.EINTR)
+            good = (printed, status) == (wanted, wanted_status)
+            expect(good, f"{digits}, {kind.lower()} {number} interrupted, {buffer}: {got!r}")
 
 
 def main():
@@ -195,8 +210,12 @@ def main():
         else:
             refuse_allocations(library)
             refuse_reads(library)
-            refuse_writes(library)
-            interrupt(library)
+            interrupt(library, "READ", {})
+            number = number_of_buffer(library)
+            expect(number, "no run went on without its buffer of standard output")
+            for buffer in ({}, {"ALLOCATION": number}):
+                refuse_writes(library, buffer)
+                interrupt(library, "WRITE", buffer)
     return end()
 
 

@@ -10,8 +10,6 @@ mod listing;
 mod numbers;
 mod program;
 mod steps;
-#[cfg(test)]
-mod tests;
 mod values;
 mod words;
 mod writing;

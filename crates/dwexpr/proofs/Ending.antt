@@ -1,9 +1,9 @@
 -- What the program ends with, by what its parts end with, and of an evaluation that was replayed.
-use Rattle.std.proofs.Common.{◌≡◌, inl, inr, ℕ, List, [], ◌++◌, Option, Some, None, Result, Ok, Err, refl, sym, ◌∙◌, ap, ap₂, subst, ◌⊎◌, zero, suc, ◌∷◌, take, length, ◌<◌, ◌^◌, arith, Bool}
+use Rattle.std.proofs.Common.{◌≡◌, inl, inr, ℕ, List, [], ◌++◌, Option, Some, None, Result, Ok, Err, refl, sym, ◌∙◌, ap, ap₂, subst, ◌⊎◌, zero, suc, ◌∷◌, take, length, ◌<◌, ◌^◌, arith}
 use Rattle.std.specs.Prelude.{IfSome, IsSome, slice_get}
 use Rattle.std.specs.Result.{result_unwrap_or}
 use Rattle.dwexpr.specs.Program.{EndsInvocation, EndsCommand, EndsFor, Exits}
-use Rattle.dwexpr.specs.Endings.{Ending, WritesEnding, no_memory, misplaced_step}
+use Rattle.dwexpr.specs.Endings.{Ending, no_memory, misplaced_step}
 use Rattle.dwexpr.specs.Words.{Invocation, invocation_in}
 use Rattle.dwexpr.specs.declared.words.Command.{Command}
 use Rattle.dwexpr.specs.declared.words.Reading.{Reading}
@@ -31,7 +31,7 @@ use Rattle.dwexpr.specs.Evaluates.{EndsAt, HasReply, all_done, not_allowed, with
 use Rattle.dwexpr.specs.inner.Readings.{bad_steps, ReadsSteps}
 use Rattle.dwexpr.specs.declared.steps.StepsFault.{StepsFault}
 use Rattle.dwexpr.specs.declared.steps.StepsFault.TheVariants as fault
-use Rattle.dwexpr.specs.inner.Outputs.{HasLine, ending_of, state_ending}
+use Rattle.dwexpr.specs.inner.Outputs.{HasLine, ending_of, state_ending, WritesEnding}
 
 -- ---- words and input
 
@@ -195,11 +195,11 @@ text_as bytes bytes' order order' e f = ap₂ text_by e f
 
 -- ---- what lines say
 
-pub follows_refused : (big : Bool) (setup : Setup) (text : Text) (said : Result (List meaning.Step) ℕ) (A B : Type 0) (refused : StepsFault)
-    → ReadsSteps {A = A} {B = B} big said (Err refused)
+pub follows_refused : {A : Type 0} (view : A → meaning.Step) (setup : Setup) (text : Text) (said : Result (List meaning.Step) ℕ) (B : Type 0) (refused : StepsFault)
+    → ReadsSteps {B = B} view said (Err refused)
     → EvaluatesSaid setup text said (bad_steps refused) ⊎ (bad_steps refused ≡ no_memory)
-follows_refused big setup text said A B (fault.Bad number) e = inl (rw e refl)
-follows_refused big setup text said A B fault.NoMemory e = inr refl
+follows_refused view setup text said B (fault.Bad number) e = inl (rw e refl)
+follows_refused view setup text said B fault.NoMemory e = inr refl
 
 pub follows_steps : (setup : Setup) (text : Text) (said : Result (List meaning.Step) ℕ) (steps done : List meaning.Step) (ending : Ending)
     → said ≡ Ok steps → done ≡ steps → EvaluatesSteps setup text empty_log done ending

@@ -14,7 +14,8 @@ use Rattle.dwarf_meaning.specs.Spelling.{Spells}
 use Rattle.dwarf_meaning.specs.Splitting.{ends, faults, goes_on}
 use Rattle.dwarf_meaning.proofs.OperationReads.{reads_operation}
 use Rattle.dwarf_meaning.proofs.Splittings.{splits_once}
-use Rattle.dwexpr.specs.Endings.{Ending, WritesEnding}
+use Rattle.dwexpr.specs.Endings.{Ending}
+use Rattle.dwexpr.specs.inner.Outputs.{WritesEnding}
 use Rattle.dwexpr.specs.Lines.{fault_words}
 use Rattle.dwexpr.specs.Listing.{ListsOperations, listing, operation_name}
 use Rattle.dwexpr.specs.Writing.{AppendsFront, bytes_word, line}

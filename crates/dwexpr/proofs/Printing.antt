@@ -2,8 +2,9 @@
 use Rattle.std.proofs.Common.{◌≡◌, ℕ, suc, ◌+◌, ◌<◌, List, [], ◌++◌, Option, Some, None, Result, Ok, Err, refl, sym, ◌∙◌, ap, subst, append_assoc, append-nil, arith, take, drop, drop-cons, get_or, map, take-append-drop, take_all, length-drop, length, ◌-◌, IsErr, true≢false, ◌/◌, ◌%◌, ◌==◌, ◌∷◌, ℤ, pos, negsuc, int_lt, unsigned_abs, codes, decimal, false, true, eqb-true, ltb-true, ap₂, zero, ◌≤◌, Bool, if◌then◌else◌, set, eq-eqb, ne_eqb, get_or-set_same, drop-set-lt, length-set}
 use Rattle.std.specs.List.{concat}
 use Rattle.std.specs.Io.KnownBytes.{Appends, Keeps}
-use Rattle.dwexpr.specs.Endings.{Ending, WritesEnding}
-use Rattle.dwexpr.specs.Writing.{AppendsFront, Prints, bytes_word, ending, pairs, word_text}
+use Rattle.dwexpr.specs.Endings.{Ending}
+use Rattle.dwexpr.specs.Writing.{AppendsFront, bytes_word, ending, pairs}
+use Rattle.dwexpr.specs.inner.Outputs.{Prints, word_text, WritesEnding}
 use Rattle.std.specs.Fmt.{digit_glyph, signed_decimal, digits_onto, digits}
 use Rattle.dwarf_base.specs.Reads.{u8_at}
 use Rattle.dwexpr.specs.declared.writing.Word.{Word}

@@ -1,18 +1,14 @@
 -- What is printed after the replies of an evaluation, and the status that the program ends with.
-use Rattle.std.specs.Prelude.{ℕ, ◌≡◌, ◌+◌, ◌++◌, codes, decimal, List, [], ◌∷◌, Option, Result, IfOk}
+use Rattle.std.specs.Prelude.{ℕ, ◌+◌, ◌++◌, codes, decimal, List, [], ◌∷◌, Option}
 use Rattle.dwarf_value.specs.declared.types.Value.{Value}
 use Rattle.dwarf_meaning.specs.Locations.{Piece}
 use Rattle.dwexpr.specs.Lines.{piece_lines, value_line}
-use Rattle.dwexpr.specs.Writing.{Prints, line}
+use Rattle.dwexpr.specs.Writing.{line}
 
 -- lines, and the status: 0 if all was done, 1 if it failed, 2 if the words or the lines are wrong
 pub record Ending : Type 0 where
   pub text : List ℕ
   pub status : ℕ
-
--- all of it was written, and this is the status; or a front of it, if a write was refused
-abbrev pub WritesEnding : {E : Type 0} → (old new : Option (List ℕ)) → Ending → Result ℕ E → Type 0
-WritesEnding old new ending result = Prints old new ending.text result × IfOk result (λ status. status ≡ ending.status)
 
 -- the words aren't of their form
 abbrev pub bad_words : Ending

@@ -1,12 +1,9 @@
 -- What is handed to a writer: bytes, words and lines.
-use Rattle.std.specs.Prelude.{ℕ, ◌≡◌, codes, false, List, [], ◌∷◌, ◌++◌, ◌/◌, ◌%◌, Option, Result, Ok, Err, decimal}
+use Rattle.std.specs.Prelude.{ℕ, ◌≡◌, codes, false, List, [], ◌∷◌, ◌++◌, ◌/◌, ◌%◌, Option, decimal}
 use Rattle.std.specs.Fmt.{digit_glyph, digits, signed_decimal}
 use Rattle.std.specs.Io.KnownBytes.{Appends}
-use Rattle.dwarf_base.specs.EndianSlice.{slice_bytes}
 use Rattle.dwarf_value.specs.declared.types.Value.{Value}
 use Rattle.dwarf_value.specs.declared.types.Value.TheVariants as value
-use Rattle.dwexpr.specs.declared.writing.Word.{Word}
-use Rattle.dwexpr.specs.declared.writing.Word.TheVariants as word
 
 -- the known bytes grew by a front of the text
 pub record AppendsFront (old new : Option (List ℕ)) (text : List ℕ) : Type 0 where
@@ -14,11 +11,6 @@ pub record AppendsFront (old new : Option (List ℕ)) (text : List ℕ) : Type 0
   pub rest : List ℕ
   pub whole : text ≡ front ++ rest
   pub written : Appends old new front
-
--- the known bytes grew by the text, or by a front of it if a write was refused
-abbrev pub Prints : {T E : Type 0} → Option (List ℕ) → Option (List ℕ) → List ℕ → Result T E → Type 0
-Prints old new text (Ok x) = Appends old new text
-Prints old new text (Err e) = AppendsFront old new text
 
 -- ---- words of a line
 
@@ -47,15 +39,6 @@ pairs (byte ∷ bytes) = digit_glyph false (byte / 16) ∷ digit_glyph false (by
 abbrev pub bytes_word : List ℕ → List ℕ
 bytes_word [] = codes "-"
 bytes_word (byte ∷ bytes) = pairs (byte ∷ bytes)
-
--- the bytes of a word
-abbrev pub word_text : Word → List ℕ
-word_text (word.Name name) = name.now
-word_text (word.Number number) = decimal number
-word_text (word.Integer number) = signed_decimal number
-word_text (word.Hexadecimal number) = hexadecimal number
-word_text (word.Value value) = value_word value
-word_text (word.Bytes text) = bytes_word (slice_bytes text)
 
 -- ---- lines
 

@@ -1,6 +1,6 @@
 ghost use Rattle.std.specs.Prelude.{◌<◌, ◌-◌, ◌^◌};
 ghost use Rattle.dwexpr.specs.Endings as endings;
-ghost use Rattle.dwexpr.specs.Endings.{WritesEnding};
+ghost use Rattle.dwexpr.specs.inner.Outputs.{WritesEnding};
 
 use crate::writing::{Word, put_line};
 use std::io;

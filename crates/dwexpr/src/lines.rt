@@ -6,7 +6,8 @@ ghost use Rattle.dwarf_eval.specs.Evaluation.{reply_of, ok_reply};
 ghost use Rattle.dwarf_meaning.specs.Requests.{RequiresAtLocation};
 ghost use Rattle.dwarf_op.specs.Views.{piece_of, reference_of};
 ghost use Rattle.dwexpr.specs.Lines.{fault_line, fault_words, piece_line, reply_line, request_line, value_line};
-ghost use Rattle.dwexpr.specs.Writing.{Prints, hexadecimal, line, word_text};
+ghost use Rattle.dwexpr.specs.Writing.{hexadecimal, line};
+ghost use Rattle.dwexpr.specs.inner.Outputs.{Prints, word_text};
 
 use crate::writing::{Text, Word, put_line, put_numbered_line};
 use dwarf_base::{Error, ReaderOffset};

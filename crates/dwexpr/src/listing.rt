@@ -2,7 +2,8 @@ ghost use Rattle.std.specs.Prelude.{◌≡◌};
 ghost use Rattle.dwarf_base.specs.ByteOrder.{is_big_of};
 ghost use Rattle.dwarf_meaning.specs.Operands.{context_of};
 ghost use Rattle.dwarf_op.specs.Views.{operation_of};
-ghost use Rattle.dwexpr.specs.Endings.{Ending, WritesEnding};
+ghost use Rattle.dwexpr.specs.Endings.{Ending};
+ghost use Rattle.dwexpr.specs.inner.Outputs.{WritesEnding};
 ghost use Rattle.dwexpr.specs.Listing.{ListsOperations, operation_name};
 
 use crate::endings::{DONE, FAILED};

@@ -11,10 +11,16 @@ ghost use Rattle.dwexpr.specs.Evaluates.{EvaluatesSteps, EvaluatesLines, after_r
 ghost use Rattle.dwexpr.specs.inner.Readings.{bad_steps};
 ghost use Rattle.dwexpr.specs.Lines.{piece_lines, reply_lines};
 ghost use Rattle.dwexpr.specs.Program.{EndsFor, EvaluatesInput, Exits};
-ghost use Rattle.dwexpr.specs.inner.Outputs.{without_words, HasLine, ending_of, state_ending};
+ghost use Rattle.dwexpr.specs.inner.Outputs.{
+  without_words,
+  HasLine,
+  ending_of,
+  state_ending,
+  Prints,
+  WritesEnding,
+};
 ghost use Rattle.dwexpr.specs.Endings as runs;
-ghost use Rattle.dwexpr.specs.Endings.{Ending, WritesEnding, complete_ending};
-ghost use Rattle.dwexpr.specs.Writing.{Prints};
+ghost use Rattle.dwexpr.specs.Endings.{Ending, complete_ending};
 
 use crate::endings::{DONE, FAILED, bad_step, bad_words, misplaced_step, no_memory};
 use crate::explaining::{
@@ -23,7 +29,7 @@ use crate::explaining::{
 use crate::hexadecimal::ReadFault;
 use crate::lines::{print_piece, print_reply, print_value_line};
 use crate::listing::print_operations;
-use crate::steps::{StepsFault, borrow_steps, steps_in};
+use crate::steps::{StepsFault, steps_in};
 use crate::words::{Command, Reading, invocation_of, six_words};
 use crate::writing::Text;
 use dwarf_base::EndianSlice;
@@ -167,9 +173,9 @@ fn print_bad_steps<W: Write>(output: &mut W, fault: StepsFault) -> io::Result<u8
 }
 
 /// Judges the lines, and evaluates the bytes in the steps that they say.
-fn run_lines<A: Allocator + Copy, W: Write, E: Write>(
+fn run_lines<'a, A: Allocator + Copy + 'a, W: Write, E: Write>(
     alloc: A,
-    bytes: &[u8],
+    bytes: &'a [u8],
     reading: Reading,
     lines: &[u8],
     output: &mut W,
@@ -182,15 +188,7 @@ fn run_lines<A: Allocator + Copy, W: Write, E: Write>(
         (record { bytes = bytes.now; is_big = is_big_of reading.order }) lines.now ending
         × WritesEnding (W.contents output.old) (W.contents output.new) ending result }
 {
-    let owned = match steps_in(alloc, lines) {
-        Ok(steps) => steps,
-        Err(fault) => {
-            let printed = print_bad_steps(output, fault);
-            explain_steps(lines, fault, errors);
-            return printed;
-        }
-    };
-    match borrow_steps(alloc, owned.as_slice(), reading.order) {
+    match steps_in(alloc, reading.order, lines) {
         Ok(steps) => evaluate(
             alloc,
             bytes,
@@ -200,7 +198,11 @@ fn run_lines<A: Allocator + Copy, W: Write, E: Write>(
             output,
             errors,
         ),
-        Err(_) => no_memory(output),
+        Err(fault) => {
+            let printed = print_bad_steps(output, fault);
+            explain_steps(lines, fault, errors);
+            printed
+        }
     }
 }
 

@@ -1,10 +1,9 @@
-ghost use Rattle.std.specs.Prelude.{◌≡◌, Bool, map, IfOk, option_map};
+ghost use Rattle.std.specs.Prelude.{◌≡◌, option_map};
 ghost use Rattle.dwarf_base.specs.EndianSlice.{slice_text};
 ghost use Rattle.dwarf_base.specs.ByteOrder.{is_big_of};
-ghost use Rattle.dwarf_replay.specs.Replays.{steps_of};
 ghost use Rattle.dwarf_replay.specs.Stepping.{step_of};
 ghost use Rattle.dwexpr.specs.StepLines as spec;
-ghost use Rattle.dwexpr.specs.inner.Readings.{Reads, ReadsSteps, step_owned};
+ghost use Rattle.dwexpr.specs.inner.Readings.{Reads, ReadsSteps};
 ghost use Rattle.dwexpr.specs.StepLines.{lines_in};
 
 use crate::hexadecimal::{ReadFault, bytes_of};
@@ -15,30 +14,7 @@ use crate::writing::Text;
 use dwarf_base::{EndianSlice, RunTimeEndian};
 use dwarf_eval::eval::WaitingKind;
 use dwarf_replay::Step;
-use std::alloc::{AllocError, Allocator};
-
-/// A step that owns its text.
-#[derive(Drop)]
-pub(crate) enum OwnedStep<A: Allocator> {
-    /// A step that has none.
-    Textless(Step<Text<'static>>),
-    /// The answer that is a text.
-    Location(Vec<u8, A>),
-}
-
-impl<A: Allocator> OwnedStep<A> {
-    /// The step, with its text read in this order.
-    fn borrowed(&self, order: RunTimeEndian) -> Step<Text<'_>>
-        ensures { step_of slice_text result ≡ step_owned (is_big_of order) self.now }
-    {
-        match self {
-            OwnedStep::Textless(step) => *step,
-            OwnedStep::Location(bytes) => {
-                Step::AtLocation(EndianSlice::new(bytes.as_slice(), order))
-            }
-        }
-    }
-}
+use std::alloc::Allocator;
 
 /// The answers: the name of each, a blank and the letter of its word, and the kind of request that it answers.
 pub(crate) const ANSWERS: [(&str, &str, WaitingKind); 12] = [
@@ -56,7 +32,7 @@ pub(crate) const ANSWERS: [(&str, &str, WaitingKind); 12] = [
     ("type", " T", WaitingKind::BaseType),
 ];
 
-/// The step of this name, with the word that follows it, unless its text has to be kept.
+/// The step of this name, with the word that follows it, unless it has a text.
 fn textless_step(name: &str, word: &str) -> Option<Step<Text<'static>>>
     ensures { option_map (step_of slice_text) result ≡ spec.textless_step_in name.now word.now }
 {
@@ -79,39 +55,50 @@ fn textless_step(name: &str, word: &str) -> Option<Step<Text<'static>>>
     })
 }
 
-/// The step of this name, with the word that follows it.
-fn named_step<A: Allocator>(alloc: A, name: &str, word: &str) -> Result<OwnedStep<A>, ReadFault>
-    ensures { (big : Bool)
-        → Reads (step_owned big) (spec.named_step_in big name.now word.now) result }
+/// The step of this name, with the word that follows it. A text is read in this order, and kept until the program ends.
+fn named_step<'t, A: Allocator + 't>(
+    alloc: A,
+    order: RunTimeEndian,
+    name: &str,
+    word: &str,
+) -> Result<Step<Text<'t>>, ReadFault>
+    ensures { Reads (step_of slice_text) (spec.named_step_in (is_big_of order) name.now word.now)
+        result }
 {
     if name == "location" {
-        return Ok(OwnedStep::Location(bytes_of(alloc, word)?));
+        let bytes = bytes_of(alloc, word)?.leak();
+        return Ok(Step::AtLocation(EndianSlice::new(bytes, order)));
     }
-    match textless_step(name, word) {
-        Some(step) => Ok(OwnedStep::Textless(step)),
-        None => Err(ReadFault::Bad),
-    }
+    textless_step(name, word).ok_or(ReadFault::Bad)
 }
 
 /// The step that a text says, in words parted by one space.
-fn text_step<A: Allocator>(alloc: A, text: &str) -> Result<OwnedStep<A>, ReadFault>
-    ensures { (big : Bool) → Reads (step_owned big) (spec.text_step_in big text.now) result }
+fn text_step<'t, A: Allocator + 't>(
+    alloc: A,
+    order: RunTimeEndian,
+    text: &str,
+) -> Result<Step<Text<'t>>, ReadFault>
+    ensures { Reads (step_of slice_text) (spec.text_step_in (is_big_of order) text.now) result }
 {
     if text == "evaluate" {
-        return Ok(OwnedStep::Textless(Step::Evaluate));
+        return Ok(Step::Evaluate);
     }
     match text.split_once(' ') {
-        Some((name, word)) => named_step(alloc, name, word),
+        Some((name, word)) => named_step(alloc, order, name, word),
         None => Err(ReadFault::Bad),
     }
 }
 
 /// The step that a line says.
-fn step_in<A: Allocator>(alloc: A, line: &[u8]) -> Result<OwnedStep<A>, ReadFault>
-    ensures { (big : Bool) → Reads (step_owned big) (spec.step_in big line.now) result }
+fn step_in<'t, A: Allocator + 't>(
+    alloc: A,
+    order: RunTimeEndian,
+    line: &[u8],
+) -> Result<Step<Text<'t>>, ReadFault>
+    ensures { Reads (step_of slice_text) (spec.step_in (is_big_of order) line.now) result }
 {
     match str::from_utf8(line) {
-        Ok(text) => text_step(alloc, text),
+        Ok(text) => text_step(alloc, order, text),
         Err(_) => Err(ReadFault::Bad),
     }
 }
@@ -125,18 +112,21 @@ pub(crate) enum StepsFault {
     NoMemory,
 }
 
-/// The steps that the lines of the input say. The first line that is none or finds no memory decides.
-pub(crate) fn steps_in<A: Allocator + Copy>(
+/// The steps that the lines of the input say, with their texts read in this order. The first line that is none or finds
+/// no memory decides.
+pub(crate) fn steps_in<'t, A: Allocator + Copy + 't>(
     alloc: A,
+    order: RunTimeEndian,
     input: &[u8],
-) -> Result<Vec<OwnedStep<A>, A>, StepsFault>
-    ensures { (big : Bool) → ReadsSteps big (spec.steps_in big (lines_in input.now)) result }
+) -> Result<Vec<Step<Text<'t>>, A>, StepsFault>
+    ensures { ReadsSteps (step_of slice_text)
+        (spec.steps_in (is_big_of order) (lines_in input.now)) result }
 {
     let mut steps = Vec::new(alloc);
     let mut left = input;
     while !left.is_empty() {
         let line = first_line(left);
-        let step = match step_in(alloc, line.text) {
+        let step = match step_in(alloc, order, line.text) {
             Ok(step) => step,
             Err(ReadFault::Bad) => return Err(StepsFault::Bad(steps.len().saturating_add(1))),
             Err(ReadFault::NoMemory) => return Err(StepsFault::NoMemory),
@@ -147,20 +137,4 @@ pub(crate) fn steps_in<A: Allocator + Copy>(
         }
     }
     Ok(steps)
-}
-
-/// The same steps, with their texts read in this order.
-pub(crate) fn borrow_steps<A: Allocator + Copy>(
-    alloc: A,
-    steps: &[OwnedStep<A>],
-    order: RunTimeEndian,
-) -> Result<Vec<Step<Text<'_>>, A>, AllocError>
-    ensures { IfOk result (λ borrowed.
-        steps_of slice_text borrowed.items ≡ map (step_owned (is_big_of order)) steps.now) }
-{
-    let mut borrowed = Vec::new(alloc);
-    for step in steps {
-        borrowed.push(step.borrowed(order))?;
-    }
-    Ok(borrowed)
 }

@@ -1,7 +1,8 @@
 ghost use Rattle.std.specs.Prelude.{◌≡◌, ◌<◌, ◌≤◌, ◌++◌, false, drop, map, decimal};
 ghost use Rattle.std.specs.Fmt.{digit_glyph, digits, signed_decimal};
 ghost use Rattle.dwarf_base.specs.EndianSlice.{slice_bytes};
-ghost use Rattle.dwexpr.specs.Writing.{Prints, bytes_word, ending, line, value_word, word_text};
+ghost use Rattle.dwexpr.specs.Writing.{bytes_word, ending, line, value_word};
+ghost use Rattle.dwexpr.specs.inner.Outputs.{Prints, word_text};
 
 use dwarf_base::{EndianSlice, Reader, RunTimeEndian};
 use dwarf_value::Value;

@@ -1,11 +1,39 @@
--- What is printed of an evaluation that was replayed, and if there are no words.
-use Rattle.std.specs.Prelude.{[], ◌<◌, ◌-◌, ◌^◌}
+-- What a writer gets, and what is printed of an evaluation that was replayed, and if there are no words.
+use Rattle.std.specs.Prelude.{ℕ, ◌≡◌, ◌<◌, ◌-◌, ◌^◌, decimal, List, [], Option, Result, Ok, Err, IfOk}
+use Rattle.std.specs.Fmt.{signed_decimal}
+use Rattle.std.specs.Io.KnownBytes.{Appends}
 use Rattle.std.specs.declared.io.ErrorKind.{ErrorKind}
 use Rattle.std.specs.declared.io.ErrorKind.TheVariants.{InvalidData}
+use Rattle.dwarf_base.specs.EndianSlice.{slice_bytes}
 use Rattle.dwarf_meaning.specs.Rest.{State, Status, CompleteStatus, FaultStatus}
 use Rattle.dwarf_replay.specs.declared.steps.Replayed.{Replayed}
 use Rattle.dwarf_replay.specs.declared.steps.Replayed.TheVariants as replayed
 use Rattle.dwexpr.specs.Endings.{Ending, bad_words, complete_ending, misplaced_step, no_memory}
+use Rattle.dwexpr.specs.Writing.{AppendsFront, bytes_word, hexadecimal, value_word}
+use Rattle.dwexpr.specs.declared.writing.Word.{Word}
+use Rattle.dwexpr.specs.declared.writing.Word.TheVariants as word
+
+-- ---- what a writer gets
+
+-- the bytes of a word
+abbrev pub word_text : Word → List ℕ
+word_text (word.Name name) = name.now
+word_text (word.Number number) = decimal number
+word_text (word.Integer number) = signed_decimal number
+word_text (word.Hexadecimal number) = hexadecimal number
+word_text (word.Value value) = value_word value
+word_text (word.Bytes text) = bytes_word (slice_bytes text)
+
+-- the known bytes grew by the text, or by a front of it if a write was refused
+abbrev pub Prints : {T E : Type 0} → Option (List ℕ) → Option (List ℕ) → List ℕ → Result T E → Type 0
+Prints old new text (Ok x) = Appends old new text
+Prints old new text (Err e) = AppendsFront old new text
+
+-- all of it was written, and this is the status; or a front of it, if a write was refused
+abbrev pub WritesEnding : {E : Type 0} → (old new : Option (List ℕ)) → Ending → Result ℕ E → Type 0
+WritesEnding old new ending result = Prints old new ending.text result × IfOk result (λ status. status ≡ ending.status)
+
+-- ---- endings
 
 -- where an evaluation stands
 abbrev pub state_ending : State → Status → Ending

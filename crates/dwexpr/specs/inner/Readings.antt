@@ -1,15 +1,10 @@
 -- What is read of the program's words, and of the lines of its input.
-use Rattle.std.specs.Prelude.{ℕ, ◌≡◌, IsSome, Vec, map, Bool, List, [], ◌∷◌, Option, Some, None, Result, Ok, Err}
-use Rattle.dwarf_base.specs.EndianSlice.{slice_text}
+use Rattle.std.specs.Prelude.{ℕ, ◌≡◌, IsSome, Vec, map, List, [], ◌∷◌, Option, Some, None, Result, Ok, Err}
 use Rattle.dwarf_meaning.specs.Steps.{Step}
-use Rattle.dwarf_replay.specs.Stepping.{step_of}
 use Rattle.dwexpr.specs.Endings.{Ending, bad_step, no_memory}
-use Rattle.dwexpr.specs.StepLines.{location_step}
 use Rattle.dwexpr.specs.Words as spec
 use Rattle.dwexpr.specs.declared.hexadecimal.ReadFault.{ReadFault}
 use Rattle.dwexpr.specs.declared.hexadecimal.ReadFault.TheVariants as read
-use Rattle.dwexpr.specs.declared.steps.OwnedStep.{OwnedStep}
-use Rattle.dwexpr.specs.declared.steps.OwnedStep.TheVariants as owned
 use Rattle.dwexpr.specs.declared.steps.StepsFault.{StepsFault}
 use Rattle.dwexpr.specs.declared.steps.StepsFault.TheVariants as fault
 use Rattle.dwexpr.specs.declared.words.Invocation.{Invocation}
@@ -35,17 +30,11 @@ asked_by x = record { command = x.command; reading = x.reading; bytes = x.bytes.
 
 -- ---- lines
 
--- a step that owns its text
-abbrev pub step_owned : {A : Type 0} → (big : Bool) → OwnedStep A → Step
-step_owned big (owned.Textless step) = step_of slice_text step
-step_owned big (owned.Location bytes) = location_step big bytes.items
-
 -- what is read of lines that say these steps, or of which one says none: the same, unless there was no memory
-abbrev pub ReadsSteps : {A B : Type 0} → (big : Bool) → Result (List Step) ℕ
-    → Result (Vec (OwnedStep A) B) StepsFault → Type 0
-ReadsSteps big said (Ok steps) = said ≡ Ok (map (step_owned big) steps.items)
-ReadsSteps big said (Err (fault.Bad number)) = said ≡ Err number
-ReadsSteps big said (Err fault.NoMemory) = Unit {0}
+abbrev pub ReadsSteps : {A B : Type 0} → (A → Step) → (said : Result (List Step) ℕ) → Result (Vec A B) StepsFault → Type 0
+ReadsSteps view said (Ok steps) = said ≡ Ok (map view steps.items)
+ReadsSteps view said (Err (fault.Bad number)) = said ≡ Err number
+ReadsSteps view said (Err fault.NoMemory) = Unit {0}
 
 -- why lines give no steps, as it is printed
 abbrev pub bad_steps : StepsFault → Ending

@@ -1,5 +1,6 @@
 use Rattle.std.proofs.Common.{◌+◌, map, drop, codes, ap, drop_of_length-le}
-use Rattle.dwexpr.specs.Writing.{ending, word_text}
+use Rattle.dwexpr.specs.Writing.{ending}
+use Rattle.dwexpr.specs.inner.Outputs.{word_text}
 use Rattle.dwexpr.specs.declared.writing.Word.TheVariants as word
 use Rattle.dwexpr.proofs.Printing.{as_rest, begun, last_of, more_of, refused_in, ending_at}
 use Rattle.dwexpr.proofs.writing.put_ending.Goals as goal

@@ -1,5 +1,6 @@
 use Rattle.std.proofs.Common.{map, drop}
-use Rattle.dwexpr.specs.Writing.{ending, word_text}
+use Rattle.dwexpr.specs.Writing.{ending}
+use Rattle.dwexpr.specs.inner.Outputs.{word_text}
 use Rattle.dwexpr.proofs.Printing.{Written}
 use Rattle.dwexpr.proofs.writing.put_ending.Given as goal
 

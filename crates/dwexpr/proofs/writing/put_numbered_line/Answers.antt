@@ -1,5 +1,6 @@
 use Rattle.std.proofs.Common.{decimal, map}
-use Rattle.dwexpr.specs.Writing.{ending, word_text}
+use Rattle.dwexpr.specs.Writing.{ending}
+use Rattle.dwexpr.specs.inner.Outputs.{word_text}
 use Rattle.dwexpr.proofs.Printing.{begun, last_of, more_of, refused_in}
 use Rattle.dwexpr.proofs.writing.put_numbered_line.Goals as goal
 

@@ -16,12 +16,12 @@ use Rattle.dwarf_meaning.specs.Stores.{Setup, address_bits, Store, Last, Nothing
 use Rattle.dwarf_meaning.specs.Run.{Position, CompleteEnd, only_end, turn_by, run}
 use Rattle.dwarf_meaning.specs.Meaning.{Outcome, FaultOutcome, CompleteOutcome, completion_of, has_pieces, whole, finish_value, finish_by, finish}
 use Rattle.dwarf_meaning.specs.Rest.{State, Status, Running, CompleteStatus, FaultStatus, with_refusal, total_of_course}
-use Rattle.dwarf_meaning.specs.Refusals.{Refusal, Never, before_pushes}
+use Rattle.dwarf_meaning.specs.Refusals.{Refusal, Never}
 use Rattle.dwarf_meaning.proofs.Choices.{top_none, top_some}
 use Rattle.dwarf_meaning.proofs.Turns.{run_turn}
 use Rattle.dwarf_meaning.specs.Bounds.{endings}
 use Rattle.dwarf_meaning.specs.Inputs.{with_status}
-use Rattle.dwarf_eval.specs.inner.StateChanges.{Does, Refused, Stays, Pops, total, ComesBy, GoesBack, ClosesBy, Closes, is_free, Turns, with_store, with_values}
+use Rattle.dwarf_eval.specs.inner.StateChanges.{Does, Refused, Stays, Pops, total, ComesBy, GoesBack, ClosesBy, Closes, is_free, Turns, with_store, with_values, before_pushes}
 use Rattle.dwarf_eval.proofs.Reaching.{may_along}
 use Rattle.dwarf_eval.proofs.Loads.{EndsAlike, finish_alike, piece_stored}
 use Rattle.dwarf_eval.proofs.Spending.{nears_by, back_spends, over_spends}

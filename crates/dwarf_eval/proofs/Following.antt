@@ -6,9 +6,9 @@ use Rattle.dwarf_meaning.specs.Requests.{Input}
 use Rattle.dwarf_meaning.specs.Bounds.{faults_in}
 use Rattle.dwarf_meaning.specs.Rest.{State, Status, Start, Running, RequestStatus, CompleteStatus, FaultStatus, with_refusal, Total, total_by, total}
 use Rattle.dwarf_meaning.specs.Steps.{Reply, reply}
-use Rattle.dwarf_meaning.specs.Refusals.{Refusal, Never, After, before_pushes, IsLater}
+use Rattle.dwarf_meaning.specs.Refusals.{Refusal, Never, After, IsLater}
 use Rattle.dwarf_eval.specs.Evaluation.{Follows, IsReplied}
-use Rattle.dwarf_eval.specs.inner.StateChanges.{Reaches, Falls, ComesBy, Comes}
+use Rattle.dwarf_eval.specs.inner.StateChanges.{Reaches, Falls, ComesBy, Comes, before_pushes}
 use Rattle.dwarf_eval.proofs.RefusedPushes.{before_never, before_later}
 use Rattle.dwarf_eval.proofs.Totals.{course_open}
 pub use Rattle.dwarf_eval.proofs.Totals.{total_open, total_complete, total_meaning}

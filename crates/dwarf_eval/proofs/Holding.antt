@@ -15,10 +15,10 @@ use Rattle.dwarf_meaning.specs.Stores.{Store, Last, Pieced, Located, push_piece,
 use Rattle.dwarf_meaning.specs.Run.{after_operation, do_operation, located_act, read, run, turn_by}
 use Rattle.dwarf_meaning.specs.Meaning.{FaultOutcome}
 use Rattle.dwarf_meaning.specs.Rest.{State, Running, FaultStatus, with_refusal, total_of_course}
-use Rattle.dwarf_meaning.specs.Refusals.{Refusal, Never, before_pushes}
+use Rattle.dwarf_meaning.specs.Refusals.{Refusal, Never}
 use Rattle.dwarf_meaning.specs.Bounds.{is_given, endings}
 use Rattle.dwarf_meaning.specs.Inputs.{with_status}
-use Rattle.dwarf_eval.specs.inner.StateChanges.{Does, Refused, Tries, ReadsOperation, EndsLocated, total, ComesBy, Turns, read_to, with_last}
+use Rattle.dwarf_eval.specs.inner.StateChanges.{Does, Refused, Tries, ReadsOperation, EndsLocated, total, ComesBy, Turns, read_to, with_last, before_pushes}
 use Rattle.dwarf_eval.proofs.Loads.{endings_more, piece_due, kept_in, piece_stored}
 use Rattle.dwarf_eval.proofs.Spending.{nears_by, held_spends}
 use Rattle.dwarf_eval.proofs.Staying.{stays_status}

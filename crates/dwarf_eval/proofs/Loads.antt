@@ -9,9 +9,9 @@ use Rattle.dwarf_meaning.specs.Locations.{Piece, Location, Empty, InRegister, At
 use Rattle.dwarf_meaning.specs.Acts.{Act, Pushes, Branches, Locates, EndsPiece, RequestAct, FaultAct, on_top}
 use Rattle.dwarf_meaning.specs.RunLaws.{waits_of}
 use Rattle.dwarf_meaning.specs.Stores.{Setup, Store, Last, Plain, Pieced, push_value, push_piece, push_caller, push_values, Next, Goes, RequestNext, FaultNext, goes, do_act, branch_target, address_bits, Nothing, Pushed, Called, Located}
-use Rattle.dwarf_meaning.specs.Refusals.{Never, room, before_pushes}
+use Rattle.dwarf_meaning.specs.Refusals.{Never, room}
 use Rattle.dwarf_meaning.specs.Rest.{with_refusal, Status, Start, Running, RequestStatus}
-use Rattle.dwarf_eval.specs.inner.StateChanges.{Steps, is_free}
+use Rattle.dwarf_eval.specs.inner.StateChanges.{Steps, is_free, before_pushes}
 use Rattle.dwarf_meaning.proofs.Counts.{OnStore, bound_store, on_bound, OnNext, on_goes}
 use Rattle.dwarf_meaning.proofs.Effects.{IsActOf, pushes, branches, locates, ends, asks, IsGivenBy, IsOwnPlace}
 use Rattle.std.specs.List.{list_all}

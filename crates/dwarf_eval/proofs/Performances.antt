@@ -12,10 +12,10 @@ use Rattle.dwarf_meaning.specs.Requests.{Request, OnAnswer}
 use Rattle.dwarf_meaning.specs.Acts.{Act, Pushes, Branches, Locates, EndsPiece, RequestAct, FaultAct, push}
 use Rattle.dwarf_meaning.specs.Stores.{Setup, Store, Last, Plain, Pieced, Located, push_value, push_piece, push_values, Next, Goes, RequestNext, FaultNext, goes, branch_target, branch}
 use Rattle.dwarf_meaning.specs.Rest.{State, Status, Start, Running, RequestStatus, CompleteStatus, FaultStatus, with_refusal}
-use Rattle.dwarf_meaning.specs.Refusals.{Refusal, Never, before_pushes}
+use Rattle.dwarf_meaning.specs.Refusals.{Refusal, Never}
 use Rattle.dwarf_meaning.specs.Inputs.{with_status}
 use Rattle.dwarf_eval.specs.inner.Machine.{replied_status}
-use Rattle.dwarf_eval.specs.inner.StateChanges.{Asks, Stays, Tries, Tried, Pops, Jumps, do_act_at, LeadsToFault, LeadsBy, Performs, with_store, with_values, with_last, with_place, PopsGenerics}
+use Rattle.dwarf_eval.specs.inner.StateChanges.{Asks, Stays, Tries, Tried, Pops, Jumps, do_act_at, LeadsToFault, LeadsBy, Performs, with_store, with_values, with_last, with_place, PopsGenerics, before_pushes}
 use Rattle.dwarf_eval.proofs.RefusedPushes.{tries_as, bind_ok}
 use Rattle.dwarf_eval.proofs.Staying.{stays_from, stays_low, stays_then}
 use Rattle.std.proofs.lemmas.Option.{none-some}

@@ -6,9 +6,8 @@ use Rattle.dwarf_meaning.specs.Operations.{Operation}
 use Rattle.dwarf_meaning.specs.Acts.{Act, Pushes, Branches, EndsPiece}
 use Rattle.dwarf_meaning.specs.Stores.{Setup, Store, Next, Goes, RequestNext, FaultNext, goes, do_act, address_bits}
 use Rattle.dwarf_meaning.specs.Rest.{State, Status, Start, Running, RequestStatus, CompleteStatus, FaultStatus, with_refusal}
-use Rattle.dwarf_meaning.specs.Refusals.{before_pushes}
 use Rattle.dwarf_meaning.proofs.Effects.{IsActOf, branches, act_is}
-use Rattle.dwarf_eval.specs.inner.StateChanges.{IsNoBranch, LeadsBy, Performs, Stays, act_of, at, do_act_at, with_place}
+use Rattle.dwarf_eval.specs.inner.StateChanges.{IsNoBranch, LeadsBy, Performs, Stays, act_of, at, do_act_at, with_place, before_pushes}
 
 -- ---- the text
 

@@ -9,10 +9,10 @@ use Rattle.dwarf_value.specs.declared.types.Value.{Value}
 use Rattle.dwarf_meaning.specs.Locations.{Piece}
 use Rattle.dwarf_meaning.specs.Stores.{Setup, Store, push_value, push_piece, push_caller}
 use Rattle.dwarf_meaning.specs.Rest.{State, FaultStatus, with_refusal}
-use Rattle.dwarf_meaning.specs.Refusals.{Limits, Refusal, Never, After, room, refusal_after_push, MayPick, before_push, before_pushes}
+use Rattle.dwarf_meaning.specs.Refusals.{Limits, Refusal, Never, After, room, refusal_after_push, MayPick}
 use Rattle.dwarf_eval.specs.Lists.{HasRoom, MayRefuse}
 use Rattle.dwarf_meaning.specs.Inputs.{with_status}
-use Rattle.dwarf_eval.specs.inner.StateChanges.{Steps, Gets, Refused}
+use Rattle.dwarf_eval.specs.inner.StateChanges.{Steps, Gets, Refused, before_push, before_pushes}
 use Rattle.dwarf_eval.proofs.Staying.{stays_status}
 
 -- how many pushes on lists without a limit a push is

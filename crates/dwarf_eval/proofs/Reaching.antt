@@ -7,11 +7,11 @@ use Rattle.dwarf_meaning.specs.Requests.{Input}
 use Rattle.dwarf_meaning.specs.Stores.{Setup, Store, push_value}
 use Rattle.dwarf_meaning.specs.Meaning.{FaultOutcome}
 use Rattle.dwarf_meaning.specs.Rest.{State, Status, Start, Running, FaultStatus, with_refusal}
-use Rattle.dwarf_meaning.specs.Refusals.{Refusal, MayPick, before_pushes}
+use Rattle.dwarf_meaning.specs.Refusals.{Refusal, MayPick}
 use Rattle.dwarf_meaning.specs.Bounds.{faults_in}
 use Rattle.dwarf_meaning.specs.Inputs.{Keeps, with_status}
 use Rattle.dwarf_eval.specs.inner.Answers.{IsAtRestBy}
-use Rattle.dwarf_eval.specs.inner.StateChanges.{Stays, Total, total, Tries, Reaches, Falls, ComesBy, Comes, HasReply, is_running}
+use Rattle.dwarf_eval.specs.inner.StateChanges.{Stays, Total, total, Tries, Reaches, Falls, ComesBy, Comes, HasReply, is_running, before_pushes}
 use Rattle.dwarf_eval.proofs.RefusedPushes.{before_more, may_before}
 use Rattle.dwarf_eval.proofs.Loads.{kept_in, value_stored}
 use Rattle.dwarf_eval.proofs.Spending.{nears_by, nears_more, spent_here, spent_more, begun_spends, fallen_spends}

@@ -4,8 +4,8 @@ use Rattle.dwarf_base.specs.Faults.{Fault, ◌>>=◌}
 use Rattle.dwarf_value.specs.declared.types.Value.{Value}
 use Rattle.dwarf_meaning.specs.Stores.{Setup, Store, push_value, push_values, Plain}
 use Rattle.dwarf_meaning.specs.Rest.{State, with_refusal}
-use Rattle.dwarf_meaning.specs.Refusals.{Limits, Refusal, Never, After, MayPick, before_push, before_pushes}
-use Rattle.dwarf_eval.specs.inner.StateChanges.{Gets, Does, Stays, Tries, with_store, Refused, Tried, with_last}
+use Rattle.dwarf_meaning.specs.Refusals.{Limits, Refusal, Never, After, MayPick}
+use Rattle.dwarf_eval.specs.inner.StateChanges.{Gets, Does, Stays, Tries, with_store, Refused, Tried, with_last, before_push, before_pushes}
 use Rattle.dwarf_eval.proofs.Staying.{stays_from, stays_more, stays_pushed}
 
 pub before_more : (p q : ℕ) (r : Refusal) → before_pushes (p + q) r ≡ before_pushes p (before_pushes q r)

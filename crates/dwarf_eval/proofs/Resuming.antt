@@ -18,11 +18,11 @@ use Rattle.dwarf_meaning.specs.Stores.{address_bits, Store, Last, Pushed, Called
 use Rattle.dwarf_meaning.specs.Run.{Position, Course, run_callee, enter_callee, after_push, run}
 use Rattle.dwarf_meaning.specs.Meaning.{FaultOutcome}
 use Rattle.dwarf_meaning.specs.Rest.{State, Status, Start, Running, RequestStatus, FaultStatus, with_refusal, total_of_course}
-use Rattle.dwarf_meaning.specs.Refusals.{Refusal, Never, After, refusal_after_input, MayPick, before_input, before_pushes}
+use Rattle.dwarf_meaning.specs.Refusals.{Refusal, Never, After, refusal_after_input, MayPick, before_input}
 use Rattle.dwarf_meaning.proofs.Effects.{IsUseOf, use_is}
 use Rattle.dwarf_meaning.specs.Bounds.{waiting, faults_in}
 use Rattle.dwarf_meaning.specs.Inputs.{input_of, with_status}
-use Rattle.dwarf_eval.specs.inner.StateChanges.{Total, total_after, total_used, Does, Refused, Stays, Pops, Tries, Tried, Enters, TriesToEnter, Comes, ComesBy, Takes, with_last, with_values}
+use Rattle.dwarf_eval.specs.inner.StateChanges.{Total, total_after, total_used, Does, Refused, Stays, Pops, Tries, Tried, Enters, TriesToEnter, Comes, ComesBy, Takes, with_last, with_values, before_pushes}
 use Rattle.dwarf_eval.specs.inner.Answers.{IsWaiting}
 use Rattle.dwarf_eval.proofs.AnswerUses.{IsOpen, IsOpenTo, open_in, turned, turned_none, turned_ok, turned_err}
 use Rattle.dwarf_eval.proofs.Computes.{width_old}

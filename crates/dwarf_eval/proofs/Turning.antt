@@ -14,13 +14,13 @@ use Rattle.dwarf_meaning.specs.Stores.{Setup, address_bits, Store, Last, Located
 use Rattle.dwarf_meaning.specs.Run.{Position, CompleteEnd, FaultEnd, Course, only_end, prepend, read, most, can_count, count_one, counted_act, do_operation, turn_counted, after_operation, await_answer, turn_by, run}
 use Rattle.dwarf_meaning.specs.Meaning.{FaultOutcome}
 use Rattle.dwarf_meaning.specs.Rest.{State, Status, Running, RequestStatus, FaultStatus, with_refusal, total_of_course}
-use Rattle.dwarf_meaning.specs.Refusals.{Refusal, Never, MayPick, before_pushes}
+use Rattle.dwarf_meaning.specs.Refusals.{Refusal, Never, MayPick}
 use Rattle.dwarf_meaning.proofs.Counts.{HasTally, OnNext, Tally, tally_of, tally-done}
 use Rattle.dwarf_meaning.proofs.Effects.{act_is}
 use Rattle.dwarf_meaning.proofs.Turns.{run_turn, below_most, waits_little}
 use Rattle.dwarf_meaning.specs.Bounds.{endings, faults_in}
 use Rattle.dwarf_meaning.specs.Inputs.{Keeps, with_status}
-use Rattle.dwarf_eval.specs.inner.StateChanges.{Stays, total, CountsOne, ReadsOperation, act_of, do_act_at, LeadsToPlace, LeadsToRequest, LeadsToFault, LeadsBy, Performs, read_to, with_store, ComesBy, is_free, IsReady, Turns, effort, effort_by}
+use Rattle.dwarf_eval.specs.inner.StateChanges.{Stays, total, CountsOne, ReadsOperation, act_of, do_act_at, LeadsToPlace, LeadsToRequest, LeadsToFault, LeadsBy, Performs, read_to, with_store, ComesBy, is_free, IsReady, Turns, effort, effort_by, before_pushes}
 use Rattle.dwarf_eval.proofs.Loads.{EndsNoMore, done_ends, free_given, piece_due, IsLighter, kept_in, done_lighter}
 use Rattle.dwarf_eval.proofs.Spending.{nears_by, asked_spends, counted_spends, fallen_spends}
 use Rattle.dwarf_eval.proofs.Staying.{stays_status}

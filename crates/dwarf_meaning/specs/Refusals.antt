@@ -29,17 +29,6 @@ abbrev pub room : Option ℕ → (n : ℕ) → Refusal → Result Refusal Fault
 room None n refusal = refusal_after_push refusal
 room (Some limit) n refusal = if nat_lt n limit then Ok refusal else Err StackFull
 
--- the refusal before a push on a list without a limit
-abbrev pub before_push : Refusal → Refusal
-before_push Never = Never
-before_push (After zero pushes) = After zero (suc pushes)
-before_push (After (suc inputs) pushes) = After (suc inputs) pushes
-
--- the refusal before this many of them
-abbrev pub before_pushes : ℕ → Refusal → Refusal
-before_pushes zero refusal = refusal
-before_pushes (suc pushes) refusal = before_push (before_pushes pushes refusal)
-
 -- ---- inputs
 
 -- the refusal after an input is taken

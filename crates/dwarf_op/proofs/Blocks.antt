@@ -7,7 +7,7 @@ use Rattle.dwarf_meaning.specs.Operations.{Operation}
 use Rattle.dwarf_meaning.specs.Operands.{Layout, Range}
 use Rattle.dwarf_meaning.specs.Opcodes.{sized_block}
 use Rattle.dwarf_meaning.specs.Decoding.{unsigned_at}
-use Rattle.dwarf_op.specs.Entries.{block_in, operands_in}
+use Rattle.dwarf_op.specs.inner.Entries.{block_in, operands_in}
 
 module _ (make : Text → Operation) where
   -- the operation that is made of a block

@@ -4,8 +4,8 @@ ghost use Rattle.std.specs.Prelude.{◌≡◌, ◌<◌, length, OnOk};
 ghost use Rattle.dwarf_base.specs.declared.common.Encoding.{Encoding};
 ghost use Rattle.dwarf_base.specs.Reads.{Reads};
 ghost use Rattle.dwarf_meaning.specs.Decoding.{operation_at};
-ghost use Rattle.dwarf_op.specs.Entries.{entry_row, operands_in, rare_row};
-ghost use Rattle.dwarf_op.specs.Entries as entries;
+ghost use Rattle.dwarf_op.specs.inner.Entries.{entry_row, operands_in, rare_row};
+ghost use Rattle.dwarf_op.specs.inner.Entries as entries;
 ghost use Rattle.dwarf_op.specs.Views.{operation_of};
 
 use crate::opcodes::{Entry, Fieldless, FromOffset, Offset, Rare, entry_at};

@@ -3,7 +3,7 @@
 ghost use Rattle.std.specs.Prelude.{◌≡◌};
 ghost use Rattle.dwarf_base.specs.declared.common.Encoding.{Encoding};
 ghost use Rattle.dwarf_meaning.specs.Opcodes.{row_of};
-ghost use Rattle.dwarf_op.specs.Entries.{entry_row};
+ghost use Rattle.dwarf_op.specs.inner.Entries.{entry_row};
 
 use dwarf_base::constants::*;
 

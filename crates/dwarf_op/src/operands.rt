@@ -3,7 +3,7 @@
 ghost use Rattle.std.specs.Prelude.{◌≡◌};
 ghost use Rattle.dwarf_base.specs.Reads.{Reads, fixed_at, signed_at};
 ghost use Rattle.dwarf_meaning.specs.Decoding.{unsigned_at, integer_at};
-ghost use Rattle.dwarf_op.specs.Entries.{
+ghost use Rattle.dwarf_op.specs.inner.Entries.{
   block_in,
   offset_form,
   register_at,

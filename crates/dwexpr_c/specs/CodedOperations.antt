@@ -133,11 +133,6 @@ block_in _ = None
 abbrev pub undecoded_operation : (offset code : ℕ) → DwexprOperation
 undecoded_operation offset code = record blank_operation { offset = offset; fault = code }
 
--- a fault was met after this opcode
-abbrev pub faulted : (offset opcode : ℕ) → Fault → DwexprOperation
-faulted offset opcode fault =
-    record (undecoded_operation offset (code_of_fault fault)) { opcode = opcode; detail = number_of_fault fault }
-
 -- a block is the last part of its operation, which ends here
 abbrev pub with_block : (end : ℕ) → Option (List ℕ) → DwexprOperation → DwexprOperation
 with_block end None shown = shown
@@ -151,7 +146,8 @@ decoded_operation offset opcode size op =
 -- what is shown of what is read from the offset on, if this many bytes are left
 abbrev pub Decodes : (offset opcode left : ℕ) → Result (Operation × List ℕ) Fault → DwexprOperation → Type 0
 Decodes offset opcode left (Ok read) shown = shown ≡ decoded_operation offset opcode (left - length read.1) read.0
-Decodes offset opcode left (Err fault) shown = shown ≡ faulted offset opcode fault
+Decodes offset opcode left (Err fault) shown =
+    shown ≡ record (undecoded_operation offset (code_of_fault fault)) { opcode = opcode; detail = number_of_fault fault }
 
 -- the bytes at the place that is shown are the block of what was read, if it has one
 abbrev pub IsBlockAt : (bytes : List ℕ) → DwexprOperation → Result (Operation × List ℕ) Fault → Type 0

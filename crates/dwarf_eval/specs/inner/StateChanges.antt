@@ -1,6 +1,6 @@
 -- What the parts of an evaluation do to its state. Contracts of this crate alone cite this file, and private ones above
 -- it.
-use Rattle.std.specs.Prelude.{ℕ, ◌+◌, ◌-◌, ◌*◌, ◌<◌, ◌≤◌, ◌≡◌, ◌&&◌, nat_lt, Bool, true, false, List, [], ◌∷◌, Option, Some, None, Result, Ok, Err, length}
+use Rattle.std.specs.Prelude.{ℕ, zero, suc, ◌+◌, ◌-◌, ◌*◌, ◌<◌, ◌≤◌, ◌≡◌, ◌&&◌, nat_lt, Bool, true, false, List, [], ◌∷◌, Option, Some, None, Result, Ok, Err, length}
 use Rattle.dwarf_base.specs.declared.errors.Error.{Error}
 use Rattle.dwarf_base.specs.declared.errors.Error.TheVariants.{BadBranchTarget, InvalidExpressionTerminator, TooManyIterations}
 use Rattle.dwarf_base.specs.Faults.{Fault, fault_of}
@@ -19,11 +19,22 @@ use Rattle.dwarf_meaning.specs.Run.{Position, after_answer, can_count, count_one
 use Rattle.dwarf_meaning.specs.Meaning.{Outcome, FaultOutcome, CompleteOutcome, completion_of}
 use Rattle.dwarf_meaning.specs.Rest.{State, Status, Start, Running, RequestStatus, CompleteStatus, FaultStatus, total_of_course, with_refusal}
 pub use Rattle.dwarf_meaning.specs.Rest.{Total, total, total_after}
-use Rattle.dwarf_meaning.specs.Refusals.{Limits, Refusal, MayPick, before_pushes}
+use Rattle.dwarf_meaning.specs.Refusals.{Limits, Refusal, Never, After, MayPick}
 use Rattle.dwarf_meaning.specs.Bounds.{Spends, calls_left}
 use Rattle.dwarf_meaning.specs.Inputs.{Keeps, with_status}
 
 -- ---- steps
+
+-- the refusal before a push on a list without a limit
+abbrev pub before_push : Refusal → Refusal
+before_push Never = Never
+before_push (After zero pushes) = After zero (suc pushes)
+before_push (After (suc inputs) pushes) = After (suc inputs) pushes
+
+-- the refusal before this many of them
+abbrev pub before_pushes : ℕ → Refusal → Refusal
+before_pushes zero refusal = refusal
+before_pushes (suc pushes) refusal = before_push (before_pushes pushes refusal)
 
 -- what f makes of what was kept before some pushes is what g makes of what is kept after them
 pub record Steps {A : Type 0} (f : Store → A) (old : Store) (g : Store → A) (new : Store) : Type 0 where

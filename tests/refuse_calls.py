@@ -122,7 +122,7 @@ RUNS = [
 
 
 def run(library, refused, digits, text, command="eval", failure=errno.EIO):
-    """What is printed, what is said on standard error, and the status, if these calls, one of a kind, are refused so."""
+    """What is printed, what is said on standard error, and the status, if these calls, one of a kind, are refused."""
     numbers = {f"REFUSED_{kind}": str(number) for kind, number in refused.items()}
     ran = subprocess.run(
         [str(PROGRAM), command, "4", "4", "4", "le", digits],

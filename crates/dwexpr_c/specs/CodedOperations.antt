@@ -147,7 +147,8 @@ decoded_operation offset opcode size op =
 abbrev pub Decodes : (offset opcode left : ℕ) → Result (Operation × List ℕ) Fault → DwexprOperation → Type 0
 Decodes offset opcode left (Ok read) shown = shown ≡ decoded_operation offset opcode (left - length read.1) read.0
 Decodes offset opcode left (Err fault) shown =
-    shown ≡ record (undecoded_operation offset (code_of_fault fault)) { opcode = opcode; detail = number_of_fault fault }
+    shown
+    ≡ record (undecoded_operation offset (code_of_fault fault)) { opcode = opcode; detail = number_of_fault fault }
 
 -- the bytes at the place that is shown are the block of what was read, if it has one
 abbrev pub IsBlockAt : (bytes : List ℕ) → DwexprOperation → Result (Operation × List ℕ) Fault → Type 0

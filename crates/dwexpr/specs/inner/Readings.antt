@@ -31,7 +31,8 @@ asked_by x = record { command = x.command; reading = x.reading; bytes = x.bytes.
 -- ---- lines
 
 -- what is read of lines that say these steps, or of which one says none: the same, unless there was no memory
-abbrev pub ReadsSteps : {A B : Type 0} → (A → Step) → (said : Result (List Step) ℕ) → Result (Vec A B) StepsFault → Type 0
+abbrev pub ReadsSteps : {A B : Type 0} → (A → Step) → (said : Result (List Step) ℕ) → Result (Vec A B) StepsFault
+    → Type 0
 ReadsSteps view said (Ok steps) = said ≡ Ok (map view steps.items)
 ReadsSteps view said (Err (fault.Bad number)) = said ≡ Err number
 ReadsSteps view said (Err fault.NoMemory) = Unit {0}

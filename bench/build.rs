@@ -1,4 +1,4 @@
-//! Makes `sums.rs` of the checksums in Rattle, and links the files that BENCH_LINKED names, with spaces between.
+//! Makes `sums.rs` of the checksums in Rattle, and links the files that BENCH_LINKED names, one a line.
 
 const SUMS: &str = "../crates/dwarf_bench/src/sums.rt";
 
@@ -23,7 +23,7 @@ fn main() {
     }
     std::fs::write(format!("{}/sums.rs", std::env::var("OUT_DIR").unwrap()), sums).unwrap();
     println!("cargo:rerun-if-env-changed=BENCH_LINKED");
-    for file in std::env::var("BENCH_LINKED").unwrap_or_default().split_whitespace() {
+    for file in std::env::var("BENCH_LINKED").unwrap_or_default().lines() {
         println!("cargo:rerun-if-changed={file}");
         println!("cargo:rustc-link-arg={file}");
     }

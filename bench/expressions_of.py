@@ -1,15 +1,19 @@
 #!/usr/bin/env python3
-"""expressions_of.py [--all] FILE..: prints the DWARF expressions of ELF files as a list that bench/run reads.
+"""Prints the DWARF expressions of ELF files as a list that bench/run reads.
 
 It takes those of attributes and of the location lists that attributes name, but for empty ranges, which mean nothing:
 each once, or with --all as often as it stands there, in the order of the files. It needs `readelf` and `objcopy`
 (binutils).
 """
 
+import pathlib
 import re
-import subprocess
 import sys
 import tempfile
+
+sys.dont_write_bytecode = True
+sys.path.insert(0, str(pathlib.Path(__file__).resolve().parent.parent / "bin"))
+import commands  # noqa: E402
 
 
 class Section:
@@ -21,8 +25,7 @@ class Section:
             words = ["objcopy", "--decompress-debug-sections", "-O", "binary", f"--only-section={name}"]
             # A section that isn't loaded is written only where it is said to be.
             words += ["--set-section-flags", f"{name}=alloc", path, out.name]
-            done = subprocess.run(words, capture_output=True, check=False)
-            self.all = b"" if done.returncode else out.read()
+            self.all = b"" if commands.done(*words).returncode else out.read()
         self.at = 0
 
     def take(self, count):
@@ -90,7 +93,7 @@ def expressions_of(path):
         order = "be" if file.read(6)[5] == 2 else "le"
     old, new = Section(path, ".debug_loc", order), Section(path, ".debug_loclists", order)
     words = ["readelf", "--debug-dump=info", "--debug-dump=no-follow-links", path]
-    said = subprocess.run(words, capture_output=True, text=True, errors="replace", check=False).stdout
+    said = commands.run(*words)
     address_size = offset_size = version = 0
     for line in said.splitlines():
         found = []
@@ -111,11 +114,15 @@ def expressions_of(path):
 
 
 def main():
-    words = sys.argv[1:]
-    is_all = words[:1] == ["--all"]
-    found = (it for path in words[is_all:] for it in expressions_of(path) if it[4])
-    for each in found if is_all else dict.fromkeys(found):
+    parser = commands.parser(__doc__)
+    parser.add_argument("--all", action="store_true", help="print each as often as it stands there")
+    parser.add_argument("files", metavar="FILE", nargs="+")
+    words = parser.parse_args()
+    commands.need("readelf", "objcopy")
+    found = (it for path in words.files for it in expressions_of(path) if it[4])
+    for each in found if words.all else dict.fromkeys(found):
         print(*each, sep="\t")
 
 
-main()
+if __name__ == "__main__":
+    commands.end_with(main)

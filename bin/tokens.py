@@ -3,6 +3,8 @@
 import bisect
 import re
 
+from commands import Failure
+
 # White space, a comment, a lifetime, a word or a number, or one sign.
 TOKEN = re.compile(r"\s+|//[^\n]*|'[a-z]\w*|\w+|.", re.DOTALL)
 # What may be left of code. No source has literals of text, so their signs aren't known.
@@ -15,7 +17,7 @@ KNOWN_MACROS = {"matches", "unreachable"}
 CLOSING = {"(": ")", "[": "]", "{": "}"}
 
 
-class Refused(Exception):
+class Refused(Failure):
     """Something in a source that isn't known."""
 
 

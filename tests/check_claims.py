@@ -19,7 +19,11 @@ import subprocess
 import sys
 import tempfile
 
-TOP = pathlib.Path(__file__).resolve().parent.parent
+sys.dont_write_bytecode = True
+import checks  # noqa: E402
+from checks import commands, expect, left_out, run  # noqa: E402
+from commands import TOP  # noqa: E402
+
 PAGES = {name: (TOP / name).read_text(encoding="utf-8") for name in ("README.md", "docs/GUIDE.md")}
 # A command and what it prints, up to an empty line or the next command.
 SESSION = re.compile(r"^    \$ (.+)\n((?:    (?!\$).+\n)*)", re.MULTILINE)
@@ -30,7 +34,7 @@ FENCE = re.compile(r"^```(\w+)\n(.*?)^```$", re.MULTILINE | re.DOTALL)
 PRINTED = re.compile(r"print(?:f|ln!)\(.*;.*?(?:/\*|//) (.*?)(?: \*/)?$", re.MULTILINE)
 # The command that builds a program in C, by its last line.
 BUILD = re.compile(r"((?:^    .+\n)*^    cc program\.c .+\n)", re.MULTILINE)
-SECONDS = 600
+checks.SECONDS = 600
 
 # By the size of an address: each variable's expression, and a pattern for what gdb prints, None if it doesn't end.
 VARIABLES = {
@@ -80,19 +84,11 @@ VARIABLE = """\
 """
 
 
-def run(words, folder=TOP):
-    given = {"cwd": folder, "stdin": subprocess.DEVNULL, "capture_output": True, "text": True, "timeout": SECONDS}
-    try:
-        return subprocess.run(words, check=False, **given)
-    except subprocess.TimeoutExpired as error:
-        return subprocess.CompletedProcess(words, 1, "", str(error))
-
-
 def lacks(what, *tools):
     """Whether a tool is missing, which is then said."""
     missing = [tool for tool in tools if not shutil.which(tool)]
     if missing:
-        print(f"left out: {what}: there is no {missing[0]}")
+        left_out(what, missing[0])
     return bool(missing)
 
 
@@ -102,7 +98,7 @@ def sessions():
         for command, wanted in SESSION.findall(text):
             if command == GATE:
                 continue
-            said = run(["bash", "-c", command]).stdout
+            said = run(["bash", "-c", command], cwd=TOP).stdout
             good = said == re.sub(r"^    ", "", wanted, flags=re.MULTILINE)
             yield None if good else f"{page}: `{command}` prints\n{said}"
 
@@ -120,7 +116,7 @@ def in_c():
     if lacks("the programs in C", "cc", "pkg-config", "rt"):
         return
     if not ARCHIVE.exists():
-        print("left out: the programs in C: the archive isn't built")
+        left_out("the programs in C", "archive that is built")
         return
     with tempfile.TemporaryDirectory() as folder:
         packed = run([TOP / "bin/package", "--prefix", f"{folder}/package"])
@@ -128,7 +124,7 @@ def in_c():
         for page, before, program, wanted in programs("c", "int main("):
             pathlib.Path(folder, "program.c").write_text(program)
             command = BUILD.findall(before)[-1].replace("DIR", f"{folder}/package")
-            said = run(["bash", "-ec", f"{command}\n./a.out"], folder)
+            said = run(["bash", "-ec", f"{command}\n./a.out"], cwd=folder)
             yield None if said.stdout == wanted else f"{page}: a program in C prints\n{said.stdout}{said.stderr}"
 
 
@@ -141,12 +137,12 @@ def in_rust():
         yield f"bin/crate: {made.stdout}{made.stderr}" if made.returncode else None
         # Without Cargo, which would look for the crates of the features.
         words = ["rustc", "--edition", "2024"]
-        built = run([*words, "--crate-type", "lib", "--crate-name", "dwexpr", "crate/src/lib.rs"], folder)
+        built = run([*words, "--crate-type", "lib", "--crate-name", "dwexpr", "crate/src/lib.rs"], cwd=folder)
         yield f"the crate by rustc: {built.stderr}" if built.returncode else None
         for page, _, program, wanted in programs("rust", "fn main("):
             pathlib.Path(folder, "program.rs").write_text(program)
-            built = run([*words, "--extern", "dwexpr=libdwexpr.rlib", "program.rs"], folder)
-            said = built if built.returncode else run(["./program"], folder)
+            built = run([*words, "--extern", "dwexpr=libdwexpr.rlib", "program.rs"], cwd=folder)
+            said = built if built.returncode else run(["./program"], cwd=folder)
             yield None if said.stdout == wanted else f"{page}: a program in Rust prints\n{said.stdout}{said.stderr}"
 
 
@@ -167,11 +163,11 @@ def is_printed(file, name, pattern):
     words = ["gdb", "-q", "-nx", "-batch", "-ex", f"print {name}", file]
     with subprocess.Popen(words, stdout=subprocess.PIPE, stderr=subprocess.STDOUT, text=True) as ran:
         try:
-            said = ran.communicate(timeout=SECONDS if pattern else PATIENCE)[0]
+            said = ran.communicate(timeout=checks.SECONDS if pattern else PATIENCE)[0]
             return bool(pattern) and bool(re.fullmatch(pattern, said))
         except subprocess.TimeoutExpired:
             ran.send_signal(signal.SIGINT)
-            return "Quit" in ran.communicate(timeout=SECONDS)[0] and not pattern
+            return "Quit" in ran.communicate(timeout=checks.SECONDS)[0] and not pattern
 
 
 def of_gdb():
@@ -181,13 +177,13 @@ def of_gdb():
     version = run(["gdb", "--version"]).stdout.split("\n")[0]
     named = re.search(r"gdb (\d+\.\d+)", PAGES["README.md"])[1]
     if not version.endswith(f" {named}"):
-        print(f"left out: what gdb {named} prints: {version} is there")
+        left_out(f"what gdb prints, since {version} is there", f"gdb {named}")
         return
     with tempfile.TemporaryDirectory() as folder:
         source, made = pathlib.Path(folder, "units.s"), pathlib.Path(folder, "units.o")
         source.write_text(assembly())
         if run(["cc", "-c", source, "-o", made]).returncode:
-            print("left out: what gdb prints: cc isn't for x86-64")
+            left_out("what gdb prints", "cc for x86-64")
             return
         for variables in VARIABLES.values():
             for name, (digits, pattern) in variables.items():
@@ -198,20 +194,18 @@ def of_libdw():
     """No call of libdw evaluates."""
     for header in LIBDW:
         if not pathlib.Path(header).exists():
-            print(f"left out: the calls of libdw: there is no {header}")
+            left_out("the calls of libdw", header)
             continue
         calls = re.findall(r"\b(?:dwarf|dwfl)_\w*eval\w*", pathlib.Path(header).read_text())
         yield f"{header} declares {calls[0]}" if calls else None
 
 
 def main():
-    found = [*sessions(), *in_c(), *in_rust(), *of_gdb(), *of_libdw()]
-    failed = [line for line in found if line]
-    for line in failed:
-        print(f"FAILED {line}")
-    print(f"{len(found) - len(failed)} passed, {len(failed)} failed")
-    return 1 if failed else 0
+    commands.words_of(__doc__)
+    for part in (sessions, in_c, in_rust, of_gdb, of_libdw):
+        for line in part():
+            expect(not line, line)
 
 
 if __name__ == "__main__":
-    sys.exit(main())
+    checks.end_with(main)

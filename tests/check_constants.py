@@ -14,6 +14,10 @@ import pathlib
 import re
 import sys
 
+sys.dont_write_bytecode = True
+import checks  # noqa: E402
+from checks import commands, expect  # noqa: E402
+
 CRATE = pathlib.Path(__file__).resolve().parent.parent / "crates" / "dwarf_base"
 CONSTANTS = CRATE / "src" / "constants.rt"
 LAW = CRATE / "src" / "laws.rt"
@@ -33,17 +37,12 @@ def read(file):
 
 
 def main():
+    commands.words_of(__doc__)
     lists = dict(LIST.findall(read(LISTS)))
     rows = collections.Counter(name for clause in CLAUSE.findall(read(LAW)) for name in ROW.findall(lists[clause]))
-    constants = CONSTANT.findall(read(CONSTANTS))
-    failed = [name for name in constants if rows[name] != 1]
-    for name in failed:
-        print(f"{name} stands {rows[name]} times in the law of constants")
-    if not constants:
-        print(f"{CONSTANTS} has no constants")
-    print(f"{len(constants) - len(failed)} passed, {len(failed) or int(not constants)} failed")
-    return 1 if failed or not constants else 0
+    for name in CONSTANT.findall(read(CONSTANTS)) or ["no constant"]:
+        expect(rows[name] == 1, f"{name} stands {rows[name]} times in the law of constants")
 
 
 if __name__ == "__main__":
-    sys.exit(main())
+    checks.end_with(main)

@@ -16,7 +16,7 @@
   for byte. docs/GUIDE.md has the loop over requests and its proof.
 - Each text that a wrong body takes away stands once in the file that it names. The gate tries few of them.
 
-It prints a line for each failure. The last line is `N passed, M failed`, and the status is 1 if one failed.
+It prints a line for each failure. The last line is `N passed, M failed`.
 """
 
 import fnmatch
@@ -24,10 +24,13 @@ import functools
 import os
 import pathlib
 import re
-import subprocess
 import sys
 
-TOP = pathlib.Path(__file__).resolve().parent.parent
+sys.dont_write_bytecode = True
+import checks  # noqa: E402
+from checks import commands, expect, run  # noqa: E402
+from commands import TOP  # noqa: E402
+
 README = "README.md"
 DEFINITIONS = "docs/DEFINITIONS.md"
 GLOSSARY = "docs/GLOSSARY.md"
@@ -128,7 +131,7 @@ def is_definitions(path):
 
 def glossary():
     """The page of definitions is what the comments make it, and no definition lacks one."""
-    ran = subprocess.run([TOP / "bin" / "glossary"], capture_output=True, text=True, check=False)
+    ran = run([TOP / "bin/glossary"])
     yield "bin/glossary: a definition lacks its comment" if ran.returncode else None
     yield None if ran.stdout == read(GLOSSARY) else f"{GLOSSARY} isn't what bin/glossary prints"
 
@@ -239,7 +242,7 @@ def figures():
 
 def counted():
     """Each line of figures in CONTRIBUTING.md is one that bin/figures prints."""
-    printed = subprocess.run([TOP / "bin" / "figures"], capture_output=True, text=True, check=True).stdout.splitlines()
+    printed = commands.run(TOP / "bin/figures").splitlines()
     for line in re.findall(r"^    (.+)$", read("CONTRIBUTING.md").split("\n## Figures\n")[1].split("\n## ")[0], re.M):
         yield None if line in printed else f"CONTRIBUTING.md has {line!r}, which bin/figures doesn't print"
 
@@ -312,13 +315,10 @@ CHECKS = [glossary, unknown, astray, partless, operations, figures, counted, cra
 
 
 def main():
-    found = [line for check in CHECKS for line in check()]
-    failed = [line for line in found if line]
-    for line in failed:
-        print(line)
-    print(f"{len(found) - len(failed)} passed, {len(failed)} failed")
-    return 1 if failed else 0
+    commands.words_of(__doc__)
+    for line in (line for check in CHECKS for line in check()):
+        expect(not line, line)
 
 
 if __name__ == "__main__":
-    sys.exit(main())
+    checks.end_with(main)

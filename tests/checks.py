@@ -3,6 +3,10 @@
 import pathlib
 import shutil
 import subprocess
+import sys
+
+sys.path.insert(0, str(pathlib.Path(__file__).resolve().parent.parent / "bin"))
+import commands  # noqa: E402
 
 # What a compiler of C or C++ is told: to take no warning, and where the headers are.
 STRICT = ["-pedantic", "-Wall", "-Wextra", "-Werror", f"-I{pathlib.Path(__file__).resolve().parent.parent / 'include'}"]
@@ -34,13 +38,12 @@ def left_out(what, lack):
     print(f"left out: {what}: there is no {lack}")
 
 
-def run(words, **more):
+def run(words, input=None, **more):
     """Runs a program. The status is 1 if it can't be run or takes too long."""
-    words = [str(word) for word in words]
     try:
-        return subprocess.run(words, text=True, capture_output=True, timeout=SECONDS, check=False, **more)
-    except (OSError, subprocess.TimeoutExpired) as error:
-        return subprocess.CompletedProcess(words, 1, "", str(error))
+        return commands.done(*words, given=input, seconds=SECONDS, **more)
+    except commands.Failure as failure:
+        return subprocess.CompletedProcess(words, 1, "", str(failure))
 
 
 def check(name, words, **more):
@@ -61,7 +64,15 @@ def check_headers(*names):
             left_out(what, compiler)
 
 
-def end():
-    """Prints the count. The status of the script."""
-    print(f"{passed} passed, {failed} failed")
-    return 1 if failed else 0
+def end_with(main):
+    """Ends with the count of checks, to which a failure of the script itself is added."""
+
+    def counted():
+        try:
+            main()
+        except commands.Failure as failure:
+            expect(False, failure, failure.said)
+        print(f"{passed} passed, {failed} failed")
+        return 1 if failed else 0
+
+    commands.end_with(counted)

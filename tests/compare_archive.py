@@ -1,9 +1,6 @@
 #!/usr/bin/env python3
 """Compares the Rust crate with the archive for C, in one process.
 
-    tests/compare_archive.py [COUNT]           COUNT made-up cases of each kind; without it 1,000,000
-    tests/compare_archive.py --wrong-bodies    tries the wrong bodies of the crate
-
 It makes the crate anew by bin/crate, and builds it into the program of tests/beside_archive, with checks of overflow.
 The program compares each operation, request, fault, value, piece and block that both sides give: of made-up
 expressions, of the expressions of tests/rows, in the rows' steps, and of those of tests/vectors. The archive is the
@@ -22,16 +19,17 @@ import pathlib
 import re
 import resource
 import shutil
-import subprocess
 import sys
 import tempfile
 
-TOP = pathlib.Path(__file__).resolve().parent.parent
 sys.dont_write_bytecode = True
-sys.path.insert(0, str(TOP / "bin"))
+import checks  # noqa: E402
+import run_rows  # noqa: E402
+from checks import commands, expect, left_out  # noqa: E402
+
 import archive  # noqa: E402
 import compiler  # noqa: E402
-import run_rows  # noqa: E402
+from commands import TOP, Failure  # noqa: E402
 
 PROGRAM = TOP / "tests" / "beside_archive"
 COUNT = 1_000_000
@@ -69,19 +67,13 @@ def cases():
     return "".join(f"{line}\n" for line in lines)
 
 
-def fail(said):
-    print(f"FAILED {said}\n0 passed, 1 failed")
-    sys.exit(1)
-
-
 def archive_folder():
     """The folder of the archive. Without an archive the run ends."""
     if "DWEXPR_C" in os.environ:
         return pathlib.Path(os.environ["DWEXPR_C"])
-    path = archive.path_of()
-    if not compiler.is_newer(path, archive.CRATE.name):
-        fail(f"{path.relative_to(TOP)} isn't there, or is older than its sources: tests/run_c.py builds it")
-    return path.parent
+    if not archive.is_built():
+        raise Failure("there is no archive of these sources: tests/run_c.py builds it")
+    return archive.path_of().parent
 
 
 def build(crate, folder):
@@ -92,9 +84,9 @@ def build(crate, folder):
         ["--crate-type", "lib", "--crate-name", "dwexpr", crate / "src" / "lib.rs", "-o", library],
         ["-D", "warnings", *uses, PROGRAM / "main.rs", "-o", folder / "beside_archive"],
     ):
-        done = subprocess.run([*RUSTC, *words], capture_output=True, text=True, check=False)
+        done = commands.done(*RUSTC, *words)
         if done.returncode:
-            return done.stderr
+            return done.stderr or commands.ended(done.returncode)
     return ""
 
 
@@ -104,25 +96,25 @@ def limit_memory():
 
 def run(folder, count, lines):
     """Runs the program of a folder. What it printed, or `None` if it didn't come to its end."""
-    words = [folder / "beside_archive", str(count), lines]
+    words = [folder / "beside_archive", count, lines]
     try:
-        done = subprocess.run(
-            words, stdout=subprocess.PIPE, text=True, timeout=SECONDS, preexec_fn=limit_memory, check=False
-        )
-    except subprocess.TimeoutExpired:
+        done = commands.done(*words, seconds=SECONDS, stderr=None, preexec_fn=limit_memory)
+    except Failure:
         return None
     return done.stdout if re.search(r"^\d+ passed, \d+ failed\n\Z", done.stdout, re.MULTILINE) else None
 
 
 def compare(crate, folder, lines, count):
-    """Compares the crate with the archive. Whether they are alike."""
+    """Compares the crate with the archive."""
     if failure := build(crate, folder):
-        fail(f"the crate, or the program with it, isn't built\n{failure}")
+        raise Failure("the crate, or the program with it, isn't built", failure)
     printed = run(folder, count, lines)
     if printed is None:
-        fail("the program didn't come to its end")
-    print(printed, end="")
-    return printed.endswith(" 0 failed\n")
+        raise Failure("the program didn't come to its end")
+    said, _, counted = printed.rstrip("\n").rpartition("\n")
+    print(said)
+    good, bad = map(int, re.findall(r"\d+", counted))
+    checks.count(good, bad, "the Rust crate beside the archive")
 
 
 def wrong_bodies():
@@ -155,40 +147,36 @@ def try_wrong_body(wrong_body, crate, lines):
 
 
 def try_wrong_bodies(crate, lines):
-    """Tries all wrong bodies. Whether each was seen."""
+    """Tries all wrong bodies."""
     all_of_them = list(wrong_bodies())
-    seen = 0
     with concurrent.futures.ThreadPoolExecutor(compiler.JOBS) as pool:
         tried = pool.map(lambda wrong_body: try_wrong_body(wrong_body, crate, lines), all_of_them)
         for (name, *_), (is_seen, said) in zip(all_of_them, tried):
             print(f"{'seen' if is_seen else 'NOT SEEN'}: {name}: {said}", flush=True)
-            seen += is_seen
-    print(f"{seen} passed, {len(all_of_them) - seen} failed")
-    return seen == len(all_of_them)
+            expect(is_seen, f"{name} is seen")
 
 
 def main():
-    words = sys.argv[1:]
-    if len(words) > 1 or not all(word == "--wrong-bodies" or word.isdecimal() for word in words):
-        print(__doc__, file=sys.stderr)
-        return 2
-    if missing := [tool for tool in ("rustc", "rustfmt", "git") if not shutil.which(tool)]:
-        print(f"left out: the Rust crate beside the archive: there is no {missing[0]}\n0 passed, 0 failed")
-        return 0
+    parser = commands.parser(__doc__)
+    words = parser.add_mutually_exclusive_group()
+    said = "how many cases of each kind are made up; without it 1,000,000"
+    words.add_argument("count", metavar="COUNT", nargs="?", type=int, default=COUNT, help=said)
+    words.add_argument("--wrong-bodies", action="store_true", help="try the wrong bodies of the crate")
+    words = parser.parse_args()
+    if missing := [tool for tool in ("rustc", "rustfmt") if not shutil.which(tool)]:
+        return left_out("the Rust crate beside the archive", missing[0])
     archive_folder()
     with tempfile.TemporaryDirectory(prefix="beside-archive-") as name:
         folder = pathlib.Path(name)
         crate, lines = folder / "crate", folder / "cases"
-        made = subprocess.run([TOP / "bin" / "crate", crate], capture_output=True, text=True, check=False)
-        if made.returncode:
-            fail(f"bin/crate\n{made.stdout}{made.stderr}")
+        commands.run(TOP / "bin/crate", crate)
         lines.write_text(cases(), encoding="utf-8")
-        if words == ["--wrong-bodies"]:
-            is_good = try_wrong_bodies(crate, lines)
+        if words.wrong_bodies:
+            try_wrong_bodies(crate, lines)
         else:
-            is_good = compare(crate, folder, lines, int(words[0]) if words else COUNT)
-    return 0 if is_good else 1
+            compare(crate, folder, lines, words.count)
+    return None
 
 
 if __name__ == "__main__":
-    sys.exit(main())
+    checks.end_with(main)

@@ -25,9 +25,16 @@ import sys
 import tempfile
 import time
 
-TOP = pathlib.Path(__file__).resolve().parent.parent
+sys.dont_write_bytecode = True
+from checks import commands  # noqa: E402
+from commands import TOP  # noqa: E402
+
 ARCHIVE = TOP / "crates" / "dwexpr_c" / "out" / "libdwexpr_c.a"
 LEVELS = 4
+SOURCES = {path.stem: path for path in sorted((TOP / "tests" / "stopped").glob("*.c"))}
+COMPILERS = ["gcc", "clang"]
+OPTIMIZATIONS = ["-O0", "-O1", "-O2", "-O3"]
+VERSIONS = ["-gdwarf-4", "-gdwarf-5"]
 
 # Runs in gdb: prints a line of JSON for each place, with the variables of each frame: its level, the function, a name,
 # and bits as numbers: of the variable's value, which of them are known, and which were optimized away.
@@ -261,14 +268,13 @@ def compare_all(where, words):
     def chosen(names):
         return [name for name in names if name in words] or names
 
-    sources = {path.stem: path for path in sorted((TOP / "tests" / "stopped").glob("*.c"))}
     sums = {"process": collections.Counter(), "core dump": collections.Counter()}
     jobs = [
-        (where, sources[stem], compiler, level, version)
-        for stem in chosen(list(sources))
-        for compiler in filter(shutil.which, chosen(["gcc", "clang"]))
-        for level in chosen(["-O0", "-O1", "-O2", "-O3"])
-        for version in chosen(["-gdwarf-4", "-gdwarf-5"])
+        (where, SOURCES[stem], compiler, level, version)
+        for stem in chosen(list(SOURCES))
+        for compiler in filter(shutil.which, chosen(COMPILERS))
+        for level in chosen(OPTIMIZATIONS)
+        for version in chosen(VERSIONS)
     ]
     with concurrent.futures.ProcessPoolExecutor() as pool:
         for found, lines in pool.map(compare_program, *zip(*jobs)):
@@ -279,13 +285,17 @@ def compare_all(where, words):
 
 
 def main():
+    parser = commands.parser(__doc__)
+    _, words = parser.parse_known_args()
+    if unknown := set(words).difference(SOURCES, COMPILERS, OPTIMIZATIONS, VERSIONS):
+        parser.error(f"unknown word: {unknown.pop()}")
     with tempfile.TemporaryDirectory() as made:
         where = pathlib.Path(made) / "where"
         links = [f"-I{TOP / 'include'}", TOP / "examples/where.c", ARCHIVE, "-ldw", "-lelf", "-o", where]
         if run(["cc", "-std=c11", "-O2", *links]).returncode != 0:
             print("examples/where.c isn't built: it wants libdw and crates/dwexpr_c/out/libdwexpr_c.a")
             return 2
-        sums = compare_all(where, sys.argv[1:])
+        sums = compare_all(where, words)
     for what, counted in sums.items():
         for kind, count in counted.most_common():
             print(f"{what}: {count} {kind}")
@@ -295,4 +305,4 @@ def main():
 
 
 if __name__ == "__main__":
-    sys.exit(main())
+    commands.end_with(main)

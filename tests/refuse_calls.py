@@ -26,10 +26,10 @@ import sys
 import tempfile
 
 sys.dont_write_bytecode = True
-from checks import end, expect  # noqa: E402
+import checks  # noqa: E402
+from checks import commands, expect  # noqa: E402
+from commands import TOP  # noqa: E402
 
-TOP = pathlib.Path(__file__).resolve().parent.parent
-BUILD = TOP / "bin" / "build"
 PROGRAM = TOP / "crates" / "dwexpr" / "out" / "dwexpr"
 SECONDS = 60
 # How many numbers in a row must change nothing before they end.
@@ -200,24 +200,22 @@ def interrupt(library, kind, buffer):
 
 
 def main():
-    built = subprocess.run([str(BUILD)], stdin=subprocess.DEVNULL, stdout=sys.stderr, check=False)
+    commands.words_of(__doc__)
+    commands.run(TOP / "bin/build", stderr=None)
     with tempfile.TemporaryDirectory() as folder:
         library = pathlib.Path(folder) / "refuse.so"
         words = ["cc", "-std=c11", "-O1", "-Wall", "-Wextra", "-Werror", "-shared", "-fPIC"]
         words += [str(TOP / "tests" / "refuse.c"), "-o", str(library)]
-        if built.returncode != 0 or subprocess.run(words, check=False).returncode != 0:
-            expect(False, "the program, or what refuses its calls, was not built")
-        else:
-            refuse_allocations(library)
-            refuse_reads(library)
-            interrupt(library, "READ", {})
-            number = number_of_buffer(library)
-            expect(number, "no run went on without its buffer of standard output")
-            for buffer in ({}, {"ALLOCATION": number}):
-                refuse_writes(library, buffer)
-                interrupt(library, "WRITE", buffer)
-    return end()
+        commands.run(*words)
+        refuse_allocations(library)
+        refuse_reads(library)
+        interrupt(library, "READ", {})
+        number = number_of_buffer(library)
+        expect(number, "no run went on without its buffer of standard output")
+        for buffer in ({}, {"ALLOCATION": number}):
+            refuse_writes(library, buffer)
+            interrupt(library, "WRITE", buffer)
 
 
 if __name__ == "__main__":
-    sys.exit(main())
+    checks.end_with(main)

@@ -9,11 +9,14 @@ is left out.
 import os
 import pathlib
 import re
-import subprocess
 import sys
 import tempfile
 
-TOP = pathlib.Path(__file__).resolve().parent.parent
+sys.dont_write_bytecode = True
+import checks  # noqa: E402
+from checks import commands, expect, left_out  # noqa: E402
+from commands import TOP  # noqa: E402
+
 # Size of an address and of an offset, version, byte order, bytes.
 EXPRESSION = "4\t4\t4\tle\t9805009c22\n"
 # How many of the expressions of any bytes evaluate to something else in gimli, and why: docs/DIFFERENCES.md.
@@ -22,26 +25,24 @@ COMPARED = re.compile(r"^(In .*, (.*)): differ (\d+) of 1 of one; (\d+) of 20000
 
 
 def main():
+    commands.words_of(__doc__)
     if not (os.environ.get("DWEXPR_GIMLI") and os.environ.get("DWEXPR_ARRAYVEC")):
-        print("left out: bench: no folders with gimli and arrayvec are named\n0 passed, 0 failed")
-        return 0
+        return left_out("bench", "folder with gimli, or with arrayvec, that is named")
     with tempfile.TemporaryDirectory() as folder:
         one = pathlib.Path(folder, "one.tsv")
         one.write_text(EXPRESSION, encoding="ascii")
-        words = [TOP / "bench/run", "no work", one]
-        said = subprocess.run(words, capture_output=True, text=True, check=False)
-    print(said.stdout, end="")
-    compared = COMPARED.findall(said.stdout)
-    failed = [name for name, work, *numbers in compared if numbers != ["0", str(DIFFERENT * (work != "decode"))]]
-    if said.returncode or not compared:
-        failed.append(said.stderr)
+        said = commands.run(TOP / "bench/run", "no work", one)
+    print(said, end="")
+    compared = COMPARED.findall(said)
+    expect(compared, "something is compared")
+    for name, work, *numbers in compared:
+        expect(numbers == ["0", str(DIFFERENT * (work != "decode"))], name)
     # The kit's gate takes no link in the repository, so the next one would fail.
-    failed += [f"{path} is a link" for path in (TOP / "bench/out").rglob("*") if path.is_symlink()]
-    for what in failed:
-        print(f"failed: {what}")
-    print(f"{len(compared)} passed, {len(failed)} failed")
-    return 1 if failed else 0
+    for path in (TOP / "bench/out").rglob("*"):
+        if path.is_symlink():
+            expect(False, f"{path} is a link")
+    return None
 
 
 if __name__ == "__main__":
-    sys.exit(main())
+    checks.end_with(main)

@@ -15,18 +15,18 @@ It wants cc; what else is missing is left out, and said so. The last line is `N 
 import json
 import pathlib
 import re
-import shutil
 import sys
 import tempfile
 
-TOP = pathlib.Path(__file__).resolve().parent.parent
 sys.dont_write_bytecode = True
-sys.path[:0] = [str(TOP / "bin"), str(TOP / "tests")]
-import archive  # noqa: E402
-from checks import STRICT, check, check_headers, count, end, expect, left_out, run  # noqa: E402
+import checks  # noqa: E402
+from checks import STRICT, check, check_headers, commands, count, expect, left_out, run  # noqa: E402
 
-CRATE = archive.CRATE
+import archive  # noqa: E402
+from commands import TOP  # noqa: E402
+
 ARCHIVE = archive.path_of()
+CRATE = TOP / "crates" / archive.CRATE
 SANITIZERS = ["-g", "-fsanitize=address,undefined", "-fno-sanitize-recover=all"]
 
 
@@ -175,20 +175,17 @@ def decode(folder):
 
 
 def main():
-    if not shutil.which("cc"):
-        print("tests/run_c.py: cc isn't on PATH: add a C compiler")
-        expect(False, "cc")
-    elif failure := archive.build():
-        expect(False, "the archive", failure)
-    else:
-        with tempfile.TemporaryDirectory() as name:
-            folder = pathlib.Path(name)
-            check_headers("dwexpr_run.h")
-            layout()
-            callers(folder)
-            decode(folder)
-    return end()
+    commands.words_of(__doc__)
+    commands.need("cc")
+    with commands.alone():
+        archive.build()
+    with tempfile.TemporaryDirectory() as name:
+        folder = pathlib.Path(name)
+        check_headers("dwexpr_run.h")
+        layout()
+        callers(folder)
+        decode(folder)
 
 
 if __name__ == "__main__":
-    sys.exit(main())
+    checks.end_with(main)

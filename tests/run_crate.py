@@ -1,11 +1,8 @@
 #!/usr/bin/env python3
 """Makes the Rust crate anew by bin/crate, and runs its tests.
 
-    tests/run_crate.py [KEPT]
-
 It builds the crate without features and with all, runs its tests and those of its documentation, clippy, the build of
-the documentation, `cargo package`, and the example on a program that `cc -g` makes. KEPT is a folder for what Cargo
-builds; without one it is a temporary folder.
+the documentation, `cargo fmt --check`, `cargo package`, and the example on a program that `cc -g` makes.
 
 Cargo wants the crates that the features need even if they are off. The variable DWEXPR_GIMLI names a folder with gimli
 0.34, and DWEXPR_ARRAYVEC one with arrayvec 0.7. Without a folder an empty package stands in for it, and its feature is
@@ -23,9 +20,9 @@ import tempfile
 
 sys.dont_write_bytecode = True
 import checks  # noqa: E402
-from checks import check, end, expect, left_out  # noqa: E402
+from checks import check, commands, expect, left_out  # noqa: E402
+from commands import TOP  # noqa: E402
 
-TOP = pathlib.Path(__file__).resolve().parent.parent
 checks.SECONDS = 600
 
 # The crates that the features need: the variable, and what stands in if it names no folder.
@@ -95,22 +92,20 @@ def run_example(cargo, features, folder):
 
 
 def main():
-    if len(sys.argv) > 2:
-        print(__doc__, file=sys.stderr)
-        return 2
-    missing = [it for it in ("cargo", "rustfmt") if not shutil.which(it)]
-    if missing:
-        left_out("the Rust crate", missing[0])
-        return end()
+    parser = commands.parser(__doc__)
+    said = "a folder for what Cargo builds; without one it is a temporary folder"
+    parser.add_argument("kept", metavar="KEPT", nargs="?", type=pathlib.Path, help=said)
+    words = parser.parse_args()
+    if missing := [it for it in ("cargo", "rustfmt") if not shutil.which(it)]:
+        return left_out("the Rust crate", missing[0])
     with tempfile.TemporaryDirectory() as name:
         folder = pathlib.Path(name)
         crate = folder / "crate"
-        if not check("bin/crate", [TOP / "bin/crate", crate]):
-            return end()
+        commands.run(TOP / "bin/crate", crate)
         found = find_crates(folder)
         for name in NEEDED.keys() - set(found):
             print(f"left out: the feature {name}: {NEEDED[name][0]} names no folder")
-        target = pathlib.Path(sys.argv[1]).resolve() if len(sys.argv) == 2 else folder / "target"
+        target = words.kept.resolve() if words.kept else folder / "target"
         env = {**os.environ, "CARGO_TARGET_DIR": str(target), "RUSTDOCFLAGS": "-D warnings"}
 
         def cargo(name, *words):
@@ -118,6 +113,7 @@ def main():
 
         tree = cargo("tree", "tree")
         expect(len(tree.splitlines()) == 1, "without features it depends on nothing", tree)
+        cargo("fmt --check", "fmt", "--check")
         for chosen in [[], found] if found else [[]]:
             enabled = ["--features", ",".join(chosen)] if chosen else []
             said = " with " + " and ".join(chosen) if chosen else ""
@@ -128,11 +124,12 @@ def main():
             cargo(f"doc{said}", "doc", "--no-deps", *enabled)
         listed = cargo("package --list", "package", "--list")
         expect({"LICENSE-APACHE", "LICENSE-MIT"} <= set(listed.split()), "the package has its licences", listed)
+        expect(".written" not in listed.split(), "the package has no list of what bin/crate wrote", listed)
         cargo("package", "package")
         if "gimli" in found:
             run_example(cargo, ["--features", ",".join(found)], folder)
-    return end()
+    return None
 
 
 if __name__ == "__main__":
-    sys.exit(main())
+    checks.end_with(main)

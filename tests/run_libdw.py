@@ -12,10 +12,7 @@
 - examples/where.c and gdb, for processes and core dumps (compare_gdb.py).
 - tests/libdw/hostile.c: programs whose debug information has wrong bytes.
 
-    tests/run_libdw.py          takes less than a minute on four processors
-    tests/run_libdw.py --all    compares all programs with gdb, and changes 30 times as many bytes
-
-It wants cc and libdw; what else is missing is left out, and said so. The last line is `N passed, M failed`.
+It takes less than a minute on four processors. It wants cc and libdw; what else is missing is left out, and said so. The last line is `N passed, M failed`.
 """
 
 import concurrent.futures
@@ -26,13 +23,13 @@ import shutil
 import sys
 import tempfile
 
-TOP = pathlib.Path(__file__).resolve().parent.parent
 sys.dont_write_bytecode = True
-sys.path[:0] = [str(TOP / "bin"), str(TOP / "tests")]
-import archive  # noqa: E402
 import checks  # noqa: E402
 import compare_gdb  # noqa: E402
-from checks import STRICT, check, check_headers, count, end, expect, left_out, run  # noqa: E402
+from checks import STRICT, check, check_headers, commands, count, expect, left_out, run  # noqa: E402
+
+import archive  # noqa: E402
+from commands import TOP  # noqa: E402
 
 ARCHIVE = archive.path_of()
 LINKS = [ARCHIVE, "-ldw", "-lelf"]
@@ -220,20 +217,22 @@ def has_libdw(folder):
 
 
 def main():
+    parser = commands.parser(__doc__)
+    said = "compare all programs with gdb, and change 30 times as many bytes"
+    parser.add_argument("--all", action="store_true", help=said)
+    parser.parse_args()
+    commands.need("cc")
     with tempfile.TemporaryDirectory() as name:
         folder = pathlib.Path(name)
-        if not shutil.which("cc"):
-            expect(False, "cc", "cc isn't on PATH: add a C compiler")
-        elif not has_libdw(folder):
-            left_out("include/dwexpr_libdw.h and the examples over it", "libdw")
-        elif failure := archive.build():
-            expect(False, "the archive", failure)
-        else:
-            check_headers("dwexpr_libdw.h", "dwexpr_names.h")
-            for stage in [callers, round_trip, expressions, examples, with_gdb, hostile]:
-                stage(folder)
-    return end()
+        if not has_libdw(folder):
+            return left_out("include/dwexpr_libdw.h and the examples over it", "libdw")
+        with commands.alone():
+            archive.build()
+        check_headers("dwexpr_libdw.h", "dwexpr_names.h")
+        for stage in [callers, round_trip, expressions, examples, with_gdb, hostile]:
+            stage(folder)
+    return None
 
 
 if __name__ == "__main__":
-    sys.exit(main())
+    checks.end_with(main)

@@ -1,11 +1,10 @@
 #!/usr/bin/env python3
-"""Packs the archive as bin/package does, and uses the package with no `rt` on PATH and HOME is empty.
+"""Packs the archive as bin/package does, and uses the package with no `rt` on PATH and an empty HOME.
 
 - Two packages are the same, byte for byte. A package has the files that it should, no link of its pages leads nowhere,
   and PROVED names the commit and the kit.
-- An archive of other sources, another one, or one whose proof has no record isn't packed.
 - examples/decode.c is built by cc, with the words of pkg-config, and by a CMake project. So are a caller of dwexpr_run
-  in C and a caller in C++.
+  in C and a caller in C++. CMake finds the package for the versions and the processor that it is for, and no others.
 - The Rust crate is the one that bin/crate writes.
 - examples/variable.c is built with the words of pkg-config, and prints a variable of a stopped process.
 - For aarch64 decode.c is built by Debian's cross compiler and run by qemu-user.
@@ -17,6 +16,7 @@ import os
 import pathlib
 import re
 import shutil
+import shlex
 import signal
 import subprocess
 import sys
@@ -24,22 +24,46 @@ import tarfile
 import tempfile
 import time
 
-TOP = pathlib.Path(__file__).resolve().parent.parent
 sys.dont_write_bytecode = True
-sys.path.insert(0, str(TOP / "tests"))
 import checks  # noqa: E402
-from checks import check, end, expect, left_out, run  # noqa: E402
+from checks import check, commands, expect, left_out, run  # noqa: E402
+from commands import TOP  # noqa: E402
 
 ARM = "aarch64-unknown-linux-gnu"
 # The archive is proved for each processor.
 checks.SECONDS = 3600
 
 CMAKE = """\
-cmake_minimum_required(VERSION 3.10)
+cmake_minimum_required(VERSION 3.19)
 project(user C)
+foreach(wanted "0.1" "0.1.0;EXACT" "0.1...0.2" "0.0.5...1" "0.0.5" "0.1.1" "0.2" "9.0" "0.1.1;EXACT" "0.0.1...0.0.9")
+  unset(dwexpr_DIR CACHE)
+  find_package(dwexpr ${wanted} QUIET)
+  message(STATUS "version ${wanted}: ${dwexpr_FOUND}")
+endforeach()
+set(CMAKE_SYSTEM_PROCESSOR "riscv64")
+unset(dwexpr_DIR CACHE)
+find_package(dwexpr QUIET)
+message(STATUS "riscv64: ${dwexpr_FOUND}")
+set(CMAKE_SYSTEM_PROCESSOR "${CMAKE_HOST_SYSTEM_PROCESSOR}")
 find_package(dwexpr 0.1 REQUIRED)
 add_executable(decode ${EXAMPLES}/decode.c)
 target_link_libraries(decode dwexpr::dwexpr)
+"""
+
+# What it says of each version, and of another processor.
+FOUND = """\
+-- version 0.1: 1
+-- version 0.1.0;EXACT: 1
+-- version 0.1...0.2: 1
+-- version 0.0.5...1: 1
+-- version 0.0.5: 0
+-- version 0.1.1: 0
+-- version 0.2: 0
+-- version 9.0: 0
+-- version 0.1.1;EXACT: 0
+-- version 0.0.1...0.0.9: 0
+-- riscv64: 0
 """
 
 # DW_OP_fbreg -16, in a frame at 0x3000.
@@ -190,33 +214,6 @@ def files_of(package):
     expect(not dead, "the links of the package", "\n".join(dead))
 
 
-def refusals(folder):
-    """bin/package packs no archive but that which was proved from these sources."""
-    top = folder / "copy"
-    unneeded = shutil.ignore_patterns("incremental", "rlib", "__pycache__")
-    for name in ("bin", "crates", "docs", "examples", "include", "rust"):
-        shutil.copytree(TOP / name, top / name, ignore=unneeded)
-    for name in ("crates.txt", "LICENSE-MIT", "LICENSE-APACHE"):
-        shutil.copy2(TOP / name, top)
-    archive = top / "crates/dwexpr_c/out/libdwexpr_c.a"
-    words = [top / "bin/package", "--prefix", top / "prefix"]
-    check("the copy is packed", words)
-    for name, path in [
-        ("an archive of other sources", top / "crates/dwarf_base/src/lib.rt"),
-        ("another archive", archive),
-        ("an archive whose proof has no record", archive.with_suffix(".proved")),
-    ]:
-        kept, times = path.read_bytes(), (path.stat().st_atime, path.stat().st_mtime)
-        path.unlink() if path.suffix == ".proved" else path.write_bytes(kept + b"\n")
-        if path.exists():
-            os.utime(path, times)
-        done = run(words)
-        is_refused = done.returncode == 1 and "isn't packed" in done.stderr
-        expect(is_refused, f"{name} isn't packed", done.stdout + done.stderr)
-        path.write_bytes(kept)
-        os.utime(path, times)
-
-
 def by_compilers(package, folder, env):
     source = package / "share/dwexpr/examples/decode.c"
     flags = [f"-I{package / 'include'}", f"-L{package / 'lib'}", "-ldwexpr"]
@@ -224,7 +221,7 @@ def by_compilers(package, folder, env):
         asked = {**env, "PKG_CONFIG_PATH": str(package / "lib/pkgconfig")}
         done = run(["pkg-config", "--cflags", "--libs", "dwexpr"], env=asked)
         expect(done.returncode == 0, "pkg-config", done.stderr)
-        flags = done.stdout.split()
+        flags = shlex.split(done.stdout)
     else:
         left_out("the words of pkg-config", "pkg-config")
     program = folder / "decode"
@@ -251,7 +248,7 @@ def by_libdw(package, folder, env):
     if not done or done.returncode:
         return left_out("examples/variable.c", "libdw for pkg-config")
     source, variable = package / "share/dwexpr/examples/variable.c", folder / "variable"
-    check("variable.c by cc", ["cc", "-std=c11", source, *done.stdout.split(), "-o", variable], env=env)
+    check("variable.c by cc", ["cc", "-std=c11", source, *shlex.split(done.stdout), "-o", variable], env=env)
     loop, program = folder / "loop.c", folder / "loop"
     loop.write_text(LOOP)
     check("a program with a variable", ["cc", "-g", "-O0", loop, "-o", program], env=env)
@@ -271,9 +268,9 @@ def by_cmake(package, folder, env):
     (project / "CMakeLists.txt").write_text(CMAKE)
     words = ["cmake", "-S", project, "-B", folder / "made", f"-DCMAKE_PREFIX_PATH={package}"]
     words.append(f"-DEXAMPLES={package / 'share/dwexpr/examples'}")
-    if check("CMake: configure", words, env=env) and check(
-        "CMake: build", ["cmake", "--build", folder / "made"], env=env
-    ):
+    done = check("CMake: configure", words, env=env)
+    if done and check("CMake: build", ["cmake", "--build", folder / "made"], env=env):
+        expect(FOUND in done.stdout, "CMake: the versions and the processor", done.stdout)
         check_decode("CMake: run", [folder / "made/decode"], env=env)
 
 
@@ -293,6 +290,7 @@ def for_arm(folder, env):
 
 
 def main():
+    commands.words_of(__doc__)
     with tempfile.TemporaryDirectory() as name:
         folder = pathlib.Path(name)
         home = folder / "home"
@@ -305,15 +303,13 @@ def main():
             expect(packed() == package and package.read_bytes() == first, "two packages are the same")
             here = unpacked(package, folder)
             files_of(here)
-            refusals(folder)
             by_compilers(here, folder, env)
             by_libdw(here, folder, env)
             by_cmake(here, folder, env)
             check("bin/package --prefix", [TOP / "bin/package", "--prefix", folder / "prefix"])
             expect((folder / "prefix/lib/libdwexpr.a").exists(), "the prefix has the archive")
             for_arm(folder, env)
-    return end()
 
 
 if __name__ == "__main__":
-    sys.exit(main())
+    checks.end_with(main)

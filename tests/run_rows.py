@@ -18,8 +18,6 @@ The rows of bin/dwexpr are run once more in a copy without the proved program. T
 keeps that.
 
 The last line is `N passed, M failed`; the status is 1 if a row failed.
-
-    tests/run_rows.py [WORD]    only the rows whose file and name have the word
 """
 
 import contextlib
@@ -33,9 +31,12 @@ import subprocess
 import sys
 import tempfile
 
-TOP = pathlib.Path(__file__).resolve().parent.parent
+sys.dont_write_bytecode = True
+import checks  # noqa: E402
+from checks import commands, expect  # noqa: E402
+from commands import TOP  # noqa: E402
+
 ROWS = TOP / "tests" / "rows"
-BUILD = TOP / "bin" / "build"
 PROGRAM = TOP / "crates" / "dwexpr" / "out" / "dwexpr"
 SECONDS = 60
 # Of a row whose program may have to be built.
@@ -184,12 +185,11 @@ def unproved_complaints(rows):
 
 
 def main():
-    wanted = sys.argv[1] if len(sys.argv) > 1 else ""
-    built = subprocess.run([str(BUILD)], stdin=subprocess.DEVNULL, stdout=sys.stderr, check=False)
-    if built.returncode != 0:
-        print(f"bin/build ended with status {built.returncode}, so no row was run")
-        print("0 passed, 1 failed")
-        return 1
+    parser = commands.parser(__doc__)
+    said = "run only the rows whose file and name have the word"
+    parser.add_argument("word", metavar="WORD", nargs="?", default="", help=said)
+    wanted = parser.parse_args().word
+    commands.run(TOP / "bin/build", stderr=None)
     complaints = {}
     by_script = []
     for file in sorted(ROWS.glob("*.json")):
@@ -203,17 +203,10 @@ def main():
     if by_script:
         found = unproved_complaints(by_script)
         complaints |= {f"bin/dwexpr, unproved: {name}": found[name] for name in found}
-    failed = sum(map(bool, complaints.values()))
-    passed = len(complaints) - failed
     for name, said in complaints.items():
-        for complaint in said:
-            print(f"{name}: {complaint}")
-    if passed + failed == 0:
-        print("there are no rows")
-        failed = 1
-    print(f"{passed} passed, {failed} failed")
-    return 1 if failed else 0
+        expect(not said, name, "\n".join(said))
+    expect(complaints, "there are rows")
 
 
 if __name__ == "__main__":
-    sys.exit(main())
+    checks.end_with(main)

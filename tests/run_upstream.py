@@ -1,8 +1,6 @@
 #!/usr/bin/env python3
 """Runs gimli's own tests of `op.rs` and `value.rs` on the crate that bin/crate makes.
 
-    tests/run_upstream.py FOLDER
-
 FOLDER holds the test modules of gimli 0.34.0, which are no part of this repository: of src/read/value.rs as
 `tests-part1.rs.txt`, and of src/read/op.rs as `tests-part2.rs.txt`. Their `use` lines are changed to name this crate,
 and nothing else but what is left out, by name below. If the copy of op.rs ends within its last test, the rest of that
@@ -16,15 +14,17 @@ import os
 import pathlib
 import re
 import shutil
-import subprocess
 import sys
 import tempfile
 
 sys.dont_write_bytecode = True
-from run_crate import TOP, find_crates  # noqa: E402
+import checks  # noqa: E402
+from checks import commands, count, left_out, run  # noqa: E402
+from commands import TOP  # noqa: E402
+from run_crate import find_crates  # noqa: E402
 
 PARTS = {"value": "tests-part1.rs.txt", "op": "tests-part2.rs.txt"}
-SECONDS = 600
+checks.SECONDS = 600
 
 # Tests that aren't run, each with the reason.
 LEFT_OUT = {
@@ -184,38 +184,34 @@ def carried(text):
 
 
 def main():
-    if len(sys.argv) != 2:
-        print(__doc__, file=sys.stderr)
-        return 2
+    parser = commands.parser(__doc__)
+    parser.add_argument("tests", metavar="FOLDER", type=pathlib.Path)
+    words = parser.parse_args()
     if not shutil.which("cargo"):
-        print("left out: gimli's own tests: there is no cargo\n0 passed, 0 failed")
-        return 0
+        return left_out("gimli's own tests", "cargo")
     with tempfile.TemporaryDirectory() as name:
-        subprocess.run([TOP / "bin/crate", pathlib.Path(name) / "crate"], stdout=subprocess.DEVNULL, check=True)
+        commands.run(TOP / "bin/crate", pathlib.Path(name) / "crate")
         find_crates(pathlib.Path(name))
         folder = pathlib.Path(name) / "upstream"
         (folder / "src").mkdir(parents=True)
         (folder / "Cargo.toml").write_text(CARGO)
         root, all_names = STAND_INS, []
         for part, file in PARTS.items():
-            text, names = carried((pathlib.Path(sys.argv[1]) / file).read_text())
+            text, names = carried((words.tests / file).read_text())
             (folder / "src" / f"{part}.rs").write_text(text)
             root += f"\n#[cfg(test)]\nmod {part};\n"
             all_names += names
         (folder / "src/lib.rs").write_text(root)
-        words = ["cargo", "test", "--quiet", "--lib"]
         env = {**os.environ, "CARGO_TARGET_DIR": str(folder / "target")}
-        done = subprocess.run(words, capture_output=True, text=True, timeout=SECONDS, check=False, cwd=folder, env=env)
+        done = run(["cargo", "test", "--quiet", "--lib"], cwd=folder, env=env)
     said = re.search(r"(\d+) passed; (\d+) failed", done.stdout)
     good, bad = map(int, said.groups()) if said else (0, 1)
-    if bad:
-        print(done.stdout + done.stderr)
     for name in filter(LEFT_OUT.get, all_names):
         print(f"left out: {name}: {LEFT_OUT[name]}")
     print(f"{good + bad} of gimli's {len(all_names)} tests ran")
-    print(f"{good} passed, {bad} failed")
-    return 1 if bad else 0
+    count(good, bad, "gimli's own tests", done.stdout + done.stderr)
+    return None
 
 
 if __name__ == "__main__":
-    sys.exit(main())
+    checks.end_with(main)

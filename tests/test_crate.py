@@ -5,19 +5,22 @@ out, doubled or swapped in what it writes; and to write no folder that isn't its
 It wants rustfmt, and no Rattle kit. What fails is printed. The last line is `N passed, M failed`.
 """
 
+import contextlib
 import importlib.machinery
 import importlib.util
 import os
 import pathlib
+import resource
 import shutil
 import subprocess
 import sys
 import tempfile
 
 sys.dont_write_bytecode = True
-from checks import end, expect  # noqa: E402
+import checks  # noqa: E402
+from checks import commands, expect  # noqa: E402
+from commands import TOP  # noqa: E402
 
-TOP = pathlib.Path(__file__).resolve().parent.parent
 loader = importlib.machinery.SourceFileLoader("crate", str(TOP / "bin/crate"))
 crate = importlib.util.module_from_spec(importlib.util.spec_from_loader("crate", loader))
 loader.exec_module(crate)
@@ -135,36 +138,100 @@ def try_other_text(folder):
     expect("what rustfmt wrote differs: self . read_fixed ( 8 )" in said, f"other text is written: {str(said)[:200]}")
 
 
-def run(folder, **environment):
-    command = [str(TOP / "bin/crate"), str(folder)]
-    return subprocess.run(command, capture_output=True, text=True, check=False, env={**os.environ, **environment})
+def run(*words, **settings):
+    return subprocess.run([TOP / "bin/crate", *words], capture_output=True, text=True, check=False, **settings)
+
+
+def contents(folder):
+    """The bytes of each file of a folder, by its path there."""
+    return {str(path.relative_to(folder)): path.read_bytes() for path in folder.rglob("*") if path.is_file()}
+
+
+def refuses(said, folder, *words, **settings):
+    """Checks that a folder isn't written, and is as it was."""
+    before = sorted(folder.parent.iterdir()), contents(folder)
+    done = run(folder, *words, **settings)
+    good = done.returncode == 1 and said in done.stderr and done.stderr.count("\n") == 1
+    expect(good, f"a folder is refused, since: {said}", f"{done.returncode}: {done.stdout}{done.stderr}")
+    expect(before == (sorted(folder.parent.iterdir()), contents(folder)), f"it stays as it was: {said}")
+
+
+def stop_at_lib(target, made, new):
+    """Replaces the files of a crate by others, and is stopped in the middle."""
+    copy = shutil.copyfile
+
+    def stop(source, to):
+        if source.name == "lib.rs":
+            raise KeyboardInterrupt
+        copy(source, to)
+
+    shutil.copyfile = stop
+    with contextlib.suppress(KeyboardInterrupt):
+        crate.replace(target, made, crate.listed(target), new)
+    shutil.copyfile = copy
 
 
 def try_folders(folder):
-    """Writes a crate on a PATH with three programs, then once more; and not over a folder of something else."""
-    programs, made, other = folder / "programs", folder / "made", folder / "other"
+    """Writes a crate on a PATH with two programs, and once more; and changes nothing that isn't its own."""
+    programs, made, other, link = (folder / name for name in ("programs", "made", "other", "link"))
     programs.mkdir()
     for name in ("python3", "rustfmt"):
         (programs / name).symlink_to(sys.executable if name == "python3" else shutil.which(name))
-    done = run(made, PATH=str(programs))
-    expect(done.returncode == 0, f"on a PATH of three programs: {done.stderr}")
-    files = {path.relative_to(made): path.read_bytes() for path in made.rglob("*") if path.is_file()}
+    done = run(made, env={**os.environ, "PATH": str(programs)})
+    expect(done.returncode == 0, f"on a PATH of two programs: {done.stderr}")
+    files = contents(made)
     for name in ("Cargo.toml", "README.md", "src/lib.rs", "src/proved/mod.rs", "LICENSE-MIT", "LICENSE-APACHE"):
-        expect(pathlib.Path(name) in files, f"{name} isn't written")
-    (made / "target").mkdir()
-    (made / "target/kept").touch()
-    (made / "src/proved/stale.rs").touch()
-    expect(run(made).returncode == 0, "the crate isn't written once more")
-    again = {path.relative_to(made): path.read_bytes() for path in made.rglob("*") if path.is_file()}
-    expect(again == files | {pathlib.Path("target/kept"): b""}, "the crate isn't the same when written once more")
+        expect(name in files, f"{name} isn't written")
+    # What others put there stays, and a file that the crate has no more goes.
+    for name in (".git/HEAD", ".cargo/config.toml", "NOTES.txt", "Cargo.lock", "target/kept", "src/proved/another.rs"):
+        (made / name).parent.mkdir(exist_ok=True)
+        (made / name).write_text("another's")
+    (made / "stale").mkdir()
+    (made / "stale/old.rs").write_text("old")
+    with open(made / crate.LIST, "a", encoding="utf-8") as listed:
+        listed.write(f"{crate.sum_of(made / 'stale/old.rs')}  stale/old.rs\n")
+    before = contents(made)
+    link.symlink_to(made)
+    for target in (made, link):
+        expect(run(target).returncode == 0, f"the crate isn't written once more: {target.name}")
+        kept = {name: said for name, said in before.items() if name not in (crate.LIST, "stale/old.rs")}
+        expect(contents(made) == kept | {crate.LIST: files[crate.LIST]}, f"another's file is changed: {target.name}")
+    expect(not (made / "stale").exists() and link.is_symlink(), "a folder without files is left, or a link replaced")
+    # A file of the crate in whose place is a folder or a link, or that someone changed.
+    whole, text = contents(made), (made / "src/lib.rs").read_bytes()
+    for change in (
+        lambda path: path.mkdir(),
+        lambda path: path.symlink_to(made / "NOTES.txt"),
+        lambda path: path.write_bytes(text + b"// mine\n"),
+    ):
+        commands.remove(made / "src/lib.rs")
+        change(made / "src/lib.rs")
+        refuses("src/lib.rs was changed", made)
+    expect(run(made, "--force").returncode == 0 and contents(made) == whole, "--force doesn't write over a change")
+    # Stopped in the middle of writing other sources, and then written once more.
+    other_sources = folder / "other sources"
+    shutil.copytree(made, other_sources)
+    for name in files.keys() - {crate.LIST}:
+        (other_sources / name).write_bytes(files[name] + b"\n")
+    stop_at_lib(made, other_sources, {name: crate.sum_of(other_sources / name) for name in files.keys() - {crate.LIST}})
+    expect(contents(made) != whole, "nothing was written before the stop")
+    expect(run(made).returncode == 0 and contents(made) == whole, "a crate that was written by half isn't mended")
+    # What isn't a folder of its own.
     other.mkdir()
     (other / "Cargo.toml").touch()
-    done = run(other)
-    expect(done.returncode == 1 and "isn't a crate that this wrote" in done.stderr, "another folder is written over")
-    expect([path.name for path in other.iterdir()] == ["Cargo.toml"], "another folder is changed")
+    refuses("isn't a crate that this wrote", other)
+    (folder / "file").touch()
+    refuses("is a file", folder / "file")
+    (folder / "dangling").symlink_to(folder / "nowhere")
+    refuses("leads nowhere", folder / "dangling")
+    # A write that the system refuses.
+    limit = {"preexec_fn": lambda: resource.setrlimit(resource.RLIMIT_FSIZE, (2000, 2000))}
+    refuses("File too large", made, **limit)
+    refuses("File too large", folder / "new", **limit)
 
 
 def main():
+    commands.words_of(__doc__)
     with tempfile.TemporaryDirectory() as folder:
         folder = pathlib.Path(folder)
         sources = crate.proved(TOP / "crates")
@@ -189,8 +256,7 @@ def main():
             try_tokens(module, sources[module], plain[module])
         try_other_text(folder)
         try_folders(folder)
-    return end()
 
 
 if __name__ == "__main__":
-    sys.exit(main())
+    checks.end_with(main)

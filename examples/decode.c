@@ -1,7 +1,7 @@
 /* Prints the operations of an expression, each with its DW_OP_ name and its operands, much as readelf does.
  *
- *     cc -Iinclude examples/decode.c crates/dwexpr_c/out/libdwexpr_c.a -o build/decode_example
- *     build/decode_example 8 4 5 le 916c0623109f
+ *     cc decode.c $(pkg-config --cflags --libs dwexpr) -o decode
+ *     ./decode 8 4 5 le 916c0623109f
  *
  * The words are the size of an address, that of an offset, the version of DWARF, le or be, and the bytes. */
 #include <stdlib.h>

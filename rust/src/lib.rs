@@ -29,6 +29,8 @@ extern crate alloc;
 #[allow(clippy::should_implement_trait, clippy::upper_case_acronyms)]
 // The names of opcodes are the standard's.
 #[allow(non_upper_case_globals)]
+// It is laid out as it is compared with its sources.
+#[rustfmt::skip]
 mod proved;
 
 mod errors;

@@ -31,6 +31,17 @@ NEEDED = {
     "arrayvec": ("DWEXPR_ARRAYVEC", '[package]\nname = "arrayvec"\nversion = "0.7.0"\n'),
 }
 
+# A package that depends on the crate.
+APP = """\
+[package]
+name = "app"
+version = "0.1.0"
+edition = "2024"
+
+[dependencies]
+dwexpr = { path = "../vendor/dwexpr" }
+"""
+
 # It prints what the example says of its variables in a frame whose canonical frame address is 100000000000 in
 # hexadecimal. The place of a local variable is told from that of its own frame.
 PROGRAM = """\
@@ -75,6 +86,18 @@ def printed_by(name, words, **settings):
     """Runs a program, which has to end with status 0, and gives what it printed."""
     done = check(name, words, **settings)
     return done.stdout if done else ""
+
+
+def try_workspace(folder):
+    """A workspace takes the crate under vendor/, as a member and as none."""
+    top = folder / "workspace"
+    (top / "app/src").mkdir(parents=True)
+    check("bin/crate into a workspace", [TOP / "bin/crate", top / "vendor/dwexpr"])
+    (top / "app/Cargo.toml").write_text(APP)
+    (top / "app/src/main.rs").write_text("fn main() { assert!(dwexpr::is_addr_mask(0xff)); }\n")
+    for members in ('members = ["app", "vendor/dwexpr"]', 'members = ["app"]\nexclude = ["vendor"]'):
+        (top / "Cargo.toml").write_text(f'[workspace]\nresolver = "3"\n{members}\n')
+        check(f"a workspace with {members}", ["cargo", "run", "--quiet", "--package", "app"], cwd=top)
 
 
 def run_example(cargo, features, folder):
@@ -122,6 +145,7 @@ def main():
             if shutil.which("cargo-clippy"):
                 cargo(f"clippy{said}", "clippy", "--all-targets", "--no-deps", *enabled, "--", "-D", "warnings")
             cargo(f"doc{said}", "doc", "--no-deps", *enabled)
+        try_workspace(folder)
         listed = cargo("package --list", "package", "--list")
         expect({"LICENSE-APACHE", "LICENSE-MIT"} <= set(listed.split()), "the package has its licences", listed)
         expect(".written" not in listed.split(), "the package has no list of what bin/crate wrote", listed)

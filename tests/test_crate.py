@@ -180,7 +180,7 @@ def try_folders(folder):
     done = run(made, env={**os.environ, "PATH": str(programs)})
     expect(done.returncode == 0, f"on a PATH of two programs: {done.stderr}")
     files = contents(made)
-    for name in ("Cargo.toml", "README.md", "src/lib.rs", "src/proved/mod.rs", "LICENSE-MIT", "LICENSE-APACHE"):
+    for name in ("Cargo.toml", "README.md", "src/lib.rs", "src/proved/mod.rs", "CHANGELOG.md", "LICENSE-MIT", "LICENSE-APACHE"):
         expect(name in files, f"{name} isn't written")
     # What others put there stays, and a file that the crate has no more goes.
     for name in (".git/HEAD", ".cargo/config.toml", "NOTES.txt", "Cargo.lock", "target/kept", "src/proved/another.rs"):

@@ -77,7 +77,7 @@ WITHIN = re.compile(r"DW_OP_b?(?:lit|reg)(?:[1-9]|[12]\d|30)")
 LIMITS = re.compile(r"(\d+)\s+values,\s+(\d+)\s+callers\s+and\s+(\d+)\s+pieces")
 FAULTS = re.compile(r"\b(\d+)\s+(?:faults|errors)\b")
 LIMIT = re.compile(r"#define DWEXPR_MAX_(?:VALUES|CALLERS|PIECES) (\d+)")
-RATIO = re.compile(r"\b\d\.\d\d\b")
+RATIO = re.compile(r"(?<!Rust )\b\d\.\d\d\b")
 LOGIC = re.compile(r"`([0-9a-f]{16})`")
 
 # A definition that other files see: `abbrev pub NAME`, `unfoldable pub NAME`, `pub data NAME`, `pub NAME : ..`; those

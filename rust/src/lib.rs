@@ -76,6 +76,14 @@ pub type NativeEndian = LittleEndian;
 /// This machine's byte order.
 #[cfg(target_endian = "big")]
 pub type NativeEndian = BigEndian;
+/// This machine's byte order.
+#[cfg(target_endian = "little")]
+#[allow(non_upper_case_globals)]
+pub const NativeEndian: LittleEndian = LittleEndian;
+/// This machine's byte order.
+#[cfg(target_endian = "big")]
+#[allow(non_upper_case_globals)]
+pub const NativeEndian: BigEndian = BigEndian;
 
 // `usize` is an offset, and an offset takes any number of 32 bits.
 const _: () = assert!(usize::BITS >= 32, "a machine's word has to have 32 bits or more");

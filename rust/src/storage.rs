@@ -57,6 +57,7 @@ pub trait EvaluationStorage<R: Reader + Copy> {
 }
 
 /// Lists on the heap, as long as memory allows.
+#[derive(Clone, Copy, Debug, PartialEq, Eq)]
 pub struct StoreOnHeap;
 
 impl<R: Reader + Copy> EvaluationStorage<R> for StoreOnHeap {

@@ -90,7 +90,10 @@ def of_list_of_version_5(section, offset, address_size):
 def expressions_of(path):
     """Each with the size of an address, that of an offset, the version and the order."""
     with open(path, "rb") as file:
-        order = "be" if file.read(6)[5] == 2 else "le"
+        head = file.read(6)
+    if len(head) < 6 or not head.startswith(b"\x7fELF"):
+        raise commands.Failure(f"{path} isn't an ELF file")
+    order = "be" if head[5] == 2 else "le"
     old, new = Section(path, ".debug_loc", order), Section(path, ".debug_loclists", order)
     words = ["readelf", "--debug-dump=info", "--debug-dump=no-follow-links", path]
     said = commands.run(*words)

@@ -1,6 +1,7 @@
 #!/usr/bin/env python3
-"""Tests bin/crate. It has to refuse some changes of the sources, and to take others; to see each token that is left
-out, doubled or swapped in what it writes; and to write no folder that isn't its own.
+"""Tests bin/crate. It has to refuse some changes of the sources, and to take others; to see each token that its first
+reader deletes wrongly, and each that is left out, doubled or swapped in what it writes; and to change nothing in a
+folder that isn't its own.
 
 It wants rustfmt, and no Rattle kit. What fails is printed. The last line is `N passed, M failed`.
 """
@@ -8,6 +9,7 @@ It wants rustfmt, and no Rattle kit. What fails is printed. The last line is `N 
 import contextlib
 import importlib.machinery
 import importlib.util
+import itertools
 import os
 import pathlib
 import resource
@@ -138,6 +140,30 @@ def try_other_text(folder):
     expect("what rustfmt wrote differs: self . read_fixed ( 8 )" in said, f"other text is written: {str(said)[:200]}")
 
 
+def try_wrong_deletions(folder):
+    """Has the first reader delete a token of code more at one place. The second one has to see it."""
+    delete = tokens.Source.delete
+    for number in (0, 1, 10, 50, 200):
+        calls = itertools.count()
+
+        def wrong(source, first, last, above="//"):
+            return delete(source, first, last + (next(calls) == number), above)
+
+        tokens.Source.delete = wrong
+        said = written(TOP / "crates", folder / "wrong")
+        is_refused = isinstance(said, str) and ("the two readers keep" in said or "unknown sign" in said)
+        expect(is_refused, f"deletion {number} has a token more: {str(said)[:200]}")
+    tokens.Source.delete = delete
+    # What is left is Rust that means the same.
+    attribute = tokens.Source.attribute
+    tokens.Source.attribute = lambda source, at: (
+        delete(source, at, at + 3, "") if source.words(at, at + 3) == ["#", "[", "inline", "]"] else attribute(source, at)
+    )
+    said = written(TOP / "crates", folder / "wrong")
+    tokens.Source.attribute = attribute
+    expect("the two readers keep other tokens" in said, f"attributes that are dropped: {str(said)[:200]}")
+
+
 def run(*words, **settings):
     return subprocess.run([TOP / "bin/crate", *words], capture_output=True, text=True, check=False, **settings)
 
@@ -255,6 +281,7 @@ def main():
         for module in ("base/mod", "value/word", "eval/store/lists"):
             try_tokens(module, sources[module], plain[module])
         try_other_text(folder)
+        try_wrong_deletions(folder)
         try_folders(folder)
 
 

@@ -154,7 +154,11 @@ def callers(folder):
                 count(int(said.group(1)), int(said.group(2)), f"{source.name}{kind}", done.stdout + done.stderr)
 
 
-DECODED = """\
+# Bytes of expressions: the status of examples/decode.c, and what it prints.
+DECODED = {
+    "916c06a301559e02aabb9d030501": (
+        1,
+        """\
 0 DW_OP_fbreg -20
 2 DW_OP_deref
 3 DW_OP_entry_value 1 byte block: 55
@@ -162,16 +166,46 @@ DECODED = """\
 6 DW_OP_implicit_value 2 byte block: aa bb
 10 DW_OP_bit_piece 3, 5
 13 fault: no operation has this opcode (1)
-"""
+""",
+    ),
+    "96a3015596": (
+        0,
+        """\
+0 DW_OP_nop
+1 DW_OP_entry_value 1 byte block: 55
+  0 DW_OP_reg5
+4 DW_OP_nop
+""",
+    ),
+    "a302960196": (
+        1,
+        """\
+0 DW_OP_entry_value 2 byte block: 96 01
+  0 DW_OP_nop
+  1 fault: no operation has this opcode (1)
+""",
+    ),
+    "a303a3010196": (
+        1,
+        """\
+0 DW_OP_entry_value 3 byte block: a3 01 01
+  0 DW_OP_entry_value 1 byte block: 01
+    0 fault: no operation has this opcode (1)
+""",
+    ),
+    "": (0, ""),
+}
 
 
 def decode(folder):
     program = folder / "decode"
     build = ["cc", "-std=c11", *STRICT, TOP / "examples/decode.c", ARCHIVE, "-o", program]
     if check("examples/decode.c: build", build):
-        done = run([program, "8", "4", "5", "le", "916c06a301559e02aabb9d030501"])
-        good = done.stdout == DECODED and done.returncode == 1
-        expect(good, "examples/decode.c", done.stdout + done.stderr)
+        for digits, wanted in DECODED.items():
+            done = run([program, "8", "4", "5", "le", digits])
+            expect((done.returncode, done.stdout) == wanted, f"examples/decode.c {digits}", done.stdout + done.stderr)
+        done = run([program, "8", "4", "5", "little", "96"])
+        expect(done.returncode == 2 and not done.stdout, "examples/decode.c, bad words", done.stdout + done.stderr)
 
 
 def main():

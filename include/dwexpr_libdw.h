@@ -385,7 +385,8 @@ static inline int dwexpr_libdw_register_expression(Dwarf_Frame *state, const uns
 
 /* A frame of a stopped thread. dwexpr_libdw_open_process, dwexpr_libdw_open_core and dwexpr_libdw_unwind fill it in. If
  * you do, set the fields up to `context`, and all others to 0. A callback gives back 0, or another number if the answer
- * isn't known. It may be NULL. */
+ * isn't known. It may be NULL. If it gives back 0 and writes nothing, memory and addresses are 0, and a register isn't
+ * known. */
 typedef struct dwexpr_libdw_frame {
     Dwfl *dwfl;
     Dwarf_Addr pc;     /* where it stands, as dwfl_frame_pc tells it */
@@ -510,7 +511,7 @@ static inline int dwexpr_libdw_on_memory(void *given, uint64_t address, uint32_t
 {
     struct dwexpr_libdw_context *context = (struct dwexpr_libdw_context *)given;
     const dwexpr_libdw_frame *frame = context->frame;
-    uint8_t bytes[8];
+    uint8_t bytes[8] = {0};
     if (space || size > sizeof bytes || !frame->read_memory ||
         frame->read_memory(frame->context, address, bytes, size))
         return 1;
@@ -523,8 +524,8 @@ static inline int dwexpr_libdw_on_register(void *given, uint32_t number, uint64_
     struct dwexpr_libdw_context *context = (struct dwexpr_libdw_context *)given;
     const dwexpr_libdw_frame *frame = context->frame;
     uint8_t bytes[DWEXPR_LIBDW_REGISTER_SIZE];
-    size_t size;
-    if (!frame->read_register || frame->read_register(frame->context, number, bytes, &size))
+    size_t size = 0;
+    if (!frame->read_register || frame->read_register(frame->context, number, bytes, &size) || !size)
         return 1;
     *content = dwexpr_libdw_number_of(bytes, size, context->value->encoding.big_endian);
     return 0;
@@ -983,6 +984,7 @@ static inline int dwexpr_libdw_copy_memory(const dwexpr_libdw_frame *frame, uint
     while (count) {
         const uint64_t bits = count < 8 * sizeof part - bit ? count : 8 * sizeof part - bit;
         const size_t size = (size_t)((bit + bits + 7) / 8);
+        memset(part, 0, size);
         if (!frame->read_memory || frame->read_memory(frame->context, address, part, size))
             return DWEXPR_LIBDW_NOT_READABLE;
         dwexpr_libdw_copy_bits(bytes, at, part, bit, bits, big_endian);
@@ -1002,14 +1004,14 @@ static inline int dwexpr_libdw_read_piece(const dwexpr_libdw_frame *frame, const
     uint8_t content[DWEXPR_LIBDW_REGISTER_SIZE];
     const uint8_t *from = content;
     dwexpr_text block;
-    size_t size;
+    size_t size = 0;
     uint64_t bit = piece->bit_offset;
     switch (piece->kind) {
     case DWEXPR_AT_ADDRESS:
         return dwexpr_libdw_copy_memory(frame, piece->number, bit, bytes, at, count, big_endian);
     case DWEXPR_IN_REGISTER:
         if (!frame->read_register ||
-            frame->read_register(frame->context, (uint32_t)piece->number, content, &size))
+            frame->read_register(frame->context, (uint32_t)piece->number, content, &size) || !size)
             return DWEXPR_LIBDW_NOT_READABLE;
         break;
     case DWEXPR_HOLDS_VALUE:

@@ -28,8 +28,9 @@ typedef struct dwexpr_texts {
     size_t length;
 } dwexpr_texts;
 
-/* The answers to what an expression may ask for. Each callback returns 0. Any other number refuses, and ends the
- * evaluation. A callback that is NULL refuses with -1. */
+/* The answers to what an expression may ask for. Each callback writes its answer and returns 0. Any other number
+ * refuses, and ends the evaluation. A callback that is NULL refuses with -1. If one returns 0 and writes nothing, the
+ * answer is 0, a text of no bytes, or the address that `relocated` was given. `base_type` then refuses with -1. */
 typedef struct dwexpr_callbacks {
     /* `size` bytes at an address; `space` is NULL unless an address space is named */
     int (*memory)(void *context, uint64_t address, uint32_t size, const uint64_t *space, uint64_t *content);
@@ -62,10 +63,15 @@ static inline int dwexpr_answer(const dwexpr_outcome *asked, const dwexpr_texts 
 {
     uint64_t *number = &step->number;
     dwexpr_text block;
+    /* not the answer before, if a callback writes none */
+    step->value_type = asked->base_type ? DWEXPR_NO_TYPE : DWEXPR_GENERIC;
+    step->number = 0;
+    called->bytes = NULL;
+    called->length = 0;
     if (asked->base_type) {
         int failed = calls->base_type ? calls->base_type(context, asked->base_type, &step->value_type) : -1;
-        if (failed)
-            return failed;
+        if (failed || step->value_type == DWEXPR_NO_TYPE)
+            return failed ? failed : -1;
     }
     switch (asked->request) {
     case DWEXPR_WANTS_MEMORY:
@@ -142,12 +148,11 @@ static inline int dwexpr_run_in(dwexpr_evaluation *evaluation, const dwexpr_step
     code = dwexpr_evaluation_start(evaluation, texts->items, 1, encoding, settings, settings_length, outcome, pieces,
                                    pieces_length);
     while (code == DWEXPR_OK) {
-        dwexpr_text called = {NULL, 0};
+        dwexpr_text called;
         int refused;
         code = dwexpr_evaluation_resume(evaluation, texts->items, texts->length, step, outcome, pieces, pieces_length);
         if (code != DWEXPR_OK || outcome->request == DWEXPR_COMPLETE)
             break;
-        step.value_type = DWEXPR_GENERIC;
         refused = dwexpr_answer(outcome, texts, calls, context, &step, &called);
         if (refused) {
             if (refusal)

@@ -40,7 +40,6 @@ ALL = "--all" in sys.argv
 if ALL:
     checks.SECONDS = 3000
 
-
 # The last line of examples/expressions.c.
 COMPARED = re.compile(
     r"^(?P<expressions>\d+) expressions, (?P<operations>\d+) operations, (?P<differing>\d+) differing; "

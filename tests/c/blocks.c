@@ -1,6 +1,6 @@
-/* Each block of an operation, of a request and of a piece is where it was decoded, though the same bytes may be elsewhere
- * too: in made-up evaluations of up to 24 texts of up to 600 bytes; at each place, in each text and after each branch up
- * to 70,000, and then about each power of two; and under as many callers as may wait. */
+/* Each block of an operation, of a request and of a piece is where it was decoded, though the same bytes may be
+ * elsewhere too: in made-up evaluations of up to 24 texts of up to 600 bytes; at each place, in each text and after
+ * each branch up to 70,000, and then about each power of two; and under as many callers as may wait. */
 #define _DEFAULT_SOURCE
 #include <sys/mman.h>
 
@@ -17,8 +17,8 @@ struct block {
     size_t text, offset, length;
 };
 
-/* A text holds blocks and calls in turn: a call is a block of length SIZE_MAX in the text that is called. `steps` is how
- * many of both an evaluation meets, and `depth` how many callers wait at once. */
+/* A text holds blocks and calls in turn: a call is a block of length SIZE_MAX in the text that is called. `steps` is
+ * how many of both an evaluation meets, and `depth` how many callers wait at once. */
 struct text {
     uint8_t bytes[BYTES];
     size_t length, parts, steps, depth;

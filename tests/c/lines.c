@@ -68,13 +68,50 @@ static const struct {
     {"03 00", "DW_OP_addr"},
 };
 
+static const char *const requests[] = {
+    [DWEXPR_NOTHING] = "nothing",
+    [DWEXPR_COMPLETE] = "complete",
+    [DWEXPR_WANTS_MEMORY] = "memory",
+    [DWEXPR_WANTS_REGISTER] = "a register",
+    [DWEXPR_WANTS_FRAME_BASE] = "the frame base",
+    [DWEXPR_WANTS_TLS] = "thread-local storage",
+    [DWEXPR_WANTS_CFA] = "the canonical frame address",
+    [DWEXPR_WANTS_LOCATION] = "an entry's location",
+    [DWEXPR_WANTS_ENTRY_VALUE] = "an entry value",
+    [DWEXPR_WANTS_PARAMETER] = "a parameter",
+    [DWEXPR_WANTS_RELOCATED] = "a relocated address",
+    [DWEXPR_WANTS_INDEXED] = "an entry of .debug_addr",
+    [DWEXPR_WANTS_BASE_TYPE] = "a base type",
+    [DWEXPR_WANTS_WASM_LOCAL] = "a WebAssembly local",
+    [DWEXPR_WANTS_WASM_GLOBAL] = "a WebAssembly global",
+    [DWEXPR_WANTS_WASM_STACK] = "a WebAssembly stack value",
+};
+
+static const char *const pieces[] = {
+    [DWEXPR_EMPTY] = "optimized away",
+    [DWEXPR_IN_REGISTER] = "in a register",
+    [DWEXPR_AT_ADDRESS] = "in memory",
+    [DWEXPR_HOLDS_VALUE] = "a value",
+    [DWEXPR_HOLDS_BYTES] = "literal bytes",
+    [DWEXPR_POINTS_INTO] = "an implicit pointer",
+};
+
+/* Each number has its name, and there are no other numbers. */
+static void check_names(const char *what, const char *(*name_of)(uint32_t), const char *const *names, uint32_t count)
+{
+    uint32_t number;
+    for (number = 0; number < 1000; number++) {
+        const char *name = name_of(number), *wanted = number < count ? names[number] : NULL;
+        check(wanted ? name && !strcmp(name, wanted) : !name, what, wanted ? wanted : "there is no such");
+    }
+}
+
 int main(void)
 {
     uint8_t bytes[64];
     char line[128];
     dwexpr_operation operation;
     size_t i, room, length;
-    uint32_t number;
     for (i = 0; i < sizeof rows / sizeof *rows; i++) {
         const size_t wanted = strlen(rows[i].line);
         dwexpr_decode(bytes, bytes_of(rows[i].digits, bytes), encoding_of(8, 4, 5, 0), 0, &operation);
@@ -89,17 +126,7 @@ int main(void)
                   rows[i].line, "cut off");
         }
     }
-    for (number = DWEXPR_NOTHING; number <= DWEXPR_WANTS_WASM_STACK; number++)
-        check(dwexpr_request_name(number) != NULL, "a request", "it has a name");
-    check(!strcmp(dwexpr_request_name(DWEXPR_WANTS_MEMORY), "memory"), "a request", "memory");
-    check(!strcmp(dwexpr_request_name(DWEXPR_WANTS_ENTRY_VALUE), "an entry value"), "a request", "entry value");
-    check(!strcmp(dwexpr_request_name(DWEXPR_WANTS_BASE_TYPE), "a base type"), "a request", "base type");
-    check(!strcmp(dwexpr_request_name(DWEXPR_WANTS_WASM_STACK), "a WebAssembly stack value"), "a request", "wasm");
-    check(dwexpr_request_name(DWEXPR_WANTS_WASM_STACK + 1) == NULL, "a request", "there is no such");
-    for (number = DWEXPR_EMPTY; number <= DWEXPR_POINTS_INTO; number++)
-        check(dwexpr_piece_name(number) != NULL, "a piece", "it has a name");
-    check(!strcmp(dwexpr_piece_name(DWEXPR_AT_ADDRESS), "in memory"), "a piece", "in memory");
-    check(!strcmp(dwexpr_piece_name(DWEXPR_POINTS_INTO), "an implicit pointer"), "a piece", "implicit pointer");
-    check(dwexpr_piece_name(0) == NULL && dwexpr_piece_name(DWEXPR_POINTS_INTO + 1) == NULL, "a piece", "no such");
+    check_names("a request", dwexpr_request_name, requests, sizeof requests / sizeof *requests);
+    check_names("a piece", dwexpr_piece_name, pieces, sizeof pieces / sizeof *pieces);
     return finish();
 }

@@ -1,4 +1,6 @@
 /* The callbacks of dwexpr_run, the texts that a run gives back, and the blocks of these texts. */
+#include <limits.h>
+
 #include "check.h"
 #include "dwexpr_run.h"
 
@@ -18,77 +20,80 @@ static int run(const char *row, const char *digits, const dwexpr_callbacks *call
 {
     dwexpr_text text = {bytes, bytes_of(digits, bytes)};
     name = row;
+    refusal = 0;
     return dwexpr_run(text, LE8, calls, &context, &refusal, &texts, &outcome, pieces, MANY);
 }
 
 /* ---- callbacks, which add their arguments to the context */
 
-static int give(void *number, uint64_t *answer)
+/* How many answers are still written, and what each callback returns. */
+static size_t left;
+static int status;
+
+static int answer(uint64_t *place, uint64_t number)
 {
-    *answer = *(uint64_t *)number;
-    return 0;
+    if (left) {
+        left--;
+        *place = number;
+    }
+    return status;
+}
+
+static int give(void *number, uint64_t *content)
+{
+    return answer(content, *(uint64_t *)number);
 }
 
 static int give_memory(void *number, uint64_t address, uint32_t size, const uint64_t *space, uint64_t *content)
 {
-    *content = *(uint64_t *)number + address + size + (space ? 1000 + *space : 0);
-    return 0;
+    return answer(content, *(uint64_t *)number + address + size + (space ? 1000 + *space : 0));
 }
 
 static int give_register(void *number, uint32_t register_number, uint64_t *content)
 {
-    *content = *(uint64_t *)number + register_number;
-    return 0;
+    return answer(content, *(uint64_t *)number + register_number);
 }
 
 static int give_more(void *number, uint64_t asked, uint64_t *more)
 {
-    *more = *(uint64_t *)number + asked;
-    return 0;
+    return answer(more, *(uint64_t *)number + asked);
 }
 
 static int give_entry(void *number, const uint8_t *expression, size_t length, uint64_t *content)
 {
-    *content = *(uint64_t *)number + expression[0] + length;
-    return 0;
+    return answer(content, *(uint64_t *)number + expression[0] + length);
 }
 
 static int give_indexed(void *number, uint64_t index, int relocate, uint64_t *address)
 {
-    *address = *(uint64_t *)number + index + (relocate ? 1000 : 0);
-    return 0;
+    return answer(address, *(uint64_t *)number + index + (relocate ? 1000 : 0));
 }
 
 static int give_type(void *number, uint64_t offset, uint32_t *value_type)
 {
     (void)number;
-    *value_type = (uint32_t)offset;
-    return 0;
+    if (left)
+        *value_type = (uint32_t)offset;
+    return status;
 }
 
 static int give_wasm(void *number, uint32_t request, uint64_t index, uint32_t *value_type, uint64_t *content)
 {
-    if (index == 9)
+    const uint64_t more = request == DWEXPR_WANTS_WASM_LOCAL ? 1000 : request == DWEXPR_WANTS_WASM_GLOBAL ? 2000 : 3000;
+    if (left && index == 9)
         *value_type = DWEXPR_I32;
-    *content = *(uint64_t *)number + index +
-               (request == DWEXPR_WANTS_WASM_LOCAL ? 1000 : request == DWEXPR_WANTS_WASM_GLOBAL ? 2000 : 3000);
-    return 0;
-}
-
-static int refuse(void *number, uint64_t *answer)
-{
-    (void)number;
-    (void)answer;
-    return 77;
+    return answer(content, *(uint64_t *)number + index + more);
 }
 
 static int give_text(void *number, int in_debug_info, uint64_t offset, dwexpr_text *text)
 {
     (void)number;
     (void)offset;
-    text->bytes = (const uint8_t *)(in_debug_info ? "\x37" : "\x36");
-    text->length = 1;
-    return 0;
+    if (left) {
+        text->bytes = (const uint8_t *)(in_debug_info ? "\x37" : "\x36");
+        text->length = 1;
+    }
+    return status;
 }
 
 static const dwexpr_callbacks none;
@@ -107,58 +112,121 @@ static const dwexpr_callbacks all = {
     .wasm = give_wasm,
 };
 
+/* Whether a run of these callbacks, each of which returns `returned`, is refused: with that number, or with -1 if it is
+ * 0. */
+static int is_refused(const char *row, const char *digits, const dwexpr_callbacks *calls, int returned)
+{
+    int ended;
+    status = returned;
+    ended = run(row, digits, calls);
+    status = 0;
+    return ended == DWEXPR_REFUSED && refusal == (returned ? returned : -1);
+}
+
 static void callbacks(void)
 {
+    /* `unwritten` is the value if 107 is on the stack, and the callbacks write no answer but that. */
     static const struct {
         const char *name, *bytes;
-        uint64_t value;
+        uint64_t value, unwritten;
     } rows[] = {
-        {"memory", "3a 06", 118},
-        {"memory in a space", "37 3a 18", 1125},
-        {"memory in space 0", "30 3a 18", 1118},
-        {"register", "77 08", 115},
-        {"frame base", "91 02", 102},
-        {"cfa", "9c", 100},
-        {"tls", "35 9b", 105},
-        {"entry value", "a3 01 57", 188},
-        {"location in the unit", "98 0500", 6},
-        {"location in .debug_info", "9a 05000000", 7},
-        {"parameter", "fa 01000000", 101},
-        {"relocated", "03 0100000000000000", 101},
-        {"indexed address", "a1 05", 1105},
-        {"indexed constant", "a2 05", 105},
-        {"WebAssembly local", "ed 00 07", 1107},
-        {"WebAssembly global", "ed 01 07", 2107},
-        {"WebAssembly stack", "ed 02 07", 3107},
-        {"two requests", "77 00 9c 22", 207},
-        {"a generic value after one of a type", "a5 03 02 13 3a 06", 118},
-        {"the same in WebAssembly", "ed 00 09 13 ed 00 07", 1107},
+        {"memory", "3a 06", 118, 0},
+        {"memory in a space", "37 3a 18", 1125, 0},
+        {"memory in space 0", "30 3a 18", 1118, 0},
+        {"register", "77 08", 115, 8},
+        {"frame base", "91 02", 102, 2},
+        {"cfa", "9c", 100, 0},
+        {"tls", "35 9b", 105, 0},
+        {"entry value", "a3 01 57", 188, 0},
+        {"location in the unit", "98 0500", 6, 107},
+        {"location in .debug_info", "9a 05000000", 7, 107},
+        {"parameter", "fa 01000000", 101, 0},
+        {"relocated", "03 0100000000000000", 101, 1},
+        {"indexed address", "a1 05", 1105, 0},
+        {"indexed constant", "a2 05", 105, 0},
+        {"WebAssembly local", "ed 00 07", 1107, 0},
+        {"WebAssembly global", "ed 01 07", 2107, 0},
+        {"WebAssembly stack", "ed 02 07", 3107, 0},
+        {"two requests", "77 00 9c 22", 207, 0},
+        {"a generic value after one of a type in WebAssembly", "ed 00 09 13 ed 00 07", 1107, 0},
     };
-    dwexpr_callbacks calls = all;
-    size_t i;
-    context = 100;
+    static const int refusals[] = {1, -1, 77, INT_MAX, INT_MIN};
+    size_t i, j;
     for (i = 0; i < sizeof rows / sizeof *rows; i++) {
+        char after_another[64];
         check(run(rows[i].name, rows[i].bytes, &all) == 0, name, "the result");
         check(outcome.request == DWEXPR_COMPLETE && outcome.value == rows[i].value, name, "the value");
         check(outcome.value_type == DWEXPR_GENERIC, name, "the type");
-        if (strcmp(rows[i].name, "relocated")) {
-            refusal = 0;
-            check(run(rows[i].name, rows[i].bytes, &none) == DWEXPR_REFUSED, name, "no callback");
-            check(refusal == -1, name, "no callback: the refusal");
-        }
+        if (strcmp(rows[i].name, "relocated"))
+            check(is_refused(rows[i].name, rows[i].bytes, &none, 0), name, "no callback");
+        for (j = 0; j < sizeof refusals / sizeof *refusals; j++)
+            check(is_refused(rows[i].name, rows[i].bytes, &all, refusals[j]), name, "a refusal");
+        snprintf(after_another, sizeof after_another, "77 00 %s", rows[i].bytes);
+        left = 1;
+        check(run(rows[i].name, after_another, &all) == 0, name, "no answer: the result");
+        check(outcome.request == DWEXPR_COMPLETE && outcome.value == rows[i].unwritten, name, "no answer: the value");
+        check(outcome.value_type == DWEXPR_GENERIC, name, "no answer: the type");
+        left = SIZE_MAX;
     }
     check(run("relocated without a callback", "03 0100000000000000", &none) == 0, name, "the result");
     check(outcome.value == 1, name, "the value");
-    check(run("a type", "09 ff a8 02 9f", &all) == 0, name, "the result");
-    check(pieces[0].kind == DWEXPR_HOLDS_VALUE && pieces[0].value_type == DWEXPR_I8, name, "the piece");
+    check(run("a generic value after one of a type", "a5 03 02 13 3a 06", &all) == 0, name, "the result");
+    check(outcome.value == 118 && outcome.value_type == DWEXPR_GENERIC, name, "the value");
     check(run("a type of WebAssembly", "ed 00 09 9f", &all) == 0, name, "the result");
     check(pieces[0].value_type == DWEXPR_I32 && pieces[0].number == 1109, name, "the piece");
-    calls.cfa = refuse;
-    check(run("a refusal", "9c", &calls) == DWEXPR_REFUSED, name, "it");
-    check(refusal == 77, name, "its number");
     check(run("a fault", "01", &all) == DWEXPR_INVALID_EXPRESSION, name, "it");
     check(run("a branch for ever", "2f fdff", &all) == DWEXPR_TOO_MANY_ITERATIONS, name, "it");
     check(run("many answers", "77 00 13 2f faff", &all) == DWEXPR_TOO_MANY_ITERATIONS, name, "it");
+}
+
+/* Each operation that names a base type. Another one was asked for before it. */
+static void base_types(void)
+{
+    static const struct {
+        const char *name, *bytes;
+        uint32_t value_type;
+        uint64_t value;
+    } rows[] = {
+        {"convert", "31 a8 07 13 31 a8 05 9f", DWEXPR_U16, 1},
+        {"convert with a sign", "31 a8 07 13 09 ff a8 02 9f", DWEXPR_I8, UINT64_MAX},
+        {"reinterpret", "31 a8 07 13 31 a9 09 9f", DWEXPR_U64, 1},
+        {"const_type", "31 a8 07 13 a4 03 01 fe 9f", DWEXPR_U8, 0xfe},
+        {"regval_type", "31 a8 07 13 a5 03 02 9f", DWEXPR_I8, 103},
+        {"deref_type", "31 a8 07 13 3a a6 02 04 9f", DWEXPR_I16, 112},
+        {"xderef_type", "31 a8 07 13 37 3a a7 02 04 9f", DWEXPR_I16, 1119},
+    };
+    dwexpr_callbacks untyped = all;
+    size_t i;
+    untyped.base_type = NULL;
+    for (i = 0; i < sizeof rows / sizeof *rows; i++) {
+        const char *digits = rows[i].bytes;
+        check(run(rows[i].name, digits, &all) == 0 && outcome.pieces == 1, name, "the result");
+        check(pieces[0].kind == DWEXPR_HOLDS_VALUE && pieces[0].value_type == rows[i].value_type, name, "the type");
+        check(pieces[0].number == rows[i].value, name, "the value");
+        digits += strlen("31 a8 07 13 ");
+        check(is_refused(rows[i].name, digits, &untyped, 0), name, "no callback");
+        check(is_refused(rows[i].name, digits, &all, 78), name, "a refusal");
+        left = 0;
+        check(is_refused(rows[i].name, digits, &all, 0), name, "no type");
+        left = SIZE_MAX;
+    }
+    check(is_refused("a type that there isn't", "31 a8 8080808010", &all, 0), "a type that there isn't", "it");
+}
+
+/* As many operations as a run allows, of which the last gives the value, and one more. */
+static void operations(void)
+{
+    static uint8_t many[100001];
+    dwexpr_text text = {many, 100000};
+    memset(many, 0x96, sizeof many);
+    many[99999] = 0x31;
+    name = "100,000 operations";
+    check(dwexpr_run(text, LE8, &none, NULL, NULL, &texts, &outcome, pieces, MANY) == 0, name, "the result");
+    check(outcome.value == 1, name, "the value");
+    name = "100,001 operations";
+    text.length++;
+    check(dwexpr_run(text, LE8, &none, NULL, NULL, &texts, &outcome, pieces, MANY) == DWEXPR_TOO_MANY_ITERATIONS, name,
+          "the result");
 }
 
 static void arguments(void)
@@ -168,7 +236,6 @@ static void arguments(void)
     const dwexpr_step settings[] = {{DWEXPR_SET_INITIAL_VALUE, 0, 3, 0}, {DWEXPR_SET_OBJECT_ADDRESS, 0, 4, 0}};
     dwexpr_text text = {addition, sizeof addition};
     dwexpr_evaluation evaluation = {memory};
-    dwexpr_callbacks calls = all;
     dwexpr_evaluation_begin(&evaluation);
     name = "settings";
     check(dwexpr_run_in(&evaluation, settings, 2, text, LE8, &none, NULL, NULL, &texts, &outcome, pieces, MANY) == 0,
@@ -180,9 +247,8 @@ static void arguments(void)
           name, "it");
     check(texts.length == 1 && texts.items[0].bytes == addition, name, "the texts");
     name = "a refusal that isn't wanted";
-    calls.cfa = refuse;
     text.bytes = call, text.length = sizeof call;
-    check(dwexpr_run(text, LE8, &calls, NULL, NULL, &texts, &outcome, pieces, MANY) == DWEXPR_REFUSED, name, "it");
+    check(dwexpr_run(text, LE8, &none, NULL, NULL, &texts, &outcome, pieces, MANY) == DWEXPR_REFUSED, name, "it");
 }
 
 /* ---- texts */
@@ -234,7 +300,6 @@ static void blocks(void)
     check(outcome.pieces == 3 && texts.length == 3, name, "three pieces and texts");
     check(holds(&pieces[0], 0, 2, "\xaa\xbb") && holds(&pieces[1], 1, 3, "\xaa\xbb\xcc"), name, "their bytes");
     check(holds(&pieces[2], 0, 2, "\xaa\xbb"), name, "the bytes of the last");
-    context = 100;
     check(run("an expression in a called text", "98 0200", &calls) == 0, name, "the result");
     check(outcome.value == 188, name, "the value");
     calls.entry_value = NULL;
@@ -328,15 +393,19 @@ static void tables(void)
     calls.location = give_many;
     context = 0;
     check(run("two texts, many times", "98 0000 2f faff", &calls) == DWEXPR_TOO_MANY_ITERATIONS, name, "it");
-    check(context == DWEXPR_RUN_OPERATIONS / 2 && texts.length == 3, name, "the calls and the texts");
+    check(context == 50000 && texts.length == 3, name, "the calls and the texts");
     context = 0;
     check(run("many texts", "9a 00000000 2f f8ff", &calls) == DWEXPR_TOO_MANY_TEXTS, name, "it");
-    check(context == DWEXPR_RUN_TEXTS && texts.length == DWEXPR_RUN_TEXTS, name, "the calls and the texts");
+    check(context == 64 && texts.length == 64, name, "the calls and the texts");
 }
 
 int main(void)
 {
+    context = 100;
+    left = SIZE_MAX;
     callbacks();
+    base_types();
+    operations();
     arguments();
     blocks();
     bounds();

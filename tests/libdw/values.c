@@ -121,6 +121,87 @@ static void check_values(void)
     }
 }
 
+/* ---- callbacks that write nothing */
+
+/* The first of these calls writes, and each returns 0. */
+static int read_one_register(void *context, uint32_t number, uint8_t *content, size_t *size)
+{
+    (void)number;
+    if (*(int *)context) {
+        memset(content, 0xff, 8);
+        *size = 8;
+    }
+    *(int *)context = 0;
+    return 0;
+}
+
+static int read_memory_once(void *context, uint64_t address, uint8_t *content, size_t size)
+{
+    (void)address;
+    memset(content, 0xff, *(int *)context ? size : 0);
+    *(int *)context = 0;
+    return 0;
+}
+
+static void check_unwritten(void)
+{
+    static const struct {
+        const char *name, *expression;
+        int code;
+    } unwritten[] = {
+        {"memory that isn't written", "30 06 13 30 06 9f", 0},
+        {"a place in memory that isn't written", "30 06 13 08 10", 0},
+        {"a register that isn't written", "70 00 13 70 00 9f", -DWEXPR_WANTS_REGISTER},
+        {"a piece in a register that isn't written", "70 00 13 50", UNREADABLE},
+    };
+    static const uint8_t zeros[8];
+    size_t i;
+    for (i = 0; i < sizeof unwritten / sizeof *unwritten; i++) {
+        int writes = 1, code;
+        dwexpr_libdw_frame frame;
+        dwexpr_libdw_text expression;
+        dwexpr_libdw_value value;
+        begin_frame(&frame, &writes);
+        frame.read_register = read_one_register;
+        frame.read_memory = read_memory_once;
+        memset(&expression, 0, sizeof expression);
+        expression.encoding = encoding_of(8, 4, 5, 0);
+        expression.text.bytes = bytes;
+        expression.text.length = bytes_of(unwritten[i].expression, bytes);
+        code = dwexpr_libdw_evaluate(&frame, &expression, &value);
+        memset(got, 0x55, sizeof got);
+        if (!code)
+            code = dwexpr_libdw_read(&frame, &value, 64, got, NULL);
+        check(code == unwritten[i].code, unwritten[i].name, dwexpr_libdw_code_name(code));
+        check(code || !memcmp(got, zeros, sizeof zeros), unwritten[i].name, "zeros");
+        dwexpr_libdw_release(&value);
+    }
+}
+
+/* ---- how many operations */
+
+static void check_operation_count(void)
+{
+    static uint8_t many[100001];
+    int big_endian = 0;
+    dwexpr_libdw_frame frame;
+    dwexpr_libdw_text expression;
+    dwexpr_libdw_value value;
+    begin_frame(&frame, &big_endian);
+    memset(many, 0x96, sizeof many);
+    many[99999] = 0x31;
+    memset(&expression, 0, sizeof expression);
+    expression.encoding = encoding_of(8, 4, 5, 0);
+    expression.text.bytes = many;
+    expression.text.length = 100000;
+    check(!dwexpr_libdw_evaluate(&frame, &expression, &value), "100,000 operations", "they are done");
+    dwexpr_libdw_release(&value);
+    expression.text.length++;
+    check(dwexpr_libdw_evaluate(&frame, &expression, &value) == DWEXPR_TOO_MANY_ITERATIONS, "100,001 operations",
+          "they are too many");
+    dwexpr_libdw_release(&value);
+}
+
 /* ---- bytes of operations */
 
 #define BAD NULL
@@ -206,6 +287,8 @@ int main(void)
 {
     int code;
     check_values();
+    check_unwritten();
+    check_operation_count();
     check_operations();
     for (code = DWEXPR_LIBDW_FAILED; code <= DWEXPR_LIBDW_TOO_SMALL; code++)
         check(strcmp(dwexpr_libdw_code_name(code), "unknown code") != 0, "the name of a code", "it has one");

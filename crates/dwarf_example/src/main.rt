@@ -8,12 +8,13 @@ mod requests;
 
 use crate::registers::complete_with_registers;
 use crate::requests::{Process, complete, count_requests};
-use dwarf_base::{
+use dwarf_expr::base::{
     DebugAddrIndex, Encoding, EndianSlice, Error, Format, Reader, Register, Result, RunTimeEndian,
     UnitOffset,
 };
 use dwarf_expr::eval::Evaluation;
 use dwarf_expr::op::{DieReference, Expression, Piece};
+use dwarf_expr::replay::{Step, replay};
 use dwarf_expr::store::{EvaluationStorage, SliceVec, StoreInSlices};
 use dwarf_expr::value::{Value, ValueType};
 use std::io;
@@ -185,6 +186,18 @@ fn show_requests(rt: &HostRuntime, bytes: Bytes<'_>) -> io::Result<()> {
     }
 }
 
+/// Prints what each call gives if all answers are known before the first.
+fn show_replayed<'a>(
+    rt: &HostRuntime,
+    bytes: Bytes<'a>,
+    steps: &[Step<Bytes<'a>>],
+) -> io::Result<()> {
+    let mut evaluation = Evaluation::new(rt.alloc(), bytes, ENCODING);
+    let mut answers = Vec::new(rt.alloc());
+    let replayed = replay(&mut evaluation, steps, &mut answers);
+    println!(rt; "replayed: {replayed:?} {:?}", answers.as_slice())
+}
+
 /// Prints the outcome of some expressions.
 fn show_all(rt: &HostRuntime) -> io::Result<()> {
     let process = Stopped {
@@ -214,7 +227,12 @@ fn show_all(rt: &HostRuntime) -> io::Result<()> {
         show_requests(rt, bytes)?;
     }
     show_restarted(rt, &expressions, &process)?;
-    show_lent(rt, &expressions, &process)
+    show_lent(rt, &expressions, &process)?;
+    show_replayed(
+        rt,
+        EndianSlice::new(expressions[0], RunTimeEndian::Little),
+        &[Step::Evaluate, Step::FrameBase(0x3000)],
+    )
 }
 
 fn main(rt: HostRuntime) -> ExitCode {

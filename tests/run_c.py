@@ -20,6 +20,7 @@ import tempfile
 
 sys.dont_write_bytecode = True
 import checks  # noqa: E402
+import run_rows  # noqa: E402
 from checks import STRICT, check, check_headers, commands, count, expect, left_out, run  # noqa: E402
 
 import archive  # noqa: E402
@@ -113,8 +114,8 @@ def expressions():
     """The lines that tests/c/cut.c reads: the encoding and the bytes of each expression of tests/rows."""
     good = re.compile(r"(?:eval|ops) ([1-8] [48] [2-5] (?:le|be)) ((?:[0-9a-fA-F]{2})+)")
     lines = {}
-    for file in sorted((TOP / "tests" / "rows").glob("*.json")):
-        for row in json.loads(file.read_text(encoding="utf-8")):
+    for file in sorted(run_rows.ROWS.glob("*.json")):
+        for row in run_rows.rows_of(file):
             words = good.fullmatch(" ".join(map(str, row["words"])))
             if words:
                 lines[" ".join([*numbers_of(words[1].split()), words[2]])] = None

@@ -17,9 +17,15 @@ of parts, each a text or a pair of a text and how often it stands. A row may say
 The rows of bin/dwexpr are run once more in a copy without the proved program. There it makes an unproved one, and
 keeps that.
 
+The entries of tests/rows/integers.json are in the form that tests/integers.py says. Each makes rows, and the table
+there has to give its results. A row that a test of gimli's states has that test's name before a colon, and a vector of
+tests/vectors has it as `gimli`. tests/gimli.json lists these tests: how many `rows` and vectors carry the cases of
+each, which function `elsewhere` carries how many, and how many are left out for which reason.
+
 The last line is `N passed, M failed`; the status is 1 if a row failed.
 """
 
+import collections
 import contextlib
 import json
 import os
@@ -33,11 +39,16 @@ import tempfile
 
 sys.dont_write_bytecode = True
 import checks  # noqa: E402
+import integers  # noqa: E402
 from checks import commands, expect  # noqa: E402
 from commands import TOP  # noqa: E402
 
 ROWS = TOP / "tests" / "rows"
+INTEGERS = "integers.json"
+VECTORS = TOP / "tests" / "vectors" / "decode.json"
+GIMLI = TOP / "tests" / "gimli.json"
 PROGRAM = TOP / "crates" / "dwexpr" / "out" / "dwexpr"
+UNPROVED_PROGRAM = PROGRAM.parent / "unproved" / PROGRAM.name
 SECONDS = 60
 # Of a row whose program may have to be built.
 BUILD_SECONDS = 600
@@ -53,6 +64,8 @@ UNPROVED = re.compile(rb"^bin/.*\n", re.MULTILINE)
 def rows_of(file):
     """The rows of a file; a row that isn't of the form stops the run."""
     rows = json.loads(file.read_text(encoding="utf-8"))
+    if file.name == INTEGERS:
+        rows = list(integers.rows_in(rows))
     names = set()
     for row in rows:
         fields = set(row)
@@ -61,6 +74,11 @@ def rows_of(file):
             raise SystemExit(f"{file.name}: a row is malformed, or its name stands twice: {row}")
         names.add(row["name"])
     return rows
+
+
+def rows():
+    """Each row of all files, with its file's name before its own."""
+    return [(f"{file.stem}: {row['name']}", row) for file in sorted(ROWS.glob("*.json")) for row in rows_of(file)]
 
 
 def bytes_of(text):
@@ -168,6 +186,29 @@ def complaints_of(row, top=TOP):
     return complaints
 
 
+def table_complaints():
+    """What the table of integers gives otherwise."""
+    return integers.complaints_of(json.loads((ROWS / INTEGERS).read_text(encoding="utf-8")))
+
+
+def gimli_complaints():
+    """Which of gimli's tests aren't carried as tests/gimli.json says."""
+    known = json.loads(GIMLI.read_text(encoding="utf-8"))
+    reasons = {"rows", "elsewhere", *known.pop("left_out")}
+    tests = {name: said for part in known.values() for name, said in part.items()}
+    vectors = json.loads(VECTORS.read_text(encoding="utf-8"))
+    named = [row["name"].partition(":")[0] for _, row in rows()] + [vector.get("gimli", "") for vector in vectors]
+    carried = collections.Counter(name for name in named if re.match(r"(test|value|valuetype)_", name))
+    for name in carried.keys() | tests.keys():
+        said = tests.get(name, {})
+        if carried[name] != said.get("rows", 0) or not said or not said.keys() <= reasons:
+            yield f"{name}: there are {carried[name]} rows and vectors"
+        for place in said.get("elsewhere", []):
+            file, function = place.split()
+            if f"fn {function}(" not in (TOP / file).read_text(encoding="utf-8"):
+                yield f"{name}: there is no {place}"
+
+
 def unproved_complaints(rows):
     """What is wrong with the answers of bin/dwexpr where there is no proved program: by each row's name."""
     with tempfile.TemporaryDirectory() as folder:
@@ -185,21 +226,27 @@ def unproved_complaints(rows):
 
 
 def main():
+    global PROGRAM
     parser = commands.parser(__doc__)
     said = "run only the rows whose file and name have the word"
     parser.add_argument("word", metavar="WORD", nargs="?", default="", help=said)
-    wanted = parser.parse_args().word
-    commands.run(TOP / "bin/build", stderr=None)
-    complaints = {}
+    said = "run rows on a program built without a proof, until one fails; not those of scripts and of little memory"
+    parser.add_argument("--unproved", action="store_true", help=said)
+    asked = parser.parse_args()
+    commands.run(TOP / "bin/build", *["--unproved"] * asked.unproved, stderr=None)
+    if asked.unproved:
+        PROGRAM = UNPROVED_PROGRAM
+    found = {"integers: the table": table_complaints, "gimli's tests": gimli_complaints}
+    complaints = {name: list(found[name]()) for name in found if asked.word in name}
     by_script = []
-    for file in sorted(ROWS.glob("*.json")):
-        for row in rows_of(file):
-            name = f"{file.stem}: {row['name']}"
-            if wanted not in name:
-                continue
-            words = " ".join(repr(bytes_of(word))[1:60] for word in row["words"])
-            complaints[f"{name} ({words})"] = complaints_of(row)
-            by_script += [row] if "by" in row else []
+    for name, row in rows():
+        if asked.word not in name or asked.unproved and row.keys() & {"by", "megabytes"}:
+            continue
+        words = " ".join(repr(bytes_of(word))[1:60] for word in row["words"])
+        complaints[f"{name} ({words})"] = said = complaints_of(row)
+        by_script += [row] if "by" in row else []
+        if asked.unproved and said:
+            break
     if by_script:
         found = unproved_complaints(by_script)
         complaints |= {f"bin/dwexpr, unproved: {name}": found[name] for name in found}

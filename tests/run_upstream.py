@@ -5,11 +5,13 @@ FOLDER holds the test modules of gimli 0.34.0, which are no part of this reposit
 `tests-part1.rs.txt`, and of src/read/op.rs as `tests-part2.rs.txt`. Their `use` lines are changed to name this crate,
 and nothing else but what is left out, by name below. If the copy of op.rs ends within its last test, the rest of that
 test isn't run either, and this is said. A few lines stand in for the crate `test_assembler`, for `leb128::write`, and
-for a private function of gimli's.
+for a private function of gimli's. tests/gimli.json has to list the names of these tests, and says what carries their
+cases here.
 
 The last line is `N passed, M failed`.
 """
 
+import json
 import os
 import pathlib
 import re
@@ -19,7 +21,7 @@ import tempfile
 
 sys.dont_write_bytecode = True
 import checks  # noqa: E402
-from checks import commands, count, left_out, run  # noqa: E402
+from checks import commands, count, expect, left_out, run  # noqa: E402
 from commands import TOP  # noqa: E402
 from run_crate import find_crates  # noqa: E402
 
@@ -195,17 +197,20 @@ def main():
         folder = pathlib.Path(name) / "upstream"
         (folder / "src").mkdir(parents=True)
         (folder / "Cargo.toml").write_text(CARGO)
-        root, all_names = STAND_INS, []
+        root, all_names, unlisted = STAND_INS, [], set()
+        known = json.loads((TOP / "tests/gimli.json").read_text(encoding="utf-8"))
         for part, file in PARTS.items():
             text, names = carried((words.tests / file).read_text())
             (folder / "src" / f"{part}.rs").write_text(text)
             root += f"\n#[cfg(test)]\nmod {part};\n"
             all_names += names
+            unlisted |= set(names) ^ known[f"{part}.rs"].keys()
         (folder / "src/lib.rs").write_text(root)
         env = {**os.environ, "CARGO_TARGET_DIR": str(folder / "target")}
         done = run(["cargo", "test", "--quiet", "--lib"], cwd=folder, env=env)
     said = re.search(r"(\d+) passed; (\d+) failed", done.stdout)
     good, bad = map(int, said.groups()) if said else (0, 1)
+    expect(not unlisted, "tests/gimli.json lists these tests", "\n".join(sorted(unlisted)))
     for name in filter(LEFT_OUT.get, all_names):
         print(f"left out: {name}: {LEFT_OUT[name]}")
     print(f"{good + bad} of gimli's {len(all_names)} tests ran")

@@ -106,10 +106,10 @@ pub fn any(count: usize) -> Vec<Case> {
         let is_wild = next() % 4 == 0;
         let bytes = (0..length).map(|_| byte(next(), is_wild)).collect();
         let job = Job {
-            address_size: [1, 2, 4, 8][next() as usize % 4],
+            address_size: 1 + (next() % 8) as u8,
             is_wide: next() % 2 == 1,
             is_big_endian: next() % 2 == 1,
-            version: 2 + (next() % 4) as u16,
+            version: 1 + (next() % 5) as u16,
             maximum: 100,
             ..PLAIN
         };

@@ -163,6 +163,27 @@ fn settings_hold_from_when_they_are_made() {
     assert_eq!(it.result()[0].location, Location::Address { address: 7 });
 }
 
+/// No call that makes an evaluation sets a maximum: each evaluates a million operations and more.
+#[test]
+fn an_unset_maximum_is_large() {
+    // DW_OP_const4u 0x40000; then DW_OP_lit1, DW_OP_minus, DW_OP_dup, and DW_OP_bra back to the DW_OP_lit1.
+    let countdown = little(&[0x0c, 0, 0, 0x04, 0, 0x31, 0x1c, 0x12, 0x28, 0xfa, 0xff]);
+    let mut restarted = evaluation(&[]);
+    restarted.set_max_iterations(0);
+    restarted.restart(countdown, ENCODING);
+    let over_lists = Evaluation::with_lists(countdown, ENCODING, Vec::new(), Vec::new(), Vec::new());
+    for mut it in [
+        Evaluation::new(countdown, ENCODING),
+        Evaluation::new_in(countdown, ENCODING),
+        Expression(countdown).evaluation(ENCODING),
+        over_lists,
+        restarted,
+    ] {
+        assert_eq!(it.evaluate(), Ok(Complete));
+        assert_eq!(it.value_result(), Some(Value::Generic(0)));
+    }
+}
+
 #[test]
 fn an_address_has_1_to_8_bytes() {
     for address_size in [0, 9, 255] {

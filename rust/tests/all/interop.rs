@@ -119,7 +119,9 @@ impl gimli::Reader for Relocating<'_> {
 
     fn read_offset(&mut self, format: gimli::Format) -> gimli::Result<usize> {
         let left = self.len();
-        Ok(self.0.read_offset(format)? + left)
+        let offset = self.0.read_offset(format)?;
+        // As a reader does whose offsets have 32 bits.
+        if offset >> 32 == 0 { Ok(offset + left) } else { Err(gimli::Error::UnsupportedOffset) }
     }
 }
 
@@ -140,6 +142,17 @@ fn relocations_are_kept() {
     match Operation::parse(&mut cut_off, ENCODING.into()) {
         Err(Error::UnexpectedEof(id)) => assert_eq!(id.0, start.0 + 1),
         _ => panic!(),
+    }
+}
+
+#[test]
+fn an_offset_that_gimlis_reader_refuses_is_unsupported() {
+    let encoding = gimli::Encoding { format: gimli::Format::Dwarf64, ..ENCODING };
+    // DW_OP_call_ref, DW_OP_implicit_pointer and DW_OP_GNU_variable_value.
+    for (opcode, bit) in [0x9a, 0xa0, 0xf2, 0xfd].into_iter().flat_map(|opcode| (0..32).map(move |bit| (opcode, bit))) {
+        let bytes = [&[opcode][..], &(1_u64 << (32 + bit)).to_le_bytes(), &[0]].concat();
+        let ours = Operation::parse(&mut GimliReader(Relocating(little(&bytes))), encoding.into());
+        assert_eq!(ours.err(), Some(Error::UnsupportedOffset));
     }
 }
 

@@ -5,7 +5,8 @@ use dwexpr::{
     BigEndian, DebugInfoOffset, Encoding, Error, Format, LittleEndian, NativeEndian, ReaderOffsetId, Register,
     RunTimeEndian, UnitOffset,
 };
-use std::collections::HashSet;
+use std::collections::{BTreeMap, HashSet};
+use std::fmt::Debug;
 
 #[test]
 fn each_error_says_what_it_is() {
@@ -51,6 +52,56 @@ fn constants_have_their_names() {
         let is_extension = matches!(number, 0xe0 | 0xed | 0xf0 | 0xf2..=0xf7 | 0xf9..=0xfd);
         assert_eq!(DwOp(number).static_string().is_some(), is_standard || is_extension, "{number:#x}");
     }
+}
+
+/// The encodings of base types of DWARF 5, section 7.8.
+#[test]
+fn encodings_have_the_standards_numbers() {
+    macro_rules! assert_numbers {
+        ($($name:ident $number:literal;)+) => {
+            $(
+                assert_eq!($name, DwAte($number));
+                assert_eq!(DwAte($number).static_string(), Some(stringify!($name)));
+            )+
+            let known = [$($number),+];
+            for number in 0..=255 {
+                assert_eq!(DwAte(number).static_string().is_some(), known.contains(&number), "{number:#x}");
+            }
+        };
+    }
+    assert_numbers! {
+        DW_ATE_address 0x01; DW_ATE_boolean 0x02; DW_ATE_complex_float 0x03; DW_ATE_float 0x04; DW_ATE_signed 0x05;
+        DW_ATE_signed_char 0x06; DW_ATE_unsigned 0x07; DW_ATE_unsigned_char 0x08; DW_ATE_imaginary_float 0x09;
+        DW_ATE_packed_decimal 0x0a; DW_ATE_numeric_string 0x0b; DW_ATE_edited 0x0c; DW_ATE_signed_fixed 0x0d;
+        DW_ATE_unsigned_fixed 0x0e; DW_ATE_decimal_float 0x0f; DW_ATE_UTF 0x10; DW_ATE_UCS 0x11; DW_ATE_ASCII 0x12;
+        DW_ATE_lo_user 0x80; DW_ATE_hi_user 0xff;
+    }
+}
+
+/// `cmp`, `partial_cmp`, a sort and a map have the order of the numbers, of which these are in order.
+fn assert_ordered<T: Ord + Copy + Debug>(all: &[T]) {
+    let step = all.len().div_ceil(256);
+    for (i, x) in all.iter().enumerate().step_by(step) {
+        for (j, y) in all.iter().enumerate().step_by(step) {
+            assert_eq!((x.cmp(y), x.partial_cmp(y)), (i.cmp(&j), Some(i.cmp(&j))), "{x:?} and {y:?}");
+        }
+    }
+    let mut sorted: Vec<T> = all.iter().rev().copied().collect();
+    sorted.sort();
+    assert_eq!(sorted, all);
+    let places: BTreeMap<T, usize> = all.iter().rev().enumerate().map(|(i, x)| (*x, all.len() - 1 - i)).collect();
+    assert!(places.values().copied().eq(0..all.len()));
+}
+
+#[test]
+fn orders_are_those_of_the_numbers() {
+    let bytes = || 0..=u8::MAX;
+    assert_ordered(&bytes().map(DwOp).collect::<Vec<_>>());
+    assert_ordered(&bytes().map(DwAte).collect::<Vec<_>>());
+    assert_ordered(&(0..=u16::MAX).map(Register).collect::<Vec<_>>());
+    let wide = || bytes().map(|byte| u64::from(byte) << 56 | u64::from(!byte));
+    assert_ordered(&wide().map(UnitOffset).collect::<Vec<_>>());
+    assert_ordered(&wide().map(DebugInfoOffset).collect::<Vec<_>>());
 }
 
 #[test]

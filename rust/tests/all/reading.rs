@@ -41,6 +41,18 @@ fn operations_end_with_the_bytes_or_an_error() {
 }
 
 #[test]
+fn the_first_such_byte_is_found() {
+    let twice: Vec<u8> = (0..=255).chain(0..=255).collect();
+    for byte in 0..=255 {
+        let place = usize::from(byte);
+        assert_eq!(little(&twice).find(byte), Some(place));
+        assert_eq!(little(&twice).range_from(place + 1..).find(byte), Some(255));
+        assert_eq!(little(&twice).range(place + 1..place + 256).find(byte), None);
+    }
+    assert_eq!(little(&[]).find(0), None);
+}
+
+#[test]
 fn each_byte_order_is_read() {
     fn constant(mut bytes: impl Reader + Copy) -> u64 {
         match Operation::parse(&mut bytes, ENCODING) {
@@ -61,7 +73,8 @@ fn each_byte_order_is_read() {
 fn versions_but_2_read_alike() {
     // DW_OP_implicit_pointer has an address in version 2, and else an offset.
     let bytes = [0xa0, 1, 0, 0, 0, 0, 0, 0, 0, 5];
-    for (version, byte_offset, left) in [(0, 0, 4), (2, 5, 0), (3, 0, 4), (6, 0, 4), (900, 0, 4)] {
+    for version in (0..=16).chain([900, u16::MAX]) {
+        let (byte_offset, left) = if version == 2 { (5, 0) } else { (0, 4) };
         let mut rest = little(&bytes);
         let read = Operation::parse(&mut rest, Encoding { version, ..ENCODING });
         assert_eq!(read, Ok(Operation::ImplicitPointer { value: DebugInfoOffset(1), byte_offset }));

@@ -6,22 +6,22 @@ use dwexpr::{Error, Evaluation, EvaluationStorage, Location, Piece, SliceVec, St
 
 #[test]
 fn a_list_on_the_heap_has_no_limit() {
-    assert_eq!(evaluation(&[0x31; 100_000]).evaluate(), Ok(Complete));
+    assert_eq!(evaluation(&[0x31; 200_000]).evaluate(), Ok(Complete));
     // Each expression is a call, and the last one pushes 1.
     let mut it = evaluation(&[0x98, 1, 0]);
     let mut result = it.evaluate();
-    for _ in 0..10_000 {
+    for _ in 0..200_000 {
         assert!(matches!(result, Ok(RequiresAtLocation(_))));
         result = it.resume_with_at_location(little(&[0x98, 1, 0, 0x23, 1]));
     }
     assert!(matches!(result, Ok(RequiresAtLocation(_))));
     assert_eq!(it.resume_with_at_location(little(&[0x31])), Ok(Complete));
-    assert_eq!(it.value_result(), Some(Value::Generic(10_001)));
+    assert_eq!(it.value_result(), Some(Value::Generic(200_001)));
     // DW_OP_piece 1.
-    let pieces = [0x93, 1].repeat(1_000);
+    let pieces = [0x93, 1].repeat(200_000);
     let mut it = evaluation(&pieces);
     assert_eq!(it.evaluate(), Ok(Complete));
-    assert_eq!(it.result().len(), 1_000);
+    assert_eq!(it.result().len(), 200_000);
 }
 
 /// Two values, one caller and two pieces are held, and one more is refused.

@@ -226,7 +226,7 @@ def unproved_complaints(rows):
 
 
 def main():
-    global PROGRAM
+    global PROGRAM, SECONDS
     parser = commands.parser(__doc__)
     said = "run only the rows whose file and name have the word"
     parser.add_argument("word", metavar="WORD", nargs="?", default="", help=said)
@@ -235,7 +235,8 @@ def main():
     asked = parser.parse_args()
     commands.run(TOP / "bin/build", *["--unproved"] * asked.unproved, stderr=None)
     if asked.unproved:
-        PROGRAM = UNPROVED_PROGRAM
+        # It looks after its memory, and so takes long.
+        PROGRAM, SECONDS = UNPROVED_PROGRAM, BUILD_SECONDS
     found = {"integers: the table": table_complaints, "gimli's tests": gimli_complaints}
     complaints = {name: list(found[name]()) for name in found if asked.word in name}
     by_script = []

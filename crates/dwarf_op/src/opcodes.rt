@@ -4,6 +4,7 @@ ghost use Rattle.std.specs.Prelude.{◌≡◌};
 ghost use Rattle.dwarf_base.specs.declared.common.Encoding.{Encoding};
 ghost use Rattle.dwarf_meaning.specs.Opcodes.{row_of};
 ghost use Rattle.dwarf_op.specs.inner.Entries.{entry_row};
+ghost use Rattle.dwarf_op.specs.inner.Entries as entries;
 
 use dwarf_base::constants::*;
 
@@ -77,7 +78,6 @@ pub(crate) enum Signed {
 // How an operand stands that has to fit the reader's offsets.
 #[derive(Clone, Copy)]
 pub(crate) enum Offset {
-    U8,
     U16,
     U32,
     Uleb128,
@@ -108,41 +108,155 @@ pub(crate) enum FromOffset {
     VariableValue,
 }
 
-// What stands after an opcode that few operations have (each of these one in a hundred of real programs, or fewer),
-// and what is made of it.
+// How an operand of a rare entry stands.
+#[derive(Clone, Copy)]
+pub(crate) enum Shape {
+    // There is none.
+    Absent,
+    // One byte.
+    Byte,
+    // An unsigned LEB128 number.
+    Uleb128,
+    // A signed one.
+    Sleb128,
+    // An address.
+    Address,
+    // A register.
+    Register,
+    // A number that has to fit the reader's offsets.
+    Offset(Offset),
+    // A block, as long as the offset before it says.
+    Block,
+    // A block, as long as the byte before it says.
+    ShortBlock,
+    // An index of WebAssembly, which stands as the byte before it says.
+    WasmIndex,
+}
+
+// Where a value of WebAssembly is.
+#[derive(Clone, Copy)]
+pub(crate) enum WasmPlace {
+    Local,
+    Global,
+    Stack,
+}
+
+// What is made of the operands of a rare entry.
+#[derive(Clone, Copy)]
+pub(crate) enum FromOperands {
+    Address,
+    Pick,
+    // The size is an address's.
+    AddressDeref,
+    // Whether there is an address space.
+    Deref(bool),
+    Register,
+    RegisterOffset,
+    Piece,
+    ImplicitValue,
+    EntryValue,
+    TypedLiteral,
+    ImplicitPointer,
+    WasmLocation,
+}
+
+// Where a base type stands, or how long a block is.
+const OFFSET: Shape = Shape::Offset(Offset::Uleb128);
+
+// A reference into `.debug_info`.
+const REFERENCE: Shape = Shape::Offset(Offset::Reference);
+
+// An entry that few operations have.
 #[derive(Clone, Copy)]
 pub(crate) enum Rare {
-    // An address: `DW_OP_addr`.
+    // `DW_OP_addr`.
     Address,
-    // One byte, the index: `DW_OP_pick`.
+    // `DW_OP_pick`.
     PickByte,
-    // No operands; the size is an address's, and there is an address space: `DW_OP_xderef`.
+    // `DW_OP_xderef`.
     SpaceDeref,
-    // One byte, the size, and there is an address space: `DW_OP_xderef_size`.
+    // `DW_OP_xderef_size`.
     SpaceDerefSize,
-    // A register: `DW_OP_regx`.
+    // `DW_OP_regx`.
     NamedRegister,
-    // A register and a signed LEB128 number: `DW_OP_bregx`.
+    // `DW_OP_bregx`.
     NamedBaseRegister,
-    // A register and the offset of a base type: `DW_OP_regval_type`, `DW_OP_GNU_regval_type`.
+    // `DW_OP_regval_type`, `DW_OP_GNU_regval_type`.
     TypedRegister,
-    // A size and an offset in bits: `DW_OP_bit_piece`.
+    // `DW_OP_bit_piece`.
     BitPiece,
-    // The size of a block, and the block: `DW_OP_implicit_value`.
+    // `DW_OP_implicit_value`.
     ImplicitValue,
-    // The same: `DW_OP_entry_value`, `DW_OP_GNU_entry_value`.
+    // `DW_OP_entry_value`, `DW_OP_GNU_entry_value`.
     EntryValue,
-    // The offset of a base type, the size of a block in one byte, and the block: `DW_OP_const_type`,
-    // `DW_OP_GNU_const_type`.
+    // `DW_OP_const_type`, `DW_OP_GNU_const_type`.
     TypedLiteral,
-    // One byte and the offset of a base type: `DW_OP_deref_type`, `DW_OP_GNU_deref_type` and, with an address space,
-    // `DW_OP_xderef_type`. Whether there is an address space.
+    // `DW_OP_deref_type`, `DW_OP_GNU_deref_type` and, with an address space, `DW_OP_xderef_type`. Whether there is one.
     TypedDeref(bool),
-    // A reference into `.debug_info` and a signed LEB128 number: `DW_OP_implicit_pointer`,
-    // `DW_OP_GNU_implicit_pointer`.
+    // `DW_OP_implicit_pointer`, `DW_OP_GNU_implicit_pointer`.
     ImplicitPointer,
-    // A kind in one byte, and an index that stands as the kind says: `DW_OP_WASM_location`.
+    // `DW_OP_WASM_location`.
     WasmLocation,
+}
+
+// Up to three operands, and what is made of them.
+#[derive(Clone, Copy)]
+pub(crate) struct RareRow {
+    pub(crate) first: Shape,
+    pub(crate) second: Shape,
+    pub(crate) third: Shape,
+    pub(crate) make: FromOperands,
+}
+
+#[inline(always)]
+fn one(first: Shape, make: FromOperands) -> RareRow
+    ensures { result ≡ entries.one_operand first make }
+{
+    two(first, Shape::Absent, make)
+}
+
+#[inline(always)]
+fn two(first: Shape, second: Shape, make: FromOperands) -> RareRow
+    ensures { result ≡ entries.two_operands first second make }
+{
+    RareRow {
+        first,
+        second,
+        third: Shape::Absent,
+        make,
+    }
+}
+
+// The operands of each rare entry, and what is made of them.
+#[inline(always)]
+pub(crate) fn operands_after(entry: Rare) -> RareRow
+    ensures { result ≡ entries.operands_after entry }
+{
+    match entry {
+        Rare::Address => one(Shape::Address, FromOperands::Address),
+        Rare::PickByte => one(Shape::Byte, FromOperands::Pick),
+        Rare::SpaceDeref => one(Shape::Absent, FromOperands::AddressDeref),
+        Rare::SpaceDerefSize => one(Shape::Byte, FromOperands::Deref(true)),
+        Rare::NamedRegister => one(Shape::Register, FromOperands::Register),
+        Rare::NamedBaseRegister => two(
+            Shape::Register,
+            Shape::Sleb128,
+            FromOperands::RegisterOffset,
+        ),
+        Rare::TypedRegister => two(Shape::Register, OFFSET, FromOperands::RegisterOffset),
+        Rare::BitPiece => two(Shape::Uleb128, Shape::Uleb128, FromOperands::Piece),
+        Rare::ImplicitValue => two(OFFSET, Shape::Block, FromOperands::ImplicitValue),
+        Rare::EntryValue => two(OFFSET, Shape::Block, FromOperands::EntryValue),
+        Rare::TypedLiteral => RareRow {
+            first: OFFSET,
+            second: Shape::Byte,
+            third: Shape::ShortBlock,
+            make: FromOperands::TypedLiteral,
+        },
+        Rare::TypedDeref(space) => two(Shape::Byte, OFFSET, FromOperands::Deref(space)),
+        Rare::ImplicitPointer => two(REFERENCE, Shape::Sleb128, FromOperands::ImplicitPointer),
+        Rare::WasmLocation => two(Shape::Byte, Shape::WasmIndex, FromOperands::WasmLocation),
+    }
 }
 
 // What stands after an opcode, and what is made of it: by the kinds of its operands, in order.

@@ -6,7 +6,7 @@
   `src/` (an item, a field, a variant, a method, a module), or a crate.
 - Each path in README.md, CHANGELOG.md, CONTRIBUTING.md, SECURITY.md, bench/README.md and docs/ leads to a file or
   folder of the repository; what is built, gimli's files and the web aside. Each link to a part of a page finds its
-  heading.
+  heading. Each file in a crate's table in docs/PROOFS.md is one of that crate, or of the crate that is named after it.
 - docs/GUIDE.md lists exactly the operations that are known. The number of faults, the limits of the archive's lists,
   the size of an evaluation there, the logic's sum and README.md's ratios are those of the sources and docs/SPEED.md.
 - The figures in CONTRIBUTING.md are those that `bin/figures` prints.
@@ -61,6 +61,8 @@ LINK = re.compile(r"\]\(([^)#]+)")
 # A link to a part of a page: the page, which may be the same one, and the part.
 PART = re.compile(r"\]\(([^)#\s]*)#([^)\s]+)\)")
 HEADING = re.compile(r"^#+ (.*)$", re.MULTILINE)
+# A file in the folder of a crate, and the crate, if it is named.
+OF_CRATE = re.compile(r"`((?:specs|src)/[\w/.]+)`(?: of `(\w+)`)?")
 # Fences and blocks with an indent, in which nothing is a heading.
 CODE = re.compile(r"^```.*?^```$", re.MULTILINE | re.DOTALL)
 WORD = re.compile(r"[A-Za-z_][A-Za-z0-9_]*")
@@ -207,6 +209,16 @@ def partless():
             yield f"{document} links to {page}#{part}, which isn't there" if missing else None
 
 
+def strange():
+    """Each file in a crate's table of PROOFS.md: it is one of that crate, or of the one that is named after it."""
+    for part in read(PROOFS).split("\n### ")[1:]:
+        heading, *lines = part.splitlines()
+        for line in filter(lambda line: line.startswith("|"), lines):
+            for path, other in OF_CRATE.findall(line):
+                there = f"crates/{other or QUOTED.findall(heading)[-1]}/{path}"
+                yield None if there in files() else f"{PROOFS} names {there}, which isn't there"
+
+
 def operations():
     """The operations that are known: those of the guide's list, of the constants and of the decoder's table."""
     constants = CONSTANT.findall(read("crates/dwarf_base/src/constants.rt"))
@@ -311,7 +323,21 @@ def stale():
             yield None if applies(block, folder) else f"{path}: {name}: takes away what doesn't stand once in its file"
 
 
-CHECKS = [glossary, unknown, astray, partless, operations, figures, counted, crates, stages, wide, changed, stale]
+CHECKS = [
+    glossary,
+    unknown,
+    astray,
+    partless,
+    strange,
+    operations,
+    figures,
+    counted,
+    crates,
+    stages,
+    wide,
+    changed,
+    stale,
+]
 
 
 def main():

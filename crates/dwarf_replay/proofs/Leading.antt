@@ -1,21 +1,23 @@
 -- Where the steps lead: what the contract of a replay says of them.
-use Rattle.std.proofs.Common.{ℕ, ◌≡◌, List, [], ◌∷◌, Option, Some, None, take, slice_get, ap, ◌∙◌, sym, refl, subst, ◌++◌, length}
-use Rattle.dwarf_base.specs.Faults.{fault_of}
+use Rattle.std.proofs.Common.{ℕ, zero, suc, ◌≡◌, arith, List, [], ◌∷◌, Option, Some, None, take, slice_get, ap, ◌∙◌, sym, refl, subst, ◌++◌, length}
+use Rattle.dwarf_base.specs.declared.errors.Error.{Error}
+use Rattle.dwarf_base.specs.Faults.{Fault, fault_of}
 use Rattle.dwarf_meaning.specs.Refusals.{Refusal, Never, before_inputs, MayPick}
 use Rattle.dwarf_meaning.specs.Run.{Position}
 use Rattle.dwarf_meaning.specs.Meaning.{Outcome, RequestOutcome, FaultOutcome, CompleteOutcome, First, meaning}
-use Rattle.dwarf_meaning.specs.Rest.{State, Status, Start, Running, RequestStatus, CompleteStatus, FaultStatus, Total}
+use Rattle.dwarf_meaning.specs.Rest.{State, Status, Start, Running, RequestStatus, CompleteStatus, FaultStatus, Total, total}
 use Rattle.dwarf_meaning.proofs.OutcomeByInputs.{outcome_from}
-use Rattle.dwarf_meaning.specs.Steps.{Step, InitialValue, ObjectAddress, MaxIterations, Evaluate, Resume, Log, Reply, Allows, outcome_of, after_step, after_steps}
+use Rattle.dwarf_meaning.specs.Requests.{Input}
+use Rattle.dwarf_meaning.specs.Steps.{Step, InitialValue, ObjectAddress, MaxIterations, Evaluate, Resume, Log, Reply, Allows, inputs_after, outcome_of, after_step, after_steps}
 use Rattle.dwarf_replay.specs.Stepping.{MayTake}
 use Rattle.dwarf_replay.specs.Replays.{IsInRequest, IsInFault, StandsAt, AreDoneFrom, DoesAll, StopsAt, log_at}
 use Rattle.dwarf_eval.proofs.Following.{total_open, total_complete}
-use Rattle.dwarf_replay.proofs.Standings.{WentBy, Went, may_inputs, Going, initial_count}
+use Rattle.dwarf_replay.proofs.Standings.{WentBy, Went, may_inputs, Unstarted, Going, Over, initial_count}
 use Rattle.dwarf_replay.proofs.CallSteps.{some_not_none, going_outcome}
 use Rattle.dwarf_base.specs.Reads.{Text}
-use Rattle.dwarf_meaning.specs.Bounds.{Spends}
+use Rattle.dwarf_meaning.specs.Bounds.{Spends, faults_in}
 use Rattle.dwarf_meaning.specs.Stores.{Setup}
-use Rattle.dwarf_replay.specs.Continuing.{IsLeft, Leaves, initial_items}
+use Rattle.dwarf_replay.specs.Continuing.{IsUnbegun, IsLeft, Leaves, initial_items}
 
 -- ---- where the steps lead
 
@@ -169,3 +171,129 @@ module _ (first : State) (steps : List Step) (given : List Reply) (x : State) wh
 
   pub leaves : Went first steps given x → Leaves first steps given x x.status
   leaves w = leaves_by x.status w
+
+-- ---- and back: what the contract of a replay says is enough to go on
+
+pub never_before : (n : ℕ) → before_inputs n Never ≡ Never
+never_before zero = refl
+never_before (suc n) = never_before n
+
+module _ (setup : Setup) (refusal : Refusal) (text : Text) where
+  none_first : (inputs : List Input) (start : Option First) → outcome_from setup refusal text inputs start ≡ None → start ≡ None
+  none_first inputs None e = refl
+  none_first inputs (Some first) e = absurd (let none : Some (meaning setup refusal text first inputs) ≡ None = e in cc)
+
+  some_first : (inputs : List Input) (start : Option First) (o : Outcome) → outcome_from setup refusal text inputs start ≡ Some o → (first : First) × (start ≡ Some first)
+  some_first inputs None o e = absurd (let none : None ≡ Some o = e in cc)
+  some_first inputs (Some first) o e = (first, refl)
+
+  -- before the start no input is taken
+  untaken : (log : Log) (steps : List Step) → (after_steps setup refusal text log steps).first ≡ None → (log.first ≡ None) × ((after_steps setup refusal text log steps).inputs ≡ log.inputs)
+  untaken log [] e = (e, refl)
+  untaken log (InitialValue number ∷ steps) e = untaken (after_step setup refusal text log (InitialValue number)) steps e
+  untaken log (ObjectAddress address ∷ steps) e = untaken (after_step setup refusal text log (ObjectAddress address)) steps e
+  untaken log (MaxIterations maximum ∷ steps) e = untaken (after_step setup refusal text log (MaxIterations maximum)) steps e
+  untaken log (Evaluate ∷ steps) e = absurd (some_not_none _ (untaken (after_step setup refusal text log Evaluate) steps e).0)
+  untaken log (Resume answer ∷ steps) e =
+      let w = untaken (after_step setup refusal text log (Resume answer)) steps e in
+      (w.0, w.1 ∙ ap (λ (f : Option First). inputs_after log.now log.inputs answer (outcome_from setup refusal text log.inputs f)) w.0)
+
+some_same : (a b : Outcome) → Some a ≡ Some b → a ≡ b
+some_same a b e = cc
+
+-- what stands at a status comes of such an outcome
+stands_unstarted : (log : Log) (x : State) (initial_value : Option ℕ) → x.status ≡ Start initial_value → (o : Option Outcome) → StandsAt log x o → o ≡ None
+stands_unstarted log x initial_value e None h = refl
+stands_unstarted log x initial_value e (Some (RequestOutcome request positions)) h = absurd (subst (IsInRequest request positions x) e h.0)
+stands_unstarted log x initial_value e (Some (FaultOutcome fault)) h = absurd (subst (IsInFault fault) e h)
+stands_unstarted log x initial_value e (Some (CompleteOutcome pieces value)) h = absurd (let s : Start initial_value ≡ CompleteStatus value = sym e ∙ h.0 in cc)
+
+stands_failed : (log : Log) (x : State) (error : Error) → x.status ≡ FaultStatus error → (o : Option Outcome) → StandsAt log x o → o ≡ Some (FaultOutcome (fault_of error))
+stands_failed log x error e None h = absurd (let s : FaultStatus error ≡ Start log.now.initial_value = sym e ∙ h.0 in cc)
+stands_failed log x error e (Some (RequestOutcome request positions)) h = absurd (subst (IsInRequest request positions x) e h.0)
+stands_failed log x error e (Some (FaultOutcome fault)) h = ap (λ (f : Fault). Some (FaultOutcome f)) (sym (subst (IsInFault fault) e h))
+stands_failed log x error e (Some (CompleteOutcome pieces value)) h = absurd (let s : FaultStatus error ≡ CompleteStatus value = sym e ∙ h.0 in cc)
+
+module _ (first : State) (steps : List Step) (given : List Reply) (x : State) (log : Log) (done : AreDoneFrom first steps given log Never) where
+  same_log : (other : Log) → AreDoneFrom first steps given other Never → other ≡ log
+  same_log other w = sym w.log_is ∙ done.log_is
+
+  same_later : (other : Log) (n : ℕ) → AreDoneFrom first steps given other (before_inputs n Never) → other ≡ log
+  same_later other n w = same_log other (subst (AreDoneFrom first steps given other) (never_before n) w)
+
+  settings_by : (status : Status) → WentBy first steps given x status → faults_in status ≡ 0 → x.store.settings ≡ log.now.settings
+  settings_by (Start initial_value) w h = w.holds.settings ∙ ap (λ (t : Log). t.now.settings) (same_log w.log (w.are_done Never))
+  settings_by (FaultStatus error) w h = absurd (omega (arith, h))
+  settings_by Running w h = absurd w
+  settings_by _ w h = w.holds.settings ∙ ap (λ (t : Log). t.now.settings) (same_later w.log w.taken (w.are_done Never tt))
+
+  -- the settings are the last, unless it met a fault
+  pub last_settings : Went first steps given x → faults_in x.status ≡ 0 → x.store.settings ≡ log.now.settings
+  last_settings w h = settings_by x.status w h
+
+  module _ (stands : StandsAt log x (outcome_of first.setup Never first.text log)) (setup : x.setup ≡ first.setup) (spent : Spends (initial_items steps) first x) where
+    spent_by_log : Spends (initial_count log.now.initial_value) first x
+    unfolding set_after
+    spent_by_log =
+        subst (λ (t : Log). Spends (initial_count t.now.initial_value) first x) done.log_is
+        (subst (λ (n : ℕ). Spends n first x) (sym (set_by first.setup Never first.text (log_at first) steps refl)) spent)
+
+    back_unstarted : (initial_value : Option ℕ) → x.status ≡ Start initial_value → IsUnbegun first steps given x → Unstarted first steps given x initial_value
+    back_unstarted initial_value e w =
+        let none = stands_unstarted log x initial_value e (outcome_of first.setup Never first.text log) stands in
+        let at : StandsAt log x None = subst (StandsAt log x) none stands in
+        let started : log.first ≡ None = none_first first.setup Never first.text log.inputs log.first none in
+        record {
+          log = log;
+          are_done = λ r. subst (λ (t : Log). AreDoneFrom first steps given t r) (same_log w.log (w.alike Never)) (w.alike r);
+          started = started;
+          inputs = ap (λ (t : Log). t.inputs) (sym done.log_is) ∙ (untaken first.setup Never first.text (log_at first) steps (ap (λ (t : Log). t.first) done.log_is ∙ started)).1;
+          initial = (let s : Start log.now.initial_value ≡ Start initial_value = sym at.0 ∙ e in cc);
+          text = w.text;
+          holds = record { setup = setup; settings = at.1 };
+          spent = spent_by_log;
+        }
+
+    back_going : IsLeft first steps given x → x.store.settings ≡ log.now.settings → Going first steps given x
+    back_going w last =
+        let n = length w.log.inputs in
+        let same : w.log ≡ log = same_later w.log n (w.alike Never tt) in
+        let started = some_first first.setup (before_inputs n Never) first.text (w.log.inputs ++ []) w.log.first _ (w.more Never [] tt) in
+        record {
+          log = w.log;
+          taken = n;
+          counted = refl;
+          are_done = w.alike;
+          settings = started.0;
+          started = started.1;
+          rest_is = λ r inputs l.
+              let given_first : Some (meaning first.setup (before_inputs n r) first.text started.0 (w.log.inputs ++ inputs)) ≡ Some (total x r inputs).outcome =
+              ap (outcome_from first.setup (before_inputs n r) first.text (w.log.inputs ++ inputs)) (sym started.1) ∙ w.more r inputs l in
+              some_same _ _ given_first;
+          holds = record { setup = setup; settings = last ∙ ap (λ (t : Log). t.now.settings) (sym same) };
+          spent = subst (λ (t : Log). Spends (initial_count t.now.initial_value) first x) (sym same) spent_by_log;
+        }
+
+    back_over : (error : Error) → x.status ≡ FaultStatus error → Over first steps given x error
+    back_over error e =
+        let failed = stands_failed log x error e (outcome_of first.setup Never first.text log) stands in
+        let started = some_first first.setup Never first.text log.inputs log.first _ failed in
+        record {
+          log = log;
+          refusal = Never;
+          may = tt;
+          are_done = done;
+          settings = started.0;
+          started = started.1;
+          fails = some_same _ _ (ap (outcome_from first.setup Never first.text log.inputs) (sym started.1) ∙ failed);
+          spent = spent_by_log;
+        }
+
+    went_by : (status : Status) → x.status ≡ status → (faults_in status ≡ 0 → x.store.settings ≡ log.now.settings) → Leaves first steps given x status → WentBy first steps given x status
+    went_by (Start initial_value) e last w = back_unstarted initial_value e w
+    went_by (FaultStatus error) e last w = back_over error e
+    went_by Running e last w = absurd w
+    went_by _ e last w = back_going w (last refl)
+
+    pub went_back : (faults_in x.status ≡ 0 → x.store.settings ≡ log.now.settings) → Leaves first steps given x x.status → Went first steps given x
+    went_back last w = went_by x.status refl last w

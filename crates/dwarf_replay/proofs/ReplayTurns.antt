@@ -39,7 +39,7 @@ same_front xs ys a b e =
     ∙ take-append_seam ys (b ∷ [])))
 
 module _ (setup : Setup) (refusal : Refusal) (text : Text) where
-  last_allowed : (log : Log) (steps : List Step) (step : Step) → AllAllowed setup refusal text log (steps ++ step ∷ []) → Allows (after_steps setup refusal text log steps) (outcome_of setup refusal text (after_steps setup refusal text log steps)) step
+  pub last_allowed : (log : Log) (steps : List Step) (step : Step) → AllAllowed setup refusal text log (steps ++ step ∷ []) → Allows (after_steps setup refusal text log steps) (outcome_of setup refusal text (after_steps setup refusal text log steps)) step
   last_allowed log [] step h = h.0
   last_allowed log (s ∷ steps) step h = last_allowed (after_step setup refusal text log s) steps step h.1
 

@@ -24,7 +24,8 @@ use Rattle.dwexpr_c.specs.Evaluated.{comes_of}
 use Rattle.dwexpr_c.specs.CodedOperations.{block_in}
 use Rattle.dwexpr_c.specs.Outcomes.{resume_or, step_coded}
 use Rattle.dwexpr_c.specs.CallerTexts.{IsAt, IsPlaced, text_in, AsksNowhere, HoldsNowhere, SomeNowhere}
-use Rattle.dwexpr_c.specs.inner.Runs.{IsGiven, given_at}
+use Rattle.dwexpr_c.specs.Held.{given_at}
+use Rattle.dwexpr_c.specs.inner.Runs.{IsGiven}
 use Rattle.dwexpr_c.specs.declared.steps.DwexprStep.{DwexprStep}
 use Rattle.dwexpr_c.specs.declared.steps.DwexprText.{DwexprText}
 use Rattle.dwexpr_c.specs.declared.faults.TheConstants as codes

@@ -2,4 +2,5 @@ pub mod DecodedBlocks
 pub mod Carried
 pub mod Given
 pub mod KeptSetups
+pub mod StepsDone
 pub mod Runs

@@ -2,30 +2,28 @@
 use Rattle.std.proofs.Common.{ℕ, suc, ◌≡◌, ◌∙◌, inl, inr, ◌++◌, ◌≤◌, List, [], ◌∷◌, map, take, slice_get, Option, Some, None, Result, Ok, Err, length, refl, sym, ap, subst}
 use Rattle.std.proofs.lemmas.List.{map-append, take_all}
 use Rattle.std.proofs.lemmas.Option.{slice_get_within, get_or_from_slice_get}
-use Rattle.std.proofs.Math.Seq.{take-suc, take-append_seam}
+use Rattle.std.proofs.Math.Seq.{take-suc}
 use Rattle.dwarf_base.specs.declared.errors.Error.{Error}
-use Rattle.dwarf_base.specs.Faults.{Fault, fault_of}
+use Rattle.dwarf_base.specs.Faults.{fault_of}
 use Rattle.dwarf_meaning.specs.Meaning.{Outcome, RequestOutcome, FaultOutcome, CompleteOutcome}
 use Rattle.dwarf_meaning.specs.Requests.{Request}
 use Rattle.dwarf_meaning.specs.Rest.{State, Status, Start, RequestStatus, CompleteStatus, FaultStatus}
 use Rattle.dwarf_meaning.specs.Steps as meaning
 use Rattle.dwarf_meaning.specs.Steps.{Step, InitialValue, ObjectAddress, MaxIterations, Log, Reply, CompleteReply, RequestReply, FaultReply, Allows, AllAllowed, after_steps, outcome_of}
-use Rattle.dwarf_meaning.specs.Refusals.{Limits, Refusal, Never, After, MayPick}
 use Rattle.dwarf_eval.specs.Evaluation.{IsReplied, reply_of, ok_reply}
 use Rattle.dwarf_eval.specs.declared.op.results.EvaluationResult.{EvaluationResult}
 use Rattle.dwarf_eval.specs.declared.op.results.EvaluationResult.TheVariants as replied
-use Rattle.dwarf_replay.specs.Replays.{StandsAt, IsInRequest, IsInFault, AreDoneFrom, log_at}
-use Rattle.dwarf_replay.specs.Stepping.{HasReplied, IsSet, MayTake}
+use Rattle.dwarf_replay.specs.Replays.{StandsAt, IsInRequest, IsInFault}
+use Rattle.dwarf_replay.specs.Stepping.{HasReplied, IsSet}
 use Rattle.dwarf_replay.proofs.Standings.{Went, went_at_first}
 use Rattle.dwarf_replay.proofs.Settings.{set_went_on}
 use Rattle.dwarf_replay.proofs.CallSteps.{called_went_on}
-use Rattle.dwarf_replay.proofs.Leading.{does_all_by, stops_at}
 use Rattle.dwexpr_c.specs.Evaluated.{AreTaken, EndsByStep, Beginning, IsCutShort, IsNoFault, capacities, comes_of, log_by, EvaluatesGiven, ShowsOutcome}
 use Rattle.dwexpr_c.specs.Outcomes.{ShowsReply, ended_outcome, ShowsRequest, blank_outcome, step_coded}
 use Rattle.dwexpr_c.specs.StepEffects.{DoesStep, Ends, Stops, FinishesOutcome}
 use Rattle.dwexpr_c.specs.CallerTexts.{text_of_placed, AsksNowhere}
-use Rattle.dwexpr_c.specs.Held.{HasStopped, HasTaken}
-use Rattle.dwexpr_c.specs.inner.Runs.{IsGiven, Runs, ShowsStatus, given_at, latest}
+use Rattle.dwexpr_c.specs.Held.{HasDone, HasStopped, HasTaken, given_at}
+use Rattle.dwexpr_c.specs.inner.Runs.{IsGiven, Runs, ShowsStatus, latest}
 use Rattle.dwexpr_c.specs.declared.evaluating.Progress.{Progress}
 use Rattle.dwexpr_c.specs.declared.evaluating.Progress.TheVariants.{Set, Asked, Complete, Ended}
 use Rattle.dwexpr_c.specs.declared.faults.FaultNumbers.{FaultNumbers}
@@ -34,7 +32,8 @@ use Rattle.dwexpr_c.specs.declared.places.Placed.{Placed}
 use Rattle.dwexpr_c.specs.declared.steps.DwexprStep.{DwexprStep}
 use Rattle.dwexpr_c.specs.declared.steps.DwexprText.{DwexprText}
 use Rattle.dwexpr_c.proofs.Given.{asks_somewhere, pieces_somewhere}
-use Rattle.dwexpr_c.proofs.KeptSetups.{replied_by, set_keeps, stop_keeps}
+use Rattle.dwexpr_c.proofs.KeptSetups.{replied_by, set_keeps}
+use Rattle.dwexpr_c.proofs.StepsDone.{Done, done_never, fault_replied, has_done, refused, replied_there, stands_by, stops_more}
 use Rattle.dwarf_meaning.specs.Locations.{Piece}
 use Rattle.dwexpr_c.specs.declared.pieces.DwexprPiece.{DwexprPiece}
 
@@ -66,74 +65,6 @@ no_fault : (texts : List DwexprText) (log : Log) (x : State) (o : Option Outcome
 no_fault texts log x (Some (FaultOutcome fault)) (FaultStatus error) progress out e s h = absurd s
 no_fault texts log x (Some (FaultOutcome fault)) _ progress out e s h = absurd (subst (IsInFault fault) e h)
 no_fault texts log x _ status progress out e s h = tt
-
-in_request : (request : Request) (positions : List _) (x : State) (answer : Reply) (status : Status) → IsInRequest request positions x status → IsReplied answer status → answer ≡ RequestReply request
-in_request request positions x answer (RequestStatus other on_answer) h r = r ∙ ap RequestReply h.0
-in_request request positions x answer _ h r = absurd h
-
-in_fault : (fault : Fault) (answer : Reply) (status : Status) → IsInFault fault status → IsReplied answer status → answer ≡ FaultReply fault
-in_fault fault answer (FaultStatus error) h r = r ∙ ap FaultReply h
-in_fault fault answer _ h r = absurd h
-
--- what was replied is the reply of where it stands
-replied_there : (log : Log) (x : State) (o : Option Outcome) (answer : Reply) → IsReplied answer x.status → StandsAt log x o → (outcome : Outcome) × (o ≡ Some outcome) × (answer ≡ meaning.reply outcome)
-replied_there log x None answer r h = absurd (subst (IsReplied answer) h.0 r)
-replied_there log x (Some (RequestOutcome request positions)) answer r h = (RequestOutcome request positions, refl, in_request request positions x answer x.status h.0 r)
-replied_there log x (Some (FaultOutcome fault)) answer r h = (FaultOutcome fault, refl, in_fault fault answer x.status h r)
-replied_there log x (Some (CompleteOutcome pieces value)) answer r h = (CompleteOutcome pieces value, refl, subst (IsReplied answer) h.0 r)
-
-fault_replied : (outcome : Outcome) (fault : Fault) → FaultReply fault ≡ meaning.reply outcome → outcome ≡ FaultOutcome fault
-fault_replied (FaultOutcome other) fault e = cc
-fault_replied _ fault e = cc
-
--- ---- all lists have limits
-
-none_free : (limits : Limits) (refusal : Refusal) → limits ≡ capacities → MayPick limits refusal → refusal ≡ Never
-none_free limits Never e h = refl
-none_free limits (After inputs pushes) e (inl h) = absurd (let v : Some 64 ≡ None = ap (λ (l : Limits). l.values) (sym e) ∙ h in cc)
-none_free limits (After inputs pushes) e (inr (inl h)) = absurd (let v : Some 16 ≡ None = ap (λ (l : Limits). l.callers) (sym e) ∙ h in cc)
-none_free limits (After inputs pushes) e (inr (inr h)) = absurd (let v : Some 32 ≡ None = ap (λ (l : Limits). l.pieces) (sym e) ∙ h in cc)
-
--- these steps were done without a refusal
-record Done (first : State) (steps : List Step) (replies : List Reply) (new : State) : Type 0 where
-  allowed : AllAllowed first.setup Never first.text (log_at first) steps
-  stands :
-      let log = after_steps first.setup Never first.text (log_at first) steps in
-      StandsAt log new (outcome_of first.setup Never first.text log)
-
-done_by : (first : State) (steps : List Step) (replies : List Reply) (x : State) (log : Log) (refusal : Refusal)
-    → AreDoneFrom first steps replies log refusal → StandsAt log x (outcome_of first.setup refusal first.text log) → refusal ≡ Never
-    → Done first steps replies x
-done_by first steps replies x log refusal are_done stands never = record {
-  allowed = subst (λ (r : Refusal). AllAllowed first.setup r first.text (log_at first) steps) never are_done.allowed;
-  stands =
-      subst (λ (r : Refusal). StandsAt (after_steps first.setup r first.text (log_at first) steps) x (outcome_of first.setup r first.text (after_steps first.setup r first.text (log_at first) steps))) never
-      (subst (λ (t : Log). StandsAt t x (outcome_of first.setup refusal first.text t)) (sym are_done.log_is) stands);
-}
-
-done_never : (first : State) (steps : List Step) (replies : List Reply) (x : State) → first.setup.limits ≡ capacities → Went first steps replies x → Done first steps replies x
-done_never first steps replies x limits went =
-    let all = does_all_by first steps replies x went in
-    done_by first steps replies x all.log all.refusal all.are_done all.stands (none_free first.setup.limits all.refusal limits all.may)
-
-at_seam : (steps : List Step) (step : Step) → slice_get (steps ++ step ∷ []) (length steps) ≡ Some step
-at_seam [] step = refl
-at_seam (s ∷ steps) step = at_seam steps step
-
-some_same : (a b : Step) → Some a ≡ Some b → a ≡ b
-some_same a b e = cc
-
--- a step that isn't allowed after these steps
-abbrev Refuses : State → Refusal → Step → List Step → Type 0
-Refuses first refusal step steps =
-    let log = after_steps first.setup refusal first.text (log_at first) steps in
-    Allows log (outcome_of first.setup refusal first.text log) step → ⊥
-
-refused_as : (first : State) (refusal : Refusal) (a b : Step) (steps others : List Step) → refusal ≡ Never → a ≡ b → steps ≡ others → Refuses first refusal a steps → Refuses first Never b others
-refused_as first refusal a b steps others r s l h =
-    subst (λ (z : List Step). Refuses first Never b z) l
-    (subst (λ (z : Step). Refuses first Never z steps) s
-    (subst (λ (z : Refusal). Refuses first z a steps) r h))
 
 -- ---- the loop
 
@@ -215,7 +146,10 @@ module _ (texts : List DwexprText) (all : List DwexprStep) (index : ℕ) (at : D
     does_all = done_never first r.steps r.replies x limits r.went
 
     taken : AreTaken given (take index all) r.steps
-    taken = record { said = r.said; allowed = does_all.allowed }
+    taken = record { said = r.said; allowed = does_all.are_done.allowed }
+
+    so_far : HasDone first r.steps x
+    so_far = has_done first r.steps r.replies x limits r.setup r.went
 
     ends_by : (end : FaultNumbers) → EndsByStep given r.steps (step_coded first.text.is_big texts at) (ended_outcome end.code end.number index) → IsCutShort given all (ended_outcome end.code end.number index)
     ends_by end h = record {
@@ -231,18 +165,6 @@ module _ (texts : List DwexprText) (all : List DwexprStep) (index : ℕ) (at : D
     called_does_all step result called =
         done_never first (r.steps ++ step ∷ []) _ new limits (called_went_on text_of_placed (λ x. x) first r.steps r.replies x new step result called r.went)
 
-    misplaced_at : (step : Step) → (MayTake step x.status → ⊥) → Allows (log_by given r.steps) (comes_of given r.steps) step → ⊥
-    misplaced_at step h =
-        let beyond = r.steps ++ step ∷ [] in
-        let there : slice_get beyond (length r.steps) ≡ Some step = at_seam r.steps step in
-        let front : take (length r.steps) beyond ≡ r.steps = take-append_seam r.steps (step ∷ []) in
-        let w = stops_at first beyond (length r.steps) r.replies x step there (subst (λ (l : List Step). Went first l r.replies x) (sym front) r.went) h in
-        let same : w.step ≡ step = some_same w.step step (sym w.is_next ∙ there) in
-        let refused : Refuses first w.does_all.refusal w.step (take (length r.steps) beyond) =
-        subst (λ (t : Log). Allows t (outcome_of first.setup w.does_all.refusal first.text t) w.step → ⊥) (sym w.does_all.are_done.log_is) w.misplaced
-        in
-        refused_as first w.does_all.refusal w.step step (take (length r.steps) beyond) r.steps (none_free first.setup.limits w.does_all.refusal limits w.does_all.may) same front refused
-
     nowhere_never : (step : Step) → step_coded first.text.is_big texts at ≡ Ok step → (outcome : Outcome) → comes_of given (r.steps ++ step ∷ []) ≡ Some outcome → AsksNowhere texts (meaning.reply outcome) → ⊥
     nowhere_never step one (RequestOutcome request positions) e a =
         asks_somewhere texts first is_given (take (suc index) all) (r.steps ++ step ∷ []) (said_next r.steps step r.said one) request positions e a
@@ -250,12 +172,12 @@ module _ (texts : List DwexprText) (all : List DwexprStep) (index : ℕ) (at : D
 
     ends_at : (end : FaultNumbers) (step : Step) → step_coded first.text.is_big texts at ≡ Ok step → Stops texts (Ok step) x new end → EndsByStep given r.steps (Ok step) (ended_outcome end.code end.number index)
     ends_at end step one (inl h) =
-        inl (record { not_allowed = misplaced_at step h.not_taken; shown = ap (λ (e : FaultNumbers). ended_outcome e.code e.number index) h.shown })
+        inl (record { not_allowed = refused first r.steps r.replies x limits r.went step h.not_taken; shown = ap (λ (e : FaultNumbers). ended_outcome e.code e.number index) h.shown })
     ends_at end step one (inr (inl h)) =
         let w = called_does_all step (Err h.error) h.called in
         let there = replied_there (log_by given (r.steps ++ step ∷ [])) new _ (FaultReply (fault_of h.error)) (replied_by x new (Err h.error) step h.called).status w.stands in
         inr (record {
-          allowed = w.allowed;
+          allowed = w.are_done.allowed;
           fault = fault_of h.error;
           comes = there.1 ∙ ap Some (fault_replied there.0 (fault_of h.error) there.2);
           shown = ap (λ (e : FaultNumbers). ended_outcome e.code e.number index) h.shown;
@@ -269,30 +191,29 @@ module _ (texts : List DwexprText) (all : List DwexprStep) (index : ℕ) (at : D
     cut_short_by end (Ok step) one h = ends_at end step one h
     cut_short_by end (Err code) one h = ap (λ (e : FaultNumbers). ended_outcome e.code e.number index) h.0
 
-    stopped_with : (end : FaultNumbers) → Stops texts (step_coded first.text.is_big texts at) x new end → HasStopped given all new (ended_outcome end.code end.number index)
+    stopped_with : (end : FaultNumbers) → Stops texts (step_coded first.text.is_big texts at) x new end → HasStopped first texts all new (ended_outcome end.code end.number index)
     unfolding ends_by
     stopped_with end h = record {
       cut = ends_by end (cut_short_by end (step_coded first.text.is_big texts at) refl h);
       before = x;
-      stands = does_all.stands;
+      done = so_far;
       end = end;
       stops = h;
-      setup = stop_keeps x new texts (step_coded first.text.is_big texts at) end h ∙ r.setup;
+      more = stops_more first limits r.steps x new so_far texts (step_coded first.text.is_big texts at) end h;
     }
 
     -- it ended the evaluation
-    pub stopped : (now : DwexprOutcome) → Ends texts (step_coded first.text.is_big texts at) index x new now → HasStopped given all new now
-    stopped now h = subst (HasStopped given all new) (sym h.shown) (stopped_with h.end h.stops)
+    pub stopped : (now : DwexprOutcome) → Ends texts (step_coded first.text.is_big texts at) index x new now → HasStopped first texts all new now
+    stopped now h = subst (HasStopped first texts all new) (sym h.shown) (stopped_with h.end h.stops)
 
 -- all steps were done
-ran : (texts : List DwexprText) (all : List DwexprStep) (index : ℕ) (first x : State) (progress : Progress) (out : DwexprOutcome) → first.setup.limits ≡ capacities → length all ≤ index → Reached texts (take index all) first x progress out → HasTaken (given_at first texts) all x × ShowsStatus texts x.status progress out
+ran : (texts : List DwexprText) (all : List DwexprStep) (index : ℕ) (first x : State) (progress : Progress) (out : DwexprOutcome) → first.setup.limits ≡ capacities → length all ≤ index → Reached texts (take index all) first x progress out → HasTaken first texts all x × ShowsStatus texts x.status progress out
 ran texts all index first x progress out limits past r =
     let w = done_never first r.steps r.replies x limits r.went in (
       record {
         steps = r.steps;
-        taken = record { said = ap (map (step_coded first.text.is_big texts)) (sym (take_all index all past)) ∙ r.said; allowed = w.allowed };
-        stands = w.stands;
-        setup = r.setup;
+        taken = record { said = ap (map (step_coded first.text.is_big texts)) (sym (take_all index all past)) ∙ r.said; allowed = w.are_done.allowed };
+        done = has_done first r.steps r.replies x limits r.setup r.went;
       },
       r.shown,
     )
@@ -316,7 +237,7 @@ Finishes texts count pieces status Asked out after old places = (after ≡ out) 
 Finishes texts count pieces status Complete out after old places = FinishesOutcome texts count pieces out after old places status
 Finishes texts count pieces status Ended out after old places = ⊥
 
-module _ (texts : List DwexprText) (numbers : List DwexprStep) (first new : State) (progress : Progress) (out after : DwexprOutcome) (old places : List DwexprPiece) (ran : HasTaken (given_at first texts) numbers new) (showed : ShowsStatus texts new.status progress out) (is_given : IsGiven texts first.text.bytes) where
+module _ (texts : List DwexprText) (numbers : List DwexprStep) (first new : State) (progress : Progress) (out after : DwexprOutcome) (old places : List DwexprPiece) (ran : HasTaken first texts numbers new) (showed : ShowsStatus texts new.status progress out) (is_given : IsGiven texts first.text.bytes) where
   abbrev FinishesAt : List Piece → Status → Progress → Type 0
   FinishesAt pieces status one = Finishes texts (length numbers) pieces status one out after old places
 
@@ -352,4 +273,4 @@ module _ (texts : List DwexprText) (numbers : List DwexprStep) (first new : Stat
 
   -- the steps were all done
   pub all_done : FinishesAt new.store.pieces new.status progress → EvaluatesGiven (given_at first texts) numbers after old places
-  all_done f = finished (comes_of (given_at first texts) ran.steps) refl ran.stands f
+  all_done f = finished (comes_of (given_at first texts) ran.steps) refl (stands_by first ran.steps new ran.done) f

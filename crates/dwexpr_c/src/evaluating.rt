@@ -2,10 +2,10 @@ ghost use Rattle.std.specs.Prelude.{◌≡◌, None, option_map, slice_get};
 ghost use Rattle.dwarf_base.specs.ByteOrder.{is_big_of};
 ghost use Rattle.dwarf_meaning.specs.Rest.{Start};
 ghost use Rattle.dwexpr_c.specs.Evaluated.{EvaluatesGiven};
-ghost use Rattle.dwexpr_c.specs.Held.{HasCapacities, StandsAfter};
+ghost use Rattle.dwexpr_c.specs.Held.{HasCapacities, StandsAfter, given_at};
 ghost use Rattle.dwexpr_c.specs.Outcomes.{ended_outcome, step_coded};
 ghost use Rattle.dwexpr_c.specs.StepEffects.{DoesStep, FinishesOutcome};
-ghost use Rattle.dwexpr_c.specs.inner.Runs.{IsGiven, Runs, given_at, latest};
+ghost use Rattle.dwexpr_c.specs.inner.Runs.{IsGiven, Runs, latest};
 
 use crate::faults::{FaultNumbers, LOST_TEXT, MISPLACED, code_alone, numbers_of};
 use crate::outcomes::{BLANK, DwexprOutcome, show_complete, show_end, show_request};
@@ -192,8 +192,7 @@ pub(crate) fn evaluate_steps<'a, S: EvaluationStorage<Placed<'a>>>(
     requires given { IsGiven texts.now evaluation.old.text.bytes }
     ensures evaluates { EvaluatesGiven (given_at evaluation.old texts.now) steps.now outcome.new
         places.old places.new }
-    ensures stands { StandsAfter (given_at evaluation.old texts.now) steps.now evaluation.new
-        outcome.new }
+    ensures stands { StandsAfter evaluation.old texts.now steps.now evaluation.new outcome.new }
 {
     match do_steps(evaluation, texts, order, steps, outcome) {
         Progress::Set => *outcome = BLANK,

@@ -2,7 +2,7 @@ ghost use Rattle.std.specs.Mem.{type_size};
 ghost use Rattle.std.specs.Prelude.{◌≡◌, IsSomeAnd, None};
 ghost use Rattle.dwexpr_c.specs.Encodings.{IsEncoding, encoding_in, is_big_in};
 ghost use Rattle.dwexpr_c.specs.Evaluated.{EvaluatesFirst};
-ghost use Rattle.dwexpr_c.specs.Held.{HasCapacities, HasResumed, IsBegun, IsUnstarted, StandsAfterFirst};
+ghost use Rattle.dwexpr_c.specs.Held.{GoesOn, HasCapacities, HasResumed, IsBegun, IsUnstarted, StandsAfterFirst};
 ghost use Rattle.dwexpr_c.specs.Outcomes.{ended_outcome};
 ghost use Rattle.dwexpr_c.specs.Owned.{held_row};
 ghost use Rattle.dwexpr_c.specs.CallerTexts.{text_at};
@@ -107,6 +107,9 @@ pub extern "C" fn dwexpr_evaluation_resume(
     ensures resumes { IsSomeAnd evaluation.old.held
         (λ before. IsSomeAnd evaluation.new.held
         (λ after. HasResumed texts.now step before after outcome.new pieces.old pieces.new)) }
+    ensures goes_on { IsSomeAnd evaluation.old.held
+        (λ before. IsSomeAnd evaluation.new.held
+        (λ after. GoesOn texts.now step before after outcome.new pieces.old pieces.new)) }
 {
     resume(evaluation.get(), texts, step, outcome, pieces);
     outcome.code

@@ -1,7 +1,8 @@
 ghost use Rattle.std.specs.Prelude.{◌≡◌, ◌<◌, ◌≤◌};
 ghost use Rattle.dwarf_base.specs.ByteOrder.{is_big_of};
+ghost use Rattle.dwarf_meaning.specs.Inputs.{fresh_state};
 ghost use Rattle.dwexpr_c.specs.Encodings.{IsEncoding, encoding_in, is_big_in};
-ghost use Rattle.dwexpr_c.specs.Evaluated.{EvaluatesGiven, EvaluatesFirst, beginning};
+ghost use Rattle.dwexpr_c.specs.Evaluated.{EvaluatesGiven, EvaluatesFirst, beginning, limited_setup};
 ghost use Rattle.dwexpr_c.specs.Held.{HasCapacities, StandsAfter, StandsAfterFirst};
 ghost use Rattle.dwexpr_c.specs.Outcomes.{ended_outcome};
 ghost use Rattle.dwexpr_c.specs.CallerTexts.{text_at, text_of_placed};
@@ -38,8 +39,8 @@ fn start_text<'a>(
         places.old places.new }
     ensures order { is_big_of held.new.order ≡ (text_of_placed text.entry).is_big }
     ensures stands { StandsAfter
-        (beginning reading.encoding (text_of_placed text.entry) texts.now) steps.now
-        held.new.evaluation outcome.new }
+        (fresh_state (limited_setup reading.encoding) (text_of_placed text.entry)) texts.now
+        steps.now held.new.evaluation outcome.new }
 {
     held.order = reading.order;
     held.evaluation.restart(text, reading.encoding);

@@ -1,8 +1,6 @@
 -- What the steps of a caller come to, before pieces and a value are shown.
 use Rattle.std.specs.Prelude.{ℕ, ◌≡◌, List, Some, slice_get}
 use Rattle.dwarf_meaning.specs.Rest.{State, Status, Start, RequestStatus, CompleteStatus}
-use Rattle.dwarf_replay.specs.Replays.{log_at}
-use Rattle.dwexpr_c.specs.Evaluated.{Beginning}
 use Rattle.dwexpr_c.specs.Held.{HasTaken, HasStopped}
 use Rattle.dwexpr_c.specs.Outcomes.{ShowsRequest}
 use Rattle.dwexpr_c.specs.declared.evaluating.Progress.{Progress}
@@ -10,10 +8,6 @@ use Rattle.dwexpr_c.specs.declared.evaluating.Progress.TheVariants.{Set, Asked, 
 use Rattle.dwexpr_c.specs.declared.outcomes.DwexprOutcome.{DwexprOutcome}
 use Rattle.dwexpr_c.specs.declared.steps.DwexprStep.{DwexprStep}
 use Rattle.dwexpr_c.specs.declared.steps.DwexprText.{DwexprText}
-
--- an evaluation with the texts that its steps may name
-abbrev pub given_at : State → List DwexprText → Beginning
-given_at first texts = record { setup = first.setup; text = first.text; log = log_at first; texts = texts }
 
 -- these are the bytes of one of the texts
 pub record IsGiven (texts : List DwexprText) (bytes : List ℕ) : Type 0 where
@@ -36,6 +30,6 @@ ShowsStatus texts _ progress out = ⊥
 
 -- all steps were done, and that says where the evaluation stands; or one ended it
 abbrev pub Runs : List DwexprText → List DwexprStep → State → State → Progress → DwexprOutcome → Type 0
-Runs texts numbers first new Ended out = HasStopped (given_at first texts) numbers new out
+Runs texts numbers first new Ended out = HasStopped first texts numbers new out
 Runs texts numbers first new progress out =
-    HasTaken (given_at first texts) numbers new × ShowsStatus texts new.status progress out
+    HasTaken first texts numbers new × ShowsStatus texts new.status progress out

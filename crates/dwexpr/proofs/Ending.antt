@@ -29,8 +29,9 @@ use Rattle.dwarf_replay.specs.declared.steps.Replayed.TheVariants as replayed
 use Rattle.dwarf_replay.specs.declared.steps.Step.{Step}
 use Rattle.dwexpr.specs.Evaluates.{EndsAt, HasReply, all_done, not_allowed, without_memory, EvaluatesSteps, EvaluatesSaid, after_replies, outcome_ending}
 use Rattle.dwexpr.specs.inner.Readings.{bad_steps, ReadsSteps}
-use Rattle.dwexpr.specs.declared.steps.StepsFault.{StepsFault}
-use Rattle.dwexpr.specs.declared.steps.StepsFault.TheVariants as fault
+use Rattle.dwexpr.specs.declared.hexadecimal.ReadFault.{ReadFault}
+use Rattle.dwexpr.specs.declared.hexadecimal.ReadFault.TheVariants as fault
+use Rattle.dwexpr.specs.declared.steps.BadLine.{BadLine}
 use Rattle.dwexpr.specs.inner.Outputs.{HasLine, ending_of, state_ending, WritesEnding}
 
 -- ---- words and input
@@ -50,24 +51,19 @@ exits_of old new ending (Err x) status e h = inr (h.0, e)
 
 -- ---- what is printed for words
 
-pub ends_invocation : (words texts : List (List ℕ)) (left : Option (List ℕ)) (command other : Command) (reading : Reading) (items bytes : List ℕ)
-    (ending : Ending) → words ≡ texts → invocation_in texts ≡ Some (record { command = command; reading = reading; bytes = items })
+pub ends_invocation : (words : List (List ℕ)) (left : Option (List ℕ)) (command other : Command) (reading : Reading) (items bytes : List ℕ)
+    (ending : Ending) → invocation_in words ≡ Some (record { command = command; reading = reading; bytes = items })
     → command ≡ other → bytes ≡ items
     → EndsCommand other (record { command = other; reading = reading; bytes = bytes }) left ending
     → EndsFor words left ending
-ends_invocation words texts left command other reading items bytes ending w e same read h =
+ends_invocation words left command other reading items bytes ending e same read h =
     subst (λ asked. EndsInvocation asked left ending)
-    (sym (ap invocation_in w ∙ e ∙ ap₂ (λ (k : Command) (xs : List ℕ). Some (record { command = k; reading = reading; bytes = xs })) same (sym read)))
+    (sym (e ∙ ap₂ (λ (k : Command) (xs : List ℕ). Some (record { command = k; reading = reading; bytes = xs })) same (sym read)))
     (inl h)
 
-asked_without_memory : (left : Option (List ℕ)) (asked : Option Invocation) → IsSome asked → EndsInvocation asked left no_memory
-asked_without_memory left (Some asked) some = inr refl
-asked_without_memory left None some = cc some
-
-pub ends_without_memory : (words texts : List (List ℕ)) (left : Option (List ℕ)) → words ≡ texts → IsSome (invocation_in texts)
-    → EndsFor words left no_memory
-ends_without_memory words texts left w some =
-    subst (λ said. EndsFor said left no_memory) (sym w) (asked_without_memory left (invocation_in texts) some)
+pub ends_without_memory : (left : Option (List ℕ)) (asked : Option Invocation) → IsSome asked → EndsInvocation asked left no_memory
+ends_without_memory left (Some asked) some = inr refl
+ends_without_memory left None some = cc some
 
 -- ---- an evaluation
 
@@ -195,7 +191,7 @@ text_as bytes bytes' order order' e f = ap₂ text_by e f
 
 -- ---- what lines say
 
-pub follows_refused : {A : Type 0} (view : A → meaning.Step) (setup : Setup) (text : Text) (said : Result (List meaning.Step) ℕ) (B : Type 0) (refused : StepsFault)
+pub follows_refused : {A : Type 0} (view : A → meaning.Step) (setup : Setup) (text : Text) (said : Result (List meaning.Step) ℕ) (B : Type 0) (refused : ReadFault BadLine)
     → ReadsSteps {B = B} view said (Err refused)
     → EvaluatesSaid setup text said (bad_steps refused) ⊎ (bad_steps refused ≡ no_memory)
 follows_refused view setup text said B (fault.Bad number) e = inl (rw e refl)

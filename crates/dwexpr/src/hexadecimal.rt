@@ -2,16 +2,18 @@ ghost use Rattle.std.specs.Prelude.{◌≡◌, ◌%◌, ◌↔◌, IfErr, IfOk, 
 ghost use Rattle.std.specs.List.{AllPass};
 ghost use Rattle.hex.specs.Hex.{is_hex_digit};
 ghost use Rattle.dwexpr.specs.Words.{bytes_in};
+ghost use Rattle.dwexpr.specs.declared.hexadecimal.ReadFault.TheVariants as read;
+ghost use Rattle.dwexpr.specs.inner.Readings.{Reads};
 
 use hex::FromHexError;
 use std::alloc::Allocator;
 
-/// Why a word, words or a line gave nothing.
+/// Why a word gave no bytes.
 #[derive(Clone, Copy, Debug, PartialEq, Eq)]
-pub enum ReadFault {
-    /// They aren't of their form.
+pub enum HexFault {
+    /// It isn't of their form.
     Bad,
-    /// There was no memory for the bytes in them.
+    /// There was no memory for them.
     NoMemory,
 }
 
@@ -24,25 +26,57 @@ fn is_hexadecimal(word: &[u8]) -> bool
 
 /// The bytes that a word of hexadecimal digits says, of either case; `-` says none. The word is judged before memory is
 /// taken, so `NoMemory` is only answered for a good one.
-pub fn bytes_of<A: Allocator>(alloc: A, word: &str) -> Result<Vec<u8, A>, ReadFault>
+pub fn bytes_of<A: Allocator>(alloc: A, word: &str) -> Result<Vec<u8, A>, HexFault>
     ensures ok { IfOk result (λ bytes. bytes_in word.now ≡ Some bytes.items) }
-    ensures bad { result ≡ Err ReadFault.Bad → bytes_in word.now ≡ None }
-    ensures no_memory { result ≡ Err ReadFault.NoMemory → IsSome (bytes_in word.now) }
+    ensures bad { result ≡ Err HexFault.Bad → bytes_in word.now ≡ None }
+    ensures no_memory { result ≡ Err HexFault.NoMemory → IsSome (bytes_in word.now) }
     ensures none { word.now ≡ 45 ∷ [] → IfErr result (λ fault. ⊥) }
-    ensures empty { word.now ≡ [] → result ≡ Err ReadFault.Bad }
+    ensures empty { word.now ≡ [] → result ≡ Err HexFault.Bad }
 {
     if word == "-" {
         return Ok(Vec::new(alloc));
     }
     if word.is_empty() {
-        return Err(ReadFault::Bad);
+        return Err(HexFault::Bad);
     }
     if !is_hexadecimal(word.as_bytes()) {
-        return Err(ReadFault::Bad);
+        return Err(HexFault::Bad);
     }
     match hex::decode(alloc, word) {
         Ok(bytes) => Ok(bytes),
-        Err(FromHexError::OutOfMemory) => Err(ReadFault::NoMemory),
-        Err(_) => Err(ReadFault::Bad),
+        Err(FromHexError::OutOfMemory) => Err(HexFault::NoMemory),
+        Err(_) => Err(HexFault::Bad),
+    }
+}
+
+/// Why words or lines gave nothing.
+#[derive(Clone, Copy)]
+pub(crate) enum ReadFault<B> {
+    /// They are bad, in this way.
+    Bad(B),
+    /// There was no memory for what they say.
+    NoMemory,
+}
+
+impl<B> From<B> for ReadFault<B> {
+    ghost from_gives = { λ bad fault. fault ≡ read.Bad bad };
+
+    fn from(bad: B) -> Self {
+        ReadFault::Bad(bad)
+    }
+}
+
+/// The bytes of a word, or what is said if it isn't of their form.
+pub(crate) fn bytes_or<A: Allocator, B: Drop>(
+    alloc: A,
+    word: &str,
+    bad: B,
+) -> Result<Vec<u8, A>, ReadFault<B>>
+    ensures { Reads (λ bytes. bytes.items) (bytes_in word.now) result }
+{
+    match bytes_of(alloc, word) {
+        Ok(bytes) => Ok(bytes),
+        Err(HexFault::Bad) => Err(ReadFault::Bad(bad)),
+        Err(HexFault::NoMemory) => Err(ReadFault::NoMemory),
     }
 }

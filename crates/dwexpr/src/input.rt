@@ -46,3 +46,9 @@ pub(crate) fn first_line(input: &[u8]) -> Line<'_>
         },
     }
 }
+
+/// The line at an index; no bytes if there is none.
+pub(crate) fn line_at(input: &[u8], index: usize) -> &[u8] {
+    let line = input.split(|byte| *byte == b'\n').nth(index);
+    without_return(line.unwrap_or(&[]))
+}

@@ -14,30 +14,29 @@ mod values;
 mod words;
 mod writing;
 
-pub use hexadecimal::{ReadFault, bytes_of};
+pub use explaining::Output;
+use explaining::Terminal;
+pub use hexadecimal::{HexFault, bytes_of};
 pub use program::run;
-use program::{run_explained, run_without_words};
+use program::run_without_words;
 use std::alloc::AllocError;
 use std::process::ExitCode;
 use std::{env, io};
 
 fn main(rt: HostRuntime) -> ExitCode {
-    let (mut output, mut errors) = (io::writer(&rt), rt.stderr());
+    let mut terminal = Terminal {
+        output: io::writer(&rt),
+        errors: rt.stderr(),
+    };
     let mut arguments = match env::args(&rt) {
         Ok(arguments) => arguments,
-        Err(error) => return ExitCode::from(run_without_words(error, &mut output, &mut errors)),
+        Err(error) => return ExitCode::from(run_without_words(error, &mut terminal)),
     };
     // The first one is the program's name.
     let _ = arguments.next();
     let collected: Result<Vec<String>, AllocError> = arguments.collect(rt.alloc());
     ExitCode::from(match collected {
-        Ok(words) => run_explained(
-            rt.alloc(),
-            words.as_slice(),
-            rt.reader(),
-            &mut output,
-            &mut errors,
-        ),
-        Err(refused) => run_without_words(io::Error::from(refused), &mut output, &mut errors),
+        Ok(words) => run(rt.alloc(), words.as_slice(), rt.reader(), &mut terminal),
+        Err(refused) => run_without_words(io::Error::from(refused), &mut terminal),
     })
 }

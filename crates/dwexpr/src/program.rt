@@ -23,14 +23,13 @@ ghost use Rattle.dwexpr.specs.Endings as runs;
 ghost use Rattle.dwexpr.specs.Endings.{Ending, complete_ending};
 
 use crate::endings::{DONE, FAILED, bad_step, bad_words, misplaced_step, no_memory};
-use crate::explaining::{
-    explain_no_words, explain_read, explain_replayed, explain_steps, explain_words, explain_write,
-};
+use crate::explaining::Output;
 use crate::hexadecimal::ReadFault;
+use crate::input::line_at;
 use crate::lines::{print_piece, print_reply, print_value_line};
 use crate::listing::print_operations;
-use crate::steps::{StepsFault, steps_in};
-use crate::words::{Command, Reading, invocation_of, six_words};
+use crate::steps::{BadLine, BadStep, steps_in};
+use crate::words::{Command, Reading, invocation_of};
 use crate::writing::Text;
 use dwarf_base::EndianSlice;
 use dwarf_eval::eval::{Evaluation, Status};
@@ -96,11 +95,12 @@ fn print_outcome<'a, S: EvaluationStorage<Text<'a>>, W: Write>(
     }
 }
 
-/// Prints what stands after the answers.
-fn print_end<A: Allocator + Copy, W: Write>(
+/// Prints what stands after the answers. A step that isn't allowed is told, with its line.
+fn print_end<A: Allocator + Copy, W: Output>(
     output: &mut W,
     evaluation: &Evaluation<Text<'_>, StoreOnHeap<A>>,
     replayed: Replayed<Text<'_>>,
+    lines: &[u8],
 ) -> io::Result<u8>
     requires { HasLine replayed }
     ensures { WritesEnding (W.contents output.old) (W.contents output.new)
@@ -108,17 +108,26 @@ fn print_end<A: Allocator + Copy, W: Write>(
 {
     match replayed {
         Replayed::Done => print_outcome(output, evaluation),
-        Replayed::Misplaced(index) => misplaced_step(output, index),
+        Replayed::Misplaced(index) => {
+            let printed = misplaced_step(output, index);
+            output.complain(BadLine {
+                number: index + 1,
+                text: line_at(lines, index),
+                fault: BadStep::Misplaced(evaluation.status()),
+            });
+            printed
+        }
         Replayed::NoRoom { .. } => no_memory(output),
     }
 }
 
 /// Prints the answers, and what stands after them.
-fn print_replay<A: Allocator + Copy, W: Write>(
+fn print_replay<A: Allocator + Copy, W: Output>(
     output: &mut W,
     answers: &[Answer<Text<'_>>],
     evaluation: &Evaluation<Text<'_>, StoreOnHeap<A>>,
     replayed: Replayed<Text<'_>>,
+    lines: &[u8],
 ) -> io::Result<u8>
     requires { HasLine replayed }
     ensures { WritesEnding (W.contents output.old) (W.contents output.new)
@@ -126,18 +135,17 @@ fn print_replay<A: Allocator + Copy, W: Write>(
         (ending_of evaluation.now replayed.entry)) result }
 {
     print_replies(output, answers)?;
-    print_end(output, evaluation, replayed)
+    print_end(output, evaluation, replayed, lines)
 }
 
 /// Does the steps on the bytes, and prints each answer and what comes out. The lines are those of the steps.
-fn evaluate<'a, A: Allocator + Copy, W: Write, E: Write>(
+fn evaluate<'a, A: Allocator + Copy, W: Output>(
     alloc: A,
     bytes: &'a [u8],
     reading: Reading,
     steps: &[Step<Text<'a>>],
     lines: &[u8],
     output: &mut W,
-    errors: &mut E,
 ) -> io::Result<u8>
     requires some { 0 < reading.encoding.address_size }
     requires fits { reading.encoding.address_size ≤ 8 }
@@ -156,30 +164,31 @@ fn evaluate<'a, A: Allocator + Copy, W: Write, E: Write>(
     );
     let mut answers = Vec::new(alloc);
     let replayed = replay(&mut evaluation, steps, &mut answers);
-    let printed = print_replay(output, answers.as_slice(), &evaluation, replayed);
-    explain_replayed(lines, replayed, evaluation.status(), errors);
-    printed
+    print_replay(output, answers.as_slice(), &evaluation, replayed, lines)
 }
 
-/// Prints why the lines give no steps.
-fn print_bad_steps<W: Write>(output: &mut W, fault: StepsFault) -> io::Result<u8>
-    ensures { WritesEnding (W.contents output.old) (W.contents output.new) (bad_steps fault)
-        result }
+/// Prints why the lines give no steps, and tells which line is bad.
+fn refuse_lines<W: Output>(output: &mut W, fault: ReadFault<BadLine<'_>>) -> io::Result<u8>
+    ensures { WritesEnding (W.contents output.old) (W.contents output.new)
+        (bad_steps fault.entry) result }
 {
     match fault {
-        StepsFault::Bad(number) => bad_step(output, number),
-        StepsFault::NoMemory => no_memory(output),
+        ReadFault::Bad(line) => {
+            let printed = bad_step(output, line.number);
+            output.complain(line);
+            printed
+        }
+        ReadFault::NoMemory => no_memory(output),
     }
 }
 
 /// Judges the lines, and evaluates the bytes in the steps that they say.
-fn run_lines<'a, A: Allocator + Copy + 'a, W: Write, E: Write>(
+fn run_lines<'a, A: Allocator + Copy + 'a, W: Output>(
     alloc: A,
     bytes: &'a [u8],
     reading: Reading,
     lines: &[u8],
     output: &mut W,
-    errors: &mut E,
 ) -> io::Result<u8>
     requires some { 0 < reading.encoding.address_size }
     requires fits { reading.encoding.address_size ≤ 8 }
@@ -189,31 +198,18 @@ fn run_lines<'a, A: Allocator + Copy + 'a, W: Write, E: Write>(
         × WritesEnding (W.contents output.old) (W.contents output.new) ending result }
 {
     match steps_in(alloc, reading.order, lines) {
-        Ok(steps) => evaluate(
-            alloc,
-            bytes,
-            reading,
-            steps.as_slice(),
-            lines,
-            output,
-            errors,
-        ),
-        Err(fault) => {
-            let printed = print_bad_steps(output, fault);
-            explain_steps(lines, fault, errors);
-            printed
-        }
+        Ok(steps) => evaluate(alloc, bytes, reading, steps.as_slice(), lines, output),
+        Err(fault) => refuse_lines(output, fault),
     }
 }
 
 /// Reads the steps, and evaluates the bytes in them.
-fn run_eval<A: Allocator + Copy, I: Read + Drop, W: Write, E: Write>(
+fn run_eval<A: Allocator + Copy, I: Read + Drop, W: Output>(
     alloc: A,
     bytes: &[u8],
     reading: Reading,
     mut input: I,
     output: &mut W,
-    errors: &mut E,
 ) -> io::Result<u8>
     requires some { 0 < reading.encoding.address_size }
     requires fits { reading.encoding.address_size ≤ 8 }
@@ -224,11 +220,11 @@ fn run_eval<A: Allocator + Copy, I: Read + Drop, W: Write, E: Write>(
 {
     let mut lines = Vec::new(alloc);
     match input.read_to_end(&mut lines) {
-        Ok(_) => run_lines(alloc, bytes, reading, lines.as_slice(), output, errors),
+        Ok(_) => run_lines(alloc, bytes, reading, lines.as_slice(), output),
         Err(error) => match error.kind() {
             ErrorKind::OutOfMemory => no_memory(output),
             _ => {
-                explain_read(&error, errors);
+                output.complain(format_args!("standard input can't be read: {error}"));
                 Ok(FAILED)
             }
         },
@@ -236,38 +232,44 @@ fn run_eval<A: Allocator + Copy, I: Read + Drop, W: Write, E: Write>(
 }
 
 /// Judges the words, and does what they say.
-fn run_words<A: Allocator + Copy, I: Read + Drop, W: Write, E: Write>(
+fn run_words<A: Allocator + Copy, I: Read + Drop, W: Output>(
     alloc: A,
     words: &[String<A>],
     input: I,
     output: &mut W,
-    errors: &mut E,
 ) -> io::Result<u8>
     ensures { (ending : Ending)
         × EndsFor (map string_bytes words.now) (I.remaining input) ending
         × WritesEnding (W.contents output.old) (W.contents output.new) ending result }
 {
-    let Some(six) = six_words(words) else {
-        return bad_words(output);
-    };
-    match invocation_of(alloc, six) {
+    match invocation_of(alloc, words) {
         Ok(asked) => match asked.command {
             Command::Ops => print_operations(output, asked.bytes.as_slice(), asked.reading),
-            Command::Eval => run_eval(
-                alloc,
-                asked.bytes.as_slice(),
-                asked.reading,
-                input,
-                output,
-                errors,
-            ),
+            Command::Eval => {
+                run_eval(alloc, asked.bytes.as_slice(), asked.reading, input, output)
+            }
         },
-        Err(ReadFault::Bad) => bad_words(output),
+        Err(ReadFault::Bad(words)) => {
+            let printed = bad_words(output);
+            output.complain(words);
+            printed
+        }
         Err(ReadFault::NoMemory) => no_memory(output),
     }
 }
 
-/// Says why there are no words.
+/// The status of what was printed. A failed write is told.
+fn status_of<W: Output>(printed: io::Result<u8>, output: &mut W) -> u8
+    ensures status { result ≡ result_unwrap_or printed 1 }
+    ensures nothing { W.contents output.new ≡ W.contents output.old }
+{
+    if let Err(error) = &printed {
+        output.complain(format_args!("standard output can't be written: {error}"));
+    }
+    printed.unwrap_or(FAILED)
+}
+
+/// Prints why there are no words.
 fn refuse_words<W: Write>(kind: ErrorKind, output: &mut W) -> io::Result<u8>
     ensures { WritesEnding (W.contents output.old) (W.contents output.new) (without_words kind)
         result }
@@ -278,49 +280,14 @@ fn refuse_words<W: Write>(kind: ErrorKind, output: &mut W) -> io::Result<u8>
     }
 }
 
-/// The status of what was printed. Of a failed write, says so.
-fn status_of<E: Write>(printed: io::Result<u8>, errors: &mut E) -> u8
-    ensures { result ≡ result_unwrap_or printed 1 }
-{
-    if let Err(error) = &printed {
-        explain_write(error, errors);
-    }
-    printed.unwrap_or(FAILED)
-}
-
 /// Answers for words that could not be had: one isn't UTF-8, or there was no memory for them.
-pub(crate) fn run_without_words<W: Write, E: Write>(
-    error: io::Error,
-    output: &mut W,
-    errors: &mut E,
-) -> u8
+pub(crate) fn run_without_words<W: Output>(error: io::Error, output: &mut W) -> u8
     ensures { Exits (W.contents output.old) (W.contents output.new)
         (without_words (error_kind error)) result }
 {
     let printed = refuse_words(error.kind(), output);
-    explain_no_words(&error, errors);
-    status_of(printed, errors)
-}
-
-/// Runs the program as `run` does, and says on standard error, `errors`, what is wrong with a word or a line, or which
-/// read or write failed.
-pub(crate) fn run_explained<A: Allocator + Copy, I: Read + Drop, W: Write, E: Write>(
-    alloc: A,
-    words: &[String<A>],
-    input: I,
-    output: &mut W,
-    errors: &mut E,
-) -> u8
-    ensures { (ending : Ending)
-        × EndsFor (map string_bytes words.now) (I.remaining input) ending
-        × Exits (W.contents output.old) (W.contents output.new) ending result }
-{
-    let printed = run_words(alloc, words, input, output, errors);
-    let status = status_of(printed, errors);
-    if status != DONE {
-        explain_words(alloc, words, errors);
-    }
-    status
+    output.complain(format_args!("the words can't be read: {error}"));
+    status_of(printed, output)
 }
 
 /// Runs the program on the words after its name, and answers its exit status.
@@ -331,8 +298,9 @@ pub(crate) fn run_explained<A: Allocator + Copy, I: Read + Drop, W: Write, E: Wr
 /// a line for each answer and, if the evaluation is complete at the end, its pieces and its value.
 ///
 /// The status is 0; 1 if the evaluation or the decoding failed, a read or a write failed or there was no memory;
-/// and 2 if the words or a line are bad or a step isn't allowed where it stands.
-pub fn run<A: Allocator + Copy, I: Read + Drop, W: Write>(
+/// and 2 if the words or a line are bad or a step isn't allowed where it stands. The output is also told which word or
+/// line is wrong, or which read or write failed.
+pub fn run<A: Allocator + Copy, I: Read + Drop, W: Output>(
     alloc: A,
     words: &[String<A>],
     input: I,
@@ -342,5 +310,6 @@ pub fn run<A: Allocator + Copy, I: Read + Drop, W: Write>(
         × EndsFor (map string_bytes words.now) (I.remaining input) ending
         × Exits (W.contents output.old) (W.contents output.new) ending result }
 {
-    run_explained(alloc, words, input, output, &mut io::sink())
+    let printed = run_words(alloc, words, input, output);
+    status_of(printed, output)
 }

@@ -1,58 +1,109 @@
-ghost use Rattle.std.specs.Prelude.{◌≡◌, option_map};
+ghost use Rattle.std.specs.Prelude.{◌≡◌, option_and_then, option_map};
+ghost use Rattle.std.specs.Result.{result_ok};
 ghost use Rattle.dwarf_base.specs.EndianSlice.{slice_text};
 ghost use Rattle.dwarf_base.specs.ByteOrder.{is_big_of};
 ghost use Rattle.dwarf_replay.specs.Stepping.{step_of};
 ghost use Rattle.dwexpr.specs.StepLines as spec;
 ghost use Rattle.dwexpr.specs.inner.Readings.{Reads, ReadsSteps};
-ghost use Rattle.dwexpr.specs.StepLines.{lines_in};
+ghost use Rattle.dwexpr.specs.StepLines.{below, lines_in, number_in, value_in};
 
-use crate::hexadecimal::{ReadFault, bytes_of};
+use crate::hexadecimal::{ReadFault, bytes_or};
 use crate::input::first_line;
 use crate::numbers::number_of;
 use crate::values::{type_of, value_of};
 use crate::writing::Text;
 use dwarf_base::{EndianSlice, RunTimeEndian};
-use dwarf_eval::eval::WaitingKind;
+use dwarf_eval::eval::{Status, WaitingKind};
 use dwarf_replay::Step;
+use dwarf_value::Value;
 use std::alloc::Allocator;
 
-/// The answers: the name of each, a blank and the letter of its word, and the kind of request that it answers.
-pub(crate) const ANSWERS: [(&str, &str, WaitingKind); 12] = [
-    ("memory", " V", WaitingKind::Memory),
-    ("register", " V", WaitingKind::Register),
-    ("wasm", " V", WaitingKind::WasmValue),
-    ("entry", " V", WaitingKind::EntryValue),
-    ("frame", " N", WaitingKind::FrameBase),
-    ("tls", " N", WaitingKind::Tls),
-    ("cfa", " N", WaitingKind::CallFrameCfa),
-    ("parameter", " N", WaitingKind::ParameterRef),
-    ("relocated", " N", WaitingKind::RelocatedAddress),
-    ("indexed", " N", WaitingKind::IndexedAddress),
-    ("location", " HEX", WaitingKind::AtLocation),
-    ("type", " T", WaitingKind::BaseType),
-];
+/// What is wrong with a line.
+#[derive(Clone, Copy)]
+pub(crate) enum BadStep {
+    /// It isn't UTF-8, or begins with the name of no step.
+    Unknown,
+    /// It is `evaluate` and a word.
+    NotAlone,
+    /// Its word is no number.
+    Number,
+    /// Its word is no number of 32 bits.
+    Maximum,
+    /// Its word is no value.
+    Value,
+    /// Its word says no bytes.
+    Bytes,
+    /// Its word is no type.
+    Type,
+    /// Its step isn't allowed where the evaluation stands.
+    Misplaced(Status),
+}
+
+/// The number that a word says.
+fn number(word: &str) -> Result<u64, BadStep>
+    ensures { result_ok result ≡ number_in word.now }
+{
+    number_of(word).ok_or(BadStep::Number)
+}
+
+/// The maximum that a word says.
+fn maximum(word: &str) -> Result<u32, BadStep>
+    ensures { result_ok result ≡ option_and_then (below 32) (number_in word.now) }
+{
+    match number_of(word) {
+        Some(number) => u32::try_from(number).map_err(|_| BadStep::Maximum),
+        None => Err(BadStep::Maximum),
+    }
+}
+
+/// The value that a word says.
+fn value(word: &str) -> Result<Value, BadStep>
+    ensures { result_ok result ≡ value_in word.now }
+{
+    value_of(word).ok_or(BadStep::Value)
+}
 
 /// The step of this name, with the word that follows it, unless it has a text.
-fn textless_step(name: &str, word: &str) -> Option<Step<Text<'static>>>
-    ensures { option_map (step_of slice_text) result ≡ spec.textless_step_in name.now word.now }
+fn textless_step(name: &str, word: &str) -> Result<Step<Text<'static>>, BadStep>
+    ensures { option_map (step_of slice_text) (result_ok result)
+        ≡ spec.textless_step_in name.now word.now }
 {
-    Some(match name {
-        "initial" => Step::InitialValue(number_of(word)?),
-        "object" => Step::ObjectAddress(number_of(word)?),
-        "max" => Step::MaxIterations(u32::try_from(number_of(word)?).ok()?),
-        "memory" => Step::Memory(value_of(word)?),
-        "register" => Step::Register(value_of(word)?),
-        "wasm" => Step::WasmValue(value_of(word)?),
-        "entry" => Step::EntryValue(value_of(word)?),
-        "frame" => Step::FrameBase(number_of(word)?),
-        "tls" => Step::Tls(number_of(word)?),
-        "cfa" => Step::CallFrameCfa(number_of(word)?),
-        "parameter" => Step::ParameterRef(number_of(word)?),
-        "relocated" => Step::RelocatedAddress(number_of(word)?),
-        "indexed" => Step::IndexedAddress(number_of(word)?),
-        "type" => Step::BaseType(type_of(word)?),
-        _ => return None,
+    Ok(match name {
+        "evaluate" => return Err(BadStep::NotAlone),
+        "initial" => Step::InitialValue(number(word)?),
+        "object" => Step::ObjectAddress(number(word)?),
+        "max" => Step::MaxIterations(maximum(word)?),
+        "memory" => Step::Memory(value(word)?),
+        "register" => Step::Register(value(word)?),
+        "wasm" => Step::WasmValue(value(word)?),
+        "entry" => Step::EntryValue(value(word)?),
+        "frame" => Step::FrameBase(number(word)?),
+        "tls" => Step::Tls(number(word)?),
+        "cfa" => Step::CallFrameCfa(number(word)?),
+        "parameter" => Step::ParameterRef(number(word)?),
+        "relocated" => Step::RelocatedAddress(number(word)?),
+        "indexed" => Step::IndexedAddress(number(word)?),
+        "type" => Step::BaseType(type_of(word).ok_or(BadStep::Type)?),
+        _ => return Err(BadStep::Unknown),
     })
+}
+
+/// The form of the step that answers a request of this kind.
+pub(crate) fn answer_to(kind: WaitingKind) -> &'static str {
+    match kind {
+        WaitingKind::Memory => "memory V",
+        WaitingKind::Register => "register V",
+        WaitingKind::WasmValue => "wasm V",
+        WaitingKind::EntryValue => "entry V",
+        WaitingKind::FrameBase => "frame N",
+        WaitingKind::Tls => "tls N",
+        WaitingKind::CallFrameCfa => "cfa N",
+        WaitingKind::ParameterRef => "parameter N",
+        WaitingKind::RelocatedAddress => "relocated N",
+        WaitingKind::IndexedAddress => "indexed N",
+        WaitingKind::AtLocation => "location HEX",
+        WaitingKind::BaseType => "type T",
+    }
 }
 
 /// The step of this name, with the word that follows it. A text is read in this order, and kept until the program ends.
@@ -61,15 +112,15 @@ fn named_step<'t, A: Allocator + 't>(
     order: RunTimeEndian,
     name: &str,
     word: &str,
-) -> Result<Step<Text<'t>>, ReadFault>
+) -> Result<Step<Text<'t>>, ReadFault<BadStep>>
     ensures { Reads (step_of slice_text) (spec.named_step_in (is_big_of order) name.now word.now)
         result }
 {
     if name == "location" {
-        let bytes = bytes_of(alloc, word)?.leak();
+        let bytes = bytes_or(alloc, word, BadStep::Bytes)?.leak();
         return Ok(Step::AtLocation(EndianSlice::new(bytes, order)));
     }
-    textless_step(name, word).ok_or(ReadFault::Bad)
+    Ok(textless_step(name, word)?)
 }
 
 /// The step that a text says, in words parted by one space.
@@ -77,7 +128,7 @@ fn text_step<'t, A: Allocator + 't>(
     alloc: A,
     order: RunTimeEndian,
     text: &str,
-) -> Result<Step<Text<'t>>, ReadFault>
+) -> Result<Step<Text<'t>>, ReadFault<BadStep>>
     ensures { Reads (step_of slice_text) (spec.text_step_in (is_big_of order) text.now) result }
 {
     if text == "evaluate" {
@@ -85,7 +136,11 @@ fn text_step<'t, A: Allocator + 't>(
     }
     match text.split_once(' ') {
         Some((name, word)) => named_step(alloc, order, name, word),
-        None => Err(ReadFault::Bad),
+        // No step has an empty word, so this is bad in the way of its word.
+        None => Err(ReadFault::Bad(match named_step(alloc, order, text, "") {
+            Err(ReadFault::Bad(fault)) => fault,
+            _ => BadStep::Unknown,
+        })),
     }
 }
 
@@ -94,31 +149,31 @@ fn step_in<'t, A: Allocator + 't>(
     alloc: A,
     order: RunTimeEndian,
     line: &[u8],
-) -> Result<Step<Text<'t>>, ReadFault>
+) -> Result<Step<Text<'t>>, ReadFault<BadStep>>
     ensures { Reads (step_of slice_text) (spec.step_in (is_big_of order) line.now) result }
 {
     match str::from_utf8(line) {
         Ok(text) => text_step(alloc, order, text),
-        Err(_) => Err(ReadFault::Bad),
+        Err(_) => Err(ReadFault::Bad(BadStep::Unknown)),
     }
 }
 
-/// Why an input gives no steps.
+/// A line that says no step, or one that isn't allowed.
 #[derive(Clone, Copy)]
-pub(crate) enum StepsFault {
-    /// The line of this number, from 1, is no step.
-    Bad(usize),
-    /// There was no memory for them.
-    NoMemory,
+pub(crate) struct BadLine<'a> {
+    /// Its number, from 1.
+    pub(crate) number: usize,
+    pub(crate) text: &'a [u8],
+    pub(crate) fault: BadStep,
 }
 
 /// The steps that the lines of the input say, with their texts read in this order. The first line that is none or finds
 /// no memory decides.
-pub(crate) fn steps_in<'t, A: Allocator + Copy + 't>(
+pub(crate) fn steps_in<'i, 't, A: Allocator + Copy + 't>(
     alloc: A,
     order: RunTimeEndian,
-    input: &[u8],
-) -> Result<Vec<Step<Text<'t>>, A>, StepsFault>
+    input: &'i [u8],
+) -> Result<Vec<Step<Text<'t>>, A>, ReadFault<BadLine<'i>>>
     ensures { ReadsSteps (step_of slice_text)
         (spec.steps_in (is_big_of order) (lines_in input.now)) result }
 {
@@ -128,12 +183,18 @@ pub(crate) fn steps_in<'t, A: Allocator + Copy + 't>(
         let line = first_line(left);
         let step = match step_in(alloc, order, line.text) {
             Ok(step) => step,
-            Err(ReadFault::Bad) => return Err(StepsFault::Bad(steps.len().saturating_add(1))),
-            Err(ReadFault::NoMemory) => return Err(StepsFault::NoMemory),
+            Err(ReadFault::Bad(fault)) => {
+                return Err(ReadFault::Bad(BadLine {
+                    number: steps.len().saturating_add(1),
+                    text: line.text,
+                    fault,
+                }));
+            }
+            Err(ReadFault::NoMemory) => return Err(ReadFault::NoMemory),
         };
         match steps.push(step) {
             Ok(()) => left = line.rest,
-            Err(_) => return Err(StepsFault::NoMemory),
+            Err(_) => return Err(ReadFault::NoMemory),
         }
     }
     Ok(steps)

@@ -1,31 +1,51 @@
-ghost use Rattle.std.specs.Prelude.{◌≡◌, ◌<◌, ◌≤◌, IfOk, IfSome, None, map, string_bytes};
+ghost use Rattle.std.specs.Prelude.{◌≡◌, ◌<◌, ◌≤◌, IfErr, IfOk, None, map, string_bytes};
+ghost use Rattle.std.specs.Result.{result_ok};
 ghost use Rattle.dwexpr.specs.Words.{address_size_in, command_in, format_in, invocation_in, order_in, reading_in, version_in};
 ghost use Rattle.dwexpr.specs.inner.Readings.{Reads, asked_by, texts_of};
 
-use crate::hexadecimal::{ReadFault, bytes_of};
+use crate::hexadecimal::{ReadFault, bytes_or};
 use dwarf_base::{Encoding, Format, RunTimeEndian};
 use std::alloc::Allocator;
 
+/// What is wrong with the words.
+#[derive(Clone, Copy)]
+pub(crate) enum BadWords<'a> {
+    /// There are this many, and not six.
+    Count(usize),
+    /// The first one is no command.
+    Command(&'a str),
+    /// The second one is no size of an address.
+    AddressSize(&'a str),
+    /// The third one is no size of an offset.
+    OffsetSize(&'a str),
+    /// The fourth one is no version.
+    Version(&'a str),
+    /// The fifth one is no byte order.
+    Order(&'a str),
+    /// The sixth one says no bytes.
+    Bytes(&'a str),
+}
+
 /// The six words.
 #[derive(Clone, Copy)]
-pub(crate) struct Words<'a> {
-    pub(crate) command: &'a str,
-    pub(crate) address_size: &'a str,
-    pub(crate) offset_size: &'a str,
-    pub(crate) version: &'a str,
-    pub(crate) order: &'a str,
-    pub(crate) bytes: &'a str,
+struct Words<'a> {
+    command: &'a str,
+    address_size: &'a str,
+    offset_size: &'a str,
+    version: &'a str,
+    order: &'a str,
+    bytes: &'a str,
 }
 
 /// The words, if there are six.
-pub(crate) fn six_words<A: Allocator>(words: &[String<A>]) -> Option<Words<'_>>
-    ensures six { IfSome result (λ six. map string_bytes words.now ≡ texts_of six) }
-    ensures other { result ≡ None → invocation_in (map string_bytes words.now) ≡ None }
+fn six_words<A: Allocator>(words: &[String<A>]) -> Result<Words<'_>, BadWords<'_>>
+    ensures six { IfOk result (λ six. map string_bytes words.now ≡ texts_of six) }
+    ensures other { IfErr result (λ _. invocation_in (map string_bytes words.now) ≡ None) }
 {
     let [command, address_size, offset_size, version, order, bytes] = words else {
-        return None;
+        return Err(BadWords::Count(words.len()));
     };
-    Some(Words {
+    Ok(Words {
         command: command.as_str(),
         address_size: address_size.as_str(),
         offset_size: offset_size.as_str(),
@@ -45,13 +65,13 @@ pub(crate) enum Command {
 }
 
 /// What the first word says.
-pub(crate) fn command_of(word: &str) -> Option<Command>
-    ensures { result ≡ command_in word.now }
+fn command_of(word: &str) -> Result<Command, BadWords<'_>>
+    ensures { result_ok result ≡ command_in word.now }
 {
     match word {
-        "ops" => Some(Command::Ops),
-        "eval" => Some(Command::Eval),
-        _ => None,
+        "ops" => Ok(Command::Ops),
+        "eval" => Ok(Command::Eval),
+        _ => Err(BadWords::Command(word)),
     }
 }
 
@@ -63,69 +83,70 @@ pub(crate) struct Reading {
 }
 
 /// The size of an address, in bytes: `1` to `8`.
-fn address_size(word: &str) -> Option<u8>
-    ensures exact { result ≡ address_size_in word.now }
-    ensures size { IfSome result (λ size. (0 < size) × (size ≤ 8)) }
+fn address_size(word: &str) -> Result<u8, BadWords<'_>>
+    ensures exact { result_ok result ≡ address_size_in word.now }
+    ensures size { IfOk result (λ size. (0 < size) × (size ≤ 8)) }
 {
     match word {
-        "1" => Some(1),
-        "2" => Some(2),
-        "3" => Some(3),
-        "4" => Some(4),
-        "5" => Some(5),
-        "6" => Some(6),
-        "7" => Some(7),
-        "8" => Some(8),
-        _ => None,
+        "1" => Ok(1),
+        "2" => Ok(2),
+        "3" => Ok(3),
+        "4" => Ok(4),
+        "5" => Ok(5),
+        "6" => Ok(6),
+        "7" => Ok(7),
+        "8" => Ok(8),
+        _ => Err(BadWords::AddressSize(word)),
     }
 }
 
 /// The format, by the size of an offset in bytes.
-fn format(word: &str) -> Option<Format>
-    ensures { result ≡ format_in word.now }
+fn format(word: &str) -> Result<Format, BadWords<'_>>
+    ensures { result_ok result ≡ format_in word.now }
 {
     match word {
-        "4" => Some(Format::Dwarf32),
-        "8" => Some(Format::Dwarf64),
-        _ => None,
+        "4" => Ok(Format::Dwarf32),
+        "8" => Ok(Format::Dwarf64),
+        _ => Err(BadWords::OffsetSize(word)),
     }
 }
 
 /// The version of DWARF: `2` to `5`.
-fn version(word: &str) -> Option<u16>
-    ensures { result ≡ version_in word.now }
+fn version(word: &str) -> Result<u16, BadWords<'_>>
+    ensures { result_ok result ≡ version_in word.now }
 {
     match word {
-        "2" => Some(2),
-        "3" => Some(3),
-        "4" => Some(4),
-        "5" => Some(5),
-        _ => None,
+        "2" => Ok(2),
+        "3" => Ok(3),
+        "4" => Ok(4),
+        "5" => Ok(5),
+        _ => Err(BadWords::Version(word)),
     }
 }
 
 /// The byte order: `le` or `be`.
-fn order(word: &str) -> Option<RunTimeEndian>
-    ensures { result ≡ order_in word.now }
+fn order(word: &str) -> Result<RunTimeEndian, BadWords<'_>>
+    ensures { result_ok result ≡ order_in word.now }
 {
     match word {
-        "le" => Some(RunTimeEndian::Little),
-        "be" => Some(RunTimeEndian::Big),
-        _ => None,
+        "le" => Ok(RunTimeEndian::Little),
+        "be" => Ok(RunTimeEndian::Big),
+        _ => Err(BadWords::Order(word)),
     }
 }
 
 /// How the bytes are to be read, by the four words for it.
-pub(crate) fn reading_of(size: &str, offsets: &str, number: &str, bytes: &str) -> Option<Reading>
-    ensures exact { result ≡ reading_in size.now offsets.now number.now bytes.now }
-    ensures sizes { IfSome result
+fn reading_of(words: Words<'_>) -> Result<Reading, BadWords<'_>>
+    ensures exact { result_ok result ≡ reading_in words.entry.address_size.now
+        words.entry.offset_size.now words.entry.version.now words.entry.order.now }
+    ensures sizes { IfOk result
         (λ reading. (0 < reading.encoding.address_size) × (reading.encoding.address_size ≤ 8)) }
 {
-    let address_size = address_size(size)?;
-    let format = format(offsets)?;
-    let version = version(number)?;
-    let order = order(bytes)?;
-    Some(Reading {
+    let address_size = address_size(words.address_size)?;
+    let format = format(words.offset_size)?;
+    let version = version(words.version)?;
+    let order = order(words.order)?;
+    Ok(Reading {
         encoding: Encoding {
             address_size,
             format,
@@ -143,30 +164,33 @@ pub(crate) struct Invocation<A: Allocator> {
     pub(crate) bytes: Vec<u8, A>,
 }
 
-/// What the words ask for. Memory is taken for their bytes alone, if all words are good.
-pub(crate) fn invocation_of<A: Allocator>(
+/// What six words ask for. Memory is taken for their bytes alone, if all words are good.
+fn invocation_of_six<A: Allocator>(
     alloc: A,
     words: Words<'_>,
-) -> Result<Invocation<A>, ReadFault>
+) -> Result<Invocation<A>, ReadFault<BadWords<'_>>>
     ensures exact { Reads asked_by (invocation_in (texts_of words.entry)) result }
     ensures sizes { IfOk result (λ asked.
         (0 < asked.reading.encoding.address_size) × (asked.reading.encoding.address_size ≤ 8)) }
 {
-    let Some(command) = command_of(words.command) else {
-        return Err(ReadFault::Bad);
-    };
-    let Some(reading) = reading_of(
-        words.address_size,
-        words.offset_size,
-        words.version,
-        words.order,
-    ) else {
-        return Err(ReadFault::Bad);
-    };
-    let bytes = bytes_of(alloc, words.bytes)?;
+    let command = command_of(words.command)?;
+    let reading = reading_of(words)?;
+    let bytes = bytes_or(alloc, words.bytes, BadWords::Bytes(words.bytes))?;
     Ok(Invocation {
         command,
         reading,
         bytes,
     })
+}
+
+/// What the words ask for.
+pub(crate) fn invocation_of<A: Allocator>(
+    alloc: A,
+    words: &[String<A>],
+) -> Result<Invocation<A>, ReadFault<BadWords<'_>>>
+    ensures exact { Reads asked_by (invocation_in (map string_bytes words.now)) result }
+    ensures sizes { IfOk result (λ asked.
+        (0 < asked.reading.encoding.address_size) × (asked.reading.encoding.address_size ≤ 8)) }
+{
+    invocation_of_six(alloc, six_words(words)?)
 }

@@ -5,15 +5,14 @@ use Rattle.dwexpr.specs.Endings.{Ending, bad_step, no_memory}
 use Rattle.dwexpr.specs.Words as spec
 use Rattle.dwexpr.specs.declared.hexadecimal.ReadFault.{ReadFault}
 use Rattle.dwexpr.specs.declared.hexadecimal.ReadFault.TheVariants as read
-use Rattle.dwexpr.specs.declared.steps.StepsFault.{StepsFault}
-use Rattle.dwexpr.specs.declared.steps.StepsFault.TheVariants as fault
+use Rattle.dwexpr.specs.declared.steps.BadLine.{BadLine}
 use Rattle.dwexpr.specs.declared.words.Invocation.{Invocation}
 use Rattle.dwexpr.specs.declared.words.Words.{Words}
 
 -- what is read where this is said, or nothing: the same, unless there was no memory for it
-abbrev pub Reads : {X Y : Type 0} → (X → Y) → (said : Option Y) → Result X ReadFault → Type 0
+abbrev pub Reads : {X Y B : Type 0} → (X → Y) → (said : Option Y) → Result X (ReadFault B) → Type 0
 Reads view said (Ok x) = said ≡ Some (view x)
-Reads view said (Err read.Bad) = said ≡ None
+Reads view said (Err (read.Bad bad)) = said ≡ None
 Reads view said (Err read.NoMemory) = IsSome said
 
 -- ---- words
@@ -31,13 +30,13 @@ asked_by x = record { command = x.command; reading = x.reading; bytes = x.bytes.
 -- ---- lines
 
 -- what is read of lines that say these steps, or of which one says none: the same, unless there was no memory
-abbrev pub ReadsSteps : {A B : Type 0} → (A → Step) → (said : Result (List Step) ℕ) → Result (Vec A B) StepsFault
-    → Type 0
+abbrev pub ReadsSteps : {A B : Type 0} → (A → Step) → (said : Result (List Step) ℕ)
+    → Result (Vec A B) (ReadFault BadLine) → Type 0
 ReadsSteps view said (Ok steps) = said ≡ Ok (map view steps.items)
-ReadsSteps view said (Err (fault.Bad number)) = said ≡ Err number
-ReadsSteps view said (Err fault.NoMemory) = Unit {0}
+ReadsSteps view said (Err (read.Bad line)) = said ≡ Err line.number
+ReadsSteps view said (Err read.NoMemory) = Unit {0}
 
 -- why lines give no steps, as it is printed
-abbrev pub bad_steps : StepsFault → Ending
-bad_steps (fault.Bad number) = bad_step number
-bad_steps fault.NoMemory = no_memory
+abbrev pub bad_steps : ReadFault BadLine → Ending
+bad_steps (read.Bad line) = bad_step line.number
+bad_steps read.NoMemory = no_memory

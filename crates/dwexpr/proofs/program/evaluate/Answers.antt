@@ -9,8 +9,8 @@ use Rattle.dwexpr.specs.inner.Outputs.{ending_of}
 use Rattle.dwexpr.proofs.Ending.{evaluates_as, evaluates_to, has_line, text_as, text_by}
 use Rattle.dwexpr.proofs.program.evaluate.Goals as goal
 
-pub print_replay-printed-requires : goal.print_replay-printed-requires
-print_replay-printed-requires g c = has_line slice_text (λ x. x) _ _ _ _ _ _ c.requires.few c.replay-replayed.ensures.replays
+pub print_replay-requires : goal.print_replay-requires
+print_replay-requires g c = has_line slice_text (λ x. x) _ _ _ _ _ _ c.requires.few c.replay-replayed.ensures.replays
 
 pub returns : goal.returns
 returns g c =
@@ -23,5 +23,5 @@ returns g c =
           (evaluates_as _ _ _ _ _ _ _ _ (ap (λ (x : State). x.setup) fresh)
           (ap (λ (x : State). x.text) fresh ∙ text_as _ _ _ _ c.new-text.ensures.bytes c.new-text.ensures.order) (ap log_at fresh)
           (evaluates_to slice_text (λ x. x) _ _ _ _ _ _ c.replay-replayed.ensures.replays)),
-      c.print_replay-printed.ensures,
+      c.print_replay.ensures,
     )

@@ -7,4 +7,4 @@ pub returns-in-OutOfMemory : goal.returns-in-OutOfMemory
 returns-in-OutOfMemory g c = (no_memory, inr (inr refl), c.no_memory.ensures)
 
 pub returns : goal.returns
-returns g c = (no_input, inr (inl refl), (appends_nothing _, refl))
+returns g c = rw c.complain.ensures (no_input, inr (inl refl), (appends_nothing _, refl))

@@ -10,7 +10,7 @@ pub returns-in-Err : goal.returns-in-Err
 returns-in-Err g c = (
   bad_steps c.in-Err.fault,
   follows_refused (step_of slice_text) _ _ _ g.row.A.Denot c.in-Err.fault c.in-Err.ensures,
-  c.print_bad_steps-printed.ensures,
+  c.refuse_lines.ensures,
 )
 
 pub returns-in-Ok : goal.returns-in-Ok

@@ -4,7 +4,7 @@ use Rattle.dwexpr.proofs.words.six_words.Goals as goal
 use Rattle.dwexpr.proofs.words.six_words.Goals.{in_default-via-then-words-lt6, in_default-via-else-words-lt6+else-words-lt7}
 
 pub returns-in_default-clause-other : goal.returns-in_default-clause-other
-returns-in_default-clause-other g c = λ _.
+returns-in_default-clause-other g c =
     not_six _ c.args.words.now
     (elim c.in_default.branch [
       | in_default-via-then-words-lt6 w ↦ λ six. grind (arith, six)

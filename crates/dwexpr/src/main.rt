@@ -10,6 +10,8 @@ mod listing;
 mod numbers;
 mod program;
 mod steps;
+#[cfg(test)]
+mod tests;
 mod values;
 mod words;
 mod writing;

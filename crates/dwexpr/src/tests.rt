@@ -1,0 +1,159 @@
+//! `run` on a reader and on a writer that fail after each number of bytes.
+use crate::explaining::Output;
+use crate::program::run;
+use std::alloc::{AllocError, Global};
+use std::io;
+use std::io::{ErrorKind, Read, Write};
+use std::process::Abort;
+
+/// Gives these bytes, and then ends or fails.
+#[derive(Drop)]
+struct Source<'a> {
+    left: &'a [u8],
+    fails: bool,
+}
+
+impl Read for Source<'_> {
+    fn read(&mut self, buf: &mut [u8]) -> io::Result<usize> {
+        if self.fails && self.left.is_empty() {
+            return Err(io::Error::from(ErrorKind::ConnectionReset));
+        }
+        self.left.read(buf)
+    }
+}
+
+/// Takes this many bytes, and then fails.
+#[derive(Drop)]
+struct Sink {
+    taken: Vec<u8>,
+    room: usize,
+}
+
+impl Write for Sink {
+    fn write(&mut self, buf: &[u8]) -> io::Result<usize> {
+        if self.room == 0 {
+            return Err(io::Error::from(ErrorKind::StorageFull));
+        }
+        let taken = buf.len().min(self.room);
+        self.taken.extend_from_slice(&buf[..taken])?;
+        self.room -= taken;
+        Ok(taken)
+    }
+
+    fn flush(&mut self) -> io::Result<()> {
+        Ok(())
+    }
+}
+
+impl Output for Sink {}
+
+/// The words, the input if it is read, what is printed, and the status.
+struct Row {
+    words: &'static str,
+    input: Option<&'static str>,
+    output: &'static str,
+    status: u8,
+}
+
+static ROWS: [Row; 8] = [
+    Row {
+        words: "ops 4 4 4 le 0a010296a8e50e",
+        input: None,
+        output: "0 0a0102 UnsignedConstant\n3 96 Nop\n4 a8e50e Convert\n",
+        status: 0,
+    },
+    Row {
+        words: "ops 4 4 4 le 3193",
+        input: None,
+        output: "0 31 UnsignedConstant\n1 fault UnexpectedEof\n",
+        status: 1,
+    },
+    Row {
+        words: "eval 9 4 4 le 33",
+        input: None,
+        output: "bad words\n",
+        status: 2,
+    },
+    Row {
+        words: "eval 4 4 4 le 707f",
+        input: Some("evaluate\nregister generic:0x500000000\n"),
+        output: "register 0 0\ncomplete\npiece none none address 0xffffffff\nvalue generic:0xffffffff\n",
+        status: 0,
+    },
+    Row {
+        words: "eval 4 4 4 le 707f",
+        input: Some("evaluate\nmemory generic:0\n"),
+        output: "register 0 0\nmisplaced 2\n",
+        status: 2,
+    },
+    Row {
+        words: "eval 4 4 4 le 9805009304",
+        input: Some("evaluate\nlocation 50\n"),
+        output: "location unit 5\ncomplete\npiece 32 none register 0\nvalue none\n",
+        status: 0,
+    },
+    Row {
+        words: "eval 4 4 4 le 3193049c",
+        input: Some("evaluate\ncfa 1\n"),
+        output: "cfa\nfault InvalidPiece\n",
+        status: 1,
+    },
+    Row {
+        words: "eval 4 4 4 le 31",
+        input: Some("evaluate\ninitial\n"),
+        output: "bad step 2\n",
+        status: 2,
+    },
+];
+
+/// Runs the words, and expects what is printed, and the status.
+fn expect(
+    rt: &impl Abort,
+    alloc: Global,
+    words: &str,
+    (input, room): (Source<'_>, usize),
+    (printed, status): (&[u8], u8),
+) -> Result<(), AllocError> {
+    let mut parted = Vec::new(alloc);
+    for word in words.split(' ') {
+        parted.push(String::from_str(alloc, word)?)?;
+    }
+    let taken = Vec::new(alloc);
+    let mut output = Sink { taken, room };
+    let ended = run(alloc, parted.as_slice(), input, &mut output);
+    assert!(rt;
+        output.taken.as_slice() == printed && ended == status,
+        "{words}"
+    );
+    Ok(())
+}
+
+#[test]
+fn failing_readers_and_writers(rt: HostRuntime) -> Result<(), AllocError> {
+    for row in &ROWS {
+        let printed = row.output.as_bytes();
+        for room in 0..=printed.len() {
+            let input = Source {
+                left: row.input.unwrap_or("").as_bytes(),
+                fails: row.input.is_none(),
+            };
+            let status = if room < printed.len() { 1 } else { row.status };
+            expect(
+                &rt,
+                rt.alloc(),
+                row.words,
+                (input, room),
+                (&printed[..room], status),
+            )?;
+        }
+        let Some(input) = row.input else { continue };
+        for count in 0..=input.len() {
+            let input = Source {
+                left: &input.as_bytes()[..count],
+                fails: true,
+            };
+            expect(&rt, rt.alloc(), row.words, (input, usize::MAX), (&[], 1))?;
+        }
+    }
+    Ok(())
+}

@@ -47,8 +47,8 @@ abbrev pub IsInFault : Fault → Status → Type 0
 IsInFault fault (FaultStatus error) = fault_of error ≡ fault
 IsInFault fault _ = ⊥
 
--- It is where the steps lead: not started yet, in a request, at a fault, or complete with pieces and a value. Until it is
--- over, the settings are the last that were set.
+-- It is where the steps lead: not started yet, in a request, at a fault, or complete with pieces and a value. Until it
+-- is over, the settings are the last that were set.
 abbrev pub StandsAt : Log → State → Option Outcome → Type 0
 StandsAt log x None = (x.status ≡ Start log.now.initial_value) × (x.store.settings ≡ log.now.settings)
 StandsAt log x (Some (RequestOutcome request positions)) =

@@ -55,8 +55,9 @@ pub record IsUnstarted (held : Held) : Type 0 where
 abbrev pub outcome_by : State → Log → Option Outcome
 outcome_by first log = outcome_of first.setup Never first.text log
 
--- These steps were done, each allowed when it came, and led here, as `replay` does them. It stands where they lead, with
--- the last settings unless it met a fault; and what is left gives, for all answers to come, what the meaning gives.
+-- These steps were done, each allowed when it came, and led here, as `replay` does them. It stands where they lead,
+-- with the last settings unless it met a fault; and what is left gives, for all answers to come, what the meaning
+-- gives.
 pub record HasDone (first : State) (steps : List Step) (new : State) : Type 0 where
   pub replies : List Reply
   pub log : Log
@@ -141,7 +142,8 @@ ShowsCall texts (Some (CompleteOutcome pieces value)) out old new =
 ShowsCall texts None out old new = ⊥
 
 -- what a setting shows, by the outcome of all steps: the value and the pieces, or nothing
-abbrev pub ShowsSetting : List DwexprText → Option Outcome → (out : DwexprOutcome) → (old new : List DwexprPiece) → Type 0
+abbrev pub ShowsSetting : List DwexprText → Option Outcome → (out : DwexprOutcome) → (old new : List DwexprPiece)
+    → Type 0
 ShowsSetting texts (Some (CompleteOutcome pieces value)) out old new =
     ShowsCall texts (Some (CompleteOutcome pieces value)) out old new
 ShowsSetting texts _ out old new = (out ≡ blank_outcome) × (new ≡ old)

@@ -27,7 +27,8 @@ code_alone code = record { code = code; number = 0 }
 
 -- a call replied that the evaluation is complete
 abbrev pub Completes : Step → (old new : State) → Type 0
-Completes step old new = HasReplied {R = Placed} {O = ℕ} {P = ℕ} text_of_placed (λ x. x) step old new (Ok replied.Complete)
+Completes step old new =
+    HasReplied {R = Placed} {O = ℕ} {P = ℕ} text_of_placed (λ x. x) step old new (Ok replied.Complete)
 
 -- a call replied a request, and that is shown
 pub record Asks (texts : List DwexprText) (step : Step) (old new : State) (after : DwexprOutcome) : Type 0 where

@@ -63,7 +63,7 @@ REFUSED = [
     ("eval/run/states", "        Ok(*self)", "        // A copy.\n        Ok(*self)", "a comment within what a row"),
     ("op/operations", "from below the address.", "from below it.", "a comment within what a row"),
     ("eval/run/operate", "value.add(addend, self.addr_mask())", "value.add(addend)", "no mask in a call"),
-    ("value/masks", "ensures { Is", "requires { addr_mask ≡ 1 } ensures { Is", "24 preconditions on masks, and 28"),
+    ("value/masks", "ensures { Is", "requires { addr_mask ≡ 1 }\n    ensures { Is", "24 preconditions on masks, and 28"),
     ("value/shifts", "        requires { IsAddressMask addr_mask }\n", "", "23 preconditions on masks, and 27"),
     ("base/reading", "pub trait Reader", "lemma one() {}\n\npub trait Reader", "isn't Rust"),
     ("base/mod", "mod reading;", "mod reading;\nmod writing;", "isn't Rust"),
@@ -206,7 +206,7 @@ def try_folders(folder):
     done = run(made, env={**os.environ, "PATH": str(programs)})
     expect(done.returncode == 0, f"on a PATH of two programs: {done.stderr}")
     files = contents(made)
-    for name in ("Cargo.toml", "README.md", "src/lib.rs", "src/proved/mod.rs", "CHANGELOG.md", "LICENSE-MIT", "LICENSE-APACHE"):
+    for name in "Cargo.toml README.md CHANGELOG.md LICENSE-MIT LICENSE-APACHE src/lib.rs src/proved/mod.rs".split():
         expect(name in files, f"{name} isn't written")
     # What others put there stays, and a file that the crate has no more goes.
     for name in (".git/HEAD", ".cargo/config.toml", "NOTES.txt", "Cargo.lock", "target/kept", "src/proved/another.rs"):

@@ -254,7 +254,8 @@ fn read_rare_operands<R: Reader + Copy>(
         Rare::ImplicitValue => read_in_order(Rare::ImplicitValue, bytes, encoding),
         Rare::EntryValue => read_in_order(Rare::EntryValue, bytes, encoding),
         Rare::TypedLiteral => read_in_order(Rare::TypedLiteral, bytes, encoding),
-        Rare::TypedDeref(space) => read_in_order(Rare::TypedDeref(space), bytes, encoding),
+        Rare::TypedDeref => read_in_order(Rare::TypedDeref, bytes, encoding),
+        Rare::SpaceTypedDeref => read_in_order(Rare::SpaceTypedDeref, bytes, encoding),
         Rare::ImplicitPointer => read_in_order(Rare::ImplicitPointer, bytes, encoding),
         Rare::WasmLocation => read_in_order(Rare::WasmLocation, bytes, encoding),
     }

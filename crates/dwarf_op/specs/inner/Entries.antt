@@ -205,8 +205,10 @@ operands_after rare_entry.EntryValue =
     two_operands (shape.Offset offset_shape.Uleb128) shape.Block from_operands.EntryValue
 operands_after rare_entry.TypedLiteral =
     three_operands (shape.Offset offset_shape.Uleb128) shape.Byte shape.ShortBlock from_operands.TypedLiteral
-operands_after (rare_entry.TypedDeref space) =
-    two_operands shape.Byte (shape.Offset offset_shape.Uleb128) (from_operands.Deref space)
+operands_after rare_entry.TypedDeref =
+    two_operands shape.Byte (shape.Offset offset_shape.Uleb128) (from_operands.Deref false)
+operands_after rare_entry.SpaceTypedDeref =
+    two_operands shape.Byte (shape.Offset offset_shape.Uleb128) (from_operands.Deref true)
 operands_after rare_entry.ImplicitPointer =
     two_operands (shape.Offset offset_shape.Reference) shape.Sleb128 from_operands.ImplicitPointer
 operands_after rare_entry.WasmLocation = two_operands shape.Byte shape.WasmIndex from_operands.WasmLocation

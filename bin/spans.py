@@ -1,5 +1,5 @@
-"""A second reader of the Rattle sources, by another method than that of tokens.py: it goes by how lines begin, and counts
-braces. `bin/crate` keeps no token, and deletes none, unless both readers say so."""
+"""A second reader of the Rattle sources, by another method than that of tokens.py: it goes by how lines begin, and
+counts braces. `bin/crate` keeps no token, and deletes none, unless both readers say so."""
 
 import re
 

@@ -63,7 +63,7 @@ REFUSED = [
     ("eval/run/states", "        Ok(*self)", "        // A copy.\n        Ok(*self)", "a comment within what a row"),
     ("op/operations", "from below the address.", "from below it.", "a comment within what a row"),
     ("eval/run/operate", "value.add(addend, self.addr_mask())", "value.add(addend)", "no mask in a call"),
-    ("value/masks", "ensures { Is", "requires { addr_mask ≡ 1 }\n    ensures { Is", "24 preconditions on masks, and 28"),
+    ("value/masks", "ensures { Is", "requires { addr_mask ≡ 1 }\n    ensures { Is", "masks, and 28 others"),
     ("value/shifts", "        requires { IsAddressMask addr_mask }\n", "", "23 preconditions on masks, and 27"),
     ("base/reading", "pub trait Reader", "lemma one() {}\n\npub trait Reader", "isn't Rust"),
     ("base/mod", "mod reading;", "mod reading;\nmod writing;", "isn't Rust"),
@@ -156,8 +156,9 @@ def try_wrong_deletions(folder):
     tokens.Source.delete = delete
     # What is left is Rust that means the same.
     attribute = tokens.Source.attribute
+    inline = ["#", "[", "inline", "]"]
     tokens.Source.attribute = lambda source, at: (
-        delete(source, at, at + 3, "") if source.words(at, at + 3) == ["#", "[", "inline", "]"] else attribute(source, at)
+        delete(source, at, at + 3, "") if source.words(at, at + 3) == inline else attribute(source, at)
     )
     said = written(TOP / "crates", folder / "wrong")
     tokens.Source.attribute = attribute

@@ -5,7 +5,14 @@
  *     ./expressions FILE..
  *
  * The last line counts. The status is 1 if an operation that both decode differs. */
+#include <dwarf.h>
+#include <fcntl.h>
+#include <stdio.h>
+#include <string.h>
+#include <unistd.h>
+
 #include "dwexpr_libdw.h"
+#include "dwexpr_names.h"
 
 static const char *file;
 static dwexpr_encoding encoding;
@@ -183,20 +190,16 @@ static void compare(const uint8_t *bytes, size_t length, const Dwarf_Op *theirs,
 
 static void compare_list(Dwarf_Attribute *attribute)
 {
+    static uint8_t bytes[1 << 16];
     Dwarf_Addr base, first, last;
     Dwarf_Op *theirs;
-    size_t count;
+    size_t count, length;
     ptrdiff_t place = 0;
-    while ((place = dwarf_getlocations(attribute, place, &base, &first, &last, &theirs, &count)) > 0) {
-        dwexpr_libdw_text expression;
-        memset(&expression, 0, sizeof expression);
-        expression.encoding = encoding;
-        if (dwexpr_libdw_from_operations(theirs, count, &expression))
+    while ((place = dwarf_getlocations(attribute, place, &base, &first, &last, &theirs, &count)) > 0)
+        if (dwexpr_libdw_encode(theirs, count, encoding, bytes, sizeof bytes, &length) || length > sizeof bytes)
             printf("%s: an expression can't be put together\n", file);
         else
-            compare(expression.text.bytes, expression.text.length, theirs, count, 0);
-        dwexpr_libdw_free(expression.memory);
-    }
+            compare(bytes, length, theirs, count, 0);
     refused_lists += place < 0;
 }
 

@@ -1,14 +1,19 @@
-/* Prints the variables of each frame of a stopped process or a core dump, with their values.
+/* Prints the variables of each thread, frame and inlined function of a stopped process or a core dump.
  *     cc where.c $(pkg-config --cflags --libs dwexpr-libdw) -o where
  *     ./where --pid PID                 or    ./where --core FILE [PROGRAM] */
+#include <dwarf.h>
+#include <inttypes.h>
+#include <stdio.h>
+#include <stdlib.h>
+#include <string.h>
 #include "dwexpr_libdw.h"
 
 static void print_bytes(const uint8_t *bytes, const uint8_t *unknown, size_t size, Dwarf_Word encoding)
 {
     const int shift = size < 8 ? 64 - 8 * (int)size : 0;
     uint64_t number = 0;
-    size_t i, known = 0;
-    while (known < size && !unknown[known])
+    size_t i, known;
+    for (known = 0; known < size && !unknown[known];)
         known++;
     memcpy(&number, bytes, size < 8 ? size : 8);
     if (known < size || size > 8)
@@ -24,67 +29,72 @@ static void print_bytes(const uint8_t *bytes, const uint8_t *unknown, size_t siz
 static void print_variable(dwexpr_libdw_frame *frame, Dwarf_Die *variable)
 {
     static uint8_t bytes[4096], unknown[4096];
-    dwexpr_libdw_value value;
+    dwexpr_libdw_value *value;
     Dwarf_Attribute attribute;
     Dwarf_Die type;
     Dwarf_Word size, encoding = 0;
-    int code;
-    if (!dwarf_diename(variable) || dwexpr_libdw_type(variable, &type) || dwarf_aggregate_size(&type, &size) ||
-        size == 0 || size > sizeof bytes)
+    uint32_t code;
+    if (!dwarf_diename(variable) || dwexpr_libdw_type(variable, &type) ||
+        dwexpr_libdw_size(frame, &type, NULL, &size) || size == 0 || size > sizeof bytes)
         return;
     dwarf_formudata(dwarf_attr(&type, DW_AT_encoding, &attribute), &encoding);
     memset(unknown, 0xff, size);
     code = dwexpr_libdw_variable(frame, variable, &value);
     if (!code)
-        code = dwexpr_libdw_read(frame, &value, 8 * size, bytes, unknown);
+        code = dwexpr_libdw_read(frame, value, 8 * size, bytes, unknown);
     printf("%s = ", dwarf_diename(variable));
     if (unknown[0] != 0xff || memcmp(unknown, unknown + 1, size - 1))
         print_bytes(bytes, unknown, size, encoding);
     else if (code == DWEXPR_LIBDW_IMPLICIT_POINTER)
-        printf("points into <0x%" PRIx64 "> + %" PRId64 "\n", value.pieces[0].number, value.pieces[0].byte_offset);
+        printf("points into <0x%" PRIx64 "> + %" PRId64 "\n", value->pieces[0].number, value->pieces[0].byte_offset);
     else
-        printf("%s%s\n", code < 0 ? "unknown: " : "", dwexpr_libdw_code_name(code));
-    dwexpr_libdw_release(&value);
+        printf("%s%s\n", code > DWEXPR_LIBDW_WANTS ? "unknown: " : "", dwexpr_libdw_code_name(code));
+    dwexpr_libdw_release(value);
 }
 
-/* The variables of a function at a frame's place, after those of the functions that are inlined there. */
-static void print_frame(dwexpr_libdw_frame *frame)
+/* The variables of the functions at a frame's place, those of inlined functions first. */
+static void print_frame(size_t number, dwexpr_libdw_frame *frame)
 {
-    Dwarf_Die *scopes, entry;
-    int i, first = 0, more, tag, count = dwexpr_libdw_scopes(frame, &scopes);
+    dwexpr_libdw_place place;
+    dwexpr_libdw_entry *entries;
+    size_t count, i;
+    dwexpr_libdw_locate(frame, &place);
+    printf("#%zu 0x%" PRIx64 "\n", number, place.pc);
+    dwexpr_libdw_variables(frame, &entries, &count);
     for (i = 0; i < count; i++) {
-        tag = dwarf_tag(&scopes[i]);
-        if (tag != DW_TAG_subprogram && tag != DW_TAG_inlined_subroutine)
-            continue;
-        printf("in %s\n", dwarf_diename(&scopes[i]) ? dwarf_diename(&scopes[i]) : "?");
-        for (; first <= i; first++)
-            for (more = dwarf_child(&scopes[first], &entry); more == 0; more = dwarf_siblingof(&entry, &entry))
-                if (dwarf_tag(&entry) == DW_TAG_variable || dwarf_tag(&entry) == DW_TAG_formal_parameter)
-                    print_variable(frame, &entry);
-        if (tag == DW_TAG_subprogram)
-            break;
+        const int tag = dwarf_tag(&entries[i].entry);
+        const char *name = dwarf_diename(&entries[i].entry);
+        if (tag == DW_TAG_variable || tag == DW_TAG_formal_parameter)
+            print_variable(frame, &entries[i].entry);
+        else
+            printf("in %s\n", name ? name : "?");
     }
-    free(scopes);
+    free(entries);
 }
 
 int main(int argc, char **argv)
 {
-    dwexpr_libdw_stack stack;
-    int code = DWEXPR_LIBDW_NO_TARGET;
-    size_t i;
+    dwexpr_libdw_target *target = NULL;
+    dwexpr_libdw_stack *stack;
+    dwexpr_libdw_frame *frame;
+    const pid_t *threads;
+    size_t i, j;
+    uint32_t code = DWEXPR_LIBDW_NO_TARGET;
     if (argc == 3 && !strcmp(argv[1], "--pid"))
-        code = dwexpr_libdw_open_process(&stack, (pid_t)atol(argv[2]));
+        code = dwexpr_libdw_open_process((pid_t)atol(argv[2]), &target);
     else if ((argc == 3 || argc == 4) && !strcmp(argv[1], "--core"))
-        code = dwexpr_libdw_open_core(&stack, argv[2], argv[3]);
+        code = dwexpr_libdw_open_core(argv[2], argv[3], &target);
     else
         fprintf(stderr, "usage: %s --pid PID | --core FILE [PROGRAM]\n", argv[0]);
-    for (i = 0; !code && i < stack.length; i++) {
-        printf("#%zu 0x%" PRIx64 "\n", i, stack.frames[i].pc);
-        print_frame(&stack.frames[i]);
+    for (i = 0; target && i < dwexpr_libdw_threads(target, &threads); i++) {
+        printf("thread %ld\n", (long)threads[i]);
+        code = dwexpr_libdw_unwind(target, threads[i], 100000, &stack);
+        for (j = 0; (frame = dwexpr_libdw_frame_at(stack, j)) != NULL; j++)
+            print_frame(j, frame);
+        dwexpr_libdw_free_stack(stack);
     }
     if (code)
         fprintf(stderr, "%s\n", dwexpr_libdw_code_name(code));
-    else
-        dwexpr_libdw_close(&stack);
+    dwexpr_libdw_close(target);
     return code ? 2 : 0;
 }

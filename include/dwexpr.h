@@ -27,6 +27,7 @@
 #include <stdint.h>
 
 #define DWEXPR_VERSION "0.1.0"
+#define DWEXPR_VERSION_NUMBER 100 /* 10,000 times the first number, 100 times the second, and the third */
 
 #ifdef __cplusplus
 extern "C" {
@@ -67,7 +68,8 @@ enum dwexpr_code {
     DWEXPR_MISPLACED = 68,                      /* evaluate: the step isn't allowed where it stands */
     DWEXPR_LOST_TEXT = 69,                      /* resume: the texts lack bytes of an earlier one */
     DWEXPR_TOO_MANY_TEXTS = 70,                 /* run: more texts are called than there is room for */
-    DWEXPR_BAD_VALUE = 71                       /* value: no such operation, type, byte order or mask */
+    DWEXPR_BAD_VALUE = 71,                      /* value: no such operation, type, byte order or mask */
+    DWEXPR_REFUSED = 72                         /* run: a callback refused */
 };
 
 /* How to read an expression, from the header of its unit. */
@@ -450,6 +452,7 @@ static inline const char *dwexpr_code_name(uint32_t code)
     case DWEXPR_LOST_TEXT: return "a text of before isn't there";
     case DWEXPR_TOO_MANY_TEXTS: return "too many texts are called";
     case DWEXPR_BAD_VALUE: return "no such operation, type or mask";
+    case DWEXPR_REFUSED: return "a callback refused";
     default: return NULL;
     }
 }

@@ -3,11 +3,13 @@
 
 It wants cc, gdb with Python and libdw, and gcc or clang. Each program of tests/stopped is built at -O0 to -O3 in
 versions 4 and 5 of DWARF, and stopped at each of its places; words choose programs, compilers, levels and versions, as
-pieces gcc -O0 -O2 -gdwarf-5. At each place `where` prints the stopped process. The process then goes on to its end by
-the same signal, and `where` prints the core dump that the kernel writes.
+pieces.c gcc -O0 -O2 -gdwarf-5. Some are also built with split debug information, link-time optimization, type units, the
+64-bit format and for i386, if the compiler can. At each place `where` prints the stopped process. The process then goes
+on to its end by the same signal, and `where` prints the core dump that the kernel writes.
 
-Variables of the innermost function and of its callers up to three levels are compared bit for bit, but for padding.
-Each variable that differs is a line. The status is 1 if one differs, and 2 if nothing was compared.
+Variables of each thread are compared, of the innermost function and of its callers up to three levels, or all, bit for
+bit, but for padding. Each variable that differs is a line. The status is 1 if one differs, and 2 if nothing was
+compared.
 """
 
 import collections
@@ -27,44 +29,92 @@ import time
 
 sys.dont_write_bytecode = True
 from checks import commands  # noqa: E402
+
+import libraries  # noqa: E402
 from commands import TOP  # noqa: E402
 
 ARCHIVE = TOP / "crates" / "dwexpr_c" / "out" / "libdwexpr_c.a"
-LEVELS = 4
-SOURCES = {path.stem: path for path in sorted((TOP / "tests" / "stopped").glob("*.c"))}
-COMPILERS = ["gcc", "clang"]
+SOURCES = {path.stem + path.suffix: path for path in sorted((TOP / "tests" / "stopped").iterdir())}
+COMPILERS = {".c": ["gcc", "clang"], ".cpp": ["g++", "clang++"], ".rs": ["rustc"]}
 OPTIMIZATIONS = ["-O0", "-O1", "-O2", "-O3"]
 VERSIONS = ["-gdwarf-4", "-gdwarf-5"]
+# How many frames of a thread are compared.
+LEVELS = {"deep.c": 400}
+FEW_LEVELS = 4
+NO_LISTS = ("clang", "-gdwarf-5", "-gsplit-dwarf")
+# What else is built: a source, a compiler, and its words. A compiler that doesn't know them is left out.
+OTHERS = [
+    (source, compiler, [optimization, *words])
+    for words in [
+        ["-gdwarf-4", "-gsplit-dwarf"],
+        ["-gdwarf-5", "-gsplit-dwarf"],
+        ["-gdwarf-5", "-flto"],
+        ["-gdwarf-4", "-fdebug-types-section"],
+        ["-gdwarf-5", "-fdebug-types-section"],
+        ["-gdwarf-5", "-gdwarf64"],
+        ["-gdwarf-5", "-m32"],
+    ]
+    for source, compiler in [("pieces.c", "gcc"), ("pieces.c", "clang"), ("scopes.cpp", "g++"), ("scopes.cpp", "clang++")]
+    # gdb 13 takes registers on entry of an inlined function on i386 as they are now, and doesn't find the location lists
+    # of clang's split debug information of version 5
+    for optimization in (["-O0"] if "-m32" in words or (compiler[:5], *words) == NO_LISTS else ["-O0", "-O2"])
+]
+# What the gate compares: of each source, each compiler and each kind of debug information something.
+GATE = [
+    ("pieces.c", "gcc", ["-O0", "-gdwarf-5"]),
+    ("pieces.c", "gcc", ["-O1", "-gdwarf-5"]),
+    ("pieces.c", "gcc", ["-O2", "-gdwarf-5"]),
+    ("scopes.cpp", "g++", ["-O1", "-gdwarf-5"]),
+    ("scopes.cpp", "clang++", ["-O0", "-gdwarf-4"]),
+    ("scopes.rs", "rustc", ["-O0", "-gdwarf-4"]),
+    ("deep.c", "gcc", ["-O1", "-gdwarf-5"]),
+    ("signals.c", "gcc", ["-O2", "-gdwarf-5"]),
+    ("signals.c", "clang", ["-O2", "-gdwarf-5"]),
+    ("threads.c", "gcc", ["-O2", "-gdwarf-5"]),
+    ("registers.c", "gcc", ["-O0", "-gdwarf-5"]),
+    ("registers.c", "gcc", ["-O2", "-gdwarf-4"]),
+    *[job for job in OTHERS if job[:2] == ("pieces.c", "gcc") and job[2][0] == "-O0" and "-flto" not in job[2]],
+    *[job for job in OTHERS if job[:2] == ("pieces.c", "gcc") and job[2] == ["-O2", "-gdwarf-5", "-flto"]],
+]
 
-# Runs in gdb: prints a line of JSON for each place, with the variables of each frame: its level, the function, a name,
-# and bits as numbers: of the variable's value, which of them are known, and which were optimized away.
+# Runs in gdb: prints a line of JSON for each place, with the variables of each frame: its thread, its level, which of
+# the functions that are inlined there, the function, a name, and bits as numbers: of the variable's value, which of
+# them are known, and which were optimized away.
 IN_GDB = r"""
 import gdb, json, struct
 WHOLE = {gdb.TYPE_CODE_INT, gdb.TYPE_CODE_CHAR, gdb.TYPE_CODE_BOOL, gdb.TYPE_CODE_ENUM, gdb.TYPE_CODE_PTR}
+REFERENCES = {gdb.TYPE_CODE_REF, gdb.TYPE_CODE_RVALUE_REF}
 FLOATS = {4: ("f", "I"), 8: ("d", "Q")}
+LONG_DOUBLE = 80
 def number_of(value, kind):
     if kind.code == gdb.TYPE_CODE_PTR and "synthetic pointer" in value.format_string():
         return None
-    if kind.code == gdb.TYPE_CODE_FLT:
+    if kind.code in REFERENCES:
+        if "synthetic pointer" in value.format_string():
+            return None
+        return int(value.referenced_value().address)
+    if kind.code == gdb.TYPE_CODE_FLT and kind.sizeof in FLOATS:
         form, whole = FLOATS[kind.sizeof]
         return struct.unpack("<" + whole, struct.pack("<" + form, float(value)))[0]
-    return int(value)
+    return int(value.format_string(format="x"), 16) if kind.code == gdb.TYPE_CODE_FLT else int(value)
 def parts(value, place, size):
     kind = value.type.strip_typedefs()
-    if kind.code in WHOLE or kind.code == gdb.TYPE_CODE_FLT and kind.sizeof in FLOATS:
+    if kind.code in WHOLE | REFERENCES or kind.code == gdb.TYPE_CODE_FLT and kind.sizeof in (4, 8, 12, 16):
         try:
             number = None if value.is_optimized_out else number_of(value, kind)
         except gdb.error as error:
             if "optimized out" not in str(error):
                 raise
             number = None
-        yield place, size or 8 * kind.sizeof, number
+        bits = LONG_DOUBLE if kind.code == gdb.TYPE_CODE_FLT and kind.sizeof > 8 else 8 * kind.sizeof
+        yield place, size or bits, number
     elif kind.code == gdb.TYPE_CODE_ARRAY:
         for index in range(kind.range()[1] + 1):
             yield from parts(value[index], place + 8 * index * kind.target().sizeof, 0)
     elif kind.code == gdb.TYPE_CODE_STRUCT:
         for field in kind.fields():
-            yield from parts(value[field], place + field.bitpos, field.bitsize)
+            if hasattr(field, "bitpos"):
+                yield from parts(value[field], place + field.bitpos, field.bitsize)
 def content(value):
     bits = known = lost = 0
     for place, size, number in parts(value, 0, 0):
@@ -75,35 +125,50 @@ def content(value):
             known |= mask
             bits |= number << place & mask
     return bits, known, lost
-def variables(frame, level):
+def variables(frame, *place):
     block = frame.block()
     while block is not None and not block.is_global and not block.is_static:
         for symbol in block:
-            if symbol.is_variable or symbol.is_argument:
-                kind = symbol.type.strip_typedefs()
+            # that one of libc has numbers that differ in each process
+            if (symbol.is_variable or symbol.is_argument) and symbol.name != "unwind_buf":
+                size = symbol.type.strip_typedefs().sizeof
                 try:
-                    found = content(symbol.value(frame))
+                    value = symbol.value(frame)
+                    size = value.type.sizeof
+                    found = content(value)
                 except gdb.error as error:
                     found = str(error)
-                yield level, frame.name(), symbol.name, kind.sizeof, found
+                yield *place, frame.name(), symbol.name, size, found
         if block.function:
             break
         block = block.superblock
-gdb.execute("set backtrace past-main on")
-for place in range(1, PLACES + 1):
-    gdb.execute("run %d" % place, to_string=True)
-    found, level = [], 0
-    try:
-        frame = gdb.newest_frame()
-    except gdb.error:
-        continue
-    while frame is not None and level < LEVELS and frame.find_sal().symtab is not None:
-        found += variables(frame, level)
-        level += frame.type() != gdb.INLINE_FRAME
-        if frame.name() == "main":
+def of_thread(thread):
+    level, inlined = 0, []
+    frame = gdb.newest_frame()
+    while frame is not None and level < LEVELS:
+        kind = frame.type()
+        if kind not in (gdb.SIGTRAMP_FRAME, gdb.TAILCALL_FRAME):
+            if frame.find_sal().symtab is None:
+                break
+            inlined.append(frame)
+        if kind not in (gdb.INLINE_FRAME, gdb.TAILCALL_FRAME):
+            # gdb hides a function if it stops where it is inlined: so they are counted from the outermost one
+            for number, each in enumerate(reversed(inlined)):
+                yield from variables(each, thread, level, number)
+            level, inlined = level + 1, []
+        if (frame.name() or "").split("::")[-1] == "main":
             break
         frame = frame.older()
-    print("@@" + json.dumps([place, found]))
+gdb.execute("set backtrace past-main on")
+gdb.execute("handle SIGSEGV SIGALRM nostop noprint pass", to_string=True)
+for place in range(1, PLACES + 1):
+    gdb.execute("run %d" % place, to_string=True)
+    found = []
+    for number, thread in enumerate(sorted(gdb.selected_inferior().threads(), key=lambda it: it.num)):
+        thread.switch()
+        found += of_thread(number)
+    if found:
+        print("@@" + json.dumps([place, found]))
 """
 
 
@@ -112,9 +177,9 @@ def run(words, **more):
     return subprocess.run(words, text=True, capture_output=True, errors="replace", timeout=300, **more)
 
 
-def of_gdb(program, places, folder):
+def of_gdb(program, places, levels, folder):
     script = folder / "in_gdb.py"
-    script.write_text(IN_GDB.replace("PLACES", str(places)).replace("LEVELS", str(LEVELS)))
+    script.write_text(IN_GDB.replace("PLACES", str(places)).replace("LEVELS", str(levels)))
     words = ["gdb", "-nx", "-batch", "-ex", "set exec-wrapper env -i", "-x", script, program]
     lines = run(words).stdout.splitlines()
     return dict(json.loads(line[2:]) for line in lines if line.startswith("@@"))
@@ -136,17 +201,20 @@ def be_traced():
 
 
 def stopped(words, folder):
-    """A process that has stopped at its first signal, and isn't traced any more; None if it ended before."""
+    """A process that has stopped at SIGILL, and isn't traced any more; None if it ended before."""
     nothing = subprocess.DEVNULL
     process = subprocess.Popen(
         [str(word) for word in words], preexec_fn=be_traced, env={}, cwd=folder, stdout=nothing, stderr=nothing
     )
     os.waitpid(process.pid, 0)
-    LIBC.ptrace(CONTINUE, process.pid, None, None)
-    status = os.waitpid(process.pid, 0)[1]
-    if not os.WIFSTOPPED(status):
-        process.returncode = 0
-        return None
+    passed = 0
+    while passed != signal.SIGILL:
+        LIBC.ptrace(CONTINUE, process.pid, None, passed)
+        status = os.waitpid(process.pid, 0)[1]
+        if not os.WIFSTOPPED(status):
+            process.returncode = 0
+            return None
+        passed = os.WSTOPSIG(status)
     LIBC.ptrace(DETACH, process.pid, None, signal.SIGSTOP)
     while "T (stopped)" not in pathlib.Path(f"/proc/{process.pid}/status").read_text():
         time.sleep(0.001)
@@ -161,16 +229,23 @@ def dumped(process, folder):
 
 
 def of_where(lines):
-    """The variables by level, function and name, in order: what is printed of each."""
-    found, level, function = collections.defaultdict(list), 0, None
+    """The variables by thread, level, inlined function and name, in order: what is printed of each."""
+    found, frames = collections.defaultdict(list), []
     for line in lines:
-        if frame := re.fullmatch(r"#(\d+) 0x[0-9a-f]+", line):
-            level = int(frame[1])
+        if line.startswith("thread "):
+            thread = int(line.split()[1])
+        elif frame := re.fullmatch(r"#(\d+) 0x[0-9a-f]+", line):
+            frames.append((thread, int(frame[1]), []))
         elif line.startswith("in "):
-            function = line.removeprefix("in ")
+            frames[-1][2].append([])
         else:
-            name, _, text = line.partition(" = ")
-            found[level, function, name].append(text)
+            frames[-1][2][-1].append(line.partition(" = ")[::2])
+    # of a core dump the thread that crashed comes first; their numbers are in the order in which they began
+    order = sorted({thread for thread, _, _ in frames})
+    for thread, level, functions in frames:
+        for number, function in enumerate(reversed(functions)):
+            for name, text in function:
+                found[order.index(thread), level, number, name].append(text)
     return found
 
 
@@ -201,6 +276,15 @@ CHANGED = "in a register that a call may change, refused here alone"
 # An operation on a generic value and one of a base type, which DWARF 5 (section 2.5.1.4) doesn't allow. gdb takes both
 # as one type if they have the same size and sign. LLVM 14 writes such expressions.
 MIXED = "of two types, refused here alone"
+# gdb takes the variable that an implicit pointer points into from the wrong place.
+LOST = "known here alone, as gdb doesn't find what a pointer points into"
+# GCC 12 writes addresses for offsets in split debug information. gdb takes them, and reads other memory.
+NO_OFFSET = "in thread-local storage at a wrong offset, refused here alone"
+# Functions call each other by tail calls. gdb takes what the first one was given, if it is in LLVM's form.
+CHANGED_ON_THE_WAY = "on entry of a function that calls itself by tail calls, refused here alone"
+# gdb stops after 256 expressions. The variables of tests/stopped/deep.c are known by the level.
+BEYOND = "known here alone, as the source says, after more expressions than gdb evaluates"
+OF_LEVEL = {("deep", "n"): lambda level: level, ("deep", "step"): lambda level: 302 - level}
 # LLVM leaves out the last pieces of a static struct.
 NO_PIECE = "equal, but for bits without a piece, where gdb has zeros"
 
@@ -209,6 +293,8 @@ def kind_of(theirs, text, size, level):
     """What the two say of a variable, in words. gdb also names variables of an inlined function that have no value."""
     ours, unknown = bits_of(text, size)
     is_unknown = unknown == (1 << 8 * size) - 1
+    if isinstance(theirs, str) and theirs.startswith("invalid dwarf2 offset"):
+        return LOST
     if isinstance(theirs, str):
         return "refused by both" if is_unknown else "different"
     bits, known, lost = theirs
@@ -227,28 +313,45 @@ def kind_of(theirs, text, size, level):
 
 def compare(name, variables, ours, sums):
     lines = []
-    for level, function, variable, size, theirs in variables:
-        known = ours[level, function, variable]
+    for thread, level, inlined, function, variable, size, theirs in variables:
+        known = ours[thread, level, inlined, variable]
         said = known.pop(0) if known else "nothing"
         what = kind_of(theirs, said, size, level)
+        if what == "different" and (function, variable) in OF_LEVEL and (isinstance(theirs, str) or not theirs[1]):
+            what = BEYOND if said == str(OF_LEVEL[function, variable](level)) else what
+        if what == "different" and said == "unknown: thread-local storage" and "gcc" in name and "-gsplit" in name:
+            what = NO_OFFSET
+        if what == "different" and function == "even" and said == "unknown: an entry value":
+            what = CHANGED_ON_THE_WAY
         sums[what] += 1
-        if what not in SAME | {CHANGED, MIXED, NO_PIECE}:
+        if what not in SAME | {CHANGED_ON_THE_WAY, CHANGED, MIXED, NO_PIECE, BEYOND, LOST, NO_OFFSET}:
             lines.append(f"{name}, level {level}: {function}: {variable}: gdb {theirs}, here {said}")
     return lines
 
 
-def compare_program(where, source, compiler, level, version):
+def build_words(source, compiler, words):
+    """The call of a compiler, but for the program's name."""
+    if compiler == "rustc":
+        words = [word.replace("-O", "-Copt-level=") for word in words if not word.startswith("-gdwarf")]
+        return [compiler, "-g", "-Ccodegen-units=1", *words, source, "-o"]
+    threads = ["-pthread"] if "pthread" in source.read_text() else []
+    return [compiler, "-g", *words, *threads, source, "-o"]
+
+
+def compare_program(where, source, compiler, words):
     """Compares one program at each of its places: the sums for the process and the core dump, and lines to print."""
     sums = {"process": collections.Counter(), "core dump": collections.Counter()}
     lines = []
-    places = max(int(number) for number in re.findall(r"STOP\((\d+)\)", source.read_text()))
+    places = max(int(number) for number in re.findall(r"(?i)stop!?\((\d+)\)", source.read_text()))
     with tempfile.TemporaryDirectory() as made:
         folder = pathlib.Path(made)
         program = folder / "stopped"
-        if run([compiler, level, "-g", version, source, "-o", program]).returncode != 0:
-            return sums, [f"{source.stem} isn't built by {compiler}"]
-        for place, variables in of_gdb(program, places, folder).items():
-            name = f"{source.stem} {compiler} {level} {version}, place {place}"
+        built = run([*build_words(source, compiler, words), program], cwd=folder)
+        if built.returncode != 0:
+            return sums, [f"left out: {source.name} by {compiler} {' '.join(words)}: it isn't built"]
+        levels = LEVELS.get(source.name, FEW_LEVELS)
+        for place, variables in of_gdb(program, places, levels, folder).items():
+            name = f"{source.name} {compiler} {' '.join(words)}, place {place}"
             process = stopped([program, place], folder)
             if not process:
                 continue
@@ -262,40 +365,58 @@ def compare_program(where, source, compiler, level, version):
     return sums, lines
 
 
-def compare_all(where, words):
-    """Compares the programs that the words choose: the sums, for the process and the core dump."""
-
-    def chosen(names):
-        return [name for name in names if name in words] or names
-
+def compare_all(where, jobs):
+    """Compares programs: the sums, for the process and the core dump."""
     sums = {"process": collections.Counter(), "core dump": collections.Counter()}
-    jobs = [
-        (where, SOURCES[stem], compiler, level, version)
-        for stem in chosen(list(SOURCES))
-        for compiler in filter(shutil.which, chosen(COMPILERS))
-        for level in chosen(OPTIMIZATIONS)
-        for version in chosen(VERSIONS)
-    ]
     with concurrent.futures.ProcessPoolExecutor() as pool:
-        for found, lines in pool.map(compare_program, *zip(*jobs)):
+        for found, lines in pool.map(compare_program, *zip(*[(where, SOURCES[it[0]], *it[1:]) for it in jobs])):
             for what, counted in found.items():
                 sums[what] += counted
             print(*lines, sep="\n", end="\n" if lines else "", flush=True)
     return sums
 
 
+def jobs_of(words):
+    """What the words choose of all that can be built."""
+
+    def chosen(names):
+        return [name for name in names if name in words] or names
+
+    jobs = [
+        (source, compiler, [optimization, version])
+        for source in SOURCES
+        for compiler in COMPILERS[pathlib.Path(source).suffix]
+        for optimization in OPTIMIZATIONS
+        for version in (VERSIONS if compiler != "rustc" else VERSIONS[:1])
+    ]
+    every = {word for source, compiler, options in [*jobs, *OTHERS] for word in [source, compiler, *options]}
+    if unknown := set(words) - every:
+        raise commands.Failure(f"unknown word: {unknown.pop()}", status=2)
+    kinds = [list(SOURCES), sum(COMPILERS.values(), []), OPTIMIZATIONS, VERSIONS]
+    kinds.append([word for word in words if word not in sum(kinds, [])])
+    wanted = [set(chosen(kind)) for kind in kinds[:4]]
+    others = set(kinds[4])
+    return [
+        (source, compiler, options)
+        for source, compiler, options in [*jobs, *OTHERS]
+        if shutil.which(compiler)
+        and source in wanted[0]
+        and compiler in wanted[1]
+        and options[0] in wanted[2]
+        and options[1] in wanted[3]
+        and (not others or others & set(options))
+    ]
+
+
 def main():
     parser = commands.parser(__doc__)
     _, words = parser.parse_known_args()
-    if unknown := set(words).difference(SOURCES, COMPILERS, OPTIMIZATIONS, VERSIONS):
-        parser.error(f"unknown word: {unknown.pop()}")
+    jobs = jobs_of(words)
     with tempfile.TemporaryDirectory() as made:
         where = pathlib.Path(made) / "where"
-        links = [f"-I{TOP / 'include'}", TOP / "examples/where.c", ARCHIVE, "-ldw", "-lelf", "-o", where]
-        if run(["cc", "-std=c11", "-O2", *links]).returncode != 0:
-            print("examples/where.c isn't built: it wants libdw and crates/dwexpr_c/out/libdwexpr_c.a")
-            return 2
-        sums = compare_all(where, words)
+        links = [libraries.build("libdw", where.parent, "-O2"), ARCHIVE, "-ldw", "-lelf", "-o", where]
+        commands.run("cc", "-std=c11", "-O2", f"-I{TOP / 'include'}", TOP / "examples/where.c", *links)
+        sums = compare_all(where, jobs)
     for what, counted in sums.items():
         for kind, count in counted.most_common():
             print(f"{what}: {count} {kind}")

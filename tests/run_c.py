@@ -24,6 +24,7 @@ import run_rows  # noqa: E402
 from checks import STRICT, check, check_headers, commands, count, expect, left_out, run  # noqa: E402
 
 import archive  # noqa: E402
+import libraries  # noqa: E402
 from commands import TOP  # noqa: E402
 
 ARCHIVE = archive.path_of()
@@ -83,6 +84,8 @@ def layout():
     version = re.search(r'DWEXPR_VERSION "(.*)"', header).group(1)
     of_crate = re.search(r'^version = "(.*)"', (TOP / "rust/Cargo.toml").read_text(), re.MULTILINE).group(1)
     count_one("the version", version, of_crate)
+    number = re.search(r"DWEXPR_VERSION_NUMBER (\d+)", header).group(1)
+    count_one("the version's number", int(number), sum(map(int.__mul__, map(int, version.split(".")), [10000, 100, 1])))
 
 
 def count_one(name, got, wanted):
@@ -138,13 +141,17 @@ def names():
 
 def callers(folder):
     given = {"decode": vectors(), "cut": expressions(), "names": names()}
+    kinds = {"": ["-O2"], " with sanitizers": SANITIZERS}
+    for kind, words in kinds.items():
+        (folder / f"library{kind}").mkdir()
+        libraries.build("run", folder / f"library{kind}", *words)
     for source in sorted((TOP / "tests" / "c").glob("*.c")):
-        for kind, words in [("", ["-O2"]), (" with sanitizers", SANITIZERS)]:
+        for kind, words in kinds.items():
             # A sanitizer keeps what it knows of memory on the stack, which then has to be larger than 16 KiB.
             if kind and source.stem == "signal":
                 continue
             program = folder / (source.stem + kind.replace(" ", "_"))
-            build = ["cc", "-std=c11", *words, *STRICT, source, ARCHIVE, "-o", program]
+            build = ["cc", "-std=c11", *words, *STRICT, source, folder / f"library{kind}" / "libdwexpr_run.a", ARCHIVE, "-o", program]
             if not check(f"{source.name}{kind}: build", build):
                 continue
             done = run([program], input=given.get(source.stem, ""))

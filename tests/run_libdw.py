@@ -1,5 +1,5 @@
 #!/usr/bin/env python3
-"""Builds and runs what stands on libdw: include/dwexpr_libdw.h and the examples.
+"""Builds and runs what stands on libdw: libdwexpr_libdw.a and the examples.
 
 - The headers, without a warning as C11, C17 and C++17.
 - tests/libdw/values.c, rules.c and entries.c: values of expressions, bytes that are put together from libdw's
@@ -10,10 +10,12 @@
   if they aren't, whichever field of an operation is changed.
 - examples/variable.c and tests/libdw/stack.cpp on a stopped process, and examples/where.c on a process and its core
   dump, under valgrind.
+- tests/libdw/frames.c on stopped processes: registers and values of callers, limits, and reads by two threads.
 - examples/where.c and gdb, for processes and core dumps (compare_gdb.py).
 - tests/libdw/hostile.c: programs whose debug information has wrong bytes.
 
-It takes less than a minute on four processors. It wants cc and libdw; what else is missing is left out, and said so. The last line is `N passed, M failed`.
+It takes two minutes on four processors. It wants cc and libdw; what else is missing is left out, and said so. The last
+line is `N passed, M failed`.
 """
 
 import concurrent.futures
@@ -21,6 +23,7 @@ import pathlib
 import platform
 import re
 import shutil
+import struct
 import sys
 import tempfile
 
@@ -30,10 +33,11 @@ import compare_gdb  # noqa: E402
 from checks import STRICT, check, check_headers, commands, count, expect, left_out, run  # noqa: E402
 
 import archive  # noqa: E402
+import libraries  # noqa: E402
 from commands import TOP  # noqa: E402
 
 ARCHIVE = archive.path_of()
-LINKS = [ARCHIVE, "-ldw", "-lelf"]
+LINKS = ["-ldw", "-lelf"]
 SANITIZERS = ["-g", "-fsanitize=address,undefined", "-fno-sanitize-recover=all"]
 DEBUG = pathlib.Path("/usr/lib/debug")
 ALL = "--all" in sys.argv
@@ -49,10 +53,28 @@ COMPARED = re.compile(
 NONE_DIFFERS = {"status": 0, "differing": 0, "refused": 0}
 
 
+# libdwexpr_libdw.a, as it is and with the sanitizers.
+LIBRARIES = {}
+
+
+def build_libraries(folder):
+    """Builds libdwexpr_libdw.a without a warning."""
+    for kind, words in [("plain", ["-O2"]), ("checked", ["-O1", *SANITIZERS])]:
+        (folder / kind).mkdir()
+        LIBRARIES[kind] = libraries.build("libdw", folder / kind, *words)
+
+
+def linked(words):
+    """What a program that is built by these words is linked with."""
+    kind = "checked" if "-fno-sanitize-recover=all" in words else "plain"
+    return [LIBRARIES[kind], ARCHIVE, *LINKS]
+
+
 def built(source, program, *words):
     """Builds a source without a warning: the program, or None."""
     name = f"{source.relative_to(TOP)}: build"
-    return program if check(name, ["cc", "-std=c11", *STRICT, *words, source, *LINKS, "-o", program]) else None
+    done = check(name, ["cc", "-std=c11", *STRICT, *words, source, *linked(words), "-o", program])
+    return program if done else None
 
 
 def callers(folder):
@@ -193,7 +215,7 @@ def examples(folder):
     good = done.stdout == INNERMOST + "\n"
     expect(good, "examples/variable.c", done.stdout + done.stderr)
     if shutil.which("c++"):
-        words = ["-std=c++17", *STRICT, TOP / "tests/libdw/stack.cpp", *LINKS, "-o", folder / "stack"]
+        words = ["-std=c++17", *STRICT, TOP / "tests/libdw/stack.cpp", *linked([]), "-o", folder / "stack"]
         if check("stack.cpp: build", ["c++", *words]):
             done = run([folder / "stack", process.pid])
             expect(done.stdout == "middle\n", "stack.cpp", done.stdout + done.stderr)
@@ -208,17 +230,99 @@ def examples(folder):
         left_out("examples/where.c on a core dump", "core dump that the kernel writes into the folder of a process")
 
 
+def stopped_at(folder, source, compiler, words, place):
+    """A process that stopped at a place of tests/stopped, or None."""
+    if not shutil.which(compiler):
+        return left_out(f"{source} by {compiler}", compiler)
+    program = folder / f"{source}-{compiler}{words[0]}"
+    call = [compiler, "-g", *words, TOP / "tests/stopped" / source, "-o", program]
+    return compare_gdb.stopped([program, place], folder) if check(f"{program.name}: build", call) else None
+
+
+# What tests/libdw/frames.c looks at, and the program for it.
+FRAMES = [
+    ("deep", "deep.c", "gcc", ["-O1"], 1),
+    ("members", "pieces.c", "gcc", ["-O0", "-gdwarf-4"], 1),
+    ("members", "pieces.c", "gcc", ["-O0", "-gdwarf-5"], 1),
+    ("pointers", "pieces.c", "gcc", ["-O2"], 10),
+    ("arrays", "registers.c", "gcc", ["-O0"], 5),
+    ("signals", "signals.c", "clang", ["-O2"], 1),
+]
+
+
+def frames(folder):
+    """tests/libdw/frames.c: registers and values of callers, limits, and reads by two threads."""
+    for kind, flags in [("", ["-O2"]), (" with sanitizers", SANITIZERS)]:
+        program = built(TOP / "tests/libdw/frames.c", folder / "frames", "-pthread", *flags)
+        for which, source, compiler, words, place in FRAMES:
+            process = stopped_at(folder, source, compiler, words, place)
+            if not program or not process:
+                continue
+            done = run([program, which, process.pid], env={"ASAN_OPTIONS": "detect_leaks=0"})
+            process.kill()
+            process.wait()
+            said = re.search(r"(\d+) passed, (\d+) failed\n\Z", done.stdout)
+            numbers = [int(number) for number in said.groups()] if said else [0, 1]
+            count(*numbers, f"frames.c, {which}, {' '.join(words)}{kind}", done.stdout + done.stderr)
+
+
+# What examples/where.c prints of place 3 of tests/stopped/registers.c. A long double has 10 bytes of 16.
+CHARACTERS = ["negative = -98", "large = 202 (0xca)", "letter = -3", "counted = 7", "is_set = 1 (0x1)"]
+
+
+def texts(folder):
+    """Lines of examples/where.c, of characters, and of a core dump that was cut off."""
+    where = built(TOP / "examples/where.c", folder / "where", "-O2", "-g")
+    process = stopped_at(folder, "registers.c", "gcc", ["-O0"], 3)
+    if where and process:
+        lines = run([where, "--pid", process.pid]).stdout.splitlines()
+        for line in CHARACTERS:
+            expect(line in lines, f"examples/where.c: {line}", "\n".join(lines))
+        process.kill()
+        process.wait()
+    process = stopped_at(folder, "pieces.c", "gcc", ["-O0"], 8)
+    core = dumped_into(folder / "cut", process) if process else None
+    if not where or not core:
+        return left_out("examples/where.c on a core dump that was cut off", "core dump")
+    # what the program's file has of `shared` isn't what the process had
+    line = "shared = memory or a register can't be read"
+    expect(line not in run([where, "--core", core]).stdout.splitlines(), "a whole core dump has a static variable")
+    core.write_bytes(without_data(core))
+    done = run([where, "--core", core])
+    expect(line in done.stdout.splitlines(), "a core dump that was cut off hasn't", done.stdout + done.stderr)
+
+
+def dumped_into(folder, process):
+    """The core dump of a process, moved to a path."""
+    core = compare_gdb.dumped(process, folder.parent)
+    return core and core.rename(folder)
+
+
+def without_data(core):
+    """A core dump of 64 bits that ends before what it had of the program's own data."""
+    content = bytearray(core.read_bytes())
+    first, count = struct.unpack_from("<Q", content, 32)[0], struct.unpack_from("<H", content, 56)[0]
+    for at in range(first, first + 56 * count, 56):
+        kind, flags, _, address = struct.unpack_from("<IIQQ", content, at)
+        if (kind, flags) == (1, 6) and address < 0x600000000000:
+            struct.pack_into("<Q", content, at + 8, len(content))
+    return content
+
+
 def with_gdb(folder):
     if not shutil.which("gdb") or not (shutil.which("gcc") or shutil.which("clang")):
         return left_out("examples/where.c and gdb", "gdb, gcc or clang")
     where = built(TOP / "examples/where.c", folder / "where", "-O2")
     if not where:
         return None
-    words = [] if ALL else ["pieces", "gcc", "-O0", "-O2", "-gdwarf-5"]
-    sums = compare_gdb.compare_all(where, words)
+    jobs = compare_gdb.jobs_of([]) if ALL else compare_gdb.GATE
+    missing = sorted({compiler for _, compiler, _ in jobs if not shutil.which(compiler)})
+    for compiler in missing:
+        left_out(f"programs of {compiler} and gdb", compiler)
+    sums = compare_gdb.compare_all(where, [job for job in jobs if job[1] not in missing])
     for what, found in sums.items():
         print(f"{what}: " + ", ".join(f"{number} {kind}" for kind, number in found.most_common()))
-        if found["equal"]:
+        if found["equal"] or found["different"]:
             count(sum(found.values()) - found["different"], found["different"], f"examples/where.c and gdb, {what}")
         else:
             left_out(f"examples/where.c and gdb, {what}", "gdb with Python, or core dump")
@@ -271,8 +375,9 @@ def main():
             return left_out("include/dwexpr_libdw.h and the examples over it", "libdw")
         with commands.alone():
             archive.build()
+        build_libraries(folder)
         check_headers("dwexpr_libdw.h", "dwexpr_names.h")
-        for stage in [callers, expressions, examples, with_gdb, hostile]:
+        for stage in [callers, expressions, examples, frames, texts, with_gdb, hostile]:
             stage(folder)
     return None
 

@@ -6,7 +6,8 @@
 - examples/decode.c is built by cc, with the words of pkg-config, and by a CMake project. So are a caller of dwexpr_run
   in C and a caller in C++. CMake finds the package for the versions and the processor that it is for, and no others.
 - The Rust crate is the one that bin/crate writes.
-- examples/variable.c is built with the words of pkg-config, and prints a variable of a stopped process.
+- examples/variable.c is built with the words of pkg-config, and prints a variable of a stopped process. A unit that
+  uses the library over libdw has none of its functions.
 - For aarch64 decode.c is built by Debian's cross compiler and run by qemu-user.
 
 It wants cc; what else is missing is left out, and said so. The last line is `N passed, M failed`.
@@ -49,6 +50,12 @@ set(CMAKE_SYSTEM_PROCESSOR "${CMAKE_HOST_SYSTEM_PROCESSOR}")
 find_package(dwexpr 0.1 REQUIRED)
 add_executable(decode ${EXAMPLES}/decode.c)
 target_link_libraries(decode dwexpr::dwexpr)
+add_executable(run ${CALLERS}/run.c)
+target_link_libraries(run dwexpr::dwexpr)
+if(TARGET dwexpr::libdw)
+  add_executable(where ${EXAMPLES}/where.c)
+  target_link_libraries(where dwexpr::libdw)
+endif()
 """
 
 # What it says of each version, and of another processor.
@@ -114,15 +121,16 @@ int main(void)
     const dwexpr_encoding encoding = {8, 4, 0, 5};
     const dwexpr_callbacks calls = {.cfa = give_cfa, .location = give_text};
     uint64_t frame = 0x3000;
-    dwexpr_texts texts;
+    dwexpr_text items[2];
+    dwexpr_texts texts = {items, 2, 0};
     dwexpr_outcome outcome;
     dwexpr_piece piece;
     dwexpr_text block;
-    int code = dwexpr_run(text, encoding, &calls, &frame, NULL, &texts, &outcome, &piece, 1);
+    const uint32_t code = dwexpr_run(text, encoding, &calls, &frame, NULL, &texts, &outcome, &piece, 1);
     block = dwexpr_piece_block(&piece, texts.items, texts.length);
     if (block.length == 2)
-        printf("%d %02x%02x\\n", code, block.bytes[0], block.bytes[1]);
-    return code;
+        printf("%u %02x%02x %s\\n", code, block.bytes[0], block.bytes[1], dwexpr_version());
+    return code != 0;
 }
 """
 
@@ -140,11 +148,14 @@ int main(void)
 # What a package holds, besides the Rust crate.
 FILES = """
 include/dwexpr.h include/dwexpr_libdw.h include/dwexpr_names.h include/dwexpr_run.h lib/libdwexpr.a
-lib/pkgconfig/dwexpr.pc lib/pkgconfig/dwexpr-libdw.pc
+lib/libdwexpr_run.a
+lib/pkgconfig/dwexpr.pc
 lib/cmake/dwexpr/dwexpr-config.cmake lib/cmake/dwexpr/dwexpr-config-version.cmake
 share/doc/dwexpr/DIFFERENCES.md share/doc/dwexpr/GUIDE.md share/doc/dwexpr/PROOFS.md share/doc/dwexpr/PROVED
 share/doc/dwexpr/LICENSE-APACHE share/doc/dwexpr/LICENSE-MIT
 """.split()
+# And these if the compiler and libdw are there.
+OVER_LIBDW = ["lib/libdwexpr_libdw.a", "lib/pkgconfig/dwexpr-libdw.pc"]
 RUST = "share/dwexpr/rust"
 LINK = re.compile(r"\]\(([^)]+)\)")
 PROVED = re.compile(r"libdwexpr.a \S+ for \S+\ncommit \S+\nkit \S.*\nsources [0-9a-f]{64}\narchive [0-9a-f]{64}\n")
@@ -206,6 +217,10 @@ def files_of(package):
     examples = {f"share/dwexpr/examples/{it.name}" for it in TOP.glob("examples/*.[ch]")}
     crate = {f"{RUST}/{name}" for name in crate_files(package / RUST)}
     wanted = {*FILES, *examples, *crate}
+    if OVER_LIBDW[0] in found:
+        wanted |= {*OVER_LIBDW}
+    else:
+        left_out("the library over libdw", "libdw")
     expect(found == wanted, "the files of the package", f"{sorted(found - wanted)} and {sorted(wanted - found)}")
     expect(PROVED.fullmatch((package / "share/doc/dwexpr/PROVED").read_text()), "PROVED")
     pages = [it for it in package.rglob("*.md") if RUST not in str(it)]
@@ -215,8 +230,9 @@ def files_of(package):
 
 
 def by_compilers(package, folder, env):
+    version = re.search(r'DWEXPR_VERSION "(.*)"', (package / "include/dwexpr.h").read_text())[1]
     source = package / "share/dwexpr/examples/decode.c"
-    flags = [f"-I{package / 'include'}", f"-L{package / 'lib'}", "-ldwexpr"]
+    flags = [f"-I{package / 'include'}", f"-L{package / 'lib'}", "-ldwexpr_run", "-ldwexpr"]
     if shutil.which("pkg-config"):
         asked = {**env, "PKG_CONFIG_PATH": str(package / "lib/pkgconfig")}
         done = run(["pkg-config", "--cflags", "--libs", "dwexpr"], env=asked)
@@ -232,7 +248,7 @@ def by_compilers(package, folder, env):
     words = ["cc", "-std=c11", "-Wall", "-Wextra", caller, *flags, "-o", program]
     if check("a caller of dwexpr_run", words, env=env):
         done = run([program], env=env)
-        expect(done.stdout == "0 aabb\n", "a caller of dwexpr_run, run", done.stdout + done.stderr)
+        expect(done.stdout == f"0 aabb {version}\n", "a caller of dwexpr_run, run", done.stdout + done.stderr)
     if not shutil.which("c++"):
         return left_out("a caller in C++", "c++")
     caller, program = folder / "caller.cpp", folder / "caller"
@@ -245,7 +261,7 @@ def by_compilers(package, folder, env):
 def by_libdw(package, folder, env):
     asked = {**env, "PKG_CONFIG_PATH": str(package / "lib/pkgconfig")}
     done = run(["pkg-config", "--cflags", "--libs", "dwexpr-libdw"], env=asked) if shutil.which("pkg-config") else None
-    if not done or done.returncode:
+    if not done or done.returncode or not (package / OVER_LIBDW[0]).exists():
         return left_out("examples/variable.c", "libdw for pkg-config")
     source, variable = package / "share/dwexpr/examples/variable.c", folder / "variable"
     check("variable.c by cc", ["cc", "-std=c11", source, *shlex.split(done.stdout), "-o", variable], env=env)
@@ -267,11 +283,13 @@ def by_cmake(package, folder, env):
     project.mkdir()
     (project / "CMakeLists.txt").write_text(CMAKE)
     words = ["cmake", "-S", project, "-B", folder / "made", f"-DCMAKE_PREFIX_PATH={package}"]
-    words.append(f"-DEXAMPLES={package / 'share/dwexpr/examples'}")
+    words += [f"-DEXAMPLES={package / 'share/dwexpr/examples'}", f"-DCALLERS={folder}"]
     done = check("CMake: configure", words, env=env)
     if done and check("CMake: build", ["cmake", "--build", folder / "made"], env=env):
         expect(FOUND in done.stdout, "CMake: the versions and the processor", done.stdout)
         check_decode("CMake: run", [folder / "made/decode"], env=env)
+        if (package / OVER_LIBDW[0]).exists():
+            expect((folder / "made/where").exists(), "CMake: where.c over dwexpr::libdw")
 
 
 def for_arm(folder, env):

@@ -245,7 +245,8 @@ static void run(const struct block *met, size_t count)
     static dwexpr_piece pieces[DWEXPR_MAX_PIECES];
     const dwexpr_callbacks calls = {.location = give_text, .entry_value = give_entry};
     struct asked asked = {met, count, 0};
-    dwexpr_texts table;
+    dwexpr_text items[64];
+    dwexpr_texts table = {items, 64, 0};
     dwexpr_outcome outcome;
     const struct block *want;
     size_t at = 0, i = 0;

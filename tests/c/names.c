@@ -37,6 +37,7 @@ static void codes(void)
         {DWEXPR_BAD_STEP, "no such step"}, {DWEXPR_MISPLACED, "isn't allowed here"},
         {DWEXPR_LOST_TEXT, "text of before"}, {DWEXPR_TOO_MANY_TEXTS, "too many texts"},
         {DWEXPR_BAD_VALUE, "mask"},
+        {DWEXPR_REFUSED, "refused"},
     };
     const size_t count = sizeof rows / sizeof *rows;
     size_t i, named = 0;

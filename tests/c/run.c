@@ -7,7 +7,10 @@
 #define MANY 4
 
 static uint8_t bytes[256];
-static dwexpr_texts texts;
+/* room for ROOM texts, and one behind it, which no run writes */
+#define ROOM 5
+static dwexpr_text items[ROOM + 1];
+static dwexpr_texts texts = {items, ROOM, 0};
 static dwexpr_outcome outcome;
 static dwexpr_piece pieces[MANY];
 static uint64_t context;
@@ -373,10 +376,10 @@ static int give_front(void *number, int in_debug_info, uint64_t offset, dwexpr_t
 /* Two texts in turn, or a new one each time. */
 static int give_many(void *number, int in_debug_info, uint64_t offset, dwexpr_text *text)
 {
-    static const uint8_t nops[2 * DWEXPR_RUN_TEXTS] = {0};
+    static const uint8_t nops[2 * ROOM] = {0};
     uint64_t *calls = (uint64_t *)number;
     (void)offset;
-    text->bytes = nops + (in_debug_info ? *calls % (2 * DWEXPR_RUN_TEXTS) : *calls % 2);
+    text->bytes = nops + (in_debug_info ? *calls % (2 * ROOM) : *calls % 2);
     text->length = 0;
     *calls += 1;
     return 0;
@@ -396,7 +399,8 @@ static void tables(void)
     check(context == 50000 && texts.length == 3, name, "the calls and the texts");
     context = 0;
     check(run("many texts", "9a 00000000 2f f8ff", &calls) == DWEXPR_TOO_MANY_TEXTS, name, "it");
-    check(context == 64 && texts.length == 64, name, "the calls and the texts");
+    check(context == ROOM && texts.length == ROOM, name, "the calls and the texts");
+    check(!items[ROOM].bytes && !items[ROOM].length, name, "the item behind the table");
 }
 
 int main(void)

@@ -9,7 +9,8 @@
 enum { STACK = 16 * 1024 };
 
 static dwexpr_outcome outcome;
-static dwexpr_texts texts;
+static dwexpr_text items[4];
+static dwexpr_texts texts = {items, 4, 0};
 static dwexpr_piece pieces[4];
 static int result = 99;
 

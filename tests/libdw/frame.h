@@ -2,6 +2,10 @@
 #ifndef FRAME_H
 #define FRAME_H
 
+#include <dwarf.h>
+#include <stdlib.h>
+#include <string.h>
+
 #include "dwexpr_libdw.h"
 
 /* Register 0 has 0x1122334455667788, 1 has 0x99aabbccddeeff00, and 17 the bytes 00 to 0f. */
@@ -28,21 +32,24 @@ static int read_memory(void *context, uint64_t address, uint8_t *content, size_t
 {
     size_t i;
     (void)context;
-    if (address < 0x1000 || size > 0x2000 - address)
+    if (address < 0x1000 || address > 0x2000 || size > 0x2000 - address)
         return 1;
     for (i = 0; i < size; i++)
         content[i] = (uint8_t)(address + i);
     return 0;
 }
 
-static void begin_frame(dwexpr_libdw_frame *frame, int *big_endian)
+/* It stands in no module; expressions have their units. */
+static dwexpr_libdw_frame *make_frame(int *big_endian)
 {
-    memset(frame, 0, sizeof *frame);
-    frame->read_register = read_register;
-    frame->read_memory = read_memory;
-    frame->context = big_endian;
-    /* it stands in no module; expressions have their units */
-    frame->is_located = 1;
+    dwexpr_libdw_source source;
+    dwexpr_libdw_frame *frame;
+    memset(&source, 0, sizeof source);
+    source.read_register = read_register;
+    source.read_memory = read_memory;
+    source.context = big_endian;
+    dwexpr_libdw_make_frame(&source, &frame);
+    return frame;
 }
 
 #endif

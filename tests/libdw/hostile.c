@@ -4,6 +4,13 @@
  *
  *     hostile FILE FIRST LAST FOLDER    copies FILE to FOLDER, changed as each number from FIRST to LAST says */
 #include "dwexpr_libdw.h"
+#include <dwarf.h>
+#include <fcntl.h>
+#include <gelf.h>
+#include <stdio.h>
+#include <stdlib.h>
+#include <string.h>
+#include <unistd.h>
 
 static unsigned long long state;
 
@@ -34,27 +41,41 @@ static size_t variables, values, whole;
 static void read_variable(dwexpr_libdw_frame *frame, Dwarf_Die *variable)
 {
     static uint8_t bytes[256], unknown[256];
-    dwexpr_libdw_value value;
-    Dwarf_Die type;
-    int code = dwexpr_libdw_variable(frame, variable, &value);
+    dwexpr_libdw_value *value;
+    Dwarf_Die type, member;
+    uint64_t size, bits;
+    uint32_t code = dwexpr_libdw_variable(frame, variable, &value);
     variables++;
-    dwexpr_libdw_type(variable, &type);
     if (!code) {
+        Dwarf_Die entry;
         values++;
-        whole += !dwexpr_libdw_read(frame, &value, 1 + next_number() % (8 * sizeof bytes), bytes, unknown);
+        whole += !dwexpr_libdw_read(frame, value, 1 + next_number() % (8 * sizeof bytes), bytes, unknown);
+        dwexpr_libdw_points_into(value, &value->pieces[0], &entry);
     }
-    dwexpr_libdw_release(&value);
+    dwexpr_libdw_release(value);
+    if (!dwexpr_libdw_on_entry(frame, variable, &value))
+        dwexpr_libdw_read(frame, value, 64, bytes, unknown);
+    dwexpr_libdw_release(value);
+    if (!dwexpr_libdw_type(variable, &type)) {
+        int more;
+        dwexpr_libdw_size(frame, &type, NULL, &size);
+        for (more = dwarf_child(&type, &member); more == 0; more = dwarf_siblingof(&member, &member))
+            dwexpr_libdw_member(frame, &member, NULL, &size, &bits);
+    }
 }
 
 static void read_frame(dwexpr_libdw_frame *frame)
 {
-    Dwarf_Die *scopes, entry;
-    int i, more, count = dwexpr_libdw_scopes(frame, &scopes);
+    dwexpr_libdw_entry *entries;
+    uint8_t bytes[DWEXPR_LIBDW_REGISTER_SIZE];
+    size_t count, i, size;
+    int number;
+    dwexpr_libdw_variables(frame, &entries, &count);
     for (i = 0; i < count; i++)
-        for (more = dwarf_child(&scopes[i], &entry); more == 0; more = dwarf_siblingof(&entry, &entry))
-            if (dwarf_tag(&entry) == DW_TAG_variable || dwarf_tag(&entry) == DW_TAG_formal_parameter)
-                read_variable(frame, &entry);
-    free(scopes);
+        read_variable(frame, &entries[i].entry);
+    free(entries);
+    for (number = -1; number < 17; number++)
+        dwexpr_libdw_caller_register(frame, number, bytes, &size);
 }
 
 static uint8_t content[1 << 20]; /* of the file as it was */
@@ -80,18 +101,22 @@ static Dwarf_Addr next_return(Dwarf_Addr first)
 /* three frames, each of which called the one before it */
 static void read_frames(Dwfl *dwfl, Dwarf_Addr first)
 {
-    dwexpr_libdw_frame frames[3];
+    dwexpr_libdw_frame *frames[4] = {NULL, NULL, NULL, NULL};
+    dwexpr_libdw_source source;
     int i;
-    memset(frames, 0, sizeof frames);
-    for (i = 0; i < 3; i++) {
-        frames[i].dwfl = dwfl;
-        frames[i].pc = i ? next_return(first) : next_address(first);
-        frames[i].is_activation = i == 0;
-        frames[i].caller = i < 2 ? &frames[i + 1] : NULL;
-        frames[i].read_register = read_register;
-        frames[i].read_memory = read_memory;
+    memset(&source, 0, sizeof source);
+    for (i = 2; i >= 0; i--) {
+        source.dwfl = dwfl;
+        source.pc = i ? next_return(first) : next_address(first);
+        source.is_activation = i == 0;
+        source.caller = frames[i + 1];
+        source.read_register = read_register;
+        source.read_memory = read_memory;
+        dwexpr_libdw_make_frame(&source, &frames[i]);
     }
-    read_frame(&frames[0]);
+    read_frame(frames[0]);
+    for (i = 0; i < 3; i++)
+        dwexpr_libdw_free_frame(frames[i]);
 }
 
 static void read_rules(Dwfl_Module *module, Dwarf_Addr first)
@@ -105,24 +130,28 @@ static void read_rules(Dwfl_Module *module, Dwarf_Addr first)
     if (!table || !elf || dwarf_cfi_addrframe(table, address - bias, &rules))
         return;
     for (number = -1; number < 17; number++) {
-        const unsigned char *ident = (const unsigned char *)elf_getident(elf, NULL);
-        if (number < 0)
-            dwexpr_libdw_cfa_expression(rules, ident, &expression);
-        else
-            dwexpr_libdw_register_expression(rules, ident, number, &expression);
-        dwexpr_libdw_free(expression.memory);
+        dwexpr_libdw_rule(rules, elf, number, &expression);
+        dwexpr_libdw_free_text(&expression);
     }
     free(rules);
 }
 
 static void read_core(const char *path)
 {
-    dwexpr_libdw_stack stack;
-    size_t i;
-    dwexpr_libdw_open_core(&stack, path, NULL);
-    for (i = 0; i < stack.length; i++)
-        read_frame(&stack.frames[i]);
-    dwexpr_libdw_close(&stack);
+    dwexpr_libdw_target *target;
+    const pid_t *threads;
+    size_t i, j;
+    if (dwexpr_libdw_open_core(path, NULL, &target))
+        return;
+    for (i = 0; i < dwexpr_libdw_threads(target, &threads); i++) {
+        dwexpr_libdw_stack *stack;
+        dwexpr_libdw_frame *frame;
+        dwexpr_libdw_unwind(target, threads[i], 256, &stack);
+        for (j = 0; (frame = dwexpr_libdw_frame_at(stack, j)) != NULL; j++)
+            read_frame(frame);
+        dwexpr_libdw_free_stack(stack);
+    }
+    dwexpr_libdw_close(target);
 }
 
 static void read_program(const char *path)

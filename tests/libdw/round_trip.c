@@ -1,5 +1,10 @@
 /* Puts each expression of object files together from libdw's operations, and compares it with the file's bytes, which
  * lists.h finds in lists of locations. The last line counts. The status is 1 if one differs. */
+#include <fcntl.h>
+#include <stdio.h>
+#include <stdlib.h>
+#include <unistd.h>
+
 #include "dwexpr_libdw.h"
 #include "lists.h"
 
@@ -10,22 +15,18 @@ static size_t same, differing, refused;
 
 static void compare(const uint8_t *bytes, size_t length, const Dwarf_Op *operations, size_t count)
 {
-    dwexpr_libdw_text expression;
-    int code;
-    memset(&expression, 0, sizeof expression);
-    expression.encoding = encoding;
-    code = dwexpr_libdw_from_operations(operations, count, &expression);
-    if (!code && expression.text.length == length && !memcmp(expression.text.bytes, bytes, length)) {
+    static uint8_t made[1 << 16];
+    size_t i;
+    const uint32_t code = dwexpr_libdw_encode(operations, count, encoding, made, sizeof made, &i);
+    if (!code && i == length && !memcmp(made, bytes, length)) {
         same++;
-    } else {
-        size_t i;
-        *(code ? &refused : &differing) += 1;
-        printf("%s: %s:", file, code ? dwexpr_libdw_code_name(code) : "other bytes");
-        for (i = 0; i < length; i++)
-            printf(" %02x", bytes[i]);
-        printf("\n");
+        return;
     }
-    dwexpr_libdw_free(expression.memory);
+    *(code ? &refused : &differing) += 1;
+    printf("%s: %s:", file, code ? dwexpr_libdw_code_name(code) : "other bytes");
+    for (i = 0; i < length; i++)
+        printf(" %02x", bytes[i]);
+    printf("\n");
 }
 
 static void compare_list(Dwarf_Attribute *attribute)

@@ -1,6 +1,9 @@
 /* Expressions of call frame information: the bytes that the assembler was given, and what they come to. For x86-64. */
 #include "../c/check.h"
 #include "dwexpr_libdw.h"
+#include <stdlib.h>
+#include <string.h>
+#include <unistd.h>
 
 void rules(void);
 
@@ -24,11 +27,22 @@ __asm__(".text\n"
         ".cfi_endproc\n"
         ".size rules, .-rules\n");
 
+/* A function without a rule. */
+void plain(void);
+__asm__(".globl plain\n"
+        ".type plain, @function\n"
+        "plain:\n"
+        ".cfi_startproc\n"
+        "nop\n"
+        "ret\n"
+        ".cfi_endproc\n"
+        ".size plain, .-plain\n");
+
 static const struct {
     int number; /* -1 for the CFA */
     const char *bytes;
-    int on_cfa, is_value, code;
-    uint32_t piece; /* what it comes to if the CFA is 0x5000 */
+    int on_cfa, is_value;
+    uint32_t code, piece; /* what it comes to if the CFA is 0x5000 */
     uint64_t value;
 } rows[] = {
     {-1, "77 8800 06", 0, 0, 0, DWEXPR_AT_ADDRESS, 0x5000},
@@ -39,14 +53,23 @@ static const struct {
     {13, "90 0f", 0, 0, 0, DWEXPR_IN_REGISTER, 15},
     {2, "", 0, 0, DWEXPR_LIBDW_OPTIMIZED_AWAY, 0, 0},
     {5, "", 0, 0, DWEXPR_LIBDW_SAME_VALUE, 0, 0},
+    /* no rule names rax, which a call may change */
+    {0, "", 0, 0, DWEXPR_LIBDW_OPTIMIZED_AWAY, 0, 0},
 };
+
+static void write_number(uint64_t number, size_t size, uint8_t *bytes)
+{
+    size_t i;
+    for (i = 0; i < size; i++)
+        bytes[i] = (uint8_t)(number >> 8 * i);
+}
 
 /* register 7 has 0x1000, and memory at 0x1008 has 0x5000 */
 static int read_register(void *context, uint32_t number, uint8_t *bytes, size_t *size)
 {
     (void)context;
     *size = 8;
-    dwexpr_libdw_order(0x1000, 8, 0, bytes);
+    write_number(0x1000, 8, bytes);
     return number != 7;
 }
 
@@ -55,8 +78,54 @@ static int read_memory(void *context, uint64_t address, uint8_t *bytes, size_t s
     (void)context;
     if (address != 0x1008 || size > 8)
         return 1;
-    dwexpr_libdw_order(0x5000, size, 0, bytes);
+    write_number(0x5000, size, bytes);
     return 0;
+}
+
+/* Registers of the caller: those of memory from 0x4ff0 on aren't known. */
+static void check_registers(dwexpr_libdw_frame *frame)
+{
+    static const struct {
+        int number;
+        uint64_t value;
+        uint32_t code;
+    } wanted[] = {
+        {DWEXPR_LIBDW_CFA, 0x5000, 0},
+        {12, 0x9fff, 0},
+        {14, 0x4ff8, 0},
+        {3, 0, DWEXPR_LIBDW_NOT_READABLE},
+        {13, 0, DWEXPR_LIBDW_NOT_READABLE},
+        {2, 0, DWEXPR_LIBDW_OPTIMIZED_AWAY},
+        {7, 0x5000, 0},
+        {5, 0, DWEXPR_LIBDW_NOT_READABLE},
+    };
+    size_t i;
+    for (i = 0; i < sizeof wanted / sizeof *wanted; i++) {
+        uint8_t got[DWEXPR_LIBDW_REGISTER_SIZE], number[8];
+        char name[32];
+        size_t size;
+        const uint32_t code = dwexpr_libdw_caller_register(frame, wanted[i].number, got, &size);
+        snprintf(name, sizeof name, "register %d of the caller", wanted[i].number);
+        write_number(wanted[i].value, sizeof number, number);
+        check(code == wanted[i].code, name, dwexpr_libdw_code_name(code));
+        check(code || (size == 8 && !memcmp(got, number, 8)), name, "its value");
+    }
+}
+
+/* What the ABI says of registers that no rule names: a call keeps rbx, and may change rax. */
+static void check_plain(Dwfl *dwfl)
+{
+    const Dwarf_Addr address = (Dwarf_Addr)(uintptr_t)plain;
+    Dwfl_Module *module = dwfl_addrmodule(dwfl, address);
+    Dwarf_Addr bias, bias_of_elf;
+    Dwarf_CFI *table = dwfl_module_eh_cfi(module, &bias);
+    Elf *elf = dwfl_module_getelf(module, &bias_of_elf);
+    Dwarf_Frame *state = NULL;
+    dwexpr_libdw_text text;
+    check(!dwarf_cfi_addrframe(table, address - bias, &state), "no rules", "a state");
+    check(dwexpr_libdw_rule(state, elf, 3, &text) == DWEXPR_LIBDW_SAME_VALUE, "rbx", "it is kept");
+    check(dwexpr_libdw_rule(state, elf, 0, &text) == DWEXPR_LIBDW_OPTIMIZED_AWAY, "rax", "it isn't");
+    free(state);
 }
 
 int main(void)
@@ -68,45 +137,48 @@ int main(void)
     Dwarf_CFI *table;
     Dwarf_Frame *state = NULL;
     Dwarf_Addr bias, bias_of_elf;
-    const unsigned char *ident;
+    dwexpr_libdw_source source;
+    dwexpr_libdw_frame *frame;
+    Elf *elf;
     size_t i;
     dwfl_linux_proc_report(dwfl, getpid());
     dwfl_report_end(dwfl, NULL, NULL);
     module = dwfl_addrmodule(dwfl, address);
-    ident = (const unsigned char *)elf_getident(dwfl_module_getelf(module, &bias_of_elf), NULL);
+    elf = dwfl_module_getelf(module, &bias_of_elf);
     table = dwfl_module_eh_cfi(module, &bias);
     dwarf_cfi_addrframe(table, address - bias, &state);
     check(state != NULL, "rules", "they are there");
+    memset(&source, 0, sizeof source);
+    source.dwfl = dwfl;
+    source.pc = address;
+    source.is_activation = 1;
+    source.read_register = read_register;
+    source.read_memory = read_memory;
+    dwexpr_libdw_make_frame(&source, &frame);
     for (i = 0; state && i < sizeof rows / sizeof *rows; i++) {
         uint8_t wanted[64];
         char name[32];
         const size_t length = bytes_of(rows[i].bytes, wanted);
         dwexpr_libdw_text expression;
-        dwexpr_libdw_frame frame;
-        dwexpr_libdw_value value;
-        const int code = rows[i].number < 0
-                             ? dwexpr_libdw_cfa_expression(state, ident, &expression)
-                             : dwexpr_libdw_register_expression(state, ident, rows[i].number, &expression);
+        dwexpr_libdw_value *value;
+        const uint32_t code = dwexpr_libdw_rule(state, elf, rows[i].number, &expression);
         snprintf(name, sizeof name, "register %d", rows[i].number);
         check(code == rows[i].code, name, dwexpr_libdw_code_name(code));
         check(expression.text.length == length && (!length || !memcmp(expression.text.bytes, wanted, length)), name,
               "bytes");
         check(expression.on_cfa == rows[i].on_cfa && expression.is_value == rows[i].is_value, name, "what it means");
         if (!code) {
-            memset(&frame, 0, sizeof frame);
-            frame.dwfl = dwfl;
-            frame.pc = address;
-            frame.is_activation = 1;
-            frame.read_register = read_register;
-            frame.read_memory = read_memory;
-            check(!dwexpr_libdw_evaluate(&frame, &expression, &value) && value.outcome.pieces == 1 &&
-                      value.pieces[0].kind == rows[i].piece && value.pieces[0].number == rows[i].value,
+            check(!dwexpr_libdw_evaluate(frame, &expression, NULL, NULL, &value) && value->outcome.pieces == 1 &&
+                      value->pieces[0].kind == rows[i].piece && value->pieces[0].number == rows[i].value,
                   name, "its value");
-            dwexpr_libdw_release(&value);
+            dwexpr_libdw_release(value);
         }
-        dwexpr_libdw_free(expression.memory);
+        dwexpr_libdw_free_text(&expression);
     }
+    check_registers(frame);
+    check_plain(dwfl);
     free(state);
+    dwexpr_libdw_free_frame(frame);
     dwfl_end(dwfl);
     return finish();
 }

@@ -1,19 +1,32 @@
 // The frames of a process in C++: prints the process's innermost function.
 #include <cstdio>
+#include <cstdlib>
 #include <dwexpr_libdw.h>
+#include <memory>
 
-struct Stack : dwexpr_libdw_stack {
-    explicit Stack(pid_t process) { code = dwexpr_libdw_open_process(this, process); }
-    Stack(const Stack &) = delete;
-    ~Stack() { dwexpr_libdw_close(this); }
-    int code;
+struct Free {
+    void operator()(dwexpr_libdw_target *target) const { dwexpr_libdw_close(target); }
+    void operator()(dwexpr_libdw_stack *stack) const { dwexpr_libdw_free_stack(stack); }
+    void operator()(dwexpr_libdw_value *value) const { dwexpr_libdw_release(value); }
 };
+using Target = std::unique_ptr<dwexpr_libdw_target, Free>;
+using Stack = std::unique_ptr<dwexpr_libdw_stack, Free>;
 
 int main(int, char **words)
 {
-    const Stack nothing(-1);
-    Stack stack(static_cast<pid_t>(std::atol(words[1])));
-    if (stack.code || dwexpr_libdw_locate(&stack.frames[0]) || nothing.code != DWEXPR_LIBDW_NO_TARGET)
+    dwexpr_libdw_target *opened;
+    if (dwexpr_libdw_open_process(-1, &opened) != DWEXPR_LIBDW_NO_TARGET || opened)
         return 1;
-    std::printf("%s\n", dwarf_diename(&stack.frames[0].function));
+    dwexpr_libdw_open_process(static_cast<pid_t>(std::atol(words[1])), &opened);
+    const Target target(opened);
+    const pid_t *threads;
+    dwexpr_libdw_stack *found = nullptr;
+    if (!target || !dwexpr_libdw_threads(target.get(), &threads))
+        return 1;
+    dwexpr_libdw_unwind(target.get(), threads[0], 1000, &found);
+    const Stack stack(found);
+    dwexpr_libdw_place place;
+    if (!stack || dwexpr_libdw_locate(dwexpr_libdw_frame_at(found, 0), &place))
+        return 1;
+    std::printf("%s\n", dwarf_diename(&place.function));
 }

@@ -18,7 +18,7 @@ static const struct {
     const char *expression;
     unsigned bits;
     const char *bytes, *unknown;
-    int code;
+    uint32_t code;
 } rows[] = {
     {"a register", 0, "50", 32, "88776655", "00000000", 0},
     {"a register", 1, "50", 32, "55667788", "00000000", 0},
@@ -33,7 +33,8 @@ static const struct {
     {"a wide register", 0, "61", 128, "000102030405060708090a0b0c0d0e0f", "00000000000000000000000000000000", 0},
     {"the front of a wide register", 0, "61", 32, "00010203", "00000000", 0},
     {"the end of a wide register", 1, "61", 32, "0c0d0e0f", "00000000", 0},
-    {"a register that is too small", 0, "50", 72, "000000000000000000", "ffffffffffffffffff", SMALL},
+    {"a register that is too small", 0, "50", 72, "887766554433221100", "0000000000000000ff", SMALL},
+    {"a register that is too small", 1, "50", 72, "001122334455667788", "ff0000000000000000", SMALL},
     {"an unknown register", 0, "52", 32, "00000000", "ffffffff", UNREADABLE},
     {"a half that is optimized away", 0, "50 93 04 93 04", 64, "8877665500000000", "00000000ffffffff", AWAY},
     {"a half that is optimized away", 1, "93 04 50 93 04", 64, "0000000055667788", "ffffffff00000000", AWAY},
@@ -52,73 +53,162 @@ static const struct {
     /* of 07 08 */
     {"bits beyond the first byte", 0, "0c 05100000 9d 08 14", 8, "80", "00", 0},
     {"the last byte of memory", 0, "0c ff1f0000", 8, "ff", "00", 0},
-    {"memory that ends", 0, "0c ff1f0000", 16, "0000", "ffff", UNREADABLE},
+    {"memory that ends", 0, "0c ff1f0000", 16, "ff00", "00ff", UNREADABLE},
+    {"memory that ends and begins", 0, "0c fe1f0000 93 04 0c fe0f0000 93 04", 64, "feff000000000001",
+     "0000ffffffff0000", UNREADABLE},
     {"literal bytes", 0, "9e 04 aabbccdd", 32, "aabbccdd", "00000000", 0},
     {"literal bytes", 1, "9e 04 aabbccdd", 32, "aabbccdd", "00000000", 0},
     {"the front of literal bytes", 1, "9e 04 aabbccdd", 8, "aa", "00", 0},
     {"bits of literal bytes", 0, "9e 02 a50f 9d 04 04", 4, "0a", "00", 0},
     {"bits of literal bytes", 1, "9e 02 a50f 9d 04 04", 4, "50", "00", 0},
-    {"literal bytes that are too few", 0, "9e 01 aa", 16, "0000", "ffff", SMALL},
+    {"literal bytes that are too few", 0, "9e 01 aa", 16, "aa00", "00ff", SMALL},
+    {"literal bytes that are too few", 1, "9e 01 aa", 16, "aa00", "00ff", SMALL},
     {"a value", 0, "31 9f", 32, "01000000", "00000000", 0},
     {"a value", 1, "31 9f", 32, "00000001", "00000000", 0},
     {"the bits of a value from bit 4", 0, "08 a5 9f 9d 04 04", 4, "0a", "00", 0},
     {"the bits of a value from bit 4", 1, "08 a5 9f 9d 04 04", 4, "a0", "00", 0},
-    {"a value that is too small", 0, "31 9f", 128, "00000000000000000000000000000000",
-     "ffffffffffffffffffffffffffffffff", SMALL},
+    {"a value that is too small", 0, "31 9f", 128, "01000000000000000000000000000000",
+     "0000000000000000ffffffffffffffff", SMALL},
+    {"a value that is too small", 1, "31 9f", 128, "00000000000000000000000000000001",
+     "ffffffffffffffff0000000000000000", SMALL},
+    {"bits of a value that end before those of the piece", 0, "08 a5 9f 9d 10 3c", 16, "0000", "f0ff", SMALL},
     {"an implicit pointer", 0, "a0 10000000 02", 64, "0000000000000000", "ffffffffffffffff", POINTER},
     {"a struct with an implicit pointer", 0, "50 93 02 a0 10000000 02 93 02", 32, "88770000", "0000ffff", POINTER},
     {"the first unknown bit", 0, "93 02 a0 10000000 02 93 02", 32, "00000000", "ffffffff", AWAY},
     {"an empty expression", 0, "", 8, "00", "ff", AWAY},
     {"a fault", 0, "22", 8, "00", "ff", DWEXPR_NOT_ENOUGH_STACK_ITEMS},
     {"an endless loop", 0, "2f fdff", 8, "00", "ff", DWEXPR_TOO_MANY_ITERATIONS},
-    {"no memory", 0, "08 10 06", 8, "00", "ff", -DWEXPR_WANTS_MEMORY},
-    {"another address space", 0, "30 0a 0010 18", 8, "00", "ff", -DWEXPR_WANTS_MEMORY},
-    {"no register", 0, "75 00", 8, "00", "ff", -DWEXPR_WANTS_REGISTER},
-    {"no frame base", 0, "91 00", 8, "00", "ff", -DWEXPR_WANTS_FRAME_BASE},
-    {"no thread-local storage", 0, "30 9b", 8, "00", "ff", -DWEXPR_WANTS_TLS},
-    {"no CFA", 0, "9c", 8, "00", "ff", -DWEXPR_WANTS_CFA},
-    {"no entry to call", 0, "99 00000000", 8, "00", "ff", -DWEXPR_WANTS_LOCATION},
-    {"no caller", 0, "a3 01 50 9f", 8, "00", "ff", -DWEXPR_WANTS_ENTRY_VALUE},
-    {"no caller that passes a parameter", 0, "fa 00000000", 8, "00", "ff", -DWEXPR_WANTS_PARAMETER},
-    {"no .debug_addr", 0, "a1 00", 8, "00", "ff", -DWEXPR_WANTS_INDEXED},
-    {"no base type", 0, "31 a8 05", 8, "00", "ff", -DWEXPR_WANTS_BASE_TYPE},
-    {"no base type of a register", 0, "a5 00 05", 8, "00", "ff", -DWEXPR_WANTS_BASE_TYPE},
-    {"no WebAssembly", 0, "ed 00 00", 8, "00", "ff", -DWEXPR_WANTS_WASM_LOCAL},
+    {"no memory", 0, "08 10 06", 8, "00", "ff", DWEXPR_LIBDW_WANTS + DWEXPR_WANTS_MEMORY},
+    {"another address space", 0, "30 0a 0010 18", 8, "00", "ff", DWEXPR_LIBDW_WANTS + DWEXPR_WANTS_MEMORY},
+    {"no register", 0, "75 00", 8, "00", "ff", DWEXPR_LIBDW_WANTS + DWEXPR_WANTS_REGISTER},
+    {"no frame base", 0, "91 00", 8, "00", "ff", DWEXPR_LIBDW_WANTS + DWEXPR_WANTS_FRAME_BASE},
+    {"no thread-local storage", 0, "30 9b", 8, "00", "ff", DWEXPR_LIBDW_WANTS + DWEXPR_WANTS_TLS},
+    {"no CFA", 0, "9c", 8, "00", "ff", DWEXPR_LIBDW_WANTS + DWEXPR_WANTS_CFA},
+    {"no entry to call", 0, "99 00000000", 8, "00", "ff", DWEXPR_LIBDW_WANTS + DWEXPR_WANTS_LOCATION},
+    {"no caller", 0, "a3 01 50 9f", 8, "00", "ff", DWEXPR_LIBDW_WANTS + DWEXPR_WANTS_ENTRY_VALUE},
+    {"no caller that passes a parameter", 0, "fa 00000000", 8, "00", "ff", DWEXPR_LIBDW_WANTS + DWEXPR_WANTS_PARAMETER},
+    {"no .debug_addr", 0, "a1 00", 8, "00", "ff", DWEXPR_LIBDW_WANTS + DWEXPR_WANTS_INDEXED},
+    {"no base type", 0, "31 a8 05", 8, "00", "ff", DWEXPR_LIBDW_WANTS + DWEXPR_WANTS_BASE_TYPE},
+    {"no base type of a register", 0, "a5 00 05", 8, "00", "ff", DWEXPR_LIBDW_WANTS + DWEXPR_WANTS_BASE_TYPE},
+    {"no WebAssembly", 0, "ed 00 00", 8, "00", "ff", DWEXPR_LIBDW_WANTS + DWEXPR_WANTS_WASM_LOCAL},
 };
 
 static void check_values(void)
 {
     size_t i;
     for (i = 0; i < sizeof rows / sizeof *rows; i++) {
-        int big_endian = rows[i].big_endian, code;
-        dwexpr_libdw_frame frame;
+        int big_endian = rows[i].big_endian;
+        dwexpr_libdw_frame *frame = make_frame(&big_endian);
         dwexpr_libdw_text expression;
-        dwexpr_libdw_value value;
+        dwexpr_libdw_value *value;
+        uint32_t code;
         size_t size;
-        begin_frame(&frame, &big_endian);
         memset(&expression, 0, sizeof expression);
         expression.encoding = encoding_of(8, 4, 5, big_endian);
         expression.text.bytes = bytes;
         expression.text.length = bytes_of(rows[i].expression, bytes);
-        code = dwexpr_libdw_evaluate(&frame, &expression, &value);
+        code = dwexpr_libdw_evaluate(frame, &expression, NULL, NULL, &value);
         if (code) {
             check(code == rows[i].code, rows[i].name, dwexpr_libdw_code_name(code));
         } else {
             memset(got, 0x55, sizeof got);
             memset(unknown, 0x55, sizeof unknown);
-            code = dwexpr_libdw_read(&frame, &value, rows[i].bits, got, unknown);
+            code = dwexpr_libdw_read(frame, value, rows[i].bits, got, unknown);
             check(code == rows[i].code, rows[i].name, dwexpr_libdw_code_name(code));
             size = bytes_of(rows[i].bytes, wanted);
             check(size == (rows[i].bits + 7) / 8 && !memcmp(got, wanted, size), rows[i].name, "bytes");
             bytes_of(rows[i].unknown, wanted);
             check(!memcmp(unknown, wanted, size), rows[i].name, "unknown bits");
             check(got[size] == 0x55 && unknown[size] == 0x55, rows[i].name, "more is written");
-            check(dwexpr_libdw_read(&frame, &value, rows[i].bits, unknown, NULL) == code &&
+            check(dwexpr_libdw_read(frame, value, rows[i].bits, unknown, NULL) == code &&
                       !memcmp(unknown, got, size),
                   rows[i].name, "without a place for unknown bits");
         }
-        dwexpr_libdw_release(&value);
+        dwexpr_libdw_release(value);
+        dwexpr_libdw_free_frame(frame);
     }
+}
+
+/* A generic value has the size of an address, which isn't always 8 bytes. */
+static void check_narrow_value(void)
+{
+    static const uint8_t one[] = {0x31, 0x9f};
+    int big_endian = 0;
+    dwexpr_libdw_frame *frame = make_frame(&big_endian);
+    dwexpr_libdw_text expression;
+    dwexpr_libdw_value *value;
+    memset(&expression, 0, sizeof expression);
+    expression.encoding = encoding_of(4, 4, 5, 0);
+    expression.text.bytes = one;
+    expression.text.length = sizeof one;
+    check(!dwexpr_libdw_evaluate(frame, &expression, NULL, NULL, &value), "a value of 4 bytes", "it");
+    check(dwexpr_libdw_read(frame, value, 64, got, unknown) == SMALL, "a value of 4 bytes", "the code");
+    check(!memcmp(got, "\1\0\0\0\0\0\0\0", 8), "a value of 4 bytes", "bytes");
+    check(!memcmp(unknown, "\0\0\0\0\xff\xff\xff\xff", 8), "a value of 4 bytes", "unknown bits");
+    dwexpr_libdw_release(value);
+    dwexpr_libdw_free_frame(frame);
+}
+
+/* What is given to an evaluation: the value on the stack, and the object's address. */
+static void check_given(void)
+{
+    static const uint8_t sum[] = {0x97, 0x22};
+    const uint64_t initial = 3, object = 4;
+    int big_endian = 0;
+    dwexpr_libdw_frame *frame = make_frame(&big_endian);
+    dwexpr_libdw_text expression;
+    dwexpr_libdw_value *value;
+    uint32_t code;
+    memset(&expression, 0, sizeof expression);
+    expression.encoding = encoding_of(8, 4, 5, 0);
+    expression.text.bytes = sum;
+    expression.text.length = sizeof sum;
+    code = dwexpr_libdw_evaluate(frame, &expression, &object, &initial, &value);
+    check(!code && value->outcome.value == 7, "an initial value and an object", dwexpr_libdw_code_name(code));
+    dwexpr_libdw_release(value);
+    code = dwexpr_libdw_evaluate(frame, &expression, NULL, &initial, &value);
+    check(code == DWEXPR_INVALID_PUSH_OBJECT_ADDRESS, "no object", dwexpr_libdw_code_name(code));
+    dwexpr_libdw_release(value);
+    dwexpr_libdw_free_frame(frame);
+}
+
+/* A callback that gives `*context` bytes. */
+static int read_bytes(void *context, uint32_t number, uint8_t *content, size_t *size)
+{
+    (void)number;
+    (void)content;
+    *size = *(size_t *)context;
+    return 0;
+}
+
+static void check_callbacks(void)
+{
+    static const uint8_t texts[][2] = {{0x50, 0}, {0x70, 0x00}};
+    static const size_t sizes[] = {65, SIZE_MAX};
+    size_t size, i, j;
+    for (i = 0; i < 2; i++)
+        for (j = 0; j < 2; j++) {
+            dwexpr_libdw_source source;
+            dwexpr_libdw_frame *frame;
+            dwexpr_libdw_text expression;
+            dwexpr_libdw_value *value;
+            uint32_t code;
+            memset(&source, 0, sizeof source);
+            source.read_register = read_bytes;
+            source.context = &size;
+            size = sizes[j];
+            dwexpr_libdw_make_frame(&source, &frame);
+            memset(&expression, 0, sizeof expression);
+            expression.encoding = encoding_of(8, 4, 5, 0);
+            expression.text.bytes = texts[i];
+            expression.text.length = i ? 2 : 1;
+            code = dwexpr_libdw_evaluate(frame, &expression, NULL, NULL, &value);
+            if (!code)
+                code = dwexpr_libdw_read(frame, value, 64, got, unknown);
+            check(code == DWEXPR_LIBDW_BAD_REGISTER, "a register of a wrong size", dwexpr_libdw_code_name(code));
+            dwexpr_libdw_release(value);
+            dwexpr_libdw_free_frame(frame);
+        }
 }
 
 /* ---- callbacks that write nothing */
@@ -147,34 +237,39 @@ static void check_unwritten(void)
 {
     static const struct {
         const char *name, *expression;
-        int code;
+        uint32_t code;
     } unwritten[] = {
         {"memory that isn't written", "30 06 13 30 06 9f", 0},
         {"a place in memory that isn't written", "30 06 13 08 10", 0},
-        {"a register that isn't written", "70 00 13 70 00 9f", -DWEXPR_WANTS_REGISTER},
+        {"a register that isn't written", "70 00 13 70 00 9f", DWEXPR_LIBDW_WANTS + DWEXPR_WANTS_REGISTER},
         {"a piece in a register that isn't written", "70 00 13 50", UNREADABLE},
     };
     static const uint8_t zeros[8];
     size_t i;
     for (i = 0; i < sizeof unwritten / sizeof *unwritten; i++) {
-        int writes = 1, code;
-        dwexpr_libdw_frame frame;
+        int writes = 1;
+        dwexpr_libdw_source source;
+        dwexpr_libdw_frame *frame;
         dwexpr_libdw_text expression;
-        dwexpr_libdw_value value;
-        begin_frame(&frame, &writes);
-        frame.read_register = read_one_register;
-        frame.read_memory = read_memory_once;
+        dwexpr_libdw_value *value;
+        uint32_t code;
+        memset(&source, 0, sizeof source);
+        source.context = &writes;
+        source.read_register = read_one_register;
+        source.read_memory = read_memory_once;
+        dwexpr_libdw_make_frame(&source, &frame);
         memset(&expression, 0, sizeof expression);
         expression.encoding = encoding_of(8, 4, 5, 0);
         expression.text.bytes = bytes;
         expression.text.length = bytes_of(unwritten[i].expression, bytes);
-        code = dwexpr_libdw_evaluate(&frame, &expression, &value);
+        code = dwexpr_libdw_evaluate(frame, &expression, NULL, NULL, &value);
         memset(got, 0x55, sizeof got);
         if (!code)
-            code = dwexpr_libdw_read(&frame, &value, 64, got, NULL);
+            code = dwexpr_libdw_read(frame, value, 64, got, NULL);
         check(code == unwritten[i].code, unwritten[i].name, dwexpr_libdw_code_name(code));
         check(code || !memcmp(got, zeros, sizeof zeros), unwritten[i].name, "zeros");
-        dwexpr_libdw_release(&value);
+        dwexpr_libdw_release(value);
+        dwexpr_libdw_free_frame(frame);
     }
 }
 
@@ -184,22 +279,22 @@ static void check_operation_count(void)
 {
     static uint8_t many[100001];
     int big_endian = 0;
-    dwexpr_libdw_frame frame;
+    dwexpr_libdw_frame *frame = make_frame(&big_endian);
     dwexpr_libdw_text expression;
-    dwexpr_libdw_value value;
-    begin_frame(&frame, &big_endian);
+    dwexpr_libdw_value *value;
     memset(many, 0x96, sizeof many);
     many[99999] = 0x31;
     memset(&expression, 0, sizeof expression);
     expression.encoding = encoding_of(8, 4, 5, 0);
     expression.text.bytes = many;
     expression.text.length = 100000;
-    check(!dwexpr_libdw_evaluate(&frame, &expression, &value), "100,000 operations", "they are done");
-    dwexpr_libdw_release(&value);
+    check(!dwexpr_libdw_evaluate(frame, &expression, NULL, NULL, &value), "100,000 operations", "they are done");
+    dwexpr_libdw_release(value);
     expression.text.length++;
-    check(dwexpr_libdw_evaluate(&frame, &expression, &value) == DWEXPR_TOO_MANY_ITERATIONS, "100,001 operations",
-          "they are too many");
-    dwexpr_libdw_release(&value);
+    check(dwexpr_libdw_evaluate(frame, &expression, NULL, NULL, &value) == DWEXPR_TOO_MANY_ITERATIONS,
+          "100,001 operations", "they are too many");
+    dwexpr_libdw_release(value);
+    dwexpr_libdw_free_frame(frame);
 }
 
 /* ---- bytes of operations */
@@ -266,7 +361,7 @@ static void check_operations(void)
     for (i = 0; i < sizeof operations / sizeof *operations; i++) {
         const dwexpr_encoding encoding = encoding_of(operations[i].address_size, operations[i].offset_size,
                                                      operations[i].version, operations[i].big_endian);
-        const int code = dwexpr_libdw_encode(operations[i].operations, operations[i].count, encoding, got, sizeof got,
+        const uint32_t code = dwexpr_libdw_encode(operations[i].operations, operations[i].count, encoding, got, sizeof got,
                                              &length);
         if (!operations[i].bytes) {
             check(code == DWEXPR_LIBDW_NOT_ENCODABLE, operations[i].name, "it has no bytes");
@@ -285,15 +380,18 @@ static void check_operations(void)
 
 int main(void)
 {
-    int code;
+    uint32_t code;
     check_values();
+    check_narrow_value();
+    check_given();
+    check_callbacks();
     check_unwritten();
     check_operation_count();
     check_operations();
-    for (code = DWEXPR_LIBDW_FAILED; code <= DWEXPR_LIBDW_TOO_SMALL; code++)
+    for (code = DWEXPR_LIBDW_FAILED; code <= DWEXPR_LIBDW_NO_NUMBER; code++)
         check(strcmp(dwexpr_libdw_code_name(code), "unknown code") != 0, "the name of a code", "it has one");
-    check(!strcmp(dwexpr_libdw_code_name(DWEXPR_LIBDW_TOO_SMALL + 1), "unknown code"), "a code", "there is no such");
-    check(!strcmp(dwexpr_libdw_code_name(-DWEXPR_WANTS_CFA), "the canonical frame address"), "a request", "its name");
+    check(!strcmp(dwexpr_libdw_code_name(DWEXPR_LIBDW_NO_NUMBER + 1), "unknown code"), "a code", "there is no such");
+    check(!strcmp(dwexpr_libdw_code_name(DWEXPR_LIBDW_WANTS + DWEXPR_WANTS_CFA), "the canonical frame address"), "a request", "its name");
     check(!strcmp(dwexpr_libdw_code_name(DWEXPR_DIVISION_BY_ZERO), "a division by zero"), "a fault", "its name");
     return finish();
 }

@@ -1,0 +1,248 @@
+/* The call that led to a frame, and what it passed (DWARF 5, section 3.4). */
+#include "private.h"
+
+/* Goes to the next call site of a function, in its blocks and in what is inlined into it. */
+static int next_call_site(struct dwexpr_libdw_walk *walk, int enters, Dwarf_Die *site)
+{
+    while (dwexpr_libdw_next_entry(walk, enters) > 0) {
+        const int tag = dwarf_tag(&walk->path[walk->depth - 1]);
+        *site = walk->path[walk->depth - 1];
+        if (tag == DW_TAG_call_site || tag == DW_TAG_GNU_call_site)
+            return 1;
+        enters = tag == DW_TAG_lexical_block || tag == DW_TAG_inlined_subroutine || tag == DW_TAG_try_block ||
+                 tag == DW_TAG_catch_block;
+    }
+    return 0;
+}
+
+/* An attribute of a call site, which has another name before version 5. */
+static Dwarf_Attribute *attribute_of(Dwarf_Die *site, unsigned name, unsigned old_name, Dwarf_Attribute *attribute)
+{
+    return dwarf_attr(site, dwarf_tag(site) == DW_TAG_GNU_call_site ? old_name : name, attribute);
+}
+
+static int is_tail_call(Dwarf_Die *site)
+{
+    Dwarf_Attribute attribute;
+    bool is_one = false;
+    dwarf_formflag(attribute_of(site, DW_AT_call_tail_call, DW_AT_GNU_tail_call, &attribute), &is_one);
+    return is_one;
+}
+
+static int origin_of(Dwarf_Die *site, Dwarf_Die *origin)
+{
+    Dwarf_Attribute attribute;
+    return dwarf_formref_die(attribute_of(site, DW_AT_call_origin, DW_AT_abstract_origin, &attribute), origin) != NULL;
+}
+
+int dwexpr_libdw_find_call_site(dwexpr_libdw_frame *frame, Dwarf_Die *site)
+{
+    dwexpr_libdw_frame *caller = frame->source.caller;
+    struct dwexpr_libdw_walk walk;
+    int enters = 1, found = 0;
+    if (!caller || dwexpr_libdw_find_place(frame) || dwexpr_libdw_find_place(caller) || !frame->place.function.addr ||
+        !caller->place.function.addr || caller->place.is_activation ||
+        dwexpr_libdw_begin_walk(&walk, &caller->place.function))
+        return 0;
+    for (; !found && next_call_site(&walk, enters, site); enters = 0) {
+        Dwarf_Attribute attribute;
+        Dwarf_Addr address;
+        found = !dwarf_formaddr(attribute_of(site, DW_AT_call_return_pc, DW_AT_low_pc, &attribute), &address) &&
+                address == caller->place.address + 1;
+    }
+    free(walk.path);
+    return found;
+}
+
+int dwexpr_libdw_call_target(Dwarf_Die *site, Dwarf_Attribute *target)
+{
+    return attribute_of(site, DW_AT_call_target, DW_AT_GNU_call_site_target, target) != NULL;
+}
+
+/* ---- which function a call site names */
+
+/* The entry that an entry of a function is an instance of, or that it completes. */
+static Dwarf_Die root_of(const Dwarf_Die *function)
+{
+    Dwarf_Die root = *function;
+    Dwarf_Attribute attribute;
+    int steps;
+    for (steps = 0; steps < 8; steps++)
+        if (!dwarf_formref_die(dwarf_attr(&root, DW_AT_abstract_origin, &attribute), &root) &&
+            !dwarf_formref_die(dwarf_attr(&root, DW_AT_specification, &attribute), &root))
+            break;
+    return root;
+}
+
+/* The name that a function has for the linker, or else in its source if other units see it. */
+static const char *external_name(Dwarf_Die *function)
+{
+    Dwarf_Attribute attribute;
+    const char *name = dwarf_formstring(dwarf_attr_integrate(function, DW_AT_linkage_name, &attribute));
+    if (!name)
+        name = dwarf_formstring(dwarf_attr_integrate(function, DW_AT_MIPS_linkage_name, &attribute));
+    if (!name && dwarf_attr_integrate(function, DW_AT_external, &attribute))
+        name = dwarf_diename(function);
+    return name;
+}
+
+/* The address of a symbol of this name, at this address if that isn't 0; 0 if there is none. A function of a library
+ * may have several. */
+static Dwarf_Addr symbol_at(Dwfl_Module *module, Dwarf_Addr address, const char *name)
+{
+    int i;
+    for (i = module ? dwfl_module_getsymtab(module) : 0; i > 0; i--) {
+        GElf_Sym symbol;
+        GElf_Addr place;
+        const char *found = dwfl_module_getsym_info(module, i - 1, &symbol, &place, NULL, NULL, NULL);
+        if (found && (place == address || !address) && symbol.st_shndx != SHN_UNDEF && !strcmp(found, name))
+            return place;
+    }
+    return 0;
+}
+
+int dwexpr_libdw_names(Dwarf_Die *site, const dwexpr_libdw_frame *caller, const dwexpr_libdw_frame *called)
+{
+    Dwarf_Die origin, function = called->place.function;
+    Dwarf_Addr entry, begin;
+    const char *name, *wanted;
+    if (!origin_of(site, &origin))
+        return -1;
+    if (root_of(&origin).addr == root_of(&function).addr)
+        return 1;
+    if (dwarf_entrypc(&function, &entry))
+        return 0;
+    entry += called->place.bias;
+    if (!dwarf_entrypc(&origin, &begin))
+        return begin + caller->place.bias == entry;
+    name = external_name(&origin);
+    wanted = external_name(&function);
+    return name && ((wanted && !strcmp(name, wanted)) || symbol_at(called->place.module, entry, name));
+}
+
+/* ---- tail calls */
+
+uint64_t dwexpr_libdw_called_address(Dwarf_Die *site, const dwexpr_libdw_frame *caller)
+{
+    Dwarf_Die origin;
+    Dwarf_Addr entry;
+    const char *name;
+    if (!origin_of(site, &origin))
+        return 0;
+    if (!dwarf_entrypc(&origin, &entry))
+        return entry + caller->place.bias;
+    name = external_name(&origin);
+    if (!name)
+        name = dwarf_diename(&origin);
+    return name ? symbol_at(caller->place.module, 0, name) : 0;
+}
+
+int dwexpr_libdw_enter(const dwexpr_libdw_frame *caller, uint64_t address, dwexpr_libdw_frame *entered)
+{
+    dwexpr_libdw_source source = caller->source;
+    Dwarf_Addr entry;
+    source.pc = address;
+    source.is_activation = 1;
+    source.unit = NULL;
+    source.frame_base = source.cfa = NULL;
+    source.read_register = NULL;
+    dwexpr_libdw_begin_frame(entered, &source);
+    return address && !dwexpr_libdw_find_place(entered) && entered->place.function.addr &&
+           !dwarf_entrypc(&entered->place.function, &entry) && entry + entered->place.bias == address;
+}
+
+int dwexpr_libdw_find_tail_call(const dwexpr_libdw_frame *between, const dwexpr_libdw_frame *called, Dwarf_Die *site)
+{
+    struct dwexpr_libdw_walk walk;
+    Dwarf_Die other;
+    int enters = 1, count = 0;
+    if (dwexpr_libdw_begin_walk(&walk, &between->place.function))
+        return 0;
+    for (; next_call_site(&walk, enters, &other); enters = 0)
+        if (is_tail_call(&other)) {
+            *site = other;
+            count++;
+        }
+    free(walk.path);
+    return count == 1 && dwexpr_libdw_names(site, between, called) > 0;
+}
+
+/* The most functions that are looked at for a tail call of the first of them. */
+enum { MOST_FUNCTIONS = 32 };
+
+/* Adds the functions to which one leaves by tail calls. Gives back 1 if one of them may be the first, else 0. */
+static int add_tail_calls(dwexpr_libdw_frame *functions, int at, int *count)
+{
+    struct dwexpr_libdw_walk walk;
+    Dwarf_Die site;
+    int enters = 1, found = dwexpr_libdw_begin_walk(&walk, &functions[at].place.function) != 0, i;
+    if (found)
+        return 1;
+    for (; !found && next_call_site(&walk, enters, &site); enters = 0) {
+        if (!is_tail_call(&site))
+            continue;
+        found = dwexpr_libdw_names(&site, &functions[at], &functions[0]) != 0 || *count == MOST_FUNCTIONS;
+        if (found || !dwexpr_libdw_enter(&functions[at], dwexpr_libdw_called_address(&site, &functions[at]),
+                                         &functions[*count]))
+            continue;
+        for (i = 0; i < *count; i++)
+            if (functions[i].place.function.addr == functions[*count].place.function.addr)
+                break;
+        *count += i == *count;
+    }
+    free(walk.path);
+    return found;
+}
+
+int dwexpr_libdw_may_call_itself(dwexpr_libdw_frame *frame)
+{
+    dwexpr_libdw_frame *functions;
+    int count = 1, i;
+    if (frame->is_checked)
+        return frame->may_call_itself;
+    frame->is_checked = 1;
+    frame->may_call_itself = 1;
+    functions = (dwexpr_libdw_frame *)malloc((MOST_FUNCTIONS + 1) * sizeof *functions);
+    if (!functions)
+        return 1;
+    functions[0] = *frame;
+    frame->may_call_itself = 0;
+    for (i = 0; i < count && !frame->may_call_itself; i++)
+        frame->may_call_itself = add_tail_calls(functions, i, &count);
+    free(functions);
+    return frame->may_call_itself;
+}
+
+/* ---- what it passes */
+
+/* Whether an expression, on entry of a function, is the place of a call site's parameter: it has the same bytes, or
+ * reads its register with a type. */
+static int is_passed_in(dwexpr_text wanted, const Dwarf_Block *place, dwexpr_encoding encoding)
+{
+    dwexpr_operation first, second;
+    if (wanted.length == place->length && !memcmp(wanted.bytes, place->data, wanted.length))
+        return 1;
+    return !dwexpr_decode(wanted.bytes, wanted.length, encoding, 0, &first) &&
+           !dwexpr_decode(place->data, place->length, encoding, 0, &second) && first.size == wanted.length &&
+           second.size == place->length && first.kind == DWEXPR_OP_REGISTER_OFFSET && first.base_type &&
+           second.kind == DWEXPR_OP_REGISTER && first.register_number == second.register_number;
+}
+
+int dwexpr_libdw_passed(Dwarf_Die *site, dwexpr_text place, dwexpr_encoding encoding, const Dwarf_Die *entry,
+                        Dwarf_Attribute *value)
+{
+    Dwarf_Die parameter;
+    int more;
+    for (more = dwarf_child(site, &parameter); more == 0; more = dwexpr_libdw_next_sibling(&parameter)) {
+        const int is_old = dwarf_tag(&parameter) == DW_TAG_GNU_call_site_parameter;
+        const unsigned names = is_old ? DW_AT_abstract_origin : DW_AT_call_parameter;
+        Dwarf_Attribute attribute;
+        Dwarf_Block block;
+        Dwarf_Die origin;
+        if (entry ? dwarf_formref_die(dwarf_attr(&parameter, names, &attribute), &origin) && origin.addr == entry->addr
+                  : !dwarf_formblock(dwarf_attr(&parameter, DW_AT_location, &attribute), &block) &&
+                        is_passed_in(place, &block, encoding))
+            return dwarf_attr(&parameter, is_old ? DW_AT_GNU_call_site_value : DW_AT_call_value, value) != NULL;
+    }
+    return 0;
+}

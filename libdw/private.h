@@ -1,0 +1,99 @@
+/* What the sources of libdwexpr_libdw.a share. */
+#ifndef DWEXPR_LIBDW_PRIVATE_H
+#define DWEXPR_LIBDW_PRIVATE_H
+
+#include <dwarf.h>
+#include <elfutils/version.h>
+#include <gelf.h>
+#include <stdlib.h>
+#include <string.h>
+
+#include "dwexpr_libdw.h"
+
+#pragma GCC visibility push(hidden)
+
+struct dwexpr_libdw_frame {
+    dwexpr_libdw_source source;
+    uint32_t limit; /* of expressions */
+    /* what dwexpr_libdw_find_place finds */
+    int is_located;
+    uint32_t code;
+    dwexpr_libdw_place place;
+    /* what is given, or has been evaluated */
+    int has_base, has_cfa;
+    uint64_t base, cfa;
+    int is_checked, may_call_itself; /* by tail calls */
+};
+
+/* ---- encode.c */
+
+/* The number of the lowest 8 of these bytes, and the bytes of a number, in an order. */
+uint64_t dwexpr_libdw_number_of(const uint8_t *bytes, size_t size, int big_endian);
+void dwexpr_libdw_bytes_of(uint64_t number, size_t size, int big_endian, uint8_t *bytes);
+
+/* ---- expressions.c */
+
+/* A list of memory. */
+struct dwexpr_libdw_memory {
+    struct dwexpr_libdw_memory *next;
+};
+
+void dwexpr_libdw_free_memory(void *first);
+/* Puts the memory of an expression to a list. */
+void dwexpr_libdw_keep(dwexpr_libdw_text *expression, void **list);
+
+/* ---- entries.c */
+
+/* Goes to the next entry of the same parent, as dwarf_siblingof does. It stands after this one: so a way through all
+ * ends, whatever the debug information says. */
+int dwexpr_libdw_next_sibling(Dwarf_Die *entry);
+
+/* A way through the entries of a unit, without recursion. */
+struct dwexpr_libdw_walk {
+    Dwarf_Die *path; /* from where it began to the entry where it is */
+    size_t depth, room;
+    size_t floor; /* it ends when it would leave the first so many entries of the path */
+    const void *last; /* the last entry where it was; the next one stands after it */
+};
+
+uint32_t dwexpr_libdw_begin_walk(struct dwexpr_libdw_walk *walk, const Dwarf_Die *first);
+/* Goes to the next entry, into the children if `enters`. Gives back 1; 0 at the end; or -1 if there is no memory. */
+int dwexpr_libdw_next_entry(struct dwexpr_libdw_walk *walk, int enters);
+
+/* ---- frames.c */
+
+/* Finds the module, the unit and the function of a frame, the same each time. */
+uint32_t dwexpr_libdw_find_place(dwexpr_libdw_frame *frame);
+void dwexpr_libdw_begin_frame(dwexpr_libdw_frame *frame, const dwexpr_libdw_source *source);
+/* A register of a frame. Answers 0, DWEXPR_LIBDW_NOT_READABLE or DWEXPR_LIBDW_BAD_REGISTER. */
+uint32_t dwexpr_libdw_register(const dwexpr_libdw_frame *frame, uint32_t number,
+                               uint8_t bytes[DWEXPR_LIBDW_REGISTER_SIZE], size_t *size);
+
+/* The call frame information at a frame's address, of .eh_frame or, if `i` is 1, of .debug_frame. Gives back 0, and
+ * then `state` is to be freed. */
+int dwexpr_libdw_find_state(dwexpr_libdw_frame *frame, int i, Dwarf_Frame **state, Elf **elf);
+
+/* ---- calls.c */
+
+/* The call site that led to a frame, which is in its caller. Gives back whether there is one. */
+int dwexpr_libdw_find_call_site(dwexpr_libdw_frame *frame, Dwarf_Die *site);
+/* The attribute of the address that a call site computes. */
+int dwexpr_libdw_call_target(Dwarf_Die *site, Dwarf_Attribute *target);
+/* Whether a call site in `caller` names the function of a frame; -1 if it computes an address. */
+int dwexpr_libdw_names(Dwarf_Die *site, const dwexpr_libdw_frame *caller, const dwexpr_libdw_frame *called);
+/* The address of the function that a call site names, 0 if it isn't known. */
+uint64_t dwexpr_libdw_called_address(Dwarf_Die *site, const dwexpr_libdw_frame *caller);
+/* A frame of the function at an address that the caller called, and that isn't there any more: none of its registers is
+ * known. Gives back whether a function begins there. */
+int dwexpr_libdw_enter(const dwexpr_libdw_frame *caller, uint64_t address, dwexpr_libdw_frame *entered);
+/* The tail call by which a function left for that of a frame. Gives back whether there is one, and no other. */
+int dwexpr_libdw_find_tail_call(const dwexpr_libdw_frame *between, const dwexpr_libdw_frame *called, Dwarf_Die *site);
+/* Whether the function of a frame may have called itself by tail calls: then its caller's call site tells nothing. */
+int dwexpr_libdw_may_call_itself(dwexpr_libdw_frame *frame);
+/* The attribute of the value that a call site passes at a place, or in a parameter's entry if that isn't NULL. */
+int dwexpr_libdw_passed(Dwarf_Die *site, dwexpr_text place, dwexpr_encoding encoding, const Dwarf_Die *entry,
+                        Dwarf_Attribute *value);
+
+#pragma GCC visibility pop
+
+#endif

@@ -1,0 +1,160 @@
+/* The bytes of values, and the names of codes. */
+#include "private.h"
+
+#include "dwexpr_names.h"
+
+/* Sets a bit. Bit 0 of a byte is its lowest one in little endian, and its highest in big endian. */
+static void set_bit(uint8_t *bytes, uint64_t at, unsigned bit, int big_endian)
+{
+    const unsigned place = (unsigned)(at % 8) ^ (big_endian ? 7 : 0);
+    bytes[at / 8] = (uint8_t)((bytes[at / 8] & ~(1u << place)) | bit << place);
+}
+
+static void copy_bits(uint8_t *to, uint64_t to_bit, const uint8_t *from, uint64_t from_bit, uint64_t count,
+                      int big_endian)
+{
+    const unsigned flip = big_endian ? 7 : 0;
+    uint64_t i = 0;
+    if (count >= 8 && !(to_bit % 8) && !(from_bit % 8)) {
+        memcpy(to + to_bit / 8, from + from_bit / 8, (size_t)(count / 8));
+        i = count - count % 8;
+    }
+    for (; i < count; i++)
+        set_bit(to, to_bit + i, from[(from_bit + i) / 8] >> ((from_bit + i) % 8 ^ flip) & 1, big_endian);
+}
+
+/* Where the bits of a value go. */
+struct destination {
+    const dwexpr_libdw_frame *frame;
+    int big_endian;
+    uint8_t *bytes, *unknown;
+};
+
+static void mark_unknown(const struct destination *place, uint64_t at, uint64_t count)
+{
+    uint64_t i;
+    for (i = at; place->unknown && i < at + count; i++)
+        set_bit(place->unknown, i, 1, place->big_endian);
+}
+
+/* Copies bits from memory. Bytes that can't be read are unknown. */
+static uint32_t copy_memory(const struct destination *place, uint64_t address, uint64_t bit, uint64_t at,
+                            uint64_t count)
+{
+    const dwexpr_libdw_source *source = &place->frame->source;
+    uint8_t part[256];
+    uint32_t code = 0;
+    uint64_t most = 8 * sizeof part;
+    address += bit / 8;
+    bit %= 8;
+    while (count) {
+        const uint64_t bits = count < most - bit ? count : most - bit;
+        const size_t size = (size_t)((bit + bits + 7) / 8);
+        memset(part, 0, size);
+        if (source->read_memory && !source->read_memory(source->context, address, part, size)) {
+            copy_bits(place->bytes, at, part, bit, bits, place->big_endian);
+        } else if (source->read_memory && size > 1) {
+            most = 8 * ((size + 1) / 2);
+            continue;
+        } else {
+            mark_unknown(place, at, bits);
+            code = DWEXPR_LIBDW_NOT_READABLE;
+        }
+        /* what follows may be readable */
+        most = code ? 8 * sizeof part : most;
+        address += size;
+        at += bits;
+        count -= bits;
+        bit = 0;
+    }
+    return code;
+}
+
+/* Copies the bits of a block, or of a register or a value, whose offset counts from the lowest bit. If there are fewer
+ * than the piece has, the others are unknown: those at the end, or above the highest bit. */
+static uint32_t copy_content(const struct destination *place, const uint8_t *from, size_t size, int is_block,
+                             const dwexpr_piece *piece, uint64_t at, uint64_t count)
+{
+    const uint64_t whole = 8 * (uint64_t)size, bit = piece->bit_offset;
+    const uint64_t rest = bit < whole ? whole - bit : 0, known = count < rest ? count : rest;
+    const int is_reversed = place->big_endian && !is_block;
+    copy_bits(place->bytes, is_reversed ? at + count - known : at, from, is_reversed ? rest - known : bit, known,
+              place->big_endian);
+    mark_unknown(place, is_reversed ? at : at + known, count - known);
+    return known < count ? DWEXPR_LIBDW_TOO_SMALL : 0;
+}
+
+/* Copies the bits of a piece to a place in the bytes. */
+static uint32_t copy_piece(const struct destination *place, const dwexpr_libdw_value *value, const dwexpr_piece *piece,
+                           uint64_t at, uint64_t count)
+{
+    uint8_t content[DWEXPR_LIBDW_REGISTER_SIZE];
+    dwexpr_text block;
+    size_t size;
+    uint32_t code = DWEXPR_LIBDW_OPTIMIZED_AWAY;
+    switch (piece->kind) {
+    case DWEXPR_AT_ADDRESS: return copy_memory(place, piece->number, piece->bit_offset, at, count);
+    case DWEXPR_IN_REGISTER:
+        code = dwexpr_libdw_register(place->frame, (uint32_t)piece->number, content, &size);
+        if (code)
+            break;
+        return copy_content(place, content, size, 0, piece, at, count);
+    case DWEXPR_HOLDS_VALUE:
+        size = piece->value_type == DWEXPR_GENERIC ? value->encoding.address_size
+                                                   : dwexpr_type_bit_size(piece->value_type, UINT64_MAX) / 8;
+        dwexpr_libdw_bytes_of(piece->number, size, place->big_endian, content);
+        return copy_content(place, content, size, 0, piece, at, count);
+    case DWEXPR_HOLDS_BYTES:
+        block = dwexpr_piece_block(piece, value->texts, value->texts_length);
+        return copy_content(place, block.bytes, block.length, 1, piece, at, count);
+    case DWEXPR_POINTS_INTO: code = DWEXPR_LIBDW_IMPLICIT_POINTER; break;
+    default: break;
+    }
+    mark_unknown(place, at, count);
+    return code;
+}
+
+uint32_t dwexpr_libdw_read(const dwexpr_libdw_frame *frame, const dwexpr_libdw_value *value, uint64_t size_in_bits,
+                           uint8_t *bytes, uint8_t *unknown)
+{
+    const size_t size = (size_t)(size_in_bits / 8 + (size_in_bits % 8 != 0));
+    const struct destination place = {frame, value->encoding.big_endian, bytes, unknown};
+    uint64_t done, count;
+    uint32_t code = 0;
+    size_t i = 0;
+    memset(bytes, 0, size);
+    if (unknown)
+        memset(unknown, 0, size);
+    for (done = 0; done < size_in_bits; done += count) {
+        const dwexpr_piece *piece = i < value->outcome.pieces ? &value->pieces[i++] : NULL;
+        uint32_t failed = DWEXPR_LIBDW_OPTIMIZED_AWAY;
+        count = size_in_bits - done;
+        if (piece && piece->has_size && piece->size_in_bits < count)
+            count = piece->size_in_bits;
+        if (piece)
+            failed = copy_piece(&place, value, piece, done, count);
+        else
+            mark_unknown(&place, done, count);
+        code = code ? code : failed;
+    }
+    return code;
+}
+
+const char *dwexpr_libdw_code_name(uint32_t code)
+{
+    static const char *const names[] = {
+        "libdw refuses the debug information", "no such process, core dump or thread can be read", "no memory",
+        "no debug information for the address", "an operation can't be encoded", "optimized away",
+        "the register has the caller's value", "an implicit pointer", "memory or a register can't be read",
+        "a location is smaller than its piece", "the answers take too many expressions", "there are more frames",
+        "a callback gave a register of too many bytes", "there is no such number",
+    };
+    const char *name;
+    if (code >= DWEXPR_LIBDW_WANTS)
+        name = dwexpr_request_name(code - DWEXPR_LIBDW_WANTS);
+    else if (code >= DWEXPR_LIBDW_FAILED)
+        name = code <= DWEXPR_LIBDW_NO_NUMBER ? names[code - DWEXPR_LIBDW_FAILED] : NULL;
+    else
+        name = dwexpr_code_name(code);
+    return name ? name : "unknown code";
+}

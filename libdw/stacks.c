@@ -1,0 +1,349 @@
+/* The frames of a thread, and their registers. */
+#define _GNU_SOURCE /* ptrace */
+#include "targets.h"
+
+#if _ELFUTILS_PREREQ(0, 188) /* dwfl_frame_reg */
+
+#include <sys/ptrace.h>
+#include <sys/uio.h>
+
+/* How many registers of a frame libdwfl is asked for, from number 0. */
+#define ASKED_REGISTERS 128
+
+/* A register of a frame, as libdwfl tells it. */
+struct known_register {
+    uint32_t number;
+    Dwarf_Word content;
+};
+
+struct stack_frame {
+    dwexpr_libdw_frame frame;
+    dwexpr_libdw_stack *stack;
+    size_t registers, register_count; /* in those of the stack */
+};
+
+struct dwexpr_libdw_stack {
+    dwexpr_libdw_target *target;
+    pid_t thread;
+    struct stack_frame *frames;
+    size_t length, room, most;
+    struct known_register *registers;
+    size_t register_length, register_room;
+    struct dwexpr_libdw_sets sets; /* of the innermost frame */
+    uint32_t code;
+};
+
+/* ---- registers from the kernel's sets */
+
+/* Those of the x87 aren't among them: they have 80 bits, and a variable of 64 in one isn't its lowest 64. */
+static const struct row {
+    uint16_t machine, first, count, set, offset, size;
+} rows[] = {
+    {EM_X86_64, 17, 16, FLOATING, 160, 16}, /* xmm0 to xmm15 */
+    {EM_X86_64, 58, 2, GENERAL, 168, 8},    /* fs.base and gs.base */
+    {EM_386, 21, 8, FXSAVE, 160, 16},       /* xmm0 to xmm7 */
+};
+
+enum { RAX = 0, RBX = 3, XMM0 = 17, XMM15 = 32, FS_BASE = 58 };
+
+/* The upper half of a ymm register, which has the number of the xmm register that is its lower half. XSAVE has a mask
+ * of what it may have at 464, of what isn't zero at 512, and the upper halves at 576. */
+static void read_upper_half(const struct dwexpr_libdw_sets *sets, uint32_t number, uint8_t *bytes, size_t *size)
+{
+    const uint8_t *set = sets->bytes[XSAVE];
+    const size_t at = 576 + 16 * (size_t)(number - XMM0);
+    if (!set || at + 16 > sets->lengths[XSAVE] || !(set[464] & 4))
+        return;
+    if (set[512] & 4)
+        memcpy(bytes + 16, set + at, 16);
+    else
+        memset(bytes + 16, 0, 16);
+    *size = 32;
+}
+
+/* A register of the innermost frame. */
+static int read_set(const dwexpr_libdw_stack *stack, uint32_t number, uint8_t *bytes, size_t *size)
+{
+    size_t i;
+    for (i = 0; i < sizeof rows / sizeof *rows; i++) {
+        const struct row *row = &rows[i];
+        const size_t at = row->offset + (size_t)row->size * (number - row->first);
+        if (stack->target->machine != row->machine || number < row->first || number - row->first >= row->count ||
+            at + row->size > stack->sets.lengths[row->set])
+            continue;
+        *size = row->size;
+        memcpy(bytes, stack->sets.bytes[row->set] + at, row->size);
+        if (row->machine == EM_X86_64 && number >= XMM0 && number <= XMM15)
+            read_upper_half(&stack->sets, number, bytes, size);
+        return 0;
+    }
+    return 1;
+}
+
+/* ---- registers of callers */
+
+/* Whether a call kept a register of its caller that call frame information says nothing of. GCC names a register that a
+ * call may change only if it knows that this call doesn't. */
+static int is_kept(dwexpr_libdw_frame *caller, unsigned machine, uint32_t number)
+{
+    Dwarf_Attribute attribute;
+    const char *producer;
+    if (machine == EM_X86_64 && (number == RBX || number == FS_BASE))
+        return 1;
+    if (dwexpr_libdw_find_place(caller) || !caller->place.unit.addr)
+        return 0;
+    producer = dwarf_formstring(dwarf_attr(&caller->place.unit, DW_AT_producer, &attribute));
+    return producer && !strncmp(producer, "GNU ", 4);
+}
+
+/* Whether a frame was interrupted by a signal: the one that it called is that of the kernel, whose call frame
+ * information says so. */
+static int is_interrupted(const dwexpr_libdw_stack *stack, size_t index)
+{
+    Dwarf_Frame *state;
+    Elf *elf;
+    bool is_signal = false;
+    if (index && !dwexpr_libdw_find_state(&stack->frames[index - 1].frame, 0, &state, &elf)) {
+        dwarf_frame_info(state, NULL, NULL, &is_signal);
+        free(state);
+    }
+    return is_signal;
+}
+
+/* A register as libdwfl tells it. Of x86-64 it mixes up two: in a caller's frame it takes rax, which a call may change,
+ * for rbx, which a call keeps (elfutils 0.188). */
+static int is_known(const dwexpr_libdw_stack *stack, size_t index, uint32_t number, Dwarf_Word *content)
+{
+    const struct stack_frame *frame = &stack->frames[index];
+    size_t i;
+    if (index && stack->target->machine == EM_X86_64 && number == RAX && !is_interrupted(stack, index))
+        return 0;
+    for (i = frame->registers; i < frame->registers + frame->register_count; i++)
+        if (stack->registers[i].number == number) {
+            *content = stack->registers[i].content;
+            return 1;
+        }
+    return 0;
+}
+
+static int read_register(void *context, uint32_t number, uint8_t *bytes, size_t *size)
+{
+    const struct stack_frame *frame = (const struct stack_frame *)context;
+    const dwexpr_libdw_stack *stack = frame->stack;
+    const dwexpr_libdw_target *target = stack->target;
+    const size_t first = (size_t)(frame - stack->frames);
+    Dwarf_Word content;
+    size_t i;
+    for (i = first;; i--) {
+        if (is_known(stack, i, number, &content)) {
+            *size = target->ident[EI_CLASS] == ELFCLASS32 ? 4 : 8;
+            dwexpr_libdw_bytes_of(content, *size, target->ident[EI_DATA] == ELFDATA2MSB, bytes);
+            return 0;
+        }
+        if (!i)
+            return read_set(stack, number, bytes, size);
+        /* a signal's handler keeps nothing */
+        if (stack->frames[i].frame.source.is_activation ||
+            (i == first && !is_kept(&stack->frames[first].frame, target->machine, number)))
+            return 1;
+    }
+}
+
+static int read_memory(void *context, uint64_t address, uint8_t *bytes, size_t size)
+{
+    return dwexpr_libdw_read_memory(((const struct stack_frame *)context)->stack->target, address, bytes, size);
+}
+
+/* ---- thread-local storage */
+
+/* The base of the segment that gs selects on i386: register 10 of the general ones, and the entries that the kernel has
+ * of a thread, each with its number and its base. */
+static int find_segment(const dwexpr_libdw_stack *stack, uint64_t *base)
+{
+    const uint8_t *general = stack->sets.bytes[GENERAL], *entries = stack->sets.bytes[SEGMENTS];
+    size_t i;
+    if (stack->sets.lengths[GENERAL] < 44)
+        return 1;
+    for (i = 0; i + 16 <= stack->sets.lengths[SEGMENTS]; i += 16)
+        if (dwexpr_libdw_number_of(entries + i, 4, 0) == dwexpr_libdw_number_of(general + 40, 4, 0) >> 3) {
+            *base = dwexpr_libdw_number_of(entries + i + 4, 4, 0);
+            return 0;
+        }
+    return 1;
+}
+
+static int find_thread_pointer(const dwexpr_libdw_stack *stack, uint64_t *pointer)
+{
+    uint8_t bytes[DWEXPR_LIBDW_REGISTER_SIZE];
+    size_t size;
+    if (stack->target->machine == EM_386)
+        return find_segment(stack, pointer);
+    if (stack->target->machine != EM_X86_64 || read_set(stack, FS_BASE, bytes, &size))
+        return 1;
+    *pointer = dwexpr_libdw_number_of(bytes, size, 0);
+    return 0;
+}
+
+/* On x86 the program's own is below the thread pointer. libdwfl doesn't tell where that of a shared library is. */
+static int find_tls(void *context, Dwfl_Module *module, uint64_t offset, uint64_t *address)
+{
+    const dwexpr_libdw_stack *stack = ((const struct stack_frame *)context)->stack;
+    const dwexpr_libdw_target *target = stack->target;
+    uint64_t pointer;
+    size_t count, i;
+    Dwarf_Addr bias;
+    Elf *elf = dwfl_module_getelf(module, &bias);
+    if (!elf || !target->program || dwfl_addrmodule(target->dwfl, target->program) != module ||
+        elf_getphdrnum(elf, &count) || find_thread_pointer(stack, &pointer))
+        return 1;
+    for (i = 0; i < count; i++) {
+        GElf_Phdr segment;
+        uint64_t align, first;
+        if (!gelf_getphdr(elf, (int)i, &segment) || segment.p_type != PT_TLS)
+            continue;
+        /* GCC 12 writes an address for an offset in split debug information of version 5 */
+        if (offset >= segment.p_memsz)
+            return 1;
+        /* the block ends at the pointer, and begins at an address with the alignment of the segment */
+        align = segment.p_align ? segment.p_align : 1;
+        first = (0 - segment.p_vaddr) % align;
+        *address = pointer + offset - first - (segment.p_memsz - first + align - 1) / align * align;
+        return 0;
+    }
+    return 1;
+}
+
+/* ---- the way through the frames */
+
+/* Makes room for one more item. Gives back the items, or NULL if there is no memory. */
+static void *with_room(void *items, size_t length, size_t *room, size_t size)
+{
+    void *more = items;
+    if (length == *room) {
+        more = realloc(items, (2 * *room + 32) * size);
+        *room = more ? 2 * *room + 32 : *room;
+    }
+    return more;
+}
+
+/* The sets of a process's thread, which is stopped on the way. */
+static uint32_t trace_sets(dwexpr_libdw_stack *stack)
+{
+    const size_t room = 16384;
+    uint8_t *bytes = (uint8_t *)malloc(room);
+    uint32_t code = bytes ? 0 : DWEXPR_LIBDW_NO_MEMORY;
+    int set;
+    for (set = GENERAL; set < SETS && !code; set++) {
+        struct iovec part;
+        part.iov_base = bytes;
+        part.iov_len = room;
+        if (!ptrace(PTRACE_GETREGSET, stack->thread, (void *)(uintptr_t)dwexpr_libdw_note_types[set], &part))
+            code = dwexpr_libdw_keep_set(&stack->sets, (enum set)set, bytes, part.iov_len);
+    }
+    free(bytes);
+    return code;
+}
+
+static uint32_t add_registers(dwexpr_libdw_stack *stack, Dwfl_Frame *state, struct stack_frame *frame)
+{
+    unsigned number;
+    frame->registers = stack->register_length;
+    for (number = 0; number < ASKED_REGISTERS; number++) {
+        Dwarf_Word content;
+        struct known_register *registers;
+        if (dwfl_frame_reg(state, number, &content))
+            continue;
+        registers = (struct known_register *)with_room(stack->registers, stack->register_length,
+                                                       &stack->register_room, sizeof *registers);
+        if (!registers)
+            return DWEXPR_LIBDW_NO_MEMORY;
+        stack->registers = registers;
+        registers[stack->register_length].number = number;
+        registers[stack->register_length++].content = content;
+        frame->register_count++;
+    }
+    return 0;
+}
+
+static int on_frame(Dwfl_Frame *state, void *given)
+{
+    dwexpr_libdw_stack *stack = (dwexpr_libdw_stack *)given;
+    struct stack_frame *frames;
+    dwexpr_libdw_source source;
+    bool is_activation;
+    memset(&source, 0, sizeof source);
+    if (stack->length == stack->most) {
+        stack->code = DWEXPR_LIBDW_TOO_MANY_FRAMES;
+        return DWARF_CB_ABORT;
+    }
+    if (!dwfl_frame_pc(state, &source.pc, &is_activation))
+        return DWARF_CB_ABORT;
+    if (!stack->length && !stack->target->core)
+        stack->code = trace_sets(stack);
+    frames = (struct stack_frame *)with_room(stack->frames, stack->length, &stack->room, sizeof *frames);
+    if (!frames || stack->code) {
+        stack->code = DWEXPR_LIBDW_NO_MEMORY;
+        return DWARF_CB_ABORT;
+    }
+    stack->frames = frames;
+    frames += stack->length++;
+    memset(frames, 0, sizeof *frames);
+    frames->stack = stack;
+    source.dwfl = stack->target->dwfl;
+    source.is_activation = is_activation;
+    source.read_register = read_register;
+    source.read_memory = read_memory;
+    source.find_tls = find_tls;
+    dwexpr_libdw_begin_frame(&frames->frame, &source);
+    stack->code = add_registers(stack, state, frames);
+    return stack->code ? DWARF_CB_ABORT : DWARF_CB_OK;
+}
+
+uint32_t dwexpr_libdw_unwind(dwexpr_libdw_target *target, pid_t thread, size_t most, dwexpr_libdw_stack **stack)
+{
+    dwexpr_libdw_stack *found = (dwexpr_libdw_stack *)calloc(1, sizeof *found);
+    uint32_t code;
+    size_t i;
+    *stack = NULL;
+    if (!found)
+        return DWEXPR_LIBDW_NO_MEMORY;
+    found->target = target;
+    found->thread = thread;
+    found->most = most;
+    if (target->core)
+        found->code = dwexpr_libdw_read_sets(target, thread, &found->sets);
+    if (!found->code)
+        dwfl_getthread_frames(target->dwfl, thread, on_frame, found);
+    for (i = 0; i < found->length; i++) {
+        found->frames[i].frame.source.context = &found->frames[i];
+        found->frames[i].frame.source.caller = i + 1 < found->length ? &found->frames[i + 1].frame : NULL;
+    }
+    code = found->code;
+    if (!code && !found->length)
+        code = DWEXPR_LIBDW_NO_TARGET;
+    if (code && code != DWEXPR_LIBDW_TOO_MANY_FRAMES) {
+        dwexpr_libdw_free_stack(found);
+        return code;
+    }
+    *stack = found;
+    return code;
+}
+
+void dwexpr_libdw_free_stack(dwexpr_libdw_stack *stack)
+{
+    int set;
+    if (!stack)
+        return;
+    for (set = 0; set < SETS; set++)
+        free(stack->sets.bytes[set]);
+    free(stack->registers);
+    free(stack->frames);
+    free(stack);
+}
+
+dwexpr_libdw_frame *dwexpr_libdw_frame_at(dwexpr_libdw_stack *stack, size_t index)
+{
+    return stack && index < stack->length ? &stack->frames[index].frame : NULL;
+}
+
+#endif

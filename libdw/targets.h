@@ -1,0 +1,42 @@
+/* What the sources on processes and core dumps share. */
+#ifndef DWEXPR_LIBDW_TARGETS_H
+#define DWEXPR_LIBDW_TARGETS_H
+
+#include "private.h"
+
+#pragma GCC visibility push(hidden)
+
+/* The kernel's sets of registers: general; of floating point; those as FXSAVE has them on i386; as XSAVE has them;
+ * segments on i386. */
+enum set { GENERAL, FLOATING, FXSAVE, XSAVE, SEGMENTS, SETS };
+
+/* The type of a set's note in a core dump, and for ptrace. */
+extern const uint32_t dwexpr_libdw_note_types[SETS];
+
+struct dwexpr_libdw_target {
+    Dwfl *dwfl;
+    Dwfl *owned;  /* `dwfl` if it was opened here */
+    Elf *core;    /* NULL for a process */
+    Elf *opened;  /* `core` if it was opened here */
+    int file;     /* the memory of a process, or the core dump if it was opened here; -1 if there is none */
+    pid_t *threads;
+    size_t thread_count, thread_room;
+    unsigned char ident[EI_NIDENT];
+    unsigned machine;
+    Dwarf_Addr program; /* an address in the program itself, 0 if it isn't known */
+};
+
+/* The sets of a thread. */
+struct dwexpr_libdw_sets {
+    uint8_t *bytes[SETS];
+    size_t lengths[SETS];
+};
+
+uint32_t dwexpr_libdw_keep_set(struct dwexpr_libdw_sets *sets, enum set set, const uint8_t *bytes, size_t length);
+/* The sets of a thread in a core dump. */
+uint32_t dwexpr_libdw_read_sets(const dwexpr_libdw_target *target, pid_t thread, struct dwexpr_libdw_sets *sets);
+int dwexpr_libdw_read_memory(const dwexpr_libdw_target *target, uint64_t address, uint8_t *bytes, size_t size);
+
+#pragma GCC visibility pop
+
+#endif

@@ -1,2 +1,2 @@
 pub mod EqualOperations
-pub mod RareRows
+pub mod Blocks

@@ -8,17 +8,15 @@ ghost use Rattle.dwarf_op.specs.inner.Entries.{entry_row, operands_in, rare_row}
 ghost use Rattle.dwarf_op.specs.inner.Entries as entries;
 ghost use Rattle.dwarf_op.specs.Views.{operation_of};
 
-use crate::opcodes::{
-    Entry, Fieldless, FromOffset, FromOperands, Offset, Rare, Signed, Unsigned, WasmPlace,
-    entry_at, operands_after,
-};
+use crate::opcodes::{Entry, Fieldless, FromOffset, Offset, Rare, entry_at};
 use crate::operands::{
-    Operands, generic_type, read_i16, read_offset, read_operand, read_signed, read_u8,
+    generic_type, read_block, read_i16, read_offset, read_register, read_signed, read_u8,
     read_unsigned,
 };
 use crate::operations::{DieReference, Operation};
 use dwarf_base::{
     DebugAddrIndex, DebugInfoOffset, DwOp, Encoding, Error, Reader, Register, Result, UnitOffset,
+    constants,
 };
 
 #[inline(always)]
@@ -91,6 +89,40 @@ fn offset_operation<R: Reader>(make: FromOffset, offset: R::Offset) -> Operation
     }
 }
 
+// A register, and an offset from what it holds.
+#[tactic(auto, using(dwarf_base::proofs::Suffixes::suffix_trans))]
+#[inline(always)]
+fn read_named_base_register<R: Reader + Copy>(bytes: &mut R) -> Result<Operation<R>>
+    ensures { (encoding : Encoding) → Reads (operation_of R.text R.Offset.number)
+        (R.text bytes.old) (R.text bytes.new) result
+        (operands_in R.Offset.BITS (R.text bytes.old) (rare_row encoding Rare.NamedBaseRegister)) }
+{
+    let base = read_register(bytes)?;
+    let offset = bytes.read_sleb128()?;
+    Ok(Operation::RegisterOffset {
+        register: base,
+        offset,
+        base_type: generic_type(),
+    })
+}
+
+// A register, and the type of what it holds.
+#[tactic(auto, using(dwarf_base::proofs::Suffixes::suffix_trans))]
+#[inline(always)]
+fn read_typed_register<R: Reader + Copy>(bytes: &mut R, encoding: Encoding) -> Result<Operation<R>>
+    ensures { Reads (operation_of R.text R.Offset.number)
+        (R.text bytes.old) (R.text bytes.new) result
+        (operands_in R.Offset.BITS (R.text bytes.old) (rare_row encoding Rare.TypedRegister)) }
+{
+    let register = read_register(bytes)?;
+    let base_type = read_offset(Offset::Uleb128, bytes, encoding)?;
+    Ok(Operation::RegisterOffset {
+        register,
+        offset: 0,
+        base_type: UnitOffset(base_type),
+    })
+}
+
 // The size of a piece, which stands in bytes.
 #[tactic(auto, using(dwarf_base::proofs::Suffixes::suffix_trans))]
 #[inline(always)]
@@ -99,7 +131,7 @@ fn read_piece<R: Reader + Copy>(bytes: &mut R) -> Result<Operation<R>>
         (R.text bytes.old) (R.text bytes.new) result
         (operands_in R.Offset.BITS (R.text bytes.old) (entry_row encoding 0 Entry.Piece)) }
 {
-    let size = read_unsigned(Unsigned::Uleb128, bytes)?;
+    let size = bytes.read_uleb128()?;
     let Some(size_in_bits) = size.checked_mul(8) else {
         return Err(Error::InvalidPieceSize(size));
     };
@@ -107,6 +139,103 @@ fn read_piece<R: Reader + Copy>(bytes: &mut R) -> Result<Operation<R>>
         size_in_bits,
         bit_offset: None,
     })
+}
+
+// The size of a piece and its offset, in bits.
+#[tactic(auto, using(dwarf_base::proofs::Suffixes::suffix_trans))]
+#[inline(always)]
+fn read_bit_piece<R: Reader + Copy>(bytes: &mut R) -> Result<Operation<R>>
+    ensures { (encoding : Encoding) → Reads (operation_of R.text R.Offset.number)
+        (R.text bytes.old) (R.text bytes.new) result
+        (operands_in R.Offset.BITS (R.text bytes.old) (rare_row encoding Rare.BitPiece)) }
+{
+    let size_in_bits = bytes.read_uleb128()?;
+    let bit_offset = bytes.read_uleb128()?;
+    Ok(Operation::Piece {
+        size_in_bits,
+        bit_offset: Some(bit_offset),
+    })
+}
+
+// A type, and the bytes of a value.
+#[tactic(auto, using(dwarf_base::proofs::Suffixes::suffix_trans))]
+#[inline(always)]
+fn read_typed_literal<R: Reader + Copy>(bytes: &mut R, encoding: Encoding) -> Result<Operation<R>>
+    ensures { Reads (operation_of R.text R.Offset.number)
+        (R.text bytes.old) (R.text bytes.new) result
+        (operands_in R.Offset.BITS (R.text bytes.old) (rare_row encoding Rare.TypedLiteral)) }
+{
+    let base_type = read_offset(Offset::Uleb128, bytes, encoding)?;
+    let value = read_block(Offset::U8, bytes, encoding)?;
+    Ok(Operation::TypedLiteral {
+        base_type: UnitOffset(base_type),
+        value,
+    })
+}
+
+// A size, and the type of what is read.
+#[tactic(auto, using(dwarf_base::proofs::Suffixes::suffix_trans))]
+#[inline(always)]
+fn read_typed_deref<R: Reader + Copy>(
+    space: bool,
+    bytes: &mut R,
+    encoding: Encoding,
+) -> Result<Operation<R>>
+    ensures { Reads (operation_of R.text R.Offset.number)
+        (R.text bytes.old) (R.text bytes.new) result
+        (operands_in R.Offset.BITS (R.text bytes.old) (rare_row encoding (Rare.TypedDeref space))) }
+{
+    let size = read_u8(bytes)?;
+    let base_type = read_offset(Offset::Uleb128, bytes, encoding)?;
+    Ok(Operation::Deref {
+        size,
+        base_type: UnitOffset(base_type),
+        space,
+    })
+}
+
+// A reference into `.debug_info`, and an offset in the object there.
+#[tactic(auto, using(dwarf_base::proofs::Suffixes::suffix_trans))]
+#[inline(always)]
+fn read_implicit_pointer<R: Reader + Copy>(
+    bytes: &mut R,
+    encoding: Encoding,
+) -> Result<Operation<R>>
+    ensures { Reads (operation_of R.text R.Offset.number)
+        (R.text bytes.old) (R.text bytes.new) result
+        (operands_in R.Offset.BITS (R.text bytes.old) (rare_row encoding Rare.ImplicitPointer)) }
+{
+    let value = read_offset(Offset::Reference, bytes, encoding)?;
+    let byte_offset = bytes.read_sleb128()?;
+    Ok(Operation::ImplicitPointer {
+        value: DebugInfoOffset(value),
+        byte_offset,
+    })
+}
+
+// Where a value of WebAssembly is, and its index, which stands as the kind of the place says.
+#[tactic(auto, using(dwarf_base::proofs::Suffixes::suffix_trans))]
+#[inline(always)]
+fn read_wasm_location<R: Reader + Copy>(bytes: &mut R) -> Result<Operation<R>>
+    ensures { (encoding : Encoding) → Reads (operation_of R.text R.Offset.number)
+        (R.text bytes.old) (R.text bytes.new) result
+        (operands_in R.Offset.BITS (R.text bytes.old) (rare_row encoding Rare.WasmLocation)) }
+{
+    match read_u8(bytes)? {
+        0 => Ok(Operation::WasmLocal {
+            index: bytes.read_uleb128_u32()?,
+        }),
+        1 => Ok(Operation::WasmGlobal {
+            index: bytes.read_uleb128_u32()?,
+        }),
+        2 => Ok(Operation::WasmStack {
+            index: bytes.read_uleb128_u32()?,
+        }),
+        3 => Ok(Operation::WasmGlobal {
+            index: bytes.read_u32()?,
+        }),
+        _ => Err(Error::InvalidExpression(constants::DW_OP_WASM_location)),
+    }
 }
 
 // In a function of its own: what an offset makes is found by a second jump, and with it in line each other operation
@@ -145,93 +274,8 @@ fn read_offset_on_copy<R: Reader + Copy>(
     operation
 }
 
-#[inline(always)]
-fn operation_from<R: Reader + Copy>(
-    make: FromOperands,
-    operands: Operands<R, R::Offset>,
-    encoding: Encoding,
-) -> Operation<R>
-    ensures { operation_of R.text R.Offset.number result
-        ≡ entries.operation_from encoding make (entries.operands_of R.text R.Offset.number operands) }
-{
-    match make {
-        FromOperands::Address => Operation::Address {
-            address: operands.unsigned,
-        },
-        FromOperands::Pick => Operation::Pick {
-            index: operands.byte,
-        },
-        FromOperands::AddressDeref => Operation::Deref {
-            size: encoding.address_size,
-            base_type: UnitOffset(operands.offset),
-            space: true,
-        },
-        FromOperands::Deref(space) => Operation::Deref {
-            size: operands.byte,
-            base_type: UnitOffset(operands.offset),
-            space,
-        },
-        FromOperands::Register => Operation::Register {
-            register: operands.register,
-        },
-        FromOperands::RegisterOffset => Operation::RegisterOffset {
-            register: operands.register,
-            offset: operands.signed,
-            base_type: UnitOffset(operands.offset),
-        },
-        FromOperands::Piece => Operation::Piece {
-            size_in_bits: operands.earlier,
-            bit_offset: Some(operands.unsigned),
-        },
-        FromOperands::ImplicitValue => Operation::ImplicitValue {
-            bytes: operands.block,
-        },
-        FromOperands::EntryValue => Operation::EntryValue {
-            expression: operands.block,
-        },
-        FromOperands::TypedLiteral => Operation::TypedLiteral {
-            base_type: UnitOffset(operands.offset),
-            value: operands.block,
-        },
-        FromOperands::ImplicitPointer => Operation::ImplicitPointer {
-            value: DebugInfoOffset(operands.offset),
-            byte_offset: operands.signed,
-        },
-        FromOperands::WasmLocation => match operands.place {
-            WasmPlace::Local => Operation::WasmLocal {
-                index: operands.index,
-            },
-            WasmPlace::Global => Operation::WasmGlobal {
-                index: operands.index,
-            },
-            WasmPlace::Stack => Operation::WasmStack {
-                index: operands.index,
-            },
-        },
-    }
-}
-
-// The operands of an entry, one after another, and what is made of them.
-#[inline(always)]
-fn read_in_order<R: Reader + Copy>(
-    entry: Rare,
-    bytes: &mut R,
-    encoding: Encoding,
-) -> Result<Operation<R>>
-    ensures { Reads (operation_of R.text R.Offset.number)
-        (R.text bytes.old) (R.text bytes.new) result
-        (operands_in R.Offset.BITS (R.text bytes.old) (rare_row encoding (R.text bytes.old) entry)) }
-{
-    let row = operands_after(entry);
-    let none = Operands::none(*bytes);
-    let one = read_operand(row.first, none, bytes, encoding)?;
-    let two = read_operand(row.second, one, bytes, encoding)?;
-    let three = read_operand(row.third, two, bytes, encoding)?;
-    Ok(operation_from(row.make, three, encoding))
-}
-
-// In one function of its own, so that what is read often stays small enough to be read in line. Each entry has an arm,
-// since the compiler then knows its shapes: with one call for all, decoding takes 0.88 of gimli's time for 0.84.
+// In one function of its own, so that what is read often stays small enough to be read in line.
+#[tactic(auto, using(dwarf_base::proofs::Suffixes::suffix_trans))]
 #[inline(never)]
 fn read_rare_operands<R: Reader + Copy>(
     entry: Rare,
@@ -240,24 +284,41 @@ fn read_rare_operands<R: Reader + Copy>(
 ) -> Result<Operation<R>>
     ensures { Reads (operation_of R.text R.Offset.number)
         (R.text bytes.old) (R.text bytes.new) result
-        (operands_in R.Offset.BITS (R.text bytes.old) (rare_row encoding (R.text bytes.old) entry)) }
+        (operands_in R.Offset.BITS (R.text bytes.old) (rare_row encoding entry)) }
 {
     match entry {
-        Rare::Address => read_in_order(Rare::Address, bytes, encoding),
-        Rare::PickByte => read_in_order(Rare::PickByte, bytes, encoding),
-        Rare::SpaceDeref => read_in_order(Rare::SpaceDeref, bytes, encoding),
-        Rare::SpaceDerefSize => read_in_order(Rare::SpaceDerefSize, bytes, encoding),
-        Rare::NamedRegister => read_in_order(Rare::NamedRegister, bytes, encoding),
-        Rare::NamedBaseRegister => read_in_order(Rare::NamedBaseRegister, bytes, encoding),
-        Rare::TypedRegister => read_in_order(Rare::TypedRegister, bytes, encoding),
-        Rare::BitPiece => read_in_order(Rare::BitPiece, bytes, encoding),
-        Rare::ImplicitValue => read_in_order(Rare::ImplicitValue, bytes, encoding),
-        Rare::EntryValue => read_in_order(Rare::EntryValue, bytes, encoding),
-        Rare::TypedLiteral => read_in_order(Rare::TypedLiteral, bytes, encoding),
-        Rare::TypedDeref => read_in_order(Rare::TypedDeref, bytes, encoding),
-        Rare::SpaceTypedDeref => read_in_order(Rare::SpaceTypedDeref, bytes, encoding),
-        Rare::ImplicitPointer => read_in_order(Rare::ImplicitPointer, bytes, encoding),
-        Rare::WasmLocation => read_in_order(Rare::WasmLocation, bytes, encoding),
+        Rare::Address => Ok(Operation::Address {
+            address: bytes.read_address(encoding.address_size)?,
+        }),
+        Rare::PickByte => Ok(Operation::Pick {
+            index: read_u8(bytes)?,
+        }),
+        Rare::SpaceDeref => Ok(Operation::Deref {
+            size: encoding.address_size,
+            base_type: generic_type(),
+            space: true,
+        }),
+        Rare::SpaceDerefSize => Ok(Operation::Deref {
+            size: read_u8(bytes)?,
+            base_type: generic_type(),
+            space: true,
+        }),
+        Rare::NamedRegister => Ok(Operation::Register {
+            register: read_register(bytes)?,
+        }),
+        Rare::NamedBaseRegister => read_named_base_register(bytes),
+        Rare::TypedRegister => read_typed_register(bytes, encoding),
+        Rare::BitPiece => read_bit_piece(bytes),
+        Rare::ImplicitValue => Ok(Operation::ImplicitValue {
+            bytes: read_block(Offset::Uleb128, bytes, encoding)?,
+        }),
+        Rare::EntryValue => Ok(Operation::EntryValue {
+            expression: read_block(Offset::Uleb128, bytes, encoding)?,
+        }),
+        Rare::TypedLiteral => read_typed_literal(bytes, encoding),
+        Rare::TypedDeref(space) => read_typed_deref(space, bytes, encoding),
+        Rare::ImplicitPointer => read_implicit_pointer(bytes, encoding),
+        Rare::WasmLocation => read_wasm_location(bytes),
     }
 }
 
@@ -270,7 +331,7 @@ fn read_rare_on_copy<R: Reader + Copy>(
 ) -> Result<Operation<R>>
     ensures { Reads (operation_of R.text R.Offset.number)
         (R.text bytes.old) (R.text bytes.new) result
-        (operands_in R.Offset.BITS (R.text bytes.old) (rare_row encoding (R.text bytes.old) entry)) }
+        (operands_in R.Offset.BITS (R.text bytes.old) (rare_row encoding entry)) }
 {
     let mut copy = *bytes;
     let operation = read_rare_operands(entry, &mut copy, encoding);
@@ -314,13 +375,13 @@ fn read_operands<R: Reader + Copy>(
             value: read_unsigned(shape, bytes)?,
         }),
         Entry::PlusConstant => Ok(Operation::PlusConstant {
-            value: read_unsigned(Unsigned::Uleb128, bytes)?,
+            value: bytes.read_uleb128()?,
         }),
         Entry::SignedConstant(shape) => Ok(Operation::SignedConstant {
             value: read_signed(shape, bytes)?,
         }),
         Entry::FrameOffset => Ok(Operation::FrameOffset {
-            offset: read_signed(Signed::Sleb128, bytes)?,
+            offset: bytes.read_sleb128()?,
         }),
         Entry::Bra => Ok(Operation::Bra {
             target: read_i16(bytes)?,
@@ -330,7 +391,7 @@ fn read_operands<R: Reader + Copy>(
         }),
         Entry::BaseRegister(register) => Ok(Operation::RegisterOffset {
             register: Register(u16::from(register)),
-            offset: read_signed(Signed::Sleb128, bytes)?,
+            offset: bytes.read_sleb128()?,
             base_type: generic_type(),
         }),
         Entry::Piece => read_piece(bytes),

@@ -4,7 +4,6 @@ ghost use Rattle.std.specs.Prelude.{◌≡◌};
 ghost use Rattle.dwarf_base.specs.declared.common.Encoding.{Encoding};
 ghost use Rattle.dwarf_meaning.specs.Opcodes.{row_of};
 ghost use Rattle.dwarf_op.specs.inner.Entries.{entry_row};
-ghost use Rattle.dwarf_op.specs.inner.Entries as entries;
 
 use dwarf_base::constants::*;
 
@@ -78,6 +77,7 @@ pub(crate) enum Signed {
 // How an operand stands that has to fit the reader's offsets.
 #[derive(Clone, Copy)]
 pub(crate) enum Offset {
+    U8,
     U16,
     U32,
     Uleb128,
@@ -108,159 +108,41 @@ pub(crate) enum FromOffset {
     VariableValue,
 }
 
-// How an operand of a rare entry stands.
-#[derive(Clone, Copy)]
-pub(crate) enum Shape {
-    // There is none.
-    Absent,
-    // One byte.
-    Byte,
-    // An unsigned LEB128 number.
-    Uleb128,
-    // A signed one.
-    Sleb128,
-    // An address.
-    Address,
-    // A register.
-    Register,
-    // A number that has to fit the reader's offsets.
-    Offset(Offset),
-    // A block, as long as the offset before it says.
-    Block,
-    // A block, as long as the byte before it says.
-    ShortBlock,
-    // An index of WebAssembly, which stands as the byte before it says.
-    WasmIndex,
-}
-
-// Where a value of WebAssembly is.
-#[derive(Clone, Copy)]
-pub(crate) enum WasmPlace {
-    Local,
-    Global,
-    Stack,
-}
-
-// What is made of the operands of a rare entry.
-#[derive(Clone, Copy)]
-pub(crate) enum FromOperands {
-    Address,
-    Pick,
-    // The size is an address's.
-    AddressDeref,
-    // Whether there is an address space.
-    Deref(bool),
-    Register,
-    RegisterOffset,
-    Piece,
-    ImplicitValue,
-    EntryValue,
-    TypedLiteral,
-    ImplicitPointer,
-    WasmLocation,
-}
-
-// Where a base type stands, or how long a block is.
-const OFFSET: Shape = Shape::Offset(Offset::Uleb128);
-
-// A reference into `.debug_info`.
-const REFERENCE: Shape = Shape::Offset(Offset::Reference);
-
-// An entry whose operands are read in a function of their own. Most are rare; of the expressions of libc and libm, 8 in
-// 100 begin with `DW_OP_entry_value`, and 3 with `DW_OP_addr`.
+// What stands after an opcode that few operations have (each of these one in a hundred of real programs, or fewer),
+// and what is made of it.
 #[derive(Clone, Copy)]
 pub(crate) enum Rare {
-    // `DW_OP_addr`.
+    // An address: `DW_OP_addr`.
     Address,
-    // `DW_OP_pick`.
+    // One byte, the index: `DW_OP_pick`.
     PickByte,
-    // `DW_OP_xderef`.
+    // No operands; the size is an address's, and there is an address space: `DW_OP_xderef`.
     SpaceDeref,
-    // `DW_OP_xderef_size`.
+    // One byte, the size, and there is an address space: `DW_OP_xderef_size`.
     SpaceDerefSize,
-    // `DW_OP_regx`.
+    // A register: `DW_OP_regx`.
     NamedRegister,
-    // `DW_OP_bregx`.
+    // A register and a signed LEB128 number: `DW_OP_bregx`.
     NamedBaseRegister,
-    // `DW_OP_regval_type`, `DW_OP_GNU_regval_type`.
+    // A register and the offset of a base type: `DW_OP_regval_type`, `DW_OP_GNU_regval_type`.
     TypedRegister,
-    // `DW_OP_bit_piece`.
+    // A size and an offset in bits: `DW_OP_bit_piece`.
     BitPiece,
-    // `DW_OP_implicit_value`.
+    // The size of a block, and the block: `DW_OP_implicit_value`.
     ImplicitValue,
-    // `DW_OP_entry_value`, `DW_OP_GNU_entry_value`.
+    // The same: `DW_OP_entry_value`, `DW_OP_GNU_entry_value`.
     EntryValue,
-    // `DW_OP_const_type`, `DW_OP_GNU_const_type`.
+    // The offset of a base type, the size of a block in one byte, and the block: `DW_OP_const_type`,
+    // `DW_OP_GNU_const_type`.
     TypedLiteral,
-    // `DW_OP_deref_type`, `DW_OP_GNU_deref_type`.
-    TypedDeref,
-    // `DW_OP_xderef_type`.
-    SpaceTypedDeref,
-    // `DW_OP_implicit_pointer`, `DW_OP_GNU_implicit_pointer`.
+    // One byte and the offset of a base type: `DW_OP_deref_type`, `DW_OP_GNU_deref_type` and, with an address space,
+    // `DW_OP_xderef_type`. Whether there is an address space.
+    TypedDeref(bool),
+    // A reference into `.debug_info` and a signed LEB128 number: `DW_OP_implicit_pointer`,
+    // `DW_OP_GNU_implicit_pointer`.
     ImplicitPointer,
-    // `DW_OP_WASM_location`.
+    // A kind in one byte, and an index that stands as the kind says: `DW_OP_WASM_location`.
     WasmLocation,
-}
-
-// Up to three operands, and what is made of them.
-#[derive(Clone, Copy)]
-pub(crate) struct RareRow {
-    pub(crate) first: Shape,
-    pub(crate) second: Shape,
-    pub(crate) third: Shape,
-    pub(crate) make: FromOperands,
-}
-
-#[inline(always)]
-fn one(first: Shape, make: FromOperands) -> RareRow
-    ensures { result ≡ entries.one_operand first make }
-{
-    two(first, Shape::Absent, make)
-}
-
-#[inline(always)]
-fn two(first: Shape, second: Shape, make: FromOperands) -> RareRow
-    ensures { result ≡ entries.two_operands first second make }
-{
-    RareRow {
-        first,
-        second,
-        third: Shape::Absent,
-        make,
-    }
-}
-
-// The operands of each rare entry, and what is made of them.
-#[inline(always)]
-pub(crate) fn operands_after(entry: Rare) -> RareRow
-    ensures { result ≡ entries.operands_after entry }
-{
-    match entry {
-        Rare::Address => one(Shape::Address, FromOperands::Address),
-        Rare::PickByte => one(Shape::Byte, FromOperands::Pick),
-        Rare::SpaceDeref => one(Shape::Absent, FromOperands::AddressDeref),
-        Rare::SpaceDerefSize => one(Shape::Byte, FromOperands::Deref(true)),
-        Rare::NamedRegister => one(Shape::Register, FromOperands::Register),
-        Rare::NamedBaseRegister => two(
-            Shape::Register,
-            Shape::Sleb128,
-            FromOperands::RegisterOffset,
-        ),
-        Rare::TypedRegister => two(Shape::Register, OFFSET, FromOperands::RegisterOffset),
-        Rare::BitPiece => two(Shape::Uleb128, Shape::Uleb128, FromOperands::Piece),
-        Rare::ImplicitValue => two(OFFSET, Shape::Block, FromOperands::ImplicitValue),
-        Rare::EntryValue => two(OFFSET, Shape::Block, FromOperands::EntryValue),
-        Rare::TypedLiteral => RareRow {
-            first: OFFSET,
-            second: Shape::Byte,
-            third: Shape::ShortBlock,
-            make: FromOperands::TypedLiteral,
-        },
-        Rare::TypedDeref => two(Shape::Byte, OFFSET, FromOperands::Deref(false)),
-        Rare::SpaceTypedDeref => two(Shape::Byte, OFFSET, FromOperands::Deref(true)),
-        Rare::ImplicitPointer => two(REFERENCE, Shape::Sleb128, FromOperands::ImplicitPointer),
-        Rare::WasmLocation => two(Shape::Byte, Shape::WasmIndex, FromOperands::WasmLocation),
-    }
 }
 
 // What stands after an opcode, and what is made of it: by the kinds of its operands, in order.
@@ -376,8 +258,8 @@ pub(crate) fn entry_at(opcode: u8) -> Entry
         DW_OP_entry_value => Entry::Rare(Rare::EntryValue),
         DW_OP_const_type => Entry::Rare(Rare::TypedLiteral),
         DW_OP_regval_type => Entry::Rare(Rare::TypedRegister),
-        DW_OP_deref_type => Entry::Rare(Rare::TypedDeref),
-        DW_OP_xderef_type => Entry::Rare(Rare::SpaceTypedDeref),
+        DW_OP_deref_type => Entry::Rare(Rare::TypedDeref(false)),
+        DW_OP_xderef_type => Entry::Rare(Rare::TypedDeref(true)),
         DW_OP_convert => Entry::Offset(Offset::Uleb128, FromOffset::Convert),
         DW_OP_reinterpret => Entry::Offset(Offset::Uleb128, FromOffset::Reinterpret),
         DW_OP_GNU_push_tls_address => Entry::Fieldless(Fieldless::TLS),
@@ -387,7 +269,7 @@ pub(crate) fn entry_at(opcode: u8) -> Entry
         DW_OP_GNU_entry_value => Entry::Rare(Rare::EntryValue),
         DW_OP_GNU_const_type => Entry::Rare(Rare::TypedLiteral),
         DW_OP_GNU_regval_type => Entry::Rare(Rare::TypedRegister),
-        DW_OP_GNU_deref_type => Entry::Rare(Rare::TypedDeref),
+        DW_OP_GNU_deref_type => Entry::Rare(Rare::TypedDeref(false)),
         DW_OP_GNU_convert => Entry::Offset(Offset::Uleb128, FromOffset::Convert),
         DW_OP_GNU_reinterpret => Entry::Offset(Offset::Uleb128, FromOffset::Reinterpret),
         DW_OP_GNU_parameter_ref => Entry::Offset(Offset::U32, FromOffset::ParameterRef),

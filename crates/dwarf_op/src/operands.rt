@@ -4,20 +4,15 @@ ghost use Rattle.std.specs.Prelude.{◌≡◌};
 ghost use Rattle.dwarf_base.specs.Reads.{Reads, fixed_at, signed_at};
 ghost use Rattle.dwarf_meaning.specs.Decoding.{unsigned_at, integer_at};
 ghost use Rattle.dwarf_op.specs.inner.Entries.{
-  GoesOn,
-  block_at,
-  no_operands,
+  block_in,
   offset_form,
-  operands_of,
   register_at,
-  shape_row,
   signed_form,
   unsigned_form,
-  wasm_index_row,
 };
 
-use crate::opcodes::{Offset, Shape, Signed, Unsigned, WasmPlace};
-use dwarf_base::{Encoding, Error, Reader, ReaderOffset, Register, Result, UnitOffset, constants};
+use crate::opcodes::{Offset, Signed, Unsigned};
+use dwarf_base::{Encoding, Reader, ReaderOffset, Register, Result, UnitOffset};
 
 // A number of one byte.
 #[tactic(auto, using(dwarf_base::proofs::FixedNumbers::fixed_one))]
@@ -81,9 +76,10 @@ pub(crate) fn read_offset<R: Reader + Copy>(
         (offset_form encoding shape) (R.text bytes.old).bytes) }
 {
     match shape {
+        Offset::U8 => Ok(R::Offset::from_u8(read_u8(bytes)?)),
         Offset::U16 => Ok(R::Offset::from_u16(bytes.read_u16()?)),
         Offset::U32 => Ok(R::Offset::from_u32(bytes.read_u32()?)),
-        Offset::Uleb128 => R::Offset::from_u64(read_unsigned(Unsigned::Uleb128, bytes)?),
+        Offset::Uleb128 => R::Offset::from_u64(bytes.read_uleb128()?),
         Offset::Section => bytes.read_offset(encoding.format),
         Offset::Reference => {
             if encoding.version == 2 {
@@ -101,7 +97,7 @@ pub(crate) fn read_register<R: Reader + Copy>(bytes: &mut R) -> Result<Register>
     ensures { Reads (λ r. r.0) (R.text bytes.old) (R.text bytes.new) result
         (register_at (R.text bytes.old).bytes) }
 {
-    Register::from_u64(read_unsigned(Unsigned::Uleb128, bytes)?)
+    Register::from_u64(bytes.read_uleb128()?)
 }
 
 // The generic type: the base type at offset 0.
@@ -112,133 +108,17 @@ pub(crate) fn generic_type<O: ReaderOffset>() -> UnitOffset<O>
     UnitOffset(O::from_u8(0))
 }
 
-// The next bytes, as many as that.
+// The size of a block, and the block.
+#[tactic(auto, using(dwarf_base::proofs::Suffixes::suffix_trans))]
 #[inline(always)]
-fn read_block<R: Reader + Copy>(size: R::Offset, bytes: &mut R) -> Result<R>
-    ensures { Reads R.text (R.text bytes.old) (R.text bytes.new) result
-        (block_at (R.Offset.number size) (R.text bytes.old)) }
-{
-    bytes.split(size)
-}
-
-// The operands that have been read, by their kinds. What hasn't been read is zero, and the block all bytes.
-#[derive(Clone, Copy)]
-pub(crate) struct Operands<R, O> {
-    pub(crate) byte: u8,
-    // The last unsigned number.
-    pub(crate) unsigned: u64,
-    // The unsigned number before it.
-    pub(crate) earlier: u64,
-    pub(crate) signed: i64,
-    pub(crate) register: Register,
-    pub(crate) offset: O,
-    pub(crate) block: R,
-    pub(crate) place: WasmPlace,
-    pub(crate) index: u32,
-}
-
-impl<R: Reader + Copy> Operands<R, R::Offset> {
-    // None yet, of this text.
-    #[inline(always)]
-    pub(crate) fn none(text: R) -> Operands<R, R::Offset>
-        ensures { operands_of R.text R.Offset.number result ≡ no_operands (R.text text) }
-    {
-        Operands {
-            byte: 0,
-            unsigned: 0,
-            earlier: 0,
-            signed: 0,
-            register: Register(0),
-            offset: R::Offset::from_u8(0),
-            block: text,
-            place: WasmPlace::Local,
-            index: 0,
-        }
-    }
-}
-
-// An index of WebAssembly, which stands as the byte before it says.
-#[inline(always)]
-fn read_wasm_index<R: Reader + Copy>(
-    operands: Operands<R, R::Offset>,
-    bytes: &mut R,
-) -> Result<Operands<R, R::Offset>>
-    ensures { GoesOn R.Offset.BITS (operands_of R.text R.Offset.number)
-        (R.text bytes.old) (R.text bytes.new) result
-        (wasm_index_row (operands_of R.text R.Offset.number operands)) }
-{
-    match operands.byte {
-        0 => Ok(Operands {
-            place: WasmPlace::Local,
-            index: bytes.read_uleb128_u32()?,
-            ..operands
-        }),
-        1 => Ok(Operands {
-            place: WasmPlace::Global,
-            index: bytes.read_uleb128_u32()?,
-            ..operands
-        }),
-        2 => Ok(Operands {
-            place: WasmPlace::Stack,
-            index: bytes.read_uleb128_u32()?,
-            ..operands
-        }),
-        3 => Ok(Operands {
-            place: WasmPlace::Global,
-            index: bytes.read_u32()?,
-            ..operands
-        }),
-        _ => Err(Error::InvalidExpression(constants::DW_OP_WASM_location)),
-    }
-}
-
-// The next operand of a rare operation, after those that have been read.
-#[inline(always)]
-pub(crate) fn read_operand<R: Reader + Copy>(
-    shape: Shape,
-    operands: Operands<R, R::Offset>,
+pub(crate) fn read_block<R: Reader + Copy>(
+    size: Offset,
     bytes: &mut R,
     encoding: Encoding,
-) -> Result<Operands<R, R::Offset>>
-    ensures { GoesOn R.Offset.BITS (operands_of R.text R.Offset.number)
-        (R.text bytes.old) (R.text bytes.new) result
-        (shape_row encoding shape (operands_of R.text R.Offset.number operands)) }
+) -> Result<R>
+    ensures { Reads R.text (R.text bytes.old) (R.text bytes.new) result
+        (block_in R.Offset.BITS (R.text bytes.old) (offset_form encoding size)) }
 {
-    match shape {
-        Shape::Absent => Ok(operands),
-        Shape::Byte => Ok(Operands {
-            byte: read_u8(bytes)?,
-            ..operands
-        }),
-        Shape::Uleb128 => Ok(Operands {
-            unsigned: read_unsigned(Unsigned::Uleb128, bytes)?,
-            earlier: operands.unsigned,
-            ..operands
-        }),
-        Shape::Sleb128 => Ok(Operands {
-            signed: read_signed(Signed::Sleb128, bytes)?,
-            ..operands
-        }),
-        Shape::Address => Ok(Operands {
-            unsigned: bytes.read_address(encoding.address_size)?,
-            ..operands
-        }),
-        Shape::Register => Ok(Operands {
-            register: read_register(bytes)?,
-            ..operands
-        }),
-        Shape::Offset(shape) => Ok(Operands {
-            offset: read_offset(shape, bytes, encoding)?,
-            ..operands
-        }),
-        Shape::Block => Ok(Operands {
-            block: read_block(operands.offset, bytes)?,
-            ..operands
-        }),
-        Shape::ShortBlock => Ok(Operands {
-            block: read_block(R::Offset::from_u8(operands.byte), bytes)?,
-            ..operands
-        }),
-        Shape::WasmIndex => read_wasm_index(operands, bytes),
-    }
+    let size = read_offset(size, bytes, encoding)?;
+    bytes.split(size)
 }

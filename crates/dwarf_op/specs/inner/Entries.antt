@@ -1,15 +1,14 @@
 -- What the entries of the code's table of opcodes stand for: rows of the standard's table.
-use Rattle.std.specs.Prelude.{ℕ, ◌≡◌, ◌*◌, pos, List, [], ◌∷◌, Some, None, Result, Ok, Err, true, false}
-use Rattle.dwarf_base.specs.declared.errors.Error.{Error}
-use Rattle.dwarf_base.specs.Faults.{Fault, fault_of, ◌>>=◌}
+use Rattle.std.specs.Prelude.{ℕ, ◌*◌, pos, List, Some, None, Result, Ok, true, false}
+use Rattle.dwarf_base.specs.Faults.{Fault, ◌>>=◌}
 use Rattle.dwarf_base.specs.Leb.{uleb_at}
 use Rattle.dwarf_base.specs.Numbers.{register_of}
 use Rattle.dwarf_base.specs.declared.common.Encoding.{Encoding}
-use Rattle.dwarf_base.specs.Reads.{offset_size, IsSuffix, Text, split_at}
+use Rattle.dwarf_base.specs.Reads.{offset_size, Text, split_at}
 use Rattle.dwarf_meaning.specs.Operations as meaning
-use Rattle.dwarf_meaning.specs.Decoding.{operands_at}
-use Rattle.dwarf_meaning.specs.Operands.{Layout, Range, Bytes, Leb128, Any, Offset, Register, PieceSize, U32, ref_size}
-use Rattle.dwarf_meaning.specs.Opcodes.{Row, Makes, Unsigned, Signed, Block, Invalid, unsigned, signed, one, row_among}
+use Rattle.dwarf_meaning.specs.Decoding.{operands_at, unsigned_at}
+use Rattle.dwarf_meaning.specs.Operands.{Layout, Range, Bytes, Leb128, Any, Offset, Register, PieceSize, ref_size}
+use Rattle.dwarf_meaning.specs.Opcodes.{Row, Makes, Unsigned, Invalid, unsigned, signed, sized_block, wasm_row}
 use Rattle.dwarf_op.specs.declared.opcodes.Fieldless.{Fieldless}
 use Rattle.dwarf_op.specs.declared.opcodes.Fieldless.TheVariants as fieldless
 use Rattle.dwarf_op.specs.declared.opcodes.Unsigned as shapes
@@ -20,14 +19,6 @@ use Rattle.dwarf_op.specs.declared.opcodes.Offset as offset_shapes
 use Rattle.dwarf_op.specs.declared.opcodes.Offset.TheVariants as offset_shape
 use Rattle.dwarf_op.specs.declared.opcodes.FromOffset.{FromOffset}
 use Rattle.dwarf_op.specs.declared.opcodes.FromOffset.TheVariants as from_offset
-use Rattle.dwarf_op.specs.declared.opcodes.FromOperands.{FromOperands}
-use Rattle.dwarf_op.specs.declared.opcodes.FromOperands.TheVariants as from_operands
-use Rattle.dwarf_op.specs.declared.opcodes.RareRow.{RareRow}
-use Rattle.dwarf_op.specs.declared.opcodes.Shape.{Shape}
-use Rattle.dwarf_op.specs.declared.opcodes.Shape.TheVariants as shape
-use Rattle.dwarf_op.specs.declared.opcodes.WasmPlace.{WasmPlace}
-use Rattle.dwarf_op.specs.declared.opcodes.WasmPlace.TheVariants as wasm_place
-use Rattle.dwarf_op.specs.declared.operands.Operands.{Operands}
 use Rattle.dwarf_op.specs.declared.opcodes.Entry.{Entry}
 use Rattle.dwarf_op.specs.declared.opcodes.Entry.TheVariants as entry
 use Rattle.dwarf_op.specs.declared.opcodes.Rare.{Rare}
@@ -84,6 +75,7 @@ signed_form signed_shape.Sleb128 = Leb128
 
 -- the layout and the range of an offset
 abbrev pub offset_form : Encoding → offset_shapes.Offset → Layout × Range
+offset_form encoding offset_shape.U8 = (Bytes 1, Any)
 offset_form encoding offset_shape.U16 = (Bytes 2, Any)
 offset_form encoding offset_shape.U32 = (Bytes 4, Any)
 offset_form encoding offset_shape.Uleb128 = (Leb128, Offset)
@@ -101,127 +93,28 @@ offset_operation from_offset.Convert offset = meaning.Convert offset
 offset_operation from_offset.Reinterpret offset = meaning.Reinterpret offset
 offset_operation from_offset.VariableValue offset = meaning.VariableValue offset
 
--- the operands that have been read, as the definitions have them
-abbrev pub operands_of : {R O : Type 0} → (R → Text) → (O → ℕ) → Operands R O → Operands Text ℕ
-operands_of text number operands = record {
-  byte = operands.byte;
-  unsigned = operands.unsigned;
-  earlier = operands.earlier;
-  signed = operands.signed;
-  register = operands.register;
-  offset = number operands.offset;
-  block = text operands.block;
-  place = operands.place;
-  index = operands.index;
-}
-
--- none yet, of this text
-abbrev pub no_operands : Text → Operands Text ℕ
-no_operands text = record {
-  byte = 0;
-  unsigned = 0;
-  earlier = 0;
-  signed = pos 0;
-  register = record { 0 = 0 };
-  offset = 0;
-  block = text;
-  place = wasm_place.Local;
-  index = 0;
-}
-
--- the operation of an index of WebAssembly
-abbrev pub wasm_operation : WasmPlace → ℕ → meaning.Operation
-wasm_operation wasm_place.Local index = meaning.WasmLocal index
-wasm_operation wasm_place.Global index = meaning.WasmGlobal index
-wasm_operation wasm_place.Stack index = meaning.WasmStack index
-
--- the row of an index of WebAssembly, and of what follows it
-abbrev pub wasm_index_row : Operands Text ℕ → (Operands Text ℕ → Row) → Row
-wasm_index_row operands next =
-    row_among (Invalid 0xed) operands.byte
-    (one 0 (Unsigned (Leb128, U32) (λ n. next (record operands { place = wasm_place.Local; index = n })))
-    ∷ one 1 (Unsigned (Leb128, U32) (λ n. next (record operands { place = wasm_place.Global; index = n })))
-    ∷ one 2 (Unsigned (Leb128, U32) (λ n. next (record operands { place = wasm_place.Stack; index = n })))
-    ∷ one 3 (Unsigned (Bytes 4, Any) (λ n. next (record operands { place = wasm_place.Global; index = n }))) ∷ [])
-
--- the row of an operand in its shape, and of what follows it
-abbrev pub shape_row : Encoding → Shape → Operands Text ℕ → (Operands Text ℕ → Row) → Row
-shape_row encoding shape.Absent operands next = next operands
-shape_row encoding shape.Byte operands next = Unsigned (Bytes 1, Any) (λ n. next (record operands { byte = n }))
-shape_row encoding shape.Uleb128 operands next =
-    Unsigned (Leb128, Any) (λ n. next (record operands { unsigned = n; earlier = operands.unsigned }))
-shape_row encoding shape.Sleb128 operands next = Signed Leb128 (λ n. next (record operands { signed = n }))
-shape_row encoding shape.Address operands next =
-    Unsigned (Bytes encoding.address_size, Any) (λ n. next (record operands { unsigned = n }))
-shape_row encoding shape.Register operands next =
-    Unsigned (Leb128, Register) (λ n. next (record operands { register = record { 0 = n } }))
-shape_row encoding (shape.Offset form) operands next =
-    Unsigned (offset_form encoding form) (λ n. next (record operands { offset = n }))
-shape_row encoding shape.Block operands next = Block operands.offset (λ block. next (record operands { block = block }))
-shape_row encoding shape.ShortBlock operands next =
-    Block operands.byte (λ block. next (record operands { block = block }))
-shape_row encoding shape.WasmIndex operands next = wasm_index_row operands next
-
--- what is made of the operands
-abbrev pub operation_from : Encoding → FromOperands → Operands Text ℕ → meaning.Operation
-operation_from encoding from_operands.Address operands = meaning.Address operands.unsigned
-operation_from encoding from_operands.Pick operands = meaning.Pick operands.byte
-operation_from encoding from_operands.AddressDeref operands = meaning.Deref operands.offset encoding.address_size true
-operation_from encoding (from_operands.Deref space) operands = meaning.Deref operands.offset operands.byte space
-operation_from encoding from_operands.Register operands = meaning.Register operands.register.0
-operation_from encoding from_operands.RegisterOffset operands =
-    meaning.RegisterOffset operands.register.0 operands.signed operands.offset
-operation_from encoding from_operands.Piece operands = meaning.Piece operands.earlier (Some operands.unsigned)
-operation_from encoding from_operands.ImplicitValue operands = meaning.ImplicitValue operands.block
-operation_from encoding from_operands.EntryValue operands = meaning.EntryValue operands.block
-operation_from encoding from_operands.TypedLiteral operands = meaning.TypedLiteral operands.offset operands.block
-operation_from encoding from_operands.ImplicitPointer operands = meaning.ImplicitPointer operands.offset operands.signed
-operation_from encoding from_operands.WasmLocation operands = wasm_operation operands.place operands.index
-
--- three operands, two, and one or none
-abbrev pub three_operands : (first second third : Shape) → FromOperands → RareRow
-three_operands first second third make = record { first = first; second = second; third = third; make = make }
-
-abbrev pub two_operands : (first second : Shape) → FromOperands → RareRow
-two_operands first second make = three_operands first second shape.Absent make
-
-abbrev pub one_operand : (first : Shape) → FromOperands → RareRow
-one_operand first make = two_operands first shape.Absent make
-
--- the operands of each rare entry, and what is made of them
-abbrev pub operands_after : Rare → RareRow
-operands_after rare_entry.Address = one_operand shape.Address from_operands.Address
-operands_after rare_entry.PickByte = one_operand shape.Byte from_operands.Pick
-operands_after rare_entry.SpaceDeref = one_operand shape.Absent from_operands.AddressDeref
-operands_after rare_entry.SpaceDerefSize = one_operand shape.Byte (from_operands.Deref true)
-operands_after rare_entry.NamedRegister = one_operand shape.Register from_operands.Register
-operands_after rare_entry.NamedBaseRegister = two_operands shape.Register shape.Sleb128 from_operands.RegisterOffset
-operands_after rare_entry.TypedRegister =
-    two_operands shape.Register (shape.Offset offset_shape.Uleb128) from_operands.RegisterOffset
-operands_after rare_entry.BitPiece = two_operands shape.Uleb128 shape.Uleb128 from_operands.Piece
-operands_after rare_entry.ImplicitValue =
-    two_operands (shape.Offset offset_shape.Uleb128) shape.Block from_operands.ImplicitValue
-operands_after rare_entry.EntryValue =
-    two_operands (shape.Offset offset_shape.Uleb128) shape.Block from_operands.EntryValue
-operands_after rare_entry.TypedLiteral =
-    three_operands (shape.Offset offset_shape.Uleb128) shape.Byte shape.ShortBlock from_operands.TypedLiteral
-operands_after rare_entry.TypedDeref =
-    two_operands shape.Byte (shape.Offset offset_shape.Uleb128) (from_operands.Deref false)
-operands_after rare_entry.SpaceTypedDeref =
-    two_operands shape.Byte (shape.Offset offset_shape.Uleb128) (from_operands.Deref true)
-operands_after rare_entry.ImplicitPointer =
-    two_operands (shape.Offset offset_shape.Reference) shape.Sleb128 from_operands.ImplicitPointer
-operands_after rare_entry.WasmLocation = two_operands shape.Byte shape.WasmIndex from_operands.WasmLocation
-
--- the row of operands one after another, and of what is made of them
-abbrev pub row_in_order : Encoding → Text → RareRow → Row
-row_in_order encoding text row =
-    shape_row encoding row.first (no_operands text) (λ one. shape_row encoding row.second one (λ two.
-    shape_row encoding row.third two (λ three. Makes (operation_from encoding row.make three))))
-
--- the row that a rare entry is, of this text
-abbrev pub rare_row : Encoding → Text → Rare → Row
-rare_row encoding text entry = row_in_order encoding text (operands_after entry)
+-- the row that a rare entry is
+abbrev pub rare_row : Encoding → Rare → Row
+rare_row encoding rare_entry.Address = unsigned (Bytes encoding.address_size, Any) meaning.Address
+rare_row encoding rare_entry.PickByte = unsigned (Bytes 1, Any) meaning.Pick
+rare_row encoding rare_entry.SpaceDeref = Makes (meaning.Deref 0 encoding.address_size true)
+rare_row encoding rare_entry.SpaceDerefSize = unsigned (Bytes 1, Any) (λ size. meaning.Deref 0 size true)
+rare_row encoding rare_entry.NamedRegister = unsigned (Leb128, Register) meaning.Register
+rare_row encoding rare_entry.NamedBaseRegister =
+    Unsigned (Leb128, Register) (λ register. signed Leb128 (λ offset. meaning.RegisterOffset register offset 0))
+rare_row encoding rare_entry.TypedRegister =
+    Unsigned (Leb128, Register) (λ register. unsigned (Leb128, Offset) (meaning.RegisterOffset register (pos 0)))
+rare_row encoding rare_entry.BitPiece =
+    Unsigned (Leb128, Any) (λ size. unsigned (Leb128, Any) (λ offset. meaning.Piece size (Some offset)))
+rare_row encoding rare_entry.ImplicitValue = sized_block (Leb128, Offset) meaning.ImplicitValue
+rare_row encoding rare_entry.EntryValue = sized_block (Leb128, Offset) meaning.EntryValue
+rare_row encoding rare_entry.TypedLiteral =
+    Unsigned (Leb128, Offset) (λ base_type. sized_block (Bytes 1, Any) (meaning.TypedLiteral base_type))
+rare_row encoding (rare_entry.TypedDeref space) =
+    Unsigned (Bytes 1, Any) (λ size. unsigned (Leb128, Offset) (λ base_type. meaning.Deref base_type size space))
+rare_row encoding rare_entry.ImplicitPointer =
+    Unsigned (Bytes (ref_size encoding), Offset) (λ to. signed Leb128 (meaning.ImplicitPointer to))
+rare_row encoding rare_entry.WasmLocation = Unsigned (Bytes 1, Any) wasm_row
 
 -- the row that an entry is at an opcode
 abbrev pub entry_row : Encoding → (opcode : ℕ) → Entry → Row
@@ -242,7 +135,7 @@ entry_row encoding opcode (entry.Offset shape make) = unsigned (offset_form enco
 entry_row encoding opcode (entry.BaseRegister register) =
     signed Leb128 (λ offset. meaning.RegisterOffset register offset 0)
 entry_row encoding opcode entry.Piece = unsigned (Leb128, PieceSize) (λ size. meaning.Piece (8 * size) None)
-entry_row encoding opcode (entry.Rare rare) = rare_row encoding (record { bytes = []; is_big = false }) rare
+entry_row encoding opcode (entry.Rare rare) = rare_row encoding rare
 
 -- a row's operands at the front of a text
 abbrev pub operands_in : (offset_bits : ℕ) → Text → Row → Result (meaning.Operation × List ℕ) Fault
@@ -252,23 +145,8 @@ operands_in offset_bits text row = operands_at offset_bits text.is_big row text.
 abbrev pub register_at : List ℕ → Result (ℕ × List ℕ) Fault
 register_at bytes = uleb_at bytes >>= λ number. register_of number.0 >>= λ register. Ok (register, number.1)
 
--- a text of the next bytes, as many as that
-abbrev pub block_at : ℕ → Text → Result (Text × List ℕ) Fault
-block_at size text =
-    split_at size text.bytes >>= λ block. Ok (record { bytes = block.0; is_big = text.is_big }, block.1)
-
--- what a read of one operand gives, by its row and any of what follows: the row of what follows is read on, or a fault
-abbrev pub Leads : {X Y : Type 0} → (offset_bits : ℕ) → (X → Y) → (old new : Text) → Result X Error
-    → ((Y → Row) → Row) → Type 0
-Leads {X} {Y} offset_bits view old new (Ok x) row = (next : Y → Row)
-    → operands_at offset_bits old.is_big (row next) old.bytes
-    ≡ operands_at offset_bits old.is_big (next (view x)) new.bytes
-Leads {X} {Y} offset_bits view old new (Err e) row = (next : Y → Row)
-    → operands_at offset_bits old.is_big (row next) old.bytes ≡ Err (fault_of e)
-
--- a read of one operand, from the text before to the text after it
-pub record GoesOn {X Y : Type 0} (offset_bits : ℕ) (view : X → Y) (old new : Text) (result : Result X Error)
-    (row : (Y → Row) → Row) : Type 0 where
-  pub leads : Leads offset_bits view old new result row
-  pub rest : IsSuffix new.bytes old.bytes
-  pub order : new.is_big ≡ old.is_big
+-- a size, and then this many bytes
+abbrev pub block_in : (offset_bits : ℕ) → Text → Layout × Range → Result (Text × List ℕ) Fault
+block_in offset_bits text size =
+    unsigned_at offset_bits text.is_big size text.bytes >>= λ n. split_at n.0 n.1
+    >>= λ block. Ok (record { bytes = block.0; is_big = text.is_big }, block.1)

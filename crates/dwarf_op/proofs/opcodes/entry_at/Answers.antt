@@ -4,9 +4,6 @@ use Rattle.dwarf_base.specs.declared.common.Encoding.{Encoding}
 use Rattle.dwarf_meaning.specs.Operations as operation
 use Rattle.dwarf_meaning.specs.Operands.{Leb128}
 use Rattle.dwarf_meaning.specs.Opcodes.{Row, Makes, Invalid, signed, row_of}
-use Rattle.dwarf_op.specs.declared.opcodes.Entry.TheVariants as entry
-use Rattle.dwarf_op.specs.declared.opcodes.Rare.TheVariants as rare_entry
-use Rattle.dwarf_op.specs.inner.Entries.{entry_row}
 use Rattle.dwarf_op.proofs.opcodes.entry_at.Goals as goal
 
 -- the rows that a function gives to this many opcodes
@@ -105,26 +102,3 @@ pub returns-in_default-2 : goal.returns-in_default-2
 returns-in_default-2 c = λ encoding.
     unknown_high encoding c.args.opcode (omega arith) (omega arith) (omega arith) (omega arith)
     (omega arith) (omega arith) (omega arith)
-
--- ---- three operands, computed
-
-abbrev typed_literal_row : Encoding → (opcode : ℕ) → Row
-typed_literal_row encoding opcode = entry_row encoding opcode (entry.Rare rare_entry.TypedLiteral)
-
-pub typed_literal : (encoding : Encoding) (opcode : ℕ) → opcode ≡ 0xa4
-    → entry_row encoding opcode (entry.Rare rare_entry.TypedLiteral) ≡ row_of encoding opcode
-unfolding row_of
-typed_literal encoding opcode is =
-    row_within (typed_literal_row encoding) (row_of encoding) 0xa4 1 opcode refl (omega arith) (omega arith)
-
-pub gnu_typed_literal : (encoding : Encoding) (opcode : ℕ) → opcode ≡ 0xf4
-    → entry_row encoding opcode (entry.Rare rare_entry.TypedLiteral) ≡ row_of encoding opcode
-unfolding row_of
-gnu_typed_literal encoding opcode is =
-    row_within (typed_literal_row encoding) (row_of encoding) 0xf4 1 opcode refl (omega arith) (omega arith)
-
-pub returns-in-DW_OP_const_type : goal.returns-in-DW_OP_const_type
-returns-in-DW_OP_const_type c = λ encoding. typed_literal encoding c.args.opcode (omega arith)
-
-pub returns-in-DW_OP_GNU_const_type : goal.returns-in-DW_OP_GNU_const_type
-returns-in-DW_OP_GNU_const_type c = λ encoding. gnu_typed_literal encoding c.args.opcode (omega arith)

@@ -8,7 +8,7 @@ ghost use Rattle.dwarf_op.specs.inner.Entries.{entry_row, operands_in, rare_row}
 ghost use Rattle.dwarf_op.specs.inner.Entries as entries;
 ghost use Rattle.dwarf_op.specs.Views.{operation_of};
 
-use crate::opcodes::{Entry, Fieldless, FromOffset, Offset, Rare, entry_at};
+use crate::opcodes::{Entry, Fieldless, FromOffset, Offset, Rare, Signed, Unsigned, entry_at};
 use crate::operands::{
     generic_type, read_block, read_i16, read_offset, read_register, read_signed, read_u8,
     read_unsigned,
@@ -98,7 +98,7 @@ fn read_named_base_register<R: Reader + Copy>(bytes: &mut R) -> Result<Operation
         (operands_in R.Offset.BITS (R.text bytes.old) (rare_row encoding Rare.NamedBaseRegister)) }
 {
     let base = read_register(bytes)?;
-    let offset = bytes.read_sleb128()?;
+    let offset = read_signed(Signed::Sleb128, bytes)?;
     Ok(Operation::RegisterOffset {
         register: base,
         offset,
@@ -131,7 +131,7 @@ fn read_piece<R: Reader + Copy>(bytes: &mut R) -> Result<Operation<R>>
         (R.text bytes.old) (R.text bytes.new) result
         (operands_in R.Offset.BITS (R.text bytes.old) (entry_row encoding 0 Entry.Piece)) }
 {
-    let size = bytes.read_uleb128()?;
+    let size = read_unsigned(Unsigned::Uleb128, bytes)?;
     let Some(size_in_bits) = size.checked_mul(8) else {
         return Err(Error::InvalidPieceSize(size));
     };
@@ -149,8 +149,8 @@ fn read_bit_piece<R: Reader + Copy>(bytes: &mut R) -> Result<Operation<R>>
         (R.text bytes.old) (R.text bytes.new) result
         (operands_in R.Offset.BITS (R.text bytes.old) (rare_row encoding Rare.BitPiece)) }
 {
-    let size_in_bits = bytes.read_uleb128()?;
-    let bit_offset = bytes.read_uleb128()?;
+    let size_in_bits = read_unsigned(Unsigned::Uleb128, bytes)?;
+    let bit_offset = read_unsigned(Unsigned::Uleb128, bytes)?;
     Ok(Operation::Piece {
         size_in_bits,
         bit_offset: Some(bit_offset),
@@ -206,7 +206,7 @@ fn read_implicit_pointer<R: Reader + Copy>(
         (operands_in R.Offset.BITS (R.text bytes.old) (rare_row encoding Rare.ImplicitPointer)) }
 {
     let value = read_offset(Offset::Reference, bytes, encoding)?;
-    let byte_offset = bytes.read_sleb128()?;
+    let byte_offset = read_signed(Signed::Sleb128, bytes)?;
     Ok(Operation::ImplicitPointer {
         value: DebugInfoOffset(value),
         byte_offset,
@@ -375,13 +375,13 @@ fn read_operands<R: Reader + Copy>(
             value: read_unsigned(shape, bytes)?,
         }),
         Entry::PlusConstant => Ok(Operation::PlusConstant {
-            value: bytes.read_uleb128()?,
+            value: read_unsigned(Unsigned::Uleb128, bytes)?,
         }),
         Entry::SignedConstant(shape) => Ok(Operation::SignedConstant {
             value: read_signed(shape, bytes)?,
         }),
         Entry::FrameOffset => Ok(Operation::FrameOffset {
-            offset: bytes.read_sleb128()?,
+            offset: read_signed(Signed::Sleb128, bytes)?,
         }),
         Entry::Bra => Ok(Operation::Bra {
             target: read_i16(bytes)?,
@@ -391,12 +391,32 @@ fn read_operands<R: Reader + Copy>(
         }),
         Entry::BaseRegister(register) => Ok(Operation::RegisterOffset {
             register: Register(u16::from(register)),
-            offset: bytes.read_sleb128()?,
+            offset: read_signed(Signed::Sleb128, bytes)?,
             base_type: generic_type(),
         }),
         Entry::Piece => read_piece(bytes),
         Entry::Offset(shape, make) => read_offset_on_copy(shape, make, bytes, encoding),
         Entry::Rare(entry) => read_rare_on_copy(entry, bytes, encoding),
+    }
+}
+
+// Does what `read_operands` does. What a call reads is moved out of its result, so that in a loop no operation has to
+// stand in memory.
+#[inline(always)]
+fn read_operands_in_run<R: Reader + Copy>(
+    entry: Entry,
+    opcode: u8,
+    bytes: &mut R,
+    encoding: Encoding,
+) -> Result<Operation<R>>
+    ensures { Reads (operation_of R.text R.Offset.number)
+        (R.text bytes.old) (R.text bytes.new) result
+        (operands_in R.Offset.BITS (R.text bytes.old) (entry_row encoding opcode entry)) }
+{
+    match entry {
+        Entry::Offset(shape, make) => Ok(read_offset_on_copy(shape, make, bytes, encoding)?),
+        Entry::Rare(entry) => Ok(read_rare_on_copy(entry, bytes, encoding)?),
+        entry => read_operands(entry, opcode, bytes, encoding),
     }
 }
 
@@ -416,6 +436,23 @@ impl<R: Reader + Copy> Operation<R> {
             (length (R.text bytes.new).bytes < length (R.text bytes.old).bytes) }
     {
         let opcode = bytes.read_u8()?;
+        // A branch for the opcodes that are met most, so that fewer jumps are mispredicted.
+        if let 0x70..=0x8f = opcode {
+            return read_operands(entry_at(opcode), opcode, bytes, encoding);
+        }
         read_operands(entry_at(opcode), opcode, bytes, encoding)
+    }
+
+    /// Does what [`Operation::parse`] does, in a form that rustc makes faster code of in a loop over operations.
+    #[tactic(auto, using(dwarf_base::proofs::Suffixes::suffix_trans), unfolding(dwarf_meaning::specs::Decoding::operation_at))]
+    #[inline(always)]
+    pub fn parse_in_run(bytes: &mut R, encoding: Encoding) -> Result<Operation<R>>
+        ensures reads { Reads (operation_of R.text R.Offset.number) (R.text bytes.old)
+            (R.text bytes.new) result (operation_at encoding R.Offset.BITS (R.text bytes.old)) }
+        ensures less { OnOk result
+            (length (R.text bytes.new).bytes < length (R.text bytes.old).bytes) }
+    {
+        let opcode = bytes.read_u8()?;
+        read_operands_in_run(entry_at(opcode), opcode, bytes, encoding)
     }
 }

@@ -108,8 +108,9 @@ pub(crate) enum FromOffset {
     VariableValue,
 }
 
-// What stands after an opcode that few operations have (each of these one in a hundred of real programs, or fewer),
-// and what is made of it.
+// What stands after an opcode whose operands are read in a function of their own, and what is made of it. Of the
+// operations of libc and libm 12 in 100 are such: 5 are `DW_OP_entry_value`, 2 each `DW_OP_regval_type`,
+// `DW_OP_const_type` and `DW_OP_addr`, and each of the others is less than one.
 #[derive(Clone, Copy)]
 pub(crate) enum Rare {
     // An address: `DW_OP_addr`.
@@ -180,7 +181,7 @@ pub(crate) enum Entry {
     BaseRegister(u8),
     // A size in bytes.
     Piece,
-    // What few operations have; it is read in a function of its own.
+    // What is read in a function of its own.
     Rare(Rare),
 }
 

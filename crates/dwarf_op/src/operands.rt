@@ -79,7 +79,7 @@ pub(crate) fn read_offset<R: Reader + Copy>(
         Offset::U8 => Ok(R::Offset::from_u8(read_u8(bytes)?)),
         Offset::U16 => Ok(R::Offset::from_u16(bytes.read_u16()?)),
         Offset::U32 => Ok(R::Offset::from_u32(bytes.read_u32()?)),
-        Offset::Uleb128 => R::Offset::from_u64(bytes.read_uleb128()?),
+        Offset::Uleb128 => R::Offset::from_u64(read_unsigned(Unsigned::Uleb128, bytes)?),
         Offset::Section => bytes.read_offset(encoding.format),
         Offset::Reference => {
             if encoding.version == 2 {
@@ -97,7 +97,7 @@ pub(crate) fn read_register<R: Reader + Copy>(bytes: &mut R) -> Result<Register>
     ensures { Reads (λ r. r.0) (R.text bytes.old) (R.text bytes.new) result
         (register_at (R.text bytes.old).bytes) }
 {
-    Register::from_u64(bytes.read_uleb128()?)
+    Register::from_u64(read_unsigned(Unsigned::Uleb128, bytes)?)
 }
 
 // The generic type: the base type at offset 0.

@@ -41,8 +41,7 @@ int dwexpr_libdw_find_call_site(dwexpr_libdw_frame *frame, Dwarf_Die *site)
     struct dwexpr_libdw_walk walk;
     int enters = 1, found = 0;
     if (!caller || dwexpr_libdw_find_place(frame) || dwexpr_libdw_find_place(caller) || !frame->place.function.addr ||
-        !caller->place.function.addr || caller->place.is_activation ||
-        dwexpr_libdw_begin_walk(&walk, &caller->place.function))
+        !caller->place.function.addr || dwexpr_libdw_begin_walk(&walk, &caller->place.function))
         return 0;
     for (; !found && next_call_site(&walk, enters, site); enters = 0) {
         Dwarf_Attribute attribute;

@@ -246,6 +246,8 @@ FRAMES = [
     ("members", "pieces.c", "gcc", ["-O0", "-gdwarf-5"], 1),
     ("pointers", "pieces.c", "gcc", ["-O2"], 10),
     ("arrays", "registers.c", "gcc", ["-O0"], 5),
+    ("bases", "bases.cpp", "g++", ["-O0"], 1),
+    ("bounds", "bounds.f90", "gfortran", ["-O0"], 1),
     ("signals", "signals.c", "clang", ["-O2"], 1),
 ]
 

@@ -5,6 +5,8 @@
  *     frames members PID    place 1 of pieces.c
  *     frames pointers PID   place 10 of pieces.c, by gcc -O2, where `place` points into `local`
  *     frames arrays PID     place 5 of registers.c
+ *     frames bases PID      bases.cpp, where `copied` has virtual bases
+ *     frames bounds PID     bounds.f90, where an array's bounds stand in its descriptor
  *     frames signals PID    place 1 of signals.c, by clang -O2, which names a caller's register whatever a call changes */
 #include <dwarf.h>
 #include <pthread.h>
@@ -254,13 +256,88 @@ static void check_arrays(void)
     }
 }
 
+/* The frame that has a variable of this name, its type, and where the variable is; 0 if there is none in memory. */
+static dwexpr_libdw_frame *place_of(const char *name, Dwarf_Die *type, uint64_t *object)
+{
+    dwexpr_libdw_frame *frame;
+    dwexpr_libdw_value *value;
+    Dwarf_Die variable;
+    size_t i;
+    for (i = 0; (frame = dwexpr_libdw_frame_at(stack, i)) != NULL; i++)
+        if (find_variable(frame, name, &variable) && !dwexpr_libdw_type(&variable, type)) {
+            const uint32_t code = dwexpr_libdw_variable(frame, &variable, &value);
+            const int is_placed = !code && value->pieces[0].kind == DWEXPR_AT_ADDRESS;
+            *object = is_placed ? value->pieces[0].number : 0;
+            dwexpr_libdw_release(value);
+            return is_placed ? frame : NULL;
+        }
+    return NULL;
+}
+
+/* The first entry of this kind below another. */
+static int first_child(Dwarf_Die *parent, int tag, Dwarf_Die *child)
+{
+    int more = dwarf_child(parent, child);
+    while (more == 0 && dwarf_tag(child) != tag)
+        more = dwarf_siblingof(child, child);
+    return more == 0;
+}
+
+/* `shared` begins 36 bytes in an object of `whole`, as g++'s ABI and gdb have it, and `right` 16. */
+static void check_bases(void)
+{
+    Dwarf_Die whole, base, left;
+    uint64_t object = 0, begin = 0, bits = 0;
+    dwexpr_libdw_frame *frame = place_of("copied", &whole, &object);
+    check(frame && object, "copied", "where it is");
+    check(frame && first_child(&whole, DW_TAG_inheritance, &base) && !dwarf_siblingof(&base, &base) &&
+              !dwexpr_libdw_member(frame, &base, &object, &begin, &bits) && begin == 8 * 16,
+          "right", "where it begins");
+    check(frame && first_child(&whole, DW_TAG_inheritance, &base) && !dwexpr_libdw_type(&base, &left) &&
+              first_child(&left, DW_TAG_inheritance, &base) &&
+              !dwexpr_libdw_member(frame, &base, &object, &begin, &bits) && begin == 8 * 36 && bits == 8 * 4,
+          "shared", "where it begins, and its bits");
+    check(frame && dwexpr_libdw_member(frame, &base, NULL, &begin, &bits), "shared", "not without an object");
+}
+
+/* As gdb has them: (3:7, -1:1) of 60 bytes, and (2, 2:4) of 24. */
+static void check_bounds(void)
+{
+    static const struct {
+        const char *name;
+        int64_t bounds[4];
+        uint64_t size;
+    } rows[] = {{"table", {3, 7, -1, 1}, 60}, {"part", {1, 2, 2, 4}, 24}};
+    size_t i, j;
+    for (i = 0; i < 2; i++) {
+        Dwarf_Die type, range;
+        uint64_t object = 0, size = 0;
+        dwexpr_libdw_frame *frame = place_of(rows[i].name, &type, &object);
+        int more = !frame || !first_child(&type, DW_TAG_subrange_type, &range);
+        check(!more, rows[i].name, "its bounds");
+        for (j = 0; !more && j < 4; j++) {
+            const unsigned int name = j % 2 ? DW_AT_upper_bound : DW_AT_lower_bound;
+            Dwarf_Attribute attribute;
+            uint64_t bound = 1; /* Fortran's lower bound, if there is no attribute */
+            if (dwarf_attr(&range, name, &attribute))
+                check(!dwexpr_libdw_number(frame, &attribute, &object, &bound), rows[i].name, "a bound");
+            check((int64_t)bound == rows[i].bounds[j], rows[i].name, "what it is");
+            if (j % 2)
+                more = dwarf_siblingof(&range, &range);
+        }
+        check(frame && !dwexpr_libdw_size(frame, &type, &object, &size) && size == rows[i].size, rows[i].name, "size");
+        check(frame && dwexpr_libdw_size(frame, &type, NULL, &size), rows[i].name, "not without an object");
+    }
+}
+
 int main(int argc, char **argv)
 {
     static const struct {
         const char *name;
         void (*checks)(void);
     } kinds[] = {{"deep", check_deep}, {"members", check_members}, {"pointers", check_pointers},
-                 {"arrays", check_arrays}, {"signals", check_signals}};
+                 {"arrays", check_arrays}, {"bases", check_bases},     {"bounds", check_bounds},
+                 {"signals", check_signals}};
     size_t i;
     const pid_t *threads;
     uint32_t code;

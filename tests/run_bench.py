@@ -18,7 +18,7 @@ from checks import commands, expect, left_out  # noqa: E402
 from commands import TOP  # noqa: E402
 
 # Size of an address and of an offset, version, byte order, bytes.
-EXPRESSION = "4\t4\t4\tle\t9805009c22\n"
+EXPRESSION = "4\t4\t4\tle\t9805009c3122\n"
 # How many of the expressions of any bytes evaluate to something else in gimli, and why: docs/DIFFERENCES.md.
 DIFFERENT = 269
 COMPARED = re.compile(r"^(In .*, (.*)): differ (\d+) of 1 of one; (\d+) of 200000 of any bytes;$", re.MULTILINE)
@@ -37,6 +37,8 @@ def main():
     expect(compared, "something is compared")
     for name, work, *numbers in compared:
         expect(numbers == ["0", str(DIFFERENT * (work != "decode"))], name)
+    if any("In Rattle" in name for name, *_ in compared):
+        expect("dwexpr_run_in: differ 0 of 1 of one that it answers\n" in said, "the evaluator by hand")
     # The kit's gate takes no link in the repository, so the next one would fail.
     for path in (TOP / "bench/out").rglob("*"):
         if path.is_symlink():

@@ -1,4 +1,4 @@
-//! By the proved library in Rattle, and by the archive for C as `c/from_c.c` calls it.
+//! By the proved library in Rattle, by the archive for C as `c/from_c.c` calls it, and by `c/by_hand.c`.
 
 use crate::cases::Case;
 
@@ -23,4 +23,10 @@ linked! {
     restarted: dwarf_bench_restart,
     decode_from_c: from_c_decode,
     evaluate_from_c: from_c_evaluate,
+    by_hand: from_c_by_hand,
+    by_hand_over_operations: from_c_by_hand_over_operations,
+    run_in: from_c_run_in,
+    run: from_c_run,
+    answered_by_hand: from_c_answered,
+    differing_by_hand: from_c_differing,
 }

@@ -66,8 +66,19 @@ const SIDES: &[(&str, &[Way])] = &[
             unsummed("evaluate, gimli in arrays", theirs::in_arrays, linked::evaluate_from_c),
         ],
     ),
+    (
+        BY_HAND,
+        &[
+            unsummed("by hand, over decoded operations", linked::by_hand, linked::by_hand_over_operations),
+            unsummed("dwexpr_run_in", linked::by_hand, linked::run_in),
+            unsummed("dwexpr_run", linked::by_hand, linked::run),
+        ],
+    ),
     ("In Rust", IN_RUST),
 ];
+/// The evaluator by hand in C refuses some expressions, and takes the place of gimli.
+#[cfg(feature = "linked")]
+const BY_HAND: &str = "From C, beside an evaluator by hand over bytes";
 
 /// An expression that is a loop or repeats something, and how many items it has.
 struct Made {
@@ -157,6 +168,11 @@ fn compare(lists: &[(String, Vec<Case>)]) {
             println!();
         }
     }
+    #[cfg(feature = "linked")]
+    for (name, cases) in lists {
+        let [answered, differing] = [linked::answered_by_hand, linked::differing_by_hand].map(|work| work(cases, 1));
+        println!("{BY_HAND}, dwexpr_run_in: differ {differing} of {answered} of {name} that it answers");
+    }
 }
 
 fn time_lists(side: &str, ways: &[Way], wishes: &Wishes) {
@@ -176,7 +192,7 @@ fn time_lists(side: &str, ways: &[Way], wishes: &Wishes) {
 }
 
 fn time_made(wishes: &Wishes) {
-    let sides: Vec<_> = SIDES.iter().filter(|side| side.0 != "From C").collect();
+    let sides: Vec<_> = SIDES.iter().filter(|side| side.0.starts_with("In ")).collect();
     println!("\n| One expression |{}", sides.iter().map(|(side, _)| format!(" {side} |")).collect::<String>());
     println!("|---|{}", "---|".repeat(sides.len()));
     for made in made().iter().filter(|made| wishes.has(&made.name)) {

@@ -1,13 +1,17 @@
 -- The integers of values, read with a sign and without.
-use Rattle.std.proofs.Common.{◌≡◌, ◌≢◌, ℕ, ◌-◌, ◌%◌, ◌^◌, ◌<◌, ◌≤◌, ℤ, pos, negsuc, neg_ℤ, ◌-ℤ◌, ◌≤ℤ◌, ◌<ℤ◌, Bool, true, false, if◌then◌else◌, refl, ap, arith, nat_lt, pow_mono}
+use Rattle.std.proofs.Common.{◌≡◌, ◌≢◌, ℕ, ◌-◌, ◌%◌, ◌^◌, ◌<◌, ◌≤◌, ℤ, pos, negsuc, neg_ℤ, ◌-ℤ◌, ◌≤ℤ◌, ◌<ℤ◌, Bool, true, false, if◌then◌else◌, refl, ap, subst, arith, nat_lt, pow_mono}
 use Rattle.std.specs.Ordering.{int_eq}
 use Rattle.std.proofs.lemmas.Int.{ints}
 use Rattle.std.proofs.lemmas.Nat.{pow_pos, mod_below}
 use Rattle.std.proofs.lemmas.Bool.Decides.{nat_tests, Decides-int_eq}
 use native.Mathlib.Nat.{div-eq_of_lt}
+use Rattle.dwarf_value.specs.inner.OperandPairs.{IsIn64}
 use Rattle.dwarf_value.specs.declared.types.Value.{Value}
 use Rattle.dwarf_value.specs.declared.types.Value.TheVariants.{Generic, I8, U8, I16, U16, I32, U32, I64, U64}
-use Rattle.dwarf_value.specs.Values.{word_integer, integer_of, unsigned_integer, floor_quotient}
+use Rattle.dwarf_value.specs.declared.types.ValueType.{ValueType}
+use Rattle.dwarf_value.specs.contracts.types.ValueType.{the_type}
+use Rattle.dwarf_value.specs.Values.{word_integer, integer_of, unsigned_integer, floor_quotient, is_same}
+use denote.Enum.Bare.{same_true}
 
 -- ---- zero
 
@@ -72,3 +76,14 @@ floor_quotient-past_negative (negsuc a) n h l g = let q : 2 ^ 64 ≤ 2 ^ n = pow
 pub floor_quotient-past : (z : ℤ) (n : ℕ) → pos 0 ≤ℤ z → z <ℤ pos (2 ^ 64) → 64 ≤ n → floor_quotient z (2 ^ n) ≡ pos 0
 floor_quotient-past (pos a) n h l g = let q : 2 ^ 64 ≤ 2 ^ n = pow_mono {i = 64} {j = n} g in ap pos (div-eq_of_lt (omega (arith, ints)))
 floor_quotient-past (negsuc a) n h l g = absurd (omega (arith, ints))
+
+-- ---- types
+
+pub same_types : (s t : ValueType) → is_same s t ≡ true → s ≡ t
+unfolding is_same
+same_types s t e = same_true the_type tt s t e
+
+-- ---- integers of 64 bits
+
+pub carry_in_64 : (s t : Bool) (y z : ℤ) → IsIn64 s y → s ≡ t → y ≡ z → IsIn64 t z
+carry_in_64 s t y z h e f = subst (λ b. IsIn64 b z) e (subst (IsIn64 s) f h)

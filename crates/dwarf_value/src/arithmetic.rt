@@ -1,6 +1,6 @@
-ghost use Rattle.std.specs.Prelude.{◌≡◌, pos, ◌+ℤ◌, ◌-ℤ◌, ◌*ℤ◌, MatchResult};
+ghost use Rattle.std.specs.Prelude.{◌≡◌, ◌≢◌, pos, ◌+ℤ◌, ◌-ℤ◌, ◌*ℤ◌, int_div, int_rem, MatchResult};
 ghost use Rattle.dwarf_base.specs.Numbers.{residue};
-ghost use Rattle.dwarf_value.specs.inner.OperandPairs.{AreDivided, UnfitDivision};
+ghost use Rattle.dwarf_value.specs.inner.OperandPairs.{IsIn64, AreDivided, UnfitDivision};
 ghost use Rattle.dwarf_value.specs.Values.{IsAddressMask, width_of, combination, unary_of, binary_of, Abs, Neg, Div, Mod};
 
 use crate::types::{Value, ValueType};
@@ -56,7 +56,8 @@ impl Value {
         ensures { result ≡ binary_of Div (width_of addr_mask) self rhs }
     {
         let (value_type, x, y) = self.divided_by(rhs, addr_mask, true)?;
-        Ok(Value::wrapped_to_64(value_type, x / y))
+        let quotient = quotient(value_type.is_signed(true), x, y);
+        Ok(Value::wrapped_to_64(value_type, quotient))
     }
 
     /// The remainder, with the dividend's sign (`DW_OP_mod`). Generic values are divided as unsigned integers.
@@ -70,7 +71,8 @@ impl Value {
         ensures { result ≡ binary_of Mod (width_of addr_mask) self rhs }
     {
         let (value_type, x, y) = self.divided_by(rhs, addr_mask, false)?;
-        Ok(Value::wrapped_to_64(value_type, x % y))
+        let remainder = remainder(value_type.is_signed(false), x, y);
+        Ok(Value::wrapped_to_64(value_type, remainder))
     }
 
     /// The absolute value, wrapped (`DW_OP_abs`). A generic value is a signed integer here. It is never refused.
@@ -129,4 +131,38 @@ fn low_product(x: i128, y: i128) -> i128
     ensures { result ≡ pos (residue 64 (x *ℤ y)) }
 {
     low_bits(x).wrapping_mul(low_bits(y)) as i128
+}
+
+/// The quotient of two integers of 64 bits, rounded towards zero. By -1 the least one's has a bit more.
+#[inline(always)]
+fn quotient(signed: bool, x: i128, y: i128) -> i128
+    requires x { IsIn64 signed x }
+    requires y { IsIn64 signed y }
+    requires nonzero { y ≢ pos 0 }
+    ensures { result ≡ int_div x y }
+{
+    if !signed {
+        (x as u64 / y as u64) as i128
+    } else if y == -1 {
+        -x
+    } else {
+        (x as i64 / y as i64) as i128
+    }
+}
+
+/// The remainder of two integers of 64 bits, with the sign of the first.
+#[inline(always)]
+fn remainder(signed: bool, x: i128, y: i128) -> i128
+    requires x { IsIn64 signed x }
+    requires y { IsIn64 signed y }
+    requires nonzero { y ≢ pos 0 }
+    ensures { result ≡ int_rem x y }
+{
+    if !signed {
+        (x as u64 % y as u64) as i128
+    } else if y == -1 {
+        0
+    } else {
+        (x as i64 % y as i64) as i128
+    }
 }

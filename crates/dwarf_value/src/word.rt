@@ -1,6 +1,6 @@
 ghost use Rattle.std.specs.Prelude.{◌≡◌, ◌<◌, ◌≤◌, ◌^◌, ◌%◌, pos, neg_ℤ, ◌≤ℤ◌, ◌<ℤ◌, MatchResult};
 ghost use Rattle.dwarf_base.specs.Numbers.{residue};
-ghost use Rattle.dwarf_value.specs.inner.OperandPairs.{AreOperands, UnfitOperands};
+ghost use Rattle.dwarf_value.specs.inner.OperandPairs.{IsIn64, AreOperands, UnfitOperands};
 ghost use Rattle.dwarf_value.specs.Values.{IsAddressMask, width_of, word_integer, type_of, bit_size_of, is_signed, is_same, integer_of, value_of};
 
 use crate::masks::mask_width;
@@ -43,6 +43,7 @@ impl Word {
         ensures value { result ≡ word_integer self.signed self.width self.bits }
         ensures least { neg_ℤ (pos (2 ^ 63)) ≤ℤ result }
         ensures most { result <ℤ pos (2 ^ 64) }
+        ensures in_64 { IsIn64 self.signed result }
     {
         let half = 1u64 << (self.width - 1);
         if self.signed && self.bits >= half {

@@ -1,7 +1,8 @@
-use Rattle.std.proofs.Common.{◌≡◌, ◌≢◌, pos, sym, ◌∙◌, inl, inr, refl, arith}
-use Rattle.std.proofs.lemmas.Int.{ints}
-use Rattle.dwarf_value.specs.Values.{integer_of, width_of}
-use Rattle.dwarf_value.proofs.Integers.{zero_divisor, nonzero_divisor}
+use Rattle.std.proofs.Common.{◌≡◌, ◌≢◌, pos, sym, ap, ◌∙◌, inl, inr, refl, arith, rules, true}
+use Rattle.std.specs.Int.{w128}
+use Rattle.std.proofs.lemmas.Int.{ints, to_z-of_z}
+use Rattle.dwarf_value.specs.Values.{type_of, is_signed, is_same, integer_of, width_of}
+use Rattle.dwarf_value.proofs.Integers.{same_types, carry_in_64, zero_divisor, nonzero_divisor}
 use Rattle.dwarf_value.proofs.types.Value.divided_by.Goals as goal
 
 pub returns-then-divisor-eq0 : goal.returns-then-divisor-eq0
@@ -23,8 +24,31 @@ returns c =
     let read = c.integer-divisor.ensures.value ∙ c.parts-other.ensures.integer in
     let nonzero : integer_of c.args.signed (width_of c.args.addr_mask) c.args.rhs ≢ pos 0 =
     λ e. let zero : c.integer-divisor.result ≡ pos 0 = read ∙ e in omega (arith, ints) in
+    let left = c.parts-value_type.ensures in
+    let right = c.parts-other.ensures in
+    let told = c.same_type.ensures in
+    let passed = c.if-not-same_type.false in
+    let is : is_same (type_of c.args.self) (type_of c.args.rhs) ≡ true =
+    let l = left.value_type in let r = right.value_type in cc in
+    let first : c.parts-value_type.result.1.signed ≡ is_signed c.args.signed c.parts-value_type.result.0 =
+    left.signed ∙ ap (is_signed c.args.signed) (sym left.value_type) in
+    let second : c.parts-other.result.1.signed ≡ is_signed c.args.signed c.parts-value_type.result.0 =
+    right.signed ∙ ap (is_signed c.args.signed) (sym (same_types _ _ is) ∙ sym left.value_type) in
+    let x = to_z-of_z w128 c.integer.result (search rules) in
+    let y = to_z-of_z w128 c.integer-divisor.result (search rules) in
     record {
-      operands = search arith;
+      operands = record {
+        same = is;
+        value_type = left.value_type;
+        first = search arith;
+        second = search arith;
+        first_least = search arith;
+        first_most = search arith;
+        second_least = search arith;
+        second_most = search arith;
+        first_in_64 = carry_in_64 _ _ _ _ c.integer.ensures.in_64 first (sym x);
+        second_in_64 = carry_in_64 _ _ _ _ c.integer-divisor.ensures.in_64 second (sym y);
+      };
       nonzero = nonzero_divisor c.args.signed (width_of c.args.addr_mask) c.args.rhs nonzero;
       divisor = λ e. let zero : c.integer-divisor.result ≡ pos 0 = omega (arith, ints, e) in omega (arith, ints);
     }

@@ -89,11 +89,13 @@ struct Made {
 
 fn made() -> Vec<Made> {
     const TURNS: u32 = 1_000_000;
-    // A jump to itself; count down from 2147483647; 1, and then always: times 2, shift, mask and the like.
-    let loops: [(&str, &[u8]); 3] = [
+    // A jump to itself; count down from 2147483647; 1, and then always: times 2, shift, mask and the like; 1, and then
+    // always: plus 2147483647, by 7, modulo 1000.
+    let loops: [(&str, &[u8]); 4] = [
         ("skip", &[0x2f, 0xfd, 0xff]),
         ("countdown", &[0x0c, 0xff, 0xff, 0xff, 0x7f, 0x31, 0x1c, 0x12, 0x28, 0xfa, 0xff]),
         ("arithmetic", &[0x31, 0x12, 0x22, 0x33, 0x1e, 0x35, 0x1a, 0x33, 0x24, 0x31, 0x21, 0x2f, 0xf2, 0xff]),
+        ("division", &[0x31, 0x0c, 0xff, 0xff, 0xff, 0x7f, 0x22, 0x37, 0x1b, 0x0a, 0xe8, 0x03, 0x1d, 0x2f, 0xf1, 0xff]),
     ];
     let mut all = Vec::new();
     let mut add = |name, case, items: u32| all.push(Made { name, case, items: items.into() });

@@ -1,7 +1,7 @@
 #!/usr/bin/env python3
 """What the documents name is there, and what they have to name is named.
 
-- docs/GLOSSARY.md is what `bin/glossary` makes of the comments under `specs/`, and each definition has one.
+- Each definition under `specs/` has a comment.
 - Each name in docs/DEFINITIONS.md is one of `specs/` (a file, a definition, a field, a constructor), a public one of
   `src/` (an item, a field, a variant, a method, a module), or a crate.
 - Each path in README.md, CHANGELOG.md, CONTRIBUTING.md, SECURITY.md, bench/README.md and docs/ leads to a file or
@@ -10,7 +10,7 @@
 - docs/GUIDE.md lists exactly the operations that are known. The number of faults, the limits of the archive's lists,
   the size of an evaluation there, the logic's sum and README.md's ratios are those of the sources and docs/SPEED.md.
 - The figures in CONTRIBUTING.md are those that `bin/figures` prints.
-- docs/ARCHITECTURE.md has a row for each crate, and the gate's stages in their order.
+- docs/ARCHITECTURE.md has a row for each crate.
 - No line of a page but a table's row has more than 120 columns.
 - Each block of README.md, docs/GUIDE.md and docs/PROOFS.md whose fence names a file is what stands in that file, byte
   for byte. docs/GUIDE.md has the loop over requests and its proof.
@@ -33,7 +33,6 @@ from commands import TOP  # noqa: E402
 
 README = "README.md"
 DEFINITIONS = "docs/DEFINITIONS.md"
-GLOSSARY = "docs/GLOSSARY.md"
 PROOFS = "docs/PROOFS.md"
 SPEED = "docs/SPEED.md"
 # Folders of what is built or kept beside the repository, and no part of it; and those of a package.
@@ -132,10 +131,8 @@ def is_definitions(path):
 
 
 def glossary():
-    """The page of definitions is what the comments make it, and no definition lacks one."""
-    ran = run([TOP / "bin/glossary"])
-    yield "bin/glossary: a definition lacks its comment" if ran.returncode else None
-    yield None if ran.stdout == read(GLOSSARY) else f"{GLOSSARY} isn't what bin/glossary prints"
+    """No definition lacks its comment."""
+    yield "bin/glossary: a definition lacks its comment" if run([TOP / "bin/glossary"]).returncode else None
 
 
 def public_names(code):
@@ -266,17 +263,9 @@ def crates():
         yield None if name in rows else f"docs/ARCHITECTURE.md has no row of {name}"
 
 
-def stages():
-    """The gate's stages in docs/ARCHITECTURE.md are those of bin/test, in their order."""
-    scripts = re.findall(r'"python3", "(tests/\w+\.py)"', read("bin/test"))
-    gate = read("docs/ARCHITECTURE.md").split("\n## The gate\n")[1]
-    named = re.findall(r"^\d+\. `(tests/\w+\.py)`", gate, re.MULTILINE)
-    yield None if named == scripts else f"docs/ARCHITECTURE.md has the stages {named}, and bin/test {scripts}"
-
-
 def wide():
     """Each page has lines of at most 120 columns, but for the rows of tables."""
-    for page in filter(GLOSSARY.__ne__, documents()):
+    for page in documents():
         lines = [line for line in read(page).splitlines() if len(line) > 120 and not line.startswith("|")]
         yield f"{page} has a line of {len(lines[0])} columns: {lines[0]}" if lines else None
 
@@ -333,7 +322,6 @@ CHECKS = [
     figures,
     counted,
     crates,
-    stages,
     wide,
     changed,
     stale,

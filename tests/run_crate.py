@@ -6,7 +6,8 @@ the documentation, `cargo fmt --check`, `cargo package`, and the example on a pr
 
 Cargo wants the crates that the features need even if they are off. The variable DWEXPR_GIMLI names a folder with gimli
 0.34, and DWEXPR_ARRAYVEC one with arrayvec 0.7. Without a folder an empty package stands in for it, and its feature is
-left out. There is no network.
+left out. There is no network. DWEXPR_GIMLI_OLD names one with gimli 0.32.3, the oldest that the crate takes: the tests
+of the feature run with it too.
 
 The last line is `N passed, M failed`.
 """
@@ -146,6 +147,11 @@ def main():
                 cargo(f"clippy{said}", "clippy", "--all-targets", "--no-deps", *enabled, "--", "-D", "warnings")
             cargo(f"doc{said}", "doc", "--no-deps", *enabled)
         try_workspace(folder)
+        if old := os.environ.get("DWEXPR_GIMLI_OLD"):
+            older = ["--config", f'patch.crates-io.gimli.path="{old}"']
+            cargo("test with gimli 0.32.3", *older, "test", "--features", "gimli", "--test", "all", "interop")
+        else:
+            print("left out: gimli 0.32.3: DWEXPR_GIMLI_OLD names no folder")
         listed = cargo("package --list", "package", "--list")
         expect({"LICENSE-APACHE", "LICENSE-MIT"} <= set(listed.split()), "the package has its licences", listed)
         expect(".written" not in listed.split(), "the package has no list of what bin/crate wrote", listed)

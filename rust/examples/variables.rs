@@ -160,7 +160,7 @@ fn shown(pieces: &[Piece<GimliReader<Bytes<'_>>>]) -> String {
             Location::Value { value } => format!("the value {value:?}"),
             Location::Bytes { value } => format!("the bytes {:?}", value.0.slice()),
             Location::ImplicitPointer { value, byte_offset } => {
-                format!("a pointer to byte {byte_offset} of the object at {:#x} of .debug_info", value.0)
+                format!("a pointer to byte {byte_offset} of the object at {:#x} of .debug_info", value.0.0)
             }
         };
         match piece.size_in_bits {

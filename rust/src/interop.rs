@@ -1,9 +1,11 @@
 //! gimli's readers, and conversions between gimli's types and these.
 
 use crate::{
-    BigEndian, DebugAddrIndex, DebugInfoOffset, DieReference, DwAte, DwOp, Encoding, Error, Expression, Format,
-    LittleEndian, Reader, ReaderOffset, ReaderOffsetId, Register, Result, RunTimeEndian, UnitOffset, Value, ValueType,
+    BigEndian, DebugAddrIndex, DebugInfoOffset, DieReference, DwAte, DwOp, Encoding, Error, Format, LittleEndian,
+    Reader, ReaderOffset, ReaderOffsetId, Register, Result, RunTimeEndian, UnitOffset, Value, ValueType,
 };
+use core::fmt;
+use core::ops::Deref;
 
 /// A reader of gimli's. It reads addresses and offsets by gimli's calls, and so relocated if the reader relocates them.
 ///
@@ -15,8 +17,92 @@ use crate::{
 /// let mut evaluation = Evaluation::new(GimliReader(expression.0), encoding.into());
 /// assert_eq!(evaluation.evaluate(), Ok(EvaluationResult::RequiresFrameBase));
 /// ```
-#[derive(Debug, Clone, Copy, PartialEq, Eq, Hash)]
+#[derive(Clone, Copy, PartialEq, Eq, Hash)]
 pub struct GimliReader<R>(pub R);
+
+impl<R> From<R> for GimliReader<R> {
+    #[inline]
+    fn from(reader: R) -> Self {
+        GimliReader(reader)
+    }
+}
+
+impl<R> Deref for GimliReader<R> {
+    type Target = R;
+
+    #[inline]
+    fn deref(&self) -> &R {
+        &self.0
+    }
+}
+
+/// An offset of a reader of gimli's: so each of gimli's offsets is one here. `From` makes a `gimli::UnitOffset` of a
+/// [`UnitOffset`] of these, and so on.
+#[derive(Clone, Copy, PartialEq, Eq, PartialOrd, Ord, Hash)]
+pub struct GimliOffset<T>(pub T);
+
+/// Both are shown as what is in them.
+macro_rules! shown_as_gimlis {
+    ($($type:ident)+) => {
+        $(
+            impl<T: fmt::Debug> fmt::Debug for $type<T> {
+                #[inline]
+                fn fmt(&self, f: &mut fmt::Formatter<'_>) -> fmt::Result {
+                    self.0.fmt(f)
+                }
+            }
+        )+
+    };
+}
+
+shown_as_gimlis!(GimliReader GimliOffset);
+
+impl<T: PartialEq> PartialEq<T> for GimliOffset<T> {
+    #[inline]
+    fn eq(&self, other: &T) -> bool {
+        self.0 == *other
+    }
+}
+
+impl<T: gimli::ReaderOffset> ReaderOffset for GimliOffset<T> {
+    // gimli's are integers.
+    const BITS: u32 = 8 * size_of::<T>() as u32;
+
+    #[inline]
+    fn from_u8(offset: u8) -> Self {
+        GimliOffset(T::from_u8(offset))
+    }
+
+    #[inline]
+    fn from_u16(offset: u16) -> Self {
+        GimliOffset(T::from_u16(offset))
+    }
+
+    #[inline]
+    fn from_i16(offset: i16) -> Self {
+        GimliOffset(T::from_i16(offset))
+    }
+
+    #[inline]
+    fn from_u32(offset: u32) -> Self {
+        GimliOffset(T::from_u32(offset))
+    }
+
+    #[inline]
+    fn from_u64(offset: u64) -> Result<Self> {
+        T::from_u64(offset).map(GimliOffset).map_err(|_| Error::UnsupportedOffset)
+    }
+
+    #[inline]
+    fn into_u64(self) -> u64 {
+        self.0.into_u64()
+    }
+
+    #[inline]
+    fn wrapping_add(self, other: Self) -> Self {
+        GimliOffset(self.0.wrapping_add(other.0))
+    }
+}
 
 impl<R: gimli::Reader + Copy> GimliReader<R> {
     /// Takes something from the front. An error that has no name here, such as one of input, is `UnexpectedEof` with
@@ -37,16 +123,12 @@ impl<R: gimli::Reader + Copy> GimliReader<R> {
     }
 }
 
-impl<R> Reader for GimliReader<R>
-where
-    R: gimli::Reader + Copy,
-    R::Offset: ReaderOffset,
-{
-    type Offset = R::Offset;
+impl<R: gimli::Reader + Copy> Reader for GimliReader<R> {
+    type Offset = GimliOffset<R::Offset>;
 
     #[inline]
-    fn len(&self) -> R::Offset {
-        self.0.len()
+    fn len(&self) -> Self::Offset {
+        GimliOffset(self.0.len())
     }
 
     #[inline]
@@ -60,19 +142,19 @@ where
     }
 
     #[inline]
-    fn offset_from(&self, base: &Self) -> R::Offset {
+    fn offset_from(&self, base: &Self) -> Self::Offset {
         // By the lengths: once it is empty, the reader may be anywhere.
-        base.0.len() - self.0.len()
+        GimliOffset(base.0.len() - self.0.len())
     }
 
     #[inline]
-    fn skip(&mut self, len: R::Offset) -> Result<()> {
-        self.take(|reader| reader.skip(len))
+    fn skip(&mut self, len: Self::Offset) -> Result<()> {
+        self.take(|reader| reader.skip(len.0))
     }
 
     #[inline]
-    fn split(&mut self, len: R::Offset) -> Result<Self> {
-        self.take(|reader| reader.split(len)).map(GimliReader)
+    fn split(&mut self, len: Self::Offset) -> Result<Self> {
+        self.take(|reader| reader.split(len.0)).map(GimliReader)
     }
 
     #[inline]
@@ -91,43 +173,31 @@ where
     }
 
     #[inline]
-    fn read_offset(&mut self, format: Format) -> Result<R::Offset> {
-        self.take(|reader| reader.read_offset(format.into()))
+    fn read_offset(&mut self, format: Format) -> Result<Self::Offset> {
+        self.take(|reader| reader.read_offset(format.into())).map(GimliOffset)
     }
 }
 
-impl<R> From<gimli::Expression<R>> for Expression<GimliReader<R>>
-where
-    R: gimli::Reader + Copy,
-    R::Offset: ReaderOffset,
-{
-    #[inline]
-    fn from(expression: gimli::Expression<R>) -> Self {
-        Expression(GimliReader(expression.0))
-    }
+/// A conversion.
+macro_rules! convert {
+    ([$($of:tt)*] $from:ty => $to:ty { $($there:pat => $here:expr;)+ }) => {
+        impl<$($of)*> From<$from> for $to {
+            #[inline]
+            fn from(it: $from) -> Self {
+                match it {
+                    $($there => $here,)+
+                }
+            }
+        }
+    };
 }
 
 /// Conversions both ways between types of the same name, whose values are written alike but for the crate.
 macro_rules! both_ways {
-    ($($type:ident $(<$of:ident>)? { $($ours:pat => $theirs:expr, $there:pat => $here:expr;)+ })+) => {
+    ($($type:ident { $($ours:pat => $theirs:expr, $there:pat => $here:expr;)+ })+) => {
         $(
-            impl $(<$of>)? From<$type $(<$of>)?> for gimli::$type $(<$of>)? {
-                #[inline]
-                fn from(ours: $type $(<$of>)?) -> Self {
-                    match ours {
-                        $($ours => $theirs,)+
-                    }
-                }
-            }
-
-            impl $(<$of>)? From<gimli::$type $(<$of>)?> for $type $(<$of>)? {
-                #[inline]
-                fn from(theirs: gimli::$type $(<$of>)?) -> Self {
-                    match theirs {
-                        $($there => $here,)+
-                    }
-                }
-            }
+            convert!([] $type => gimli::$type { $($ours => $theirs;)+ });
+            convert!([] gimli::$type => $type { $($there => $here;)+ });
         )+
     };
 }
@@ -137,19 +207,6 @@ both_ways! {
     DwOp { DwOp(x) => gimli::DwOp(x), gimli::DwOp(x) => DwOp(x); }
     DwAte { DwAte(x) => gimli::DwAte(x), gimli::DwAte(x) => DwAte(x); }
     ReaderOffsetId { ReaderOffsetId(x) => gimli::ReaderOffsetId(x), gimli::ReaderOffsetId(x) => ReaderOffsetId(x); }
-    UnitOffset<T> { UnitOffset(x) => gimli::UnitOffset(x), gimli::UnitOffset(x) => UnitOffset(x); }
-    DebugInfoOffset<T> {
-        DebugInfoOffset(x) => gimli::DebugInfoOffset(x), gimli::DebugInfoOffset(x) => DebugInfoOffset(x);
-    }
-    DebugAddrIndex<T> {
-        DebugAddrIndex(x) => gimli::DebugAddrIndex(x), gimli::DebugAddrIndex(x) => DebugAddrIndex(x);
-    }
-    DieReference<T> {
-        DieReference::UnitRef(x) => gimli::DieReference::UnitRef(x.into()),
-        gimli::DieReference::UnitRef(x) => DieReference::UnitRef(x.into());
-        DieReference::DebugInfoRef(x) => gimli::DieReference::DebugInfoRef(x.into()),
-        gimli::DieReference::DebugInfoRef(x) => DieReference::DebugInfoRef(x.into());
-    }
     LittleEndian { LittleEndian => gimli::LittleEndian, gimli::LittleEndian => LittleEndian; }
     BigEndian { BigEndian => gimli::BigEndian, gimli::BigEndian => BigEndian; }
     RunTimeEndian {
@@ -166,14 +223,51 @@ both_ways! {
     }
 }
 
+/// Conversions both ways of offsets that are gimli's, and of those of a reader of gimli's.
+macro_rules! offsets {
+    ($($type:ident)+) => {
+        $(
+            convert!([T: gimli::ReaderOffset] $type<T> => gimli::$type<T> { $type(x) => gimli::$type(x); });
+            convert!([T: gimli::ReaderOffset] gimli::$type<T> => $type<T> { gimli::$type(x) => $type(x); });
+            convert!([T] $type<GimliOffset<T>> => gimli::$type<T> { $type(x) => gimli::$type(x.0); });
+            convert!([T] gimli::$type<T> => $type<GimliOffset<T>> { gimli::$type(x) => $type(GimliOffset(x)); });
+        )+
+    };
+}
+
+/// The same of references to entries.
+macro_rules! references {
+    ([$($of:tt)*] $offset:ty) => {
+        convert!([$($of)*] DieReference<$offset> => gimli::DieReference<T> {
+            DieReference::UnitRef(x) => gimli::DieReference::UnitRef(x.into());
+            DieReference::DebugInfoRef(x) => gimli::DieReference::DebugInfoRef(x.into());
+        });
+        convert!([$($of)*] gimli::DieReference<T> => DieReference<$offset> {
+            gimli::DieReference::UnitRef(x) => DieReference::UnitRef(x.into());
+            gimli::DieReference::DebugInfoRef(x) => DieReference::DebugInfoRef(x.into());
+        });
+    };
+}
+
+offsets!(UnitOffset DebugInfoOffset DebugAddrIndex);
+references!([T: gimli::ReaderOffset] T);
+references!([T] GimliOffset<T>);
+
+/// An error that gimli 0.32 lacks. Where gimli has it, its own name hides this one.
+#[allow(dead_code, non_snake_case)]
+fn InvalidPieceSize(_: u64) -> gimli::Error {
+    gimli::Error::InvalidPiece
+}
+
 /// The same of types of which gimli's has more values: `From` into gimli's, and what comes of these.
 macro_rules! into_gimli {
     ($type:ident: $($name:ident $(($x:ident))?)+) => {
         impl From<$type> for gimli::$type {
             #[inline]
             fn from(ours: $type) -> Self {
+                use gimli::$type::*;
                 match ours {
-                    $($type::$name $(($x))? => gimli::$type::$name $(($x.into()))?,)+
+                    $($type::$name $(($x))? => $name $(($x.into()))?,)+
                 }
             }
         }

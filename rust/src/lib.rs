@@ -33,11 +33,14 @@ extern crate alloc;
 #[rustfmt::skip]
 mod proved;
 
+#[cfg(feature = "gimli")]
+mod conversions;
 mod errors;
 mod evaluation;
 #[cfg(feature = "gimli")]
 mod interop;
 mod names;
+mod operations;
 mod orders;
 mod slices;
 mod storage;
@@ -53,7 +56,7 @@ pub mod constants {
 pub mod read {
     pub use crate::evaluation::Evaluation;
     #[cfg(feature = "gimli")]
-    pub use crate::interop::GimliReader;
+    pub use crate::interop::{GimliOffset, GimliReader};
     pub use crate::proved::base::{EndianSlice, Error, Reader, ReaderOffset, ReaderOffsetId, Result, UnitOffset};
     pub use crate::proved::eval::eval::{Status, WaitingKind};
     pub use crate::proved::eval::op::{

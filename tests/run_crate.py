@@ -1,7 +1,7 @@
 #!/usr/bin/env python3
 """Makes the Rust crate anew by bin/crate, and runs its tests.
 
-It builds the crate without features and with all, runs its tests and those of its documentation, clippy, the build of
+It builds the crate without features, with all, and without the heap, runs its tests and those of its documentation, clippy, the build of
 the documentation, `cargo fmt --check`, `cargo package`, and the example on a program that `cc -g` makes.
 
 Cargo wants the crates that the features need even if they are off. The variable DWEXPR_GIMLI names a folder with gimli
@@ -41,6 +41,24 @@ edition = "2024"
 
 [dependencies]
 dwexpr = { path = "../vendor/dwexpr" }
+"""
+
+# A program without an allocator, which evaluates in arrays.
+ALONE = f"""\
+[package]
+name = "arrays"
+version = "0.1.0"
+edition = "2024"
+
+[[bin]]
+name = "arrays"
+path = "{TOP}/bench/small/arrays.rs"
+
+[dependencies]
+layer = {{ package = "dwexpr", path = "../crate", default-features = false, features = ["arrayvec"] }}
+
+[profile.dev]
+panic = "abort"
 """
 
 # It prints what the example says of its variables in a frame whose canonical frame address is 100000000000 in
@@ -101,6 +119,15 @@ def try_workspace(folder):
         check(f"a workspace with {members}", ["cargo", "run", "--quiet", "--package", "app"], cwd=top)
 
 
+def try_without_allocator(folder):
+    """A program that has no allocator links, and finds a variable: it ends with the low byte of its address."""
+    (folder / "alone").mkdir()
+    (folder / "alone/Cargo.toml").write_text(ALONE)
+    env = {**os.environ, "RUSTFLAGS": "-Clink-arg=-lc"}
+    done = checks.run(["cargo", "run", "--quiet"], cwd=folder / "alone", env=env)
+    expect(done.returncode == 0xF0, "a program without an allocator", done.stderr)
+
+
 def run_example(cargo, features, folder):
     """Compares what the example says of a program's variables with what the program says."""
     if not shutil.which("cc"):
@@ -138,15 +165,18 @@ def main():
         tree = cargo("tree", "tree")
         expect(len(tree.splitlines()) == 1, "without features it depends on nothing", tree)
         cargo("fmt --check", "fmt", "--check")
-        for chosen in [[], found] if found else [[]]:
-            enabled = ["--features", ",".join(chosen)] if chosen else []
-            said = " with " + " and ".join(chosen) if chosen else ""
+        ways = {"": [], " without alloc": ["--no-default-features", "--features", ",".join({"arrayvec"} & set(found))]}
+        if found:
+            ways[" with " + " and ".join(found)] = ["--features", ",".join(found)]
+        for said, enabled in ways.items():
             printed = cargo(f"test{said}", "test", *enabled)
             print("  ", sum(map(int, re.findall(r"(\d+) passed", printed))), "tests")
             if shutil.which("cargo-clippy"):
                 cargo(f"clippy{said}", "clippy", "--all-targets", "--no-deps", *enabled, "--", "-D", "warnings")
             cargo(f"doc{said}", "doc", "--no-deps", *enabled)
         try_workspace(folder)
+        if "arrayvec" in found and shutil.which("cc"):
+            try_without_allocator(folder)
         if old := os.environ.get("DWEXPR_GIMLI_OLD"):
             older = ["--config", f'patch.crates-io.gimli.path="{old}"']
             cargo("test with gimli 0.32.3", *older, "test", "--features", "gimli", "--test", "all", "interop")

@@ -1,10 +1,11 @@
 //! The evaluation: the proved one, after a check of each call's precondition.
 
+#[cfg(feature = "alloc")]
+use crate::heap::StoreOnHeap;
 use crate::proved::eval::eval::{self, Status, WaitingKind};
 use crate::proved::eval::store::ArrayLike as _;
-use crate::storage::{ArrayLike, EvaluationStorage, Lists, StoreOnHeap};
-use crate::{Encoding, Error, EvaluationResult, Expression, Piece, Reader, Result, Value, ValueType};
-use alloc::vec::Vec;
+use crate::storage::{ArrayLike, EvaluationStorage, Lists};
+use crate::{Encoding, Error, EvaluationResult, Piece, Reader, Result, Value, ValueType};
 use core::fmt;
 
 /// An evaluation of an expression (DWARF 5, section 2.5).
@@ -14,6 +15,7 @@ use core::fmt;
 /// After a fault every `evaluate` and every resume gives that fault again.
 ///
 /// ```
+/// # #[cfg(feature = "alloc")] {
 /// use dwexpr::{EndianSlice, Encoding, Error, Evaluation, EvaluationResult, Format, LittleEndian, Location, Value};
 ///
 /// let encoding = Encoding { address_size: 8, format: Format::Dwarf32, version: 5 };
@@ -32,10 +34,15 @@ use core::fmt;
 /// }
 /// assert_eq!(evaluation.value_result(), Some(Value::Generic(0x7008)));
 /// assert_eq!(evaluation.result()[0].location, Location::Address { address: 0x7008 });
-/// # Ok::<(), Error>(())
+/// # }
+/// # Ok::<(), dwexpr::Error>(())
 /// ```
-pub struct Evaluation<R: Reader + Copy, S: EvaluationStorage<R> = StoreOnHeap> {
-    proved: eval::Evaluation<R, Lists<S>>,
+pub struct Evaluation<
+    R: Reader + Copy,
+    #[cfg(feature = "alloc")] S: EvaluationStorage<R> = StoreOnHeap,
+    #[cfg(not(feature = "alloc"))] S: EvaluationStorage<R>,
+> {
+    pub(crate) proved: eval::Evaluation<R, Lists<S>>,
     start: Start,
 }
 
@@ -54,34 +61,6 @@ fn checked(encoding: Encoding) -> (Encoding, Start) {
     match encoding.address_size {
         1..=8 => (encoding, Start::Due),
         size => (Encoding { address_size: 8, ..encoding }, Start::Refused(size)),
-    }
-}
-
-impl<R: Reader + Copy> Expression<R> {
-    /// A fresh evaluation of the expression, on the heap.
-    #[inline]
-    pub fn evaluation(self, encoding: Encoding) -> Evaluation<R> {
-        Evaluation::new(self.0, encoding)
-    }
-}
-
-impl<R: Reader + Copy> Evaluation<R> {
-    /// A fresh evaluation of `bytecode`, on the heap. It takes no memory yet.
-    #[inline]
-    pub fn new(bytecode: R, encoding: Encoding) -> Self {
-        Evaluation::new_in(bytecode, encoding)
-    }
-
-    /// The pieces of a complete evaluation. One alone takes memory now: [`as_result`](Self::as_result) takes none.
-    ///
-    /// # Panics
-    ///
-    /// If the evaluation isn't complete, or that memory is refused.
-    #[inline]
-    #[track_caller]
-    pub fn result(self) -> Vec<Piece<R>> {
-        self.assert_complete("result");
-        self.proved.into_pieces().into_vec().expect("memory for the piece")
     }
 }
 
@@ -260,7 +239,7 @@ impl<R: Reader + Copy, S: EvaluationStorage<R>> Evaluation<R, S> {
 
     #[inline]
     #[track_caller]
-    fn assert_complete(&self, call: &str) {
+    pub(crate) fn assert_complete(&self, call: &str) {
         assert!(self.proved.status() == Status::Complete, "`Evaluation::{call}` was called before the end");
     }
 }

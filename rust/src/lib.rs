@@ -5,6 +5,7 @@
 //! of the proved calls, and adds what gimli's types have besides.
 //!
 //! ```
+//! # #[cfg(feature = "alloc")] {
 //! use dwexpr::{EndianSlice, Encoding, Evaluation, EvaluationResult, Format, LittleEndian, Location};
 //!
 //! let encoding = Encoding { address_size: 8, format: Format::Dwarf32, version: 5 };
@@ -13,20 +14,25 @@
 //! assert_eq!(evaluation.evaluate(), Ok(EvaluationResult::RequiresFrameBase));
 //! assert_eq!(evaluation.resume_with_frame_base(0x3000), Ok(EvaluationResult::Complete));
 //! assert_eq!(evaluation.as_result()[0].location, Location::Address { address: 0x2ff0 });
+//! # }
 //! ```
 //!
 //! Features:
 //!
+//! - `alloc`, a default one: lists on the heap. Without it the crate takes no memory, see [`StoreInSlices`].
 //! - `arrayvec`: an evaluation can keep its lists in arrays, see [`EvaluationStorage`].
 //! - `gimli`: `GimliReader` reads from any `gimli::Reader` that is `Copy`, and the types of both crates convert.
 #![no_std]
 #![forbid(unsafe_code)]
 #![warn(missing_docs)]
 
+#[cfg(feature = "alloc")]
 extern crate alloc;
 
 #[allow(clippy::derivable_impls, clippy::module_inception, clippy::redundant_pattern_matching)]
 #[allow(clippy::should_implement_trait, clippy::upper_case_acronyms)]
+// Only a list on the heap gives its pieces away.
+#[cfg_attr(not(feature = "alloc"), allow(dead_code))]
 // The names of opcodes are the standard's.
 #[allow(non_upper_case_globals)]
 // It is laid out as it is compared with its sources.
@@ -37,6 +43,8 @@ mod proved;
 mod conversions;
 mod errors;
 mod evaluation;
+#[cfg(feature = "alloc")]
+mod heap;
 #[cfg(feature = "gimli")]
 mod interop;
 mod names;
@@ -55,6 +63,8 @@ pub mod constants {
 /// Decoding and evaluating.
 pub mod read {
     pub use crate::evaluation::Evaluation;
+    #[cfg(feature = "alloc")]
+    pub use crate::heap::StoreOnHeap;
     #[cfg(feature = "gimli")]
     pub use crate::interop::{GimliOffset, GimliReader};
     pub use crate::proved::base::{EndianSlice, Error, Reader, ReaderOffset, ReaderOffsetId, Result, UnitOffset};
@@ -64,7 +74,7 @@ pub mod read {
     };
     pub use crate::proved::eval::store::{SliceVec, StoreInSlices};
     pub use crate::proved::value::{Value, ValueType, is_addr_mask};
-    pub use crate::storage::{ArrayLike, EvaluationStorage, StoreOnHeap};
+    pub use crate::storage::{ArrayLike, EvaluationStorage};
 }
 
 pub use crate::constants::*;
@@ -91,6 +101,6 @@ pub const NativeEndian: BigEndian = BigEndian;
 // `usize` is an offset, and an offset takes any number of 32 bits.
 const _: () = assert!(usize::BITS >= 32, "a machine's word has to have 32 bits or more");
 
-#[cfg(doctest)]
+#[cfg(all(doctest, feature = "alloc"))]
 #[doc = include_str!("../README.md")]
 struct Readme;

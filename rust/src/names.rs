@@ -3,7 +3,7 @@
 #![allow(non_upper_case_globals)]
 
 use crate::constants::*;
-use core::fmt;
+use core::fmt::{self, Write as _};
 
 /// Encodings of base types.
 macro_rules! encodings {
@@ -52,6 +52,28 @@ encodings! {
     DW_ATE_hi_user = 0xff;
 }
 
+/// A short text, written without a heap.
+#[derive(Default)]
+struct Short {
+    bytes: [u8; 24],
+    len: usize,
+}
+
+impl Short {
+    fn text(&self) -> &str {
+        str::from_utf8(&self.bytes[..self.len]).unwrap_or_default()
+    }
+}
+
+impl fmt::Write for Short {
+    fn write_str(&mut self, text: &str) -> fmt::Result {
+        let end = self.len + text.len();
+        self.bytes.get_mut(self.len..end).ok_or(fmt::Error)?.copy_from_slice(text.as_bytes());
+        self.len = end;
+        Ok(())
+    }
+}
+
 /// The names of a type's constants.
 macro_rules! names {
     ($kind:ident: $($name:ident)+) => {
@@ -69,7 +91,11 @@ macro_rules! names {
             fn fmt(&self, f: &mut fmt::Formatter<'_>) -> fmt::Result {
                 match self.static_string() {
                     Some(name) => f.pad(name),
-                    None => f.pad(&alloc::format!("Unknown {}: {}", stringify!($kind), self.0)),
+                    None => {
+                        let mut said = Short::default();
+                        write!(said, "Unknown {}: {}", stringify!($kind), self.0)?;
+                        f.pad(said.text())
+                    }
                 }
             }
         }

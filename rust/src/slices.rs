@@ -1,6 +1,7 @@
 //! What gimli's `EndianSlice` and `OperationIter` have besides the proved ones.
 
 use crate::{EndianSlice, Endianity, Error, Expression, OperationIter, Reader, ReaderOffset, ReaderOffsetId, Result};
+#[cfg(feature = "alloc")]
 use alloc::borrow::Cow;
 use core::ops::{Deref, Index, Range, RangeFrom, RangeTo};
 
@@ -88,6 +89,7 @@ impl<'input, Endian: Endianity> EndianSlice<'input, Endian> {
     }
 
     /// The bytes, which are borrowed. There is no error.
+    #[cfg(feature = "alloc")]
     #[inline]
     pub fn to_slice(&self) -> Result<Cow<'input, [u8]>> {
         Ok(Cow::Borrowed(self.slice()))

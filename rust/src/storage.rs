@@ -2,7 +2,6 @@
 
 use crate::proved::eval::store::{self, SliceVec, StoreInSlices};
 use crate::{Piece, Reader, Value};
-use alloc::vec::Vec;
 #[cfg(feature = "arrayvec")]
 use arrayvec::ArrayVec;
 use core::marker::PhantomData;
@@ -24,7 +23,7 @@ pub trait ArrayLike {
     fn new_list() -> Self::List;
 }
 
-/// Where an evaluation keeps its lists. [`StoreOnHeap`] is the default.
+/// Where an evaluation keeps its lists. With the feature `alloc`, `StoreOnHeap` is the default.
 ///
 /// ```
 /// # #[cfg(feature = "arrayvec")] {
@@ -56,16 +55,6 @@ pub trait EvaluationStorage<R: Reader + Copy> {
     type Result: ArrayLike<Item = Piece<R>>;
 }
 
-/// Lists on the heap, as long as memory allows.
-#[derive(Clone, Copy, Debug, PartialEq, Eq)]
-pub struct StoreOnHeap;
-
-impl<R: Reader + Copy> EvaluationStorage<R> for StoreOnHeap {
-    type Stack = Vec<Value>;
-    type ExpressionStack = Vec<(R, R)>;
-    type Result = Vec<Piece<R>>;
-}
-
 impl<'a, R: Reader + Copy + 'a> EvaluationStorage<R> for StoreInSlices<'a> {
     type Stack = SliceVec<'a, Value>;
     type ExpressionStack = SliceVec<'a, (R, R)>;
@@ -79,17 +68,6 @@ impl<R: Reader + Copy, S: EvaluationStorage<R>> store::EvaluationStorage<R> for 
     type Stack = <S::Stack as ArrayLike>::List;
     type ExpressionStack = <S::ExpressionStack as ArrayLike>::List;
     type Result = <S::Result as ArrayLike>::Pieces;
-}
-
-impl<T: Copy> ArrayLike for Vec<T> {
-    type Item = T;
-    type List = Vec<T>;
-    type Pieces = OneOrMore<T>;
-
-    #[inline]
-    fn new_list() -> Vec<T> {
-        Vec::new()
-    }
 }
 
 impl<'a, T: Copy> ArrayLike for SliceVec<'a, T> {
@@ -124,119 +102,5 @@ impl<T: Copy, const N: usize> ArrayLike for ArrayVec<T, N> {
     #[inline]
     fn new_list() -> ArrayVec<T, N> {
         ArrayVec::new()
-    }
-}
-
-impl<T: Copy> store::ArrayLike for Vec<T> {
-    type Item = T;
-
-    #[inline(always)]
-    fn len(&self) -> usize {
-        Vec::len(self)
-    }
-
-    #[inline(always)]
-    fn as_slice(&self) -> &[T] {
-        Vec::as_slice(self)
-    }
-
-    #[inline(always)]
-    fn pop(&mut self) -> Option<T> {
-        Vec::pop(self)
-    }
-
-    #[inline(always)]
-    fn clear(&mut self) {
-        Vec::clear(self);
-    }
-
-    #[inline(always)]
-    fn push(&mut self, item: T) -> Result<(), T> {
-        if self.len() == self.capacity() && !grow(self) {
-            return Err(item);
-        }
-        Vec::push(self, item);
-        Ok(())
-    }
-}
-
-/// Makes room for one more item; `false` if memory is refused. It isn't handed the item, which would have to be written
-/// to memory for it.
-#[cold]
-#[inline(never)]
-fn grow<T>(list: &mut Vec<T>) -> bool {
-    list.try_reserve(1).is_ok()
-}
-
-/// A list on the heap that takes no memory for one item alone: most expressions have one piece.
-pub struct OneOrMore<T> {
-    // The only item. If there are more, all of them are in the other list.
-    one: Option<T>,
-    more: Vec<T>,
-}
-
-impl<T> From<Vec<T>> for OneOrMore<T> {
-    #[inline(always)]
-    fn from(more: Vec<T>) -> Self {
-        OneOrMore { one: None, more }
-    }
-}
-
-impl<T> OneOrMore<T> {
-    /// The items on the heap, or `None` if the only one needs memory and it is refused.
-    #[inline]
-    pub(crate) fn into_vec(mut self) -> Option<Vec<T>> {
-        (self.one.is_none() || self.spill(1)).then_some(self.more)
-    }
-
-    /// Moves the only item to the heap, where there is room for so many then; `false` if memory is refused.
-    #[cold]
-    #[inline(never)]
-    fn spill(&mut self, room: usize) -> bool {
-        if self.more.try_reserve_exact(room).is_err() {
-            return false;
-        }
-        self.more.extend(self.one.take());
-        true
-    }
-}
-
-impl<T: Copy> store::ArrayLike for OneOrMore<T> {
-    type Item = T;
-
-    #[inline(always)]
-    fn len(&self) -> usize {
-        self.as_slice().len()
-    }
-
-    #[inline(always)]
-    fn as_slice(&self) -> &[T] {
-        if self.more.is_empty() { self.one.as_slice() } else { &self.more }
-    }
-
-    #[inline(always)]
-    fn pop(&mut self) -> Option<T> {
-        if self.more.is_empty() { self.one.take() } else { self.more.pop() }
-    }
-
-    #[inline(always)]
-    fn clear(&mut self) {
-        self.one = None;
-        self.more.clear();
-    }
-
-    #[inline(always)]
-    fn push(&mut self, item: T) -> Result<(), T> {
-        if self.more.is_empty() {
-            if self.one.is_none() {
-                self.one = Some(item);
-                return Ok(());
-            }
-            // A `Vec` begins with as many.
-            if !self.spill(4) {
-                return Err(item);
-            }
-        }
-        store::ArrayLike::push(&mut self.more, item)
     }
 }

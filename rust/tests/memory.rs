@@ -68,10 +68,16 @@ fn refused_memory_is_an_error() {
     assert_eq!(with_memory(5_000, || evaluation.evaluate()), Err(Error::StackFull));
     // One piece takes none before `result`, and two do: DW_OP_reg0, and DW_OP_piece 4 after it, twice.
     let pieces = [0x50, 0x93, 4, 0x50, 0x93, 4];
-    let mut evaluation = Evaluation::new(little(&pieces[..1]), ENCODING);
+    let pieces_of_one = [pieces[0]];
+    let mut evaluation = Evaluation::new(little(&pieces_of_one), ENCODING);
     assert_eq!(with_memory(0, || evaluation.evaluate()), Ok(EvaluationResult::Complete));
     let piece = evaluation.as_result()[0];
     assert_eq!(evaluation.result(), [piece]);
+    for (memory, pieces) in [(0, Err(Error::StackFull)), (1_000, Ok(vec![piece]))] {
+        let mut evaluation = Evaluation::new(little(&pieces_of_one), ENCODING);
+        assert_eq!(evaluation.evaluate(), Ok(EvaluationResult::Complete));
+        assert_eq!(with_memory(memory, || evaluation.try_result()), pieces);
+    }
     let mut evaluation = Evaluation::new(little(&pieces), ENCODING);
     assert_eq!(with_memory(0, || evaluation.evaluate()), Err(Error::StackFull));
     // A caller: DW_OP_call2, and DW_OP_nop after it.

@@ -45,6 +45,7 @@ fn constants_have_their_names() {
     assert_eq!(DW_OP_GNU_variable_value.static_string(), Some("DW_OP_GNU_variable_value"));
     assert_eq!(DW_ATE_UTF.to_string(), "DW_ATE_UTF");
     assert_eq!(DwOp(0xff).to_string(), "Unknown DwOp: 255");
+    assert_eq!(format!("{:>20}|{:<20}|", DwAte(0x7f), DW_ATE_UTF), "  Unknown DwAte: 127|DW_ATE_UTF          |");
     assert_eq!(DwAte(0x7f).static_string(), None);
     // Those of DWARF 5, and GNU's and WebAssembly's.
     for number in 0..=255 {

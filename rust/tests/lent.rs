@@ -1,0 +1,42 @@
+//! Evaluations in slices that are lent. They need no heap, and so no feature.
+
+use dwexpr::EvaluationResult::*;
+use dwexpr::{
+    Encoding, EndianSlice, Error, Evaluation, Format, LittleEndian, Location, Piece, SliceVec, StoreInSlices,
+};
+use dwexpr::{Register, Value};
+
+const ENCODING: Encoding = Encoding { address_size: 8, format: Format::Dwarf32, version: 5 };
+
+fn little(bytes: &[u8]) -> EndianSlice<'_, LittleEndian> {
+    EndianSlice::new(bytes, LittleEndian)
+}
+
+#[test]
+fn expressions_are_evaluated_without_a_heap() {
+    let nothing = little(&[]);
+    let (mut values, mut callers, mut pieces) = ([Value::default(); 3], [(nothing, nothing); 1], [Piece::default(); 2]);
+    let mut evaluation = Evaluation::<_, StoreInSlices>::with_lists(
+        // DW_OP_fbreg -16, DW_OP_call2 of the entry at 5, DW_OP_plus.
+        little(&[0x91, 0x70, 0x98, 5, 0, 0x22]),
+        ENCODING,
+        SliceVec::new(&mut values),
+        SliceVec::new(&mut callers),
+        SliceVec::new(&mut pieces),
+    );
+    assert_eq!(evaluation.evaluate(), Ok(RequiresFrameBase));
+    assert!(matches!(evaluation.resume_with_frame_base(0x3000), Ok(RequiresAtLocation(_))));
+    // DW_OP_lit1.
+    assert_eq!(evaluation.resume_with_at_location(little(&[0x31])), Ok(Complete));
+    assert_eq!(evaluation.value_result(), Some(Value::Generic(0x2ff1)));
+    assert_eq!(evaluation.as_result()[0].location, Location::Address { address: 0x2ff1 });
+    // DW_OP_reg1 with 4 bytes, and DW_OP_reg2 with 8.
+    evaluation.restart(little(&[0x51, 0x93, 4, 0x52, 0x93, 8]), ENCODING);
+    assert_eq!(evaluation.evaluate(), Ok(Complete));
+    let [first, second] = evaluation.as_result() else { panic!() };
+    assert_eq!((first.location, first.size_in_bits), (Location::Register { register: Register(1) }, Some(32)));
+    assert_eq!((second.location, second.size_in_bits), (Location::Register { register: Register(2) }, Some(64)));
+    // DW_OP_lit1, four times.
+    evaluation.restart(little(&[0x31; 4]), ENCODING);
+    assert_eq!(evaluation.evaluate(), Err(Error::StackFull));
+}

@@ -118,6 +118,24 @@ impl<R: Reader + Copy, S: EvaluationStorage<R>> Evaluation<R, S> {
 
     /// Makes it a fresh evaluation of another `bytecode`, over the same lists, which keep their memory. It may be
     /// called at any time, and after a fault too. No setting is kept. gimli has no such call.
+    ///
+    /// ```
+    /// # #[cfg(feature = "alloc")] {
+    /// use dwexpr::{EndianSlice, Encoding, Error, Evaluation, Format, LittleEndian, Value};
+    ///
+    /// let encoding = Encoding { address_size: 8, format: Format::Dwarf32, version: 5 };
+    /// let little = |bytes| EndianSlice::new(bytes, LittleEndian);
+    /// // DW_OP_plus without values, DW_OP_lit5, and DW_OP_lit1 with DW_OP_neg.
+    /// let mut evaluation = Evaluation::new(little(&[0x22]), encoding);
+    /// assert_eq!(evaluation.evaluate(), Err(Error::NotEnoughStackItems));
+    /// for (bytes, value) in [(&[0x35][..], 5), (&[0x31, 0x1f], u64::MAX)] {
+    ///     evaluation.restart(little(bytes), encoding);
+    ///     evaluation.evaluate()?;
+    ///     assert_eq!(evaluation.value_result(), Some(Value::Generic(value)));
+    /// }
+    /// # }
+    /// # Ok::<(), dwexpr::Error>(())
+    /// ```
     #[inline]
     pub fn restart(&mut self, bytecode: R, encoding: Encoding) {
         let (encoding, start) = checked(encoding);
@@ -147,6 +165,18 @@ impl<R: Reader + Copy, S: EvaluationStorage<R>> Evaluation<R, S> {
 
     /// Sets how many operations may be evaluated in all, from now on. The default is 4,294,967,295. A location and the
     /// piece after it count as one. An expression may loop, so set a maximum if you don't trust it.
+    ///
+    /// ```
+    /// # #[cfg(feature = "alloc")] {
+    /// use dwexpr::{EndianSlice, Encoding, Error, Evaluation, Format, LittleEndian};
+    ///
+    /// let encoding = Encoding { address_size: 8, format: Format::Dwarf32, version: 5 };
+    /// // DW_OP_skip to itself.
+    /// let mut evaluation = Evaluation::new(EndianSlice::new(&[0x2f, 0xfd, 0xff], LittleEndian), encoding);
+    /// evaluation.set_max_iterations(100_000);
+    /// assert_eq!(evaluation.evaluate(), Err(Error::TooManyIterations));
+    /// # }
+    /// ```
     #[inline]
     pub fn set_max_iterations(&mut self, value: u32) {
         self.proved.set_max_iterations(value);

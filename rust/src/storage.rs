@@ -8,6 +8,29 @@ use core::marker::PhantomData;
 
 /// A list of an evaluation: a `Vec<T>` on the heap, or a [`SliceVec`] over a slice of the caller's; with the feature
 /// `arrayvec` also an array `[T; N]` or an `ArrayVec<T, N>`.
+///
+/// ```
+/// # #[cfg(feature = "alloc")] {
+/// use dwexpr::{EndianSlice, Encoding, Error, Evaluation, EvaluationResult, EvaluationStorage, Format, LittleEndian};
+/// use dwexpr::{Piece, Reader, SliceVec, Value};
+///
+/// /// A new evaluation has a slice without room for callers. So what is called has to be last.
+/// struct WithoutCallers;
+///
+/// impl<R: Reader + Copy + 'static> EvaluationStorage<R> for WithoutCallers {
+///     type Stack = Vec<Value>;
+///     type ExpressionStack = SliceVec<'static, (R, R)>;
+///     type Result = Vec<Piece<R>>;
+/// }
+///
+/// let encoding = Encoding { address_size: 8, format: Format::Dwarf32, version: 5 };
+/// // DW_OP_call2 of the entry at 5, and DW_OP_abs.
+/// let [called, whole] = [&[0x31][..], &[0x98, 5, 0, 0x19]].map(|bytes| EndianSlice::new(bytes, LittleEndian));
+/// let mut evaluation = Evaluation::<_, WithoutCallers>::new_in(whole, encoding);
+/// assert!(matches!(evaluation.evaluate(), Ok(EvaluationResult::RequiresAtLocation(_))));
+/// assert_eq!(evaluation.resume_with_at_location(called), Err(Error::StackFull));
+/// # }
+/// ```
 pub trait ArrayLike {
     /// The items.
     type Item: Copy;

@@ -1,13 +1,14 @@
 #!/usr/bin/env python3
 """Makes the Rust crate anew by bin/crate, and runs its tests.
 
-It builds the crate without features, with all, and without the heap, runs its tests and those of its documentation, clippy, the build of
-the documentation, `cargo fmt --check`, `cargo package`, and the example on a program that `cc -g` makes.
+It builds the crate without features, with all, and without the heap, runs its tests and those of its documentation,
+clippy, the build of the documentation, `cargo fmt --check`, `cargo package`, and the example on a program that `cc -g`
+makes.
 
-Cargo wants the crates that the features need even if they are off. The variable DWEXPR_GIMLI names a folder with gimli
-0.34, and DWEXPR_ARRAYVEC one with arrayvec 0.7. Without a folder an empty package stands in for it, and its feature is
-left out. There is no network. DWEXPR_GIMLI_OLD names one with gimli 0.32.3, the oldest that the crate takes: the tests
-of the feature run with it too.
+To build the crate by itself, Cargo wants the crates that the features need even if they are off. The variable
+DWEXPR_GIMLI names a folder with gimli 0.34, and DWEXPR_ARRAYVEC one with arrayvec 0.7. Without a folder an empty
+package stands in for it, and its feature is left out. There is no network. DWEXPR_GIMLI_OLD names one with gimli
+0.32.3, the oldest that the crate takes, if it isn't where Debian's librust-gimli-dev has it: the tests run with it too.
 
 The last line is `N passed, M failed`.
 """
@@ -107,13 +108,25 @@ def printed_by(name, words, **settings):
     return done.stdout if done else ""
 
 
+def write_app(top):
+    """Writes a package that depends on the crate by its path."""
+    (top / "app/src").mkdir(parents=True)
+    check("bin/crate for a package", [TOP / "bin/crate", top / "vendor/dwexpr"])
+    (top / "app/Cargo.toml").write_text(APP)
+    (top / "app/src/main.rs").write_text("fn main() { assert!(dwexpr::is_addr_mask(0xff)); }\n")
+
+
+def try_path():
+    """Such a package needs none of the crates of features that are off."""
+    with tempfile.TemporaryDirectory() as top:
+        write_app(pathlib.Path(top))
+        check("a package without other crates", ["cargo", "run", "--quiet", "--offline"], cwd=f"{top}/app")
+
+
 def try_workspace(folder):
     """A workspace takes the crate under vendor/, as a member and as none."""
     top = folder / "workspace"
-    (top / "app/src").mkdir(parents=True)
-    check("bin/crate into a workspace", [TOP / "bin/crate", top / "vendor/dwexpr"])
-    (top / "app/Cargo.toml").write_text(APP)
-    (top / "app/src/main.rs").write_text("fn main() { assert!(dwexpr::is_addr_mask(0xff)); }\n")
+    write_app(top)
     for members in ('members = ["app", "vendor/dwexpr"]', 'members = ["app"]\nexclude = ["vendor"]'):
         (top / "Cargo.toml").write_text(f'[workspace]\nresolver = "3"\n{members}\n')
         check(f"a workspace with {members}", ["cargo", "run", "--quiet", "--package", "app"], cwd=top)
@@ -166,20 +179,23 @@ def main():
         expect(len(tree.splitlines()) == 1, "without features it depends on nothing", tree)
         cargo("fmt --check", "fmt", "--check")
         ways = {"": [], " without alloc": ["--no-default-features", "--features", ",".join({"arrayvec"} & set(found))]}
+        every = ",".join(found + ["gimli-0_34"] * ("gimli" in found))
         if found:
-            ways[" with " + " and ".join(found)] = ["--features", ",".join(found)]
+            ways[f" with {every}"] = ["--features", every]
         for said, enabled in ways.items():
             printed = cargo(f"test{said}", "test", *enabled)
             print("  ", sum(map(int, re.findall(r"(\d+) passed", printed))), "tests")
             if shutil.which("cargo-clippy"):
                 cargo(f"clippy{said}", "clippy", "--all-targets", "--no-deps", *enabled, "--", "-D", "warnings")
             cargo(f"doc{said}", "doc", "--no-deps", *enabled)
+        try_path()
         try_workspace(folder)
         if "arrayvec" in found and shutil.which("cc"):
             try_without_allocator(folder)
-        if old := os.environ.get("DWEXPR_GIMLI_OLD"):
+        old = os.environ.get("DWEXPR_GIMLI_OLD", "/usr/share/cargo/registry/gimli-0.32.3")
+        if os.path.isdir(old):
             older = ["--config", f'patch.crates-io.gimli.path="{old}"']
-            cargo("test with gimli 0.32.3", *older, "test", "--features", "gimli", "--test", "all", "interop")
+            cargo("test with gimli 0.32.3", *older, "test", "--features", "gimli", "--tests")
         else:
             print("left out: gimli 0.32.3: DWEXPR_GIMLI_OLD names no folder")
         listed = cargo("package --list", "package", "--list")

@@ -1,7 +1,6 @@
-//! Conversions between what is read from a reader of gimli's here and there.
+//! Conversions between what an evaluation takes and gives here and in gimli.
 
-use crate::operations::operations;
-use crate::{Error, EvaluationResult, Expression, GimliReader, Location, Operation, Piece, Result};
+use crate::{Error, Expression, GimliReader, Location, Piece, Result};
 
 impl<R: gimli::Reader + Copy> From<gimli::Expression<R>> for Expression<GimliReader<R>> {
     #[inline]
@@ -17,52 +16,20 @@ impl<R: gimli::Reader + Copy> From<Expression<GimliReader<R>>> for gimli::Expres
     }
 }
 
-/// From a type into gimli's type of the same name, whose variants have the same fields. One in brackets is a reader.
-macro_rules! into_gimlis {
-    ($type:ident: $($name:ident $(($x:ident))? $({ $($field:ident)+ })? $([$reader:ident])?,)+) => {
-        impl<R: gimli::Reader + Copy> From<$type<GimliReader<R>>> for gimli::$type<R> {
-            #[inline]
-            fn from(ours: $type<GimliReader<R>>) -> Self {
-                match ours {
-                    $($type::$name { $(0: $x,)? $($($field,)+)? $($reader,)? } => gimli::$type::$name {
-                        $(0: $x.into(),)? $($($field: $field.into(),)+)? $($reader: $reader.0,)?
-                    },)+
-                }
+impl<R: gimli::Reader + Copy> From<Location<GimliReader<R>>> for gimli::Location<R> {
+    #[inline]
+    fn from(ours: Location<GimliReader<R>>) -> Self {
+        match ours {
+            Location::Empty => gimli::Location::Empty,
+            Location::Register { register } => gimli::Location::Register { register: register.into() },
+            Location::Address { address } => gimli::Location::Address { address },
+            Location::Value { value } => gimli::Location::Value { value: value.into() },
+            Location::Bytes { value } => gimli::Location::Bytes { value: value.0 },
+            Location::ImplicitPointer { value, byte_offset } => {
+                gimli::Location::ImplicitPointer { value: value.into(), byte_offset }
             }
         }
-    };
-}
-
-/// The same both ways.
-macro_rules! as_gimlis {
-    ($type:ident: $($name:ident $(($x:ident))? $({ $($field:ident)+ })? $([$reader:ident])?,)+) => {
-        into_gimlis! { $type: $($name $(($x))? $({ $($field)+ })? $([$reader])?,)+ }
-
-        impl<R: gimli::Reader + Copy> From<gimli::$type<R>> for $type<GimliReader<R>> {
-            #[inline]
-            fn from(theirs: gimli::$type<R>) -> Self {
-                match theirs {
-                    $(gimli::$type::$name { $(0: $x,)? $($($field,)+)? $($reader,)? } => $type::$name {
-                        $(0: $x.into(),)? $($($field: $field.into(),)+)? $($reader: GimliReader($reader),)?
-                    },)+
-                }
-            }
-        }
-    };
-}
-
-operations!(as_gimlis);
-
-as_gimlis! { EvaluationResult:
-    Complete, RequiresMemory { address size space base_type }, RequiresRegister { register base_type },
-    RequiresWasmLocal { index }, RequiresWasmGlobal { index }, RequiresWasmStack { index }, RequiresFrameBase,
-    RequiresTls(x), RequiresCallFrameCfa, RequiresAtLocation(x), RequiresEntryValue(x), RequiresParameterRef(x),
-    RequiresRelocatedAddress(x), RequiresIndexedAddress { index relocate }, RequiresBaseType(x),
-}
-
-into_gimlis! { Location:
-    Empty, Register { register }, Address { address }, Value { value }, Bytes [value],
-    ImplicitPointer { value byte_offset },
+    }
 }
 
 impl<R: gimli::Reader + Copy> TryFrom<gimli::Location<R>> for Location<GimliReader<R>> {

@@ -39,5 +39,5 @@ macro_rules! debug {
 
 operations!(debug);
 
-#[cfg(feature = "gimli")]
+#[cfg(feature = "gimli-0_34")]
 pub(crate) use operations;

@@ -3,12 +3,12 @@
 use super::panics;
 use dwexpr::EvaluationResult::*;
 use dwexpr::{Error, Evaluation, Expression, GimliOffset, GimliReader, Location, Operation, Piece, Value, ValueType};
-use gimli::{Reader as _, ReaderOffset as _};
+use gimli::Reader as _;
 use std::borrow::Cow;
 
-const ENCODING: gimli::Encoding = gimli::Encoding { address_size: 8, format: gimli::Format::Dwarf32, version: 5 };
+pub const ENCODING: gimli::Encoding = gimli::Encoding { address_size: 8, format: gimli::Format::Dwarf32, version: 5 };
 
-fn little(bytes: &[u8]) -> gimli::EndianSlice<'_, gimli::LittleEndian> {
+pub fn little(bytes: &[u8]) -> gimli::EndianSlice<'_, gimli::LittleEndian> {
     gimli::EndianSlice::new(bytes, gimli::LittleEndian)
 }
 
@@ -47,37 +47,6 @@ fn an_error_tells_where_gimlis_does() {
     assert!(panics(|| Expression(GimliReader(little(&[0x96]))).operations(ENCODING.into()).offset_from(&shorter)));
 }
 
-/// gimli's bounds are enough, and its types come back: this is the loop of an unwinder over gimli's.
-fn unwind<R: gimli::Reader + Copy>(rule: gimli::Expression<R>, encoding: gimli::Encoding, cfa: u64) -> Option<u64> {
-    let mut evaluation = Evaluation::new(rule.0.into(), encoding.into());
-    evaluation.set_initial_value(cfa);
-    let mut result = evaluation.evaluate().ok()?;
-    loop {
-        result = match result.into() {
-            gimli::EvaluationResult::Complete => break,
-            gimli::EvaluationResult::RequiresRegister { register, base_type } if base_type.0.into_u64() == 0 => {
-                evaluation.resume_with_register(Value::Generic(register.0.into())).ok()?
-            }
-            gimli::EvaluationResult::RequiresMemory { address, size: 8, .. } => {
-                evaluation.resume_with_memory(Value::Generic(address / 2)).ok()?
-            }
-            _ => return None,
-        };
-    }
-    match evaluation.as_result()[0].into() {
-        gimli::Piece { location: gimli::Location::Address { address }, .. } => Some(address),
-        _ => None,
-    }
-}
-
-#[test]
-fn the_bounds_are_gimlis() {
-    // DW_OP_drop, DW_OP_breg7 16, DW_OP_deref; DW_OP_plus_uconst 1; DW_OP_const_type.
-    assert_eq!(unwind(gimli::Expression(little(&[0x13, 0x77, 0x10, 0x06])), ENCODING, 0), Some((7 + 16) / 2));
-    assert_eq!(unwind(gimli::Expression(Relocating(little(&[0x23, 1]))), ENCODING, 0x3000), Some(0x3001));
-    assert_eq!(unwind(gimli::Expression(little(&[0xa4, 1, 1, 1])), ENCODING, 0), None);
-}
-
 #[test]
 fn an_offset_is_gimlis() {
     use dwexpr::ReaderOffset;
@@ -103,7 +72,7 @@ fn a_reader_is_gimlis_too() {
 
 /// A reader whose addresses and offsets are relocated by as much as they are far from its end.
 #[derive(Clone, Copy, Debug)]
-struct Relocating<'a>(gimli::EndianSlice<'a, gimli::LittleEndian>);
+pub struct Relocating<'a>(pub gimli::EndianSlice<'a, gimli::LittleEndian>);
 
 impl gimli::Reader for Relocating<'_> {
     type Endian = gimli::LittleEndian;
@@ -255,74 +224,7 @@ fn types_convert() {
     assert_eq!(ValueType::try_from(gimli::ValueType::F64), Err(Error::UnsupportedTypeOperation));
 }
 
-type Bytes = GimliReader<gimli::EndianSlice<'static, gimli::LittleEndian>>;
-
-/// Every operation of each opcode, with operands that differ, as gimli decodes it.
-#[test]
-fn operations_convert_and_are_shown_alike() {
-    let mut seen = 0;
-    for opcode in 0..=255 {
-        for kind in 0..=3 {
-            let bytes = Vec::from([opcode, kind, 2, 3, 4, 5, 6, 7, 8, 9, 10, 11, 12, 13, 14]).leak();
-            let Ok(theirs) = gimli::Operation::parse(&mut little(bytes), ENCODING) else { continue };
-            let ours: Operation<Bytes> = Operation::parse(&mut GimliReader(little(bytes)), ENCODING.into()).unwrap();
-            assert_eq!(gimli::Operation::from(ours), theirs);
-            assert_eq!(Operation::from(theirs), ours);
-            let plain = Operation::parse(&mut super::little(bytes), super::ENCODING).unwrap();
-            let shown = format!("{theirs:?}");
-            assert_eq!((format!("{ours:?}"), format!("{ours:#?}")), (shown.clone(), format!("{theirs:#?}")));
-            if !shown.contains("Slice") {
-                assert_eq!((format!("{plain:?}"), format!("{plain:#?}")), (shown, format!("{theirs:#?}")));
-            }
-            seen += 1;
-        }
-    }
-    assert!(seen > 4 * 160);
-}
-
-#[test]
-fn requests_convert() {
-    use gimli::EvaluationResult::*;
-    let (unit, register) = (gimli::UnitOffset(3), gimli::Register(7));
-    for (theirs, shown) in [
-        (Complete, "Complete"),
-        (
-            RequiresMemory { address: 1, size: 2, space: Some(4), base_type: unit },
-            "RequiresMemory { address: 1, size: 2, space: Some(4), base_type: UnitOffset(3) }",
-        ),
-        (
-            RequiresRegister { register, base_type: unit },
-            "RequiresRegister { register: Register(7), base_type: UnitOffset(3) }",
-        ),
-        (RequiresWasmLocal { index: 5 }, "RequiresWasmLocal { index: 5 }"),
-        (RequiresWasmGlobal { index: 5 }, "RequiresWasmGlobal { index: 5 }"),
-        (RequiresWasmStack { index: 5 }, "RequiresWasmStack { index: 5 }"),
-        (RequiresFrameBase, "RequiresFrameBase"),
-        (RequiresTls(8), "RequiresTls(8)"),
-        (RequiresCallFrameCfa, "RequiresCallFrameCfa"),
-        (RequiresAtLocation(gimli::DieReference::UnitRef(unit)), "RequiresAtLocation(UnitRef(UnitOffset(3)))"),
-        (
-            RequiresAtLocation(gimli::DieReference::DebugInfoRef(gimli::DebugInfoOffset(9))),
-            "RequiresAtLocation(DebugInfoRef(DebugInfoOffset(9)))",
-        ),
-        (RequiresParameterRef(unit), "RequiresParameterRef(UnitOffset(3))"),
-        (RequiresRelocatedAddress(8), "RequiresRelocatedAddress(8)"),
-        (
-            RequiresIndexedAddress { index: gimli::DebugAddrIndex(6), relocate: true },
-            "RequiresIndexedAddress { index: DebugAddrIndex(6), relocate: true }",
-        ),
-        (RequiresBaseType(unit), "RequiresBaseType(UnitOffset(3))"),
-    ] {
-        assert_eq!(format!("{theirs:?}"), shown);
-        let ours: dwexpr::EvaluationResult<Bytes> = theirs.into();
-        assert_eq!(format!("{ours:?}"), shown);
-        assert_eq!(format!("{:?}", gimli::EvaluationResult::from(ours)), shown);
-    }
-    let asked = RequiresEntryValue(gimli::Expression(little(&[0x50])));
-    let ours: dwexpr::EvaluationResult<Bytes> = asked.into();
-    assert_eq!(ours, dwexpr::EvaluationResult::RequiresEntryValue(Expression(GimliReader(little(&[0x50])))));
-    assert_eq!(gimli::EvaluationResult::from(ours), RequiresEntryValue(gimli::Expression(little(&[0x50]))));
-}
+pub type Bytes = GimliReader<gimli::EndianSlice<'static, gimli::LittleEndian>>;
 
 #[test]
 fn pieces_convert() {

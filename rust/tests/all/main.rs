@@ -5,6 +5,8 @@ mod evaluations;
 mod interop;
 mod plain;
 mod reading;
+#[cfg(feature = "gimli-0_34")]
+mod requests;
 mod storages;
 
 use dwexpr::{Encoding, EndianSlice, Evaluation, Format, LittleEndian};

@@ -1,0 +1,41 @@
+//! Conversions between operations, and between requests, here and in gimli. Before 0.34 gimli has fewer of both.
+
+use crate::operations::operations;
+use crate::{EvaluationResult, GimliReader, Operation};
+
+/// Conversions both ways between types of the same name, whose variants have the same fields. One in brackets is a
+/// reader.
+macro_rules! as_gimlis {
+    ($type:ident: $($name:ident $(($x:ident))? $({ $($field:ident)+ })? $([$reader:ident])?,)+) => {
+        impl<R: gimli::Reader + Copy> From<$type<GimliReader<R>>> for gimli::$type<R> {
+            #[inline]
+            fn from(ours: $type<GimliReader<R>>) -> Self {
+                match ours {
+                    $($type::$name { $(0: $x,)? $($($field,)+)? $($reader,)? } => gimli::$type::$name {
+                        $(0: $x.into(),)? $($($field: $field.into(),)+)? $($reader: $reader.0,)?
+                    },)+
+                }
+            }
+        }
+
+        impl<R: gimli::Reader + Copy> From<gimli::$type<R>> for $type<GimliReader<R>> {
+            #[inline]
+            fn from(theirs: gimli::$type<R>) -> Self {
+                match theirs {
+                    $(gimli::$type::$name { $(0: $x,)? $($($field,)+)? $($reader,)? } => $type::$name {
+                        $(0: $x.into(),)? $($($field: $field.into(),)+)? $($reader: GimliReader($reader),)?
+                    },)+
+                }
+            }
+        }
+    };
+}
+
+operations!(as_gimlis);
+
+as_gimlis! { EvaluationResult:
+    Complete, RequiresMemory { address size space base_type }, RequiresRegister { register base_type },
+    RequiresWasmLocal { index }, RequiresWasmGlobal { index }, RequiresWasmStack { index }, RequiresFrameBase,
+    RequiresTls(x), RequiresCallFrameCfa, RequiresAtLocation(x), RequiresEntryValue(x), RequiresParameterRef(x),
+    RequiresRelocatedAddress(x), RequiresIndexedAddress { index relocate }, RequiresBaseType(x),
+}

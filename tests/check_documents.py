@@ -52,7 +52,7 @@ PATHS_ELSEWHERE = {
     "src/read/value.rs": "a file of gimli's",
     "op.rs": "the same",
     "value.rs": "the same",
-    "src/proved": "a folder of the Rust crate, which bin/crate writes",
+    "src/sources": "a folder of the Rust crate, which bin/crate writes",
 }
 
 QUOTED = re.compile(r"`([^`\n]+)`")

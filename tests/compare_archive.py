@@ -7,7 +7,7 @@ expressions, of the expressions of tests/rows, in the rows' steps, and of those 
 proved one, which tests/run_c.py builds, or the one in the folder that the variable DWEXPR_C names.
 
 A wrong body changes a line of the crate's proved modules. tests/beside_archive/wrong-bodies has them: a name, a file
-under src/proved, a text that stands in it once, and another. The program has to see a difference, with fewer cases.
+under src/sources, a text that stands in it once, and another. The program has to see a difference, with fewer cases.
 
 The last line is `N passed, M failed`: kinds and rows, or wrong bodies.
 """
@@ -129,7 +129,7 @@ def try_wrong_body(wrong_body, crate, lines):
     with tempfile.TemporaryDirectory(prefix="wrong-body-") as name:
         folder = pathlib.Path(name)
         shutil.copytree(crate, folder / "crate")
-        source = folder / "crate" / "src" / "proved" / file
+        source = folder / "crate" / "src" / "sources" / file
         text = source.read_text(encoding="utf-8")
         if text.count(old) != 1:
             return False, f"its old text stands {text.count(old)} times in {file}"

@@ -95,7 +95,7 @@ def path_of(module):
 def written(crates, folder):
     """What is written for the sources in a folder of crates, or the message that refuses them."""
     try:
-        crate.write(crate.proved(crates), folder)
+        crate.write(crate.sources(crates), folder)
     except tokens.Refused as why:
         return str(why)
     return {str(path.relative_to(folder).with_suffix("")): path.read_text() for path in folder.rglob("*.rs")}
@@ -110,7 +110,7 @@ def with_change(module, old, new):
         text = (crates / path).read_text()
         expect(old in text, f"{path} has no {old!r}")
         (crates / path).write_text(text.replace(old, new, 1))
-        return written(crates, pathlib.Path(folder) / "proved")
+        return written(crates, pathlib.Path(folder) / "sources")
 
 
 def without_commas(found):
@@ -207,10 +207,10 @@ def try_folders(folder):
     done = run(made, env={**os.environ, "PATH": str(programs)})
     expect(done.returncode == 0, f"on a PATH of two programs: {done.stderr}")
     files = contents(made)
-    for name in "Cargo.toml README.md CHANGELOG.md LICENSE-MIT LICENSE-APACHE src/lib.rs src/proved/mod.rs".split():
+    for name in "Cargo.toml README.md CHANGELOG.md LICENSE-MIT LICENSE-APACHE src/lib.rs src/sources/mod.rs".split():
         expect(name in files, f"{name} isn't written")
     # What others put there stays, and a file that the crate has no more goes.
-    for name in (".git/HEAD", ".cargo/config.toml", "NOTES.txt", "Cargo.lock", "target/kept", "src/proved/another.rs"):
+    for name in (".git/HEAD", ".cargo/config.toml", "NOTES.txt", "Cargo.lock", "target/kept", "src/sources/another.rs"):
         (made / name).parent.mkdir(exist_ok=True)
         (made / name).write_text("another's")
     (made / "stale").mkdir()
@@ -261,7 +261,7 @@ def main():
     commands.words_of(__doc__)
     with tempfile.TemporaryDirectory() as folder:
         folder = pathlib.Path(folder)
-        sources = crate.proved(TOP / "crates")
+        sources = crate.sources(TOP / "crates")
         plain = written(TOP / "crates", folder / "plain")
         # Each source has its module, but for those that are left out by name.
         modules = {module for module in crate.LAWS + crate.HEAP} | set(plain) - {"mod"}

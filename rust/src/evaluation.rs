@@ -1,9 +1,9 @@
-//! The evaluation: the proved one, after a check of each call's precondition.
+//! The evaluation: that of the sources, after a check of each call's precondition.
 
 #[cfg(feature = "alloc")]
 use crate::heap::StoreOnHeap;
-use crate::proved::eval::eval::{self, Status, WaitingKind};
-use crate::proved::eval::store::ArrayLike as _;
+use crate::sources::eval::eval::{self, Status, WaitingKind};
+use crate::sources::eval::store::ArrayLike as _;
 use crate::storage::{ArrayLike, EvaluationStorage, Lists};
 use crate::{Encoding, Error, EvaluationResult, Piece, Reader, Result, Value, ValueType};
 use core::fmt;
@@ -42,7 +42,7 @@ pub struct Evaluation<
     #[cfg(feature = "alloc")] S: EvaluationStorage<R> = StoreOnHeap,
     #[cfg(not(feature = "alloc"))] S: EvaluationStorage<R>,
 > {
-    pub(crate) proved: eval::Evaluation<R, Lists<S>>,
+    pub(crate) inner: eval::Evaluation<R, Lists<S>>,
     start: Start,
 }
 
@@ -55,7 +55,7 @@ enum Start {
     Refused(u8),
 }
 
-/// What the proved calls take of an encoding: they want addresses of 1 to 8 bytes.
+/// What the calls of the sources take of an encoding: they want addresses of 1 to 8 bytes.
 #[inline]
 fn checked(encoding: Encoding) -> (Encoding, Start) {
     match encoding.address_size {
@@ -112,8 +112,8 @@ impl<R: Reader + Copy, S: EvaluationStorage<R>> Evaluation<R, S> {
         let is_empty = stack.len() == 0 && expression_stack.len() == 0 && result.len() == 0;
         assert!(is_empty, "`Evaluation::with_lists` was handed a list that isn't empty");
         let (encoding, start) = checked(encoding);
-        let proved = eval::Evaluation::new_in(bytecode, encoding, stack, expression_stack, result.into());
-        Evaluation { proved, start }
+        let inner = eval::Evaluation::new_in(bytecode, encoding, stack, expression_stack, result.into());
+        Evaluation { inner, start }
     }
 
     /// Makes it a fresh evaluation of another `bytecode`, over the same lists, which keep their memory. It may be
@@ -140,7 +140,7 @@ impl<R: Reader + Copy, S: EvaluationStorage<R>> Evaluation<R, S> {
     pub fn restart(&mut self, bytecode: R, encoding: Encoding) {
         let (encoding, start) = checked(encoding);
         self.start = start;
-        self.proved.restart(bytecode, encoding);
+        self.inner.restart(bytecode, encoding);
     }
 
     /// Puts the address of an object on the stack before the start, as `DW_AT_data_member_location` and
@@ -151,16 +151,16 @@ impl<R: Reader + Copy, S: EvaluationStorage<R>> Evaluation<R, S> {
     /// If it was called before, or after `evaluate`.
     #[track_caller]
     pub fn set_initial_value(&mut self, value: u64) {
-        let is_unset = self.proved.status() == Status::Start { initial: false };
+        let is_unset = self.inner.status() == Status::Start { initial: false };
         assert!(is_unset, "`Evaluation::set_initial_value` was called twice, or after `evaluate`");
-        self.proved.set_initial_value(value);
+        self.inner.set_initial_value(value);
     }
 
     /// Sets the address of the object for `DW_OP_push_object_address`, from now on. If none is set, that operation is
     /// `InvalidPushObjectAddress`.
     #[inline]
     pub fn set_object_address(&mut self, value: u64) {
-        self.proved.set_object_address(value);
+        self.inner.set_object_address(value);
     }
 
     /// Sets how many operations may be evaluated in all, from now on. The default is 4,294,967,295. A location and the
@@ -179,7 +179,7 @@ impl<R: Reader + Copy, S: EvaluationStorage<R>> Evaluation<R, S> {
     /// ```
     #[inline]
     pub fn set_max_iterations(&mut self, value: u32) {
-        self.proved.set_max_iterations(value);
+        self.inner.set_max_iterations(value);
     }
 
     /// Evaluates from the start to the first request or to the end. After the end it gives `Complete` again.
@@ -211,7 +211,7 @@ impl<R: Reader + Copy, S: EvaluationStorage<R>> Evaluation<R, S> {
             Start::Made => self.assert_no_request(),
             Start::Refused(size) => return Err(Error::UnsupportedAddressSize(size)),
         }
-        self.proved.evaluate()
+        self.inner.evaluate()
     }
 
     /// The value on top of the stack of a complete evaluation; `None` if it has pieces or a location instead.
@@ -223,7 +223,7 @@ impl<R: Reader + Copy, S: EvaluationStorage<R>> Evaluation<R, S> {
     #[track_caller]
     pub fn value_result(&self) -> Option<Value> {
         self.assert_complete("value_result");
-        self.proved.value_result()
+        self.inner.value_result()
     }
 
     /// The pieces of a complete evaluation.
@@ -235,7 +235,7 @@ impl<R: Reader + Copy, S: EvaluationStorage<R>> Evaluation<R, S> {
     #[track_caller]
     pub fn as_result(&self) -> &[Piece<R>] {
         self.assert_complete("as_result");
-        self.proved.as_result()
+        self.inner.as_result()
     }
 
     /// Where the evaluation stands, and so which calls it allows. gimli has no such call.
@@ -243,11 +243,11 @@ impl<R: Reader + Copy, S: EvaluationStorage<R>> Evaluation<R, S> {
     pub fn status(&self) -> Status {
         match self.start {
             Start::Refused(size) => Status::Failed(Error::UnsupportedAddressSize(size)),
-            _ => self.proved.status(),
+            _ => self.inner.status(),
         }
     }
 
-    /// What a resume gives that the proved evaluation doesn't allow.
+    /// What a resume gives that the evaluation of the sources doesn't allow.
     #[cold]
     #[inline(never)]
     #[track_caller]
@@ -270,7 +270,7 @@ impl<R: Reader + Copy, S: EvaluationStorage<R>> Evaluation<R, S> {
     #[inline]
     #[track_caller]
     pub(crate) fn assert_complete(&self, call: &str) {
-        assert!(self.proved.status() == Status::Complete, "`Evaluation::{call}` was called before the end");
+        assert!(self.inner.status() == Status::Complete, "`Evaluation::{call}` was called before the end");
     }
 }
 
@@ -291,10 +291,10 @@ macro_rules! resumes {
                 #[inline(always)]
                 #[track_caller]
                 pub fn $name(&mut self, $argument: $type) -> Result<EvaluationResult<R>> {
-                    if !self.proved.is_open_for(WaitingKind::$kind) {
+                    if !self.inner.is_open_for(WaitingKind::$kind) {
                         return self.out_of_turn(stringify!($name));
                     }
-                    self.proved.$name($argument)
+                    self.inner.$name($argument)
                 }
             )+
         }

@@ -1,6 +1,6 @@
 //! What needs a heap: lists of any length, and evaluations over these.
 
-use crate::proved::eval::store;
+use crate::sources::eval::store;
 use crate::{ArrayLike, Encoding, Error, Evaluation, EvaluationStorage, Expression, Piece, Reader, Value};
 use alloc::vec::Vec;
 
@@ -38,7 +38,7 @@ impl<R: Reader + Copy> Evaluation<R> {
     #[track_caller]
     pub fn result(self) -> Vec<Piece<R>> {
         self.assert_complete("result");
-        self.proved.into_pieces().into_vec().expect("memory for the piece")
+        self.inner.into_pieces().into_vec().expect("memory for the piece")
     }
 
     /// The same as [`result`](Self::result), for a program that can't unwind. gimli has no such call.
@@ -54,7 +54,7 @@ impl<R: Reader + Copy> Evaluation<R> {
     #[track_caller]
     pub fn try_result(self) -> crate::Result<Vec<Piece<R>>> {
         self.assert_complete("try_result");
-        self.proved.into_pieces().into_vec().ok_or(Error::StackFull)
+        self.inner.into_pieces().into_vec().ok_or(Error::StackFull)
     }
 }
 

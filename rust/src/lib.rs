@@ -1,8 +1,11 @@
-//! DWARF expressions, decoded and evaluated (DWARF 5, sections 2.5 and 2.6), under the names of the crate
-//! [gimli](https://github.com/gimli-rs/gimli) 0.34.
+//! DWARF expressions, decoded and evaluated (DWARF 5, sections 2.5 and 2.6) under the names of the crate
+//! [gimli](https://github.com/gimli-rs/gimli) 0.34, by proved sources whose contracts were taken out, so that nothing is
+//! proved of this crate itself.
 //!
-//! The module `proved` is taken from proved Rattle sources. The rest is written by hand: it checks the preconditions
-//! of the proved calls, and adds what gimli's types have besides.
+//! Of the sources, which are in Rattle, it is proved that each call returns and gives what a separate specification
+//! says. The module `sources` has them without their contracts, with a few tokens replaced. The rest is written by hand:
+//! it checks the preconditions of their calls, and adds what gimli's types have besides. Tests show that all of it does
+//! what is proved of the sources.
 //!
 //! ```
 //! # #[cfg(feature = "alloc")] {
@@ -38,7 +41,7 @@ extern crate alloc;
 #[allow(non_upper_case_globals)]
 // It is laid out as it is compared with its sources.
 #[rustfmt::skip]
-mod proved;
+mod sources;
 
 #[cfg(feature = "gimli")]
 mod conversions;
@@ -60,7 +63,7 @@ mod values;
 /// The numbers that DWARF gives to operations and encodings, by the standard's names.
 pub mod constants {
     pub use crate::names::*;
-    pub use crate::proved::base::constants::*;
+    pub use crate::sources::base::constants::*;
 }
 
 /// Decoding and evaluating.
@@ -70,21 +73,21 @@ pub mod read {
     pub use crate::heap::StoreOnHeap;
     #[cfg(feature = "gimli")]
     pub use crate::interop::{GimliOffset, GimliReader};
-    pub use crate::proved::base::{EndianSlice, Error, Reader, ReaderOffset, ReaderOffsetId, Result, UnitOffset};
-    pub use crate::proved::eval::eval::{Status, WaitingKind};
-    pub use crate::proved::eval::op::{
+    pub use crate::sources::base::{EndianSlice, Error, Reader, ReaderOffset, ReaderOffsetId, Result, UnitOffset};
+    pub use crate::sources::eval::eval::{Status, WaitingKind};
+    pub use crate::sources::eval::op::{
         DieReference, EvaluationResult, Expression, Location, Operation, OperationIter, Piece,
     };
-    pub use crate::proved::eval::store::{SliceVec, StoreInSlices};
-    pub use crate::proved::value::{Value, ValueType, is_addr_mask};
+    pub use crate::sources::eval::store::{SliceVec, StoreInSlices};
+    pub use crate::sources::value::{Value, ValueType, is_addr_mask};
     pub use crate::storage::{ArrayLike, EvaluationStorage};
 }
 
 pub use crate::constants::*;
-pub use crate::proved::base::{
+pub use crate::read::*;
+pub use crate::sources::base::{
     BigEndian, DebugAddrIndex, DebugInfoOffset, Encoding, Endianity, Format, LittleEndian, Register, RunTimeEndian,
 };
-pub use crate::read::*;
 
 /// This machine's byte order.
 #[cfg(target_endian = "little")]

@@ -1,4 +1,4 @@
-//! The constants' names as text, and the encodings of base types that the proved code doesn't need.
+//! The constants' names as text, and the encodings of base types that the sources don't need.
 
 #![allow(non_upper_case_globals)]
 

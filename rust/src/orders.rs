@@ -1,4 +1,4 @@
-//! The orders, hashes and small calls that gimli's plain types have besides the proved ones.
+//! The orders, hashes and small calls that gimli's plain types have besides those of the sources.
 
 use crate::{
     BigEndian, DebugInfoOffset, DwAte, DwOp, Encoding, Endianity, Format, LittleEndian, Register, RunTimeEndian,

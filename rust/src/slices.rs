@@ -1,4 +1,4 @@
-//! What gimli's `EndianSlice` and `OperationIter` have besides the proved ones.
+//! What gimli's `EndianSlice` and `OperationIter` have besides those of the sources.
 
 use crate::{EndianSlice, Endianity, Error, Expression, OperationIter, Reader, ReaderOffset, ReaderOffsetId, Result};
 #[cfg(feature = "alloc")]

@@ -1,6 +1,6 @@
-//! Where an evaluation keeps its lists: gimli's traits, over the proved ones.
+//! Where an evaluation keeps its lists: gimli's traits, over those of the sources.
 
-use crate::proved::eval::store::{self, SliceVec, StoreInSlices};
+use crate::sources::eval::store::{self, SliceVec, StoreInSlices};
 use crate::{Piece, Reader, Value};
 #[cfg(feature = "arrayvec")]
 use arrayvec::ArrayVec;
@@ -84,7 +84,7 @@ impl<'a, R: Reader + Copy + 'a> EvaluationStorage<R> for StoreInSlices<'a> {
     type Result = SliceVec<'a, Piece<R>>;
 }
 
-/// The storage `S`, as the proved evaluation wants it.
+/// The storage `S`, as the evaluation of the sources wants it.
 pub(crate) struct Lists<S>(PhantomData<S>);
 
 impl<R: Reader + Copy, S: EvaluationStorage<R>> store::EvaluationStorage<R> for Lists<S> {

@@ -1,4 +1,4 @@
-//! The calls on values that take the mask of an address: the proved ones, after a check of the mask.
+//! The calls on values that take the mask of an address: those of the sources, after a check of the mask.
 
 use crate::{Result, Value, ValueType, is_addr_mask};
 
@@ -9,9 +9,9 @@ fn refuse(addr_mask: u64) -> ! {
     panic!("{addr_mask:#x} isn't the mask of an address: two to a width from 1 to 64, less one")
 }
 
-/// Calls of a type, each with the name of the proved one.
+/// Calls of a type, each with the name of that of the sources.
 macro_rules! checked {
-    ($type:ident: $($(#[$doc:meta])+ $name:ident = $proved:ident($($argument:ident: $of:ty)?) -> $result:ty;)+) => {
+    ($type:ident: $($(#[$doc:meta])+ $name:ident = $unchecked:ident($($argument:ident: $of:ty)?) -> $result:ty;)+) => {
         impl $type {
             $(
                 $(#[$doc])+
@@ -26,7 +26,7 @@ macro_rules! checked {
                     if !is_addr_mask(addr_mask) {
                         refuse(addr_mask);
                     }
-                    self.$proved($($argument,)? addr_mask)
+                    self.$unchecked($($argument,)? addr_mask)
                 }
             )+
         }

@@ -1,4 +1,4 @@
-/* Prints an int of a stopped process: variable PID NAME. It is the GUIDE's. */
+/* Prints an int of a stopped process: variable PID NAME. */
 #include <dwarf.h>
 #include <stdio.h>
 #include <stdlib.h>

@@ -59,7 +59,7 @@ def case_of(row):
 
 def cases():
     """The lines of the rows, and of the vectors, each of which is evaluated up to its first request."""
-    rows = [row for file in sorted(run_rows.ROWS.glob("*.json")) for row in run_rows.rows_of(file)]
+    rows = [row for file in run_rows.files() for row in run_rows.rows_of(file)]
     lines = [line for row in rows if (line := case_of(row)) is not None]
     vectors = json.loads((TOP / "tests" / "vectors" / "decode.json").read_text(encoding="utf-8"))
     print(f"{len(lines)} of {len(rows)} rows decode or evaluate; {len(vectors)} vectors", flush=True)

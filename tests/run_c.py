@@ -114,10 +114,10 @@ def vectors():
 
 
 def expressions():
-    """The lines that tests/c/cut.c reads: the encoding and the bytes of each expression of tests/rows."""
+    """The lines that tests/c/cut.c reads: the encoding and the bytes of each expression of rows and vectors."""
     good = re.compile(r"(?:eval|ops) ([1-8] [48] [2-5] (?:le|be)) ((?:[0-9a-fA-F]{2})+)")
     lines = {}
-    for file in sorted(run_rows.ROWS.glob("*.json")):
+    for file in run_rows.files():
         for row in run_rows.rows_of(file):
             words = good.fullmatch(" ".join(map(str, row["words"])))
             if words:

@@ -17,6 +17,8 @@ of parts, each a text or a pair of a text and how often it stands. A row may say
 The rows of bin/dwexpr are run once more in a copy without the proved program. There it makes an unproved one, and
 keeps that.
 
+Each vector of tests/vectors/decode.json makes a row: `dwexpr ops` lists its operation by its name, or its fault.
+
 The entries of tests/rows/integers.json are in the form that tests/integers.py says. Each makes rows, and the table
 there has to give its results. A row that a test of gimli's states has that test's name before a colon, and a vector of
 tests/vectors has it as `gimli`. tests/gimli.json lists these tests: how many `rows` and vectors carry the cases of
@@ -57,8 +59,25 @@ OUTPUTS = {"output", "output_pattern"}
 ERRORS = {"error", "error_pattern"}
 FIELDS = {"name", "words", "program", "by", "status", "input_times", "output_to", "megabytes"}
 FIELDS |= INPUTS | OUTPUTS | ERRORS
+# The faults that carry a number, and what stands in the names of variants as it does in those of C.
+NUMBERED = {"UNSUPPORTED_ADDRESS_SIZE", "UNSUPPORTED_REGISTER", "INVALID_EXPRESSION", "INVALID_PIECE_SIZE"}
+ABBREVIATIONS = {"TLS", "CFA"}
 # What bin/dwexpr and bin/build say of a program that isn't proved.
 UNPROVED = re.compile(rb"^bin/.*\n", re.MULTILINE)
+
+
+def variant_of(name):
+    """The variant in Rattle that has this name in C: `PlusConstant` of `PLUS_CONSTANT`."""
+    return "".join(word if word in ABBREVIATIONS else word.capitalize() for word in name.split("_"))
+
+
+def listing_of(vector):
+    """The row of a vector."""
+    words, code = ["ops", *vector["in"].split(), vector["bytes"]], vector.get("code")
+    number = f" {vector.get('detail', 0)}" if code in NUMBERED else ""
+    said = f"fault {variant_of(code)}{number}" if code else f"{vector['bytes']} {variant_of(vector['kind'])}"
+    name = " ".join(words[1:])
+    return {"name": name, "words": words, "input": "", "output": f"0 {said}\n", "status": int(bool(code))}
 
 
 def rows_of(file):
@@ -66,6 +85,8 @@ def rows_of(file):
     rows = json.loads(file.read_text(encoding="utf-8"))
     if file.name == INTEGERS:
         rows = list(integers.rows_in(rows))
+    if file == VECTORS:
+        rows = [listing_of(vector) for vector in rows]
     names = set()
     for row in rows:
         fields = set(row)
@@ -76,9 +97,14 @@ def rows_of(file):
     return rows
 
 
+def files():
+    """The files that have rows, or make them."""
+    return [*sorted(ROWS.glob("*.json")), VECTORS]
+
+
 def rows():
     """Each row of all files, with its file's name before its own."""
-    return [(f"{file.stem}: {row['name']}", row) for file in sorted(ROWS.glob("*.json")) for row in rows_of(file)]
+    return [(f"{file.stem}: {row['name']}", row) for file in files() for row in rows_of(file)]
 
 
 def bytes_of(text):

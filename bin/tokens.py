@@ -5,13 +5,14 @@ import re
 
 from commands import Failure
 
-# White space, a comment, a lifetime, a word or a number, or one sign.
-TOKEN = re.compile(r"\s+|//[^\n]*|'[a-z]\w*|\w+|.", re.DOTALL)
+# White space, a comment, a lifetime, the name of an ABI, a word or a number, or one sign.
+TOKEN = re.compile(r"""\s+|//[^\n]*|'[a-z_]\w*|"C"|\w+|.""", re.DOTALL)
 # What may be left of code. No source has literals of text, so their signs aren't known.
-KNOWN = re.compile(r"'?\w+|[][(){}<>!#%&*+,./:;=?^|-]", re.ASCII)
+KNOWN = re.compile(r"""'?\w+|"C"|[][(){}<>!#%&*+,./:;=?^|-]""", re.ASCII)
 KNOWN_ATTRIBUTE = re.compile(
     r"#\[derive\(((Clone|Copy|Debug|Default|Eq|Hash|PartialEq)[,)])+\]"
-    r"|#\[(cold|inline|inline\(always\)|inline\(never\)|repr\(u8\))\]|#!\[allow\(non_upper_case_globals\)\]"
+    r"|#\[(cold|inline|inline\(always\)|inline\(never\)|repr\((u8|C)\)|unsafe\(no_mangle\))\]"
+    r"|#!\[allow\(non_upper_case_globals\)\]"
 )
 KNOWN_MACROS = {"matches", "unreachable"}
 CLOSING = {"(": ")", "[": "]", "{": "}"}
@@ -128,7 +129,9 @@ class Source:
         for at, index in enumerate(self.code):
             self.want(KNOWN.fullmatch(self.word(at)), at, "an unknown sign")
             is_macro = self.word(at).isidentifier() and self.tokens[index + 1 : index + 2] == ["!"]
-            self.want(not is_macro or self.word(at) in KNOWN_MACROS, at, "an unknown macro")
+            # A constant without a name may be a claim, which the prover checks, and which a row makes one of rustc's.
+            is_claim = self.words(at - 5, at) == ["_", ":", "(", ")", "=", "prove"]
+            self.want(not is_macro or is_claim or self.word(at) in KNOWN_MACROS, at, "an unknown macro")
 
     def ghost(self, at):
         form, end = "", at
@@ -139,12 +142,14 @@ class Source:
         return self.delete(self.begin(at), end)
 
     def clause(self, at):
-        block = at + 1 if self.word(at + 1) == "{" else at + 2
+        # The star of `ensures*` stands before its name.
+        block = at + 1 + (self.word(at + 1) == "*")
+        block += self.word(block) != "{"
         self.want(self.word(block) == "{", at, "a clause without a block")
         end = self.close(block)
         self.want(self.word(end + 1) in ("requires", "ensures", "{", ";"), end + 1, "no body follows the clauses")
         function = next(place for place in range(at, -2, -1) if self.word(place) in ("fn", ""))
-        if self.word(at) == "requires" and self.word(function - 1) == "pub":
+        if self.word(at) == "requires" and self.word(function - 1) in ("pub", '"C"'):
             self.conditions.append((self.word(function + 1), " ".join(self.words(block + 1, end - 1))))
         return self.delete(at, end)
 
@@ -198,9 +203,28 @@ USES = re.compile(r"(?:^(?:#\n\[\n[^]]*\n\]\n)?(?:pub\n)?(?:\(\ncrate\n\)\n)?(?:
 LIST = re.compile(r"\{\n(.*?)\n\}\n", re.DOTALL)
 
 
+def without_braces(tokens):
+    """The tokens without braces around what a match gives for a pattern, if it is one expression; a comma ends it."""
+    opened, partners, has_statements = [], {}, set()
+    for at, token in enumerate(tokens):
+        if token in CLOSING:
+            opened.append(at)
+        elif token in CLOSING.values() and opened:
+            partners[opened.pop()] = at
+        elif token == ";" and opened:
+            has_statements.add(opened[-1])
+    dropped = {}
+    for first, last in partners.items():
+        if tokens[first] == "{" and tokens[first - 2 : first] == ["=", ">"] and last > first + 1:
+            if first not in has_statements:
+                dropped |= {first: [], last: [","] * (tokens[last + 1 : last + 2] != [","])}
+    return [token for at, it in enumerate(tokens) for token in dropped.get(at, [it])]
+
+
 def settled(tokens):
     """The same tokens for all that rustfmt may make of them: it sorts `use`, `mod` and the names in their lists, drops
-    the braces around one name, and adds or drops a comma before a bracket that closes."""
+    the braces around one name, adds or drops those around what a match gives, and adds or drops a comma before a
+    bracket that closes."""
 
     def sort_names(found):
         names = sorted(found[1].split("\n,\n"))
@@ -209,7 +233,7 @@ def settled(tokens):
     def sort_uses(found):
         return "".join(sorted(LIST.sub(sort_names, use) + ";\n" for use in found[0].split(";\n")[:-1]))
 
-    return USES.sub(sort_uses, re.sub(r"\n,(?=\n[])}>]\n)", "", "\n".join(["", *tokens, ""]))).split("\n")
+    return USES.sub(sort_uses, re.sub(r"\n,(?=\n[])}>]\n)", "", "\n".join(["", *without_braces(tokens), ""]))).split("\n")
 
 
 def difference(texts, written):

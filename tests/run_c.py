@@ -30,7 +30,8 @@ from commands import TOP  # noqa: E402
 ARCHIVE = archive.path_of()
 CRATE = TOP / "crates" / archive.CRATE
 SANITIZERS = ["-g", "-fsanitize=address,undefined", "-fno-sanitize-recover=all"]
-
+# How callers are built here.
+KINDS = {"": ["-O2"], " with sanitizers": SANITIZERS}
 
 STRUCTS = ["encoding", "operation", "text", "step", "value", "outcome", "piece"]
 C_TYPES = {
@@ -139,22 +140,23 @@ def names():
     return "\n".join(f"{numbers[name]} {name}" for name in numbers)
 
 
-def callers(folder):
+def callers(folder, library, kinds, cc=("cc",), runner=(), without=()):
+    """Builds the callers with a library, in each of these kinds, by a compiler, and runs them by a runner."""
     given = {"decode": vectors(), "cut": expressions(), "names": names()}
-    kinds = {"": ["-O2"], " with sanitizers": SANITIZERS}
     for kind, words in kinds.items():
-        (folder / f"library{kind}").mkdir()
-        libraries.build("run", folder / f"library{kind}", *words)
+        (folder / f"library{kind}").mkdir(parents=True)
+        libraries.build("run", folder / f"library{kind}", *words, cc=cc)
     for source in sorted((TOP / "tests" / "c").glob("*.c")):
         for kind, words in kinds.items():
             # A sanitizer keeps what it knows of memory on the stack, which then has to be larger than 16 KiB.
-            if kind and source.stem == "signal":
+            if source.stem in without or kind and source.stem == "signal":
                 continue
             program = folder / (source.stem + kind.replace(" ", "_"))
-            build = ["cc", "-std=c11", *words, *STRICT, source, folder / f"library{kind}" / "libdwexpr_run.a", ARCHIVE, "-o", program]
+            run_library = folder / f"library{kind}" / "libdwexpr_run.a"
+            build = [*cc, "-std=c11", *words, *STRICT, source, run_library, library, "-o", program]
             if not check(f"{source.name}{kind}: build", build):
                 continue
-            done = run([program], input=given.get(source.stem, ""))
+            done = run([*runner, program], input=given.get(source.stem, ""))
             said = re.search(r"(\d+) passed, (\d+) failed\n\Z", done.stdout)
             if not said or (done.returncode != 0) != (said.group(2) != "0"):
                 expect(False, f"{source.name}{kind}", done.stdout + done.stderr)
@@ -225,7 +227,7 @@ def main():
         folder = pathlib.Path(name)
         check_headers("dwexpr_run.h")
         layout()
-        callers(folder)
+        callers(folder, ARCHIVE, KINDS)
         decode(folder)
 
 

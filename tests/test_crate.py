@@ -84,33 +84,59 @@ TAKEN = [
     ("op/decoding", "// The size of a piece", "// A piece's size", "// The size of a piece", "// A piece's size"),
 ]
 
+# The same for the library for C.
+REFUSED_OF_C = [
+    ("c/computing", 'extern "C" fn dwexpr_value_unary', 'extern "D" fn dwexpr_value_unary', 'an unknown sign: `"`'),
+    ("c/computing", "#[unsafe(no_mangle)]", "#[unsafe(no_mangle, cold)]", "the unknown attribute"),
+    ("c/computing", "#[unsafe(no_mangle)]\n", "", "a row about exports is met 11 times, and not 12"),
+    ("c/faults", "FaultNumbers { code, number: 0 }", "prove!(0 == 0)", "an unknown macro: `prove`"),
+    ("c/mod", "const _: () = prove!(size_of::<DwexprText>() == 16);", "", "a row about claims is met 7 times"),
+    ("c/mod", "use crate::held::DwexprEvaluation;\n", "", "a row about exports is met 0 times"),
+    ("c/steps", "pub bytes: &'a [u8],", "pub bytes: &'a [u8; 1],", "a row about texts is met 0 times"),
+    ("c/steps", "if text.bytes.is_empty()", "if text.bytes.len() == 0", "a row about texts is met 0 times"),
+    ("c/held", "ensures* writes_back {", "ensures** writes_back {", "a clause without a block"),
+    ("c/held", "pub ghost held: { Option Held },", "pub ghost held: Option<Held>,", "an unknown ghost item"),
+    ("c/holding", "requires { IsBegun evaluation.old.held }", "", "exports have other preconditions"),
+    ("c/decoding", "ensures code {", "requires { offset ≡ 0 }\n    ensures code {", "exports have other preconditions"),
+    ("c/pieces", "use dwarf_op::{", "use dwarf_laws::run;\nuse dwarf_op::{", "an unknown crate: `use`"),
+    ("eval/store/slices", "slots: &'a mut [T],\n    len", "slots: &'a mut [T],\n    kept: u8,\n    len", "about lists"),
+    ("eval/store/storage", "type Result = SliceVec<'a, Piece<R>>", "type Result = Vec<Piece<R>>", "about lists"),
+    ("replay/equality", "\n{}", "\n{ panic!() }", "an unknown macro"),
+]
+TAKEN_OF_C = [
+    ("c/held", "ensures* writes_back {", "ensures* {", "", ""),
+    ("c/decoding", "ensures code { result", "ensures more { ⊤ }\n    ensures code { result", "", ""),
+    ("c/pieces", "piece_of_kind(1, size, offset)", "piece_of_kind(7, size, offset)",
+     "piece_of_kind(1, size, offset)", "piece_of_kind(7, size, offset)"),
+]  # fmt: skip
 
-def path_of(module):
+
+def path_of(module, kind=crate.RUST):
     """The source of a module, under crates/."""
     name, _, place = module.partition("/")
-    crates = {module: name for name, module in crate.CRATES.items()}
+    crates = {module: name for name, module in kind.crates.items()}
     return f"{crates[name]}/src/{'lib' if place == 'mod' else place}.rt"
 
 
-def written(crates, folder):
+def written(crates, folder, kind=crate.RUST):
     """What is written for the sources in a folder of crates, or the message that refuses them."""
     try:
-        crate.write(crate.sources(crates), folder)
+        crate.write(crate.sources(crates, kind), folder, kind)
     except tokens.Refused as why:
         return str(why)
     return {str(path.relative_to(folder).with_suffix("")): path.read_text() for path in folder.rglob("*.rs")}
 
 
-def with_change(module, old, new):
+def with_change(module, old, new, kind):
     """What is written if one file has a change."""
     with tempfile.TemporaryDirectory() as folder:
-        crates, path = pathlib.Path(folder) / "crates", path_of(module)
-        for name in crate.CRATES:
+        crates, path = pathlib.Path(folder) / "crates", path_of(module, kind)
+        for name in kind.crates:
             shutil.copytree(TOP / "crates" / name / "src", crates / name / "src")
         text = (crates / path).read_text()
         expect(old in text, f"{path} has no {old!r}")
         (crates / path).write_text(text.replace(old, new, 1))
-        return written(crates, pathlib.Path(folder) / "sources")
+        return written(crates, pathlib.Path(folder) / "sources", kind)
 
 
 def without_commas(found):
@@ -257,30 +283,37 @@ def try_folders(folder):
     refuses("File too large", folder / "new", **limit)
 
 
+def try_kind(folder, kind, refused, taken, looked_at):
+    """What is written of a kind of crate, which changes of sources are refused, and which tokens are looked at."""
+    sources = crate.sources(TOP / "crates", kind)
+    plain = written(TOP / "crates", folder / kind.folder, kind)
+    # Each source has its module, but for those that are left out by name.
+    modules = {module for module in kind.laws + kind.by_hand} | set(plain) - {"mod"}
+    paths = {path for name in kind.crates for path in (TOP / "crates" / name / "src").rglob("*.rt")}
+    expect({TOP / "crates" / path_of(module, kind) for module in modules} == paths, "a source has no module")
+    for module, text in plain.items():
+        is_named = module == "mod" or f" crates/{path_of(module, kind)}," in text.split("\n")[0]
+        expect(is_named, f"{module} names no source")
+        words = {token for token in tokens.split(text) if not token.startswith("//")}
+        expect(not words & {"ghost", "requires", "ensures", "tactic", "final", "std"}, f"{module} has a contract")
+    for module, old, new, message in refused:
+        said = with_change(module, old, new, kind)
+        expect(isinstance(said, str) and message in said, f"{new!r} for {old!r} in {module}: {str(said)[:200]}")
+    for module, old, new, before, after in taken:
+        expected = plain | ({module: plain[module].replace(before, after, 1)} if before else {})
+        said = with_change(module, old, new, kind)
+        said = "other text" if isinstance(said, dict) and said != expected else said
+        expect(said == expected, f"{new!r} for {old!r} in {module}: {said}")
+    for module in looked_at:
+        try_tokens(module, sources[module], plain[module])
+
+
 def main():
     commands.words_of(__doc__)
     with tempfile.TemporaryDirectory() as folder:
         folder = pathlib.Path(folder)
-        sources = crate.sources(TOP / "crates")
-        plain = written(TOP / "crates", folder / "plain")
-        # Each source has its module, but for those that are left out by name.
-        modules = {module for module in crate.LAWS + crate.HEAP} | set(plain) - {"mod"}
-        paths = {path for name in crate.CRATES for path in (TOP / "crates" / name / "src").rglob("*.rt")}
-        expect({TOP / "crates" / path_of(module) for module in modules} == paths, "a source has no module")
-        for module, text in plain.items():
-            expect(module == "mod" or f" crates/{path_of(module)}," in text.split("\n")[0], f"{module} names no source")
-            words = {token for token in tokens.split(text) if not token.startswith("//")}
-            expect(not words & {"ghost", "requires", "ensures", "tactic", "final", "std"}, f"{module} has a contract")
-        for module, old, new, message in REFUSED:
-            said = with_change(module, old, new)
-            expect(isinstance(said, str) and message in said, f"{new!r} for {old!r} in {module}: {str(said)[:200]}")
-        for module, old, new, before, after in TAKEN:
-            expected = plain | ({module: plain[module].replace(before, after, 1)} if before else {})
-            said = with_change(module, old, new)
-            said = "other text" if isinstance(said, dict) and said != expected else said
-            expect(said == expected, f"{new!r} for {old!r} in {module}: {said}")
-        for module in ("base/mod", "value/word", "eval/store/lists"):
-            try_tokens(module, sources[module], plain[module])
+        try_kind(folder, crate.RUST, REFUSED, TAKEN, ("base/mod", "value/word", "eval/store/lists"))
+        try_kind(folder, crate.C, REFUSED_OF_C, TAKEN_OF_C, ("c/mod", "c/held", "c/pieces"))
         try_other_text(folder)
         try_wrong_deletions(folder)
         try_folders(folder)

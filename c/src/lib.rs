@@ -1,0 +1,37 @@
+//! DWARF expressions, decoded and evaluated, as a library for C. `include/dwexpr.h` declares it.
+//!
+//! The module `sources` is taken from proved Rattle sources. The exports are written by hand: they make references and
+//! slices of what C hands over.
+#![no_std]
+#![deny(unsafe_op_in_unsafe_fn)]
+
+/// What the sources have the prover check of a size, where words have 64 bits.
+macro_rules! assert_of_64_bits {
+    ($($holds:tt)*) => {
+        assert!(size_of::<usize>() != 8 || $($holds)*)
+    };
+}
+
+// Much of what the crates below have is for Rust.
+#[allow(dead_code, unused_imports, unused_variables, non_upper_case_globals, clippy::all)]
+// It is laid out as it is compared with its sources.
+#[rustfmt::skip]
+mod sources;
+
+mod exports;
+
+// Of rustc's own library, what divides numbers of 128 bits names a function that runs while a panic unwinds. None does.
+#[cfg(not(any(windows, target_vendor = "apple")))]
+core::arch::global_asm!(".weak rust_eh_personality", ".hidden rust_eh_personality", ".set rust_eh_personality, 0");
+#[cfg(target_vendor = "apple")]
+core::arch::global_asm!(".private_extern _rust_eh_personality", "_rust_eh_personality:", ".byte 0");
+
+/// It is proved that nothing panics. If something does all the same, the program is stopped: at a write to no address,
+/// since there may be no library of C to call.
+#[panic_handler]
+fn stop(_: &core::panic::PanicInfo) -> ! {
+    loop {
+        // SAFETY: no object is there, and where such a write is refused it changes nothing.
+        unsafe { core::ptr::null_mut::<u8>().write_volatile(0) }
+    }
+}

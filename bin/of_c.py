@@ -17,16 +17,32 @@ TYPES += ["outcomes::DwexprOutcome", "pieces::DwexprPiece", "steps::{DwexprStep,
 CALLS = ["computing", "decoding", "holding", "starting"]
 USED = "".join(f"use crate::{name};\n" for name in TYPES)
 EXPORTED = "".join(f"pub use self::{name};\n" for name in [*(f"{module}::*" for module in CALLS), *TYPES])
-# A list over a slice that is lent, which is one over an array here.
-SLOTS = "pub struct SliceVec<'a, T> { slots: &'a mut [T], len: usize, }"
-NEW = "impl<'a, T> SliceVec<'a, T> {\n/// An empty list over these slots.\n"
-NEW += "pub fn new(slots: &'a mut [T]) -> Self { SliceVec { slots, len: 0 } } }"
-LENT = "impl<'a, R: Reader + Copy + 'a> EvaluationStorage<R> for StoreInSlices<'a> { type Stack = SliceVec<'a, Value>; "
-LENT += "type ExpressionStack = SliceVec<'a, (R, R)>; type Result = SliceVec<'a, Piece<R>>; }"
-OWN = "/// A list of a fixed capacity, in an array.\npub struct ArrayVec<T, const CAP: usize> {\nslots: [T; CAP],\n"
-OWN += "len: usize,\n}\n\nimpl<T: Copy + Default, const CAP: usize> ArrayVec<T, CAP> {\n/// An empty list.\n"
-OWN += "pub fn new() -> Self { ArrayVec { slots: [T::default(); CAP], len: 0 } } }"
+# A list over a slice that is lent, and the same over an array.
+LENT = """use super::lists::ArrayLike;
+/// A list over a slice that its caller lends. Its capacity is chosen at run time, and nothing is allocated or set to
+/// zero.
+pub struct SliceVec<'a, T> { slots: &'a mut [T], len: usize, }
+impl<'a, T> SliceVec<'a, T> {
+/// An empty list over these slots.
+pub fn new(slots: &'a mut [T]) -> Self { SliceVec { slots, len: 0 } } }
+impl<'a, T: Copy> ArrayLike for SliceVec<'a, T>"""
+OWN = """use super::lists::ArrayLike;
 
+/// A list of a fixed capacity, in an array.
+pub struct ArrayVec<T, const CAP: usize> { slots: [T; CAP], len: usize, }
+
+impl<T: Copy + Default, const CAP: usize> ArrayVec<T, CAP> {
+/// An empty list.
+pub fn new() -> Self { ArrayVec { slots: [T::default(); CAP], len: 0 } } }
+
+impl<T: Copy, const CAP: usize> ArrayLike for ArrayVec<T, CAP>"""
+IN_SLICES = """impl<'a, R: Reader + Copy + 'a> EvaluationStorage<R> for StoreInSlices<'a> {
+type Stack = SliceVec<'a, Value>; type ExpressionStack = SliceVec<'a, (R, R)>;
+type Result = SliceVec<'a, Piece<R>>; }"""
+PIECE = "use dwarf_op::Piece; use dwarf_value::Value;"
+
+# What comes before the shared rows, and what comes after them.
+FIRST = [("models", 1, f"{PIECE} use std::marker::Model;", PIECE.replace("dwarf_", "crate::sources::"))]
 ROWS = [
     # What is written by hand exports them, with a pointer and a count for a slice.
     ("exports", 12, '#[unsafe(no_mangle)]\npub extern "C" fn', "pub fn"),
@@ -35,19 +51,14 @@ ROWS = [
     # The pointer of a slice is never null.
     ("texts", 1, "pub bytes: &'a [u8],", "pub bytes: crate::exports::Bytes<'a>,"),
     ("texts", 1, "if text.bytes.is_empty() { &[] } else { text.bytes }", "text.bytes.slice()"),
-    ("models", 1, "use dwarf_op::Piece; use dwarf_value::Value; use std::marker::Model;",
-     "use crate::sources::op::Piece;\nuse crate::sources::value::Value;"),
     ("sizes", 1, "pub trait Reader", "pub trait Reader: Sized"),
     ("errors", 1, "pub enum Error", "#[repr(usize)]\npub enum Error"),
     # The kit's lists of fixed capacities aren't here. So the proved list over a slice gets an array for that.
-    ("lists", 1, SLOTS, ""),
-    ("lists", 1, NEW, OWN),
-    ("lists", 1, "impl<'a, T: Copy> ArrayLike for SliceVec<'a, T>",
-     "impl<T: Copy, const CAP: usize> ArrayLike for ArrayVec<T, CAP>"),
+    ("lists", 1, LENT, OWN),
     ("lists", 1, "pub use slices::SliceVec;", "pub use slices::ArrayVec;"),
     ("lists", 1, "use super::slices::SliceVec;", ""),
     ("lists", 1, "pub struct StoreInSlices<'a>(PhantomData<&'a ()>);", ""),
-    ("lists", 1, LENT, ""),
+    ("lists", 1, IN_SLICES, ""),
     ("lists", 1, "{EvaluationStorage, StoreInSlices}", "EvaluationStorage"),
     ("lists", 1, "use arrayvec::ArrayVec;", "use crate::sources::eval::store::ArrayVec;"),
 ]

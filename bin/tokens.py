@@ -233,7 +233,8 @@ def settled(tokens):
     def sort_uses(found):
         return "".join(sorted(LIST.sub(sort_names, use) + ";\n" for use in found[0].split(";\n")[:-1]))
 
-    return USES.sub(sort_uses, re.sub(r"\n,(?=\n[])}>]\n)", "", "\n".join(["", *without_braces(tokens), ""]))).split("\n")
+    lines = "\n".join(["", *without_braces(tokens), ""])
+    return USES.sub(sort_uses, re.sub(r"\n,(?=\n[])}>]\n)", "", lines)).split("\n")
 
 
 def difference(texts, written):

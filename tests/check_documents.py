@@ -305,7 +305,7 @@ def applies(edit, folder):
 def stale():
     """Each wrong body can be applied."""
     paths = fnmatch.filter(files(), "crates/*/must-fail/*.edit") + fnmatch.filter(files(), "*/wrong-bodies")
-    for path in sorted(set(paths) - {"tests/beside_archive/wrong-bodies"}):
+    for path in sorted(set(paths) - {"tests/beside_archive/wrong-bodies", "tests/by_rustc/wrong-bodies"}):
         folder = "" if path.startswith("tests/") else re.split("/(?:must-fail|wrong-bodies)", path)[0]
         for block in read(path).strip("\n").split("\n\n"):
             name = block.partition("\n")[0]

@@ -9,6 +9,7 @@
 - examples/variable.c is built with the words of pkg-config, and prints a variable of a stopped process. A unit that
   uses the library over libdw has none of its functions.
 - For aarch64 decode.c is built by Debian's cross compiler and run by qemu-user.
+- The package that `bin/package --by rustc` makes without the kit is used in the same ways, and its shared library too.
 
 It wants cc; what else is missing is left out, and said so. The last line is `N passed, M failed`.
 """
@@ -52,6 +53,10 @@ add_executable(decode ${EXAMPLES}/decode.c)
 target_link_libraries(decode dwexpr::dwexpr)
 add_executable(run ${CALLERS}/run.c)
 target_link_libraries(run dwexpr::dwexpr)
+if(TARGET dwexpr::shared)
+  add_executable(shared ${EXAMPLES}/decode.c)
+  target_link_libraries(shared dwexpr::shared)
+endif()
 if(TARGET dwexpr::libdw)
   add_executable(where ${EXAMPLES}/where.c)
   target_link_libraries(where dwexpr::libdw)
@@ -151,14 +156,21 @@ include/dwexpr.h include/dwexpr_libdw.h include/dwexpr_names.h include/dwexpr_ru
 lib/libdwexpr_run.a
 lib/pkgconfig/dwexpr.pc
 lib/cmake/dwexpr/dwexpr-config.cmake lib/cmake/dwexpr/dwexpr-config-version.cmake
-share/doc/dwexpr/DIFFERENCES.md share/doc/dwexpr/GUIDE.md share/doc/dwexpr/PROOFS.md share/doc/dwexpr/PROVED
+share/doc/dwexpr/DIFFERENCES.md share/doc/dwexpr/GUIDE.md share/doc/dwexpr/PROOFS.md
 share/doc/dwexpr/LICENSE-APACHE share/doc/dwexpr/LICENSE-MIT
 """.split()
 # And these if the compiler and libdw are there.
 OVER_LIBDW = ["lib/libdwexpr_libdw.a", "lib/pkgconfig/dwexpr-libdw.pc"]
+# What it holds besides by what builds the library, and the record of it.
+SHARED = "lib/libdwexpr.so.0.1"
+BY_KIT, BY_RUSTC = {"share/doc/dwexpr/PROVED"}, {"share/doc/dwexpr/BUILT", SHARED, "lib/pkgconfig/dwexpr-shared.pc"}
 RUST = "share/dwexpr/rust"
 LINK = re.compile(r"\]\(([^)]+)\)")
-PROVED = re.compile(r"libdwexpr.a \S+ for \S+\ncommit \S+\nkit \S.*\nsources [0-9a-f]{64}\narchive [0-9a-f]{64}\n")
+PROVED = re.compile(r"libdwexpr.a \S+ for \S+\ncommit \S+\nkit \S.*\nsources ([0-9a-f]{64})\narchive [0-9a-f]{64}\n")
+BUILT = re.compile(
+    r"libdwexpr.a, libdwexpr.so.0.1 \S+ for \S+, by rustc .*\n"
+    r"The proof is of the sources, and not of these libraries.\ncommit \S+\nsources ([0-9a-f]{64})\nlibdwexpr.a [0-9a-f]{64}\nlibdwexpr.so.0.1 [0-9a-f]{64}\n"
+)
 
 WORDS = ["8", "4", "5", "le", "916c06"]
 WANTED = "0 DW_OP_fbreg -20\n2 DW_OP_deref\n"
@@ -168,9 +180,9 @@ def check_decode(name, words, **more):
     expect(done.returncode == 0 and done.stdout == WANTED, name, done.stdout + done.stderr)
 
 
-def packed(*words):
+def packed(*words, **more):
     """The package that bin/package writes."""
-    done = run([TOP / "bin/package", *words])
+    done = run([TOP / "bin/package", *words], **more)
     if not expect(done.returncode == 0, f"bin/package {' '.join(words)}", done.stdout + done.stderr):
         return None
     return pathlib.Path(done.stdout.strip())
@@ -211,22 +223,25 @@ def crate_files(packed):
         return names
 
 
-def files_of(package):
-    """The files are those that it should have, and each link leads somewhere."""
+def files_of(package, by):
+    """The files are those that it should have, and each link leads somewhere. The sum of the sources."""
     found = {str(it.relative_to(package)) for it in package.rglob("*") if it.is_file()}
-    examples = {f"share/dwexpr/examples/{it.name}" for it in TOP.glob("examples/*.[ch]")}
+    examples = {f"share/dwexpr/examples/{it.name}" for it in TOP.glob("examples/*.*")}
     crate = {f"{RUST}/{name}" for name in crate_files(package / RUST)}
-    wanted = {*FILES, *examples, *crate}
+    wanted = {*FILES, *by, *examples, *crate}
     if OVER_LIBDW[0] in found:
         wanted |= {*OVER_LIBDW}
     else:
         left_out("the library over libdw", "libdw")
     expect(found == wanted, "the files of the package", f"{sorted(found - wanted)} and {sorted(wanted - found)}")
-    expect(PROVED.fullmatch((package / "share/doc/dwexpr/PROVED").read_text()), "PROVED")
+    record, form = ("PROVED", PROVED) if by == BY_KIT else ("BUILT", BUILT)
+    said = form.fullmatch((package / "share/doc/dwexpr" / record).read_text())
+    expect(said, record)
     pages = [it for it in package.rglob("*.md") if RUST not in str(it)]
     links = [(page, link) for page in pages for link in LINK.findall(page.read_text()) if "://" not in link]
     dead = [f"{page.name}: {link}" for page, link in links if not (page.parent / (link.split("#")[0] or ".")).exists()]
     expect(not dead, "the links of the package", "\n".join(dead))
+    return said and said[1]
 
 
 def by_compilers(package, folder, env):
@@ -288,8 +303,38 @@ def by_cmake(package, folder, env):
     if done and check("CMake: build", ["cmake", "--build", folder / "made"], env=env):
         expect(FOUND in done.stdout, "CMake: the versions and the processor", done.stdout)
         check_decode("CMake: run", [folder / "made/decode"], env=env)
+        if (package / SHARED).exists():
+            check_decode("CMake: run, with the shared library", [folder / "made/shared"], env=env)
         if (package / OVER_LIBDW[0]).exists():
             expect((folder / "made/where").exists(), "CMake: where.c over dwexpr::libdw")
+
+
+def by_rustc(folder, env, sources):
+    """The package that is made without the kit, of the same sources."""
+    if missing := [tool for tool in ("rustc", "cargo", "objcopy") if not shutil.which(tool, path=env["PATH"])]:
+        return left_out("the package by rustc", missing[0])
+    package = packed("--by", "rustc", env=env)
+    if not package:
+        return None
+    first = package.read_bytes()
+    same = packed("--by", "rustc", env=env) == package and package.read_bytes() == first
+    expect(same, "two packages by rustc are the same")
+    here = unpacked(package, folder)
+    expect(files_of(here, BY_RUSTC) == sources, "both packages are of the same sources")
+    by_compilers(here, folder, env)
+    by_libdw(here, folder, env)
+    by_cmake(here, folder, env)
+    if shutil.which("pkg-config"):
+        asked = {**env, "PKG_CONFIG_PATH": str(here / "lib/pkgconfig")}
+        done = run(["pkg-config", "--cflags", "--libs", "dwexpr-shared"], env=asked)
+        program = folder / "with_shared"
+        words = ["cc", here / "share/dwexpr/examples/decode.c", *shlex.split(done.stdout), "-o", program]
+        if check("decode.c with the shared library", words, env=env):
+            found = {**env, "LD_LIBRARY_PATH": str(here / "lib")}
+            check_decode("decode.c with the shared library, run", [program], env=found)
+            done = run([program, *WORDS], env=env)
+            expect("libdwexpr.so.0.1" in done.stderr, "it asks for the shared library by its name", done.stderr)
+    return None
 
 
 def for_arm(folder, env):
@@ -320,13 +365,15 @@ def main():
             first = package.read_bytes()
             expect(packed() == package and package.read_bytes() == first, "two packages are the same")
             here = unpacked(package, folder)
-            files_of(here)
+            sources = files_of(here, BY_KIT)
             by_compilers(here, folder, env)
             by_libdw(here, folder, env)
             by_cmake(here, folder, env)
             check("bin/package --prefix", [TOP / "bin/package", "--prefix", folder / "prefix"])
             expect((folder / "prefix/lib/libdwexpr.a").exists(), "the prefix has the archive")
             for_arm(folder, env)
+            (folder / "by rustc").mkdir()
+            by_rustc(folder / "by rustc", env, sources)
 
 
 if __name__ == "__main__":

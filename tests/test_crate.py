@@ -97,7 +97,7 @@ REFUSED_OF_C = [
     ("c/held", "ensures* writes_back {", "ensures** writes_back {", "a clause without a block"),
     ("c/held", "pub ghost held: { Option Held },", "pub ghost held: Option<Held>,", "an unknown ghost item"),
     ("c/holding", "requires { IsBegun evaluation.old.held }", "", "exports have other preconditions"),
-    ("c/decoding", "ensures code {", "requires { offset ≡ 0 }\n    ensures code {", "exports have other preconditions"),
+    ("c/decoding", "ensures code {", "requires { offset ≡ 0 }\n    ensures code {", "exports have other"),
     ("c/pieces", "use dwarf_op::{", "use dwarf_laws::run;\nuse dwarf_op::{", "an unknown crate: `use`"),
     ("eval/store/slices", "slots: &'a mut [T],\n    len", "slots: &'a mut [T],\n    kept: u8,\n    len", "about lists"),
     ("eval/store/storage", "type Result = SliceVec<'a, Piece<R>>", "type Result = Vec<Piece<R>>", "about lists"),

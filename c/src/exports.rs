@@ -42,11 +42,11 @@ unsafe fn room<'a, T>(at: *mut T, count: usize) -> &'a mut [T] {
 
 /// An export calls the proved function of its name, with references for what C hands over.
 macro_rules! exports {
-    ($($(#[$duty:meta])* fn $name:ident($($argument:ident: $type:ty),*) $(-> $result:ty)? = ($($given:expr),*);)*) => {$(
+    ($($(#[$duty:meta])* fn $name:ident($($argument:ident: $type:ty),*) $(-> $out:ty)? = ($($given:expr),*);)*) => {$(
         $(#[$duty])*
         #[allow(unused_unsafe)]
         #[unsafe(no_mangle)]
-        pub unsafe extern "C" fn $name($($argument: $type),*) $(-> $result)? {
+        pub unsafe extern "C" fn $name($($argument: $type),*) $(-> $out)? {
             // SAFETY: it is what the caller sees to.
             unsafe { c::$name($($given),*) }
         }

@@ -1,0 +1,108 @@
+"""Builds the library for C by rustc, of the package that `bin/crate --c` writes. bin/package and the tests share it.
+
+The archive is one object whose global symbols are the exports alone, if binutils for the target are there; else it is
+as rustc makes it, with rustc's own functions beside them. Cargo takes no crate for it, and no network.
+"""
+
+import os
+import pathlib
+import re
+import shutil
+import sys
+
+import commands
+from commands import TOP, Failure
+
+# A call that the header declares.
+CALL = re.compile(r"^(?:void|size_t|uint32_t) (dwexpr_\w+)\(", re.MULTILINE)
+# How Debian's compilers and binutils for a processor are named, if not after rustc's name of it.
+GNU = {"armv7": "arm-linux-gnueabihf", "powerpc64le": "powerpc64le-linux-gnu", "riscv64gc": "riscv64-linux-gnu"}
+# Each processor as rustc calls it, and the names that CMake has for it.
+PROCESSORS = {
+    "x86_64": "x86_64|AMD64", "aarch64": "aarch64|arm64|ARM64", "x86": "i[3-6]86|x86", "arm": "arm.*",
+    "powerpc64": "ppc64le|ppc64", "riscv64": "riscv64", "loongarch64": "loongarch64", "s390x": "s390x",
+}  # fmt: skip
+
+
+def exports():
+    """The calls that the header declares."""
+    return sorted(CALL.findall((TOP / "include/dwexpr.h").read_text(encoding="utf-8")))
+
+
+def rustc(*words):
+    """What rustc prints: the one that the variable RUSTC names, if it is set."""
+    return commands.run(os.environ.get("RUSTC", "rustc"), *words)
+
+
+def here():
+    """This machine's target."""
+    return re.search(r"^host: (.*)$", rustc("-vV"), re.MULTILINE)[1]
+
+
+def has(target):
+    """Whether rustc has its own library for a target."""
+    try:
+        folder = rustc("--print", "target-libdir", "--target", target).strip()
+    except Failure:
+        return False
+    return any(pathlib.Path(folder).glob("libcore-*.rlib"))
+
+
+def processor(target):
+    """CMake's names for a target's processor, and the bytes of a pointer."""
+    said = dict(re.findall(r'^target_(arch|pointer_width)="(.*)"$', rustc("--print", "cfg", "--target", target), re.M))
+    return PROCESSORS.get(said["arch"], said["arch"]), int(said["pointer_width"]) // 8
+
+
+def prefix_of(target):
+    """What stands before the names of the tools for a target."""
+    name = target.partition("-")[0]
+    return "" if target == here() else GNU.get(name, f"{name}-linux-gnu") + "-"
+
+
+def compiler_of(target):
+    """The C compiler for a target, `None` if there is none. Debian has some with their version alone."""
+    names = [prefix_of(target) + "gcc", prefix_of(target) + "gcc-12"] if prefix_of(target) else ["cc"]
+    return next((name for name in names if shutil.which(name)), None)
+
+
+def join(archive, target):
+    """Makes an archive of one object, in which the exports alone are global."""
+    tools = [prefix_of(target) + tool for tool in ("ld", "objcopy", "ar")]
+    if not all(map(shutil.which, tools)) or "linux" not in target:
+        return
+    linker, objcopy, ar = tools
+    whole = archive.with_suffix(".o")
+    commands.run(linker, "-r", *(f"-u{name}" for name in exports()), archive, "-o", whole)
+    # What rustc keeps of its own functions for itself goes.
+    words = ["--remove-section=.llvmbc", "--remove-section=.llvmcmd"]
+    commands.run(objcopy, *words, *(f"--keep-global-symbol={name}" for name in exports()), whole)
+    commands.remove(archive)
+    commands.run(ar, "rcD", archive, whole)
+    commands.remove(whole)
+
+
+def write(folder):
+    """Writes the package."""
+    commands.run(sys.executable, TOP / "bin/crate", "--c", folder)
+
+
+def build(package, target):
+    """Builds a written package. The static library and the shared one; `None` for one that this target hasn't."""
+    # The folder's name mustn't be in what is built.
+    flags = f"-D warnings --remap-path-prefix={package}=."
+    env = {**os.environ, "CARGO_TARGET_DIR": str(package / "target"), "RUSTFLAGS": flags}
+    linker = compiler_of(target)
+    if linker and target != here():
+        env[f"CARGO_TARGET_{target.upper().replace('-', '_')}_LINKER"] = linker
+    kinds = ["staticlib", "cdylib"] if linker else ["staticlib"]
+    for kind in kinds:
+        words = ["cargo", "rustc", "--quiet", "--release", "--offline", "--lib", "--crate-type", kind]
+        commands.run(*words, "--target", target, cwd=package, env=env)
+    built = package / "target" / target / "release"
+    static = next((built / name for name in ("libdwexpr.a", "dwexpr.lib") if (built / name).exists()), None)
+    names = ("libdwexpr.so", "libdwexpr.dylib", "dwexpr.dll")
+    shared = next((built / name for name in names if (built / name).exists()), None)
+    if static and static.suffix == ".a":
+        join(static, target)
+    return static, shared

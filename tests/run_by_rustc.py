@@ -1,0 +1,204 @@
+#!/usr/bin/env python3
+"""Makes the library for C by rustc, of the package that `bin/crate --c` writes, and tests it.
+
+- Cargo builds it without a warning and without another crate. The static library's global symbols and the shared one's
+  are the exports of tests/by_rustc/exports alone, what they need is in that list, and the shared one has its soname.
+- The callers of tests/c, as they are and with the sanitizers.
+- Calls with memory that nothing has set, under valgrind.
+- tests/by_rustc/beside.c: beside the proved archive in one process, 1,000,000 made-up decodings, evaluations and
+  computations on values, every byte of what both write. tests/run_c.py builds that archive.
+- examples/evaluate.py on the shared library.
+- For s390x, i686 and armv7 the callers, by Debian's cross compilers and under qemu-user, if rustc has its own library
+  for the target. The variable RUSTC may name another rustc, as that of a newer Debian.
+
+A wrong body changes a line of the exports, or of what a row wrote. tests/by_rustc/wrong-bodies has them: a name, a file
+under src, a text that stands in it once, and another. With --wrong-bodies it builds each: a caller or the comparison
+has to fail. What is missing is left out, and said so. The last line is `N passed, M failed`.
+"""
+
+import concurrent.futures
+import os
+import pathlib
+import re
+import shutil
+import sys
+import tempfile
+
+sys.dont_write_bytecode = True
+import checks  # noqa: E402
+import run_c  # noqa: E402
+from checks import STRICT, check, commands, count, expect, left_out, run  # noqa: E402
+
+import archive  # noqa: E402
+import by_rustc  # noqa: E402
+import compiler  # noqa: E402
+from commands import TOP  # noqa: E402
+
+FOLDER = TOP / "tests" / "by_rustc"
+COUNT, WRONG_BODIES_COUNT = 1_000_000, 20_000
+CALLERS = sorted((TOP / "tests" / "c").glob("*.c"))
+# Each other target, its emulator, and the callers that it goes without: signals aren't the emulator's strength.
+TARGETS = {
+    "s390x-unknown-linux-gnu": ("qemu-s390x", {"signal", "guard"}),
+    "i686-unknown-linux-gnu": ("qemu-i386", {"signal", "guard"}),
+    "armv7-unknown-linux-gnueabihf": ("qemu-arm", {"signal", "guard"}),
+}
+PRINTED = "the frame base and -16\nat 0x2ff0\n"
+
+
+def listed(kind):
+    """What the list says of the libraries."""
+    lines = (FOLDER / "exports").read_text(encoding="utf-8").splitlines()
+    return {line.partition(" ")[2] for line in lines if line.startswith(f"{kind} ")}
+
+
+def symbols(static, shared, target):
+    """The symbols of both libraries for a target, and the name of the shared one."""
+    expect(set(by_rustc.exports()) == listed("exports"), "the exports are those of dwexpr.h")
+    said = run([f"{by_rustc.prefix_of(target)}nm", "-g", static]).stdout
+    defined = set(re.findall(r" [TDBRVW] (\w+)$", said, re.MULTILINE))
+    needed = set(re.findall(r" [Uw] (\w+)$", said, re.MULTILINE))
+    expect(defined == listed("exports"), "the static library's symbols", f"{sorted(defined)}")
+    expect(needed <= listed("needs"), "what the static library needs", f"{sorted(needed)}")
+    if not shared:
+        return
+    said = run(["readelf", "--dyn-syms", "-dW", shared]).stdout
+    names = re.findall(r" (GLOBAL|WEAK) +DEFAULT +(\w+) (\w+)", said)
+    expect({name for _, at, name in names if at != "UND"} == listed("exports"), "the shared library's symbols", said)
+    needed = {name for bound, at, name in names if at == "UND" and bound == "GLOBAL"}
+    expect(needed <= listed("needs"), "what the shared library needs", f"{sorted(needed)}")
+    expect(set(re.findall(r"soname: \[(.*)\]", said)) == listed("soname"), "the shared library's name", said)
+
+
+def unset(static, folder):
+    program = folder / "unset"
+    if check("unset.c: build", ["cc", "-std=c11", "-O1", "-g", *STRICT, FOLDER / "unset.c", static, "-o", program]):
+        if shutil.which("valgrind"):
+            check("unset.c under valgrind", ["valgrind", "-q", "--error-exitcode=9", program])
+        else:
+            left_out("memory that nothing has set", "valgrind")
+
+
+def beside_words(static, folder, *words):
+    """The call that builds the comparison with the proved archive, whose calls get other names."""
+    other = folder / "proved.a"
+    names = (f"--redefine-sym={name}=proved_{name}" for name in by_rustc.exports())
+    check("objcopy", ["objcopy", *names, archive.path_of(), other])
+    return ["cc", "-std=c11", "-O2", *words, *STRICT, FOLDER / "beside.c", other, static, "-o", folder / "beside"]
+
+
+def beside(static, folder, number):
+    """Compares the library with the proved archive."""
+    if not archive.is_built():
+        return left_out("the library beside the proved archive", "archive of these sources: tests/run_c.py builds it")
+    if not check("beside.c: build", beside_words(static, folder)):
+        return None
+    done = run([folder / "beside", number])
+    print("  ", done.stdout.partition("\n")[0])
+    said = re.search(r"(\d+) passed, (\d+) failed\n\Z", done.stdout)
+    good, bad = map(int, said.groups()) if said else (0, 1)
+    return count(good, bad, "the library beside the proved archive", done.stdout + done.stderr)
+
+
+def elsewhere(package, target, folder):
+    """The callers for another target, under an emulator."""
+    emulator, without = TARGETS[target]
+    cc = by_rustc.compiler_of(target)
+    lacks = [name for name, there in (("C compiler", cc), (emulator, shutil.which(emulator))) if not there]
+    if not lacks and not by_rustc.has(target):
+        lacks = ["library of rustc's own"]
+    if lacks:
+        return left_out(f"the library for {target}", lacks[0])
+    before = checks.passed, checks.failed
+    static, shared = by_rustc.build(package, target)
+    symbols(static, shared, target)
+    run_c.callers(folder, static, {"": ["-O2", "-static"]}, (cc,), (emulator,), without)
+    print(f"   {target}: {checks.passed - before[0]} passed, {checks.failed - before[1]} failed")
+    return None
+
+
+def wrong_bodies():
+    """Each wrong body: its name, the file, the text that is there, and the text that comes in its place."""
+    for block in (FOLDER / "wrong-bodies").read_text(encoding="utf-8").strip().split("\n\n"):
+        yield [line.partition(": ")[2] for line in block.splitlines()]
+
+
+def sees(wrong_body, package, given):
+    """What sees a wrong body: a caller, or the comparison; "" if nothing does."""
+    _, file, old, new = wrong_body
+    with tempfile.TemporaryDirectory(prefix="wrong-body-") as name:
+        folder = pathlib.Path(name)
+        copy = folder / "package"
+        shutil.copytree(package, copy, ignore=shutil.ignore_patterns("target"))
+        source = copy / "src" / file
+        text = source.read_text(encoding="utf-8")
+        if text.count(old) != 1:
+            raise commands.Failure(f"{old!r} stands {text.count(old)} times in {file}")
+        source.write_text(text.replace(old, new), encoding="utf-8")
+        # Quicker to build than what a user gets.
+        words = ["--edition=2024", "--crate-name=dwexpr", "--crate-type=staticlib", "-Copt-level=1", "-Cpanic=abort"]
+        static = folder / "libdwexpr.a"
+        done = commands.done("rustc", *words, "-Cdebug-assertions=on", copy / "src/lib.rs", "-o", static)
+        if "assertion failed: size_of" in done.stderr:
+            return "rustc, at a claim about sizes"
+        if done.returncode:
+            raise commands.Failure(f"{wrong_body[0]} isn't built", done.stderr)
+        for caller in ("beside", "decode", "evaluate", "values", "held"):
+            program = folder / caller
+            if caller == "beside":
+                if not archive.is_built():
+                    continue
+                words, said = beside_words(static, folder), [str(WRONG_BODIES_COUNT)]
+            else:
+                words, said = ["cc", "-std=c11", *STRICT, TOP / f"tests/c/{caller}.c", static, "-o", program], []
+            commands.run(*words)
+            try:
+                done = commands.done(program, *said, given=given.get(caller), seconds=60)
+            except commands.Failure:
+                return f"{caller}, which took too long"
+            if done.returncode:
+                return caller
+    return ""
+
+
+def try_wrong_bodies(package):
+    """Tries all wrong bodies."""
+    listed_bodies, given = list(wrong_bodies()), {"decode": run_c.vectors()}
+    with concurrent.futures.ThreadPoolExecutor(compiler.JOBS) as pool:
+        for (name, *_), by in zip(listed_bodies, pool.map(lambda it: sees(it, package, given), listed_bodies)):
+            print(f"{'seen' if by else 'NOT SEEN'}: {name}{by and f': by {by}'}", flush=True)
+            expect(by, f"{name} is seen")
+
+
+def main():
+    parser = commands.parser(__doc__)
+    words = parser.add_mutually_exclusive_group()
+    said = "how many cases are made up; without it 1,000,000"
+    words.add_argument("count", metavar="COUNT", nargs="?", type=int, default=COUNT, help=said)
+    words.add_argument("--wrong-bodies", action="store_true", help="try the wrong bodies of the library")
+    words = parser.parse_args()
+    if missing := [tool for tool in ("cargo", "rustc", "rustfmt", "cc", "objcopy") if not shutil.which(tool)]:
+        return left_out("the library for C by rustc", missing[0])
+    with tempfile.TemporaryDirectory(prefix="by-rustc-") as name:
+        folder = pathlib.Path(name)
+        package = folder / "package"
+        by_rustc.write(package)
+        if words.wrong_bodies:
+            return try_wrong_bodies(package)
+        done = check("cargo tree", ["cargo", "tree", "--offline"], cwd=package)
+        expect(done and len(done.stdout.splitlines()) == 1, "it takes no other crate")
+        check("cargo fmt --check", ["cargo", "fmt", "--check"], cwd=package)
+        static, shared = by_rustc.build(package, by_rustc.here())
+        symbols(static, shared, by_rustc.here())
+        run_c.callers(folder / "here", static, run_c.KINDS)
+        unset(static, folder)
+        beside(static, folder, words.count)
+        done = check("examples/evaluate.py", [sys.executable, TOP / "examples/evaluate.py", shared])
+        expect(done and done.stdout == PRINTED, "what examples/evaluate.py prints")
+        for target in TARGETS:
+            elsewhere(package, target, folder / target)
+    return None
+
+
+if __name__ == "__main__":
+    checks.end_with(main)

@@ -178,8 +178,9 @@ def main():
         tree = cargo("tree", "tree")
         expect(len(tree.splitlines()) == 1, "without features it depends on nothing", tree)
         cargo("fmt --check", "fmt", "--check")
-        ways = {"": [], " without alloc": ["--no-default-features", "--features", ",".join({"arrayvec"} & set(found))]}
+        small = ",".join(["small"] + ["arrayvec"] * ("arrayvec" in found))
         every = ",".join(found + ["gimli-0_34"] * ("gimli" in found))
+        ways = {"": [], f" without alloc, with {small}": ["--no-default-features", "--features", small]}
         if found:
             ways[f" with {every}"] = ["--features", every]
         for said, enabled in ways.items():

@@ -4,7 +4,7 @@ CRATES = {f"dwarf_{name}": name for name in ("base", "value", "meaning", "op", "
 # Left out: its functions do nothing; and lists of the kit's.
 LAWS, LISTS = ["replay/equality"], ["eval/store/arrays"]
 # What the rows of the Rust crate that this takes too are about. The others are about names and calls of users in Rust.
-SHARED = {"models", "clones", "std", "final", "Drop", "layout", "clears", "parsing"}
+SHARED = {"models", "clones", "std", "final", "Drop", "layout", "parsing"}
 # The preconditions of exports: for each, what is written by hand says that the caller sees to it.
 CONDITIONS = [
     ("dwexpr_evaluation_begin", "evaluation . old . held ≡ None"),

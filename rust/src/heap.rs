@@ -88,11 +88,6 @@ impl<T: Copy> store::ArrayLike for Vec<T> {
     }
 
     #[inline(always)]
-    fn clear(&mut self) {
-        Vec::clear(self);
-    }
-
-    #[inline(always)]
     fn push(&mut self, item: T) -> Result<(), T> {
         if self.len() == self.capacity() && !grow(self) {
             return Err(item);
@@ -159,12 +154,6 @@ impl<T: Copy> store::ArrayLike for OneOrMore<T> {
     #[inline(always)]
     fn pop(&mut self) -> Option<T> {
         if self.more.is_empty() { self.one.take() } else { self.more.pop() }
-    }
-
-    #[inline(always)]
-    fn clear(&mut self) {
-        self.one = None;
-        self.more.clear();
     }
 
     #[inline(always)]

@@ -612,5 +612,7 @@ fn clear<L: ArrayLike>(list: &mut L)
     ensures items { L.items list.new ≡ [] }
     ensures limit { L.limit list.new ≡ L.limit list.old }
 {
-    while let Some(_) = list.pop() {}
+    while list.len() != 0 {
+        list.pop();
+    }
 }

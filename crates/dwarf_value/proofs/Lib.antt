@@ -2,4 +2,5 @@ pub mod Agreements
 pub mod Congruences
 pub mod Integers
 pub mod MaskBits
+pub mod Sums
 pub mod ValueLaws

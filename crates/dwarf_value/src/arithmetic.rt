@@ -11,37 +11,39 @@ impl Value {
     /// The sum, wrapped (`DW_OP_plus`). `TypeMismatch` if the types differ.
     ///
     /// `addr_mask` has a one for each bit of an address: [`is_addr_mask`](crate::is_addr_mask) tells.
+    #[tactic(auto, using(crate::proofs::MaskBits::all_bits))]
     #[inline(always)]
     pub fn add(self, rhs: Value, addr_mask: u64) -> Result<Value>
         requires { IsAddressMask addr_mask }
         ensures { result ≡ combination ◌+ℤ◌ (width_of addr_mask) self rhs }
     {
-        let (value_type, x, y) = self.operands(rhs, addr_mask, false)?;
+        let (value_type, x, y) = self.operands(rhs, u64::MAX, false)?;
         Ok(Value::wrapped(value_type, x + y, addr_mask))
     }
 
     /// The difference, wrapped (`DW_OP_minus`). `TypeMismatch` if the types differ.
     ///
     /// `addr_mask` has a one for each bit of an address: [`is_addr_mask`](crate::is_addr_mask) tells.
+    #[tactic(auto, using(crate::proofs::MaskBits::all_bits))]
     #[inline(always)]
     pub fn sub(self, rhs: Value, addr_mask: u64) -> Result<Value>
         requires { IsAddressMask addr_mask }
         ensures { result ≡ combination ◌-ℤ◌ (width_of addr_mask) self rhs }
     {
-        let (value_type, x, y) = self.operands(rhs, addr_mask, false)?;
+        let (value_type, x, y) = self.operands(rhs, u64::MAX, false)?;
         Ok(Value::wrapped(value_type, x - y, addr_mask))
     }
 
     /// The product, wrapped (`DW_OP_mul`). `TypeMismatch` if the types differ.
     ///
     /// `addr_mask` has a one for each bit of an address: [`is_addr_mask`](crate::is_addr_mask) tells.
-    #[tactic(auto, using(crate::proofs::Congruences::low_bits_only))]
+    #[tactic(auto, using(crate::proofs::Congruences::low_bits_only, crate::proofs::MaskBits::all_bits))]
     #[inline(always)]
     pub fn mul(self, rhs: Value, addr_mask: u64) -> Result<Value>
         requires { IsAddressMask addr_mask }
         ensures { result ≡ combination ◌*ℤ◌ (width_of addr_mask) self rhs }
     {
-        let (value_type, x, y) = self.operands(rhs, addr_mask, false)?;
+        let (value_type, x, y) = self.operands(rhs, u64::MAX, false)?;
         Ok(Value::wrapped(value_type, low_product(x, y), addr_mask))
     }
 
@@ -83,7 +85,7 @@ impl Value {
         requires { IsAddressMask addr_mask }
         ensures { result ≡ unary_of Abs (width_of addr_mask) self }
     {
-        let (value_type, word) = self.parts(addr_mask, true);
+        let (value_type, word) = self.taken_apart(addr_mask, true);
         let x = word.integer();
         Ok(Value::wrapped_to_64(value_type, if x < 0 { -x } else { x }))
     }
@@ -97,7 +99,7 @@ impl Value {
         requires { IsAddressMask addr_mask }
         ensures { result ≡ unary_of Neg (width_of addr_mask) self }
     {
-        let (value_type, word) = self.parts(addr_mask, true);
+        let (value_type, word) = self.taken_apart(addr_mask, true);
         if !word.signed {
             return Err(Error::UnsupportedTypeOperation);
         }
@@ -112,8 +114,8 @@ impl Value {
             (λ r. AreDivided signed (width_of addr_mask) self rhs r.0 r.1 r.2)
             (UnfitDivision (width_of addr_mask) self rhs) }
     {
-        let (value_type, first) = self.parts(addr_mask, signed);
-        let (other, second) = rhs.parts(addr_mask, signed);
+        let (value_type, first) = self.taken_apart(addr_mask, signed);
+        let (other, second) = rhs.taken_apart(addr_mask, signed);
         let divisor = second.integer();
         if divisor == 0 {
             return Err(Error::DivisionByZero);

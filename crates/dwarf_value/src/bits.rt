@@ -14,7 +14,7 @@ impl Value {
         requires { IsAddressMask addr_mask }
         ensures { result ≡ unary_of Not (width_of addr_mask) self }
     {
-        let (value_type, word) = self.parts(addr_mask, false);
+        let (value_type, word) = self.taken_apart(addr_mask, false);
         Ok(Value::wrapped_to_64(value_type, -word.integer() - 1))
     }
 

@@ -1,4 +1,4 @@
-ghost use Rattle.std.specs.Prelude.{◌≡◌, ◌<◌, ◌≤◌, ◌^◌, ◌%◌, pos, neg_ℤ, ◌≤ℤ◌, ◌<ℤ◌, MatchResult};
+ghost use Rattle.std.specs.Prelude.{◌≡◌, ◌<◌, ◌≤◌, ◌-◌, ◌^◌, ◌%◌, pos, neg_ℤ, ◌≤ℤ◌, ◌<ℤ◌, MatchResult};
 ghost use Rattle.dwarf_base.specs.Numbers.{residue};
 ghost use Rattle.dwarf_value.specs.inner.OperandPairs.{IsIn64, AreOperands, UnfitOperands};
 ghost use Rattle.dwarf_value.specs.Values.{IsAddressMask, width_of, word_integer, type_of, bit_size_of, is_signed, is_same, integer_of, value_of};
@@ -7,15 +7,17 @@ use crate::masks::mask_width;
 use crate::types::{Value, ValueType};
 use dwarf_base::{Error, Result};
 
-/// Bits with a width from 1 to 64, and whether the highest of them is a sign.
+/// Bits with a width from 1 to 64, the number whose only bit is the highest of them, and whether that one is a sign.
 #[derive(Clone, Copy)]
 pub(crate) struct Word {
     pub bits: u64,
     pub width: u32,
+    pub half: u64,
     pub signed: bool,
     ghost some_bit: { 0 < width },
     ghost within_64: { width ≤ 64 },
     ghost fits: { bits < 2 ^ width },
+    ghost highest: { half ≡ 2 ^ (width - 1) },
 }
 
 impl Word {
@@ -32,6 +34,25 @@ impl Word {
         Word {
             bits,
             width,
+            half: 1 << (width - 1),
+            signed,
+        }
+    }
+
+    /// As many bits as an address has, with a sign or without.
+    #[tactic(auto, using(crate::proofs::MaskBits::highest_bits))]
+    #[inline(always)]
+    pub(crate) fn of_address(bits: u64, addr_mask: u64, signed: bool) -> Word
+        requires mask { IsAddressMask addr_mask }
+        requires fits { bits < 2 ^ width_of addr_mask }
+        ensures bits { result.bits ≡ bits }
+        ensures width { result.width ≡ width_of addr_mask }
+        ensures signed { result.signed ≡ signed }
+    {
+        Word {
+            bits,
+            width: mask_width(addr_mask),
+            half: (addr_mask >> 1) + 1,
             signed,
         }
     }
@@ -45,9 +66,8 @@ impl Word {
         ensures most { result <ℤ pos (2 ^ 64) }
         ensures in_64 { IsIn64 self.signed result }
     {
-        let half = 1u64 << (self.width - 1);
-        if self.signed && self.bits >= half {
-            self.bits as i128 - 2 * half as i128
+        if self.signed && self.bits >= self.half {
+            self.bits as i128 - 2 * self.half as i128
         } else {
             self.bits as i128
         }
@@ -98,7 +118,7 @@ impl Value {
                 let bits = low_part(content, addr_mask);
                 (
                     ValueType::Generic,
-                    Word::new(bits, mask_width(addr_mask), signed),
+                    Word::of_address(bits, addr_mask, signed),
                 )
             }
             Value::I8(x) => (ValueType::I8, Word::new(x.cast_unsigned() as u64, 8, true)),
@@ -118,10 +138,74 @@ impl Value {
         }
     }
 
+    /// The same, by a call unless the value is generic.
+    #[inline(always)]
+    pub(crate) fn taken_apart(self, addr_mask: u64, signed: bool) -> (ValueType, Word)
+        requires { IsAddressMask addr_mask }
+        ensures value_type { result.0 ≡ type_of self }
+        ensures width { result.1.width ≡ bit_size_of (width_of addr_mask) (type_of self) }
+        ensures signed { result.1.signed ≡ is_signed signed (type_of self) }
+        ensures integer { word_integer result.1.signed result.1.width result.1.bits
+            ≡ integer_of signed (width_of addr_mask) self }
+    {
+        let Value::Generic(_) = self else {
+            return self.parts_by_call(addr_mask, signed);
+        };
+        self.parts(addr_mask, signed)
+    }
+
+    /// The same, by a call.
+    #[inline(never)]
+    fn parts_by_call(self, addr_mask: u64, signed: bool) -> (ValueType, Word)
+        requires { IsAddressMask addr_mask }
+        ensures value_type { result.0 ≡ type_of self }
+        ensures width { result.1.width ≡ bit_size_of (width_of addr_mask) (type_of self) }
+        ensures signed { result.1.signed ≡ is_signed signed (type_of self) }
+        ensures integer { word_integer result.1.signed result.1.width result.1.bits
+            ≡ integer_of signed (width_of addr_mask) self }
+    {
+        self.parts(addr_mask, signed)
+    }
+
     /// The type and the integers of two values of one type; `TypeMismatch` if the types differ. The bits of generic
     /// ones are those of an address, `signed` or not.
     #[inline(always)]
     pub(crate) fn operands(
+        self,
+        rhs: Value,
+        addr_mask: u64,
+        signed: bool,
+    ) -> Result<(ValueType, i128, i128)>
+        requires { IsAddressMask addr_mask }
+        ensures { MatchResult result
+            (λ r. AreOperands signed (width_of addr_mask) self rhs r.0 r.1 r.2)
+            (UnfitOperands self rhs) }
+    {
+        let (Value::Generic(_), Value::Generic(_)) = (self, rhs) else {
+            return self.operands_by_call(rhs, addr_mask, signed);
+        };
+        self.operands_in_line(rhs, addr_mask, signed)
+    }
+
+    /// The same, by a call.
+    #[inline(never)]
+    fn operands_by_call(
+        self,
+        rhs: Value,
+        addr_mask: u64,
+        signed: bool,
+    ) -> Result<(ValueType, i128, i128)>
+        requires { IsAddressMask addr_mask }
+        ensures { MatchResult result
+            (λ r. AreOperands signed (width_of addr_mask) self rhs r.0 r.1 r.2)
+            (UnfitOperands self rhs) }
+    {
+        self.operands_in_line(rhs, addr_mask, signed)
+    }
+
+    /// The same, in line.
+    #[inline(always)]
+    fn operands_in_line(
         self,
         rhs: Value,
         addr_mask: u64,
@@ -161,6 +245,27 @@ impl Value {
         }
     }
 
+    /// The same, by a call unless the value is generic.
+    #[inline(always)]
+    pub(crate) fn made(value_type: ValueType, word: Word, addr_mask: u64) -> Value
+        requires { IsAddressMask addr_mask }
+        ensures { result ≡ value_of (width_of addr_mask) value_type (pos word.bits) }
+    {
+        let ValueType::Generic = value_type else {
+            return Value::made_by_call(value_type, word, addr_mask);
+        };
+        Value::make(value_type, word, addr_mask)
+    }
+
+    /// The same, by a call.
+    #[inline(never)]
+    fn made_by_call(value_type: ValueType, word: Word, addr_mask: u64) -> Value
+        requires { IsAddressMask addr_mask }
+        ensures { result ≡ value_of (width_of addr_mask) value_type (pos word.bits) }
+    {
+        Value::make(value_type, word, addr_mask)
+    }
+
     /// The value of the type that an integer wraps to. A generic one keeps the bits of an address.
     #[tactic(auto, using(crate::proofs::Congruences::low_bits_only, crate::proofs::MaskBits::width_within_64))]
     #[inline(always)]
@@ -168,7 +273,7 @@ impl Value {
         requires { IsAddressMask addr_mask }
         ensures { result ≡ value_of (width_of addr_mask) value_type integer }
     {
-        Value::make(
+        Value::made(
             value_type,
             Word::new(low_bits(integer), 64, false),
             addr_mask,

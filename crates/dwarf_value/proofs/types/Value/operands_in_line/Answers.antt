@@ -3,7 +3,7 @@ use Rattle.std.specs.Int.{w128}
 use Rattle.std.proofs.lemmas.Int.{to_z-of_z}
 use Rattle.dwarf_value.specs.Values.{type_of, is_signed, is_same}
 use Rattle.dwarf_value.proofs.Integers.{same_types, carry_in_64}
-use Rattle.dwarf_value.proofs.types.Value.operands.Goals as goal
+use Rattle.dwarf_value.proofs.types.Value.operands_in_line.Goals as goal
 
 pub returns : goal.returns
 returns c =

@@ -29,6 +29,9 @@ import sys
 sys.dont_write_bytecode = True
 import checks  # noqa: E402
 from checks import commands, expect, run  # noqa: E402
+
+import compiler  # noqa: E402
+import sources  # noqa: E402
 from commands import TOP  # noqa: E402
 
 README = "README.md"
@@ -81,9 +84,6 @@ LIMIT = re.compile(r"#define DWEXPR_MAX_(?:VALUES|CALLERS|PIECES) (\d+)")
 RATIO = re.compile(r"(?<!Rust )\b\d\.\d\d\b")
 LOGIC = re.compile(r"`([0-9a-f]{16})`")
 
-# A definition that other files see: `abbrev pub NAME`, `unfoldable pub NAME`, `pub data NAME`, `pub NAME : ..`; those
-# of a module within a file stand further in.
-DEFINED = re.compile(r"^(?: *(?:abbrev pub|unfoldable pub|pub data|pub record)|pub)\s+([^\s:({]+)", re.MULTILINE)
 # Within a record or a data type: a field `pub NAME : ..` or a constructor `NAME : ..`.
 MEMBER = re.compile(r"^  (?:pub )?(\w+) :", re.MULTILINE)
 # In the code: a module; a public item or method; a public field.
@@ -150,7 +150,7 @@ def known():
     for path in filter(lambda name: name.startswith("crates/"), files()):
         names.add(path.split("/")[1])
         if is_definitions(path):
-            names.update([pathlib.PurePath(path).stem, *DEFINED.findall(read(path)), *MEMBER.findall(read(path))])
+            names.update([pathlib.PurePath(path).stem, *sources.DEFINED.findall(read(path)), *MEMBER.findall(read(path))])
         elif "/src/" in path:
             names.update(public_names(read(path)))
     return names
@@ -259,7 +259,7 @@ def counted():
 def crates():
     """Each crate has a row in docs/ARCHITECTURE.md."""
     rows = re.findall(r"^\| `(\w+)` \|", read("docs/ARCHITECTURE.md"), re.MULTILINE)
-    for name in re.findall(r"^(\w+)\b.*:", read("crates.txt"), re.MULTILINE):
+    for name in compiler.named():
         yield None if name in rows else f"docs/ARCHITECTURE.md has no row of {name}"
 
 
@@ -287,29 +287,14 @@ def changed():
             yield f"{page} has no block of {path}"
 
 
-def applies(edit, folder):
-    """Whether a wrong body can be applied to a file of the folder, one change after another."""
-    text, old, fits = "", "", True
-    for line in edit.splitlines():
-        kind, _, said = line.partition(":")
-        if kind == "file":
-            text = read(os.path.normpath(os.path.join(folder, said.strip())))
-        elif kind == "old":
-            old = said[1:]
-            fits = fits and text.count(old) == 1
-        elif kind == "new":
-            text = text.replace(old, said[1:])
-    return fits
-
-
 def stale():
     """Each wrong body can be applied."""
-    paths = fnmatch.filter(files(), "crates/*/must-fail/*.edit") + fnmatch.filter(files(), "*/wrong-bodies")
-    for path in sorted(set(paths) - {"tests/beside_archive/wrong-bodies", "tests/by_rustc/wrong-bodies"}):
+    crates = fnmatch.filter(files(), "crates/*/must-fail/*.edit") + fnmatch.filter(files(), "crates/*/wrong-bodies")
+    for path in ["tests/wrong-bodies", *sorted(crates)]:
         folder = "" if path.startswith("tests/") else re.split("/(?:must-fail|wrong-bodies)", path)[0]
-        for block in read(path).strip("\n").split("\n\n"):
-            name = block.partition("\n")[0]
-            yield None if applies(block, folder) else f"{path}: {name}: takes away what doesn't stand once in its file"
+        for edit in sources.edits_in(TOP / path):
+            applied = edit.applied(lambda file: read(os.path.normpath(os.path.join(folder, file))))
+            yield f"{path}: {edit.name}: takes away what doesn't stand once in its file" if applied is None else None
 
 
 CHECKS = [

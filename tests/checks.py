@@ -7,6 +7,7 @@ import sys
 
 sys.path.insert(0, str(pathlib.Path(__file__).resolve().parent.parent / "bin"))
 import commands  # noqa: E402
+import sources  # noqa: E402
 
 # What a compiler of C or C++ is told: to take no warning, and where the headers are.
 STRICT = ["-pedantic", "-Wall", "-Wextra", "-Werror", f"-I{pathlib.Path(__file__).resolve().parent.parent / 'include'}"]
@@ -32,6 +33,12 @@ def count(good, bad, name, said=""):
 def expect(good, name, said=""):
     """Counts one check."""
     return count(bool(good), not good, name, said)
+
+
+def count_of(name, done):
+    """Counts what a program says in its last line, which has to fit its status."""
+    good, bad = sources.counted(done.stdout)
+    return count(good, bad or int(done.returncode != 0), name, done.stdout + done.stderr)
 
 
 def left_out(what, lack):

@@ -29,6 +29,7 @@ from checks import commands, expect, left_out  # noqa: E402
 
 import archive  # noqa: E402
 import compiler  # noqa: E402
+import sources  # noqa: E402
 from commands import TOP, Failure  # noqa: E402
 
 PROGRAM = TOP / "tests" / "beside_archive"
@@ -101,7 +102,7 @@ def run(folder, count, lines):
         done = commands.done(*words, seconds=SECONDS, stderr=None, preexec_fn=limit_memory)
     except Failure:
         return None
-    return done.stdout if re.search(r"^\d+ passed, \d+ failed\n\Z", done.stdout, re.MULTILINE) else None
+    return done.stdout if sources.COUNTED.search(done.stdout) else None
 
 
 def compare(crate, folder, lines, count):
@@ -111,29 +112,17 @@ def compare(crate, folder, lines, count):
     printed = run(folder, count, lines)
     if printed is None:
         raise Failure("the program didn't come to its end")
-    said, _, counted = printed.rstrip("\n").rpartition("\n")
-    print(said)
-    good, bad = map(int, re.findall(r"\d+", counted))
-    checks.count(good, bad, "the Rust crate beside the archive")
-
-
-def wrong_bodies():
-    """Each wrong body: its name, the file, the text that is there, and the text that comes in its place."""
-    for block in (PROGRAM / "wrong-bodies").read_text(encoding="utf-8").strip().split("\n\n"):
-        yield [line.partition(": ")[2] for line in block.splitlines()]
+    print(printed.rstrip("\n").rpartition("\n")[0])
+    checks.count(*sources.counted(printed), "the Rust crate beside the archive")
 
 
 def try_wrong_body(wrong_body, crate, lines):
     """Compares the crate with a wrong body in place. Whether a difference was seen, and which."""
-    _, file, old, new = wrong_body
     with tempfile.TemporaryDirectory(prefix="wrong-body-") as name:
         folder = pathlib.Path(name)
         shutil.copytree(crate, folder / "crate")
-        source = folder / "crate" / "src" / "sources" / file
-        text = source.read_text(encoding="utf-8")
-        if text.count(old) != 1:
-            return False, f"its old text stands {text.count(old)} times in {file}"
-        source.write_text(text.replace(old, new), encoding="utf-8")
+        if not wrong_body.apply(folder / "crate" / "src" / "sources"):
+            return False, "it takes away what doesn't stand once in its file"
         if failure := build(folder / "crate", folder):
             return False, failure
         printed = run(folder, WRONG_BODIES_COUNT, lines)
@@ -148,12 +137,12 @@ def try_wrong_body(wrong_body, crate, lines):
 
 def try_wrong_bodies(crate, lines):
     """Tries all wrong bodies."""
-    all_of_them = list(wrong_bodies())
+    edits = sources.edits_in(PROGRAM / "wrong-bodies")
     with concurrent.futures.ThreadPoolExecutor(compiler.JOBS) as pool:
-        tried = pool.map(lambda wrong_body: try_wrong_body(wrong_body, crate, lines), all_of_them)
-        for (name, *_), (is_seen, said) in zip(all_of_them, tried):
-            print(f"{'seen' if is_seen else 'NOT SEEN'}: {name}: {said}", flush=True)
-            expect(is_seen, f"{name} is seen")
+        tried = pool.map(lambda edit: try_wrong_body(edit, crate, lines), edits)
+        for edit, (is_seen, said) in zip(edits, tried):
+            print(f"{'seen' if is_seen else 'NOT SEEN'}: {edit.name}: {said}", flush=True)
+            expect(is_seen, f"{edit.name} is seen")
 
 
 def main():

@@ -17,7 +17,6 @@ has to fail. What is missing is left out, and said so. The last line is `N passe
 """
 
 import concurrent.futures
-import os
 import pathlib
 import re
 import shutil
@@ -27,11 +26,12 @@ import tempfile
 sys.dont_write_bytecode = True
 import checks  # noqa: E402
 import run_c  # noqa: E402
-from checks import STRICT, check, commands, count, expect, left_out, run  # noqa: E402
+from checks import STRICT, check, commands, count_of, expect, left_out, run  # noqa: E402
 
 import archive  # noqa: E402
 import by_rustc  # noqa: E402
 import compiler  # noqa: E402
+import sources  # noqa: E402
 from commands import TOP  # noqa: E402
 
 FOLDER = TOP / "tests" / "by_rustc"
@@ -95,9 +95,7 @@ def beside(static, folder, number):
         return None
     done = run([folder / "beside", number])
     print("  ", done.stdout.partition("\n")[0])
-    said = re.search(r"(\d+) passed, (\d+) failed\n\Z", done.stdout)
-    good, bad = map(int, said.groups()) if said else (0, 1)
-    return count(good, bad, "the library beside the proved archive", done.stdout + done.stderr)
+    return count_of("the library beside the proved archive", done)
 
 
 def elsewhere(package, target, folder):
@@ -117,24 +115,14 @@ def elsewhere(package, target, folder):
     return None
 
 
-def wrong_bodies():
-    """Each wrong body: its name, the file, the text that is there, and the text that comes in its place."""
-    for block in (FOLDER / "wrong-bodies").read_text(encoding="utf-8").strip().split("\n\n"):
-        yield [line.partition(": ")[2] for line in block.splitlines()]
-
-
 def sees(wrong_body, package, given):
     """What sees a wrong body: a caller, or the comparison; "" if nothing does."""
-    _, file, old, new = wrong_body
     with tempfile.TemporaryDirectory(prefix="wrong-body-") as name:
         folder = pathlib.Path(name)
         copy = folder / "package"
         shutil.copytree(package, copy, ignore=shutil.ignore_patterns("target"))
-        source = copy / "src" / file
-        text = source.read_text(encoding="utf-8")
-        if text.count(old) != 1:
-            raise commands.Failure(f"{old!r} stands {text.count(old)} times in {file}")
-        source.write_text(text.replace(old, new), encoding="utf-8")
+        if not wrong_body.apply(copy / "src"):
+            raise commands.Failure(f"{wrong_body.name} takes away what doesn't stand once in its file")
         # Quicker to build than what a user gets.
         words = ["--edition=2024", "--crate-name=dwexpr", "--crate-type=staticlib", "-Copt-level=1", "-Cpanic=abort"]
         static = folder / "libdwexpr.a"
@@ -142,7 +130,7 @@ def sees(wrong_body, package, given):
         if "assertion failed: size_of" in done.stderr:
             return "rustc, at a claim about sizes"
         if done.returncode:
-            raise commands.Failure(f"{wrong_body[0]} isn't built", done.stderr)
+            raise commands.Failure(f"{wrong_body.name} isn't built", done.stderr)
         for caller in ("beside", "decode", "evaluate", "values", "held"):
             program = folder / caller
             if caller == "beside":
@@ -163,11 +151,11 @@ def sees(wrong_body, package, given):
 
 def try_wrong_bodies(package):
     """Tries all wrong bodies."""
-    listed_bodies, given = list(wrong_bodies()), {"decode": run_c.vectors()}
+    edits, given = sources.edits_in(FOLDER / "wrong-bodies"), {"decode": run_c.vectors()}
     with concurrent.futures.ThreadPoolExecutor(compiler.JOBS) as pool:
-        for (name, *_), by in zip(listed_bodies, pool.map(lambda it: sees(it, package, given), listed_bodies)):
-            print(f"{'seen' if by else 'NOT SEEN'}: {name}{by and f': by {by}'}", flush=True)
-            expect(by, f"{name} is seen")
+        for edit, by in zip(edits, pool.map(lambda it: sees(it, package, given), edits)):
+            print(f"{'seen' if by else 'NOT SEEN'}: {edit.name}{by and f': by {by}'}", flush=True)
+            expect(by, f"{edit.name} is seen")
 
 
 def main():

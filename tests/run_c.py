@@ -21,7 +21,7 @@ import tempfile
 sys.dont_write_bytecode = True
 import checks  # noqa: E402
 import run_rows  # noqa: E402
-from checks import STRICT, check, check_headers, commands, count, expect, left_out, run  # noqa: E402
+from checks import STRICT, check, check_headers, commands, count_of, expect, left_out, run  # noqa: E402
 
 import archive  # noqa: E402
 import libraries  # noqa: E402
@@ -157,11 +157,7 @@ def callers(folder, library, kinds, cc=("cc",), runner=(), without=()):
             if not check(f"{source.name}{kind}: build", build):
                 continue
             done = run([*runner, program], input=given.get(source.stem, ""))
-            said = re.search(r"(\d+) passed, (\d+) failed\n\Z", done.stdout)
-            if not said or (done.returncode != 0) != (said.group(2) != "0"):
-                expect(False, f"{source.name}{kind}", done.stdout + done.stderr)
-            else:
-                count(int(said.group(1)), int(said.group(2)), f"{source.name}{kind}", done.stdout + done.stderr)
+            count_of(f"{source.name}{kind}", done)
 
 
 # Bytes of expressions: the status of examples/decode.c, and what it prints.

@@ -30,7 +30,7 @@ import tempfile
 sys.dont_write_bytecode = True
 import checks  # noqa: E402
 import compare_gdb  # noqa: E402
-from checks import STRICT, check, check_headers, commands, count, expect, left_out, run  # noqa: E402
+from checks import STRICT, check, check_headers, commands, count, count_of, expect, left_out, run  # noqa: E402
 
 import archive  # noqa: E402
 import libraries  # noqa: E402
@@ -90,9 +90,7 @@ def callers(folder):
                 continue
             # libdwfl keeps some memory
             done = run([program, *given], env={"ASAN_OPTIONS": "detect_leaks=0"} if name == "rules" else {})
-            said = re.search(r"(\d+) passed, (\d+) failed\n\Z", done.stdout)
-            numbers = [int(number) for number in said.groups()] if said else [0, 1]
-            count(*numbers, f"{name}.c{kind}", done.stdout + done.stderr)
+            count_of(f"{name}.c{kind}", done)
 
 
 def compilers(what):
@@ -263,9 +261,7 @@ def frames(folder):
             done = run([program, which, process.pid], env={"ASAN_OPTIONS": "detect_leaks=0"})
             process.kill()
             process.wait()
-            said = re.search(r"(\d+) passed, (\d+) failed\n\Z", done.stdout)
-            numbers = [int(number) for number in said.groups()] if said else [0, 1]
-            count(*numbers, f"frames.c, {which}, {' '.join(words)}{kind}", done.stdout + done.stderr)
+            count_of(f"frames.c, {which}, {' '.join(words)}{kind}", done)
 
 
 # What examples/where.c prints of place 3 of tests/stopped/registers.c. A long double has 10 bytes of 16.

@@ -1,0 +1,64 @@
+"""How the repository's scripts read its sources: definitions, wrong bodies, and counts of checks."""
+
+import re
+import typing
+
+# A definition that contracts can cite: `abbrev pub NAME`, `pub data NAME`, `pub NAME : ..` and their like. In a module
+# of a file they stand further in.
+DEFINED = re.compile(
+    r"^(?: *(?:abbrev pub|unfoldable pub|pub data|pub record)|pub(?! use| mod))\s+([^\s:({]+)", re.MULTILINE
+)
+# The last line of each test.
+COUNTED = re.compile(r"^(\d+) passed, (\d+) failed\n\Z", re.MULTILINE)
+
+
+class Edit(typing.NamedTuple):
+    """A wrong body: its name, and its text in the form of the kit's must-fail edits."""
+
+    name: str
+    text: str
+
+    @property
+    def file(self):
+        """The first file that it changes."""
+        return self.text.partition("\n")[0].removeprefix("file: ")
+
+    def applied(self, text_of):
+        """The texts of its files with the changes made, one after another, or `None` if what one takes away doesn't
+        stand once in its file. A function gives the text of a file."""
+        texts, file, old = {}, "", ""
+        for line in self.text.splitlines():
+            kind, _, said = line.partition(":")
+            said = said.removeprefix(" ")
+            if kind == "file":
+                file = said
+                texts.setdefault(file, text_of(file))
+            elif kind == "old":
+                old = said
+            elif texts[file].count(old) != 1:
+                return None
+            else:
+                texts[file] = texts[file].replace(old, said)
+        return texts
+
+    def apply(self, folder):
+        """Changes its files in a folder. Whether it can be applied."""
+        texts = self.applied(lambda file: (folder / file).read_text(encoding="utf-8"))
+        for file in texts or ():
+            (folder / file).write_text(texts[file], encoding="utf-8")
+        return texts is not None
+
+
+def edits_in(path):
+    """The edits of a file: of `wrong-bodies` each after a line `name: NAME` and an empty line; or the kit's one."""
+    text = path.read_text(encoding="utf-8").strip("\n") if path.exists() else ""
+    if path.suffix == ".edit":
+        return [Edit(path.stem, text)]
+    blocks = (block.partition("\n") for block in text.split("\n\n") if block)
+    return [Edit(first.removeprefix("name: "), rest) for first, _, rest in blocks]
+
+
+def counted(output):
+    """How many checks passed and failed by the last line of an output: one that failed, if it has no such line."""
+    found = COUNTED.search(output)
+    return tuple(map(int, found.groups())) if found else (0, 1)

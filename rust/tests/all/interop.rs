@@ -144,7 +144,7 @@ impl gimli::Reader for Relocating<'_> {
         let left = self.len();
         let offset = self.0.read_offset(format)?;
         // As a reader does whose offsets have 32 bits.
-        if offset >> 32 == 0 { Ok(offset + left) } else { Err(gimli::Error::UnsupportedOffset) }
+        if offset as u64 >> 32 == 0 { Ok(offset + left) } else { Err(gimli::Error::UnsupportedOffset) }
     }
 }
 

@@ -43,7 +43,7 @@ enum dwexpr_code {
     DWEXPR_BAD_UNSIGNED_LEB128 = 2,
     DWEXPR_BAD_SIGNED_LEB128 = 3,
     DWEXPR_UNSUPPORTED_ADDRESS_SIZE = 4,        /* carries the size, which isn't 1, 2, 4 or 8 */
-    DWEXPR_UNSUPPORTED_OFFSET = 5,              /* never answered: each offset has at most 64 bits */
+    DWEXPR_UNSUPPORTED_OFFSET = 5,              /* an offset doesn't fit into size_t; never answered with 64 bits */
     DWEXPR_UNSUPPORTED_REGISTER = 6,            /* carries the register, above 65535 */
     DWEXPR_INVALID_EXPRESSION = 7,              /* carries the unknown opcode */
     DWEXPR_INVALID_PIECE_SIZE = 8,              /* carries the size in bytes */
@@ -504,78 +504,85 @@ static inline const char *dwexpr_opcode_name(uint32_t opcode)
 
 /* ---------------------------------------------------------------- layout */
 
-/* The library was built for structs of just this layout, with words of 64 bits. */
+/* The library was built for structs of just this layout: with words of 64 bits, with words of 32 bits where numbers of
+ * 64 bits stand at multiples of 8, as on ARM, and where they stand at multiples of 4, as on i386. */
 #ifdef __cplusplus
 #define DWEXPR_ASSERT(name, holds) static_assert(holds, #name)
 #else
 #define DWEXPR_ASSERT(name, holds) _Static_assert(holds, #name)
 #endif
-#define DWEXPR_AT(type, field, place) DWEXPR_ASSERT(type##_##field, offsetof(type, field) == (place))
+#define DWEXPR_IS(place, wide, narrow, packed)                                                                         \
+    ((place) == (sizeof(void *) == 8 ? (wide) : offsetof(dwexpr_value, content) == 8 ? (narrow) : (packed)))
+#define DWEXPR_SIZE(type, wide, narrow, packed) DWEXPR_ASSERT(type, DWEXPR_IS(sizeof(type), wide, narrow, packed))
+#define DWEXPR_AT(type, field, wide, narrow, packed)                                                                   \
+    DWEXPR_ASSERT(type##_##field, DWEXPR_IS(offsetof(type, field), wide, narrow, packed))
 
-DWEXPR_ASSERT(evaluation, sizeof(dwexpr_evaluation) == 8);
-DWEXPR_ASSERT(words, sizeof(size_t) == 8 && sizeof(void *) == 8);
-DWEXPR_ASSERT(encoding, sizeof(dwexpr_encoding) == 4);
-DWEXPR_AT(dwexpr_encoding, address_size, 0);
-DWEXPR_AT(dwexpr_encoding, offset_size, 1);
-DWEXPR_AT(dwexpr_encoding, big_endian, 2);
-DWEXPR_AT(dwexpr_encoding, version, 3);
-DWEXPR_ASSERT(operation, sizeof(dwexpr_operation) == 88);
-DWEXPR_AT(dwexpr_operation, offset, 0);
-DWEXPR_AT(dwexpr_operation, size, 8);
-DWEXPR_AT(dwexpr_operation, opcode, 16);
-DWEXPR_AT(dwexpr_operation, kind, 20);
-DWEXPR_AT(dwexpr_operation, number, 24);
-DWEXPR_AT(dwexpr_operation, signed_number, 32);
-DWEXPR_AT(dwexpr_operation, base_type, 40);
-DWEXPR_AT(dwexpr_operation, register_number, 48);
-DWEXPR_AT(dwexpr_operation, deref_size, 52);
-DWEXPR_AT(dwexpr_operation, flag, 56);
-DWEXPR_AT(dwexpr_operation, fault, 60);
-DWEXPR_AT(dwexpr_operation, block_offset, 64);
-DWEXPR_AT(dwexpr_operation, block_length, 72);
-DWEXPR_AT(dwexpr_operation, detail, 80);
-DWEXPR_ASSERT(text, sizeof(dwexpr_text) == 16);
-DWEXPR_AT(dwexpr_text, bytes, 0);
-DWEXPR_AT(dwexpr_text, length, 8);
-DWEXPR_ASSERT(step, sizeof(dwexpr_step) == 24);
-DWEXPR_AT(dwexpr_step, kind, 0);
-DWEXPR_AT(dwexpr_step, value_type, 4);
-DWEXPR_AT(dwexpr_step, number, 8);
-DWEXPR_AT(dwexpr_step, text, 16);
-DWEXPR_ASSERT(value, sizeof(dwexpr_value) == 16);
-DWEXPR_AT(dwexpr_value, value_type, 0);
-DWEXPR_AT(dwexpr_value, content, 8);
-DWEXPR_ASSERT(outcome, sizeof(dwexpr_outcome) == 104);
-DWEXPR_AT(dwexpr_outcome, code, 0);
-DWEXPR_AT(dwexpr_outcome, request, 4);
-DWEXPR_AT(dwexpr_outcome, detail, 8);
-DWEXPR_AT(dwexpr_outcome, step, 16);
-DWEXPR_AT(dwexpr_outcome, number, 24);
-DWEXPR_AT(dwexpr_outcome, base_type, 32);
-DWEXPR_AT(dwexpr_outcome, space, 40);
-DWEXPR_AT(dwexpr_outcome, register_number, 48);
-DWEXPR_AT(dwexpr_outcome, size, 52);
-DWEXPR_AT(dwexpr_outcome, flag, 56);
-DWEXPR_AT(dwexpr_outcome, value_type, 60);
-DWEXPR_AT(dwexpr_outcome, value, 64);
-DWEXPR_AT(dwexpr_outcome, block_text, 72);
-DWEXPR_AT(dwexpr_outcome, block_offset, 80);
-DWEXPR_AT(dwexpr_outcome, block_length, 88);
-DWEXPR_AT(dwexpr_outcome, pieces, 96);
-DWEXPR_ASSERT(piece, sizeof(dwexpr_piece) == 72);
-DWEXPR_AT(dwexpr_piece, kind, 0);
-DWEXPR_AT(dwexpr_piece, has_size, 4);
-DWEXPR_AT(dwexpr_piece, size_in_bits, 8);
-DWEXPR_AT(dwexpr_piece, bit_offset, 16);
-DWEXPR_AT(dwexpr_piece, has_bit_offset, 24);
-DWEXPR_AT(dwexpr_piece, value_type, 28);
-DWEXPR_AT(dwexpr_piece, number, 32);
-DWEXPR_AT(dwexpr_piece, byte_offset, 40);
-DWEXPR_AT(dwexpr_piece, block_text, 48);
-DWEXPR_AT(dwexpr_piece, block_offset, 56);
-DWEXPR_AT(dwexpr_piece, block_length, 64);
+DWEXPR_ASSERT(words, sizeof(size_t) == sizeof(void *) && (sizeof(void *) == 8 || sizeof(void *) == 4));
+DWEXPR_SIZE(dwexpr_evaluation, 8, 4, 4);
+DWEXPR_SIZE(dwexpr_encoding, 4, 4, 4);
+DWEXPR_AT(dwexpr_encoding, address_size, 0, 0, 0);
+DWEXPR_AT(dwexpr_encoding, offset_size, 1, 1, 1);
+DWEXPR_AT(dwexpr_encoding, big_endian, 2, 2, 2);
+DWEXPR_AT(dwexpr_encoding, version, 3, 3, 3);
+DWEXPR_SIZE(dwexpr_operation, 88, 72, 72);
+DWEXPR_AT(dwexpr_operation, offset, 0, 0, 0);
+DWEXPR_AT(dwexpr_operation, size, 8, 4, 4);
+DWEXPR_AT(dwexpr_operation, opcode, 16, 8, 8);
+DWEXPR_AT(dwexpr_operation, kind, 20, 12, 12);
+DWEXPR_AT(dwexpr_operation, number, 24, 16, 16);
+DWEXPR_AT(dwexpr_operation, signed_number, 32, 24, 24);
+DWEXPR_AT(dwexpr_operation, base_type, 40, 32, 32);
+DWEXPR_AT(dwexpr_operation, register_number, 48, 40, 40);
+DWEXPR_AT(dwexpr_operation, deref_size, 52, 44, 44);
+DWEXPR_AT(dwexpr_operation, flag, 56, 48, 48);
+DWEXPR_AT(dwexpr_operation, fault, 60, 52, 52);
+DWEXPR_AT(dwexpr_operation, block_offset, 64, 56, 56);
+DWEXPR_AT(dwexpr_operation, block_length, 72, 60, 60);
+DWEXPR_AT(dwexpr_operation, detail, 80, 64, 64);
+DWEXPR_SIZE(dwexpr_text, 16, 8, 8);
+DWEXPR_AT(dwexpr_text, bytes, 0, 0, 0);
+DWEXPR_AT(dwexpr_text, length, 8, 4, 4);
+DWEXPR_SIZE(dwexpr_step, 24, 24, 20);
+DWEXPR_AT(dwexpr_step, kind, 0, 0, 0);
+DWEXPR_AT(dwexpr_step, value_type, 4, 4, 4);
+DWEXPR_AT(dwexpr_step, number, 8, 8, 8);
+DWEXPR_AT(dwexpr_step, text, 16, 16, 16);
+DWEXPR_SIZE(dwexpr_value, 16, 16, 12);
+DWEXPR_AT(dwexpr_value, value_type, 0, 0, 0);
+DWEXPR_AT(dwexpr_value, content, 8, 8, 4);
+DWEXPR_SIZE(dwexpr_outcome, 104, 88, 84);
+DWEXPR_AT(dwexpr_outcome, code, 0, 0, 0);
+DWEXPR_AT(dwexpr_outcome, request, 4, 4, 4);
+DWEXPR_AT(dwexpr_outcome, detail, 8, 8, 8);
+DWEXPR_AT(dwexpr_outcome, step, 16, 16, 16);
+DWEXPR_AT(dwexpr_outcome, number, 24, 24, 20);
+DWEXPR_AT(dwexpr_outcome, base_type, 32, 32, 28);
+DWEXPR_AT(dwexpr_outcome, space, 40, 40, 36);
+DWEXPR_AT(dwexpr_outcome, register_number, 48, 48, 44);
+DWEXPR_AT(dwexpr_outcome, size, 52, 52, 48);
+DWEXPR_AT(dwexpr_outcome, flag, 56, 56, 52);
+DWEXPR_AT(dwexpr_outcome, value_type, 60, 60, 56);
+DWEXPR_AT(dwexpr_outcome, value, 64, 64, 60);
+DWEXPR_AT(dwexpr_outcome, block_text, 72, 72, 68);
+DWEXPR_AT(dwexpr_outcome, block_offset, 80, 76, 72);
+DWEXPR_AT(dwexpr_outcome, block_length, 88, 80, 76);
+DWEXPR_AT(dwexpr_outcome, pieces, 96, 84, 80);
+DWEXPR_SIZE(dwexpr_piece, 72, 64, 60);
+DWEXPR_AT(dwexpr_piece, kind, 0, 0, 0);
+DWEXPR_AT(dwexpr_piece, has_size, 4, 4, 4);
+DWEXPR_AT(dwexpr_piece, size_in_bits, 8, 8, 8);
+DWEXPR_AT(dwexpr_piece, bit_offset, 16, 16, 16);
+DWEXPR_AT(dwexpr_piece, has_bit_offset, 24, 24, 24);
+DWEXPR_AT(dwexpr_piece, value_type, 28, 28, 28);
+DWEXPR_AT(dwexpr_piece, number, 32, 32, 32);
+DWEXPR_AT(dwexpr_piece, byte_offset, 40, 40, 40);
+DWEXPR_AT(dwexpr_piece, block_text, 48, 48, 48);
+DWEXPR_AT(dwexpr_piece, block_offset, 56, 52, 52);
+DWEXPR_AT(dwexpr_piece, block_length, 64, 56, 56);
 
 #undef DWEXPR_AT
+#undef DWEXPR_SIZE
+#undef DWEXPR_IS
 #undef DWEXPR_ASSERT
 
 #endif

@@ -222,7 +222,7 @@ static int is_passed_in(dwexpr_text wanted, const Dwarf_Block *place, dwexpr_enc
     if (wanted.length == place->length && !memcmp(wanted.bytes, place->data, wanted.length))
         return 1;
     return !dwexpr_decode(wanted.bytes, wanted.length, encoding, 0, &first) &&
-           !dwexpr_decode(place->data, place->length, encoding, 0, &second) && first.size == wanted.length &&
+           !dwexpr_decode(place->data, (size_t)place->length, encoding, 0, &second) && first.size == wanted.length &&
            second.size == place->length && first.kind == DWEXPR_OP_REGISTER_OFFSET && first.base_type &&
            second.kind == DWEXPR_OP_REGISTER && first.register_number == second.register_number;
 }

@@ -126,7 +126,7 @@ static int put_operands(struct writer *writer, const Dwarf_Op *op, size_t size, 
             length++;
         if (!block)
             return -1;
-        put(writer, block, length + op->number);
+        put(writer, block, length + (size_t)op->number);
         return 0;
     }
     case 'c': /* libdw points to the byte of the block's length */

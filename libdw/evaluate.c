@@ -558,9 +558,9 @@ static uint32_t constant(Dwarf_Attribute *attribute, dwexpr_libdw_value *value)
         return DWEXPR_LIBDW_FAILED;
     if (!dwarf_formblock(attribute, &block)) {
         piece->kind = DWEXPR_HOLDS_BYTES;
-        piece->block_length = block.length;
+        piece->block_length = (size_t)block.length;
         value->texts[0].bytes = block.data;
-        value->texts[0].length = block.length;
+        value->texts[0].length = (size_t)block.length;
         value->texts_length = 1;
     } else if (!dwarf_formudata(attribute, &number)) {
         piece->kind = DWEXPR_HOLDS_VALUE;
@@ -660,7 +660,7 @@ static uint32_t variable_number(dwexpr_libdw_frame *frame, Dwarf_Die *variable, 
         code = dwexpr_libdw_read(frame, value, 8 * size, bytes, NULL);
     if (!code) {
         const unsigned unused = 64 - 8 * (unsigned)size;
-        *number = dwexpr_libdw_number_of(bytes, size, value->encoding.big_endian) << unused;
+        *number = dwexpr_libdw_number_of(bytes, (size_t)size, value->encoding.big_endian) << unused;
         *number = encoding == DW_ATE_signed || encoding == DW_ATE_signed_char
                       ? (uint64_t)((int64_t)*number >> unused)
                       : *number >> unused;

@@ -71,7 +71,7 @@ uint32_t dwexpr_libdw_expression(Dwarf_Attribute *attribute, Dwarf_Addr address,
         return DWEXPR_LIBDW_FAILED;
     if (!dwarf_formblock(attribute, &block)) {
         expression->text.bytes = block.data;
-        expression->text.length = block.length;
+        expression->text.length = (size_t)block.length;
         return block.length ? 0 : DWEXPR_LIBDW_OPTIMIZED_AWAY;
     }
     found = dwarf_getlocation_addr(attribute, address, &operations, &count, 1);

@@ -132,7 +132,9 @@ static Elf_Data *notes_of(Elf *core, size_t index)
     GElf_Phdr segment;
     if (!gelf_getphdr(core, (int)index, &segment) || segment.p_type != PT_NOTE)
         return NULL;
-    return elf_getdata_rawchunk(core, (int64_t)segment.p_offset, segment.p_filesz, ELF_T_NHDR);
+    if ((size_t)segment.p_filesz != segment.p_filesz)
+        return NULL;
+    return elf_getdata_rawchunk(core, (int64_t)segment.p_offset, (size_t)segment.p_filesz, ELF_T_NHDR);
 }
 
 /* Takes a note of a thread's registers. `is_thread` tells whether the last thread that was named is the one. */

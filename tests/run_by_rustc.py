@@ -110,7 +110,7 @@ def elsewhere(package, target, folder):
     before = checks.passed, checks.failed
     static, shared = by_rustc.build(package, target)
     symbols(static, shared, target)
-    run_c.callers(folder, static, {"": ["-O2", "-static"]}, (cc,), (emulator,), without)
+    run_c.callers(folder, static, {"": ["-O2", "-static"]}, (cc,), (emulator,), without, by_rustc.processor(target)[1])
     print(f"   {target}: {checks.passed - before[0]} passed, {checks.failed - before[1]} failed")
     return None
 

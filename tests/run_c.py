@@ -57,14 +57,19 @@ def fields_of(text, name):
     return fields
 
 
-def places_of(fields):
-    """Where each field is by C's rule, and how large the whole is."""
+# The bytes of a word, and where numbers of 64 bits may stand: the three layouts that the header asserts.
+MACHINES = [(8, 8), (4, 8), (4, 4)]
+
+
+def places_of(fields, word, wide):
+    """Where each field is by C's rule on such a machine, and how large the whole is."""
     places, place, widest = [], 0, 1
     for name, kind in fields:
-        size = {"uint8_t": 1, "uint32_t": 4}.get(kind, 8)
-        place = -(-place // size) * size
+        size = {"uint8_t": 1, "uint32_t": 4, "uint64_t": 8, "int64_t": 8}.get(kind, word)
+        step = wide if size == 8 and word == 4 else size
+        place = -(-place // step) * step
         places.append((name, place))
-        place, widest = place + size, max(widest, size)
+        place, widest = place + size, max(widest, step)
     return places, -(-place // widest) * widest
 
 
@@ -75,16 +80,20 @@ def layout():
         body = re.search(rf"typedef struct dwexpr_{name} {{\n(.*?)\n}} dwexpr_{name};", header, re.DOTALL)
         declared = re.findall(r"^    (const uint8_t \*|\w+)\s*(\w+);", body.group(1), re.MULTILINE)
         wanted = [(field, kind) for kind, field in declared]
-        places, size = places_of(wanted)
-        asserted = re.findall(rf"DWEXPR_AT\(dwexpr_{name}, (\w+), (\d+)\);", header)
+        laid_out = [places_of(wanted, *machine) for machine in MACHINES]
+        asserted = re.findall(rf"DWEXPR_AT\(dwexpr_{name}, (\w+), (\d+), (\d+), (\d+)\);", header)
         in_crate = re.findall(rf"size_of::<Dwexpr{name.title()}>\(\) == (\d+)", crate)
-        in_header = re.findall(rf"sizeof\(dwexpr_{name}\) == (\d+)", header)
+        in_header = re.findall(rf"DWEXPR_SIZE\(dwexpr_{name}, (\d+), (\d+), (\d+)\);", header)
         count_one(f"layout of {name}: the crate", fields_of(crate, f"Dwexpr{name.title()}"), wanted)
-        count_one(f"layout of {name}: places", [(field, int(place)) for field, place in asserted], places)
-        count_one(f"layout of {name}: sizes", in_crate + in_header, [str(size)] * 2)
+        for at, (places, size) in enumerate(laid_out):
+            found = [(field, int(of_machines[at])) for field, *of_machines in asserted]
+            count_one(f"layout of {name}, {MACHINES[at]}: places", found, places)
+            count_one(f"layout of {name}, {MACHINES[at]}: sizes", [it[at] for it in in_header], [str(size)])
+        count_one(f"layout of {name}: the crate's size", in_crate, [str(laid_out[0][1])])
     version = re.search(r'DWEXPR_VERSION "(.*)"', header).group(1)
-    of_crate = re.search(r'^version = "(.*)"', (TOP / "rust/Cargo.toml").read_text(), re.MULTILINE).group(1)
-    count_one("the version", version, of_crate)
+    for manifest in ("rust/Cargo.toml", "c/Cargo.toml"):
+        of_crate = re.search(r'^version = "(.*)"', (TOP / manifest).read_text(), re.MULTILINE).group(1)
+        count_one(f"the version in {manifest}", version, of_crate)
     number = re.search(r"DWEXPR_VERSION_NUMBER (\d+)", header).group(1)
     count_one("the version's number", int(number), sum(map(int.__mul__, map(int, version.split(".")), [10000, 100, 1])))
 
@@ -99,14 +108,25 @@ def numbers_of(encoding):
     return [address_size, offset_size, version, "1" if order == "be" else "0"]
 
 
+# The kinds whose number is an offset or an index.
+WITH_OFFSET = {"CALL", "IMPLICIT_POINTER", "PARAMETER_REF", "VARIABLE_VALUE", "ADDRESS_INDEX", "CONSTANT_INDEX"}
 FIELDS = ["number", "signed_number", "base_type", "register_number", "deref_size", "flag"]
 
 
-def vectors():
-    """The lines that tests/c/decode.c reads: of each vector the encoding, the bytes, the code and the fields."""
+def fits(vector, word):
+    """Whether the offsets of a vector's operation fit into a word of so many bytes."""
+    offsets = [vector.get("base_type", 0)] + [vector.get("number", 0)] * (vector.get("kind") in WITH_OFFSET)
+    return max(offsets) < 1 << 8 * word
+
+
+def vectors(word=8):
+    """The lines that tests/c/decode.c reads: of each vector the encoding, the bytes, the code and the fields. An offset
+    that doesn't fit into a word of so many bytes is a fault."""
     constants = dict(re.findall(r"DWEXPR_(\w+) = (\d+)", (TOP / "include/dwexpr.h").read_text()))
     lines = []
     for vector in json.loads((TOP / "tests/vectors/decode.json").read_text()):
+        if not fits(vector, word):
+            vector = {"in": vector["in"], "bytes": vector["bytes"], "code": "UNSUPPORTED_OFFSET"}
         kind = f"OP_{vector['kind']}" if "kind" in vector else "OP_NONE"
         numbers = [constants[vector.get("code", "OK")], constants[kind], *(vector.get(field, 0) for field in FIELDS)]
         numbers += [*vector.get("block", [0, 0]), vector.get("detail", 0)]
@@ -140,9 +160,10 @@ def names():
     return "\n".join(f"{numbers[name]} {name}" for name in numbers)
 
 
-def callers(folder, library, kinds, cc=("cc",), runner=(), without=()):
-    """Builds the callers with a library, in each of these kinds, by a compiler, and runs them by a runner."""
-    given = {"decode": vectors(), "cut": expressions(), "names": names()}
+def callers(folder, library, kinds, cc=("cc",), runner=(), without=(), word=8):
+    """Builds the callers with a library, in each of these kinds, by a compiler, and runs them by a runner. A word of the
+    machine has so many bytes."""
+    given = {"decode": vectors(word), "cut": expressions(), "names": names()}
     for kind, words in kinds.items():
         (folder / f"library{kind}").mkdir(parents=True)
         libraries.build("run", folder / f"library{kind}", *words, cc=cc)

@@ -194,9 +194,9 @@ static void evaluate(const struct block *met, size_t count, dwexpr_evaluation *h
     while (code == DWEXPR_OK && length < MOST + 2) {
         dwexpr_step *step = &steps[length];
         code = dwexpr_evaluate(texts, TEXTS, encoding, steps, length, &other, again, DWEXPR_MAX_PIECES);
-        bad += memcmp(&outcome, &other, sizeof other) != 0;
+        bad += !same_outcome(&outcome, &other);
         if (outcome.request == DWEXPR_COMPLETE) {
-            bad += memcmp(pieces, again, outcome.pieces * sizeof *pieces) != 0;
+            bad += !same_pieces(pieces, again, outcome.pieces);
             bad += next(met, count, &at, 0) != NULL;
             compare_pieces(met, count, &outcome, pieces);
             return;
@@ -318,7 +318,7 @@ static void make_deep(dwexpr_evaluation *held)
 /* ---- each place, text and branch up to a bound, and then those about each power of two */
 
 /* The bytes of a text, and of a table of texts: zero, and nearly all of them are never touched. */
-#define ROOM ((size_t)1 << 32)
+#define ROOM ((size_t)1 << (sizeof(size_t) == 8 ? 32 : 28))
 static uint8_t *room;
 static dwexpr_text *table;
 
@@ -363,7 +363,7 @@ static int is_shown(dwexpr_evaluation *held, size_t called, size_t offset, size_
     dwexpr_evaluation_start(held, table, called + 1, encoding, steps, 1, &outcome, pieces, 2);
     if (called)
         dwexpr_evaluation_resume(held, table, called + 1, steps[1], &outcome, pieces, 2);
-    if (memcmp(&outcome, &other, sizeof other) || memcmp(pieces, again, outcome.pieces * sizeof *pieces))
+    if (!same_outcome(&outcome, &other) || !same_pieces(pieces, again, outcome.pieces))
         return 0;
     if (outcome.request == DWEXPR_WANTS_ENTRY_VALUE)
         return is_at(&want, outcome.block_text, outcome.block_offset, outcome.block_length);

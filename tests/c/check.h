@@ -54,6 +54,28 @@ static inline size_t bytes_of(const char *digits, uint8_t *bytes)
     return count;
 }
 
+/* Whether two structs have the same fields. There may be room between them that nothing sets. */
+static inline int same_outcome(const dwexpr_outcome *a, const dwexpr_outcome *b)
+{
+    return a->code == b->code && a->request == b->request && a->detail == b->detail && a->step == b->step &&
+           a->number == b->number && a->base_type == b->base_type && a->space == b->space &&
+           a->register_number == b->register_number && a->size == b->size && a->flag == b->flag &&
+           a->value_type == b->value_type && a->value == b->value && a->block_text == b->block_text &&
+           a->block_offset == b->block_offset && a->block_length == b->block_length && a->pieces == b->pieces;
+}
+
+static inline int same_pieces(const dwexpr_piece *a, const dwexpr_piece *b, size_t count)
+{
+    for (; count; a++, b++, count--)
+        if (a->kind != b->kind || a->has_size != b->has_size || a->size_in_bits != b->size_in_bits ||
+            a->bit_offset != b->bit_offset || a->has_bit_offset != b->has_bit_offset ||
+            a->value_type != b->value_type || a->number != b->number || a->byte_offset != b->byte_offset ||
+            a->block_text != b->block_text || a->block_offset != b->block_offset ||
+            a->block_length != b->block_length)
+            return 0;
+    return 1;
+}
+
 /* The next made-up number, of the same series in each run. */
 static inline uint64_t any(void)
 {

@@ -59,11 +59,10 @@ static void hold(dwexpr_encoding encoding, size_t texts_length)
     check(code == held.code, name, "held: the code that is given back is the outcome's");
     if (outcome.request > DWEXPR_COMPLETE && last >= DWEXPR_SET_INITIAL_VALUE && last < DWEXPR_EVALUATE)
         return;
-    check(!memcmp(&held, &outcome, sizeof held), name, "held: the outcome");
-    check(code || !memcmp(places, pieces, sizeof places), name, "held: the pieces");
+    check(same_outcome(&held, &outcome), name, "held: the outcome");
+    check(code || same_pieces(places, pieces, sizeof places / sizeof *places), name, "held: the pieces");
 }
 
-/* No struct has padding, so that they are compared as bytes. */
 static void run(dwexpr_encoding encoding, size_t texts_length)
 {
     uint32_t code;
@@ -76,8 +75,8 @@ static void run(dwexpr_encoding encoding, size_t texts_length)
 
 static void expect(void)
 {
-    check(!memcmp(&outcome, &want, sizeof want), name, "the outcome");
-    if (memcmp(&outcome, &want, sizeof want))
+    check(same_outcome(&outcome, &want), name, "the outcome");
+    if (!same_outcome(&outcome, &want))
         printf("    code %u request %u detail %llu step %zu number %#llx pieces %zu\n", outcome.code, outcome.request,
                (unsigned long long)outcome.detail, outcome.step, (unsigned long long)outcome.number, outcome.pieces);
     memset(&want, 0, sizeof want);
@@ -97,7 +96,7 @@ static void expect_pieces(size_t count, const dwexpr_piece *wanted)
 {
     size_t i;
     for (i = 0; i < count; i++)
-        check(!memcmp(&pieces[i], &wanted[i], sizeof *pieces), name, "a piece");
+        check(same_pieces(&pieces[i], &wanted[i], 1), name, "a piece");
     check(untouched(&pieces[count]), name, "no more pieces are written");
 }
 
@@ -406,7 +405,7 @@ static void holding(void)
 
     name = "the size";
     check(dwexpr_evaluation_size() <= DWEXPR_EVALUATION_SIZE, name, "at most");
-    check(dwexpr_evaluation_size() + 512 > DWEXPR_EVALUATION_SIZE, name, "not much less");
+    check(sizeof(size_t) == 4 || dwexpr_evaluation_size() + 512 > DWEXPR_EVALUATION_SIZE, name, "not much less");
 
     name = "not started";
     unstarted.memory = more;

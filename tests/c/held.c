@@ -86,8 +86,9 @@ int main(void)
             dwexpr_evaluate(texts, 3, encoding, steps, count, &outcome, pieces, PLACES);
             /* after a setting in a request the one that is held shows nothing */
             if (!(outcome.request > DWEXPR_COMPLETE && is_setting(steps[count - 1].kind))) {
-                differ += memcmp(&held, &outcome, sizeof held) != 0;
-                differ += outcome.request == DWEXPR_COMPLETE && memcmp(places, pieces, sizeof places) != 0;
+                differ += !same_outcome(&held, &outcome);
+                differ += outcome.request == DWEXPR_COMPLETE &&
+                          !same_pieces(places, pieces, sizeof places / sizeof *places);
             }
             complete += outcome.request == DWEXPR_COMPLETE;
             faults += outcome.code != DWEXPR_OK;

@@ -1,5 +1,5 @@
 -- The texts that a caller gives, and where in them bytes are.
-use Rattle.std.specs.Prelude.{ℕ, ◌+◌, ◌≡◌, ◌==◌, ◌≤◌, Bool, List, Option, Some, length, option_map, slice_get, slice_range, Any}
+use Rattle.std.specs.Prelude.{ℕ, ◌+◌, ◌%◌, ◌≡◌, ◌==◌, ◌≤◌, Bool, List, Option, Some, length, option_map, slice_get, slice_range, Any}
 use Rattle.dwarf_base.specs.Reads.{Text}
 use Rattle.dwexpr_c.specs.declared.places.Placed.{Placed}
 use Rattle.dwexpr_c.specs.declared.steps.DwexprText.{DwexprText}
@@ -9,7 +9,7 @@ use Rattle.dwarf_meaning.specs.Steps.{Reply, RequestReply}
 
 -- a reader as a text
 abbrev pub text_of_placed : Placed → Text
-text_of_placed placed = record { bytes = placed.bytes.now; is_big = placed.big == 1 }
+text_of_placed placed = record { bytes = placed.bytes.now; is_big = placed.home % 2 == 1 }
 
 -- a text of the caller's, in a byte order
 abbrev pub text_in : (big : Bool) → DwexprText → Text

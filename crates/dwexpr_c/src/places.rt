@@ -1,4 +1,4 @@
-ghost use Rattle.std.specs.Prelude.{◌≡◌, ◌==◌, ◌≤◌, ◌-◌, ◌/◌, ◌%◌, ◌^◌, length, drop};
+ghost use Rattle.std.specs.Prelude.{◌≡◌, ◌==◌, ◌≤◌, ◌-◌, ◌/◌, ◌%◌, length, drop};
 ghost use Rattle.dwarf_base.specs.ByteOrder.{is_big_of};
 ghost use Rattle.dwarf_base.specs.EndianSlice.{slice_bytes, slice_order};
 ghost use Rattle.dwexpr_c.specs.CallerTexts.{text_of_placed};
@@ -6,19 +6,16 @@ ghost use Rattle.dwexpr_c.specs.CallerTexts.{text_of_placed};
 use dwarf_base::{EndianSlice, Reader, Result, RunTimeEndian};
 
 /// Bytes of one of a caller's texts, and where in the texts they should end.
-// Each field is whole words: the compiler keeps those in registers, but not a small field and the room after it.
+// Each field is whole words, and they are four: the compiler keeps such a reader in registers.
 #[derive(Clone, Copy, Debug, Default)]
 pub(crate) struct Placed<'a> {
     bytes: &'a [u8],
-    /// 1 if the byte order is big.
-    big: usize,
-    /// The index of the text times `PLACES`, plus where in it they should end. In a text of more bytes that is another
-    /// place, which is taken only if it has the same bytes.
+    /// Where in the text they should end.
     end: usize,
+    /// Twice the index of the text, and 1 more if the byte order is big. Memory has no room for more texts than that
+    /// tells apart.
+    home: usize,
 }
-
-/// How many places of a text are told apart.
-const PLACES: usize = 0x1_0000_0000;
 
 impl<'a> Placed<'a> {
     /// All bytes of the text at this index.
@@ -27,11 +24,11 @@ impl<'a> Placed<'a> {
     {
         Placed {
             bytes,
-            big: match order {
+            end: bytes.len(),
+            home: text.wrapping_mul(2).wrapping_add(match order {
                 RunTimeEndian::Little => 0,
                 RunTimeEndian::Big => 1,
-            },
-            end: text.wrapping_mul(PLACES).wrapping_add(bytes.len()),
+            }),
         }
     }
 
@@ -44,24 +41,24 @@ impl<'a> Placed<'a> {
 
     /// The index of the text that they should be in. No contract says that they are.
     pub(crate) fn text(&self) -> usize
-        ensures { result ≡ self.now.end / 2 ^ 32 }
+        ensures { result ≡ self.now.home / 2 }
     {
-        self.end / PLACES
+        self.home / 2
     }
 
     /// Where in that text they should begin.
     pub(crate) fn place(&self) -> usize
-        ensures { result ≡ (self.now.end % 2 ^ 32) - length self.now.bytes.now }
+        ensures { result ≡ self.now.end - length self.now.bytes.now }
     {
-        (self.end % PLACES).saturating_sub(self.bytes.len())
+        self.end.saturating_sub(self.bytes.len())
     }
 
     #[inline]
     fn slice(&self) -> EndianSlice<'a, RunTimeEndian>
         ensures bytes { slice_bytes result ≡ self.now.bytes.now }
-        ensures order { is_big_of (slice_order result) ≡ (self.now.big == 1) }
+        ensures order { is_big_of (slice_order result) ≡ (self.now.home % 2 == 1) }
     {
-        let order = if self.big == 1 {
+        let order = if self.home % 2 == 1 {
             RunTimeEndian::Big
         } else {
             RunTimeEndian::Little
@@ -74,7 +71,7 @@ impl<'a> Placed<'a> {
     fn advance(&mut self, count: usize)
         requires { count ≤ length self.old.bytes.now }
         ensures bytes { self.new.bytes.now ≡ drop count self.old.bytes.now }
-        ensures order { self.new.big ≡ self.old.big }
+        ensures order { self.new.home ≡ self.old.home }
     {
         self.bytes = &self.bytes[count..];
     }

@@ -18,6 +18,8 @@ use Rattle.dwarf_op.specs.declared.locations.Location.{Location}
 use Rattle.dwarf_op.specs.declared.locations.Piece.{Piece}
 use Rattle.dwarf_eval.specs.declared.run.operators.UnaryOperator.{UnaryOperator}
 use Rattle.dwarf_eval.specs.declared.run.operators.UnaryOperator.TheVariants as one
+use Rattle.dwarf_eval.specs.declared.run.binary.BinaryKind.{BinaryKind}
+use Rattle.dwarf_eval.specs.declared.run.binary.BinaryKind.TheVariants as two
 use Rattle.dwarf_eval.specs.declared.run.states.LastOperation.{LastOperation}
 use Rattle.dwarf_eval.specs.declared.run.states.LastOperation.TheVariants as last
 use Rattle.dwarf_eval.specs.declared.run.states.OnAnswer.{OnAnswer}
@@ -92,3 +94,23 @@ abbrev pub operator_of : UnaryOperator → meant_value.UnaryOperator
 operator_of one.Abs = meant_value.Abs
 operator_of one.Neg = meant_value.Neg
 operator_of one.Not = meant_value.Not
+
+-- an operator on two values, as the definitions have it
+abbrev pub binary_operator_of : BinaryKind → meant_value.BinaryOperator
+binary_operator_of two.And = meant_value.And
+binary_operator_of two.Div = meant_value.Div
+binary_operator_of two.Minus = meant_value.Minus
+binary_operator_of two.Mod = meant_value.Mod
+binary_operator_of two.Mul = meant_value.Mul
+binary_operator_of two.Or = meant_value.Or
+binary_operator_of two.Plus = meant_value.Plus
+binary_operator_of two.Shl = meant_value.Shl
+binary_operator_of two.Shr = meant_value.Shr
+binary_operator_of two.Shra = meant_value.Shra
+binary_operator_of two.Xor = meant_value.Xor
+binary_operator_of two.Eq = meant_value.Eq
+binary_operator_of two.Ge = meant_value.Ge
+binary_operator_of two.Gt = meant_value.Gt
+binary_operator_of two.Le = meant_value.Le
+binary_operator_of two.Lt = meant_value.Lt
+binary_operator_of two.Ne = meant_value.Ne

@@ -135,10 +135,10 @@ impl<R: Reader + Copy, S: EvaluationStorage<R>> Machine<R, S> {
     pub(crate) fn pop_generics(&mut self) -> Option<(u64, u64)>
         ensures { PopsGenerics result self.old self.new }
     {
-        let Some(Value::Generic(right)) = self.value_at(0) else {
+        let Some(Value::Generic(left)) = self.value_at(1) else {
             return None;
         };
-        let Some(Value::Generic(left)) = self.value_at(1) else {
+        let Some(Value::Generic(right)) = self.value_at(0) else {
             return None;
         };
         self.pop();

@@ -11,11 +11,11 @@ ghost use Rattle.dwarf_meaning.specs.Inputs.{with_status};
 ghost use Rattle.dwarf_eval.specs.Evaluation.{request_in};
 ghost use Rattle.dwarf_eval.specs.inner.Machine.{on_answer_of};
 ghost use Rattle.dwarf_op.specs.Views.{location_of};
-ghost use Rattle.dwarf_eval.specs.inner.Machine.{operator_of};
+ghost use Rattle.dwarf_eval.specs.inner.Machine.{binary_operator_of, operator_of};
 ghost use Rattle.dwarf_eval.specs.inner.StateChanges.{Asks, Performs, PopsNumber, PushesAllPlain, PushesPlain, Tries, act_of, at};
 
 use crate::op::EvaluationResult;
-use crate::run::binary::BinaryOperator;
+use crate::run::binary::{BinaryKind, BinaryOperator};
 use crate::run::machine::Machine;
 use crate::run::operators::UnaryOperator;
 use crate::run::states::OnAnswer;
@@ -103,7 +103,7 @@ impl<R: Reader + Copy, S: EvaluationStorage<R>> Machine<R, S> {
             self.old self.new }
     {
         let Some((left, right)) = self.pop_generics() else {
-            self.compute_typed::<O>();
+            self.compute_typed(O::kind());
             return;
         };
         match O::apply(
@@ -118,10 +118,10 @@ impl<R: Reader + Copy, S: EvaluationStorage<R>> Machine<R, S> {
 
     /// The same, of values of any types.
     #[inline(never)]
-    fn compute_typed<O: BinaryOperator>(&mut self)
+    fn compute_typed(&mut self, kind: BinaryKind)
         requires { self.old.status ≡ Running }
         ensures { Performs
-            (binary (binary_of O.operator (address_bits self.old.setup)) self.old.store.values)
+            (binary (binary_of (binary_operator_of kind) (address_bits self.old.setup)) self.old.store.values)
             self.old self.new }
     {
         let Some(right) = self.pop() else {
@@ -132,7 +132,7 @@ impl<R: Reader + Copy, S: EvaluationStorage<R>> Machine<R, S> {
             self.fall_short();
             return;
         };
-        match O::apply(left, right, self.addr_mask()) {
+        match kind.apply(left, right, self.addr_mask()) {
             Ok(computed) => self.push_plain(computed),
             Err(error) => self.fail(error),
         }

@@ -1,13 +1,18 @@
-use Rattle.std.proofs.Common.{◌∙◌, sym}
+use Rattle.std.proofs.Common.{◌∙◌, sym, subst}
 use Rattle.dwarf_value.specs.declared.types.Value.TheVariants.{Generic}
 use Rattle.dwarf_value.specs.Values.{binary_of}
+use Rattle.dwarf_meaning.specs.Acts.{binary}
+use Rattle.dwarf_meaning.specs.Stores.{address_bits}
+use Rattle.dwarf_eval.specs.inner.Machine.{binary_operator_of}
+use Rattle.dwarf_eval.specs.inner.StateChanges.{Performs}
 use Rattle.dwarf_eval.proofs.Computes.{binary_pushes, binary_refuses, same_binary}
 use Rattle.dwarf_eval.proofs.Performances.{same_two}
 use Rattle.dwarf_eval.proofs.run.machine.Machine.compute_binary.Goals as goal
 
 pub returns-in_default : goal.returns-in_default
 returns-in_default g c =
-    same_binary (binary_of g.O.BinaryOperator.operator) c.args.self.now c.pop_generics.new.self c.compute_typed.new.self c.in_default.ensures c.compute_typed.ensures
+    subst (λ op. Performs (binary (binary_of op (address_bits c.args.self.now.setup)) c.args.self.now.store.values) c.args.self.now c.compute_typed.new.self) c.kind.ensures
+    (same_binary (binary_of (binary_operator_of c.kind.result)) c.args.self.now c.pop_generics.new.self c.compute_typed.new.self c.in_default.ensures c.compute_typed.ensures)
 
 pub returns-in-Ok : goal.returns-in-Ok
 returns-in-Ok g c =

@@ -1,6 +1,7 @@
 use Rattle.std.proofs.Common.{None, Some, ◌∙◌, sym}
 use Rattle.dwarf_base.specs.declared.errors.Error.TheVariants.{NotEnoughStackItems}
 use Rattle.dwarf_value.specs.Values.{binary_of}
+use Rattle.dwarf_eval.specs.inner.Machine.{binary_operator_of}
 use Rattle.dwarf_eval.proofs.Performances.{performs_refuses, pops_one, pops_two}
 use Rattle.dwarf_eval.proofs.Computes.{binary_none, binary_one, binary_pushes, binary_refuses}
 use Rattle.dwarf_eval.proofs.Staying.{stays_more, stays_popped}
@@ -19,12 +20,12 @@ returns-in_default-pop g c =
 
 pub returns-in-Ok : goal.returns-in-Ok
 returns-in-Ok g c =
-    binary_pushes (binary_of g.O.BinaryOperator.operator) c.args.self.now c.pop-2.new.self c.in-Some.right c.in-Some-pop.left _
+    binary_pushes (binary_of (binary_operator_of c.args.kind)) c.args.self.now c.pop-2.new.self c.in-Some.right c.in-Some-pop.left _
     (pops_two c.in-Some.right c.in-Some-pop.left c.args.self.now c.pop.new.self c.pop-2.new.self c.in-Some.ensures c.in-Some-pop.ensures) c.addr_mask.ensures.width
     c.push_plain.new.self c.in-Ok.computed c.requires (sym c.in-Ok.is ∙ c.apply.ensures) c.push_plain.ensures
 
 pub returns-in-Err : goal.returns-in-Err
 returns-in-Err g c =
-    binary_refuses (binary_of g.O.BinaryOperator.operator) c.args.self.now c.pop-2.new.self c.in-Some.right c.in-Some-pop.left _
+    binary_refuses (binary_of (binary_operator_of c.args.kind)) c.args.self.now c.pop-2.new.self c.in-Some.right c.in-Some-pop.left _
     (pops_two c.in-Some.right c.in-Some-pop.left c.args.self.now c.pop.new.self c.pop-2.new.self c.in-Some.ensures c.in-Some-pop.ensures) c.addr_mask.ensures.width
     c.in-Err.error c.fail.new.self (sym c.in-Err.is ∙ c.apply.ensures) c.fail.ensures

@@ -8,6 +8,7 @@
 - include: the headers, without a warning as C11, C17 and C++17. The structs of the crate have the fields of dwexpr.h,
   by name, type and order, and so the places that it asserts.
 - examples/decode.c is compared with what it is to print.
+- The archive needs `memset`, and nothing else that it doesn't define.
 
 It wants cc; what else is missing is left out, and said so. The last line is `N passed, M failed`.
 """
@@ -15,6 +16,7 @@ It wants cc; what else is missing is left out, and said so. The last line is `N 
 import json
 import pathlib
 import re
+import shutil
 import sys
 import tempfile
 
@@ -235,6 +237,13 @@ def decode(folder):
         expect(done.returncode == 2 and not done.stdout, "examples/decode.c, bad words", done.stdout + done.stderr)
 
 
+def needs():
+    if not shutil.which("nm"):
+        return left_out("what the archive needs", "nm")
+    needed = re.findall(r"^ +U (\w+)$", commands.run("nm", "-u", ARCHIVE), re.MULTILINE)
+    return expect(needed == ["memset"], "what the archive needs", f"{needed}")
+
+
 def main():
     commands.words_of(__doc__)
     commands.need("cc")
@@ -244,6 +253,7 @@ def main():
         folder = pathlib.Path(name)
         check_headers("dwexpr_run.h")
         layout()
+        needs()
         callers(folder, ARCHIVE, KINDS)
         decode(folder)
 

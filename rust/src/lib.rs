@@ -37,7 +37,7 @@ extern crate alloc;
 #[allow(clippy::derivable_impls, clippy::module_inception, clippy::redundant_pattern_matching)]
 #[allow(clippy::should_implement_trait, clippy::upper_case_acronyms)]
 // Only a list on the heap gives its pieces away.
-#[cfg_attr(not(feature = "alloc"), allow(dead_code))]
+#[cfg_attr(not(feature = "alloc"), allow(dead_code, unused_imports))]
 // The names of opcodes are the standard's.
 #[allow(non_upper_case_globals)]
 // It is laid out as it is compared with its sources.
@@ -59,6 +59,8 @@ mod orders;
 mod requests;
 mod slices;
 mod storage;
+#[cfg(feature = "alloc")]
+mod unproved_growth;
 mod values;
 
 /// The numbers that DWARF gives to operations and encodings, by the standard's names.

@@ -1,5 +1,5 @@
 -- Lists that may have a limit.
-use Rattle.std.specs.Prelude.{ℕ, ◌<◌, ◌≡◌, List, Option, Some, None}
+use Rattle.std.specs.Prelude.{ℕ, ◌<◌, ◌≡◌, List, Option, Some, None, [], max}
 
 -- a list of n items has room for one more, as far as its limit goes
 abbrev pub HasRoom : Option ℕ → ℕ → Type 0
@@ -15,3 +15,18 @@ MayRefuse (Some limit) n = n ≡ limit
 pub record Lent (X : Type 0) : Type 0 where
   pub items : List X
   pub capacity : ℕ
+
+-- a list that may have a limit: what it holds, and the limit
+pub record Limited (X : Type 0) : Type 0 where
+  pub items : List X
+  pub limit : Option ℕ
+
+-- the limit of a list that holds one item itself, over another one with this limit
+abbrev pub at_least_one : Option ℕ → Option ℕ
+at_least_one None = None
+at_least_one (Some limit) = Some (max 1 limit)
+
+-- the item that a list holds itself, if there is one
+abbrev pub one_of : {X : Type 0} → Option (List X) → List X
+one_of None = []
+one_of (Some xs) = xs

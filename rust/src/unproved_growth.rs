@@ -1,0 +1,40 @@
+//! The list on the heap, which isn't proved: std's `Vec` has no push that gives the item back if memory is refused.
+
+use crate::sources::eval::store::ArrayLike;
+use alloc::vec::Vec;
+
+impl<T: Copy> ArrayLike for Vec<T> {
+    type Item = T;
+
+    #[inline(always)]
+    fn len(&self) -> usize {
+        Vec::len(self)
+    }
+
+    #[inline(always)]
+    fn as_slice(&self) -> &[T] {
+        Vec::as_slice(self)
+    }
+
+    #[inline(always)]
+    fn pop(&mut self) -> Option<T> {
+        Vec::pop(self)
+    }
+
+    #[inline(always)]
+    fn push(&mut self, item: T) -> Result<(), T> {
+        if self.len() == self.capacity() && !grow(self) {
+            return Err(item);
+        }
+        Vec::push(self, item);
+        Ok(())
+    }
+}
+
+/// Makes room for one more item; `false` if memory is refused. It isn't handed the item, which would have to be written
+/// to memory for it.
+#[cold]
+#[inline(never)]
+fn grow<T>(list: &mut Vec<T>) -> bool {
+    list.try_reserve(1).is_ok()
+}

@@ -1,3 +1,5 @@
+//! The order of the bytes of a number.
+
 ghost use Rattle.std.specs.Prelude.{◌≡◌, Bool, true, false};
 ghost use Rattle.dwarf_base.specs.ByteOrder.{is_big_of};
 

@@ -1,3 +1,5 @@
+//! What expressions are read by, and what they refer to: encodings, registers, offsets and indices.
+
 ghost use Rattle.dwarf_base.specs.Faults.{Returns};
 ghost use Rattle.dwarf_base.specs.Numbers.{register_of};
 

@@ -1,3 +1,5 @@
+//! Offsets: numbers that are as wide as a reader's.
+
 ghost use Rattle.std.specs.Prelude.{◌≡◌, ℕ, ◌+◌, ◌%◌, ◌^◌, ◌<◌, ◌≤◌};
 ghost use Rattle.dwarf_base.specs.Faults.{Returns};
 ghost use Rattle.dwarf_base.specs.Numbers.{residue, offset_of};

@@ -1,3 +1,5 @@
+//! Readers: a text, and the reads at its front (DWARF 5, sections 7.4 and 7.6).
+
 ghost use Rattle.std.specs.Prelude.{◌≡◌, [], length, ◌-◌, ◌^◌, ◌<◌, ◌==◌, IfOk, IsTrue, pos, neg_ℤ, ◌≤ℤ◌, ◌<ℤ◌};
 ghost use Rattle.dwarf_base.specs.Leb.{uleb_at, uleb_u32_at, sleb_at, leb_from, sign_extension, unsigned_leb, signed_leb};
 ghost use Rattle.dwarf_base.specs.Reads.{Reads, Text, IsSuffix, u8_at, split_at, skip_at, fixed_at, signed_at, address_at, format_at, is_fixed_size};

@@ -1,3 +1,5 @@
+//! A reader over a slice of bytes.
+
 ghost use Rattle.std.specs.Prelude.{◌≡◌, ◌<◌, ◌^◌, [], IfOk, OnErr, IsTrue};
 ghost use Rattle.dwarf_base.specs.EndianSlice.{slice_bytes, slice_order, text_of};
 ghost use Rattle.dwarf_base.specs.Reads.{Gives, IsSuffix, Reads, split_at, skip_at, fixed_at, is_fixed_size};

@@ -1,3 +1,5 @@
+//! Rows that show how tight the bounds are.
+
 ghost use Rattle.std.specs.Prelude.{◌≡◌, ◌<◌, [], ◌∷◌, None, Some, length};
 ghost use Rattle.dwarf_value.specs.declared.types.Value.TheVariants.{Generic};
 ghost use Rattle.dwarf_meaning.specs.Locations.{AtAddress, InRegister};

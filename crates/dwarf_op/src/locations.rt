@@ -1,3 +1,5 @@
+//! Locations, and pieces (DWARF 5, section 2.6).
+
 ghost use Rattle.std.specs.Prelude.{◌≡◌, ◌↔◌, IsTrue, None};
 
 use dwarf_base::{DebugInfoOffset, Reader, Register};

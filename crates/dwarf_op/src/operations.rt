@@ -1,3 +1,5 @@
+//! The operations (DWARF 5, sections 2.5 and 2.6).
+
 ghost use Rattle.std.specs.Prelude.{◌≡◌, ⊤};
 
 use dwarf_base::{DebugAddrIndex, DebugInfoOffset, Reader, Register, UnitOffset};

@@ -1,3 +1,5 @@
+//! One step of an evaluation.
+
 ghost use Rattle.dwarf_meaning.specs.Steps as meaning;
 ghost use Rattle.dwarf_replay.specs.Stepping.{IsStepped, step_of};
 

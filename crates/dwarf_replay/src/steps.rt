@@ -1,3 +1,5 @@
+//! Steps, and what they come to.
+
 ghost use Rattle.std.specs.Prelude.{◌≡◌, Ok};
 
 use dwarf_base::{Reader, Result};

@@ -1,3 +1,5 @@
+//! An allocator that refuses memory in turn.
+
 use std::alloc::{AllocError, Allocator};
 use std::cell::Cell;
 

@@ -1,3 +1,5 @@
+//! Tests of equality and of hashes.
+
 use dwarf_base::{
     EndianSlice, Endianity, LittleEndian, RunTimeEndian, UnitOffset, constant_laws, equality_laws,
     offset_equality_laws, slice_equality_laws,

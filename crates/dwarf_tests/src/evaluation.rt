@@ -1,3 +1,5 @@
+//! Tests of evaluations: each request, and each way to an end.
+
 ghost use Rattle.std.specs.Prelude.{◌≡◌, ◌≤◌, [], None};
 ghost use Rattle.dwarf_meaning.specs.Rest.{Start};
 

@@ -1,3 +1,5 @@
+//! Tests of decoding, and of the iterator.
+
 ghost use Rattle.std.specs.Prelude.{length, ◌<◌, ◌^◌, false};
 ghost use Rattle.dwarf_base.specs.EndianSlice.{slice_bytes};
 

@@ -1,3 +1,5 @@
+//! Tests of evaluations over readers of their own, which count reads.
+
 ghost use Rattle.std.specs.Prelude.{◌≡◌, None, false};
 ghost use Rattle.dwarf_base.specs.EndianSlice.{text_of};
 ghost use Rattle.dwarf_meaning.specs.Rest.{Start};

@@ -1,3 +1,5 @@
+//! Tests of reads.
+
 use dwarf_base::constants::{DW_ATE_signed, DW_OP_GNU_variable_value, DW_OP_addr, DW_OP_lit31};
 use dwarf_base::{
     BigEndian, DebugAddrIndex, DebugInfoOffset, DwAte, DwOp, EndianSlice, Endianity, Error, Format,

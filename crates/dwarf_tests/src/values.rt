@@ -1,3 +1,5 @@
+//! Tests of calls on values.
+
 ghost use Rattle.dwarf_value.specs.Values.{IsAddressMask};
 
 use Call::{

@@ -1,3 +1,5 @@
+//! Sums, differences, products, quotients and remainders of values.
+
 ghost use Rattle.std.specs.Prelude.{◌≡◌, ◌≢◌, pos, ◌+ℤ◌, ◌-ℤ◌, ◌*ℤ◌, int_div, int_rem, MatchResult};
 ghost use Rattle.dwarf_base.specs.Numbers.{residue};
 ghost use Rattle.dwarf_value.specs.inner.OperandPairs.{IsIn64, AreDivided, UnfitDivision};

@@ -1,3 +1,5 @@
+//! Laws of values.
+
 ghost use Rattle.std.specs.Prelude.{◌≡◌, ℕ, pos, negsuc, Result, Ok, Err};
 ghost use Rattle.dwarf_base.specs.Equality.{IsEquality};
 ghost use Rattle.dwarf_base.specs.declared.errors.Error.{Error};

@@ -1,3 +1,5 @@
+//! Values, and their types.
+
 ghost use Rattle.std.specs.Prelude.{◌≡◌, ◌/◌, IsTrue};
 ghost use Rattle.dwarf_base.specs.Reads.{is_fixed_size};
 ghost use Rattle.dwarf_value.specs.Values.{IsAddressMask, width_of, type_of, bit_size_of, is_signed, from_encoding_of};

@@ -1,3 +1,5 @@
+//! A value as a word: its bits, its width, and whether it has a sign.
+
 ghost use Rattle.std.specs.Prelude.{◌≡◌, ◌<◌, ◌≤◌, ◌-◌, ◌^◌, ◌%◌, pos, neg_ℤ, ◌≤ℤ◌, ◌<ℤ◌, MatchResult};
 ghost use Rattle.dwarf_base.specs.Numbers.{residue};
 ghost use Rattle.dwarf_value.specs.inner.OperandPairs.{IsIn64, AreOperands, UnfitOperands};

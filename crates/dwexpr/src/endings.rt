@@ -1,3 +1,5 @@
+//! The lines that end a run of the program.
+
 ghost use Rattle.std.specs.Prelude.{◌<◌, ◌-◌, ◌^◌};
 ghost use Rattle.dwexpr.specs.Endings as endings;
 ghost use Rattle.dwexpr.specs.inner.Outputs.{WritesEnding};

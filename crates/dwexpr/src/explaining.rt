@@ -1,3 +1,5 @@
+//! What the program says on standard error.
+
 // What the program says on standard error. No contract speaks of it, and what can't be written there is lost.
 ghost use Rattle.std.specs.Prelude.{◌≡◌};
 

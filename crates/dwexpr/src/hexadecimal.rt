@@ -1,3 +1,5 @@
+//! Bytes from pairs of hexadecimal digits.
+
 ghost use Rattle.std.specs.Prelude.{◌≡◌, ◌%◌, ◌↔◌, IfErr, IfOk, IsSome, IsTrue, None, Some, [], ◌∷◌, length};
 ghost use Rattle.std.specs.List.{AllPass};
 ghost use Rattle.hex.specs.Hex.{is_hex_digit};

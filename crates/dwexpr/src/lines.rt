@@ -1,3 +1,5 @@
+//! Replies, pieces, values and faults as lines.
+
 ghost use Rattle.std.specs.Option.{option_map_or};
 ghost use Rattle.std.specs.Prelude.{◌≡◌, [], ◌∷◌, decimal, codes, if◌then◌else◌};
 ghost use Rattle.dwarf_base.specs.EndianSlice.{slice_text};

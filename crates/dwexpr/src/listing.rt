@@ -1,3 +1,5 @@
+//! The listing of an expression's operations.
+
 ghost use Rattle.std.specs.Prelude.{◌≡◌};
 ghost use Rattle.dwarf_base.specs.ByteOrder.{is_big_of};
 ghost use Rattle.dwarf_meaning.specs.Operands.{context_of};

@@ -1,3 +1,5 @@
+//! Numbers in the input.
+
 ghost use Rattle.std.specs.Prelude.{◌≡◌, ◌≤◌, option_and_then};
 ghost use Rattle.dwexpr.specs.StepLines.{below, integer_in, number_in, numeral_in};
 

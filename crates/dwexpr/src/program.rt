@@ -1,3 +1,5 @@
+//! The program: from its words and its input to its output and its status.
+
 ghost use Rattle.std.specs.IoError.{error_kind};
 ghost use Rattle.std.specs.Prelude.{◌≡◌, ◌<◌, ◌≤◌, ◌-◌, ◌^◌, length, map, None, string_bytes};
 ghost use Rattle.std.specs.Result.{result_unwrap_or};

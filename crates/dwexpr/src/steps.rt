@@ -1,3 +1,5 @@
+//! The step that a line says.
+
 ghost use Rattle.std.specs.Prelude.{◌≡◌, option_and_then, option_map};
 ghost use Rattle.std.specs.Result.{result_ok};
 ghost use Rattle.dwarf_base.specs.EndianSlice.{slice_text};

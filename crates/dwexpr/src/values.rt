@@ -1,3 +1,5 @@
+//! Types and values in the input.
+
 ghost use Rattle.std.specs.Prelude.{◌≡◌};
 ghost use Rattle.dwexpr.specs.StepLines.{type_in, value_in, value_of_type};
 

@@ -1,3 +1,5 @@
+//! The program's words.
+
 ghost use Rattle.std.specs.Prelude.{◌≡◌, ◌<◌, ◌≤◌, IfErr, IfOk, None, map, string_bytes};
 ghost use Rattle.std.specs.Result.{result_ok};
 ghost use Rattle.dwexpr.specs.Words.{address_size_in, command_in, format_in, invocation_in, order_in, reading_in, version_in};

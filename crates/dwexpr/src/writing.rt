@@ -1,3 +1,5 @@
+//! A line's words, handed to a writer.
+
 ghost use Rattle.std.specs.Prelude.{◌≡◌, ◌<◌, ◌≤◌, ◌++◌, false, drop, map, decimal};
 ghost use Rattle.std.specs.Fmt.{digit_glyph, digits, signed_decimal};
 ghost use Rattle.dwarf_base.specs.EndianSlice.{slice_bytes};

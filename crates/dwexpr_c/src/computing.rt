@@ -1,3 +1,5 @@
+//! Calls on values.
+
 ghost use Rattle.std.specs.Prelude.{◌≡◌, None, Some};
 ghost use Rattle.dwarf_base.specs.ByteOrder.{is_big_of};
 ghost use Rattle.dwarf_value.specs.Values.{IsAddressMask, from_encoding_of, parse_of, width_of};

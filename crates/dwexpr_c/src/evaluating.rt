@@ -1,3 +1,5 @@
+//! Steps of an evaluation, and what is shown of them.
+
 ghost use Rattle.std.specs.Prelude.{◌≡◌, None, option_map, slice_get};
 ghost use Rattle.dwarf_base.specs.ByteOrder.{is_big_of};
 ghost use Rattle.dwarf_meaning.specs.Rest.{Start};

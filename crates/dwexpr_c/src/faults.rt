@@ -1,3 +1,5 @@
+//! The codes of faults and of arguments that aren't allowed.
+
 ghost use Rattle.std.specs.Prelude.{◌≡◌};
 ghost use Rattle.dwarf_base.specs.Faults.{fault_of};
 ghost use Rattle.dwexpr_c.specs.Codes.{code_of_fault, number_of_fault};

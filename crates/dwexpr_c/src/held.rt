@@ -1,3 +1,5 @@
+//! An evaluation in memory of the caller's.
+
 ghost use Rattle.std.specs.Prelude.{◌≡◌, Option, None, Some};
 ghost use Rattle.dwexpr_c.specs.declared.held.Held.{Held};
 ghost use Rattle.dwexpr_c.specs.Held.{IsUnstarted};

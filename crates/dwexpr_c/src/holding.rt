@@ -1,3 +1,5 @@
+//! The calls on an evaluation that is held.
+
 ghost use Rattle.std.specs.Mem.{type_size};
 ghost use Rattle.std.specs.Prelude.{◌≡◌, IsSomeAnd, None};
 ghost use Rattle.dwexpr_c.specs.Encodings.{IsEncoding, encoding_in, is_big_in};

@@ -1,3 +1,5 @@
+//! An outcome in numbers.
+
 ghost use Rattle.std.specs.Prelude.{◌≡◌, true, false};
 ghost use Rattle.dwarf_eval.specs.Evaluation.{ok_reply};
 ghost use Rattle.dwexpr_c.specs.Outcomes.{ShowsReply, request_outcome, complete_outcome, ended_outcome};

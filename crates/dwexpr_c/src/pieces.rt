@@ -1,3 +1,5 @@
+//! Pieces in numbers.
+
 ghost use Rattle.std.specs.Prelude.{◌≡◌, is_some, true, false, map, option_map, slice_get, unwrap_or};
 ghost use Rattle.dwarf_op.specs.Views.{location_of, piece_of};
 ghost use Rattle.dwexpr_c.specs.Outcomes.{AreWritten, ShowsLocation, piece_of_kind};

@@ -1,3 +1,5 @@
+//! The start of an evaluation, and the call that keeps nothing.
+
 ghost use Rattle.std.specs.Prelude.{◌≡◌, ◌<◌, ◌≤◌};
 ghost use Rattle.dwarf_base.specs.ByteOrder.{is_big_of};
 ghost use Rattle.dwarf_meaning.specs.Inputs.{fresh_state};

@@ -1,3 +1,5 @@
+//! Texts and steps in numbers, and where in the texts a block is.
+
 ghost use Rattle.std.specs.Prelude.{ℕ, ◌≡◌, Some, None, IfSome, IfNone, IfOk, IfErr, Ok, Err, ok_or, option_map, true, false};
 ghost use Rattle.dwarf_base.specs.ByteOrder.{is_big_of};
 ghost use Rattle.dwarf_replay.specs.Stepping as stepping;

@@ -1,3 +1,5 @@
+//! Types and values in numbers.
+
 ghost use Rattle.std.specs.Prelude.{◌≡◌};
 ghost use Rattle.dwexpr_c.specs.CodedValues.{shown_value, type_code, type_coded, value_coded};
 

@@ -1,3 +1,5 @@
+//! Evaluations whose lists are on the heap.
+
 ghost use Rattle.std.specs.Prelude.{◌≡◌, ◌<◌, ◌≤◌, None, map};
 ghost use Rattle.dwarf_eval.specs.Evaluation.{IsComplete, fresh_state};
 ghost use Rattle.dwarf_meaning.specs.Stores.{setup_of};

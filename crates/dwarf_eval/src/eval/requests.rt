@@ -1,3 +1,5 @@
+//! The request of a state, and its kind.
+
 ghost use Rattle.std.specs.Prelude.{◌≡◌, IfOk, option_map};
 ghost use Rattle.dwarf_meaning.specs.Kinds.{kind_of_request};
 ghost use Rattle.dwarf_eval.specs.inner.StateChanges.{HasReply};

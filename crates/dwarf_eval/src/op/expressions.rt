@@ -1,3 +1,5 @@
+//! An expression, and the iterator over its operations.
+
 ghost use Rattle.std.specs.Prelude.{◌≡◌, ◌-◌, length};
 ghost use Rattle.std.specs.Iterator.{item_count};
 ghost use Rattle.dwarf_base.specs.Reads.{IsRestOf, IsSuffix};

@@ -1,3 +1,5 @@
+//! The state of a run, and its smallest steps: the lists, the count, and reads of the running text.
+
 ghost use Rattle.std.specs.Prelude.{◌≡◌, ◌<◌, ◌≤◌, ◌+◌, ◌*◌, [], None, Some, Err, map, length, slice_get, false, true, OnOk, IfOk, IfErr};
 ghost use Rattle.dwarf_base.specs.Reads.{IsRestOf, Reads};
 ghost use Rattle.dwarf_base.specs.Faults.{fault_of};

@@ -1,3 +1,5 @@
+//! The operators on one value.
+
 ghost use Rattle.std.specs.Prelude.{◌≡◌};
 ghost use Rattle.dwarf_value.specs.Values.{IsAddressMask, width_of, unary_of};
 ghost use Rattle.dwarf_eval.specs.inner.Machine.{operator_of};

@@ -1,3 +1,5 @@
+//! Where an evaluation stands, and what is done with an answer.
+
 ghost use Rattle.std.specs.Prelude.{◌≡◌, ⊤};
 
 use crate::op::EvaluationResult;

@@ -1,3 +1,5 @@
+//! The turns of a run: operations, the pieces after them, and ends.
+
 ghost use Rattle.std.specs.Prelude.{◌≡◌, ◌<◌, length, false};
 ghost use Rattle.dwarf_base.specs.Reads.{IsRestOf};
 ghost use Rattle.dwarf_meaning.specs.Operations as meant;

@@ -1,3 +1,5 @@
+//! Lists on the heap.
+
 ghost use Rattle.std.specs.Prelude.{None};
 
 use super::lists::ArrayLike;

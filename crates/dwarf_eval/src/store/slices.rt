@@ -1,3 +1,5 @@
+//! A list over a slice that is lent.
+
 ghost use Rattle.std.specs.Prelude.{◌≡◌, [], length, Some};
 
 use super::lists::ArrayLike;

@@ -1,3 +1,5 @@
+//! The three lists of an evaluation.
+
 use super::lists::ArrayLike;
 use super::slices::SliceVec;
 use dwarf_base::Reader;
